@@ -1,0 +1,56 @@
+-- Which positions fit the accepted tables.
+use Rattle.std.specs.Prelude.{ℕ, Bool, not, ◌&&◌, nat_lt, if◌then◌else◌, List, [], ◌∷◌, length, Option, Some, None, bytes_eq, nat_abs, Result, true, false}
+use Rattle.std.specs.List.{list_any}
+use Rattle.span_tables.specs.Faults.{first_some, first_fault, ok_unless}
+use Rattle.span_tables.specs.Net.{AccountHoldings, net_of, holdings_of, portfolios_of}
+use Rattle.span_tables.specs.declared.records.Contract.{Contract}
+use Rattle.span_tables.specs.declared.records.PositionRecord.{PositionRecord}
+use Rattle.param_check.specs.declared.faults.BindFault.{BindFault}
+use Rattle.param_check.specs.declared.faults.BindFault.TheVariants as fault
+use Rattle.span_tables.specs.declared.limits.TheConstants.{MAX_NET, MAX_HELD}
+
+-- the record is of a contract that the tables do not have
+abbrev pub is_unknown : List Contract → PositionRecord → Bool
+is_unknown contracts p = not (list_any (λ x. bytes_eq x.id p.contract) contracts)
+
+-- the record is the first of its account and contract
+abbrev pub is_first_of_contract : List PositionRecord → PositionRecord → Bool
+is_first_of_contract earlier p =
+    not (list_any (λ x. bytes_eq x.account p.account && bytes_eq x.contract p.contract) earlier)
+
+-- the record is the first of its account
+abbrev pub is_first_of_account : List PositionRecord → PositionRecord → Bool
+is_first_of_account earlier p = not (list_any (λ x. bytes_eq x.account p.account) earlier)
+
+-- the net over all records is over the limit either way
+abbrev pub exceeds_net : List PositionRecord → PositionRecord → Bool
+exceeds_net all p = nat_lt MAX_NET (nat_abs (net_of all p.account p.contract))
+
+-- the account holds more contracts than it may
+abbrev pub exceeds_held : List Contract → List PositionRecord → PositionRecord → Bool
+exceeds_held contracts all p = nat_lt MAX_HELD (length (holdings_of contracts all p.account))
+
+-- the first record with a fault, under the fault's name and with the record's account
+abbrev pub first_unfit : (ℕ → List ℕ → BindFault) → (List PositionRecord → PositionRecord → Bool)
+    → List PositionRecord → Option BindFault
+first_unfit fault unfit all =
+    first_fault (λ earlier p. if unfit earlier p then Some (λ at. fault at p.account) else None) all
+
+-- the fault of positions: an unknown contract in any record, then a net out of range, then too many contracts held
+unfoldable pub bind_fault : List Contract → List PositionRecord → Option BindFault
+bind_fault contracts all = first_some
+    (first_unfit fault.UnknownContract (λ earlier p. is_unknown contracts p) all
+    ∷ first_unfit fault.NetOutOfRange (λ earlier p. is_first_of_contract earlier p && exceeds_net all p) all
+    ∷ first_unfit fault.TooManyHeld (λ earlier p. is_first_of_account earlier p && exceeds_held contracts all p) all
+    ∷ [])
+
+-- the portfolios of positions, or their fault
+unfoldable pub bound : List Contract → List PositionRecord → Result (List AccountHoldings) BindFault
+bound contracts all = ok_unless (bind_fault contracts all) (portfolios_of contracts all)
+
+-- the fault is want of memory, of which the definition does not speak
+abbrev pub is_memory : BindFault → Bool
+is_memory (fault.UnknownContract at account) = false
+is_memory (fault.NetOutOfRange at account) = false
+is_memory (fault.TooManyHeld at account) = false
+is_memory fault.OutOfMemory = true

@@ -1,0 +1,47 @@
+-- Which rule the records of a parameter file break.
+use Rattle.std.specs.Prelude.{ℕ, List, [], ◌∷◌, map, zip, Option, Result, Bool, true, false}
+use Rattle.span_tables.specs.Faults.{first_some, ok_unless}
+use Rattle.span_tables.specs.Rules.{rules, first_breaking}
+use Rattle.span_tables.specs.Tables.{AcceptedTables, tables_of}
+use Rattle.span_tables.specs.declared.records.Record.{Record}
+use Rattle.param_check.specs.declared.faults.CheckFault.{CheckFault}
+use Rattle.param_check.specs.declared.faults.CheckFault.TheVariants as fault
+
+-- the names of the rules, in the order of their numbers
+abbrev pub rule_names : List (ℕ → CheckFault)
+rule_names =
+    fault.DuplicateCommodity
+    ∷ fault.UnknownCommodity
+    ∷ fault.DuplicateContract
+    ∷ fault.DuplicateTier
+    ∷ fault.TierBackwards
+    ∷ fault.TierOverlap
+    ∷ fault.UnknownTier
+    ∷ fault.RepeatedLeg
+    ∷ fault.OneSided
+    ∷ fault.DuplicatePriority
+    ∷ fault.DuplicateSpot
+    ∷ []
+
+-- the fault of a parameter file's records: the lowest-numbered rule that some record breaks, with the first that breaks it
+unfoldable pub check_fault : List Record → Option CheckFault
+check_fault all = first_some (map (λ named. first_breaking named.0 named.1 all) (zip rule_names (rules all)))
+
+-- the tables of records, or the rule that they break
+unfoldable pub checked : List Record → Result AcceptedTables CheckFault
+checked records = ok_unless (check_fault records) (tables_of records)
+
+-- the fault is want of memory, of which the definition does not speak
+abbrev pub is_memory : CheckFault → Bool
+is_memory (fault.DuplicateCommodity at) = false
+is_memory (fault.UnknownCommodity at) = false
+is_memory (fault.DuplicateContract at) = false
+is_memory (fault.DuplicateTier at) = false
+is_memory (fault.TierBackwards at) = false
+is_memory (fault.TierOverlap at) = false
+is_memory (fault.UnknownTier at) = false
+is_memory (fault.RepeatedLeg at) = false
+is_memory (fault.OneSided at) = false
+is_memory (fault.DuplicatePriority at) = false
+is_memory (fault.DuplicateSpot at) = false
+is_memory fault.OutOfMemory = true

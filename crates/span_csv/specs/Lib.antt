@@ -1,0 +1,4 @@
+pub mod Records
+pub mod ParamFaults
+pub mod PositionFaults
+pub mod Rows

@@ -1,0 +1,70 @@
+-- The faults of a parameter file's records.
+use Rattle.std.specs.Prelude.{ℕ, Bool, false, not, ◌&&◌, ◌==◌, List, [], ◌∷◌, length, drop, map, count_by, Option, Some, None, is_none, codes, bytes_eq, Result, true}
+use Rattle.std.specs.Option.{option_map_or}
+use Rattle.span_tables.specs.Faults.{first_that_holds, first_fault, ok_unless}
+use Rattle.span_csv.specs.Records.{Fields, records_of, Form, RecordKind, a_set, a_commodity, a_contract, a_tier, an_intra, a_spot, an_inter, kind_of, layout_of, text_at, is_word, all_have, has_word_form, has_number_form, is_in_range, param_record}
+use Rattle.span_tables.specs.declared.records.Record.{Record}
+use Rattle.span_csv.specs.declared.faults.ParamFault.{ParamFault}
+use Rattle.span_csv.specs.declared.faults.ParamFault.TheVariants as fault
+use Rattle.span_tables.specs.declared.limits.TheConstants.{MAX_COMMODITIES, MAX_CONTRACTS, MAX_TIERS, MAX_INTRA_SPREADS, MAX_SPOT_MONTHS, MAX_INTER_SPREADS}
+
+-- the record is a SET
+abbrev pub is_set : Fields → Bool
+is_set r = is_word (codes "SET") (text_at r 0)
+
+-- some field behind the first fails the test of its form
+abbrev pub some_fail : (Form → List ℕ → Bool) → Fields → Bool
+some_fail test r = option_map_or (λ forms. not (all_have test forms (drop 1 r))) (layout_of r) false
+
+-- how many records of the same first field there are
+abbrev pub count_of_kind : List Fields → Fields → ℕ
+count_of_kind rs r = count_by (λ x. bytes_eq (text_at x 0) (text_at r 0)) rs
+
+-- how many of the same first two fields
+abbrev pub count_of_commodity : List Fields → Fields → ℕ
+count_of_commodity rs r = count_by (λ x. bytes_eq (text_at x 0) (text_at r 0) && bytes_eq (text_at x 1) (text_at r 1)) rs
+
+-- the record is one more than its limit: of its kind, or of its kind and commodity
+abbrev pub exceeds_limit : List Fields → Fields → Option RecordKind → Bool
+exceeds_limit earlier r None = false
+exceeds_limit earlier r (Some a_set) = false
+exceeds_limit earlier r (Some a_commodity) = count_of_kind earlier r == MAX_COMMODITIES
+exceeds_limit earlier r (Some a_contract) = count_of_kind earlier r == MAX_CONTRACTS
+exceeds_limit earlier r (Some a_tier) = count_of_commodity earlier r == MAX_TIERS
+exceeds_limit earlier r (Some an_intra) = count_of_commodity earlier r == MAX_INTRA_SPREADS
+exceeds_limit earlier r (Some a_spot) = count_of_commodity earlier r == MAX_SPOT_MONTHS
+exceeds_limit earlier r (Some an_inter) = count_of_kind earlier r == MAX_INTER_SPREADS
+
+-- the faults that a record may have behind the earlier ones, in the order of their numbers
+abbrev pub param_faults : List Fields → Fields → List (Bool × (ℕ → ParamFault))
+param_faults earlier r =
+    ((length earlier == 0) && not (is_set r), fault.NoSet)
+    ∷ (not (length earlier == 0) && is_set r, fault.SecondSet)
+    ∷ (is_none (kind_of r), fault.UnknownKind)
+    ∷ (is_none (layout_of r), fault.FieldCount)
+    ∷ (some_fail has_word_form r, fault.BadName)
+    ∷ (some_fail has_number_form r, fault.BadNumber)
+    ∷ (some_fail is_in_range r, fault.OutOfRange)
+    ∷ (exceeds_limit earlier r (kind_of r), fault.TooMany)
+    ∷ []
+
+-- the fault of a parameter file's records: that of the first record with one, the lowest-numbered that it has
+unfoldable pub param_fault : List Fields → Option ParamFault
+param_fault [] = Some (fault.NoSet 0)
+param_fault (r ∷ rs) = first_fault (λ earlier x. first_that_holds (param_faults earlier x)) (r ∷ rs)
+
+-- what a parameter file says, or its fault
+unfoldable pub params_of : List ℕ → Result (List Record) ParamFault
+params_of bytes = ok_unless (param_fault (records_of bytes)) (map param_record (records_of bytes))
+
+-- the fault is want of memory, of which the definition does not speak
+abbrev pub is_memory : ParamFault → Bool
+is_memory (fault.NoSet at) = false
+is_memory (fault.SecondSet at) = false
+is_memory (fault.UnknownKind at) = false
+is_memory (fault.FieldCount at) = false
+is_memory (fault.BadName at) = false
+is_memory (fault.BadNumber at) = false
+is_memory (fault.OutOfRange at) = false
+is_memory (fault.TooMany at) = false
+is_memory fault.OutOfMemory = true

@@ -1,0 +1,29 @@
+-- The records of a file, as `csv` reads its bytes.
+use Rattle.std.specs.Prelude.{◌≡◌, ◌⊎◌, ℕ, ◌+◌, true, List, [], length, Option, Some, None, IsSome, slice_index_or}
+use Rattle.std.specs.Borrow.{Bor}
+use Rattle.csv.specs.Reading.{records, records_from, default_config, strip_bom, source_of, Ready, has_failed, reader_config, reader_trim, reader_state, is_flexible}
+use Rattle.span_csv.specs.Records.{Fields}
+use Rattle.csv.specs.declared.parser.State.{State}
+use Rattle.csv.specs.declared.reader.Reader.{Reader}
+use Rattle.csv.specs.declared.reader.Trim.TheVariants as trim
+
+-- the records from a state on, where the bytes that are left are known
+abbrev pub rows_from : State → Option (List ℕ) → List Fields
+rows_from state None = []
+rows_from state (Some bytes) = records_from default_config (length bytes + 1) state bytes
+
+-- the records that a reader has left
+abbrev pub rows_left : Reader (Bor (List ℕ)) → List Fields
+rows_left reader = rows_from (reader_state reader) (source_of (λ s. Some s.now) reader)
+
+-- the reader gives each record as it stands in the file
+pub record IsPlain (reader : Reader (Bor (List ℕ))) : Type 0 where
+  pub config : reader_config reader ≡ default_config
+  pub trim : reader_trim reader ≡ trim.None
+  pub flexible : is_flexible reader ≡ true
+  pub ready : Ready reader
+  pub known : IsSome (source_of (λ s. Some s.now) reader)
+
+-- the same, or it gives no more records after want of memory
+abbrev pub CanRead : Reader (Bor (List ℕ)) → Type 0
+CanRead reader = (has_failed reader ≡ true) ⊎ IsPlain reader

@@ -1,0 +1,94 @@
+//! Why a file is not read. `at` is a record's number, from 1.
+ghost use Rattle.span_csv.specs.declared.faults.ParamFault.TheVariants as param;
+ghost use Rattle.span_csv.specs.declared.faults.PositionFault.TheVariants as position;
+ghost use Rattle.std.specs.Prelude.{◌≡◌};
+
+use std::alloc::{AllocError, AllocFailed};
+use thiserror::Error;
+
+/// Why a parameter file is not read.
+#[derive(Clone, Copy, Debug, Drop, PartialEq, Eq, Error)]
+pub enum ParamFault {
+    /// P1: the first record is no SET, or there is none (`at` is then 0).
+    #[error("record {at} is no SET, which begins a parameter file")]
+    NoSet { at: usize },
+    /// P2: a SET that is not the first record.
+    #[error("record {at} is a second SET")]
+    SecondSet { at: usize },
+    /// P3: none of the kinds.
+    #[error("record {at} is of an unknown kind")]
+    UnknownKind { at: usize },
+    /// P4: a number of fields that its kind does not have.
+    #[error("record {at} has a wrong number of fields")]
+    FieldCount { at: usize },
+    /// P5: a name, currency, method, type or side that is none.
+    #[error("record {at} has a malformed name or word")]
+    BadName { at: usize },
+    /// P6: a whole number, decimal or month that is none.
+    #[error("record {at} has a malformed number")]
+    BadNumber { at: usize },
+    /// P7: a number or month outside its range.
+    #[error("record {at} has a number out of range")]
+    OutOfRange { at: usize },
+    /// P8: one record more than the limit.
+    #[error("record {at} is one more than the limit of its kind")]
+    TooMany { at: usize },
+    /// Memory ran out.
+    #[error("out of memory")]
+    OutOfMemory,
+}
+
+/// Why a position file is not read.
+#[derive(Clone, Copy, Debug, Drop, PartialEq, Eq, Error)]
+pub enum PositionFault {
+    /// Q1: not three fields.
+    #[error("record {at} has a wrong number of fields")]
+    FieldCount { at: usize },
+    /// Q2: an account or contract that is no name.
+    #[error("record {at} has a malformed name")]
+    BadName { at: usize },
+    /// Q3: a quantity that is no whole number.
+    #[error("record {at} has a malformed quantity")]
+    BadNumber { at: usize },
+    /// Q4: a quantity outside its range.
+    #[error("record {at} has a quantity out of range")]
+    OutOfRange { at: usize },
+    /// Q5: the first record of one account too many.
+    #[error("record {at} is of one account more than the limit")]
+    TooManyAccounts { at: usize },
+    /// Memory ran out.
+    #[error("out of memory")]
+    OutOfMemory,
+}
+
+impl From<AllocError> for ParamFault {
+    ghost from_gives = { λ _ e. e ≡ param.OutOfMemory };
+
+    fn from(_error: AllocError) -> ParamFault {
+        ParamFault::OutOfMemory
+    }
+}
+
+impl<T: Drop> From<AllocFailed<T>> for ParamFault {
+    ghost from_gives = { λ _ e. e ≡ param.OutOfMemory };
+
+    fn from(_error: AllocFailed<T>) -> ParamFault {
+        ParamFault::OutOfMemory
+    }
+}
+
+impl From<AllocError> for PositionFault {
+    ghost from_gives = { λ _ e. e ≡ position.OutOfMemory };
+
+    fn from(_error: AllocError) -> PositionFault {
+        PositionFault::OutOfMemory
+    }
+}
+
+impl<T: Drop> From<AllocFailed<T>> for PositionFault {
+    ghost from_gives = { λ _ e. e ≡ position.OutOfMemory };
+
+    fn from(_error: AllocFailed<T>) -> PositionFault {
+        PositionFault::OutOfMemory
+    }
+}

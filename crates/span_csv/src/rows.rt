@@ -1,0 +1,74 @@
+//! The records of a file, one after another.
+ghost use Rattle.std.specs.Prelude.{◌≡◌, [], ◌∷◌, IfOk, OnErr, MatchBool, ◌<◌, length};
+ghost use Rattle.csv.specs.Records.{fields_of};
+ghost use Rattle.span_csv.specs.Records.{text_at};
+ghost use Rattle.span_csv.specs.Rows.{rows_left, CanRead};
+
+use csv::{ByteRecord, Error, Reader, ReaderBuilder};
+use std::alloc::{AllocError, Global};
+use std::marker::Model;
+
+/// The records that are left of a file. After want of memory there is none.
+#[derive(Drop)]
+pub(crate) struct Rows<'a> {
+    reader: Reader<&'a [u8]>,
+}
+
+impl<'a> Model for Rows<'a> {
+    ghost use Rattle.std.specs.Prelude.{ℕ, List};
+    ghost use Rattle.span_csv.specs.Rows.{rows_left, CanRead};
+
+    ghost Value = { List (List (List ℕ)) };
+
+    ghost view = { λ rows. rows_left rows.reader };
+
+    ghost invariant = { λ rows. CanRead rows.reader };
+}
+
+// A slice is read to its end, and a record may have any number of fields, so memory alone is lacking.
+fn memory(_error: Error) -> AllocError {
+    AllocError
+}
+
+// The next record into `row`, and whether there was one.
+fn read_row(reader: &mut Reader<&[u8]>, row: &mut ByteRecord) -> Result<bool, AllocError>
+    requires { CanRead reader.old }
+    ensures found { IfOk result (λ found. MatchBool found (rows_left reader.old ≡ fields_of row.new ∷ rows_left reader.new) (rows_left reader.old ≡ [])) }
+    ensures goes_on { CanRead reader.new }
+{
+    match reader.read_byte_record(row) {
+        Ok(found) => Ok(found),
+        Err(error) => Err(memory(error)),
+    }
+}
+
+impl<'a> Rows<'a> {
+    ghost use Rattle.span_csv.specs.Records.{records_of};
+
+    /// The records of a file with these bytes.
+    #[tactic(auto, unfolding(crate::specs::Records::records_of))]
+    pub(crate) fn new(alloc: Global, bytes: &'a [u8]) -> Rows<'a>
+        ensures { result ≡ records_of bytes.now }
+    {
+        let reader = ReaderBuilder::new()
+            .has_headers(false)
+            .flexible(true)
+            .from_reader(alloc, bytes);
+        Rows { reader }
+    }
+
+    /// The next record into `row`, and whether there was one.
+    pub(crate) fn next(&mut self, row: &mut ByteRecord) -> Result<bool, AllocError>
+        ensures found { IfOk result (λ found. MatchBool found (self.old ≡ fields_of row.new ∷ self.new) (self.old ≡ [])) }
+    {
+        read_row(&mut self.reader, row)
+    }
+}
+
+/// The field at a place.
+pub(crate) fn field(row: &ByteRecord, i: usize) -> &[u8]
+    requires { i < length (fields_of row.now) }
+    ensures { result.now ≡ text_at (fields_of row.now) i }
+{
+    row.get(i).unwrap()
+}

@@ -1,0 +1,88 @@
+-- What the accepted tables of a set keep, and what is made of them beforehand.
+use Rattle.std.specs.Prelude.{◌≡◌, ℕ, ◌<◌, ◌≤◌, true, false, List, [], length, map, slice_get, slice_index_or, option_map, unwrap_or, ◌==◌, bytes_eq, All, nat_abs}
+use Rattle.std.specs.List.{position_or_len}
+use Rattle.span_tables.specs.Names.{has_repeat}
+use Rattle.span_tables.specs.Rules.{keeps_rules}
+use Rattle.span_tables.specs.Limits.{is_readable}
+use Rattle.span_tables.specs.Tables.{AcceptedTables, tables_of, intras_of, spots_of, inters_of}
+use Rattle.span_tables.specs.declared.limits.TheConstants.{MAX_COMMODITIES, MAX_CONTRACTS, MAX_INTRA_SPREADS, MAX_SPOT_MONTHS, MAX_INTER_SPREADS, MAX_RATE, MAX_ARRAY_VALUE, MAX_DELTA, MAX_SCALE, MAX_RATIO, MAX_BASIS_POINTS}
+use Rattle.span_tables.specs.declared.records.Commodity.{Commodity}
+use Rattle.span_tables.specs.declared.records.Contract.{Contract}
+use Rattle.span_tables.specs.declared.records.Spot.{Spot}
+use Rattle.span_tables.specs.declared.records.Intra.{Intra}
+use Rattle.span_tables.specs.declared.records.Inter.{Inter}
+use Rattle.span_tables.specs.declared.records.Record.{Record}
+
+-- the tables are those of records without a fault that keep the rules
+pub record IsAccepted (t : AcceptedTables) : Type 0 where
+  pub records : List Record
+  pub tables : t ≡ tables_of records
+  pub readable : is_readable records ≡ true
+  pub kept : keeps_rules records ≡ true
+
+-- the id of the commodity of a number
+abbrev pub commodity_id : AcceptedTables → ℕ → List ℕ
+commodity_id t c = unwrap_or (option_map (λ x. x.id) (slice_get t.commodities c)) []
+
+-- the number of the commodity of an id
+abbrev pub commodity_number : List Commodity → List ℕ → ℕ
+commodity_number commodities id = position_or_len (λ c. bytes_eq c.id id) commodities
+
+-- a contract's delta, scale and risk array lie in their ranges
+pub record IsContract (x : Contract) : Type 0 where
+  pub delta : nat_abs x.delta ≤ MAX_DELTA
+  pub scale : x.scale ≤ MAX_SCALE
+  pub sixteen : length x.values ≡ 16
+  pub values : All (λ v. nat_abs v ≤ MAX_ARRAY_VALUE) x.values
+
+-- an intracommodity spread has 2 to 4 legs, and its rate and ratios lie in their ranges
+pub record IsIntra (s : Intra) : Type 0 where
+  pub rate : s.rate ≤ MAX_RATE
+  pub at_least_two : 2 ≤ length s.legs.items
+  pub at_most_four : length s.legs.items ≤ 4
+  pub ratios_above : All (λ leg. 0 < leg.ratio) s.legs.items
+  pub ratios_below : All (λ leg. leg.ratio ≤ MAX_RATIO) s.legs.items
+
+-- the rates of a spot month lie in their range
+pub record IsSpot (s : Spot) : Type 0 where
+  pub spread_rate : s.spread_rate ≤ MAX_RATE
+  pub outright_rate : s.outright_rate ≤ MAX_RATE
+
+-- an intercommodity spread has 2 to 4 legs of as many commodities, of so many, and its rate and ratios lie in their ranges
+pub record IsInter (commodities : ℕ) (s : Inter) : Type 0 where
+  pub basis_points : s.basis_points ≤ MAX_BASIS_POINTS
+  pub at_least_two : 2 ≤ length s.legs.items
+  pub at_most_four : length s.legs.items ≤ 4
+  pub ratios_above : All (λ leg. 0 < leg.ratio) s.legs.items
+  pub ratios_below : All (λ leg. leg.ratio ≤ MAX_RATIO) s.legs.items
+  pub known : All (λ leg. leg.commodity < commodities) s.legs.items
+  pub apart : has_repeat (λ a b. a.commodity == b.commodity) s.legs.items ≡ false
+
+-- what accepted tables keep
+pub record IsWithinLimits (t : AcceptedTables) : Type 0 where
+  pub commodities : length t.commodities ≤ MAX_COMMODITIES
+  pub contracts : length t.contracts ≤ MAX_CONTRACTS
+  pub minimum_rates : All (λ c. c.minimum_rate ≤ MAX_RATE) t.commodities
+  pub commodities_apart : has_repeat (λ c d. bytes_eq c.id d.id) t.commodities ≡ false
+  pub contracts_in_range : All IsContract t.contracts
+  pub contracts_apart : has_repeat (λ x y. bytes_eq x.id y.id) t.contracts ≡ false
+  pub contracts_known : All (λ x. commodity_number t.commodities x.commodity < length t.commodities) t.contracts
+  pub few_intras : (id : List ℕ) → length (intras_of t id) ≤ MAX_INTRA_SPREADS
+  pub intras_in_range : (id : List ℕ) → All IsIntra (intras_of t id)
+  pub few_spots : (id : List ℕ) → length (spots_of t id) ≤ MAX_SPOT_MONTHS
+  pub spots_in_range : (id : List ℕ) → All IsSpot (spots_of t id)
+  pub few_inters : length (inters_of t) ≤ MAX_INTER_SPREADS
+  pub inters_in_range : All (IsInter (length t.commodities)) (inters_of t)
+
+-- accepted tables, with the commodity's number of each contract, the spreads and spot months of each commodity, and
+-- the intercommodity spreads
+pub record IsTables (t : AcceptedTables) (numbers : List ℕ) (intras : List (List Intra)) (spots : List (List Spot))
+    (inters : List Inter) : Type 0 where
+  pub accepted : IsAccepted t
+  pub limits : IsWithinLimits t
+  pub numbers_are : numbers ≡ map (λ x. commodity_number t.commodities x.commodity) t.contracts
+  pub every_intra : length intras ≡ length t.commodities
+  pub intras_are : (c : ℕ) → c < length t.commodities → slice_index_or intras c [] ≡ intras_of t (commodity_id t c)
+  pub every_spot : length spots ≡ length t.commodities
+  pub spots_are : (c : ℕ) → c < length t.commodities → slice_index_or spots c [] ≡ spots_of t (commodity_id t c)
+  pub inters_are : inters ≡ inters_of t

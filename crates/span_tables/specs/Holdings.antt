@@ -1,0 +1,25 @@
+-- What portfolios and held contracts keep.
+use Rattle.std.specs.Prelude.{◌≡◌, ℕ, ◌≢◌, ◌≤◌, Bool, nat_lt, List, length, map, All, nat_abs}
+use Rattle.std.specs.List.Sorted.{IsStrictlyIncreasing}
+use Rattle.std.specs.List.{list_all}
+use Rattle.span_tables.specs.Accepted.{IsContract}
+use Rattle.span_tables.specs.declared.limits.TheConstants.{MAX_HELD, MAX_NET}
+use Rattle.span_tables.specs.declared.portfolios.Holding.{Holding}
+use Rattle.span_tables.specs.declared.held.HeldContract.{HeldContract}
+
+-- the holdings of an account: few, by rising contract number, and each net is not 0 and within its limit
+pub record ArePortfolio (holdings : List Holding) : Type 0 where
+  pub few : length holdings ≤ MAX_HELD
+  pub nets : All (λ h. nat_abs h.net ≤ MAX_NET) holdings
+  pub held : All (λ h. nat_abs h.net ≢ 0) holdings
+  pub rising : IsStrictlyIncreasing (map (λ h. h.contract) holdings)
+
+-- each holding is of one of so many contracts
+abbrev pub fits : ℕ → List Holding → Bool
+fits contracts holdings = list_all (λ h. nat_lt h.contract contracts) holdings
+
+-- the held contracts of a commodity: few, and each with its net and its contract in range
+pub record AreHeld (held : List HeldContract) : Type 0 where
+  pub few : length held ≤ MAX_HELD
+  pub nets : All (λ h. nat_abs h.net ≤ MAX_NET) held
+  pub contracts : All (λ h. IsContract h.contract) held

@@ -1,0 +1,10 @@
+pub mod Gives
+pub mod Names
+pub mod Faults
+pub mod Rules
+pub mod Limits
+pub mod Tables
+pub mod Accepted
+pub mod Net
+pub mod Holdings
+pub mod Sides

@@ -1,0 +1,102 @@
+-- What the records of a parameter file without a fault keep: their ranges and their numbers.
+use Rattle.std.specs.Prelude.{ℕ, Bool, false, not, ◌&&◌, ◌==◌, nat_le, List, [], ◌∷◌, length, count_by, is_some, bytes_eq, nat_abs}
+use Rattle.std.specs.List.{list_all}
+use Rattle.span_tables.specs.Names.{is_name}
+use Rattle.span_money.specs.Numbers.{is_month}
+use Rattle.span_tables.specs.Rules.{as_set, commodities_in, contracts_in, tiers_in, intras_in, spots_in, inters_in}
+use Rattle.span_tables.specs.declared.records.Commodity.{Commodity}
+use Rattle.span_tables.specs.declared.records.Contract.{Contract}
+use Rattle.span_tables.specs.declared.records.Tier.{Tier}
+use Rattle.span_tables.specs.declared.records.IntraRecord.{IntraRecord}
+use Rattle.span_tables.specs.declared.records.Spot.{Spot}
+use Rattle.span_tables.specs.declared.records.InterRecord.{InterRecord}
+use Rattle.span_tables.specs.declared.records.Record.{Record}
+use Rattle.span_tables.specs.declared.records.Record.TheVariants as record_of
+use Rattle.span_tables.specs.declared.limits.TheConstants.{MAX_COMMODITIES, MAX_CONTRACTS, MAX_TIERS, MAX_INTRA_SPREADS, MAX_SPOT_MONTHS, MAX_INTER_SPREADS, MAX_RATE, MAX_ARRAY_VALUE, MAX_DELTA, MAX_SCALE, MAX_RATIO, MAX_TIER_NUMBER, MAX_PRIORITY, MAX_BASIS_POINTS}
+
+-- n lies from low to high
+abbrev pub lies_within : ℕ → ℕ → ℕ → Bool
+lies_within low high n = nat_le low n && nat_le n high
+
+-- a rate
+abbrev pub is_rate : ℕ → Bool
+is_rate n = nat_le n MAX_RATE
+
+-- a ratio, from 0.0001
+abbrev pub is_ratio : ℕ → Bool
+is_ratio n = lies_within 1 MAX_RATIO n
+
+-- a tier's number, from 1
+abbrev pub is_tier_number : ℕ → Bool
+is_tier_number n = lies_within 1 MAX_TIER_NUMBER n
+
+-- a priority, from 1
+abbrev pub is_priority : ℕ → Bool
+is_priority n = lies_within 1 MAX_PRIORITY n
+
+-- ---- the ranges of each record
+
+-- a commodity: its id and its rate
+abbrev pub commodity_in_range : Commodity → Bool
+commodity_in_range c = is_name c.id && is_rate c.minimum_rate
+
+-- a contract: its names, month, delta, scale and sixteen values
+abbrev pub contract_in_range : Contract → Bool
+contract_in_range x =
+    is_name x.id && is_name x.commodity && is_month x.month && nat_le (nat_abs x.delta) MAX_DELTA && lies_within 1 MAX_SCALE x.scale
+    && (length x.values == 16) && list_all (λ v. nat_le (nat_abs v) MAX_ARRAY_VALUE) x.values
+
+-- a tier: its commodity, number and months
+abbrev pub tier_in_range : Tier → Bool
+tier_in_range t = is_name t.commodity && is_tier_number t.number && is_month t.first && is_month t.last
+
+-- an intracommodity spread: its commodity, priority, rate and 2 to 4 legs
+abbrev pub intra_in_range : IntraRecord → Bool
+intra_in_range s =
+    is_name s.commodity && is_priority s.priority && is_rate s.rate && lies_within 2 4 (length s.legs.items)
+    && list_all (λ leg. is_tier_number leg.tier && is_ratio leg.ratio) s.legs.items
+
+-- a spot month: its commodity, month and rates
+abbrev pub spot_in_range : Spot → Bool
+spot_in_range s = is_name s.commodity && is_month s.month && is_rate s.spread_rate && is_rate s.outright_rate
+
+-- an intercommodity spread: its priority, basis points and 2 to 4 legs
+abbrev pub inter_in_range : InterRecord → Bool
+inter_in_range s =
+    is_priority s.priority && nat_le s.basis_points MAX_BASIS_POINTS && lies_within 2 4 (length s.legs.items)
+    && list_all (λ leg. is_name leg.commodity && is_ratio leg.ratio) s.legs.items
+
+-- a record of any kind
+abbrev pub in_range : Record → Bool
+in_range (record_of.Set s) = is_name s.id
+in_range (record_of.Commodity c) = commodity_in_range c
+in_range (record_of.Contract x) = contract_in_range x
+in_range (record_of.Tier t) = tier_in_range t
+in_range (record_of.Intra s) = intra_in_range s
+in_range (record_of.Spot s) = spot_in_range s
+in_range (record_of.Inter s) = inter_in_range s
+
+-- ---- how many there are
+
+-- the first record is a SET, and no other
+abbrev pub begins_with_set : List Record → Bool
+begins_with_set [] = false
+begins_with_set (r ∷ rs) = is_some (as_set r) && list_all (λ x. not (is_some (as_set x))) rs
+
+-- each commodity has as many of some records as it may
+abbrev pub at_most_each : {A : Type 0} → ℕ → (A → List ℕ) → List A → Bool
+at_most_each most commodity_of xs =
+    list_all (λ x. nat_le (count_by (λ y. bytes_eq (commodity_of y) (commodity_of x)) xs) most) xs
+
+-- no more records of a kind than there may be
+abbrev pub keeps_counts : List Record → Bool
+keeps_counts rs =
+    nat_le (length (commodities_in rs)) MAX_COMMODITIES && nat_le (length (contracts_in rs)) MAX_CONTRACTS
+    && nat_le (length (inters_in rs)) MAX_INTER_SPREADS
+    && at_most_each MAX_TIERS (λ t. t.commodity) (tiers_in rs)
+    && at_most_each MAX_INTRA_SPREADS (λ s. s.commodity) (intras_in rs)
+    && at_most_each MAX_SPOT_MONTHS (λ s. s.commodity) (spots_in rs)
+
+-- the records are such as a parameter file without a fault has
+unfoldable pub is_readable : List Record → Bool
+is_readable rs = begins_with_set rs && list_all in_range rs && keeps_counts rs

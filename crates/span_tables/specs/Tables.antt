@@ -1,0 +1,93 @@
+-- The accepted tables: commodities and contracts in file order, and spreads by rising priority with what they name.
+use Rattle.std.specs.Prelude.{ℕ, true, ◌&&◌, ◌==◌, nat_le, if◌then◌else◌, List, [], ◌∷◌, map, filter, find, filter_map, option_map, unwrap_or, bytes_eq}
+use Rattle.std.specs.List.{position_or_len}
+use Rattle.span_tables.specs.Rules.{as_set, commodities_in, contracts_in, tiers_in, intras_in, spots_in, inters_in}
+use Rattle.span_tables.specs.declared.records.Commodity.{Commodity}
+use Rattle.span_tables.specs.declared.records.Contract.{Contract}
+use Rattle.span_tables.specs.declared.records.Tier.{Tier}
+use Rattle.span_tables.specs.declared.records.IntraLeg.{IntraLeg}
+use Rattle.span_tables.specs.declared.records.IntraRecord.{IntraRecord}
+use Rattle.span_tables.specs.declared.records.Spot.{Spot}
+use Rattle.span_tables.specs.declared.records.InterLeg.{InterLeg}
+use Rattle.span_tables.specs.declared.records.InterRecord.{InterRecord}
+use Rattle.span_tables.specs.declared.records.Record.{Record}
+use Rattle.span_tables.specs.declared.records.MonthLeg.{MonthLeg}
+use Rattle.span_tables.specs.declared.records.Intra.{Intra}
+use Rattle.span_tables.specs.declared.records.CommodityLeg.{CommodityLeg}
+use Rattle.span_tables.specs.declared.records.Inter.{Inter}
+
+-- the tables of an accepted parameter file
+pub record AcceptedTables : Type 0 where
+  pub set_id : List ℕ
+  pub commodities : List Commodity
+  pub contracts : List Contract
+  pub tiers : List Tier
+  pub intras : List IntraRecord
+  pub spots : List Spot
+  pub inters : List InterRecord
+
+-- x in its place among those of rising key
+abbrev pub placed_by : {A : Type 0} → (A → ℕ) → A → List A → List A
+placed_by key x [] = x ∷ []
+placed_by key x (y ∷ ys) = if nat_le (key x) (key y) then x ∷ y ∷ ys else y ∷ placed_by key x ys
+
+-- the elements by rising key
+abbrev pub rising_by : {A : Type 0} → (A → ℕ) → List A → List A
+rising_by key [] = []
+rising_by key (x ∷ xs) = placed_by key x (rising_by key xs)
+
+-- the id of the set
+abbrev pub set_id_in : List Record → List ℕ
+set_id_in rs = unwrap_or (find (λ name. true) (filter_map (λ r. option_map (λ s. s.id) (as_set r)) rs)) []
+
+-- the tables of these records
+unfoldable pub tables_of : List Record → AcceptedTables
+tables_of rs = record {
+  set_id = set_id_in rs;
+  commodities = commodities_in rs;
+  contracts = contracts_in rs;
+  tiers = tiers_in rs;
+  intras = rising_by (λ s. s.priority) (intras_in rs);
+  spots = spots_in rs;
+  inters = rising_by (λ s. s.priority) (inters_in rs);
+}
+
+-- a leg with the months of its tier; a tier that there is not has none
+abbrev pub month_leg : List Tier → List ℕ → IntraLeg → MonthLeg
+month_leg tiers commodity leg =
+    let tier = find (λ t. bytes_eq t.commodity commodity && (t.number == leg.tier)) tiers in
+    record {
+      first = unwrap_or (option_map (λ t. t.first) tier) 1;
+      last = unwrap_or (option_map (λ t. t.last) tier) 0;
+      side = leg.side;
+      ratio = leg.ratio;
+    }
+
+-- a spread with its tiers' months
+abbrev pub intra_spread : List Tier → IntraRecord → Intra
+intra_spread tiers s = record { rate = s.rate; legs = record { items = map (month_leg tiers s.commodity) s.legs.items } }
+
+-- the intracommodity spreads of a commodity, by rising priority
+unfoldable pub intras_of : AcceptedTables → List ℕ → List Intra
+intras_of tables commodity = map (intra_spread tables.tiers) (filter (λ s. bytes_eq s.commodity commodity) tables.intras)
+
+-- the spot months of a commodity, in file order
+unfoldable pub spots_of : AcceptedTables → List ℕ → List Spot
+spots_of tables commodity = filter (λ s. bytes_eq s.commodity commodity) tables.spots
+
+-- a leg with its commodity's number
+abbrev pub commodity_leg : List Commodity → InterLeg → CommodityLeg
+commodity_leg commodities leg = record {
+  commodity = position_or_len (λ c. bytes_eq c.id leg.commodity) commodities;
+  side = leg.side;
+  ratio = leg.ratio;
+}
+
+-- a spread with its commodities' numbers
+abbrev pub inter_spread : List Commodity → InterRecord → Inter
+inter_spread commodities s =
+    record { basis_points = s.basis_points; legs = record { items = map (commodity_leg commodities) s.legs.items } }
+
+-- the intercommodity spreads, by rising priority
+unfoldable pub inters_of : AcceptedTables → List Inter
+inters_of tables = map (inter_spread tables.commodities) tables.inters

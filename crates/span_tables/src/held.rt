@@ -1,0 +1,68 @@
+//! The contracts of one commodity that an account holds.
+ghost use Rattle.std.specs.Prelude.{◌≡◌, ◌<◌, true, length, IfOk};
+ghost use Rattle.span_tables.specs.Accepted.{commodity_id};
+ghost use Rattle.span_tables.specs.Holdings.{AreHeld, fits};
+ghost use Rattle.span_tables.specs.Net.{held_of};
+
+use crate::portfolios::Portfolio;
+use crate::records::Contract;
+use crate::tables::Tables;
+use std::alloc::{AllocError, Global};
+use std::marker::Model;
+
+/// A contract that an account holds, with its net quantity.
+#[derive(Drop)]
+pub struct HeldContract {
+    pub contract: Contract,
+    pub net: i64,
+}
+
+/// The contracts of one commodity that an account holds, by rising contract number. Contracts see the list.
+#[derive(Drop)]
+pub struct Held {
+    contracts: Vec<HeldContract>,
+}
+
+impl Model for Held {
+    ghost use Rattle.std.specs.Prelude.{List};
+    ghost use Rattle.span_tables.specs.Holdings.{AreHeld};
+    ghost use Rattle.span_tables.specs.declared.held.HeldContract.{HeldContract};
+
+    ghost Value = { List HeldContract };
+
+    ghost view = { λ held. held.contracts.items };
+
+    ghost invariant = { λ held. AreHeld held.contracts.items };
+}
+
+impl Held {
+    /// These held contracts: few, each with its net and its contract in range.
+    pub fn new(contracts: Vec<HeldContract>) -> Held
+        requires { AreHeld contracts.items }
+        ensures { result ≡ contracts.items }
+    {
+        Held { contracts }
+    }
+
+    /// The held contracts in their order.
+    pub fn as_slice(&self) -> &[HeldContract]
+        ensures value { result.now ≡ self.now }
+        ensures kept { AreHeld self.now }
+    {
+        &self.contracts
+    }
+}
+
+/// The contracts of the commodity of a number that an account holds, each with its whole record and its net quantity.
+pub fn gather(
+    alloc: Global,
+    tables: &Tables,
+    portfolio: &Portfolio,
+    commodity: usize,
+) -> Result<Held, AllocError>
+    requires fits { fits (length tables.now.contracts) portfolio.now.holdings ≡ true }
+    requires commodity { commodity < length tables.now.commodities }
+    ensures { IfOk result (λ held. held ≡ held_of tables.now.contracts portfolio.now.holdings (commodity_id tables.now commodity)) }
+{
+    Err(AllocError)
+}

@@ -1,0 +1,39 @@
+//! The limits of a set of parameters and of an account, and the ranges of the fields of their records.
+
+/// COMMODITY records of a file.
+pub const MAX_COMMODITIES: usize = 64;
+/// CONTRACT records of a file.
+pub const MAX_CONTRACTS: usize = 4096;
+/// INTER records of a file.
+pub const MAX_INTER_SPREADS: usize = 256;
+/// TIER records of a commodity.
+pub const MAX_TIERS: usize = 32;
+/// INTRA records of a commodity.
+pub const MAX_INTRA_SPREADS: usize = 64;
+/// SPOT records of a commodity.
+pub const MAX_SPOT_MONTHS: usize = 16;
+/// Accounts of a position file.
+pub const MAX_ACCOUNTS: usize = 4096;
+/// The size of a net quantity.
+pub const MAX_NET: u64 = 100_000;
+/// Contracts that an account holds.
+pub const MAX_HELD: usize = 256;
+
+/// A rate, in minor units.
+pub const MAX_RATE: u32 = 100_000_000;
+/// The size of a risk array value, in minor units.
+pub const MAX_ARRAY_VALUE: u32 = 100_000_000;
+/// The size of a composite delta, in 10^-4.
+pub const MAX_DELTA: u32 = 10_000;
+/// A delta scaling factor, in 10^-4.
+pub const MAX_SCALE: u32 = 100_000;
+/// A ratio of a leg, in 10^-4.
+pub const MAX_RATIO: u32 = 10_000_000;
+/// The number of a tier.
+pub const MAX_TIER_NUMBER: u32 = 32;
+/// A priority.
+pub const MAX_PRIORITY: u32 = 9999;
+/// A credit rate, in basis points.
+pub const MAX_BASIS_POINTS: u32 = 10_000;
+/// The size of a position record's quantity.
+pub const MAX_QUANTITY: u32 = 1_000_000;

@@ -1,0 +1,195 @@
+//! The accepted tables of a set of parameters.
+ghost use Rattle.std.specs.Prelude.{◌≡◌, ◌<◌, ◌≤◌, [], length, map, slice_index_or, true, All, IfOk};
+ghost use Rattle.span_tables.specs.Accepted.{IsInter, IsIntra, IsSpot, IsWithinLimits, commodity_id};
+ghost use Rattle.span_tables.specs.Rules.{keeps_rules};
+ghost use Rattle.span_tables.specs.Tables.{inters_of, intras_of, spots_of, tables_of};
+ghost use Rattle.span_tables.specs.declared.limits.TheConstants.{MAX_INTER_SPREADS, MAX_INTRA_SPREADS, MAX_SPOT_MONTHS};
+
+use crate::name::Name;
+use crate::raw::RawTables;
+use crate::records::{Commodity, Contract, Inter, InterRecord, Intra, IntraRecord, Spot, Tier};
+use std::alloc::{AllocError, Global};
+use std::marker::Model;
+
+/// How many records of each kind the tables have.
+#[derive(Clone, Copy, Debug, PartialEq, Eq)]
+pub struct Counts {
+    pub commodities: usize,
+    pub contracts: usize,
+    pub tiers: usize,
+    pub intra: usize,
+    pub spots: usize,
+    pub inter: usize,
+}
+
+/// The accepted tables of a set of parameters.
+///
+/// Commodities and contracts are numbered from 0 in file order, and spreads are sorted by priority. Beside the
+/// records stand the commodity's number of each contract, and the spreads and spot months with what they name.
+#[derive(Drop)]
+pub struct Tables {
+    set_id: Name,
+    commodities: Vec<Commodity>,
+    contracts: Vec<Contract>,
+    tiers: Vec<Tier>,
+    intra_records: Vec<IntraRecord>,
+    spots: Vec<Spot>,
+    inter_records: Vec<InterRecord>,
+    commodity_numbers: Vec<usize>,
+    intras: Vec<Vec<Intra>>,
+    spot_months: Vec<Vec<Spot>>,
+    inters: Vec<Inter>,
+}
+
+impl Model for Tables {
+    ghost use Rattle.std.specs.Prelude.{map};
+    ghost use Rattle.span_tables.specs.Accepted.{IsTables};
+    ghost use Rattle.span_tables.specs.Tables.{AcceptedTables};
+
+    ghost Value = { AcceptedTables };
+
+    ghost view = {
+        λ t. record {
+            set_id = t.set_id;
+            commodities = t.commodities.items;
+            contracts = t.contracts.items;
+            tiers = t.tiers.items;
+            intras = t.intra_records.items;
+            spots = t.spots.items;
+            inters = t.inter_records.items;
+        }
+    };
+
+    ghost invariant = {
+        λ t. IsTables
+        (record {
+            set_id = t.set_id;
+            commodities = t.commodities.items;
+            contracts = t.contracts.items;
+            tiers = t.tiers.items;
+            intras = t.intra_records.items;
+            spots = t.spots.items;
+            inters = t.inter_records.items;
+        })
+        t.commodity_numbers.items (map (λ v. v.items) t.intras.items) (map (λ v. v.items) t.spot_months.items) t.inters.items
+    };
+}
+
+// The list at a place.
+fn list_at<T>(lists: &[Vec<T>], place: usize) -> &[T]
+    requires { place < length lists.now }
+    ensures { result.now ≡ slice_index_or (map (λ v. v.items) lists.now) place [] }
+{
+    lists[place].as_slice()
+}
+
+impl Tables {
+    /// The tables of the records of a file that keep every rule.
+    pub fn new(alloc: Global, raw: RawTables) -> Result<Tables, AllocError>
+        requires { keeps_rules raw ≡ true }
+        ensures { IfOk result (λ tables. tables ≡ tables_of raw) }
+    {
+        Err(AllocError)
+    }
+
+    /// The id of the set.
+    pub fn set_id(&self) -> &Name
+        ensures { result.now ≡ self.now.set_id }
+    {
+        &self.set_id
+    }
+
+    /// The commodities by their numbers.
+    pub fn commodities(&self) -> &[Commodity]
+        ensures value { result.now ≡ self.now.commodities }
+        ensures limits { IsWithinLimits self.now }
+    {
+        &self.commodities
+    }
+
+    /// The contracts by their numbers.
+    pub fn contracts(&self) -> &[Contract]
+        ensures value { result.now ≡ self.now.contracts }
+        ensures limits { IsWithinLimits self.now }
+    {
+        &self.contracts
+    }
+
+    /// The tiers in file order.
+    pub fn tiers(&self) -> &[Tier]
+        ensures { result.now ≡ self.now.tiers }
+    {
+        &self.tiers
+    }
+
+    /// The records of intracommodity spreads by rising priority.
+    pub fn intra_records(&self) -> &[IntraRecord]
+        ensures { result.now ≡ self.now.intras }
+    {
+        &self.intra_records
+    }
+
+    /// The spot months in file order.
+    pub fn spot_records(&self) -> &[Spot]
+        ensures { result.now ≡ self.now.spots }
+    {
+        &self.spots
+    }
+
+    /// The records of intercommodity spreads by rising priority.
+    pub fn inter_records(&self) -> &[InterRecord]
+        ensures { result.now ≡ self.now.inters }
+    {
+        &self.inter_records
+    }
+
+    /// The intracommodity spreads of the commodity of a number, by rising priority.
+    pub fn intras(&self, commodity: usize) -> &[Intra]
+        requires { commodity < length self.now.commodities }
+        ensures value { result.now ≡ intras_of self.now (commodity_id self.now commodity) }
+        ensures few { length result.now ≤ MAX_INTRA_SPREADS }
+        ensures in_range { All IsIntra result.now }
+    {
+        list_at(&self.intras, commodity)
+    }
+
+    /// The spot months of the commodity of a number, in file order.
+    pub fn spots(&self, commodity: usize) -> &[Spot]
+        requires { commodity < length self.now.commodities }
+        ensures value { result.now ≡ spots_of self.now (commodity_id self.now commodity) }
+        ensures few { length result.now ≤ MAX_SPOT_MONTHS }
+        ensures in_range { All IsSpot result.now }
+    {
+        list_at(&self.spot_months, commodity)
+    }
+
+    /// The intercommodity spreads by rising priority.
+    pub fn inters(&self) -> &[Inter]
+        ensures value { result.now ≡ inters_of self.now }
+        ensures few { length result.now ≤ MAX_INTER_SPREADS }
+        ensures in_range { All (IsInter (length self.now.commodities)) result.now }
+    {
+        &self.inters
+    }
+
+    /// How many records of each kind there are.
+    pub fn counts(&self) -> Counts
+        ensures { result ≡ record {
+            commodities = length self.now.commodities;
+            contracts = length self.now.contracts;
+            tiers = length self.now.tiers;
+            intra = length self.now.intras;
+            spots = length self.now.spots;
+            inter = length self.now.inters;
+        } }
+    {
+        Counts {
+            commodities: self.commodities.len(),
+            contracts: self.contracts.len(),
+            tiers: self.tiers.len(),
+            intra: self.intra_records.len(),
+            spots: self.spots.len(),
+            inter: self.inter_records.len(),
+        }
+    }
+}

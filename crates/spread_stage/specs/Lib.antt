@@ -1,0 +1,3 @@
+pub mod Deltas
+pub mod Spreads
+pub mod Charges
