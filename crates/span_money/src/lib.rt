@@ -3,3 +3,4 @@
 
 pub mod amounts;
 pub mod division;
+pub mod texts;

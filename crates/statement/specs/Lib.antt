@@ -1,2 +1,6 @@
+pub mod Answers
+pub mod FaultLines
 pub mod Figures
+pub mod LineForms
+pub mod Rows
 pub mod Statement

@@ -1,0 +1,7 @@
+//! The commands of the program `span`: files in, bytes and a status out.
+#![tactic(auto)]
+
+pub mod disk;
+pub mod memory;
+pub mod serving;
+pub mod sources;

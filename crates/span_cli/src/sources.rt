@@ -1,0 +1,30 @@
+//! Where files come from.
+ghost use Rattle.span_cli.specs.Sources.{File, ReadGives};
+ghost use Rattle.std.specs.Prelude.{◌≡◌, IfSome, List, None, Option, Some, ℕ};
+
+use std::alloc::Global;
+
+/// How many bytes a file may have.
+pub const FILE_CAP: usize = 67_108_864;
+
+/// Why a file cannot be read.
+#[derive(Clone, Copy, Debug, PartialEq, Eq)]
+pub enum ReadFault {
+    /// There is no such file, or reading it failed.
+    Failed,
+    /// The file has more than `FILE_CAP` bytes.
+    TooLong,
+    /// Memory ran out.
+    OutOfMemory,
+}
+
+/// Something that has files.
+pub trait Sources {
+    // What a file of this name is, where that is known.
+    ghost file: { Self → List ℕ → Option File } = { λ _ _. None };
+
+    /// The bytes of the file of a name.
+    fn read(&mut self, alloc: Global, name: &str) -> Result<Vec<u8>, ReadFault>
+        ensures known { IfSome (file self.old name.now) (λ f. ReadGives (λ v. v.items) f result) }
+        ensures same { (n : List ℕ) → file self.new n ≡ file self.old n };
+}

@@ -1,0 +1,4 @@
+//! x
+#![tactic(auto)]
+
+pub mod months;

@@ -1,0 +1,37 @@
+-- The portfolios that positions are bound to fit the tables.
+use Rattle.std.proofs.Common.{◌≡◌, ℕ, ◌+◌, ◌≤◌, ◌<◌, Bool, true, false, cond, List, [], ◌∷◌, length, map, filter, Option, Some, None, Result, Ok, Err, refl, sym, ap, subst, arith}
+use Rattle.std.specs.Prelude.{All, nat_lt, ◌&&◌}
+use Rattle.std.specs.List.{enumerate_from, list_all}
+use Rattle.std.proofs.lemmas.Bool.Decides.{nat_tests}
+use Rattle.std.proofs.lemmas.List.Elements.{All-map}
+use Rattle.std.specs.Prelude.{slice_index_or}
+use Rattle.param_check.specs.Binding.{bind_fault, bound}
+use Rattle.span_tables.specs.Faults.{ok_unless}
+use Rattle.span_tables.specs.Holdings.{fits}
+use Rattle.span_tables.specs.Net.{AccountHoldings, accounts_of, holding_of, holdings_of, is_held, portfolios_of}
+use Rattle.span_tables.specs.declared.portfolios.Holding.{Holding}
+use Rattle.span_tables.specs.declared.records.Contract.{Contract}
+use Rattle.span_tables.specs.declared.records.PositionRecord.{PositionRecord}
+use Rattle.param_check.specs.declared.faults.BindFault.{BindFault}
+
+fits_if : (n : ℕ) (b : Bool) (h : Holding) (hs : List Holding) → h.contract < n → fits n hs ≡ true → fits n (cond b (h ∷ hs) hs) ≡ true
+fits_if n true h hs lt rest = let first : nat_lt h.contract n ≡ true = grind (arith, nat_tests, lt) in rw (first) rest
+fits_if n false h hs lt rest = rest
+
+numbered_fit : (n k : ℕ) (positions : List PositionRecord) (account : List ℕ) (xs : List Contract) → k + length xs ≤ n
+    → fits n (filter is_held (map (holding_of positions account) (enumerate_from k xs))) ≡ true
+numbered_fit n k positions account [] le = refl
+numbered_fit n k positions account (x ∷ xs) le =
+    fits_if n (is_held (holding_of positions account (k, x))) (holding_of positions account (k, x)) _ (omega (arith, le))
+    (numbered_fit n (k + 1) positions account xs (omega (arith, le)))
+
+pub bound_fits : (contracts : List Contract) (positions : List PositionRecord) (portfolios : List AccountHoldings)
+    → bound contracts positions ≡ Ok portfolios → All (λ p. fits (length contracts) p.holdings ≡ true) portfolios
+unfolding bound portfolios_of
+bound_fits contracts positions portfolios e = by_fault (bind_fault contracts positions) e where
+  by_fault : (o : Option BindFault) → ok_unless o (portfolios_of contracts positions) ≡ Ok portfolios → All (λ p. fits (length contracts) p.holdings ≡ true) portfolios
+  by_fault (Some f) e = cc
+  by_fault None e = let same : portfolios_of contracts positions ≡ portfolios = cc in
+      subst (All (λ p. fits (length contracts) p.holdings ≡ true)) same
+      (All-map (λ p. fits (length contracts) p.holdings ≡ true) (λ account. record { account = account; holdings = holdings_of contracts positions account })
+      (accounts_of positions) (λ k d lt. numbered_fit (length contracts) 0 positions (slice_index_or (accounts_of positions) k d) contracts (omega arith)))

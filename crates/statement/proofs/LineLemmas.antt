@@ -1,0 +1,34 @@
+-- A line in its parts is the line of its fields.
+use Rattle.std.proofs.Common.{◌≡◌, ℕ, ℤ, List, [], ◌∷◌, ◌++◌, refl, sym, ap, ◌∙◌, flat_map}
+use Rattle.std.specs.Prelude.{decimal}
+use Rattle.std.specs.Fmt.{signed_decimal}
+use Rattle.std.specs.List.{join_with_byte}
+use Rattle.std.proofs.lemmas.List.{append_assoc, append-nil}
+use Rattle.statement.specs.LineForms.{field, figures_form, total_form}
+use Rattle.statement.specs.Statement.{figures_line, total_line}
+use Rattle.statement.specs.declared.rows.CommodityRow.{CommodityRow}
+
+-- fields with a comma between each two are the first one, and each other one with its comma in front
+joined : (first : List ℕ) (rest : List (List ℕ)) → join_with_byte 44 (first ∷ rest) ≡ first ++ flat_map field rest
+joined first [] = sym (append-nil first)
+joined first (x ∷ rest) = ap (λ t. first ++ (44 ∷ t)) (joined x rest)
+
+three_and_more : (x : ℕ) (a s c more e : List ℕ) → ((x ∷ (a ++ s)) ++ c) ++ more ++ e ≡ (x ∷ (a ++ (s ++ (c ++ more)))) ++ e
+three_and_more x a s c more e = simp append_assoc refl
+
+two_and_more : (x : ℕ) (a s more e : List ℕ) → (x ∷ (a ++ s)) ++ more ++ e ≡ (x ∷ (a ++ (s ++ (more ++ [])))) ++ e
+two_and_more x a s more e = simp (append_assoc, append-nil) refl
+
+pub figures_form_is : (account set_id : List ℕ) (c : CommodityRow) → figures_form account set_id c ≡ figures_line account set_id c
+unfolding figures_form figures_line
+figures_form_is account set_id c =
+    let f = c.figures in
+    let texts = signed_decimal f.scan ∷ decimal f.active ∷ signed_decimal f.intra ∷ signed_decimal f.delivery ∷ signed_decimal f.credit ∷ signed_decimal f.minimum ∷ signed_decimal f.requirement ∷ [] in
+    three_and_more 82 (field account) (field set_id) (field c.commodity) (flat_map field texts) (10 ∷ [])
+    ∙ ap (λ t. t ++ 10 ∷ []) (sym (joined (82 ∷ []) (account ∷ set_id ∷ c.commodity ∷ texts)))
+
+pub total_form_is : (account set_id : List ℕ) (total : ℤ) → total_form account set_id total ≡ total_line account set_id total
+unfolding total_form total_line
+total_form_is account set_id total =
+    two_and_more 84 (field account) (field set_id) (field (signed_decimal total)) (10 ∷ [])
+    ∙ ap (λ t. t ++ 10 ∷ []) (sym (joined (84 ∷ []) (account ∷ set_id ∷ signed_decimal total ∷ [])))

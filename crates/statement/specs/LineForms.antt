@@ -1,0 +1,26 @@
+-- The parts that the lines of a statement are written in: each field with the comma in front of it.
+use Rattle.std.specs.Prelude.{ℕ, List, [], ◌∷◌, ◌++◌, flat_map, ℤ, pos}
+use Rattle.std.specs.Fmt.{signed_decimal}
+use Rattle.statement.specs.declared.rows.CommodityRow.{CommodityRow}
+use Rattle.statement.specs.declared.figures.Figures.{Figures}
+
+-- a comma, and the bytes of a field
+abbrev pub field : List ℕ → List ℕ
+field text = 44 ∷ text
+
+-- a comma, and a whole number
+abbrev pub number : ℤ → List ℕ
+number n = field (signed_decimal n)
+
+-- the figures of a commodity
+abbrev pub figures_fields : Figures → List ℕ
+figures_fields f = flat_map number (f.scan ∷ pos f.active ∷ f.intra ∷ f.delivery ∷ f.credit ∷ f.minimum ∷ f.requirement ∷ [])
+
+-- the line of a commodity's figures: 82 is `R`
+unfoldable pub figures_form : List ℕ → List ℕ → CommodityRow → List ℕ
+figures_form account set_id c =
+    ((82 ∷ (field account ++ field set_id)) ++ field c.commodity) ++ figures_fields c.figures ++ 10 ∷ []
+
+-- the line of an account's total: 84 is `T`
+unfoldable pub total_form : List ℕ → List ℕ → ℤ → List ℕ
+total_form account set_id total = (84 ∷ (field account ++ field set_id)) ++ number total ++ 10 ∷ []

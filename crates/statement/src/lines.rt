@@ -1,0 +1,140 @@
+//! The text of a statement.
+ghost use Rattle.statement.specs.LineForms.{field, figures_fields, figures_form, number, total_form};
+ghost use Rattle.statement.specs.Statement.{figures_line, row_text, total_line};
+ghost use Rattle.std.specs.Prelude.{[], ◌++◌, ◌∷◌, ◌≡◌, IfOk, OnOk, flat_map};
+
+use crate::figures::Figures;
+use crate::rows::{CommodityRow, Row};
+use span_money::amounts::Money;
+use span_money::texts::decimal;
+use span_tables::name::Name;
+use std::alloc::{AllocError, Global};
+
+// A comma and the bytes of a field.
+fn push_field(out: &mut Vec<u8>, text: &[u8]) -> Result<(), AllocError>
+    ensures { OnOk result (out.new.items ≡ out.old.items ++ field text.now) }
+{
+    out.push(b',')?;
+    out.extend_from_slice(text)
+}
+
+fn push_number(out: &mut Vec<u8>, n: i128) -> Result<(), AllocError>
+    ensures { OnOk result (out.new.items ≡ out.old.items ++ number n) }
+{
+    push_field(out, decimal(n).as_bytes())
+}
+
+fn push_numbers(out: &mut Vec<u8>, numbers: &[i128]) -> Result<(), AllocError>
+    ensures { OnOk result (out.new.items ≡ out.old.items ++ flat_map number numbers.now) }
+{
+    for n in numbers {
+        push_number(out, *n)?;
+    }
+    Ok(())
+}
+
+// A letter, the account and the set.
+fn push_start(
+    out: &mut Vec<u8>,
+    letter: u8,
+    account: &Name,
+    set_id: &Name,
+) -> Result<(), AllocError>
+    ensures { OnOk result (out.new.items ≡ out.old.items ++ letter ∷ (field account.now ++ field set_id.now)) }
+{
+    out.push(letter)?;
+    push_field(out, account.as_bytes())?;
+    push_field(out, set_id.as_bytes())
+}
+
+fn push_figures(out: &mut Vec<u8>, figures: &Figures) -> Result<(), AllocError>
+    ensures { OnOk result (out.new.items ≡ out.old.items ++ figures_fields figures.now) }
+{
+    let numbers = [
+        figures.scan.get(),
+        i128::from(figures.active),
+        figures.intra.get(),
+        figures.delivery.get(),
+        figures.credit.get(),
+        figures.minimum.get(),
+        figures.requirement.get(),
+    ];
+    push_numbers(out, &numbers)
+}
+
+#[tactic(auto, unfolding(crate::specs::LineForms::figures_form))]
+fn push_commodity_parts(
+    out: &mut Vec<u8>,
+    account: &Name,
+    set_id: &Name,
+    row: &CommodityRow,
+) -> Result<(), AllocError>
+    ensures { OnOk result (out.new.items ≡ out.old.items ++ figures_form account.now set_id.now row.now) }
+{
+    push_start(out, b'R', account, set_id)?;
+    push_field(out, row.commodity.as_bytes())?;
+    push_figures(out, &row.figures)?;
+    out.push(b'\n')?;
+    Ok(())
+}
+
+// The line of a commodity's figures.
+fn push_commodity(
+    out: &mut Vec<u8>,
+    account: &Name,
+    set_id: &Name,
+    row: &CommodityRow,
+) -> Result<(), AllocError>
+    ensures { OnOk result (out.new.items ≡ out.old.items ++ figures_line account.now set_id.now row.now) }
+{
+    push_commodity_parts(out, account, set_id, row)
+}
+
+#[tactic(auto, unfolding(crate::specs::LineForms::total_form))]
+fn push_total_parts(
+    out: &mut Vec<u8>,
+    account: &Name,
+    set_id: &Name,
+    total: Money,
+) -> Result<(), AllocError>
+    ensures { OnOk result (out.new.items ≡ out.old.items ++ total_form account.now set_id.now total) }
+{
+    push_start(out, b'T', account, set_id)?;
+    push_number(out, total.get())?;
+    out.push(b'\n')?;
+    Ok(())
+}
+
+// The line of an account's total.
+fn push_total(
+    out: &mut Vec<u8>,
+    account: &Name,
+    set_id: &Name,
+    total: Money,
+) -> Result<(), AllocError>
+    ensures { OnOk result (out.new.items ≡ out.old.items ++ total_line account.now set_id.now total) }
+{
+    push_total_parts(out, account, set_id, total)
+}
+
+/// Appends the lines of an account: its figures in each commodity that it holds, in file order, and its total.
+#[tactic(auto, unfolding(crate::specs::Statement::row_text))]
+pub fn push_row(out: &mut Vec<u8>, row: &Row) -> Result<(), AllocError>
+    ensures { OnOk result (out.new.items ≡ out.old.items ++ row_text row.now) }
+{
+    for commodity in row.held() {
+        push_commodity(out, row.account(), row.set_id(), commodity)?;
+    }
+    push_total(out, row.account(), row.set_id(), row.total())
+}
+
+/// The statement of these accounts, in their order.
+pub fn write(alloc: Global, rows: &[Row]) -> Result<Vec<u8>, AllocError>
+    ensures { IfOk result (λ text. text.items ≡ flat_map row_text rows.now) }
+{
+    let mut out = Vec::new(alloc);
+    for row in rows {
+        push_row(&mut out, row)?;
+    }
+    Ok(out)
+}
