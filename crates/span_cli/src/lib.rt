@@ -5,3 +5,4 @@ pub mod disk;
 pub mod memory;
 pub mod serving;
 pub mod sources;
+pub mod words;

@@ -1,0 +1,38 @@
+-- What the words of a command line ask for.
+use Rattle.std.specs.Prelude.{Bool, true, ℕ, List, Option, Some, None, codes, bytes_eq, if◌then◌else◌, option_map, option_and_then}
+use Rattle.clap.specs.Words.{App, Kinds, Row, Rule, Text, first_of, new_app, new_rule, fault_of, subcommand_of, takes, with_rule, with_subcommand}
+use Rattle.span_cli.specs.Serving.{Asked, a_margin}
+
+-- a file's name, which has to be given
+abbrev pub file_rule : Text → Rule
+file_rule id = record (new_rule id) { required = true }
+
+-- the command `margin PARAMS POSITIONS`
+abbrev pub margin_app : App
+margin_app = with_rule (with_rule (new_app (codes "margin")) (file_rule (codes "PARAMS"))) (file_rule (codes "POSITIONS"))
+
+-- the program without its commands, of which one has to be given
+abbrev pub bare_app : App
+bare_app = let a = new_app (codes "span") in record a { top = record a.top { subcommand_required = true } }
+
+-- the program
+abbrev pub span_app : App
+span_app = with_subcommand bare_app margin_app.top
+
+-- the files behind `margin`
+abbrev pub margin_in : List Row → Option Asked
+margin_in rows =
+    option_and_then (λ params. option_map (λ positions. a_margin params positions) (first_of (codes "POSITIONS") rows))
+    (first_of (codes "PARAMS") rows)
+
+-- what the words ask for, if anything
+abbrev pub asked_in : List Text → Option Asked
+asked_in words = option_and_then (λ p. margin_in p.1) (subcommand_of span_app words)
+
+-- whether the words are a command line of the program
+unfoldable pub is_taken : List Text → Bool
+is_taken words = takes span_app words
+
+-- the kinds of mistake that they may be refused by
+unfoldable pub kinds_of : List Text → Kinds
+kinds_of words = fault_of span_app words

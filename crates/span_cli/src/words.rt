@@ -1,0 +1,139 @@
+//! The words of a command line.
+ghost use Rattle.clap.specs.Words.{HasKind, app_of, first_of, found_of, kind_of, rows_of, rule_of, subcommand_of, subcommand_rows_of};
+ghost use Rattle.clap.specs.declared.builder.command.Command.TheViews.{out-Command as fields_of};
+ghost use Rattle.span_cli.specs.Serving.{Answers, OfAnswer, asked_by};
+ghost use Rattle.span_cli.specs.Words.{asked_in, file_rule, is_taken, kinds_of, margin_app, margin_in, span_app};
+ghost use Rattle.std.specs.Prelude.{◌⊎◌, ◌≡◌, IfErr, IfOk, IfSome, false, map, option_map, true};
+
+use crate::serving::{Request, serve};
+use crate::sources::Sources;
+use clap::error::ErrorKind;
+use clap::{Arg, ArgMatches, Command, Error};
+use std::alloc::{AllocError, Global};
+use std::convert::AsStr;
+use std::io::Write;
+
+// A file's name, which has to be given.
+fn file<'a>(alloc: Global, id: &'a str, help: &'a str) -> Arg<'a>
+    ensures rule { rule_of result ≡ file_rule id.entry.now }
+    ensures local { result.global ≡ false }
+{
+    Arg::new(alloc, id).required(true).help(help)
+}
+
+fn margin<'a>(alloc: Global) -> Result<Command<'a>, AllocError>
+    ensures shape { IfOk result (λ c. app_of c ≡ margin_app) }
+    ensures local { IfOk result (λ c. (fields_of c).has_globals ≡ false) }
+{
+    let command = Command::new(alloc, "margin").about("Prints the margin statement of every account");
+    let command = command.arg(file(alloc, "PARAMS", "The parameter file: a set, its commodities, contracts and spreads"))?;
+    let command = command.arg(file(alloc, "POSITIONS", "The position file: lines of account, contract and quantity"))?;
+    Ok(command)
+}
+
+fn span<'a>(alloc: Global) -> Result<Command<'a>, AllocError>
+    ensures shape { IfOk result (λ c. app_of c ≡ span_app) }
+{
+    let margin = margin(alloc)?;
+    let command = Command::new(alloc, "span")
+        .about("Margins futures and options accounts by the SPAN method")
+        .subcommand_required(true);
+    let command = command.subcommand(margin)?;
+    Ok(command)
+}
+
+fn text<'a>(matches: &ArgMatches<'a>, id: &str) -> Option<&'a str>
+    ensures { option_map (λ text. text.now) result ≡ first_of id.now (rows_of (found_of matches.now)) }
+{
+    matches.get_str(id)
+}
+
+fn margin_request<'a>(matches: &ArgMatches<'a>) -> Option<Request<'a>>
+    ensures { option_map asked_by result ≡ margin_in (rows_of (found_of matches.now)) }
+{
+    match (text(matches, "PARAMS"), text(matches, "POSITIONS")) {
+        (Some(params), Some(positions)) => Some(Request::Margin { params, positions }),
+        _ => None,
+    }
+}
+
+// The matches of the words.
+fn parse<'a, S: AsStr>(alloc: Global, words: &'a [S]) -> Result<ArgMatches<'a>, Error>
+    ensures ok { IfOk result (λ m. subcommand_rows_of m ≡ subcommand_of span_app (map S.text words.entry.now)) }
+    ensures err { IfErr result (λ e. is_taken (map S.text words.entry.now) ≡ true → kind_of e ≡ ErrorKind.OutOfMemory) }
+    ensures kinds { IfErr result (HasKind (kinds_of (map S.text words.entry.now))) }
+{
+    let command = span(alloc)?;
+    command.try_get_matches_from(words)
+}
+
+/// What the words ask for, of which the first is the program's name.
+pub fn request<'a, S: AsStr>(alloc: Global, words: &'a [S]) -> Result<Option<Request<'a>>, Error>
+    ensures ok { IfOk result (λ found. option_map asked_by found ≡ asked_in (map S.text words.entry.now)) }
+    ensures err { IfErr result (λ e. is_taken (map S.text words.entry.now) ≡ true → kind_of e ≡ ErrorKind.OutOfMemory) }
+    ensures kinds { IfErr result (HasKind (kinds_of (map S.text words.entry.now))) }
+{
+    let matches = parse(alloc, words)?;
+    match matches.subcommand() {
+        Some((_, found)) => Ok(margin_request(found)),
+        None => Ok(None),
+    }
+}
+
+// Writes what is asked for by a request for help, and gives the status.
+fn help<W: Write, E: Write>(error: &Error, out: &mut W, err: &mut E) -> u8
+    ensures { (result ≡ 0) ⊎ (result ≡ 6) }
+{
+    match write!(out, "{error}") {
+        Ok(()) => 0,
+        Err(_) => {
+            let _ = err.write_all(b"file: output\n");
+            6
+        }
+    }
+}
+
+// Answers words that are no request: a request for help goes to the output, and a mistake to the error stream.
+fn refuse<W: Write, E: Write>(error: Error, out: &mut W, err: &mut E) -> u8
+    ensures { (result ≡ 2) ⊎ ((result ≡ 0) ⊎ (result ≡ 6)) }
+{
+    if error.use_stderr() {
+        let _ = write!(err, "{error}");
+        2
+    } else {
+        help(&error, out, err)
+    }
+}
+
+// Says that memory ran out in reading the words.
+fn give_up<E: Write>(err: &mut E) -> u8
+    ensures { result ≡ 5 }
+{
+    let _ = err.write_all(b"memory\n");
+    5
+}
+
+/// Answers a command line, of which the first word is the program's name, and gives the status.
+pub fn run_words<T: AsStr, S: Sources, W: Write, E: Write>(
+    alloc: Global,
+    words: &[T],
+    sources: &mut S,
+    out: &mut W,
+    err: &mut E,
+) -> u8
+    ensures { is_taken (map T.text words.now) ≡ true → IfSome (asked_in (map T.text words.now)) (λ asked.
+        OfAnswer (S.file sources.old) asked (λ answer.
+        Answers answer result (W.contents out.old) (W.contents out.new) (E.contents err.old) (E.contents err.new))) }
+{
+    match request(alloc, words) {
+        Ok(Some(request)) => serve(alloc, request, sources, out, err),
+        Ok(None) => 2,
+        Err(error) => {
+            if error.kind() == ErrorKind::OutOfMemory {
+                give_up(err)
+            } else {
+                refuse(error, out, err)
+            }
+        }
+    }
+}
