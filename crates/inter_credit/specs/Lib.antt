@@ -1,2 +1,6 @@
 pub mod Credits
+pub mod Directions
 pub mod Requirement
+pub mod Rooms
+pub mod Samples
+pub mod States

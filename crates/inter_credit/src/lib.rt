@@ -1,4 +1,11 @@
-//! x
+//! Intercommodity spreads and their credits, the short option minimum, and the requirement of a commodity.
 #![tactic(auto)]
 
+pub mod credit;
+pub mod laws;
+pub mod requirement;
+pub mod spreads;
 pub mod state;
+#[cfg(test)]
+mod tests;
+mod worked;

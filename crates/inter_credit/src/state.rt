@@ -1,11 +1,118 @@
-//! x
-use span_money::amounts::Units;
+//! For each commodity its net delta, what spreads have left of it, its price risk, and what earns its credit.
+ghost use Rattle.std.specs.Prelude.{◌≡◌, ◌<◌, ◌≤◌, ◌==◌, length, replicate, slice_set, All, IfOk, pos, nat_abs};
+ghost use Rattle.inter_credit.specs.Credits.{loaded};
+ghost use Rattle.inter_credit.specs.States.{IsLine, IsNotLoaded, IsUnspread};
+ghost use Rattle.inter_credit.specs.declared.state.TheConstants.{MAX_PRICE2, MAX_UNITS};
 
-/// A commodity's line
-#[derive(Clone, Copy, Debug)]
+use span_money::amounts::Units;
+use std::alloc::{AllocError, Global};
+use std::marker::Model;
+
+/// The size of a net delta, in units of 10^-8 deltas.
+pub const MAX_UNITS: u64 = 25_600_000_000_000_000;
+/// Price risk doubled, in minor units.
+pub const MAX_PRICE2: u64 = 10_240_000_000_000_000;
+
+/// A commodity in the intercommodity stage.
+///
+/// `rest` is what spreads have left of the net delta, `price2` is price risk doubled (in minor units), and `weight` is
+/// the sum of units used times basis points.
+#[derive(Clone, Copy, Debug, PartialEq, Eq)]
 pub struct InterLine {
     pub net: Units,
     pub rest: Units,
     pub price2: u64,
     pub weight: u128,
+}
+
+/// The commodities of a set, by their numbers. Contracts see the list of their lines.
+#[derive(Drop)]
+pub struct InterState {
+    lines: Vec<InterLine>,
+}
+
+impl Model for InterState {
+    ghost use Rattle.std.specs.Prelude.{List, All};
+    ghost use Rattle.inter_credit.specs.States.{IsLine};
+    ghost use Rattle.inter_credit.specs.declared.state.InterLine.{InterLine};
+
+    ghost Value = { List InterLine };
+
+    ghost view = { λ state. state.lines.items };
+
+    ghost invariant = { λ state. All IsLine state.lines.items };
+}
+
+impl InterState {
+    /// How many commodities there are.
+    pub fn len(&self) -> usize
+        ensures { result ≡ length self.now }
+    {
+        self.lines.len()
+    }
+
+    /// Whether there is no commodity.
+    pub fn is_empty(&self) -> bool
+        ensures { result ≡ (length self.now == 0) }
+    {
+        self.lines.is_empty()
+    }
+
+    /// The commodities' lines by their numbers.
+    pub fn lines(&self) -> &[InterLine]
+        ensures value { result.now ≡ self.now }
+        ensures kept { All IsLine self.now }
+    {
+        &self.lines
+    }
+
+    // These lines.
+    pub(crate) fn of(lines: Vec<InterLine>) -> InterState
+        requires { All IsLine lines.items }
+        ensures { result ≡ lines.items }
+    {
+        InterState { lines }
+    }
+}
+
+// A commodity before any spread.
+fn loaded(net: Units, price2: u64) -> InterLine
+    ensures { result ≡ loaded net price2 }
+{
+    InterLine {
+        net,
+        rest: net,
+        price2,
+        weight: 0,
+    }
+}
+
+/// So many commodities of which nothing is known yet: net deltas and price risks of 0.
+pub fn empty(alloc: Global, commodities: usize) -> Result<InterState, AllocError>
+    ensures value { IfOk result (λ state. state ≡ replicate commodities (loaded (pos 0) 0)) }
+    ensures unspread { IfOk result IsUnspread }
+{
+    let lines = vec![in alloc; loaded(Units::new(0), 0); commodities]?;
+    Ok(InterState::of(lines))
+}
+
+/// The state with the net delta and the price risk of one more commodity, whose rest is its full net delta.
+pub fn load(
+    alloc: Global,
+    state: &InterState,
+    commodity: usize,
+    net: Units,
+    price2: u64,
+) -> Result<InterState, AllocError>
+    requires commodity { commodity < length state.now }
+    requires net { nat_abs net ≤ MAX_UNITS }
+    requires price2 { price2 ≤ MAX_PRICE2 }
+    requires not_loaded { IsNotLoaded state.now commodity }
+    requires unspread { IsUnspread state.now }
+    ensures value { IfOk result (λ next. next ≡ slice_set state.now commodity (loaded net price2)) }
+    ensures unspread { IfOk result IsUnspread }
+{
+    let mut lines = Vec::from_slice(alloc, state.lines())?;
+    lines[commodity] = loaded(net, price2);
+    Ok(InterState::of(lines))
 }

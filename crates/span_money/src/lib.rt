@@ -3,4 +3,8 @@
 
 pub mod amounts;
 pub mod division;
+pub mod laws;
+#[cfg(test)]
+mod tests;
 pub mod texts;
+pub mod worked;

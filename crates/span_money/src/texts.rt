@@ -1,9 +1,152 @@
-//! x
-ghost use Rattle.std.specs.Prelude.{◌≡◌};
+//! Number texts: whole numbers, decimals with at most four places, months, and plain decimals to write.
+ghost use Rattle.std.specs.Prelude.{◌≡◌, ◌+◌, ◌*◌, ◌-◌, ◌^◌, ◌<◌, ◌≤◌, true, if◌then◌else◌, length, drop, Some, None, IfSome, OnSome, option_map, pos, nat_abs};
+ghost use Rattle.std.specs.Char.{is_ascii_digit};
 ghost use Rattle.std.specs.Fmt.{signed_decimal};
+ghost use Rattle.std.specs.List.{prefix_len, take_while};
+ghost use Rattle.span_money.specs.Numbers.{are_digits, decimal_number, digits_value, fraction, has_minus, is_month, month_number, unsigned_decimal, whole_number, with_sign, without_minus};
 
 use arrayvec::ArrayString;
 use itoa::Buffer;
+
+/// The number that 1 to `most` digits spell; `None` for any other text.
+fn parse_digits(text: &[u8], most: usize) -> Option<u64>
+    requires { most ≤ 18 }
+    ensures value { result ≡ (if are_digits most text.now then Some (digits_value text.now) else None) }
+    ensures below { IfSome result (λ n. n < 10 ^ length text.now) }
+    ensures small { IfSome result (λ n. n < 10 ^ most) }
+    ensures within { OnSome result ((0 < length text.now) × (length text.now ≤ most)) }
+{
+    if text.is_empty() || text.len() > most {
+        return None;
+    }
+    let mut n: u64 = 0;
+    for byte in text {
+        if !byte.is_ascii_digit() {
+            return None;
+        }
+        n = n * 10 + u64::from(*byte - b'0');
+    }
+    Some(n)
+}
+
+// Whether a text begins with a minus, and the text behind it.
+fn split_minus(text: &[u8]) -> (bool, &[u8])
+    ensures minus { result.0 ≡ has_minus text.now }
+    ensures rest { result.1.now ≡ without_minus text.now }
+{
+    match text {
+        [b'-', rest @ ..] => (true, rest),
+        _ => (false, text),
+    }
+}
+
+// The number, or what is as far below 0.
+fn with_minus(negative: bool, n: u64) -> i64
+    requires { n < 2 ^ 63 }
+    ensures value { result ≡ with_sign negative n }
+    ensures size { nat_abs result ≡ n }
+{
+    if negative { -(n as i64) } else { n as i64 }
+}
+
+/// A whole number: an optional `-` and 1 to 18 digits. `None` for any other text.
+pub fn parse_whole(text: &[u8]) -> Option<i64>
+    ensures value { result ≡ whole_number text.now }
+    ensures bound { IfSome result (λ z. nat_abs z < 10 ^ 18) }
+{
+    let (negative, digits) = split_minus(text);
+    let n = parse_digits(digits, 18)?;
+    Some(with_minus(negative, n))
+}
+
+// How many digits a text begins with.
+fn count_leading_digits(text: &[u8]) -> usize
+    ensures { result ≡ prefix_len is_ascii_digit text.now }
+{
+    text.iter().take_while(|byte| byte.is_ascii_digit()).count()
+}
+
+// The digits that a text begins with, and what stands behind them.
+fn split_digits(text: &[u8]) -> (&[u8], &[u8])
+    ensures front { result.0.now ≡ take_while is_ascii_digit text.now }
+    ensures back { result.1.now ≡ drop (length (take_while is_ascii_digit text.now)) text.now }
+{
+    text.split_at(count_leading_digits(text))
+}
+
+// What so many digits behind a point are worth, in 10^-4.
+fn scaled(part: u64, digits: usize) -> u64
+    requires some { 1 ≤ digits }
+    requires few { digits ≤ 4 }
+    requires small { part < 10 ^ digits }
+    ensures value { result ≡ part * 10 ^ (4 - digits) }
+    ensures bound { result < 10000 }
+{
+    match digits {
+        1 => part * 1000,
+        2 => part * 100,
+        3 => part * 10,
+        _ => part,
+    }
+}
+
+// What stands behind the digits of a decimal, in 10^-4: nothing, or a point and 1 to 4 digits.
+fn parse_fraction(text: &[u8]) -> Option<u64>
+    ensures value { result ≡ fraction text.now }
+    ensures bound { IfSome result (λ n. n < 10000) }
+{
+    match text {
+        [] => Some(0),
+        [b'.', digits @ ..] => {
+            let part = parse_digits(digits, 4)?;
+            Some(scaled(part, digits.len()))
+        }
+        _ => None,
+    }
+}
+
+// A decimal without its sign, in 10^-4: 1 to 6 digits and a fraction.
+fn parse_unsigned_decimal(text: &[u8]) -> Option<u64>
+    ensures value { result ≡ unsigned_decimal text.now }
+    ensures bound { IfSome result (λ n. n < 10 ^ 10) }
+{
+    let (front, rest) = split_digits(text);
+    let whole = parse_digits(front, 6)?;
+    let part = parse_fraction(rest)?;
+    Some(whole * 10_000 + part)
+}
+
+/// A decimal, in 10^-4: an optional `-`, 1 to 6 digits, and optionally a point and 1 to 4 digits. `None` for any
+/// other text.
+pub fn parse_decimal(text: &[u8]) -> Option<i64>
+    ensures value { result ≡ decimal_number text.now }
+    ensures bound { IfSome result (λ z. nat_abs z < 10 ^ 10) }
+{
+    let (negative, digits) = split_minus(text);
+    let n = parse_unsigned_decimal(digits)?;
+    Some(with_minus(negative, n))
+}
+
+/// The number of six digits `yyyymm`. `None` for any other text; whether there is such a month, `is_month` tells.
+pub fn parse_month(text: &[u8]) -> Option<u32>
+    ensures value { option_map pos result ≡ month_number text.now }
+    ensures bound { IfSome result (λ n. n < 1000000) }
+{
+    if text.len() != 6 {
+        return None;
+    }
+    let n = parse_digits(text, 6)?;
+    Some(n as u32)
+}
+
+/// Whether the number is a month `yyyymm` of the years 1900 to 2999.
+pub fn is_month(month: u32) -> bool
+    ensures { result ≡ is_month month }
+{
+    let year = month / 100;
+    let month_of_year = month % 100;
+    1900 <= year && year <= 2999 && 1 <= month_of_year && month_of_year <= 12
+}
 
 /// The text of a whole number in plain decimals.
 pub fn decimal(n: i128) -> ArrayString<40>

@@ -8,3 +8,4 @@ pub mod Accepted
 pub mod Net
 pub mod Holdings
 pub mod Sides
+pub mod Laws

@@ -1,3 +1,7 @@
 pub mod Deltas
 pub mod Spreads
 pub mod Charges
+pub mod Months
+pub mod Market
+pub mod Steps
+pub mod Samples

@@ -1,9 +1,76 @@
-//! x
-use span_money::amounts::Units;
+//! Months with their delta positions.
+ghost use Rattle.std.specs.Prelude.{◌≡◌, ◌≤◌, nat_abs};
+ghost use Rattle.spread_stage.specs.Deltas.{net_delta};
+ghost use Rattle.spread_stage.specs.Months.{AreMonths};
+ghost use Rattle.spread_stage.specs.declared.months.TheConstants.{MAX_UNITS};
 
-/// A month (`yyyymm`), with a delta or what is left of it.
+use span_money::amounts::Units;
+use std::marker::Model;
+
+/// The largest sum of the sizes of the month deltas of an account in a commodity, in units of 10^-8: as many
+/// contracts as may be held, each with the largest net quantity, delta and scale.
+pub const MAX_UNITS: u128 = 25_600_000_000_000_000;
+
+/// A month (`yyyymm`) and a delta position in it: its delta, or what spreads left of it.
 #[derive(Clone, Copy, Debug)]
 pub struct MonthUnits {
     pub month: u32,
     pub units: Units,
+}
+
+/// The months in which an account holds contracts of a commodity, rising, each with its delta.
+#[derive(Drop)]
+pub struct Months {
+    months: Vec<MonthUnits>,
+}
+
+impl Model for Months {
+    ghost use Rattle.std.specs.Prelude.{List};
+    ghost use Rattle.spread_stage.specs.Months.{AreMonths};
+    ghost use Rattle.spread_stage.specs.declared.months.MonthUnits.{MonthUnits};
+
+    ghost Value = { List MonthUnits };
+
+    ghost view = { λ m. m.months.items };
+
+    ghost invariant = { λ m. AreMonths m.months.items };
+}
+
+// The sum of the units of months.
+fn net_delta(months: &[MonthUnits]) -> i128
+    requires { AreMonths months.now }
+    ensures value { result ≡ net_delta months.now }
+    ensures bound { nat_abs result ≤ MAX_UNITS }
+{
+    let mut net = 0;
+    for month in months {
+        net += month.units.get();
+    }
+    net
+}
+
+impl Months {
+    /// These months, which rise.
+    pub(crate) fn new(months: Vec<MonthUnits>) -> Months
+        requires { AreMonths months.items }
+        ensures { result ≡ months.items }
+    {
+        Months { months }
+    }
+
+    /// The months in order, each with its delta.
+    pub fn as_slice(&self) -> &[MonthUnits]
+        ensures value { result.now ≡ self.now }
+        ensures kept { AreMonths self.now }
+    {
+        &self.months
+    }
+
+    /// The net delta: the sum over the months.
+    pub fn net(&self) -> Units
+        ensures value { result ≡ net_delta self.now }
+        ensures bound { nat_abs result ≤ MAX_UNITS }
+    {
+        Units::new(net_delta(&self.months))
+    }
 }

@@ -1,3 +1,4 @@
-pub mod LineLemmas
-pub mod WriteLemmas
 pub mod FitLemmas
+pub mod LineLemmas
+pub mod LoadLemmas
+pub mod WriteLemmas

@@ -1,55 +1,66 @@
 -- The seven figures of a commodity, of accepted tables and one portfolio.
-use Rattle.std.specs.Prelude.{ℕ, List, map, slice_get, unwrap_or, option_map, pos}
+use Rattle.std.specs.Prelude.{ℕ, Bool, not, ◌==◌, List, length, map, ℤ, pos}
 use Rattle.span_tables.specs.Tables.{AcceptedTables, intras_of, spots_of, inters_of}
 use Rattle.span_tables.specs.Net.{held_of}
 use Rattle.scan_risk.specs.Scenarios.{scenario_sums, scan_of}
 use Rattle.spread_stage.specs.Deltas.{month_deltas, net_delta}
 use Rattle.spread_stage.specs.Spreads.{after_spreads}
 use Rattle.spread_stage.specs.Charges.{intra_charge, delivery_charge}
-use Rattle.inter_credit.specs.Credits.{loaded, after_inter_spreads, credit_of}
+use Rattle.inter_credit.specs.Credits.{loaded, after_inter_spreads}
+use Rattle.inter_credit.specs.States.{credit_at}
 use Rattle.inter_credit.specs.Requirement.{minimum_of, requirement_of}
 use Rattle.span_tables.specs.declared.records.Commodity.{Commodity}
 use Rattle.span_tables.specs.declared.portfolios.Holding.{Holding}
 use Rattle.span_tables.specs.declared.held.HeldContract.{HeldContract}
 use Rattle.inter_credit.specs.declared.state.InterLine.{InterLine}
 use Rattle.statement.specs.declared.figures.Figures.{Figures}
+use Rattle.statement.specs.declared.stages.Stages.{Stages}
 
 -- the held contracts of a commodity
 abbrev pub held_in : AcceptedTables → List Holding → Commodity → List HeldContract
 held_in tables holdings c = held_of tables.contracts holdings c.id
 
--- a commodity's line before any intercommodity spread
-abbrev pub line_of : AcceptedTables → List Holding → Commodity → InterLine
-line_of tables holdings c =
+-- the account holds a contract of the commodity
+abbrev pub is_held_in : AcceptedTables → List Holding → Commodity → Bool
+is_held_in tables holdings c = not (length (held_in tables holdings c) == 0)
+
+-- what the stages of a commodity by itself give: all but its credit
+unfoldable pub stages_of : AcceptedTables → List Holding → Commodity → Stages
+stages_of tables holdings c =
     let held = held_in tables holdings c in
-    loaded (net_delta (month_deltas held)) ((scan_of (scenario_sums held)).price2)
+    let deltas = month_deltas held in
+    let tiers = after_spreads (intras_of tables c.id) deltas in
+    record {
+      is_held = not (length held == 0);
+      scan = scan_of (scenario_sums held);
+      net = net_delta deltas;
+      intra = pos (intra_charge tiers.charge);
+      delivery = pos (delivery_charge deltas tiers.rests (spots_of tables c.id));
+      minimum = pos (minimum_of c.minimum_rate c.method held);
+    }
+
+-- a commodity's line before any intercommodity spread: its full net delta, and its price risk doubled
+abbrev pub line_of : Stages → InterLine
+line_of s = loaded s.net (s.scan).price2
 
 -- the commodities after all intercommodity spreads
 unfoldable pub inter_lines : AcceptedTables → List Holding → List InterLine
-inter_lines tables holdings = after_inter_spreads (inters_of tables) (map (line_of tables holdings) tables.commodities)
+inter_lines tables holdings =
+    after_inter_spreads (inters_of tables) (map (λ c. line_of (stages_of tables holdings c)) tables.commodities)
 
--- the credit of the commodity of a number
-unfoldable pub credit_at : AcceptedTables → List Holding → ℕ → ℕ
-credit_at tables holdings c = unwrap_or (option_map credit_of (slice_get (inter_lines tables holdings) c)) 0
+-- the figures of a commodity's stages with its credit
+abbrev pub with_credit : Stages → ℤ → Figures
+with_credit s credit = record {
+  scan = (s.scan).risk;
+  active = (s.scan).active;
+  intra = s.intra;
+  delivery = s.delivery;
+  credit = credit;
+  minimum = s.minimum;
+  requirement = requirement_of (s.scan).risk s.intra s.delivery credit s.minimum;
+}
 
 -- the seven figures of a commodity and its number
 unfoldable pub figures_of : AcceptedTables → List Holding → ℕ × Commodity → Figures
 figures_of tables holdings numbered =
-    let c = numbered.1 in
-    let held = held_in tables holdings c in
-    let scan = scan_of (scenario_sums held) in
-    let deltas = month_deltas held in
-    let tiers = after_spreads (intras_of tables c.id) deltas in
-    let intra = pos (intra_charge tiers.charge) in
-    let delivery = pos (delivery_charge deltas tiers.rests (spots_of tables c.id)) in
-    let credit = pos (credit_at tables holdings numbered.0) in
-    let minimum = pos (minimum_of c.minimum_rate c.method held) in
-    record {
-      scan = scan.risk;
-      active = scan.active;
-      intra = intra;
-      delivery = delivery;
-      credit = credit;
-      minimum = minimum;
-      requirement = requirement_of scan.risk intra delivery credit minimum;
-    }
+    with_credit (stages_of tables holdings numbered.1) (pos (credit_at (inter_lines tables holdings) numbered.0))

@@ -1,4 +1,5 @@
 pub mod Answers
+pub mod Bounds
 pub mod FaultLines
 pub mod Figures
 pub mod LineForms

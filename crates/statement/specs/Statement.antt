@@ -1,5 +1,5 @@
 -- The text of a statement, from the bytes of both files.
-use Rattle.std.specs.Prelude.{ℕ, Bool, not, ◌==◌, List, [], ◌∷◌, ◌++◌, length, map, filter, flat_map, codes, ℤ, decimal, Result, Ok, Err}
+use Rattle.std.specs.Prelude.{ℕ, List, [], ◌∷◌, ◌++◌, map, filter, flat_map, codes, ℤ, decimal, Result, Ok, Err}
 use Rattle.std.specs.List.{enumerate_from, join_with_byte}
 use Rattle.std.specs.Fmt.{signed_decimal}
 use Rattle.span_money.specs.Numbers.{int_sum_by}
@@ -9,9 +9,8 @@ use Rattle.param_check.specs.CheckFaults.{checked}
 use Rattle.span_tables.specs.Tables.{AcceptedTables}
 use Rattle.span_tables.specs.Net.{AccountHoldings}
 use Rattle.param_check.specs.Binding.{bound}
-use Rattle.statement.specs.Figures.{held_in, figures_of}
+use Rattle.statement.specs.Figures.{is_held_in, figures_of}
 use Rattle.statement.specs.Rows.{RowView}
-use Rattle.span_tables.specs.declared.records.Commodity.{Commodity}
 use Rattle.span_tables.specs.declared.portfolios.Holding.{Holding}
 use Rattle.statement.specs.declared.figures.Figures.{Figures}
 use Rattle.statement.specs.declared.rows.CommodityRow.{CommodityRow}
@@ -41,10 +40,6 @@ row_text row = flat_map (figures_line row.account row.set_id) row.held ++ total_
 
 -- ---- the row of an account
 
--- the account holds a contract of the commodity
-abbrev pub is_held_in : AcceptedTables → List Holding → ℕ × Commodity → Bool
-is_held_in tables holdings numbered = not (length (held_in tables holdings numbered.1) == 0)
-
 -- the total of an account: the sum of the requirements of all commodities
 unfoldable pub total_of : AcceptedTables → List Holding → ℤ
 total_of tables holdings =
@@ -54,7 +49,7 @@ total_of tables holdings =
 unfoldable pub held_figures : AcceptedTables → List Holding → List CommodityRow
 held_figures tables holdings =
     map (λ numbered. record { commodity = (numbered.1).id; figures = figures_of tables holdings numbered })
-    (filter (is_held_in tables holdings) (enumerate_from 0 tables.commodities))
+    (filter (λ numbered. is_held_in tables holdings numbered.1) (enumerate_from 0 tables.commodities))
 
 -- the row of an account
 abbrev pub row_of : AcceptedTables → AccountHoldings → RowView

@@ -1,8 +1,10 @@
 //! Statements: from the bytes of a parameter file and a position file to the bytes of a statement.
 #![tactic(auto)]
 
+pub mod credits;
 pub mod faults;
 pub mod figures;
 pub mod lines;
 pub mod margin;
 pub mod rows;
+pub mod stages;

@@ -1,0 +1,50 @@
+-- The credit is the greatest number whose product stays below; without spreads there is none.
+use Rattle.std.proofs.Common.{◌≡◌, ℕ, ◌+◌, ◌*◌, ◌/◌, ◌^◌, ◌<◌, ◌≤◌, Bool, true, false, cond, List, length, get_or, nat_abs, ℤ, zero, suc, [], ◌∷◌, All, refl, arith}
+use Rattle.std.specs.Prelude.{◌==◌, ◌≢◌, if◌then◌else◌}
+use Rattle.std.proofs.Math.Nat.{div-mul-le_self, le-div_iff_mul-le, mul-zero, zero-div}
+use Rattle.std.proofs.lemmas.Bool.Decides.{nat_tests}
+use Rattle.span_tables.specs.declared.records.Inter.{Inter}
+use Rattle.inter_credit.specs.Credits.{after_inter_spreads, credit_of}
+use Rattle.inter_credit.specs.States.{IsUnspread, credit_at}
+use Rattle.inter_credit.specs.declared.state.InterLine.{InterLine}
+
+-- rounded down, x / d is the greatest g with g * d at most x
+div_greatest : (x d : ℕ) → 0 < d → ((x / d) * d ≤ x) × ((g : ℕ) → g * d ≤ x → g ≤ x / d)
+div_greatest x d h = (div-mul-le_self x d, λ g fits. (le-div_iff_mul-le h).1 fits)
+
+-- with a net delta of 0 there is no credit
+pub credit_zero : (line : InterLine) → nat_abs line.net ≡ 0 → credit_of line ≡ 0
+unfolding credit_of
+credit_zero line e = rw e refl
+
+test_not_zero : (n : ℕ) → n ≢ 0 → (n == 0) ≡ false
+test_not_zero n h = grind (arith, nat_tests, h)
+
+-- else it is the greatest g with g * 2 * 10^4 * |net| at most price2 * weight
+pub credit_greatest : (line : InterLine) → nat_abs line.net ≢ 0
+    → (credit_of line * (2 * 10 ^ 4 * nat_abs line.net) ≤ line.price2 * line.weight)
+    × ((g : ℕ) → g * (2 * 10 ^ 4 * nat_abs line.net) ≤ line.price2 * line.weight → g ≤ credit_of line)
+unfolding credit_of
+credit_greatest line h =
+    let above : 0 < 2 * 10 ^ 4 * nat_abs line.net = omega (arith, h) in
+    let d = div_greatest (line.price2 * line.weight) (2 * 10 ^ 4 * nat_abs line.net) above in
+    let no = test_not_zero (nat_abs line.net) h in
+    rw no d
+
+cond_same : (b : Bool) (n m : ℕ) → m ≡ n → cond b n m ≡ n
+cond_same true n m e = refl
+cond_same false n m e = e
+
+-- a weight of 0 earns nothing
+credit_unspread : (line : InterLine) → line.weight ≡ 0 → credit_of line ≡ 0
+unfolding credit_of
+credit_unspread line e =
+    let none : (line.price2 * 0) / (2 * 10 ^ 4 * nat_abs line.net) ≡ 0 = rw (mul-zero line.price2) (zero-div (2 * 10 ^ 4 * nat_abs line.net)) in
+    rw e (cond_same (nat_abs line.net == 0) 0 _ none)
+
+-- without spreads there is no credit
+pub no_spread_no_credit : (lines : List InterLine) (commodity : ℕ) → IsUnspread lines → credit_at (after_inter_spreads [] lines) commodity ≡ 0
+unfolding after_inter_spreads
+no_spread_no_credit [] commodity h = refl
+no_spread_no_credit (line ∷ lines) zero h = credit_unspread line (h 0 line (omega arith)).weight
+no_spread_no_credit (line ∷ lines) (suc commodity) h = no_spread_no_credit lines commodity (λ k d lt. h (suc k) d (omega arith))

@@ -1,0 +1,7 @@
+pub mod CreditLaws
+pub mod MinimumLaws
+pub mod OnLiterals
+pub mod RestLaws
+pub mod Sizes
+pub mod SpreadLemmas
+pub mod LineLemmas

@@ -1,0 +1,64 @@
+-- The short option minimum counts short calls and short puts; the requirement is the larger of two numbers.
+use Rattle.std.proofs.Common.{◌≡◌, ℕ, ◌+◌, ◌*◌, ◌≤◌, Bool, true, false, cond, ◌&&◌, List, [], ◌∷◌, max, filter, sum_by, nat_abs, ℤ, pos, negsuc, ◌≤ℤ◌, ◌+ℤ◌, ◌-ℤ◌, refl, sym, ap, ◌∙◌, arith}
+use Rattle.std.specs.Prelude.{int_lt}
+use Rattle.std.specs.Int.{int_max}
+use Rattle.std.proofs.lemmas.Bool.Decides.{nat_tests}
+use Rattle.std.proofs.lemmas.List.Sums.{sum_by-cons}
+use Rattle.std.proofs.lemmas.Int.{ints, clamps}
+use Rattle.span_money.specs.Numbers.{negative_part}
+use Rattle.span_tables.specs.declared.held.HeldContract.{HeldContract}
+use Rattle.span_tables.specs.declared.records.ProductKind.{ProductKind}
+use Rattle.span_tables.specs.declared.records.MinimumMethod.TheVariants as method
+use Rattle.inter_credit.specs.Requirement.{is_call, is_put, minimum_of, requirement_of, short_count}
+
+-- a filter's sum, by its first element
+by_test : {A : Type 0} (b : Bool) (f : A → ℕ) (x : A) (xs : List A) → sum_by f (cond b (x ∷ xs) xs) ≡ cond b (f x) 0 + sum_by f xs
+by_test true f x xs = sum_by-cons f x xs
+by_test false f x xs = omega arith
+
+-- only short ones count
+counted : (b : Bool) (net : ℤ) → cond b (negative_part net) 0 ≡ cond (b && int_lt net (pos 0)) (nat_abs net) 0
+counted true (pos n) = grind (arith, nat_tests)
+counted true (negsuc n) = refl
+counted false net = refl
+
+pub short_count_is : (is_kind : ProductKind → Bool) (held : List HeldContract)
+    → short_count is_kind held ≡ sum_by (λ h. nat_abs h.net) (filter (λ h. is_kind (h.contract).kind && int_lt h.net (pos 0)) held)
+short_count_is is_kind [] = refl
+short_count_is is_kind (h ∷ held) =
+    let is_short : HeldContract → Bool = λ x. is_kind (x.contract).kind && int_lt x.net (pos 0) in
+    by_test (is_kind (h.contract).kind) (λ x. negative_part x.net) h (filter (λ x. is_kind (x.contract).kind) held)
+    ∙ ap (λ n. n + short_count is_kind held) (counted (is_kind (h.contract).kind) h.net)
+    ∙ ap (λ n. cond (is_short h) (nat_abs h.net) 0 + n) (short_count_is is_kind held)
+    ∙ sym (by_test (is_short h) (λ x. nat_abs x.net) h (filter is_short held))
+
+-- the sum of both kinds
+pub minimum_of_sum : (rate : ℕ) (held : List HeldContract)
+    → minimum_of rate method.Sum held ≡ rate * (short_count is_call held + short_count is_put held)
+unfolding minimum_of
+minimum_of_sum rate held = refl
+
+-- the larger of both kinds
+pub minimum_of_max : (rate : ℕ) (held : List HeldContract)
+    → minimum_of rate method.Max held ≡ rate * max (short_count is_call held) (short_count is_put held)
+unfolding minimum_of
+minimum_of_max rate held = refl
+
+int_max_left : (a b : ℤ) → a ≤ℤ int_max a b
+int_max_left a b = omega (arith, ints, clamps)
+
+int_max_right : (a b : ℤ) → b ≤ℤ int_max a b
+int_max_right a b = omega (arith, ints, clamps)
+
+int_max_least : (a b g : ℤ) → a ≤ℤ g → b ≤ℤ g → int_max a b ≤ℤ g
+int_max_least a b g p q = omega (arith, ints, clamps)
+
+-- the requirement is the least number that is at least both
+pub requirement_is_least : (scan intra delivery credit minimum : ℤ)
+    → ((((scan +ℤ intra) +ℤ delivery) -ℤ credit) ≤ℤ requirement_of scan intra delivery credit minimum)
+    × (minimum ≤ℤ requirement_of scan intra delivery credit minimum)
+    × ((g : ℤ) → (((scan +ℤ intra) +ℤ delivery) -ℤ credit) ≤ℤ g → minimum ≤ℤ g → requirement_of scan intra delivery credit minimum ≤ℤ g)
+unfolding requirement_of
+requirement_is_least scan intra delivery credit minimum =
+    let risk : ℤ = ((scan +ℤ intra) +ℤ delivery) -ℤ credit in
+    (int_max_left risk minimum, int_max_right risk minimum, λ g a b. int_max_least risk minimum g a b)

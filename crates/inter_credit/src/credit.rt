@@ -1,0 +1,40 @@
+//! The credit of a commodity.
+ghost use Rattle.std.specs.Prelude.{◌≡◌, ◌<◌, ◌≤◌, ◌*◌, ◌^◌, length, pos, nat_abs};
+ghost use Rattle.inter_credit.specs.Credits.{credit_of};
+ghost use Rattle.inter_credit.specs.States.{IsLine, credit_at};
+ghost use Rattle.inter_credit.specs.declared.state.TheConstants.{MAX_PRICE2};
+
+use crate::state::{InterLine, InterState};
+use span_money::amounts::Money;
+use span_money::division::floor_div;
+
+// Price risk doubled times the weight.
+fn product(line: &InterLine) -> u128
+    requires { IsLine line.now }
+    ensures { result ≡ line.now.price2 * line.now.weight }
+{
+    u128::from(line.price2) * line.weight
+}
+
+// The credit of a line, rounded down once.
+#[tactic(auto, unfolding(crate::specs::Credits::credit_of))]
+fn credit_of(line: &InterLine) -> u128
+    requires { IsLine line.now }
+    ensures value { result ≡ credit_of line.now }
+    ensures bound { 2 * result ≤ MAX_PRICE2 }
+{
+    let net = line.net.get().unsigned_abs();
+    if net == 0 {
+        return 0;
+    }
+    floor_div(product(line), 20_000 * net)
+}
+
+/// The intercommodity credit of the commodity of a number, in minor units.
+pub fn credit(state: &InterState, commodity: usize) -> Money
+    requires { commodity < length state.now }
+    ensures value { result ≡ pos (credit_at state.now commodity) }
+    ensures bound { 2 * nat_abs result ≤ MAX_PRICE2 }
+{
+    Money::new(credit_of(&state.lines()[commodity]) as i128)
+}

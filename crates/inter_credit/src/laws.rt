@@ -1,0 +1,54 @@
+//! Laws of the definitions, in the methodology's words: each is the contract of a function that does nothing.
+ghost use Rattle.std.specs.Prelude.{◌≡◌, ◌≢◌, ℕ, ◌+◌, ◌*◌, ◌^◌, ◌≤◌, max, Bool, ◌&&◌, List, [], length, filter, sum_by, ℤ, pos, ◌+ℤ◌, ◌-ℤ◌, ◌≤ℤ◌, int_lt, nat_abs};
+ghost use Rattle.span_tables.specs.Accepted.{IsInter};
+ghost use Rattle.span_tables.specs.declared.held.HeldContract.{HeldContract};
+ghost use Rattle.span_tables.specs.declared.records.Inter.{Inter};
+ghost use Rattle.span_tables.specs.declared.records.MinimumMethod.TheVariants as method;
+ghost use Rattle.span_tables.specs.declared.records.ProductKind.{ProductKind};
+ghost use Rattle.inter_credit.specs.Credits.{after_inter_spreads, credit_of, inter_both_ways};
+ghost use Rattle.inter_credit.specs.Requirement.{is_call, is_put, minimum_of, requirement_of, short_count};
+ghost use Rattle.inter_credit.specs.States.{IsUnspread, UsesLine, credit_at, line_at};
+ghost use Rattle.inter_credit.specs.declared.state.InterLine.{InterLine};
+
+/// The credit is 0 without a net delta, and else the greatest number whose product stays within price risk times weight.
+pub fn credit_is_greatest()
+    ensures zero { (line : InterLine) → nat_abs line.net ≡ 0 → credit_of line ≡ 0 }
+    ensures greatest { (line : InterLine) → nat_abs line.net ≢ 0
+        → (credit_of line * (2 * 10 ^ 4 * nat_abs line.net) ≤ line.price2 * line.weight)
+        × ((g : ℕ) → g * (2 * 10 ^ 4 * nat_abs line.net) ≤ line.price2 * line.weight
+        → g ≤ credit_of line) }
+{}
+
+/// Without intercommodity spreads there is no credit.
+pub fn no_spread_no_credit()
+    ensures { (lines : List InterLine) (commodity : ℕ) → IsUnspread lines
+        → credit_at (after_inter_spreads [] lines) commodity ≡ 0 }
+{}
+
+/// A spread only uses rests: net deltas and price risks stay, no rest is larger than before or of the other sign, and a
+/// weight grows by the units used times the basis points.
+pub fn spread_uses_rests()
+    ensures length { (lines : List InterLine) (spread : Inter) → length (inter_both_ways lines spread) ≡ length lines }
+    ensures lines { (lines : List InterLine) (spread : Inter) → IsInter (length lines) spread
+        → (k : ℕ) → UsesLine spread.basis_points (line_at lines k) (line_at (inter_both_ways lines spread) k) }
+{}
+
+/// What is counted of a kind are the sizes of the negative nets; the minimum is the rate times the count of calls and
+/// puts together, or times the larger of the two counts.
+pub fn minimum_counts_short_options()
+    ensures counts { (is_kind : ProductKind → Bool) (held : List HeldContract)
+        → short_count is_kind held ≡ sum_by (λ h. nat_abs h.net) (filter (λ h. is_kind (h.contract).kind && int_lt h.net (pos 0)) held) }
+    ensures sum { (rate : ℕ) (held : List HeldContract)
+        → minimum_of rate method.Sum held ≡ rate * (short_count is_call held + short_count is_put held) }
+    ensures larger { (rate : ℕ) (held : List HeldContract)
+        → minimum_of rate method.Max held ≡ rate * max (short_count is_call held) (short_count is_put held) }
+{}
+
+/// The requirement is the least number that is at least scan and charges less the credit, and at least the minimum.
+pub fn requirement_is_the_larger()
+    ensures { (scan intra delivery credit minimum : ℤ)
+        → ((((scan +ℤ intra) +ℤ delivery) -ℤ credit) ≤ℤ requirement_of scan intra delivery credit minimum)
+        × (minimum ≤ℤ requirement_of scan intra delivery credit minimum)
+        × ((g : ℤ) → (((scan +ℤ intra) +ℤ delivery) -ℤ credit) ≤ℤ g → minimum ≤ℤ g
+        → requirement_of scan intra delivery credit minimum ≤ℤ g) }
+{}

@@ -1,0 +1,98 @@
+//! The short option minimum, and the requirement of a commodity.
+ghost use Rattle.std.specs.Prelude.{◌≡◌, ◌+◌, ◌*◌, ◌≤◌, ◌+ℤ◌, ◌-ℤ◌, All, length, pos, nat_abs};
+ghost use Rattle.span_money.specs.Numbers.{negative_part};
+ghost use Rattle.span_tables.specs.declared.limits.TheConstants.{MAX_HELD, MAX_NET, MAX_RATE};
+ghost use Rattle.inter_credit.specs.Requirement.{is_call, is_put, minimum_of, requirement_of, short_count, short_options};
+ghost use Rattle.inter_credit.specs.declared.requirement.TheConstants.{MAX_PART};
+
+use span_money::amounts::Money;
+use span_tables::held::{Held, HeldContract};
+use span_tables::records::{MinimumMethod, ProductKind};
+
+/// The size of each part of a requirement, in minor units.
+pub const MAX_PART: u128 = 100_000_000_000_000_000_000_000_000;
+
+// How many of a held contract are short.
+fn short_part(net: i64) -> u64
+    ensures value { result ≡ negative_part net }
+    ensures bound { result ≤ nat_abs net }
+{
+    if net < 0 { net.unsigned_abs() } else { 0 }
+}
+
+// Short calls and short puts.
+#[derive(Drop)]
+struct ShortCounts {
+    calls: u64,
+    puts: u64,
+}
+
+// How many calls and how many puts are short.
+fn short_counts(held: &[HeldContract]) -> ShortCounts
+    requires few { length held.now ≤ MAX_HELD }
+    requires nets { All (λ h. nat_abs h.net ≤ MAX_NET) held.now }
+    ensures calls { result.calls ≡ short_count is_call held.now }
+    ensures puts { result.puts ≡ short_count is_put held.now }
+    ensures bound { result.calls + result.puts ≤ MAX_HELD * MAX_NET }
+{
+    let mut calls = 0;
+    let mut puts = 0;
+    for h in held {
+        match h.contract.kind {
+            ProductKind::Future => {}
+            ProductKind::Call => calls += short_part(h.net),
+            ProductKind::Put => puts += short_part(h.net),
+        }
+    }
+    ShortCounts { calls, puts }
+}
+
+// The count of short option contracts.
+fn short_options(held: &Held, method: MinimumMethod) -> u64
+    ensures value { result ≡ short_options method held.now }
+    ensures bound { result ≤ MAX_HELD * MAX_NET }
+{
+    let short = short_counts(held.as_slice());
+    match method {
+        MinimumMethod::Sum => short.calls + short.puts,
+        MinimumMethod::Max => short.calls.max(short.puts),
+    }
+}
+
+/// The short option minimum: the rate (in minor units a contract) times the count of short option contracts.
+#[tactic(auto, unfolding(crate::specs::Requirement::minimum_of))]
+pub fn minimum(held: &Held, rate: u32, method: MinimumMethod) -> Money
+    requires { rate ≤ MAX_RATE }
+    ensures value { result ≡ pos (minimum_of rate method held.now) }
+    ensures bound { nat_abs result ≤ MAX_RATE * (MAX_HELD * MAX_NET) }
+{
+    let count = short_options(held, method);
+    Money::new((u64::from(rate) * count) as i128)
+}
+
+// Scan risk and charges, less the credit.
+fn risk_less_credit(scan: Money, intra: Money, delivery: Money, credit: Money) -> i128
+    requires scan { nat_abs scan ≤ MAX_PART }
+    requires intra { nat_abs intra ≤ MAX_PART }
+    requires delivery { nat_abs delivery ≤ MAX_PART }
+    requires credit { nat_abs credit ≤ MAX_PART }
+    ensures value { result ≡ ((scan +ℤ intra) +ℤ delivery) -ℤ credit }
+    ensures bound { nat_abs result ≤ nat_abs scan + nat_abs intra + nat_abs delivery + nat_abs credit }
+{
+    scan.get() + intra.get() + delivery.get() - credit.get()
+}
+
+/// The requirement of a commodity: the larger of scan risk and charges less the credit, and the minimum.
+#[tactic(auto, unfolding(crate::specs::Requirement::requirement_of))]
+pub fn requirement(scan: Money, intra: Money, delivery: Money, credit: Money, minimum: Money) -> Money
+    requires scan { nat_abs scan ≤ MAX_PART }
+    requires intra { nat_abs intra ≤ MAX_PART }
+    requires delivery { nat_abs delivery ≤ MAX_PART }
+    requires credit { nat_abs credit ≤ MAX_PART }
+    requires minimum { nat_abs minimum ≤ MAX_PART }
+    ensures value { result ≡ requirement_of scan intra delivery credit minimum }
+    ensures bound { nat_abs result ≤ nat_abs scan + nat_abs intra + nat_abs delivery + nat_abs credit + nat_abs minimum }
+{
+    let risk = risk_less_credit(scan, intra, delivery, credit);
+    Money::new(risk.max(minimum.get()))
+}

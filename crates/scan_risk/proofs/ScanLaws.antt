@@ -1,0 +1,115 @@
+-- Laws of the scan.
+use Rattle.std.proofs.Common.{◌≡◌, ℕ, suc, zero, ◌+◌, ◌-◌, ◌<◌, Bool, true, false, List, [], ◌∷◌, length, get_or, refl, sym, ap, ◌∙◌, arith, subst, inl, inr, Some, cond, not}
+use Rattle.std.specs.Prelude.{ℤ, pos, fold, All, ◌≤ℤ◌, ◌<ℤ◌, unwrap_or, None, int_le, nat_lt, position}
+use Rattle.std.specs.List.{position_or_len}
+use Rattle.std.specs.Int.{int_max}
+use Rattle.std.proofs.lemmas.Int.{ints}
+use Rattle.std.proofs.lemmas.Bool.Decides.{nat_tests}
+use Rattle.std.proofs.lemmas.List.{get_or_default}
+use Rattle.std.proofs.lemmas.Int.{fold-int_max_bounds, fold-int_max_reached}
+use Rattle.std.proofs.lemmas.List.Sums.{position_or_len_is, AllPass-from_list_all, list_all-from_AllPass}
+use Rattle.std.proofs.lemmas.List.Folds.{list_all_at}
+use Rattle.std.proofs.lemmas.List.Quantifiers.{position-Some}
+use Rattle.scan_risk.specs.Scenarios.{scan_risk, is_largest, active_scenario, at_scenario}
+
+-- scan risk is at least 0 and each sum, and no number less than it is
+pub scan_risk_least : (sums : List ℤ) → (pos 0 ≤ℤ scan_risk sums) × All (λ s. s ≤ℤ scan_risk sums) sums
+    × ((g : ℤ) → pos 0 ≤ℤ g → All (λ s. s ≤ℤ g) sums → scan_risk sums ≤ℤ g)
+scan_risk_least sums =
+    let b = fold-int_max_bounds (pos 0) sums (scan_risk sums) refl in (
+      b.0,
+      b.1,
+      λ g zero all. elim (fold-int_max_reached (pos 0) sums (scan_risk sums) refl) [
+        | inl e ↦ subst (λ z. z ≤ℤ g) (sym e) zero
+        | inr c ↦ subst (λ z. z ≤ℤ g) c.2 (all c.0 (scan_risk sums) c.1)
+      ],
+    )
+
+le_test : (a b : ℤ) → a ≤ℤ b → int_le a b ≡ true
+le_test a b h = grind (arith, ints)
+
+le_tested : (a b : ℤ) → int_le a b ≡ true → a ≤ℤ b
+le_tested a b h = grind (arith, ints)
+
+-- a number is at least each of some exactly when the test says so
+largest_test : (sums : List ℤ) (z : ℤ) → All (λ t. t ≤ℤ z) sums → is_largest sums z ≡ true
+largest_test sums z all = list_all-from_AllPass (λ t. int_le t z) sums (λ k d lt. le_test _ z (all k d lt))
+
+largest_tested : (sums : List ℤ) (z : ℤ) → is_largest sums z ≡ true → All (λ t. t ≤ℤ z) sums
+largest_tested sums z e k d lt = le_tested _ z (AllPass-from_list_all (λ t. int_le t z) sums e k d lt)
+
+-- where some element passes, there is a first place that does
+place_exists : {X : Type 0} (p : X → Bool) (xs : List X) (i : ℕ) (d : X) → i < length xs → p (get_or xs i d) ≡ true → position_or_len p xs < length xs
+place_exists p [] i d lt e = absurd (omega arith)
+place_exists p (x ∷ xs) zero d lt e = rw e (omega arith)
+place_exists {X} p (x ∷ xs) (suc i) d lt e = by_test (p x) (place_exists p xs i d (omega arith) e) where
+  by_test : (b : Bool) → position_or_len p xs < length xs → cond (not b) (1 + position_or_len p xs) 0 < suc (length xs)
+  by_test true h = omega arith
+  by_test false h = omega arith
+
+-- a bound of the first and of the others bounds all
+all_cons : (s : ℤ) (rest : List ℤ) (m : ℤ) → s ≤ℤ m → All (λ t. t ≤ℤ m) rest → All (λ t. t ≤ℤ m) (s ∷ rest)
+all_cons s rest m first others zero d lt = first
+all_cons s rest m first others (suc k) d lt = others k d (omega arith)
+
+-- within a list the default does not matter
+same_element : (xs : List ℤ) (i : ℕ) (m : ℤ) → i < length xs → get_or xs i m ≡ m → get_or xs i (pos 0) ≡ m
+same_element xs i m lt e = get_or_default xs i (pos 0) m lt ∙ e
+
+-- one of the sums is at least each of them
+some_largest : (s : ℤ) (rest : List ℤ) → (i : ℕ) × (i < length (s ∷ rest)) × (is_largest (s ∷ rest) (get_or (s ∷ rest) i (pos 0)) ≡ true)
+some_largest s rest =
+    let m = fold int_max s rest in
+    let b = fold-int_max_bounds s rest m refl in
+    let above : All (λ t. t ≤ℤ m) (s ∷ rest) = all_cons s rest m b.0 b.1 in
+    elim (fold-int_max_reached s rest m refl) [
+      | inl e ↦ (0, omega arith, largest_test (s ∷ rest) s (subst (λ z. All (λ t. t ≤ℤ z) (s ∷ rest)) e above))
+      | inr c ↦ (suc c.0, omega (arith, c.1), largest_test (s ∷ rest) (get_or rest c.0 (pos 0)) (subst (λ z. All (λ t. t ≤ℤ z) (s ∷ rest)) (sym (same_element rest c.0 m c.1 c.2)) above))
+    ]
+
+-- the place of the active scenario's sum
+place : List ℤ → ℕ
+place sums = position_or_len (is_largest sums) sums
+
+position_is : (s : ℤ) (rest : List ℤ) → position (is_largest (s ∷ rest)) (s ∷ rest) ≡ Some (position_or_len (is_largest (s ∷ rest)) (s ∷ rest))
+position_is s rest =
+    let w = some_largest s rest in
+    let lt = place_exists (is_largest (s ∷ rest)) (s ∷ rest) w.0 (pos 0) w.1 w.2 in
+    let yes : nat_lt (position_or_len (is_largest (s ∷ rest)) (s ∷ rest)) (length (s ∷ rest)) ≡ true = grind (arith, nat_tests, lt) in
+    ap (λ b. cond b (Some (position_or_len (is_largest (s ∷ rest)) (s ∷ rest))) None) yes
+
+-- the active scenario's sum is at least every sum, and no lower-numbered one's is
+pub active_is_largest : (s : ℤ) (rest : List ℤ) → All (λ t. t ≤ℤ at_scenario (s ∷ rest) (active_scenario (s ∷ rest))) (s ∷ rest)
+active_is_largest s rest =
+    let p = position_is s rest in
+    let found = position-Some (is_largest (s ∷ rest)) (s ∷ rest) _ (pos 0) p in
+    let a = position_or_len (is_largest (s ∷ rest)) (s ∷ rest) in
+    let less : a + 1 - 1 ≡ a = omega arith in
+    subst (λ o. All (λ t. t ≤ℤ at_scenario (s ∷ rest) (unwrap_or o 0 + 1)) (s ∷ rest)) (sym p)
+    (largest_tested (s ∷ rest) _ (subst (λ i. is_largest (s ∷ rest) (get_or (s ∷ rest) i (pos 0)) ≡ true) (sym less) found.1))
+
+pub active_is_first : (s : ℤ) (rest : List ℤ) (k : ℕ) → 0 < k → k < active_scenario (s ∷ rest) → ¬ (All (λ t. t ≤ℤ at_scenario (s ∷ rest) k) (s ∷ rest))
+active_is_first s rest k lo hi all =
+    let p = position_is s rest in
+    let found = position-Some (is_largest (s ∷ rest)) (s ∷ rest) _ (pos 0) p in
+    let below : k < position_or_len (is_largest (s ∷ rest)) (s ∷ rest) + 1 = subst (λ o. k < unwrap_or o 0 + 1) p hi in
+    let no = found.2 (k - 1) (omega arith) in
+    let yes = largest_test (s ∷ rest) (at_scenario (s ∷ rest) k) all in
+    let both : true ≡ false = sym yes ∙ no in
+    cc
+
+gt_test : (a b : ℤ) → a <ℤ b → int_le b a ≡ false
+gt_test a b h = grind (arith, ints)
+
+-- the place of the first largest sum makes the active scenario, for code that looks for it
+pub active_from : (sums : List ℤ) (i : ℕ) → i < length sums → ((k : ℕ) → k < length sums → get_or sums k (pos 0) ≤ℤ get_or sums i (pos 0))
+    → ((k : ℕ) → k < i → get_or sums k (pos 0) <ℤ get_or sums i (pos 0)) → active_scenario sums ≡ i + 1
+active_from sums i lt above before =
+    let z = get_or sums i (pos 0) in
+    let all : All (λ t. t ≤ℤ z) sums = λ k d h. subst (λ t. t ≤ℤ z) (get_or_default sums k (pos 0) d h) (above k h) in
+    let at : position_or_len (is_largest sums) sums ≡ i =
+    position_or_len_is (is_largest sums) sums i (pos 0) (omega arith)
+    (λ k h. list_all_at (λ t. int_le t (get_or sums k (pos 0))) sums i (pos 0) lt (gt_test (get_or sums k (pos 0)) z (before k h)))
+    (λ h. largest_test sums z all) in
+    let yes : nat_lt i (length sums) ≡ true = grind (arith, nat_tests, lt) in
+    ap (λ j. unwrap_or (cond (nat_lt j (length sums)) (Some j) None) 0 + 1) at ∙ ap (λ b. unwrap_or (cond b (Some i) None) 0 + 1) yes

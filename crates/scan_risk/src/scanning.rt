@@ -1,0 +1,133 @@
+//! The scan of sixteen scenario sums.
+ghost use Rattle.std.specs.Prelude.{◌≡◌, ◌*◌, ◌≤◌, ◌≤ℤ◌, ◌+ℤ◌, ◌-ℤ◌, pos, All, nat_abs};
+ghost use Rattle.span_money.specs.Numbers.{positive_part};
+ghost use Rattle.scan_risk.specs.Scenarios.{active_scenario, at_scenario, paired_scenario, price2, scan_of, scan_risk};
+ghost use Rattle.scan_risk.specs.declared.TheConstants.{MAX_PRICE2, MAX_SUM};
+
+use crate::Scan;
+use span_money::amounts::Money;
+
+// The largest of the sums, or 0.
+fn risk(sums: &[i64; 16]) -> i64
+    requires { All (λ s. nat_abs s ≤ MAX_SUM) sums.now }
+    ensures value { result ≡ scan_risk sums.now }
+    ensures above { pos 0 ≤ℤ result }
+    ensures bound { nat_abs result ≤ MAX_SUM }
+{
+    let mut risk = 0;
+    for sum in sums {
+        risk = risk.max(*sum);
+    }
+    risk
+}
+
+// The lowest-numbered scenario of the largest sum.
+fn active(sums: &[i64; 16]) -> u8
+    ensures value { result ≡ active_scenario sums.now }
+    ensures low { 1 ≤ result }
+    ensures high { result ≤ 16 }
+{
+    let mut best = 0;
+    for i in 1..16 {
+        if sums[i] > sums[best] {
+            best = i;
+        }
+    }
+    best as u8 + 1
+}
+
+// The scenario of the opposite volatility: 1 with 2, up to 13 with 14; 15 and 16 with themselves.
+fn paired(active: u8) -> u8
+    requires low { 1 ≤ active }
+    requires high { active ≤ 16 }
+    ensures value { result ≡ paired_scenario active }
+    ensures low { 1 ≤ result }
+    ensures high { result ≤ 16 }
+{
+    if active > 14 {
+        active
+    } else if active % 2 == 1 {
+        active + 1
+    } else {
+        active - 1
+    }
+}
+
+// The sum of a scenario, numbered from 1.
+fn sum_at(sums: &[i64; 16], scenario: u8) -> i64
+    requires low { 1 ≤ scenario }
+    requires high { scenario ≤ 16 }
+    requires sizes { All (λ s. nat_abs s ≤ MAX_SUM) sums.now }
+    ensures value { result ≡ at_scenario sums.now scenario }
+    ensures bound { nat_abs result ≤ MAX_SUM }
+{
+    sums[usize::from(scenario) - 1]
+}
+
+// The sum of two scenarios together.
+fn pair_sum(sums: &[i64; 16], one: u8, other: u8) -> i64
+    requires one_low { 1 ≤ one }
+    requires one_high { one ≤ 16 }
+    requires other_low { 1 ≤ other }
+    requires other_high { other ≤ 16 }
+    requires sizes { All (λ s. nat_abs s ≤ MAX_SUM) sums.now }
+    ensures value { result ≡ at_scenario sums.now one +ℤ at_scenario sums.now other }
+    ensures bound { nat_abs result ≤ 2 * MAX_SUM }
+{
+    sum_at(sums, one) + sum_at(sums, other)
+}
+
+// How far a number is above another, and 0 when it is below.
+fn excess(over: i64, under: i64) -> u64
+    requires over { nat_abs over ≤ 2 * MAX_SUM }
+    requires under { nat_abs under ≤ 2 * MAX_SUM }
+    ensures value { result ≡ positive_part (over -ℤ under) }
+    ensures bound { result ≤ MAX_PRICE2 }
+{
+    if over > under {
+        (over - under) as u64
+    } else {
+        0
+    }
+}
+
+// The price risk doubled: the active and the paired sum less sums 1 and 2, and 0 when negative.
+fn price_risk_doubled(sums: &[i64; 16], active: u8, paired: u8) -> u64
+    requires active_low { 1 ≤ active }
+    requires active_high { active ≤ 16 }
+    requires paired_low { 1 ≤ paired }
+    requires paired_high { paired ≤ 16 }
+    requires sizes { All (λ s. nat_abs s ≤ MAX_SUM) sums.now }
+    requires is_active { active ≡ active_scenario sums.now }
+    requires is_paired { paired ≡ paired_scenario active }
+    ensures value { result ≡ price2 sums.now }
+    ensures bound { result ≤ MAX_PRICE2 }
+{
+    excess(pair_sum(sums, active, paired), pair_sum(sums, 1, 2))
+}
+
+/// The scan of sixteen scenario sums: the largest sum, the scenario that it comes from with its pair, and the price
+/// risk doubled. A sum is at most `MAX_SUM` either way.
+#[tactic(auto, unfolding(crate::specs::Scenarios::scan_of))]
+pub fn scan(sums: &[i64; 16]) -> Scan
+    requires { All (λ s. nat_abs s ≤ MAX_SUM) sums.now }
+    ensures value { result ≡ scan_of sums.now }
+    ensures risk_above { pos 0 ≤ℤ result.risk }
+    ensures risk_bound { nat_abs result.risk ≤ MAX_SUM }
+    ensures active_low { 1 ≤ result.active }
+    ensures active_high { result.active ≤ 16 }
+    ensures paired_low { 1 ≤ result.paired }
+    ensures paired_high { result.paired ≤ 16 }
+    ensures price2_bound { result.price2 ≤ MAX_PRICE2 }
+{
+    let risk = Money::new(i128::from(risk(sums)));
+    let active = active(sums);
+    let paired = paired(active);
+    let price2 = price_risk_doubled(sums, active, paired);
+    Scan {
+        risk,
+        active,
+        paired,
+        price2,
+    }
+}

@@ -1,0 +1,89 @@
+ghost use Rattle.std.specs.Prelude.{IfSome, IfOk};
+ghost use Rattle.span_tables.specs.Accepted.{IsContract};
+
+use crate::scanning::scan;
+use crate::scenarios::sums;
+use span_money::amounts::{Delta, Scale};
+use span_tables::held::{Held, HeldContract};
+use span_tables::name::Name;
+use span_tables::records::{Contract, ProductKind};
+use std::test::Fail;
+
+// A future with 400 for each third of the scan range.
+fn future(id: &[u8]) -> Option<Contract>
+    ensures { IfSome result (λ contract. IsContract contract) }
+{
+    Some(Contract {
+        id: Name::new(id)?,
+        commodity: Name::new(b"AA")?,
+        kind: ProductKind::Future,
+        month: 202_503,
+        delta: Delta::new(10_000),
+        scale: Scale::new(10_000),
+        values: [
+            0, 0, -400, -400, 400, 400, -800, -800, 800, 800, -1200, -1200, 1200, 1200, -1188, 1188,
+        ],
+    })
+}
+
+#[test]
+fn sums_held_contracts(rt: HostRuntime) -> Result<(), Fail> {
+    let near = future(b"FA").ok_or("name")?;
+    let far = future(b"FB").ok_or("name")?;
+    let held = vec![in rt.alloc();
+        HeldContract {
+            contract: near,
+            net: 3
+        },
+        HeldContract {
+            contract: far,
+            net: -4
+        },
+    ]?;
+    let sums = sums(&Held::new(held));
+    assert_eq!(rt;
+        sums,
+        [
+            0, 0, 400, 400, -400, -400, 800, 800, -800, -800, 1200, 1200, -1200, -1200, 1188, -1188
+        ]
+    );
+    Ok(())
+}
+
+#[test]
+fn scans(rt: HostRuntime) {
+    let rows: [([i64; 16], i128, u8, u8, u64); 4] = [
+        (
+            [
+                -5, -3, -9, -7, -4, -2, -12, -11, -3, -1, -20, -19, -2, -1, -15, -1,
+            ],
+            0,
+            10,
+            9,
+            4,
+        ),
+        (
+            [10, -6, 12, -4, 14, -2, 20, 2, 24, 6, 30, 10, 40, 20, 50, 90],
+            90,
+            16,
+            16,
+            176,
+        ),
+        (
+            [100, 90, 110, 50, 0, 0, 0, 0, 0, 0, 0, 0, 0, 0, 0, 0],
+            110,
+            3,
+            4,
+            0,
+        ),
+        ([0; 16], 0, 1, 2, 0),
+    ];
+    for (sums, risk, active, paired, price2) in rows {
+        assert!(rt; sums.iter().all(|sum| -1000 <= *sum && *sum <= 1000));
+        let scan = scan(&sums);
+        assert_eq!(rt; scan.risk.get(), risk);
+        assert_eq!(rt; scan.active, active);
+        assert_eq!(rt; scan.paired, paired);
+        assert_eq!(rt; scan.price2, price2);
+    }
+}

@@ -1,0 +1,4 @@
+pub mod DigitLemmas
+pub mod NumberLaws
+pub mod TextLaws
+pub mod DecimalLaws

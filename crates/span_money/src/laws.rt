@@ -1,0 +1,28 @@
+//! Laws of division and of number texts, in plain words: each is the contract of a function that does nothing.
+ghost use Rattle.std.specs.Prelude.{◌≡◌, ℕ, ◌*◌, ◌/◌, ◌^◌, ◌<◌, ◌≤◌, ℤ, List, Some, nat_abs};
+ghost use Rattle.std.specs.Fmt.{signed_decimal};
+ghost use Rattle.std.specs.Int.{div_ceil};
+ghost use Rattle.span_money.specs.Forms.{IsDecimal};
+ghost use Rattle.span_money.specs.Numbers.{decimal_number, whole_number};
+
+/// Rounded up, a quotient is the least number that is large enough.
+pub fn rounding_up_is_least()
+    ensures { (x d : ℕ) → 0 < d → (x ≤ div_ceil x d * d) × ((g : ℕ) → x ≤ g * d → div_ceil x d ≤ g) }
+{}
+
+/// Rounded down, a quotient is the greatest number that fits: `greatest_fit` gives the greatest n with n times the ratio at most the rest.
+pub fn greatest_fit_is_greatest()
+    ensures { (rest ratio : ℕ) → 0 < ratio → ((rest / ratio) * ratio ≤ rest) × ((n : ℕ) → n * ratio ≤ rest → n ≤ rest / ratio) }
+{}
+
+/// What `decimal` writes of a whole number of at most 18 digits, `parse_whole` reads as that number.
+pub fn written_numbers_read_back()
+    ensures { (z : ℤ) → nat_abs z < 10 ^ 18 → whole_number (signed_decimal z) ≡ Some z }
+{}
+
+/// A text is read as a decimal exactly when it is one: a minus or none, 1 to 6 digits, and nothing or a point and 1 to 4
+/// digits. It is read as what these spell.
+pub fn decimals_are_read()
+    ensures reads { (text : List ℕ) (z : ℤ) → IsDecimal text z → decimal_number text ≡ Some z }
+    ensures only { (text : List ℕ) (z : ℤ) → decimal_number text ≡ Some z → IsDecimal text z }
+{}

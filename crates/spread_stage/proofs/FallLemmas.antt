@@ -1,0 +1,82 @@
+-- How sides and rests fall.
+use Rattle.std.proofs.Common.{◌≡◌, ℕ, suc, ◌+◌, ◌-◌, ◌≤◌, min, Bool, true, false, cond, List, [], ◌∷◌, refl, sym, ap, ◌∙◌, arith, map, sum_by, fold}
+use Rattle.std.specs.Prelude.{ℤ, pos, negsuc, ◌+ℤ◌, ◌-ℤ◌}
+use Rattle.std.proofs.lemmas.Int.{ints}
+use Rattle.std.proofs.lemmas.List.Sums.{sum_by-cons}
+use Rattle.span_money.specs.Numbers.{positive_part, negative_part}
+use Rattle.span_tables.specs.Sides.{a_long, a_short, MarketSide, long, short, part_on, less_used, spreads_formed}
+use Rattle.span_tables.specs.declared.records.Intra.{Intra}
+use Rattle.span_tables.specs.declared.records.MonthLeg.{MonthLeg}
+use Rattle.spread_stage.specs.Months.{MonthsRise, Shrinks}
+use Rattle.spread_stage.specs.Spreads.{is_in_tier, tier_side, side_before, used_of_month, rests_after_leg, tier_rooms, TierRests, spread_one_way, spread_both_ways, after_spreads, unspread}
+use Rattle.spread_stage.specs.declared.months.MonthUnits.{MonthUnits}
+use Rattle.spread_stage.proofs.SizeLemmas.{shrinks_none}
+use Rattle.spread_stage.proofs.SpreadLemmas.{legs_shrink}
+use Rattle.spread_stage.proofs.UseLaws.{side-cons, weight, used_total}
+
+negative_left : (z : ℤ) (n u : ℕ) → z +ℤ pos n ≡ pos 0 → negative_part z ≡ n
+negative_left (pos k) n u e = omega (arith, ints, e)
+negative_left (negsuc k) n u e = omega (arith, ints, e)
+
+positive_left : (z : ℤ) (n : ℕ) → z ≡ pos n → positive_part z ≡ n
+positive_left z n e = ap positive_part e
+
+-- what is left on a side and what was used make the part
+part-less_used : (on : MarketSide) (z : ℤ) (u : ℕ) → u ≤ part_on on z → part_on on (less_used on z u) + u ≡ part_on on z
+part-less_used long (pos n) u h =
+    let e : pos n -ℤ pos u ≡ pos (n - u) = omega (arith, ints, h) in
+    let p = positive_left (pos n -ℤ pos u) (n - u) e in omega (arith, h, p)
+part-less_used long (negsuc n) u h =
+    let e : negsuc n -ℤ pos u ≡ negsuc n = omega (arith, ints, h) in
+    let p : positive_part (negsuc n -ℤ pos u) ≡ 0 = ap positive_part e in omega (arith, h, p)
+part-less_used short (pos n) u h = omega (arith, h)
+part-less_used short (negsuc n) u h =
+    let e : negsuc n +ℤ pos u +ℤ pos (suc n - u) ≡ pos 0 = omega (arith, ints, h) in
+    let p = negative_left (negsuc n +ℤ pos u) (suc n - u) u e in omega (arith, h, p)
+
+weight_if : (on : MarketSide) (b : Bool) (z : ℤ) (x : ℕ)
+    → cond b (part_on on (less_used on z (cond b (min (part_on on z) x) 0))) 0 + cond b (min (part_on on z) x) 0 ≡ cond b (part_on on z) 0
+weight_if on true z x = let within : min (part_on on z) x ≤ part_on on z = omega arith in part-less_used on z (min (part_on on z) x) within
+weight_if on false z x = refl
+
+module _ (on : MarketSide) (leg : MonthLeg) (needed : ℕ) (rests : List MonthUnits) where
+  abbrev used : MonthUnits → ℕ
+  used m = used_of_month rests on leg needed m
+
+  abbrev after : MonthUnits → MonthUnits
+  after m = record { month = m.month; units = less_used on m.units (used m) }
+
+  side_of_all : (ms : List MonthUnits) → tier_side (map after ms) on leg + sum_by used ms ≡ tier_side ms on leg
+  unfolding weight
+  side_of_all [] = refl
+  side_of_all (m ∷ ms) =
+      let a = side-cons on leg (after m) (map after ms) in
+      let b = side-cons on leg m ms in
+      let d = sum_by-cons used m ms in
+      let e = weight_if on (is_in_tier leg m) m.units (needed - side_before rests on leg m.month) in
+      let h = side_of_all ms in
+      omega (arith, a, b, d, e, h)
+
+-- a leg's side falls by what the leg needs
+pub side_falls : (on : MarketSide) (leg : MonthLeg) (rests : List MonthUnits) (needed : ℕ) → MonthsRise rests → needed ≤ tier_side rests on leg
+    → tier_side (rests_after_leg on needed rests leg) on leg + needed ≡ tier_side rests on leg
+side_falls on leg rests needed rise enough =
+    let all = side_of_all on leg needed rests rests in
+    let whole = used_total on leg rests needed rise enough in
+    omega (arith, all, whole)
+
+both_shrink : (deltas : List MonthUnits) (t : TierRests) (s : Intra) → Shrinks deltas t.rests → Shrinks deltas (spread_both_ways t s).rests
+unfolding spread_both_ways
+both_shrink deltas t s h =
+    let once = spread_one_way s a_long t in
+    legs_shrink a_short (spreads_formed (tier_rooms a_short s.legs.items once.rests)) deltas s.legs.items once.rests
+    (legs_shrink a_long (spreads_formed (tier_rooms a_long s.legs.items t.rests)) deltas s.legs.items t.rests h)
+
+all_shrink : (deltas : List MonthUnits) (spreads : List Intra) (t : TierRests) → Shrinks deltas t.rests → Shrinks deltas (fold spread_both_ways t spreads).rests
+all_shrink deltas [] t h = h
+all_shrink deltas (s ∷ spreads) t h = all_shrink deltas spreads (spread_both_ways t s) (both_shrink deltas t s h)
+
+-- after all spreads each rest is a part of its month's delta
+pub spreads_shrink : (spreads : List Intra) (months : List MonthUnits) → Shrinks months (after_spreads spreads months).rests
+unfolding after_spreads
+spreads_shrink spreads months = all_shrink months spreads (unspread months) (shrinks_none months)

@@ -1,0 +1,11 @@
+pub mod SumLaws
+pub mod MonthLaws
+pub mod UseLaws
+pub mod NumberLaws
+pub mod ProductLemmas
+pub mod DeltaLemmas
+pub mod PlaceLemmas
+pub mod UseLemmas
+pub mod SizeLemmas
+pub mod SpreadLemmas
+pub mod FallLemmas

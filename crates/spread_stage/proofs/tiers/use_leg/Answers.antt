@@ -1,0 +1,36 @@
+use Rattle.std.proofs.Common.{◌≡◌, ◌≤◌, ◌<◌, ◌++◌, [], nat_abs, sym, ap, ◌∙◌, arith, length, drop, take, List, sum_by}
+use Rattle.std.proofs.Math.ListN.{drop_of_length-le}
+use Rattle.std.proofs.Math.Seq.{take-length}
+use Rattle.std.proofs.lemmas.List.{append-nil}
+use Rattle.std.proofs.lemmas.List.Sums.{sum_by-drop_more, sum_by-take-drop}
+use Rattle.spread_stage.specs.Months.{total_size}
+use Rattle.spread_stage.specs.Market.{market_of}
+use Rattle.spread_stage.specs.Steps.{used_in_turn}
+use Rattle.spread_stage.specs.declared.months.MonthUnits.{MonthUnits}
+use Rattle.spread_stage.proofs.UseLemmas.{in_turn_is}
+use Rattle.spread_stage.proofs.tiers.use_leg.Goals as goal
+
+pub less_used-rest-requires-clause-small : goal.less_used-rest-requires-clause-small
+less_used-rest-requires-clause-small c =
+    let f = λ (m : MonthUnits). nat_abs m.units in
+    let i = c.loop-rest.rest-index in
+    let lt : i < length c.loop-rest.rests = omega arith in
+    let here = sum_by-drop_more f c.loop-rest.rests i c.rest-item.result lt in
+    let same : sum_by f (drop i c.loop-rest.rests) ≡ sum_by f (drop i c.args.rests.now) = ap (sum_by f) c.loop-rest.invariant.rest in
+    let all = sum_by-take-drop f c.args.rests.now i in
+    let small : total_size c.args.rests.now ≤ 25600000000000000 = c.requires.small in
+    omega (arith, here, same, all, small)
+
+pub returns : goal.returns
+returns c =
+    let rests = c.loop-rest.rests in
+    let i = c.loop-rest.rest-index in
+    let long : length rests ≤ i = omega arith in
+    let end : i ≡ length rests = omega arith in
+    let whole : take i rests ≡ rests = ap (λ n. take n rests) end ∙ take-length rests in
+    let none : drop i rests ≡ [] = drop_of_length-le rests long in
+    sym (ap (λ (xs : List MonthUnits). xs ++ used_in_turn (market_of c.args.on) c.args.leg.now c.loop-rest.needed (drop i rests)) whole
+    ∙ ap (λ (xs : List MonthUnits). rests ++ used_in_turn (market_of c.args.on) c.args.leg.now c.loop-rest.needed xs) none
+    ∙ append-nil rests)
+    ∙ c.loop-rest.invariant.all
+    ∙ in_turn_is (market_of c.args.on) c.args.leg.now c.args.needed c.args.rests.now c.requires.rise

@@ -1,0 +1,52 @@
+-- Contracts and spreads that the worked values speak of.
+use Rattle.std.specs.Prelude.{ℕ, [], ◌∷◌, ◌++◌, codes, ℤ, pos, neg_ℤ}
+use Rattle.std.specs.List.{repeat}
+use Rattle.span_tables.specs.declared.records.ProductKind.TheVariants as product
+use Rattle.span_tables.specs.declared.records.Side.TheVariants as side
+use Rattle.span_tables.specs.declared.records.Contract.{Contract}
+use Rattle.span_tables.specs.declared.held.HeldContract.{HeldContract}
+use Rattle.spread_stage.specs.declared.months.MonthUnits.{MonthUnits}
+use Rattle.span_tables.specs.declared.records.Intra.{Intra}
+use Rattle.span_tables.specs.declared.records.Spot.{Spot}
+
+-- a future of the month, with delta 1, scale 1, and a risk array of 0
+abbrev pub future : ℕ → Contract
+future month = record {
+  id = codes "FA";
+  commodity = codes "AA";
+  kind = product.Future;
+  month = month;
+  delta = pos 10000;
+  scale = 10000;
+  values = repeat 16 (pos 0 ∷ []);
+}
+
+-- so many of a contract
+abbrev pub held : ℤ → Contract → HeldContract
+held net contract = record { contract = contract; net = net }
+
+-- a month with so many units
+abbrev pub month_units : ℕ → ℤ → MonthUnits
+month_units month units = record { month = month; units = units }
+
+-- a spread of the months before 202505 against the later ones, with this ratio on both legs
+abbrev pub calendar_spread : ℕ → Intra
+calendar_spread ratio = record {
+  rate = 250;
+  legs = record { items = record { first = 202501; last = 202504; side = side.A; ratio = ratio } ∷ record { first = 202505; last = 202512; side = side.B; ratio = ratio } ∷ [] };
+}
+
+-- a spread of all months of 2025 against themselves
+abbrev pub own_spread : Intra
+own_spread = record {
+  rate = 250;
+  legs = record { items = record { first = 202501; last = 202512; side = side.A; ratio = 10000 } ∷ record { first = 202501; last = 202512; side = side.B; ratio = 10000 } ∷ [] };
+}
+
+-- the spot month 202503
+abbrev pub march : Spot
+march = record { commodity = codes "AA"; month = 202503; spread_rate = 10; outright_rate = 20 }
+
+-- the largest delta: delta 1, scale 10
+abbrev pub largest : Contract
+largest = record (future 202503) { scale = 100000 }

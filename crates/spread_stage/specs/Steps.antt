@@ -1,0 +1,25 @@
+-- The steps of the code, in the words of the definitions.
+use Rattle.std.specs.Prelude.{ℕ, ◌-◌, ◌==◌, min, nat_lt, if◌then◌else◌, List, [], ◌∷◌, ℤ, ◌+ℤ◌}
+use Rattle.span_tables.specs.Sides.{MarketSide, part_on, less_used}
+use Rattle.span_tables.specs.declared.records.MonthLeg.{MonthLeg}
+use Rattle.spread_stage.specs.Spreads.{is_in_tier}
+use Rattle.spread_stage.specs.declared.months.MonthUnits.{MonthUnits}
+
+-- months with a month's units added: to what the month has, or as one more month in its place
+abbrev pub with_units : ℕ → ℤ → List MonthUnits → List MonthUnits
+with_units p units [] = record { month = p; units = units } ∷ []
+with_units p units (m ∷ ms) =
+    if nat_lt p m.month then record { month = p; units = units } ∷ m ∷ ms
+    else if p == m.month then record { month = m.month; units = m.units +ℤ units } ∷ ms
+    else m ∷ with_units p units ms
+
+-- what a leg uses of a month that still needs so many units
+abbrev pub used_now : MarketSide → MonthLeg → ℕ → MonthUnits → ℕ
+used_now on leg needed m = if is_in_tier leg m then min (part_on on m.units) needed else 0
+
+-- months of which a leg uses what it needs, one after the other
+abbrev pub used_in_turn : MarketSide → MonthLeg → ℕ → List MonthUnits → List MonthUnits
+used_in_turn on leg needed [] = []
+used_in_turn on leg needed (m ∷ ms) =
+    record { month = m.month; units = less_used on m.units (used_now on leg needed m) }
+    ∷ used_in_turn on leg (needed - used_now on leg needed m) ms

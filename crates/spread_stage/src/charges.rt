@@ -1,0 +1,112 @@
+//! The intracommodity charge and the delivery charge.
+ghost use Rattle.std.specs.Prelude.{option_copied, ◌≡◌, ◌+◌, ◌*◌, ◌/◌, ◌==◌, ◌≤◌, find, length, All, sum_by, nat_abs, pos};
+ghost use Rattle.span_tables.specs.Accepted.{IsSpot};
+ghost use Rattle.span_tables.specs.declared.limits.TheConstants.{MAX_RATE, MAX_SPOT_MONTHS};
+ghost use Rattle.spread_stage.specs.Charges.{delivery_charge, intra_charge, left_of, spot_charge, used_of};
+ghost use Rattle.spread_stage.specs.Deltas.{units_at};
+ghost use Rattle.spread_stage.specs.Months.{AreMonths, Shrinks, total_size};
+ghost use Rattle.spread_stage.specs.declared.months.TheConstants.{MAX_UNITS};
+
+use crate::months::{MonthUnits, Months};
+use crate::tiers::TierState;
+use span_money::amounts::{Money, Units};
+use span_money::division::ceil_div;
+use span_tables::records::Spot;
+
+/// The largest intracommodity charge, in minor units.
+pub const MAX_INTRA_CHARGE: u128 = 256_000_000_000_000_000_000;
+
+/// The largest delivery charge, in minor units.
+pub const MAX_DELIVERY_CHARGE: u128 = 819_200_000_000_000_000;
+
+/// The intracommodity charge of the spreads formed, in minor units, rounded up once.
+#[tactic(auto, unfolding(crate::specs::Charges::intra_charge))]
+pub fn intra_charge(tiers: &TierState) -> Money
+    ensures value { result ≡ pos (intra_charge tiers.now.charge) }
+    ensures bound { nat_abs result ≤ MAX_INTRA_CHARGE }
+{
+    Money::new(ceil_div(tiers.charge(), 10_000) as i128)
+}
+
+// The month of a number, where it is held.
+fn find_month(months: &[MonthUnits], month: u32) -> Option<&MonthUnits>
+    ensures { option_copied result ≡ find (λ m. m.month == month) months.now }
+{
+    months.iter().find(|m| m.month == month)
+}
+
+// What a month has, or 0 where it is not held.
+fn units_at(months: &[MonthUnits], month: u32) -> Units
+    ensures { result ≡ units_at months.now month }
+{
+    match find_month(months, month) {
+        Some(found) => found.units,
+        None => Units::new(0),
+    }
+}
+
+// The size of what a month has.
+#[tactic(auto, using(crate::proofs::SizeLemmas::units_at_le))]
+fn size_at(months: &[MonthUnits], month: u32) -> u128
+    requires { total_size months.now ≤ MAX_UNITS }
+    ensures value { result ≡ nat_abs (units_at months.now month) }
+    ensures bound { result ≤ MAX_UNITS }
+{
+    units_at(months, month).get().unsigned_abs()
+}
+
+// So many units at a rate.
+fn at_rate(units: u128, rate: u32) -> u128
+    requires units { units ≤ MAX_UNITS }
+    requires rate { rate ≤ MAX_RATE }
+    ensures value { result ≡ units * rate }
+    ensures bound { result ≤ MAX_UNITS * MAX_RATE }
+{
+    units * u128::from(rate)
+}
+
+// The charge of a spot month, in 10^-8 minor units.
+#[tactic(auto, using(crate::proofs::SizeLemmas::left_le))]
+fn spot_charge(months: &[MonthUnits], rests: &[MonthUnits], spot: &Spot) -> u128
+    requires months { total_size months.now ≤ MAX_UNITS }
+    requires rests { total_size rests.now ≤ MAX_UNITS }
+    requires shrinks { Shrinks months.now rests.now }
+    requires spot { IsSpot spot.now }
+    ensures value { result ≡ spot_charge months.now rests.now spot.now }
+    ensures bound { result ≤ 2 * (MAX_UNITS * MAX_RATE) }
+{
+    let left = size_at(rests, spot.month);
+    let used = size_at(months, spot.month) - left;
+    at_rate(used, spot.spread_rate) + at_rate(left, spot.outright_rate)
+}
+
+// The charges of spot months, in 10^-8 minor units.
+fn spot_charges(months: &[MonthUnits], rests: &[MonthUnits], spots: &[Spot]) -> u128
+    requires months { total_size months.now ≤ MAX_UNITS }
+    requires rests { total_size rests.now ≤ MAX_UNITS }
+    requires shrinks { Shrinks months.now rests.now }
+    requires few { length spots.now ≤ MAX_SPOT_MONTHS }
+    requires spots { All IsSpot spots.now }
+    ensures value { result ≡ sum_by (spot_charge months.now rests.now) spots.now }
+    ensures bound { result ≤ 2 * (MAX_UNITS * MAX_RATE) * MAX_SPOT_MONTHS }
+{
+    let mut sum = 0;
+    for spot in spots {
+        sum += spot_charge(months, rests, spot);
+    }
+    sum
+}
+
+/// The delivery charge of the spot months, in minor units, rounded up once: what spreads used of each month's delta
+/// at its spread rate, and what is left at its outright rate.
+#[tactic(auto, unfolding(crate::specs::Charges::delivery_charge))]
+pub fn delivery(months: &Months, tiers: &TierState, spots: &[Spot]) -> Money
+    requires shrinks { Shrinks months.now tiers.now.rests }
+    requires few { length spots.now ≤ MAX_SPOT_MONTHS }
+    requires spots { All IsSpot spots.now }
+    ensures value { result ≡ pos (delivery_charge months.now tiers.now.rests spots.now) }
+    ensures bound { nat_abs result ≤ MAX_DELIVERY_CHARGE }
+{
+    let sum = spot_charges(months.as_slice(), tiers.rests(), spots);
+    Money::new(ceil_div(sum, 100_000_000) as i128)
+}

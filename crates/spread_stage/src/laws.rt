@@ -1,0 +1,60 @@
+//! Laws of the definitions, in the methodology's words: each is the contract of a function that does nothing.
+ghost use Rattle.std.specs.Prelude.{◌≡◌, ℕ, ◌+◌, ◌*◌, ◌^◌, ◌≤◌, List, ◌∷◌, ◌++◌, sum_by};
+ghost use Rattle.span_money.specs.Numbers.{int_sum_by};
+ghost use Rattle.span_tables.specs.Sides.{MarketSide};
+ghost use Rattle.span_tables.specs.declared.held.HeldContract.{HeldContract};
+ghost use Rattle.span_tables.specs.declared.records.Intra.{Intra};
+ghost use Rattle.span_tables.specs.declared.records.MonthLeg.{MonthLeg};
+ghost use Rattle.span_tables.specs.declared.records.Spot.{Spot};
+ghost use Rattle.spread_stage.specs.Charges.{delivery_charge, intra_charge, spot_charge};
+ghost use Rattle.spread_stage.specs.Deltas.{month_deltas, net_delta, units_of};
+ghost use Rattle.spread_stage.specs.Months.{MonthsRise, Shrinks};
+ghost use Rattle.spread_stage.specs.Spreads.{after_spreads, rests_after_leg, side_before, tier_side, used_of_month};
+ghost use Rattle.spread_stage.specs.declared.months.MonthUnits.{MonthUnits};
+
+/// The held months rise, and their deltas add up to the sum over all held contracts.
+pub fn months_rise_and_add_up()
+    ensures rise { (held : List HeldContract) → MonthsRise (month_deltas held) }
+    ensures add_up { (held : List HeldContract)
+        → net_delta (month_deltas held) ≡ int_sum_by units_of held }
+{}
+
+/// A leg uses of its tier's months just what it needs, where its side has that much.
+pub fn leg_uses_what_it_needs()
+    ensures { (on : MarketSide) (leg : MonthLeg) (rests : List MonthUnits) (needed : ℕ)
+        → MonthsRise rests → needed ≤ tier_side rests on leg
+        → sum_by (used_of_month rests on leg needed) rests ≡ needed }
+{}
+
+/// The part of a side that is in earlier months is the side of the months that stand before: a running sum gives it.
+pub fn side_before_is_a_running_sum()
+    ensures { (on : MarketSide) (leg : MonthLeg) (front : List MonthUnits) (m : MonthUnits) (back : List MonthUnits)
+        → MonthsRise (front ++ m ∷ back)
+        → side_before (front ++ m ∷ back) on leg m.month ≡ tier_side front on leg }
+{}
+
+/// A leg's side falls by just what the leg needs, where its side has that much.
+pub fn side_falls_by_what_was_used()
+    ensures { (on : MarketSide) (leg : MonthLeg) (rests : List MonthUnits) (needed : ℕ)
+        → MonthsRise rests → needed ≤ tier_side rests on leg
+        → tier_side (rests_after_leg on needed rests leg) on leg + needed ≡ tier_side rests on leg }
+{}
+
+/// Spreads keep the months, and no rest grows in size or changes its sign.
+pub fn rests_never_grow()
+    ensures { (spreads : List Intra) (months : List MonthUnits)
+        → Shrinks months (after_spreads spreads months).rests }
+{}
+
+/// The intracommodity charge is the least number that is large enough.
+pub fn intra_charge_is_least()
+    ensures { (exact : ℕ) → (exact ≤ intra_charge exact * 10 ^ 4)
+        × ((g : ℕ) → exact ≤ g * 10 ^ 4 → intra_charge exact ≤ g) }
+{}
+
+/// The delivery charge is the least number that is large enough.
+pub fn delivery_charge_is_least()
+    ensures { (deltas rests : List MonthUnits) (spots : List Spot)
+        → (sum_by (spot_charge deltas rests) spots ≤ delivery_charge deltas rests spots * 10 ^ 8)
+        × ((g : ℕ) → sum_by (spot_charge deltas rests) spots ≤ g * 10 ^ 8 → delivery_charge deltas rests spots ≤ g) }
+{}

@@ -1,0 +1,124 @@
+//! Worked values of the calls. Units are 10^-8 deltas, and exact charges 10^-4 minor units.
+ghost use Rattle.std.specs.Prelude.{◌≡◌, ◌<◌, ◌≤◌, ◌↔◌, All, IfOk, IsTrue, nat_abs};
+ghost use Rattle.span_tables.specs.Accepted.{IsContract, IsIntra, IsSpot};
+ghost use Rattle.span_tables.specs.declared.limits.TheConstants.{MAX_NET, MAX_RATE, MAX_RATIO};
+ghost use Rattle.spread_stage.specs.Months.{Shrinks};
+
+use crate::charges::{delivery, intra_charge};
+use crate::deltas::month_deltas;
+use crate::months::{MonthUnits, Months};
+use crate::tiers::{TierState, spread, start};
+use arrayvec::ArrayVec;
+use span_money::amounts::{Delta, Ratio, Scale};
+use span_tables::held::{Held, HeldContract};
+use span_tables::limits::{MAX_NET, MAX_RATE, MAX_RATIO};
+use span_tables::name::Name;
+use span_tables::records::{Contract, Intra, MonthLeg, ProductKind, Side, Spot};
+use std::alloc::Global;
+use std::process::Abort;
+use std::test::Fail;
+
+// A future with delta 1 and scale 1.
+fn future(month: u32) -> Contract
+    ensures { IsContract result }
+{
+    Contract {
+        id: Name::default(),
+        commodity: Name::default(),
+        kind: ProductKind::Future,
+        month,
+        delta: Delta::new(10_000),
+        scale: Scale::new(10_000),
+        values: [0; 16],
+    }
+}
+
+// What holds so many futures of these months.
+fn held(rt: &impl Abort, alloc: Global, positions: &[(u32, i64)]) -> Result<Held, Fail> {
+    let mut contracts = Vec::new(alloc);
+    assert!(rt; positions.len() <= 3);
+    for (month, net) in positions {
+        assert!(rt; net.unsigned_abs() <= MAX_NET);
+        contracts.push(HeldContract {
+            contract: future(*month),
+            net: *net,
+        })?;
+    }
+    Ok(Held::new(contracts))
+}
+
+fn leg(first: u32, last: u32, side: Side, ratio: u32) -> MonthLeg {
+    MonthLeg {
+        first,
+        last,
+        side,
+        ratio: Ratio::new(ratio * 10_000),
+    }
+}
+
+fn are_above(legs: &[MonthLeg]) -> bool
+    ensures { IsTrue result ↔ All (λ leg. 0 < leg.ratio) legs.now }
+{
+    legs.iter().all(|leg| leg.ratio.get() > 0)
+}
+
+fn are_within(legs: &[MonthLeg]) -> bool
+    ensures { IsTrue result ↔ All (λ leg. leg.ratio ≤ MAX_RATIO) legs.now }
+{
+    legs.iter().all(|leg| leg.ratio.get() <= MAX_RATIO)
+}
+
+fn intra(rt: &impl Abort, rate: u32, legs: &[MonthLeg]) -> Intra
+    ensures { IsIntra result }
+{
+    assert!(rt; rate <= MAX_RATE);
+    assert!(rt; legs.len() >= 2 && legs.len() <= 4);
+    assert!(rt; are_above(legs));
+    assert!(rt; are_within(legs));
+    Intra {
+        rate,
+        legs: ArrayVec::try_from(legs).expect(rt, "few legs"),
+    }
+}
+
+fn spot(rt: &impl Abort, month: u32, spread_rate: u32, outright_rate: u32) -> Spot
+    ensures { IsSpot result }
+{
+    assert!(rt; spread_rate <= MAX_RATE);
+    assert!(rt; outright_rate <= MAX_RATE);
+    Spot {
+        commodity: Name::default(),
+        month,
+        spread_rate,
+        outright_rate,
+    }
+}
+
+fn expect_months(rt: &impl Abort, months: &[MonthUnits], want: &[(u32, i128)], case: &str) {
+    assert_eq!(rt; months.len(), want.len(), "{case}");
+    for (got, want) in months.iter().zip(want) {
+        assert_eq!(rt; got.month, want.0, "{case}");
+        assert_eq!(rt; got.units.get(), want.1, "{case}");
+    }
+}
+
+
+#[test]
+fn two_tiers_and_a_spot_month(rt: HostRuntime) -> Result<(), Fail> {
+    let held = held(&rt, rt.alloc(), &[(202503, 3), (202506, -2)])?;
+    let months = month_deltas(rt.alloc(), &held)?;
+    let deltas = [(202503, 300_000_000), (202506, -200_000_000)];
+    expect_months(&rt, months.as_slice(), &deltas, "deltas");
+    assert_eq!(rt; months.net().get(), 100_000_000);
+
+    let tiers = start(rt.alloc(), &months)?;
+    expect_months(&rt, tiers.rests(), &deltas, "start");
+    assert_eq!(rt; tiers.charge(), 0);
+
+    let legs = [leg(202501, 202504, Side::A, 1), leg(202505, 202512, Side::B, 1)];
+    let tiers = spread(rt.alloc(), &tiers, &intra(&rt, 250, &legs))?;
+    expect_months(&rt, tiers.rests(), &[(202503, 100_000_000), (202506, 0)], "spread");
+    assert_eq!(rt; intra_charge(&tiers).get(), 500);
+    assert_eq!(rt; delivery(&months, &tiers, &[spot(&rt, 202503, 10, 20)]).get(), 40);
+    Ok(())
+}

@@ -1,0 +1,209 @@
+//! The rests of months after intracommodity spreads, and the exact charge of the spreads.
+ghost use Rattle.std.specs.Prelude.{◌≡◌, ℕ, ◌+◌, ◌*◌, ◌<◌, ◌≤◌, List, [], ◌∷◌, length, All, IfOk};
+ghost use Rattle.span_tables.specs.Accepted.{IsIntra};
+ghost use Rattle.span_tables.specs.Sides.{spreads_formed};
+ghost use Rattle.span_tables.specs.declared.limits.TheConstants.{MAX_RATE};
+ghost use Rattle.spread_stage.specs.Market.{direction_of, market_of};
+ghost use Rattle.spread_stage.specs.Months.{AreMonths, AreTierRests, MonthsRise, Shrinks, total_size};
+ghost use Rattle.spread_stage.specs.Spreads.{is_in_tier, rests_after, rests_after_leg, spread_both_ways, tier_rooms, tier_side, unspread};
+ghost use Rattle.spread_stage.specs.Steps.{used_now};
+ghost use Rattle.spread_stage.specs.declared.months.MonthUnits.{MonthUnits};
+ghost use Rattle.spread_stage.specs.declared.months.TheConstants.{MAX_UNITS};
+
+use crate::months::{MonthUnits, Months};
+use crate::sides::{Direction, MarketSide, less_used, market_side, part_on};
+use span_money::division::greatest_fit;
+use span_tables::records::{Intra, MonthLeg};
+use std::alloc::{AllocError, Global};
+use std::marker::Model;
+
+/// What spreads left of the delta of each month, and the exact sum of the spreads formed times their rates.
+///
+/// The charge is in 10^-4 minor units, since a number of spreads is one of 10^-4 spreads.
+#[derive(Drop)]
+pub struct TierState {
+    rests: Vec<MonthUnits>,
+    charge: u128,
+}
+
+impl Model for TierState {
+    ghost use Rattle.spread_stage.specs.Months.{AreTierRests};
+    ghost use Rattle.spread_stage.specs.Spreads.{TierRests};
+
+    ghost Value = { TierRests };
+
+    ghost view = { λ t. record { rests = t.rests.items; charge = t.charge } };
+
+    ghost invariant = { λ t. AreTierRests (record { rests = t.rests.items; charge = t.charge }) };
+}
+
+impl TierState {
+    /// The months in order, each with what spreads left of its delta.
+    pub fn rests(&self) -> &[MonthUnits]
+        ensures value { result.now ≡ self.now.rests }
+        ensures kept { AreTierRests self.now }
+    {
+        &self.rests
+    }
+
+    /// The exact sum of the spreads formed times their rates, in 10^-4 minor units.
+    pub fn charge(&self) -> u128
+        ensures value { result ≡ self.now.charge }
+        ensures bound { result ≤ MAX_RATE * MAX_UNITS }
+    {
+        self.charge
+    }
+}
+
+// Whether a month is one of a leg's tier.
+fn is_in_tier(leg: &MonthLeg, month: &MonthUnits) -> bool
+    ensures { result ≡ is_in_tier leg.now month.now }
+{
+    leg.first <= month.month && month.month <= leg.last
+}
+
+// The side of a leg's tier: the sum of its months' parts.
+fn tier_side(rests: &[MonthUnits], on: MarketSide, leg: &MonthLeg) -> u128
+    requires { total_size rests.now ≤ MAX_UNITS }
+    ensures { result ≡ tier_side rests.now (market_of on) leg.now }
+{
+    let mut side = 0;
+    for rest in rests {
+        if is_in_tier(leg, rest) {
+            side += part_on(on, rest.units);
+        }
+    }
+    side
+}
+
+// How many spreads a leg has room for, in 10^-4 spreads.
+fn room(rests: &[MonthUnits], direction: Direction, leg: &MonthLeg) -> u128
+    requires small { total_size rests.now ≤ MAX_UNITS }
+    requires ratio { 0 < leg.now.ratio }
+    ensures { result ≡ spreads_formed (tier_rooms (direction_of direction) (leg.now ∷ []) rests.now) }
+{
+    greatest_fit(tier_side(rests, market_side(direction, leg.side), leg), leg.ratio)
+}
+
+// The number of spreads that the legs have room for, in 10^-4 spreads.
+fn spreads_formed(rests: &[MonthUnits], direction: Direction, legs: &[MonthLeg]) -> u128
+    requires small { total_size rests.now ≤ MAX_UNITS }
+    requires ratios { All (λ leg. 0 < leg.ratio) legs.now }
+    ensures { result ≡ spreads_formed (tier_rooms (direction_of direction) legs.now rests.now) }
+{
+    match legs {
+        [] => 0,
+        [leg] => room(rests, direction, leg),
+        [leg, others @ ..] => {
+            let formed = room(rests, direction, leg);
+            if formed == 0 {
+                return 0;
+            }
+            formed.min(spreads_formed(rests, direction, others))
+        }
+    }
+}
+
+// What a leg uses of a month that still needs so many units.
+fn used_now(month: &MonthUnits, on: MarketSide, leg: &MonthLeg, needed: u128) -> u128
+    ensures { result ≡ used_now (market_of on) leg.now needed month.now }
+{
+    if is_in_tier(leg, month) {
+        part_on(on, month.units).min(needed)
+    } else {
+        0
+    }
+}
+
+// Takes what a leg needs of its tier's side, from the earliest month on.
+fn use_leg(rests: &mut [MonthUnits], on: MarketSide, leg: &MonthLeg, needed: u128)
+    requires rise { MonthsRise rests.old }
+    requires small { total_size rests.old ≤ MAX_UNITS }
+    ensures { rests.new ≡ rests_after_leg (market_of on) needed rests.old leg.now }
+{
+    let mut needed = needed;
+    for rest in rests.iter_mut() {
+        let used = used_now(rest, on, leg, needed);
+        rest.units = less_used(on, rest.units, used);
+        needed -= used;
+    }
+}
+
+// Takes what each leg of so many spreads needs, one leg after the other.
+fn use_legs(rests: &mut [MonthUnits], direction: Direction, legs: &[MonthLeg], formed: u128)
+    requires rise { MonthsRise rests.old }
+    requires small { total_size rests.old ≤ MAX_UNITS }
+    requires fit { All (λ leg. formed * leg.ratio ≤ MAX_UNITS) legs.now }
+    ensures { rests.new ≡ rests_after (direction_of direction) formed legs.now rests.old }
+{
+    for leg in legs {
+        let needed = formed * u128::from(leg.ratio.get());
+        use_leg(rests, market_side(direction, leg.side), leg, needed);
+    }
+}
+
+// Forms a spread in one direction, and gives the number of spreads formed, in 10^-4 spreads.
+fn spread_one_way(rests: &mut [MonthUnits], direction: Direction, legs: &[MonthLeg]) -> u128
+    requires rise { MonthsRise rests.old }
+    requires small { total_size rests.old ≤ MAX_UNITS }
+    requires legs { 0 < length legs.now }
+    requires ratios { All (λ leg. 0 < leg.ratio) legs.now }
+    ensures formed { result ≡ spreads_formed (tier_rooms (direction_of direction) legs.now rests.old) }
+    ensures rests { rests.new ≡ rests_after (direction_of direction) result legs.now rests.old }
+    ensures rise { MonthsRise rests.new }
+    ensures less { result + total_size rests.new ≤ total_size rests.old }
+    ensures shrinks { (months : List MonthUnits) → Shrinks months rests.old → Shrinks months rests.new }
+{
+    let formed = spreads_formed(rests, direction, legs);
+    if formed > 0 {
+        use_legs(rests, direction, legs, formed);
+    }
+    formed
+}
+
+// The charge of so many spreads, in 10^-4 minor units.
+fn charge_of(formed: u128, rate: u32) -> u128
+    requires formed { formed ≤ MAX_UNITS }
+    requires rate { rate ≤ MAX_RATE }
+    ensures value { result ≡ formed * rate }
+    ensures bound { result ≤ MAX_RATE * formed }
+{
+    formed * u128::from(rate)
+}
+
+/// The state before any spread: each month's rest is its delta, and nothing is charged.
+pub fn start(alloc: Global, months: &Months) -> Result<TierState, AllocError>
+    ensures value { IfOk result (λ tiers. tiers ≡ unspread months.now) }
+    ensures shrinks { IfOk result (λ tiers. Shrinks months.now tiers.rests) }
+{
+    let rests = Vec::from_slice(alloc, months.as_slice())?;
+    Ok(TierState { rests, charge: 0 })
+}
+
+// Forms a spread in both directions, with side A long first, and gives its charge, in 10^-4 minor units.
+fn spread_rests(rests: &mut [MonthUnits], intra: &Intra) -> u128
+    requires intra { IsIntra intra.now }
+    requires rise { MonthsRise rests.old }
+    requires small { total_size rests.old ≤ MAX_UNITS }
+    ensures value { (charge : ℕ) → record { rests = rests.new; charge = charge + result }
+        ≡ spread_both_ways (record { rests = rests.old; charge = charge }) intra.now }
+    ensures rise { MonthsRise rests.new }
+    ensures bound { result + MAX_RATE * total_size rests.new ≤ MAX_RATE * total_size rests.old }
+    ensures shrinks { (months : List MonthUnits) → Shrinks months rests.old → Shrinks months rests.new }
+{
+    let legs = intra.legs.as_slice();
+    let first = spread_one_way(rests, Direction::ALong, legs);
+    let second = spread_one_way(rests, Direction::AShort, legs);
+    charge_of(first, intra.rate) + charge_of(second, intra.rate)
+}
+
+/// The state after one more spread, formed in both directions, with side A long first.
+pub fn spread(alloc: Global, tiers: &TierState, intra: &Intra) -> Result<TierState, AllocError>
+    requires { IsIntra intra.now }
+    ensures value { IfOk result (λ t. t ≡ spread_both_ways tiers.now intra.now) }
+    ensures shrinks { (months : List MonthUnits) → Shrinks months tiers.now.rests → IfOk result (λ t. Shrinks months t.rests) }
+{
+    let mut rests = Vec::from_slice(alloc, tiers.rests())?;
+    let charge = tiers.charge() + spread_rests(&mut rests, intra);
+    Ok(TierState { rests, charge })
+}

@@ -1,0 +1,104 @@
+//! The stages of a commodity by itself.
+ghost use Rattle.span_tables.specs.Accepted.{IsIntra};
+ghost use Rattle.span_tables.specs.Holdings.{fits};
+ghost use Rattle.span_tables.specs.declared.limits.TheConstants.{MAX_RATE};
+ghost use Rattle.spread_stage.specs.Months.{Shrinks};
+ghost use Rattle.spread_stage.specs.Spreads.{after_spreads};
+ghost use Rattle.statement.specs.Bounds.{AreBounded};
+ghost use Rattle.statement.specs.Figures.{stages_of};
+ghost use Rattle.std.specs.Prelude.{◌<◌, ◌≡◌, All, IfOk, Some, length, map, slice_get, true, ◌≤◌};
+
+use inter_credit::requirement::minimum;
+use scan_risk::Scan;
+use scan_risk::scanning::scan;
+use scan_risk::scenarios::sums;
+use span_money::amounts::{Money, Units};
+use span_tables::held::gather;
+use span_tables::portfolios::Portfolio;
+use span_tables::records::{Commodity, Intra};
+use span_tables::tables::Tables;
+use spread_stage::charges::{delivery, intra_charge};
+use spread_stage::deltas::month_deltas;
+use spread_stage::months::Months;
+use spread_stage::tiers::{TierState, spread, start};
+use std::alloc::{AllocError, Global};
+
+/// What the stages of a commodity by itself give: all of its figures but the credit, and its net delta.
+#[derive(Clone, Copy, Debug)]
+pub struct Stages {
+    /// Whether the account holds a contract of the commodity.
+    pub is_held: bool,
+    /// The scan of its scenario sums.
+    pub scan: Scan,
+    /// Its net delta.
+    pub net: Units,
+    /// The intracommodity charge.
+    pub intra: Money,
+    /// The delivery charge.
+    pub delivery: Money,
+    /// The short option minimum.
+    pub minimum: Money,
+}
+
+// The rests and the charge after the intracommodity spreads, in their order.
+#[tactic(auto, unfolding(spread_stage::specs::Spreads::after_spreads))]
+fn after_spreads(
+    alloc: Global,
+    months: &Months,
+    intras: &[Intra],
+) -> Result<TierState, AllocError>
+    requires { All IsIntra intras.now }
+    ensures value { IfOk result (λ tiers. tiers ≡ after_spreads intras.now months.now) }
+    ensures shrinks { IfOk result (λ tiers. Shrinks months.now tiers.rests) }
+{
+    let mut tiers = start(alloc, months)?;
+    for intra in intras {
+        tiers = spread(alloc, &tiers, intra)?;
+    }
+    Ok(tiers)
+}
+
+/// The stages of the commodity of a number, for an account.
+#[tactic(auto, unfolding(crate::specs::Figures::stages_of))]
+pub fn compute(
+    alloc: Global,
+    tables: &Tables,
+    portfolio: &Portfolio,
+    number: usize,
+    commodity: &Commodity,
+) -> Result<Stages, AllocError>
+    requires fits { fits (length tables.now.contracts) portfolio.now.holdings ≡ true }
+    requires number { slice_get tables.now.commodities number ≡ Some commodity.now }
+    requires rate { commodity.now.minimum_rate ≤ MAX_RATE }
+    ensures value { IfOk result (λ s. s ≡ stages_of tables.now portfolio.now.holdings commodity.now) }
+    ensures bounds { IfOk result AreBounded }
+{
+    let held = gather(alloc, tables, portfolio, number)?;
+    let months = month_deltas(alloc, &held)?;
+    let tiers = after_spreads(alloc, &months, tables.intras(number))?;
+    Ok(Stages {
+        is_held: !held.as_slice().is_empty(),
+        scan: scan(&sums(&held)),
+        net: months.net(),
+        intra: intra_charge(&tiers),
+        delivery: delivery(&months, &tiers, tables.spots(number)),
+        minimum: minimum(&held, commodity.minimum_rate, commodity.method),
+    })
+}
+
+/// The stages of each commodity, by its number, for an account.
+pub fn all_stages(
+    alloc: Global,
+    tables: &Tables,
+    portfolio: &Portfolio,
+) -> Result<Vec<Stages>, AllocError>
+    requires { fits (length tables.now.contracts) portfolio.now.holdings ≡ true }
+    ensures value { IfOk result (λ all. all.items ≡ map (stages_of tables.now portfolio.now.holdings) tables.now.commodities) }
+    ensures bounds { IfOk result (λ all. All AreBounded all.items) }
+{
+    let mut all = Vec::new(alloc);
+    for (number, commodity) in tables.commodities().iter().enumerate() {
+        all.push(compute(alloc, tables, portfolio, number, commodity)?)?;
+    }
+    Ok(all)
+}
