@@ -1,9 +1,8 @@
 -- The credit is the greatest number whose product stays below; without spreads there is none.
-use Rattle.std.proofs.Common.{◌≡◌, ℕ, ◌+◌, ◌*◌, ◌/◌, ◌^◌, ◌<◌, ◌≤◌, Bool, true, false, cond, List, length, get_or, nat_abs, ℤ, zero, suc, [], ◌∷◌, All, refl, arith}
-use Rattle.std.specs.Prelude.{◌==◌, ◌≢◌, if◌then◌else◌}
+use Rattle.std.proofs.Common.{◌≡◌, ℕ, ◌*◌, ◌/◌, ◌^◌, ◌<◌, ◌≤◌, Bool, true, false, cond, List, nat_abs, zero, suc, [], ◌∷◌, refl, arith}
+use Rattle.std.specs.Prelude.{◌==◌, ◌≢◌}
 use Rattle.std.proofs.Math.Nat.{div-mul-le_self, le-div_iff_mul-le, mul-zero, zero-div}
 use Rattle.std.proofs.lemmas.Bool.Decides.{nat_tests}
-use Rattle.span_tables.specs.declared.records.Inter.{Inter}
 use Rattle.inter_credit.specs.Credits.{after_inter_spreads, credit_of}
 use Rattle.inter_credit.specs.States.{IsUnspread, credit_at}
 use Rattle.inter_credit.specs.declared.state.InterLine.{InterLine}

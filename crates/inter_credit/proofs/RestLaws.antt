@@ -1,7 +1,6 @@
 -- A spread leaves of each commodity's rest a part.
-use Rattle.std.proofs.Common.{◌≡◌, ◌≢◌, ◌+◌, ◌*◌, ◌-◌, ◌<◌, ◌≤◌, ℕ, zero, suc, List, [], ◌∷◌, length, ℤ, pos, negsuc, ◌+ℤ◌, ◌-ℤ◌, neg_ℤ, nat_abs, refl, sym, ap, ◌∙◌, arith}
+use Rattle.std.proofs.Common.{◌≡◌, ◌+◌, ◌*◌, ◌-◌, ◌≤◌, ℕ, zero, suc, List, [], ◌∷◌, length, ℤ, pos, negsuc, neg_ℤ, nat_abs, refl, ◌∙◌, arith}
 use Rattle.std.proofs.lemmas.Int.{ints}
-use Rattle.span_money.specs.Numbers.{positive_part, negative_part}
 use Rattle.span_tables.specs.Accepted.{IsInter}
 use Rattle.span_tables.specs.Sides.{Direction, a_long, a_short, MarketSide, long, short, less_used, market_side, part_on, spreads_formed}
 use Rattle.span_tables.specs.declared.records.CommodityLeg.{CommodityLeg}

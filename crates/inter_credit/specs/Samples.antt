@@ -1,6 +1,8 @@
 -- Spreads and contracts that worked numbers speak of.
-use Rattle.std.specs.Prelude.{ℕ, [], ◌∷◌, codes, ℤ, pos}
+use Rattle.std.specs.Prelude.{ℕ, ◌≤◌, [], ◌∷◌, codes, ℤ, pos, nat_abs}
 use Rattle.std.specs.List.{repeat}
+use Rattle.span_tables.specs.Accepted.{IsContract}
+use Rattle.span_tables.specs.declared.limits.TheConstants.{MAX_NET}
 use Rattle.span_tables.specs.declared.held.HeldContract.{HeldContract}
 use Rattle.span_tables.specs.declared.records.Inter.{Inter}
 use Rattle.span_tables.specs.declared.records.ProductKind.{ProductKind}
@@ -27,3 +29,8 @@ held_of_kind kind net = record {
   };
   net = net;
 }
+
+-- a held contract in range
+pub record IsHeld (h : HeldContract) : Type 0 where
+  pub net : nat_abs h.net ≤ MAX_NET
+  pub contract : IsContract h.contract

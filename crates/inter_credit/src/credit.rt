@@ -8,6 +8,9 @@ use crate::state::{InterLine, InterState};
 use span_money::amounts::Money;
 use span_money::division::floor_div;
 
+// Price risk is held doubled, and 10^4 basis points are a credit of all of it.
+const DOUBLED_WHOLE: u128 = 20_000;
+
 // Price risk doubled times the weight.
 fn product(line: &InterLine) -> u128
     requires { IsLine line.now }
@@ -27,7 +30,7 @@ fn credit_of(line: &InterLine) -> u128
     if net == 0 {
         return 0;
     }
-    floor_div(product(line), 20_000 * net)
+    floor_div(product(line), DOUBLED_WHOLE * net)
 }
 
 /// The intercommodity credit of the commodity of a number, in minor units.

@@ -84,7 +84,13 @@ fn risk_less_credit(scan: Money, intra: Money, delivery: Money, credit: Money) -
 
 /// The requirement of a commodity: the larger of scan risk and charges less the credit, and the minimum.
 #[tactic(auto, unfolding(crate::specs::Requirement::requirement_of))]
-pub fn requirement(scan: Money, intra: Money, delivery: Money, credit: Money, minimum: Money) -> Money
+pub fn requirement(
+    scan: Money,
+    intra: Money,
+    delivery: Money,
+    credit: Money,
+    minimum: Money,
+) -> Money
     requires scan { nat_abs scan ≤ MAX_PART }
     requires intra { nat_abs intra ≤ MAX_PART }
     requires delivery { nat_abs delivery ≤ MAX_PART }

@@ -107,7 +107,13 @@ fn line_after(line: InterLine, on: MarketSide, used: u128, basis_points: u32) ->
 }
 
 // The commodities after a leg's use of n spreads.
-fn use_leg(lines: &mut [InterLine], leg: &CommodityLeg, direction: Direction, n: u128, basis_points: u32)
+fn use_leg(
+    lines: &mut [InterLine],
+    leg: &CommodityLeg,
+    direction: Direction,
+    n: u128,
+    basis_points: u32,
+)
     requires known { leg.now.commodity < length lines.old }
     requires lines { All IsLine lines.old }
     requires room { n * leg.now.ratio ≤ part_on (market_side (direction_of direction) leg.now.side) (rest_at lines.old leg.now.commodity) }
@@ -121,7 +127,13 @@ fn use_leg(lines: &mut [InterLine], leg: &CommodityLeg, direction: Direction, n:
 }
 
 // The commodities after each leg's use of n spreads.
-fn use_legs(lines: &mut [InterLine], legs: &[CommodityLeg], direction: Direction, n: u128, basis_points: u32)
+fn use_legs(
+    lines: &mut [InterLine],
+    legs: &[CommodityLeg],
+    direction: Direction,
+    n: u128,
+    basis_points: u32,
+)
     requires lines { All IsLine lines.old }
     requires room { HaveRoom (direction_of direction) n legs.now lines.old }
     requires basis_points { basis_points ≤ MAX_BASIS_POINTS }
@@ -158,7 +170,13 @@ fn spread_both_ways(lines: &mut [InterLine], spread: &Inter)
 }
 
 /// The state after a spread in both directions, with A long first: in each, as many are formed as every leg has room for.
-pub fn inter_spread(alloc: Global, state: &InterState, spread: &Inter) -> Result<InterState, AllocError>
+///
+/// `Err` is want of memory, and `state` stays as it was.
+pub fn inter_spread(
+    alloc: Global,
+    state: &InterState,
+    spread: &Inter,
+) -> Result<InterState, AllocError>
     requires { IsInter (length state.now) spread.now }
     ensures value { IfOk result (λ next. next ≡ inter_both_ways state.now spread.now) }
     ensures length { IfOk result (λ next. length next ≡ length state.now) }

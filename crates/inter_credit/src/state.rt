@@ -15,8 +15,8 @@ pub const MAX_PRICE2: u64 = 10_240_000_000_000_000;
 
 /// A commodity in the intercommodity stage.
 ///
-/// `rest` is what spreads have left of the net delta, `price2` is price risk doubled (in minor units), and `weight` is
-/// the sum of units used times basis points.
+/// `net` is its net delta (at most `MAX_UNITS` either way) and `rest` what spreads have left of it, `price2` is price risk
+/// doubled (in minor units, at most `MAX_PRICE2`), and `weight` is the sum of units used times basis points.
 #[derive(Clone, Copy, Debug, PartialEq, Eq)]
 pub struct InterLine {
     pub net: Units,
@@ -87,7 +87,7 @@ fn loaded(net: Units, price2: u64) -> InterLine
     }
 }
 
-/// So many commodities of which nothing is known yet: net deltas and price risks of 0.
+/// So many commodities of which nothing is known yet: net deltas and price risks of 0. `Err` is want of memory.
 pub fn empty(alloc: Global, commodities: usize) -> Result<InterState, AllocError>
     ensures value { IfOk result (λ state. state ≡ replicate commodities (loaded (pos 0) 0)) }
     ensures unspread { IfOk result IsUnspread }
@@ -97,6 +97,8 @@ pub fn empty(alloc: Global, commodities: usize) -> Result<InterState, AllocError
 }
 
 /// The state with the net delta and the price risk of one more commodity, whose rest is its full net delta.
+///
+/// Nothing was loaded for that commodity, and no spread was formed. `Err` is want of memory, and `state` stays as it was.
 pub fn load(
     alloc: Global,
     state: &InterState,

@@ -2,5 +2,17 @@
 #![tactic(auto)]
 
 pub mod binding;
+#[cfg(test)]
+mod binding_tests;
 pub mod check;
 pub mod faults;
+mod keys;
+pub mod laws;
+mod ledger;
+mod nets;
+mod numbers;
+mod overlaps;
+mod rules;
+#[cfg(test)]
+mod tests;
+mod unfit;

@@ -1,2 +1,15 @@
+mod CheckLemmas
+mod CountLemmas
 mod FieldLemmas
+mod FormLemmas
+mod LegLemmas
+mod NumberLemmas
+mod PositionLemmas
+mod RangeLemmas
+mod ReadLemmas
+pub mod ReadableLaws
 mod RowLemmas
+mod StepLemmas
+mod TallyLemmas
+mod TestLemmas
+mod ValueLemmas

@@ -1,4 +1,7 @@
 pub mod Records
+pub mod Grammar
 pub mod ParamFaults
 pub mod PositionFaults
+pub mod Checks
 pub mod Rows
+pub mod PositionReading

@@ -24,6 +24,7 @@ use Rattle.span_tables.specs.declared.records.InterRecord.{InterRecord}
 use Rattle.span_tables.specs.declared.records.Record.{Record}
 use Rattle.span_tables.specs.declared.records.Record.TheVariants as record_of
 use Rattle.span_tables.specs.declared.records.PositionRecord.{PositionRecord}
+use Rattle.span_tables.specs.declared.limits.TheConstants.{MAX_RATE, MAX_ARRAY_VALUE, MAX_DELTA, MAX_SCALE, MAX_RATIO, MAX_TIER_NUMBER, MAX_PRIORITY, MAX_BASIS_POINTS, MAX_QUANTITY}
 
 -- the fields of a record, and of a field its bytes
 abbrev pub Fields : Type 0
@@ -46,9 +47,9 @@ pub data Form : Type 0 where
   a_decimal : ℤ → ℤ → Form
   a_month : Form
 
--- a rate, from 0 to 100000000
+-- a rate, from 0
 abbrev pub a_rate : Form
-a_rate = a_whole (pos 0) (pos 100000000)
+a_rate = a_whole (pos 0) (pos MAX_RATE)
 
 -- the text is this word
 abbrev pub is_word : List ℕ → List ℕ → Bool
@@ -133,18 +134,18 @@ abbrev pub forms_of : RecordKind → ℕ → Option (List Form)
 forms_of a_set = exactly (a_name ∷ a_whole (pos 1) (pos 1) ∷ a_currency ∷ [])
 forms_of a_commodity = exactly (a_name ∷ a_rate ∷ a_method ∷ [])
 forms_of a_contract = exactly
-    ((a_name ∷ a_name ∷ a_product ∷ a_month ∷ a_decimal (neg_ℤ (pos 10000)) (pos 10000) ∷ a_decimal (pos 1) (pos 100000) ∷ [])
-    ++ repeat 16 (a_whole (neg_ℤ (pos 100000000)) (pos 100000000) ∷ []))
-forms_of a_tier = exactly (a_name ∷ a_whole (pos 1) (pos 32) ∷ a_month ∷ a_month ∷ [])
-forms_of an_intra = with_legs (a_name ∷ a_whole (pos 1) (pos 9999) ∷ a_rate ∷ [])
-    (a_whole (pos 1) (pos 32) ∷ a_side ∷ a_decimal (pos 1) (pos 10000000) ∷ [])
+    ((a_name ∷ a_name ∷ a_product ∷ a_month ∷ a_decimal (neg_ℤ (pos MAX_DELTA)) (pos MAX_DELTA) ∷ a_decimal (pos 1) (pos MAX_SCALE) ∷ [])
+    ++ repeat 16 (a_whole (neg_ℤ (pos MAX_ARRAY_VALUE)) (pos MAX_ARRAY_VALUE) ∷ []))
+forms_of a_tier = exactly (a_name ∷ a_whole (pos 1) (pos MAX_TIER_NUMBER) ∷ a_month ∷ a_month ∷ [])
+forms_of an_intra = with_legs (a_name ∷ a_whole (pos 1) (pos MAX_PRIORITY) ∷ a_rate ∷ [])
+    (a_whole (pos 1) (pos MAX_TIER_NUMBER) ∷ a_side ∷ a_decimal (pos 1) (pos MAX_RATIO) ∷ [])
 forms_of a_spot = exactly (a_name ∷ a_month ∷ a_rate ∷ a_rate ∷ [])
-forms_of an_inter = with_legs (a_whole (pos 1) (pos 9999) ∷ a_whole (pos 0) (pos 10000) ∷ [])
-    (a_name ∷ a_side ∷ a_decimal (pos 1) (pos 10000000) ∷ [])
+forms_of an_inter = with_legs (a_whole (pos 1) (pos MAX_PRIORITY) ∷ a_whole (pos 0) (pos MAX_BASIS_POINTS) ∷ [])
+    (a_name ∷ a_side ∷ a_decimal (pos 1) (pos MAX_RATIO) ∷ [])
 
 -- the forms of a position record's fields
 abbrev pub position_forms : List Form
-position_forms = a_name ∷ a_name ∷ a_whole (neg_ℤ (pos 1000000)) (pos 1000000) ∷ []
+position_forms = a_name ∷ a_name ∷ a_whole (neg_ℤ (pos MAX_QUANTITY)) (pos MAX_QUANTITY) ∷ []
 
 -- the text of a field, from 0
 abbrev pub text_at : Fields → ℕ → List ℕ

@@ -1,7 +1,16 @@
 //! The readers of parameter and position files.
 #![tactic(auto)]
 
+mod checks;
+mod contents;
 pub mod faults;
+mod fields;
+mod grammar;
 pub mod params;
+pub mod position_laws;
 pub mod positions;
+pub mod readable;
 mod rows;
+mod tally;
+#[cfg(test)]
+mod tests_positions;

@@ -1,5 +1,5 @@
 -- What the definitions' laws speak of: the properties in the methodology's own words.
-use Rattle.std.specs.Prelude.{ℕ, ◌*◌, ◌<◌, ◌≤◌, List}
+use Rattle.std.specs.Prelude.{◌≡◌, ℕ, ◌+◌, ◌*◌, ◌<◌, ◌≤◌, List, [], ◌∷◌, ◌++◌, length, Option, Some, None, ⊤}
 use Rattle.std.specs.List.{AllByRecursion}
 use Rattle.span_tables.specs.Sides.{Room}
 
@@ -10,3 +10,32 @@ Fits n rooms = AllByRecursion (λ r. n * r.ratio ≤ r.side) rooms
 -- each ratio is above 0
 abbrev pub HaveRatios : List Room → Type 0
 HaveRatios rooms = AllByRecursion (λ r. 0 < r.ratio) rooms
+
+-- no element has a fault behind those before it
+abbrev pub IsFaultFree : {A F : Type 0} → (List A → A → Option (ℕ → F)) → List A → List A → Type 0
+IsFaultFree fault_of earlier [] = ⊤
+IsFaultFree fault_of earlier (x ∷ xs) = (fault_of earlier x ≡ None) × IsFaultFree fault_of (earlier ++ x ∷ []) xs
+
+-- some element has this fault, told the element's number, and none before it has one
+pub record IsFirstFault {A F : Type 0} (fault_of : List A → A → Option (ℕ → F)) (before xs : List A)
+    (answer : F) : Type 0 where
+  pub earlier : List A
+  pub at : A
+  pub later : List A
+  pub split : xs ≡ earlier ++ at ∷ later
+  pub none_earlier : IsFaultFree fault_of before earlier
+  pub fault : ℕ → F
+  pub has : fault_of (before ++ earlier) at ≡ Some fault
+  pub answers : answer ≡ fault (length (before ++ earlier) + 1)
+
+-- the elements rise by their keys
+abbrev pub IsRisingBy : {A : Type 0} → (A → ℕ) → List A → Type 0
+IsRisingBy key [] = ⊤
+IsRisingBy key (x ∷ xs) = AllByRecursion (λ y. key x ≤ key y) xs × IsRisingBy key xs
+
+-- the outcomes before some fault are none
+pub record IsFirstOutcome {F : Type 0} (outcomes : List (Option F)) (answer : F) : Type 0 where
+  pub earlier : List (Option F)
+  pub later : List (Option F)
+  pub split : outcomes ≡ earlier ++ Some answer ∷ later
+  pub none_earlier : AllByRecursion (λ o. o ≡ None) earlier

@@ -9,3 +9,4 @@ pub mod Net
 pub mod Holdings
 pub mod Sides
 pub mod Laws
+pub mod ByKind

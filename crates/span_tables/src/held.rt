@@ -4,7 +4,7 @@ ghost use Rattle.span_tables.specs.Accepted.{commodity_id};
 ghost use Rattle.span_tables.specs.Holdings.{AreHeld, fits};
 ghost use Rattle.span_tables.specs.Net.{held_of};
 
-use crate::portfolios::Portfolio;
+use crate::portfolios::{Holding, Portfolio};
 use crate::records::Contract;
 use crate::tables::Tables;
 use std::alloc::{AllocError, Global};
@@ -64,5 +64,22 @@ pub fn gather(
     requires commodity { commodity < length tables.now.commodities }
     ensures { IfOk result (λ held. held ≡ held_of tables.now.contracts portfolio.now.holdings (commodity_id tables.now commodity)) }
 {
-    Err(AllocError)
+    let contracts = tables.contracts();
+    let mut held = Vec::new(alloc);
+    for holding in portfolio.holdings() {
+        if tables.is_of(holding.contract, commodity) {
+            held.push(held_contract(&contracts[holding.contract], holding))?;
+        }
+    }
+    Ok(Held::new(held))
+}
+
+// A contract with the net quantity of a holding.
+fn held_contract(contract: &Contract, holding: &Holding) -> HeldContract
+    ensures { result ≡ record { contract = contract.now; net = holding.now.net } }
+{
+    HeldContract {
+        contract: contract.copied(),
+        net: holding.net,
+    }
 }

@@ -1,10 +1,15 @@
 //! The records of parameter and position files, accepted tables, portfolios, and what an account holds of a commodity.
 #![tactic(auto)]
 
+mod groups;
 pub mod held;
+mod kinds;
+pub mod laws;
 pub mod limits;
 pub mod name;
 pub mod portfolios;
 pub mod raw;
 pub mod records;
+mod sorting;
+mod spreads;
 pub mod tables;

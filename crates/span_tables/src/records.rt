@@ -55,6 +55,25 @@ pub struct Contract {
     pub values: [i64; 16],
 }
 
+impl Contract {
+    ghost use Rattle.std.specs.Prelude.{◌≡◌};
+
+    /// The same contract again, which takes no memory.
+    pub fn copied(&self) -> Contract
+        ensures { result ≡ self.now }
+    {
+        Contract {
+            id: self.id.copied(),
+            commodity: self.commodity.copied(),
+            kind: self.kind,
+            month: self.month,
+            delta: self.delta,
+            scale: self.scale,
+            values: self.values,
+        }
+    }
+}
+
 /// A tier of a commodity: the months (`yyyymm`) from the first to the last.
 #[derive(Drop)]
 pub struct Tier {
@@ -62,6 +81,22 @@ pub struct Tier {
     pub number: u32,
     pub first: u32,
     pub last: u32,
+}
+
+impl Tier {
+    ghost use Rattle.std.specs.Prelude.{◌≡◌};
+
+    /// The same tier again, which takes no memory.
+    pub fn copied(&self) -> Tier
+        ensures { result ≡ self.now }
+    {
+        Tier {
+            commodity: self.commodity.copied(),
+            number: self.number,
+            first: self.first,
+            last: self.last,
+        }
+    }
 }
 
 /// A leg of an intracommodity spread, as its record has it: a tier's number, a side and a ratio.
@@ -88,6 +123,22 @@ pub struct Spot {
     pub month: u32,
     pub spread_rate: u32,
     pub outright_rate: u32,
+}
+
+impl Spot {
+    ghost use Rattle.std.specs.Prelude.{◌≡◌};
+
+    /// The same spot month again, which takes no memory.
+    pub fn copied(&self) -> Spot
+        ensures { result ≡ self.now }
+    {
+        Spot {
+            commodity: self.commodity.copied(),
+            month: self.month,
+            spread_rate: self.spread_rate,
+            outright_rate: self.outright_rate,
+        }
+    }
 }
 
 /// A leg of an intercommodity spread, as its record has it: a commodity's id, a side and a ratio.

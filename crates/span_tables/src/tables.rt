@@ -1,13 +1,18 @@
 //! The accepted tables of a set of parameters.
-ghost use Rattle.std.specs.Prelude.{◌≡◌, ◌<◌, ◌≤◌, [], length, map, slice_index_or, true, All, IfOk};
-ghost use Rattle.span_tables.specs.Accepted.{IsInter, IsIntra, IsSpot, IsWithinLimits, commodity_id};
+ghost use Rattle.std.specs.Prelude.{◌≡◌, ◌<◌, ◌≤◌, [], bytes_eq, length, map, slice_get, slice_index_or, false, true, All, IfOk};
+ghost use Rattle.std.specs.Option.{option_map_or};
+ghost use Rattle.span_tables.specs.Accepted.{IsAccepted, IsInter, IsIntra, IsSpot, IsWithinLimits, commodity_id};
 ghost use Rattle.span_tables.specs.Rules.{keeps_rules};
 ghost use Rattle.span_tables.specs.Tables.{inters_of, intras_of, spots_of, tables_of};
 ghost use Rattle.span_tables.specs.declared.limits.TheConstants.{MAX_INTER_SPREADS, MAX_INTRA_SPREADS, MAX_SPOT_MONTHS};
 
+use crate::groups::{numbers_of, spots_by_commodity};
+use crate::kinds::{Kinds, by_kind, set_id};
 use crate::name::Name;
 use crate::raw::RawTables;
 use crate::records::{Commodity, Contract, Inter, InterRecord, Intra, IntraRecord, Spot, Tier};
+use crate::sorting::{inters_by_priority, intras_by_priority};
+use crate::spreads::{inters_with_numbers, intras_by_commodity};
 use std::alloc::{AllocError, Global};
 use std::marker::Model;
 
@@ -89,7 +94,63 @@ impl Tables {
         requires { keeps_rules raw ≡ true }
         ensures { IfOk result (λ tables. tables ≡ tables_of raw) }
     {
-        Err(AllocError)
+        let set_id = set_id(raw.records());
+        let kinds = by_kind(alloc, raw.into_records())?;
+        let intras = intras_by_priority(kinds.intras)?;
+        let inters = inters_by_priority(kinds.inters)?;
+        let sorted = Kinds {
+            commodities: kinds.commodities,
+            contracts: kinds.contracts,
+            tiers: kinds.tiers,
+            intras,
+            spots: kinds.spots,
+            inters,
+        };
+        Tables::with_numbers(alloc, set_id, sorted)
+    }
+
+    // The tables of records that are in order, with what they name.
+    fn with_numbers(alloc: Global, set_id: Name, kinds: Kinds) -> Result<Tables, AllocError>
+        requires { IsAccepted (record {
+            set_id = set_id;
+            commodities = kinds.commodities.items;
+            contracts = kinds.contracts.items;
+            tiers = kinds.tiers.items;
+            intras = kinds.intras.items;
+            spots = kinds.spots.items;
+            inters = kinds.inters.items;
+        }) }
+        ensures { IfOk result (λ tables. tables ≡ record {
+            set_id = set_id;
+            commodities = kinds.commodities.items;
+            contracts = kinds.contracts.items;
+            tiers = kinds.tiers.items;
+            intras = kinds.intras.items;
+            spots = kinds.spots.items;
+            inters = kinds.inters.items;
+        }) }
+    {
+        let commodities = kinds.commodities.as_slice();
+        let tiers = kinds.tiers.as_slice();
+        let spreads = kinds.intras.as_slice();
+        let spots = kinds.spots.as_slice();
+        let commodity_numbers = numbers_of(alloc, commodities, &kinds.contracts)?;
+        let intras = intras_by_commodity(alloc, commodities, tiers, spreads)?;
+        let spot_months = spots_by_commodity(alloc, commodities, spots)?;
+        let inters = inters_with_numbers(alloc, commodities, &kinds.inters)?;
+        Ok(Tables {
+            set_id,
+            commodities: kinds.commodities,
+            contracts: kinds.contracts,
+            tiers: kinds.tiers,
+            intra_records: kinds.intras,
+            spots: kinds.spots,
+            inter_records: kinds.inters,
+            commodity_numbers,
+            intras,
+            spot_months,
+            inters,
+        })
     }
 
     /// The id of the set.
@@ -113,6 +174,15 @@ impl Tables {
         ensures limits { IsWithinLimits self.now }
     {
         &self.contracts
+    }
+
+    /// Whether the contract of a number is of the commodity of a number: their numbers are compared, and no names.
+    pub fn is_of(&self, contract: usize, commodity: usize) -> bool
+        requires contract { contract < length self.now.contracts }
+        requires commodity { commodity < length self.now.commodities }
+        ensures { result ≡ option_map_or (λ x. bytes_eq x.commodity (commodity_id self.now commodity)) (slice_get self.now.contracts contract) false }
+    {
+        self.commodity_numbers[contract] == commodity
     }
 
     /// The tiers in file order.

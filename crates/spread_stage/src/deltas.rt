@@ -42,8 +42,17 @@ fn add(months: &mut Vec<MonthUnits>, month: u32, units: i128) -> Result<(), Allo
             let sum = months[place].units.get() + units;
             months[place].units = Units::new(sum);
         }
-        Some(place) => months.insert(place, MonthUnits { month, units: Units::new(units) })?,
-        None => months.push(MonthUnits { month, units: Units::new(units) })?,
+        Some(place) => months.insert(
+            place,
+            MonthUnits {
+                month,
+                units: Units::new(units),
+            },
+        )?,
+        None => months.push(MonthUnits {
+            month,
+            units: Units::new(units),
+        })?,
     }
     Ok(())
 }

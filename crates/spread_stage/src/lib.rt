@@ -6,9 +6,7 @@ pub mod deltas;
 pub mod laws;
 pub mod months;
 mod sides;
-pub mod tiers;
-mod worked;
-
-
 #[cfg(test)]
 mod tests;
+pub mod tiers;
+mod worked;

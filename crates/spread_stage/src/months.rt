@@ -12,7 +12,7 @@ use std::marker::Model;
 pub const MAX_UNITS: u128 = 25_600_000_000_000_000;
 
 /// A month (`yyyymm`) and a delta position in it: its delta, or what spreads left of it.
-#[derive(Clone, Copy, Debug)]
+#[derive(Clone, Copy, Debug, PartialEq, Eq)]
 pub struct MonthUnits {
     pub month: u32,
     pub units: Units,

@@ -1,5 +1,5 @@
 //! Worked values of the calls. Units are 10^-8 deltas, and exact charges 10^-4 minor units.
-ghost use Rattle.std.specs.Prelude.{◌≡◌, ◌<◌, ◌≤◌, ◌↔◌, All, IfOk, IsTrue, nat_abs};
+ghost use Rattle.std.specs.Prelude.{◌≡◌, ◌<◌, ◌≤◌, ◌↔◌, All, length, IfOk, IsTrue, nat_abs};
 ghost use Rattle.span_tables.specs.Accepted.{IsContract, IsIntra, IsSpot};
 ghost use Rattle.span_tables.specs.declared.limits.TheConstants.{MAX_NET, MAX_RATE, MAX_RATIO};
 ghost use Rattle.spread_stage.specs.Months.{Shrinks};
@@ -33,21 +33,32 @@ fn future(month: u32) -> Contract
     }
 }
 
+// So many futures of a month.
+fn position(month: u32, net: i64) -> HeldContract
+    requires { nat_abs net ≤ MAX_NET }
+    ensures net { nat_abs result.net ≤ MAX_NET }
+    ensures contract { IsContract result.contract }
+{
+    HeldContract {
+        contract: future(month),
+        net,
+    }
+}
+
 // What holds so many futures of these months.
 fn held(rt: &impl Abort, alloc: Global, positions: &[(u32, i64)]) -> Result<Held, Fail> {
     let mut contracts = Vec::new(alloc);
     assert!(rt; positions.len() <= 3);
     for (month, net) in positions {
         assert!(rt; net.unsigned_abs() <= MAX_NET);
-        contracts.push(HeldContract {
-            contract: future(*month),
-            net: *net,
-        })?;
+        contracts.push(position(*month, *net))?;
     }
     Ok(Held::new(contracts))
 }
 
-fn leg(first: u32, last: u32, side: Side, ratio: u32) -> MonthLeg {
+fn leg(first: u32, last: u32, side: Side, ratio: u32) -> MonthLeg
+    requires { ratio < 10 }
+{
     MonthLeg {
         first,
         last,
@@ -102,7 +113,6 @@ fn expect_months(rt: &impl Abort, months: &[MonthUnits], want: &[(u32, i128)], c
     }
 }
 
-
 #[test]
 fn two_tiers_and_a_spot_month(rt: HostRuntime) -> Result<(), Fail> {
     let held = held(&rt, rt.alloc(), &[(202503, 3), (202506, -2)])?;
@@ -115,10 +125,208 @@ fn two_tiers_and_a_spot_month(rt: HostRuntime) -> Result<(), Fail> {
     expect_months(&rt, tiers.rests(), &deltas, "start");
     assert_eq!(rt; tiers.charge(), 0);
 
-    let legs = [leg(202501, 202504, Side::A, 1), leg(202505, 202512, Side::B, 1)];
+    let legs = [
+        leg(202501, 202504, Side::A, 1),
+        leg(202505, 202512, Side::B, 1),
+    ];
     let tiers = spread(rt.alloc(), &tiers, &intra(&rt, 250, &legs))?;
-    expect_months(&rt, tiers.rests(), &[(202503, 100_000_000), (202506, 0)], "spread");
+    expect_months(
+        &rt,
+        tiers.rests(),
+        &[(202503, 100_000_000), (202506, 0)],
+        "spread",
+    );
     assert_eq!(rt; intra_charge(&tiers).get(), 500);
-    assert_eq!(rt; delivery(&months, &tiers, &[spot(&rt, 202503, 10, 20)]).get(), 40);
+    assert_eq!(rt;
+        delivery(&months, &tiers, &[spot(&rt, 202503, 10, 20)]).get(),
+        40
+    );
     Ok(())
+}
+
+// What is expected after all spreads of a case.
+#[derive(Drop)]
+struct Case<'a> {
+    name: &'a str,
+    positions: &'a [(u32, i64)],
+    rests: &'a [(u32, i128)],
+    charge: u128,
+    intra_charge: i128,
+    delivery: i128,
+}
+
+// Forms the spreads one after the other, and compares what is left and what is charged.
+fn expect_case(
+    rt: &impl Abort,
+    alloc: Global,
+    case: &Case,
+    spreads: &[Intra],
+    spots: &[Spot],
+) -> Result<(), Fail>
+    requires spreads { All IsIntra spreads.now }
+    requires spots { All IsSpot spots.now }
+    requires few { length spots.now ≤ 1 }
+{
+    let held = held(rt, alloc, case.positions)?;
+    let months = month_deltas(alloc, &held)?;
+    let mut tiers = start(alloc, &months)?;
+    for intra in spreads {
+        tiers = spread(alloc, &tiers, intra)?;
+    }
+    expect_months(rt, tiers.rests(), case.rests, case.name);
+    assert_eq!(rt; tiers.charge(), case.charge, "{}", case.name);
+    assert_eq!(rt;
+        intra_charge(&tiers).get(),
+        case.intra_charge,
+        "{}",
+        case.name
+    );
+    assert_eq!(rt;
+        delivery(&months, &tiers, spots).get(),
+        case.delivery,
+        "{}",
+        case.name
+    );
+    Ok(())
+}
+
+#[test]
+fn part_of_a_spread(rt: HostRuntime) -> Result<(), Fail> {
+    let case = Case {
+        name: "part of a spread",
+        positions: &[(202503, 1), (202506, -1)],
+        rests: &[(202503, 10_000), (202506, -10_000)],
+        charge: 833_250,
+        intra_charge: 84,
+        delivery: 11,
+    };
+    let legs = [
+        leg(202501, 202504, Side::A, 3),
+        leg(202505, 202512, Side::B, 3),
+    ];
+    expect_case(
+        &rt,
+        rt.alloc(),
+        &case,
+        &[intra(&rt, 250, &legs)],
+        &[spot(&rt, 202503, 10, 20)],
+    )
+}
+
+#[test]
+fn earliest_month_is_used_first(rt: HostRuntime) -> Result<(), Fail> {
+    let case = Case {
+        name: "earliest month first",
+        positions: &[(202503, 1), (202504, 2), (202506, -2)],
+        rests: &[(202503, 0), (202504, 100_000_000), (202506, 0)],
+        charge: 5_000_000,
+        intra_charge: 500,
+        delivery: 30,
+    };
+    let legs = [
+        leg(202501, 202504, Side::A, 1),
+        leg(202505, 202512, Side::B, 1),
+    ];
+    expect_case(
+        &rt,
+        rt.alloc(),
+        &case,
+        &[intra(&rt, 250, &legs)],
+        &[spot(&rt, 202504, 10, 20)],
+    )
+}
+
+#[test]
+fn second_direction(rt: HostRuntime) -> Result<(), Fail> {
+    let case = Case {
+        name: "second direction",
+        positions: &[(202506, 2), (202503, -3)],
+        rests: &[(202503, -100_000_000), (202506, 0)],
+        charge: 5_000_000,
+        intra_charge: 500,
+        delivery: 40,
+    };
+    let legs = [
+        leg(202501, 202504, Side::A, 1),
+        leg(202505, 202512, Side::B, 1),
+    ];
+    expect_case(
+        &rt,
+        rt.alloc(),
+        &case,
+        &[intra(&rt, 250, &legs)],
+        &[spot(&rt, 202503, 10, 20)],
+    )
+}
+
+#[test]
+fn both_sides_of_one_tier(rt: HostRuntime) -> Result<(), Fail> {
+    let case = Case {
+        name: "both sides of one tier",
+        positions: &[(202503, 2), (202506, -1)],
+        rests: &[(202503, 100_000_000), (202506, 0)],
+        charge: 2_500_000,
+        intra_charge: 250,
+        delivery: 0,
+    };
+    let legs = [
+        leg(202501, 202512, Side::A, 1),
+        leg(202501, 202512, Side::B, 1),
+    ];
+    expect_case(&rt, rt.alloc(), &case, &[intra(&rt, 250, &legs)], &[])
+}
+
+#[test]
+fn spread_of_three_legs(rt: HostRuntime) -> Result<(), Fail> {
+    let case = Case {
+        name: "three legs",
+        positions: &[(202503, 1), (202506, -2), (202509, 1)],
+        rests: &[(202503, 0), (202506, 0), (202509, 0)],
+        charge: 700_000,
+        intra_charge: 70,
+        delivery: 0,
+    };
+    let legs = [
+        leg(202501, 202504, Side::A, 1),
+        leg(202505, 202507, Side::B, 2),
+        leg(202508, 202512, Side::A, 1),
+    ];
+    expect_case(&rt, rt.alloc(), &case, &[intra(&rt, 70, &legs)], &[])
+}
+
+#[test]
+fn charges_of_two_spreads_rounded_once(rt: HostRuntime) -> Result<(), Fail> {
+    let positions: [(u32, i64); 3] = [(202503, 3), (202506, -2), (202509, -4)];
+    let first = [
+        leg(202501, 202504, Side::A, 4),
+        leg(202505, 202507, Side::B, 4),
+    ];
+    let one = Case {
+        name: "one spread",
+        positions: &positions,
+        rests: &[(202503, 100_000_000), (202506, 0), (202509, -400_000_000)],
+        charge: 505_000,
+        intra_charge: 51,
+        delivery: 0,
+    };
+    expect_case(&rt, rt.alloc(), &one, &[intra(&rt, 101, &first)], &[])?;
+    let second = [
+        leg(202501, 202504, Side::A, 4),
+        leg(202508, 202512, Side::B, 4),
+    ];
+    let both = Case {
+        name: "two spreads",
+        positions: &positions,
+        rests: &[(202503, 0), (202506, 0), (202509, -300_000_000)],
+        charge: 610_000,
+        intra_charge: 61,
+        delivery: 0,
+    };
+    expect_case(
+        &rt,
+        rt.alloc(),
+        &both,
+        &[intra(&rt, 101, &first), intra(&rt, 42, &second)],
+        &[],
+    )
 }

@@ -82,7 +82,10 @@ fn room(rests: &[MonthUnits], direction: Direction, leg: &MonthLeg) -> u128
     requires ratio { 0 < leg.now.ratio }
     ensures { result ≡ spreads_formed (tier_rooms (direction_of direction) (leg.now ∷ []) rests.now) }
 {
-    greatest_fit(tier_side(rests, market_side(direction, leg.side), leg), leg.ratio)
+    greatest_fit(
+        tier_side(rests, market_side(direction, leg.side), leg),
+        leg.ratio,
+    )
 }
 
 // The number of spreads that the legs have room for, in 10^-4 spreads.

@@ -1,4 +1,6 @@
 pub mod FitLemmas
 pub mod LineLemmas
 pub mod LoadLemmas
+pub mod PlaceLemmas
+pub mod RowLemmas
 pub mod WriteLemmas

@@ -1,5 +1,5 @@
 -- The seven figures of a commodity, of accepted tables and one portfolio.
-use Rattle.std.specs.Prelude.{ℕ, Bool, not, ◌==◌, List, length, map, ℤ, pos}
+use Rattle.std.specs.Prelude.{ℕ, Bool, not, ◌==◌, if◌then◌else◌, List, [], ◌∷◌, length, map, ℤ, pos}
 use Rattle.span_tables.specs.Tables.{AcceptedTables, intras_of, spots_of, inters_of}
 use Rattle.span_tables.specs.Net.{held_of}
 use Rattle.scan_risk.specs.Scenarios.{scenario_sums, scan_of}
@@ -14,6 +14,7 @@ use Rattle.span_tables.specs.declared.portfolios.Holding.{Holding}
 use Rattle.span_tables.specs.declared.held.HeldContract.{HeldContract}
 use Rattle.inter_credit.specs.declared.state.InterLine.{InterLine}
 use Rattle.statement.specs.declared.figures.Figures.{Figures}
+use Rattle.statement.specs.declared.rows.CommodityRow.{CommodityRow}
 use Rattle.statement.specs.declared.stages.Stages.{Stages}
 
 -- the held contracts of a commodity
@@ -60,7 +61,19 @@ with_credit s credit = record {
   requirement = requirement_of (s.scan).risk s.intra s.delivery credit s.minimum;
 }
 
+-- the figures of the stages of a commodity's number, with its credit among the commodities after all spreads
+abbrev pub credited : List InterLine → ℕ × Stages → Figures
+credited lines numbered = with_credit numbered.1 (pos (credit_at lines numbered.0))
+
 -- the seven figures of a commodity and its number
 unfoldable pub figures_of : AcceptedTables → List Holding → ℕ × Commodity → Figures
 figures_of tables holdings numbered =
-    with_credit (stages_of tables holdings numbered.1) (pos (credit_at (inter_lines tables holdings) numbered.0))
+    credited (inter_lines tables holdings) (numbered.0, stages_of tables holdings numbered.1)
+
+-- the figures of those commodities that are held, from the lists by number
+abbrev pub held_of_all : List Commodity → List Stages → List Figures → List CommodityRow
+held_of_all [] all figures = []
+held_of_all (c ∷ cs) [] figures = []
+held_of_all (c ∷ cs) (s ∷ all) [] = []
+held_of_all (c ∷ cs) (s ∷ all) (f ∷ figures) =
+    if s.is_held then record { commodity = c.id; figures = f } ∷ held_of_all cs all figures else held_of_all cs all figures

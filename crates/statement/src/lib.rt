@@ -1,6 +1,7 @@
 //! Statements: from the bytes of a parameter file and a position file to the bytes of a statement.
 #![tactic(auto)]
 
+pub mod account;
 pub mod credits;
 pub mod faults;
 pub mod figures;

@@ -1,27 +1,19 @@
 //! From the bytes of both files to the bytes of a statement.
 ghost use Rattle.statement.specs.Answers.{GivesText};
-ghost use Rattle.statement.specs.Statement.{row_of, statement_of, statement_text, statement_under};
+ghost use Rattle.statement.specs.Statement.{statement_of, statement_text, statement_under};
 ghost use Rattle.span_tables.specs.Holdings.{fits};
 ghost use Rattle.std.specs.Prelude.{◌≡◌, All, IfOk, length, true};
 
 use crate::faults::SpanFault;
 use crate::lines::push_row;
-use crate::rows::Row;
+use crate::account::margin_account;
 use param_check::binding::bind;
 use param_check::check::check;
 use span_csv::params::read_params;
 use span_csv::positions::read_positions;
-use span_tables::portfolios::{Portfolio, Portfolios};
+use span_tables::portfolios::Portfolios;
 use span_tables::tables::Tables;
 use std::alloc::{AllocError, Global};
-
-/// The row of an account under accepted tables.
-pub fn margin_account(alloc: Global, tables: &Tables, portfolio: &Portfolio) -> Result<Row, AllocError>
-    requires { fits (length tables.now.contracts) portfolio.now.holdings ≡ true }
-    ensures { IfOk result (λ row. row ≡ row_of tables.now portfolio.now) }
-{
-    Err(AllocError)
-}
 
 /// The statement of portfolios under accepted tables, in their order.
 #[tactic(auto, unfolding(crate::specs::Statement::statement_text))]

@@ -1,5 +1,4 @@
-use Rattle.std.proofs.Common.{◌≡◌, ◌≤◌, ◌+◌, ◌*◌, nat_abs, lit<, ap, ◌∙◌, arith}
-use Rattle.std.specs.Int.{int_max}
+use Rattle.std.proofs.Common.{◌≡◌, ◌≤◌, ◌+◌, ◌*◌, nat_abs, lit<, ap, arith}
 use Rattle.inter_credit.specs.declared.requirement.TheConstants.{MAX_PART}
 use Rattle.inter_credit.proofs.Sizes.{same_larger, size-int_max}
 use Rattle.inter_credit.proofs.requirement.requirement.Goals as goal

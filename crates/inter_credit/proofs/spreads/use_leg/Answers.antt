@@ -1,4 +1,4 @@
-use Rattle.std.proofs.Common.{◌≡◌, ◌*◌}
+use Rattle.std.proofs.Common.{◌*◌}
 use Rattle.span_tables.specs.Sides.{market_side}
 use Rattle.inter_credit.specs.Credits.{line_after}
 use Rattle.inter_credit.specs.Directions.{direction_of}
@@ -9,5 +9,5 @@ pub returns-clause-value : goal.returns-clause-value
 returns-clause-value c =
     let leg = c.args.leg.now in
     change_from_set (line_after (market_side (direction_of c.args.direction) leg.side) (c.args.n * leg.ratio) c.args.basis_points) leg.commodity
-        c.args.lines.now c.index-lines-leg.result c.line_after.result c.index-lines-leg.is
-        (simp (c.market_side-on.ensures, c.from.ensures, c.get.ensures) at c.line_after.ensures.value)
+    c.args.lines.now c.index-lines-leg.result c.line_after.result c.index-lines-leg.is
+    (simp (c.market_side-on.ensures, c.from.ensures, c.get.ensures) at c.line_after.ensures.value)

@@ -11,7 +11,7 @@ use Rattle.inter_credit.proofs.spreads.use_legs.Goals as goal
 pub use_leg-requires-clause-room : goal.use_leg-requires-clause-room
 use_leg-requires-clause-room c =
     HaveRoom-first (direction_of c.args.direction) c.args.n c.args.legs.now c.loop-leg.leg-index c.leg-item.result c.loop-leg.lines
-        c.loop-leg-test.true c.leg-item.is c.loop-leg.invariant.room
+    c.loop-leg-test.true c.leg-item.is c.loop-leg.invariant.room
 
 pub loop-leg-preserved : goal.loop-leg-preserved
 loop-leg-preserved c =

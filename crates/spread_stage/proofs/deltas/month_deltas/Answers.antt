@@ -28,8 +28,8 @@ loop-i-preserved c =
     let before : total_size c.loop-i.months.items + i * 100000000000000 ≤ length held * 100000000000000 = c.loop-i.invariant.small in
     record {
       value = added ∙ ap (λ u. with_units (h.contract).month u c.loop-i.months.items) units
-      ∙ ap (with_units (h.contract).month (units_of h)) c.loop-i.invariant.value
-      ∙ month_deltas-cons h (drop i held) ∙ ap month_deltas (sym split);
+          ∙ ap (with_units (h.contract).month (units_of h)) c.loop-i.invariant.value
+          ∙ month_deltas-cons h (drop i held) ∙ ap month_deltas (sym split);
       small = omega (arith, larger, same, bound, before, above);
     }
 

@@ -1,0 +1,17 @@
+pub mod AccountLaws
+pub mod BindLaws
+pub mod FilterMaps
+pub mod FirstFaults
+pub mod GroupLemmas
+pub mod HoldingLaws
+pub mod IdLaws
+pub mod KeyLemmas
+pub mod LedgerLaws
+pub mod LimitLaws
+pub mod NetLaws
+pub mod OverlapLemmas
+pub mod PlaceLaws
+pub mod PortfolioLaws
+pub mod RuleLaws
+pub mod UnfitLaws
+pub mod UnknownLemmas

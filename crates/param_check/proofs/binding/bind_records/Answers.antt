@@ -1,0 +1,26 @@
+use Rattle.std.proofs.Common.{◌∙◌, ap, subst, length, map}
+use Rattle.span_tables.specs.Gives.{Gives}
+use Rattle.param_check.specs.Binding.{is_memory}
+use Rattle.param_check.specs.Nets.{entry_holdings}
+use Rattle.param_check.proofs.BindLaws.{unknown_given, bound_settled, nets_hold, err_is}
+use Rattle.param_check.proofs.binding.bind_records.Goals as goal
+
+pub returns-in_err-ledger : goal.returns-in_err-ledger
+returns-in_err-ledger c =
+    let e = c.in_err-ledger.field-0.0 in
+    unknown_given c.args.contracts.now c.args.records.now c.from_residual-in_err-ledger.result c.in_ok-numbers.numbers.keys e c.in_ok-numbers.ensures c.in_err-ledger.ensures
+    (err_is c.from_residual-in_err-ledger.result e c.from_residual-in_err-ledger.ensures.1)
+
+pub settle-requires-clause-fit : goal.settle-requires-clause-fit
+settle-requires-clause-fit c =
+    nets_hold c.args.contracts.now c.args.records.now c.in_ok-numbers.numbers.keys c.in_ok-ledger.ledger.accounts.keys c.in_ok-ledger.ledger.books.items c.deref-2.result.now
+    c.requires c.in_ok-numbers.ensures c.in_ok-ledger.ensures
+    (c.deref-2.ensures.value ∙ c.in_ok-nets.ensures ∙ ap (map (entry_holdings (length c.args.contracts.now))) c.deref.ensures.value)
+
+pub returns : goal.returns
+returns c =
+    subst (Gives is_memory c.settle.result)
+    (bound_settled c.args.contracts.now c.args.records.now c.in_ok-numbers.numbers.keys c.in_ok-ledger.ledger.accounts.keys c.in_ok-ledger.ledger.books.items c.deref-2.result.now
+    c.requires c.in_ok-numbers.ensures c.in_ok-ledger.ensures
+    (c.deref-2.ensures.value ∙ c.in_ok-nets.ensures ∙ ap (map (entry_holdings (length c.args.contracts.now))) c.deref.ensures.value))
+    c.settle.ensures

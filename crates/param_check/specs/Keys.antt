@@ -1,0 +1,76 @@
+-- What no two records of a kind may share, as keys that are compared.
+use Rattle.std.specs.Prelude.{ℕ, Bool, true, false, not, ◌&&◌, ◌==◌, List, filter_map, Option, Some, None, bytes_eq}
+use Rattle.std.specs.List.{list_any}
+use Rattle.span_tables.specs.Rules.{is_and, as_intra, first_breaking}
+use Rattle.span_tables.specs.declared.records.Record.{Record}
+use Rattle.span_tables.specs.declared.records.Record.TheVariants as record_of
+use Rattle.param_check.specs.declared.keys.Identity.{Identity}
+use Rattle.param_check.specs.declared.keys.Identity.TheVariants as identity
+use Rattle.param_check.specs.declared.keys.Key.{Key}
+
+-- the key of a name and a number
+abbrev pub named : List ℕ → ℕ → Key
+named name number = record { name = Some name; number = number }
+
+-- the key of a record, where it is of the kind
+abbrev pub key_of : Identity → Record → Option Key
+key_of identity.Commodity (record_of.Commodity c) = Some (named c.id 0)
+key_of identity.Contract (record_of.Contract x) = Some (named x.id 0)
+key_of identity.Tier (record_of.Tier t) = Some (named t.commodity t.number)
+key_of identity.Priority (record_of.Intra s) = Some (named s.commodity s.priority)
+key_of identity.Priority (record_of.Inter s) = Some (record { name = None; number = s.priority })
+key_of identity.SpotMonth (record_of.Spot s) = Some (named s.commodity s.month)
+key_of _ _ = None
+
+-- two keys have the same name, or both have none
+abbrev pub is_same_name : Option (List ℕ) → Option (List ℕ) → Bool
+is_same_name (Some x) (Some y) = bytes_eq x y
+is_same_name None None = true
+is_same_name _ _ = false
+
+-- two keys are the same
+abbrev pub is_same_key : Key → Key → Bool
+is_same_key x y = is_same_name x.name y.name && (x.number == y.number)
+
+-- the key, where there is one, is among these
+abbrev pub is_among : List Key → Option Key → Bool
+is_among keys key = is_and key (λ k. list_any (is_same_key k) keys)
+
+-- the key, where there is one, is the same as this
+abbrev pub is_same : Option Key → Key → Bool
+is_same key k = is_and key (λ l. is_same_key l k)
+
+-- some record has this key
+abbrev pub has_key : Identity → List Record → Key → Bool
+has_key identity all key = list_any (λ r. is_same (key_of identity r) key) all
+
+-- a record with the key of an earlier one
+abbrev pub repeats_key : Identity → List Record → Record → Bool
+repeats_key identity earlier r = is_among (filter_map (key_of identity) earlier) (key_of identity r)
+
+-- the number of the first record with the key of an earlier one
+abbrev pub first_repeat : Identity → List Record → Option ℕ
+first_repeat identity all = first_breaking (λ at. at) (repeats_key identity) all
+
+-- no COMMODITY record has this id, where these are the keys of all
+abbrev pub is_unknown : List Key → List ℕ → Bool
+is_unknown commodities id = not (is_among commodities (Some (named id 0)))
+
+-- it names a commodity that no COMMODITY record has
+abbrev pub names_unknown : List Key → Record → Bool
+names_unknown commodities (record_of.Set x) = false
+names_unknown commodities (record_of.Commodity x) = false
+names_unknown commodities (record_of.Contract x) = is_unknown commodities x.commodity
+names_unknown commodities (record_of.Tier x) = is_unknown commodities x.commodity
+names_unknown commodities (record_of.Intra x) = is_unknown commodities x.commodity
+names_unknown commodities (record_of.Spot x) = is_unknown commodities x.commodity
+names_unknown commodities (record_of.Inter x) = list_any (λ leg. is_unknown commodities leg.commodity) x.legs.items
+
+-- no TIER record has this commodity and number, where these are the keys of all
+abbrev pub is_unknown_tier : List Key → List ℕ → ℕ → Bool
+is_unknown_tier tiers commodity number = not (is_among tiers (Some (named commodity number)))
+
+-- it is an INTRA with a leg whose tier no TIER record of its commodity has
+abbrev pub names_unknown_tier : List Key → Record → Bool
+names_unknown_tier tiers r =
+    is_and (as_intra r) (λ s. list_any (λ leg. is_unknown_tier tiers s.commodity leg.tier) s.legs.items)

@@ -1,0 +1,203 @@
+ghost use Rattle.std.specs.Prelude.{◌≡◌, not, bytes_eq};
+ghost use Rattle.span_tables.specs.Names.{has_repeat};
+ghost use Rattle.std.specs.List.{list_any};
+
+use crate::binding::bind_records;
+use crate::faults::BindFault;
+use span_money::amounts::{Delta, Scale};
+use span_tables::name::Name;
+use span_tables::portfolios::Portfolio;
+use span_tables::records::{Contract, PositionRecord, ProductKind};
+use std::alloc::{AllocError, Global};
+use std::process::Abort;
+use std::test::Fail;
+
+fn name(text: &[u8]) -> Name {
+    Name::new(text).unwrap_or(Name::default())
+}
+
+// The name of a number: a letter and five digits.
+fn numbered(letter: u8, number: u32) -> Name {
+    let digit = |power: u32| b'0' + (number / power % 10) as u8;
+    name(&[
+        letter,
+        digit(10_000),
+        digit(1000),
+        digit(100),
+        digit(10),
+        digit(1),
+    ])
+}
+
+fn contract(id: Name) -> Contract {
+    Contract {
+        id,
+        commodity: name(b"CRUDE"),
+        kind: ProductKind::Future,
+        month: 202503,
+        delta: Delta::new(10_000),
+        scale: Scale::new(10_000),
+        values: [0; 16],
+    }
+}
+
+// So many contracts, C00000 and up.
+fn contracts(alloc: Global, count: u32) -> Result<Vec<Contract>, AllocError> {
+    let mut all = Vec::new(alloc);
+    for number in 0..count {
+        all.push(contract(numbered(b'C', number)))?;
+    }
+    Ok(all)
+}
+
+fn is_among(contracts: &[Contract], id: &Name) -> bool
+    ensures { result ≡ list_any (λ x. bytes_eq id.now x.id) contracts.now }
+{
+    contracts.iter().any(|contract| *id == contract.id)
+}
+
+fn is_apart(contracts: &[Contract]) -> bool
+    ensures { result ≡ not (has_repeat (λ x y. bytes_eq x.id y.id) contracts.now) }
+{
+    match contracts {
+        [] => true,
+        [first, rest @ ..] => !is_among(rest, &first.id) && is_apart(rest),
+    }
+}
+
+fn record(account: &[u8], contract: u32, quantity: i64) -> PositionRecord {
+    PositionRecord {
+        account: name(account),
+        contract: numbered(b'C', contract),
+        quantity,
+    }
+}
+
+// What an account holds: contract numbers and nets.
+fn is_holding(portfolio: &Portfolio, account: &[u8], held: &[(usize, i64)]) -> bool {
+    portfolio.account().as_bytes() == account
+        && portfolio.holdings().len() == held.len()
+        && portfolio.holdings().iter().zip(held).all(|(holding, want)| holding.contract == want.0
+            && holding.net == want.1)
+}
+
+// The fault of records of so many contracts.
+fn fault_of(
+    rt: &impl Abort,
+    alloc: Global,
+    count: u32,
+    records: &[PositionRecord],
+) -> Result<Option<BindFault>, AllocError> {
+    let contracts = contracts(alloc, count)?;
+    assert!(rt; is_apart(&contracts));
+    match bind_records(alloc, &contracts, records) {
+        Ok(_) => Ok(None),
+        Err(BindFault::OutOfMemory) => Err(AllocError),
+        Err(fault) => Ok(Some(fault)),
+    }
+}
+
+#[test]
+fn portfolios_in_order_of_appearance(rt: HostRuntime) -> Result<(), Fail> {
+    let alloc = rt.alloc();
+    let contracts = contracts(alloc, 3)?;
+    assert!(rt; is_apart(&contracts));
+    let records = vec![in alloc;
+        record(b"Y", 2, 10),
+        record(b"X", 1, 100_000),
+        record(b"Y", 0, -4),
+        record(b"X", 1, 1),
+        record(b"Y", 2, 5),
+        record(b"X", 0, 7),
+        record(b"X", 1, -2),
+        record(b"X", 0, -7),
+        record(b"Z", 1, 0),
+    ]?;
+    let all = bind_records(alloc, &contracts, &records)?.into_vec();
+    assert_eq!(rt; all.len(), 3);
+    assert!(rt; is_holding(&all[0], b"Y", &[(0, -4), (2, 15)]));
+    assert!(rt; is_holding(&all[1], b"X", &[(1, 99_999)]));
+    assert!(rt; is_holding(&all[2], b"Z", &[]));
+    Ok(())
+}
+
+#[test]
+fn no_records(rt: HostRuntime) -> Result<(), Fail> {
+    assert_eq!(rt; fault_of(&rt, rt.alloc(), 1, &[])?, None);
+    Ok(())
+}
+
+#[test]
+fn unknown_contract_before_net(rt: HostRuntime) -> Result<(), Fail> {
+    let alloc = rt.alloc();
+    let records = vec![in alloc;
+        record(b"X", 0, 100_001),
+        record(b"Y", 0, 1),
+        record(b"Y", 1, 1),
+        record(b"Z", 2, 1),
+    ]?;
+    assert_eq!(rt;
+        fault_of(&rt, alloc, 1, &records)?,
+        Some(BindFault::UnknownContract {
+            at: 3,
+            account: name(b"Y")
+        })
+    );
+    Ok(())
+}
+
+#[test]
+fn net_out_of_range_at_its_first_record(rt: HostRuntime) -> Result<(), Fail> {
+    let alloc = rt.alloc();
+    let records = vec![in alloc;
+        record(b"X", 0, 100_000),
+        record(b"Y", 1, -1),
+        record(b"X", 1, 5),
+        record(b"Y", 1, -100_000),
+        record(b"X", 0, 1),
+    ]?;
+    assert_eq!(rt;
+        fault_of(&rt, alloc, 2, &records)?,
+        Some(BindFault::NetOutOfRange {
+            at: 1,
+            account: name(b"X")
+        })
+    );
+    assert_eq!(rt;
+        fault_of(&rt, alloc, 2, &records[1..4])?,
+        Some(BindFault::NetOutOfRange {
+            at: 1,
+            account: name(b"Y")
+        })
+    );
+    assert_eq!(rt; fault_of(&rt, alloc, 2, &records[1..3])?, None);
+    Ok(())
+}
+
+#[test]
+fn too_many_held_after_net(rt: HostRuntime) -> Result<(), Fail> {
+    let alloc = rt.alloc();
+    let mut records = vec![in alloc; record(b"Y", 256, 1)]?;
+    for number in 0..257 {
+        records.push(record(b"X", number, 1))?;
+    }
+    assert_eq!(rt;
+        fault_of(&rt, alloc, 257, &records)?,
+        Some(BindFault::TooManyHeld {
+            at: 2,
+            account: name(b"X")
+        })
+    );
+    records.push(record(b"X", 0, -1))?;
+    assert_eq!(rt; fault_of(&rt, alloc, 257, &records)?, None);
+    records.push(record(b"Z", 0, 100_001))?;
+    records.push(record(b"X", 0, 1))?;
+    assert_eq!(rt;
+        fault_of(&rt, alloc, 257, &records)?,
+        Some(BindFault::NetOutOfRange {
+            at: 260,
+            account: name(b"Z")
+        })
+    );
+    Ok(())
+}

@@ -1,0 +1,105 @@
+//! What no two records of a kind may share, as keys of a set.
+ghost use Rattle.std.specs.Prelude.{◌≡◌, ◌++◌, ◌||◌, false, option_to_list, IfOk, OnOk};
+ghost use Rattle.param_check.specs.Keys.{first_repeat, has_key, is_among, is_same, key_of};
+
+use indexmap::IndexSet;
+use span_tables::name::Name;
+use span_tables::records::Record;
+use std::alloc::{AllocError, Global};
+
+/// Which records a key is of, and of what it is made.
+#[derive(Clone, Copy, Debug, PartialEq, Eq)]
+pub(crate) enum Identity {
+    /// The id of a COMMODITY.
+    Commodity,
+    /// The id of a CONTRACT.
+    Contract,
+    /// The commodity and number of a TIER.
+    Tier,
+    /// The commodity and priority of an INTRA, or the priority of an INTER.
+    Priority,
+    /// The commodity and month of a SPOT.
+    SpotMonth,
+}
+
+/// A key of a record: a name where there is one, and a number, which is 0 where there is none.
+#[derive(Debug, Drop, PartialEq, Eq, Hash)]
+pub(crate) struct Key {
+    pub name: Option<Name>,
+    pub number: u32,
+}
+
+/// The key of a record, or `None` where it is of another kind.
+pub(crate) fn key_of(identity: Identity, item: &Record) -> Option<Key>
+    ensures { result ≡ key_of identity item.now }
+{
+    match (identity, item) {
+        (Identity::Commodity, Record::Commodity(commodity)) => Some(named(&commodity.id, 0)),
+        (Identity::Contract, Record::Contract(contract)) => Some(named(&contract.id, 0)),
+        (Identity::Tier, Record::Tier(tier)) => Some(named(&tier.commodity, tier.number)),
+        (Identity::Priority, Record::Intra(spread)) => {
+            Some(named(&spread.commodity, spread.priority))
+        }
+        (Identity::Priority, Record::Inter(spread)) => Some(Key {
+            name: None,
+            number: spread.priority,
+        }),
+        (Identity::SpotMonth, Record::Spot(spot)) => Some(named(&spot.commodity, spot.month)),
+        _ => None,
+    }
+}
+
+/// The key of a name and a number.
+pub(crate) fn named(name: &Name, number: u32) -> Key
+    ensures { result ≡ record { name = Some name.now; number = number } }
+{
+    Key {
+        name: Some(name.copied()),
+        number,
+    }
+}
+
+// Takes the key of a record among those so far, and says whether it was among them.
+fn is_repeat(keys: &mut IndexSet<Key>, key: Option<Key>) -> Result<bool, AllocError>
+    ensures repeats { IfOk result (λ repeats. repeats ≡ is_among keys.old.keys key) }
+    ensures taken { IfOk result (λ repeats. repeats ≡ false → keys.new.keys ≡ keys.old.keys ++ option_to_list key) }
+    ensures members { OnOk result ((k : Key) → is_among keys.new.keys (Some k) ≡ (is_among keys.old.keys (Some k) || is_same key k)) }
+{
+    let Some(key) = key else {
+        return Ok(false);
+    };
+    let is_new = keys.insert(key)?;
+    Ok(!is_new)
+}
+
+/// The number of the first record with the key of an earlier one.
+pub(crate) fn first_repeat(
+    alloc: Global,
+    identity: Identity,
+    records: &[Record],
+) -> Result<Option<usize>, AllocError>
+    ensures { IfOk result (λ at. at ≡ first_repeat identity records.now) }
+{
+    let mut keys = IndexSet::new(alloc);
+    for (index, item) in records.iter().enumerate() {
+        if is_repeat(&mut keys, key_of(identity, item))? {
+            return Ok(Some(index + 1));
+        }
+    }
+    Ok(None)
+}
+
+/// The keys of all records that have one.
+pub(crate) fn all_keys(
+    alloc: Global,
+    identity: Identity,
+    records: &[Record],
+) -> Result<IndexSet<Key>, AllocError>
+    ensures { IfOk result (λ keys. (key : Key) → is_among keys.keys (Some key) ≡ has_key identity records.now key) }
+{
+    let mut keys = IndexSet::new(alloc);
+    for item in records {
+        is_repeat(&mut keys, key_of(identity, item))?;
+    }
+    Ok(keys)
+}

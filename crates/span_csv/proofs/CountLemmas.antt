@@ -1,0 +1,209 @@
+-- A record without a fault, and how many of a kind there are where no record has one.
+use Rattle.std.proofs.Common.{◌≡◌, ◌∙◌, refl, sym, ap, ap₂, subst, arith, inl, inr, ℕ, ◌+◌, ◌≤◌, Bool, true, false, not, cond, ◌&&◌, ◌==◌, if◌then◌else◌, List, [], ◌∷◌, ◌++◌, length, map, Option, Some, None, append_assoc}
+use Rattle.std.specs.Prelude.{⊤, count_by, filter_map, is_none, codes}
+use Rattle.std.specs.List.{cons_option}
+use Rattle.std.specs.Option.{option_map_or}
+use Rattle.std.proofs.lemmas.Bool.{eqb-true, eqb-false, cases_Bool, false_from_ne_true}
+use Rattle.std.proofs.lemmas.List.{append-nil}
+use Rattle.std.proofs.lemmas.List.Sums.{sum_by-cons, sum_by_push}
+use Rattle.span_tables.specs.Faults.{first_that_holds}
+use Rattle.span_tables.specs.Laws.{IsFaultFree}
+use Rattle.span_tables.specs.declared.records.Record.{Record}
+use Rattle.span_tables.proofs.NameLemmas.{same_name}
+use Rattle.span_csv.specs.Records.{Fields, RecordKind, a_set, a_commodity, a_contract, a_tier, an_intra, a_spot, an_inter, has_word_form, is_in_range, kind_named, kind_of, layout_of, is_word, text_at, record_of_kind, param_record}
+use Rattle.span_csv.specs.ParamFaults.{is_set, some_fail, exceeds_limit, param_faults}
+use Rattle.span_csv.specs.declared.faults.ParamFault.{ParamFault}
+
+-- ---- a record without a fault
+
+-- no test of the faults behind these holds
+pub record IsClean (earlier : List Fields) (r : Fields) : Type 0 where
+  pub first : ((length earlier == 0) && not (is_set r)) ≡ false
+  pub second : (not (length earlier == 0) && is_set r) ≡ false
+  pub kind : is_none (kind_of r) ≡ false
+  pub layout : is_none (layout_of r) ≡ false
+  pub words : some_fail has_word_form r ≡ false
+  pub ranges : some_fail is_in_range r ≡ false
+  pub room : exceeds_limit earlier r (kind_of r) ≡ false
+
+-- the fault of a record behind earlier ones
+abbrev pub fault_of : List Fields → Fields → Option (ℕ → ParamFault)
+fault_of earlier r = first_that_holds (param_faults earlier r)
+
+-- no test holds
+abbrev AllFalse : {F : Type 0} → List (Bool × F) → Type 0
+AllFalse [] = ⊤
+AllFalse (x ∷ xs) = (x.0 ≡ false) × AllFalse xs
+
+by_head : {F : Type 0} (b : Bool) (f : F) (rest : Option F) → (if b then Some f else rest) ≡ None → (b ≡ false) × (rest ≡ None)
+by_head true f rest e = cc
+by_head false f rest e = (refl, e)
+
+none_holds : {F : Type 0} (xs : List (Bool × F)) → first_that_holds xs ≡ None → AllFalse xs
+none_holds [] e = tt
+none_holds (x ∷ xs) e = let parts = by_head x.0 x.1 (first_that_holds xs) e in (parts.0, none_holds xs parts.1)
+
+pub clean : (earlier : List Fields) (r : Fields) → fault_of earlier r ≡ None → IsClean earlier r
+clean earlier r e =
+    let h = none_holds (param_faults earlier r) e in
+    record {
+      first = h.0;
+      second = h.1.0;
+      kind = h.1.1.0;
+      layout = h.1.1.1.0;
+      words = h.1.1.1.1.0;
+      ranges = h.1.1.1.1.1.1.0;
+      room = h.1.1.1.1.1.1.1.0;
+    }
+
+-- ---- kinds and their words
+
+abbrev pub word_of : RecordKind → List ℕ
+word_of a_set = codes "SET"
+word_of a_commodity = codes "COMMODITY"
+word_of a_contract = codes "CONTRACT"
+word_of a_tier = codes "TIER"
+word_of an_intra = codes "INTRA"
+word_of a_spot = codes "SPOT"
+word_of an_inter = codes "INTER"
+
+-- the record's first field is the word of a kind
+abbrev pub has_kind : RecordKind → Fields → Bool
+has_kind kind r = is_word (word_of kind) (text_at r 0)
+
+by_test : (b : Bool) (j k : RecordKind) (rest : Option RecordKind) (P : RecordKind → Type 0) → (b ≡ true → P j) → (rest ≡ Some k → P k)
+    → (if b then Some j else rest) ≡ Some k → P k
+by_test true j k rest P here later e = let same : j ≡ k = cc in subst P same (here refl)
+by_test false j k rest P here later e = later e
+
+abbrev pub IsWord : List ℕ → RecordKind → Type 0
+IsWord text kind = is_word (word_of kind) text ≡ true
+
+-- a kind is named by its word
+pub named_word : (text : List ℕ) (k : RecordKind) → kind_named text ≡ Some k → IsWord text k
+named_word text k e =
+    by_test (is_word (codes "SET") text) a_set k _ (IsWord text) (λ h. h)
+    (by_test (is_word (codes "COMMODITY") text) a_commodity k _ (IsWord text) (λ h. h)
+    (by_test (is_word (codes "CONTRACT") text) a_contract k _ (IsWord text) (λ h. h)
+    (by_test (is_word (codes "TIER") text) a_tier k _ (IsWord text) (λ h. h)
+    (by_test (is_word (codes "INTRA") text) an_intra k _ (IsWord text) (λ h. h)
+    (by_test (is_word (codes "SPOT") text) a_spot k _ (IsWord text) (λ h. h)
+    (by_test (is_word (codes "INTER") text) an_inter k _ (IsWord text) (λ h. h) (λ h. cc)))))))
+    e
+
+kind_of_word : (k : RecordKind) → kind_named (word_of k) ≡ Some k
+kind_of_word a_set = refl
+kind_of_word a_commodity = refl
+kind_of_word a_contract = refl
+kind_of_word a_tier = refl
+kind_of_word an_intra = refl
+kind_of_word a_spot = refl
+kind_of_word an_inter = refl
+
+-- and a word names its kind
+pub word_named : (r : Fields) (k : RecordKind) → has_kind k r ≡ true → kind_of r ≡ Some k
+word_named r k h = ap kind_named (same_name (text_at r 0) (word_of k) h) ∙ kind_of_word k
+
+abbrev rank : RecordKind → ℕ
+rank a_set = 0
+rank a_commodity = 1
+rank a_contract = 2
+rank a_tier = 3
+rank an_intra = 4
+rank a_spot = 5
+rank an_inter = 6
+
+-- two kinds are the same
+abbrev pub same_kind : RecordKind → RecordKind → Bool
+same_kind j k = rank j == rank k
+
+abbrev kind_at : ℕ → RecordKind
+kind_at n =
+    if n == 0 then a_set else if n == 1 then a_commodity else if n == 2 then a_contract else if n == 3 then a_tier else if n == 4 then an_intra
+    else if n == 5 then a_spot else an_inter
+
+kind_at-rank : (k : RecordKind) → kind_at (rank k) ≡ k
+kind_at-rank a_set = refl
+kind_at-rank a_commodity = refl
+kind_at-rank a_contract = refl
+kind_at-rank a_tier = refl
+kind_at-rank an_intra = refl
+kind_at-rank a_spot = refl
+kind_at-rank an_inter = refl
+
+-- a record of one kind has the word of just that kind
+has_kind-same : (r : Fields) (j k : RecordKind) → kind_of r ≡ Some j → has_kind k r ≡ same_kind j k
+has_kind-same r j k e =
+    elim (cases_Bool (rank j == rank k)) [
+      | inl same ↦
+          let kinds : j ≡ k = sym (kind_at-rank j) ∙ ap kind_at (eqb-true (rank j) (rank k) same) ∙ kind_at-rank k in
+          subst (IsWord (text_at r 0)) kinds (named_word (text_at r 0) j e) ∙ sym same
+      | inr apart ↦
+          false_from_ne_true (has_kind k r) (λ h.
+          let named = word_named r k h in
+          let kinds : j ≡ k = cc in
+          eqb-false (rank j) (rank k) apart (ap rank kinds))
+          ∙ sym apart
+    ]
+
+-- what is there
+pub some_of : {A : Type 0} (o : Option A) → is_none o ≡ false → (x : A) × (o ≡ Some x)
+some_of None e = cc
+some_of (Some x) e = (x, refl)
+
+-- the kind of a record without a fault
+pub clean_kind : (earlier : List Fields) (r : Fields) → IsClean earlier r → (k : RecordKind) × (kind_of r ≡ Some k)
+clean_kind earlier r c = some_of (kind_of r) c.kind
+
+-- what it says is of that kind
+pub param_record-kind : (r : Fields) (k : RecordKind) → kind_of r ≡ Some k → param_record r ≡ record_of_kind k r
+unfolding param_record
+param_record-kind r k e = rw e refl
+
+-- ---- counts
+
+-- whether something passes a test, where there is something
+abbrev pub passes : {A : Type 0} → (A → Bool) → Option A → Bool
+passes test o = option_map_or test o false
+
+-- what a record of a kind gives passes a test if the record does
+abbrev pub IsPicked : {A : Type 0} → RecordKind → (Record → Option A) → (A → Bool) → (Fields → Bool) → Type 0
+IsPicked kind pick test of_fields = (k : RecordKind) (r : Fields) → passes test (pick (record_of_kind k r)) ≡ (same_kind k kind && of_fields r)
+
+count_by-cons_option : {A : Type 0} (test : A → Bool) (o : Option A) (xs : List A)
+    → count_by test (cons_option o xs) ≡ cond (passes test o) 1 0 + count_by test xs
+count_by-cons_option test None xs = omega arith
+count_by-cons_option test (Some x) xs = sum_by-cons (λ y. cond (test y) 1 0) x xs
+
+-- what records without a fault give is counted by their fields
+pub count_picked : {A : Type 0} (kind : RecordKind) (pick : Record → Option A) (test : A → Bool) (of_fields : Fields → Bool) → IsPicked kind pick test of_fields
+    → (before rows : List Fields) → IsFaultFree fault_of before rows
+    → count_by test (filter_map pick (map param_record rows)) ≡ count_by (λ r. has_kind kind r && of_fields r) rows
+count_picked kind pick test of_fields picked before [] free = refl
+count_picked kind pick test of_fields picked before (r ∷ rows) free =
+    let k = clean_kind before r (clean before r free.0) in
+    let here : passes test (pick (param_record r)) ≡ (has_kind kind r && of_fields r) =
+    ap (λ (x : Record). passes test (pick x)) (param_record-kind r k.0 k.1) ∙ picked k.0 r
+    ∙ ap (λ b. b && of_fields r) (sym (has_kind-same r k.0 kind k.1)) in
+    count_by-cons_option test (pick (param_record r)) (filter_map pick (map param_record rows))
+    ∙ ap₂ (λ b n. cond b 1 0 + n) here (count_picked kind pick test of_fields picked (before ++ r ∷ []) rows free.1)
+    ∙ sym (sum_by-cons (λ x. cond (has_kind kind x && of_fields x) 1 0) r rows)
+
+count_push : (test : Fields → Bool) (rows : List Fields) (r : Fields) (most : ℕ) → count_by test rows ≤ most → (test r ≡ true → (count_by test rows == most) ≡ false)
+    → count_by test (rows ++ r ∷ []) ≤ most
+count_push test rows r most le room =
+    elim (cases_Bool (test r)) [
+      | inl counts ↦
+          let apart = eqb-false (count_by test rows) most (room counts) in
+          rw (sum_by_push (λ x. cond (test x) 1 0) rows r, counts) (omega (arith, apart))
+      | inr other ↦ rw (sum_by_push (λ x. cond (test x) 1 0) rows r, other) (omega arith)
+    ]
+
+-- no more pass a test than may, where none without a fault is one more
+pub never_more : (test : Fields → Bool) (most : ℕ)
+    → ((earlier : List Fields) (r : Fields) → IsClean earlier r → test r ≡ true → (count_by test earlier == most) ≡ false)
+    → (before rows : List Fields) → count_by test before ≤ most → IsFaultFree fault_of before rows → count_by test (before ++ rows) ≤ most
+never_more test most room before [] le free = rw (append-nil before) le
+never_more test most room before (r ∷ rows) le free =
+    rw (← append_assoc before (r ∷ []) rows)
+    (never_more test most room (before ++ r ∷ []) rows (count_push test before r most le (room before r (clean before r free.0))) free.1)

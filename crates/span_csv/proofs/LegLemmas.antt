@@ -1,0 +1,59 @@
+-- The fields of the legs of a spread's record.
+use Rattle.std.proofs.Common.{◌≡◌, ◌<◌, ◌≤◌, ◌+◌, ◌-◌, ◌*◌, ◌∙◌, sym, ap, subst, refl, arith, zero, suc, ℕ, List, [], ◌∷◌, ◌++◌, length, get_or, drop, map, inl, inr, true}
+use Rattle.std.specs.Prelude.{pos}
+use Rattle.std.proofs.lemmas.List.{at_drop_more, at_drop_all, append_assoc, append-nil}
+use Rattle.span_tables.specs.Names.{is_name}
+use Rattle.span_tables.specs.declared.limits.TheConstants.{MAX_TIER_NUMBER, MAX_RATIO}
+use Rattle.span_csv.specs.Grammar.{HasForms, form_at, leg_at}
+use Rattle.span_csv.specs.Records.{Fields, a_name, a_whole, a_decimal, an_intra, an_inter, text_at, count_at, ratio_at, legs_of}
+use Rattle.span_csv.proofs.NumberLemmas.{name_field, count_field, ratio_field}
+
+-- ---- what the fields of a leg are
+
+tier_form : (i : ℕ) → i < 4 → form_at an_intra (3 + 3 * i) ≡ a_whole (pos 1) (pos MAX_TIER_NUMBER)
+tier_form zero few = refl
+tier_form (suc zero) few = refl
+tier_form (suc (suc zero)) few = refl
+tier_form (suc (suc (suc zero))) few = refl
+tier_form (suc (suc (suc (suc n)))) few = absurd (omega arith)
+
+intra_ratio_form : (i : ℕ) → i < 4 → form_at an_intra (5 + 3 * i) ≡ a_decimal (pos 1) (pos MAX_RATIO)
+intra_ratio_form zero few = refl
+intra_ratio_form (suc zero) few = refl
+intra_ratio_form (suc (suc zero)) few = refl
+intra_ratio_form (suc (suc (suc zero))) few = refl
+intra_ratio_form (suc (suc (suc (suc n)))) few = absurd (omega arith)
+
+commodity_form : (i : ℕ) → i < 4 → form_at an_inter (2 + 3 * i) ≡ a_name
+commodity_form zero few = refl
+commodity_form (suc zero) few = refl
+commodity_form (suc (suc zero)) few = refl
+commodity_form (suc (suc (suc zero))) few = refl
+commodity_form (suc (suc (suc (suc n)))) few = absurd (omega arith)
+
+inter_ratio_form : (i : ℕ) → i < 4 → form_at an_inter (4 + 3 * i) ≡ a_decimal (pos 1) (pos MAX_RATIO)
+inter_ratio_form zero few = refl
+inter_ratio_form (suc zero) few = refl
+inter_ratio_form (suc (suc zero)) few = refl
+inter_ratio_form (suc (suc (suc zero))) few = refl
+inter_ratio_form (suc (suc (suc (suc n)))) few = absurd (omega arith)
+
+pub intra_tier : (r : Fields) (i at : ℕ) → HasForms an_intra r → i < 4 → at ≡ 4 + 3 * i → at < length r → count_at r at ≤ MAX_TIER_NUMBER
+intra_tier r i at h few is inside =
+    let same : 3 + 3 * i + 1 ≡ at = omega arith in
+    subst (λ n. count_at r n ≤ MAX_TIER_NUMBER) same (count_field an_intra r (3 + 3 * i) (pos 1) MAX_TIER_NUMBER h (omega arith) (tier_form i few))
+
+pub intra_ratio : (r : Fields) (i at : ℕ) → HasForms an_intra r → i < 4 → at ≡ 6 + 3 * i → at < length r → ratio_at r at ≤ MAX_RATIO
+intra_ratio r i at h few is inside =
+    let same : 5 + 3 * i + 1 ≡ at = omega arith in
+    subst (λ n. ratio_at r n ≤ MAX_RATIO) same (ratio_field an_intra r (5 + 3 * i) (pos 1) MAX_RATIO h (omega arith) (intra_ratio_form i few))
+
+pub inter_commodity : (r : Fields) (i at : ℕ) → HasForms an_inter r → i < 4 → at ≡ 3 + 3 * i → at < length r → is_name (text_at r at) ≡ true
+inter_commodity r i at h few is inside =
+    let same : 2 + 3 * i + 1 ≡ at = omega arith in
+    subst (λ n. is_name (text_at r n) ≡ true) same (name_field an_inter r (2 + 3 * i) h (omega arith) (commodity_form i few))
+
+pub inter_ratio : (r : Fields) (i at : ℕ) → HasForms an_inter r → i < 4 → at ≡ 5 + 3 * i → at < length r → ratio_at r at ≤ MAX_RATIO
+inter_ratio r i at h few is inside =
+    let same : 4 + 3 * i + 1 ≡ at = omega arith in
+    subst (λ n. ratio_at r n ≤ MAX_RATIO) same (ratio_field an_inter r (4 + 3 * i) (pos 1) MAX_RATIO h (omega arith) (inter_ratio_form i few))

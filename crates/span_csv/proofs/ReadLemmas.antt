@@ -1,0 +1,119 @@
+-- The reading of a file, one record after another.
+use Rattle.std.proofs.Common.{◌≡◌, ◌+◌, ◌∙◌, sym, ap, refl, arith, ℕ, Bool, true, false, List, [], ◌∷◌, ◌++◌, length, map, Option, Some, None, Result, Ok, Err}
+use Rattle.std.specs.Prelude.{⊤, option_map, MatchBool, ◌==◌}
+use Rattle.std.specs.Option.{option_or}
+use Rattle.std.proofs.lemmas.Bool.{eqb-true, false≢true}
+use Rattle.std.proofs.lemmas.List.{append_assoc, append-nil, map-append, length-map}
+use Rattle.span_tables.specs.Faults.{first_that_holds, first_fault_after, ok_unless}
+use Rattle.span_tables.specs.declared.records.Record.{Record}
+use Rattle.span_csv.specs.Checks.{HasTallied, IsFaultOf, NextIs, Tallies}
+use Rattle.span_csv.specs.ParamFaults.{param_faults, param_fault, params_of, is_memory}
+use Rattle.span_csv.specs.Records.{Fields, records_of, param_record}
+use Rattle.span_csv.specs.declared.faults.ParamFault.{ParamFault}
+use Rattle.span_csv.specs.declared.faults.ParamFault.TheVariants as fault
+use Rattle.span_csv.specs.declared.tally.Tally.{Tally}
+
+-- the fault of a record behind earlier ones
+abbrev pub fault_of : List Fields → Fields → Option (ℕ → ParamFault)
+fault_of earlier r = first_that_holds (param_faults earlier r)
+
+-- the records so far say these records and have no fault, and the rest has that of the whole
+pub record IsSoFar (all : List Fields) (xs : List Record) (t : Tally) (rest : List Fields) : Type 0 where
+  pub earlier : List Fields
+  pub whole : earlier ++ rest ≡ all
+  pub said : xs ≡ map param_record earlier
+  pub tallies : Tallies t earlier
+  pub answer : first_fault_after fault_of earlier rest ≡ first_fault_after fault_of [] all
+
+-- nothing was read
+pub so_far_none : (all : List Fields) (xs : List Record) (t : Tally) → xs ≡ [] → Tallies t [] → IsSoFar all xs t all
+so_far_none all xs t none tallies = record { earlier = []; whole = refl; said = none; tallies = tallies; answer = refl }
+
+pub so_far_count : (all : List Fields) (xs : List Record) (t : Tally) (rest : List Fields) (s : IsSoFar all xs t rest) → length s.earlier ≡ length xs
+so_far_count all xs t rest s = let len : length (map param_record s.earlier) ≡ length s.earlier = simp length-map in sym (ap length s.said ∙ len)
+
+-- as many were counted as were read
+pub so_far_tallied : (all : List Fields) (xs : List Record) (t : Tally) (rest : List Fields) → IsSoFar all xs t rest → HasTallied t (length xs)
+so_far_tallied all xs t rest s = (s.earlier, so_far_count all xs t rest s, s.tallies)
+
+-- a record without a fault is read
+pub so_far_more : (all : List Fields) (xs : List Record) (t u : Tally) (r : Fields) (before rest : List Fields) (x : Record) (s : IsSoFar all xs t before) → before ≡ r ∷ rest
+    → NextIs s.earlier r (Ok x) u → IsSoFar all (xs ++ x ∷ []) u rest
+so_far_more all xs t u r before rest x s is next = record {
+  earlier = s.earlier ++ r ∷ [];
+  whole = append_assoc s.earlier (r ∷ []) rest ∙ ap (λ zs. s.earlier ++ zs) (sym is) ∙ s.whole;
+  said = ap (λ zs. zs ++ x ∷ []) s.said ∙ ap (λ y. map param_record s.earlier ++ y ∷ []) next.1 ∙ sym (map-append param_record s.earlier (r ∷ []));
+  tallies = next.2;
+  answer =
+      let here : first_fault_after fault_of s.earlier (r ∷ rest) ≡ first_fault_after fault_of [] all = ap (first_fault_after fault_of s.earlier) (sym is) ∙ s.answer in
+      sym (ap (λ o. option_or (option_map (λ f. f (length s.earlier + 1)) o) (first_fault_after fault_of (s.earlier ++ r ∷ []) rest)) next.0) ∙ here;
+}
+
+-- ---- the answer
+
+params_fault : (bytes : List ℕ) (e : ParamFault) → param_fault (records_of bytes) ≡ Some e → params_of bytes ≡ Err e
+unfolding params_of
+params_fault bytes e is = ap (λ o. ok_unless o (map param_record (records_of bytes))) is
+
+params_none : (bytes : List ℕ) → param_fault (records_of bytes) ≡ None → params_of bytes ≡ Ok (map param_record (records_of bytes))
+unfolding params_of
+params_none bytes is = ap (λ o. ok_unless o (map param_record (records_of bytes))) is
+
+some_records : (all : List Fields) → (all ≡ [] → ⊥) → param_fault all ≡ first_fault_after fault_of [] all
+unfolding param_fault
+some_records [] some = absurd (some refl)
+some_records (r ∷ rs) some = refl
+
+no_records : (all : List Fields) → all ≡ [] → param_fault all ≡ Some (fault.NoSet 0)
+unfolding param_fault
+no_records [] none = refl
+no_records (r ∷ rs) none = cc
+
+map_empty : (rs : List Fields) → map param_record rs ≡ [] → rs ≡ []
+map_empty [] e = refl
+map_empty (r ∷ rs) e = cc
+
+not_empty : (earlier : List Fields) (r : Fields) (rest : List Fields) → earlier ++ r ∷ rest ≡ [] → ⊥
+not_empty [] r rest e = cc
+not_empty (x ∷ earlier) r rest e = cc
+
+on_match : (b : Bool) (P Q : Type 0) → (P → Q) → MatchBool b ⊤ P → MatchBool b ⊤ Q
+on_match true P Q f h = tt
+on_match false P Q f h = f h
+
+ended : (all : List Fields) (xs : List Record) (t : Tally) (rest : List Fields) (s : IsSoFar all xs t rest) → rest ≡ [] → s.earlier ≡ all
+ended all xs t rest s end = sym (append-nil s.earlier) ∙ ap (λ zs. s.earlier ++ zs) (sym end) ∙ s.whole
+
+-- a file without a record
+pub read_empty : (bytes : List ℕ) (xs : List Record) (t : Tally) (rest : List Fields) → IsSoFar (records_of bytes) xs t rest → rest ≡ [] → xs ≡ [] → params_of bytes ≡ Err (fault.NoSet 0)
+read_empty bytes xs t rest s end none =
+    params_fault bytes (fault.NoSet 0) (no_records (records_of bytes) (sym (ended (records_of bytes) xs t rest s end) ∙ map_empty s.earlier (sym s.said ∙ none)))
+
+-- all records of a file
+pub read_all : (bytes : List ℕ) (xs : List Record) (t : Tally) (rest : List Fields) → IsSoFar (records_of bytes) xs t rest → rest ≡ [] → (xs ≡ [] → ⊥) → params_of bytes ≡ Ok xs
+read_all bytes xs t rest s end some =
+    let all = ended (records_of bytes) xs t rest s end in
+    let none : first_fault_after fault_of [] (records_of bytes) ≡ None = sym s.answer ∙ ap (first_fault_after fault_of s.earlier) end in
+    let given : records_of bytes ≡ [] → ⊥ = λ e. some (s.said ∙ ap (map param_record) (all ∙ e)) in
+    params_none bytes (some_records (records_of bytes) given ∙ none) ∙ ap Ok (ap (map param_record) (sym all) ∙ sym s.said)
+
+-- a record with a fault
+pub read_fault : (bytes : List ℕ) (xs : List Record) (t : Tally) (r : Fields) (before rest : List Fields) (e : ParamFault) (s : IsSoFar (records_of bytes) xs t before) → before ≡ r ∷ rest
+    → MatchBool (is_memory e) ⊤ (IsFaultOf (param_faults s.earlier r) (length s.earlier + 1) e) → MatchBool (is_memory e) ⊤ (params_of bytes ≡ Err e)
+read_fault bytes xs t r before rest e s is h =
+    let given : records_of bytes ≡ [] → ⊥ = λ none. not_empty s.earlier r rest (ap (λ zs. s.earlier ++ zs) (sym is) ∙ s.whole ∙ none) in
+    on_match (is_memory e) (IsFaultOf (param_faults s.earlier r) (length s.earlier + 1) e) (params_of bytes ≡ Err e)
+    (λ here.
+        let first : first_fault_after fault_of s.earlier (r ∷ rest) ≡ Some e = ap (λ o. option_or o (first_fault_after fault_of (s.earlier ++ r ∷ []) rest)) here in
+        params_fault bytes e (some_records (records_of bytes) given ∙ sym s.answer ∙ ap (first_fault_after fault_of s.earlier) is ∙ first))
+    h
+
+-- ---- a test for no records
+
+pub is_emptied : (xs : List Record) (n : ℕ) (b : Bool) → n ≡ length xs → b ≡ (n == 0) → b ≡ true → xs ≡ []
+is_emptied [] n b size test e = refl
+is_emptied (x ∷ xs) n b size test e = let none = eqb-true n 0 (sym test ∙ e) in absurd (omega arith)
+
+pub not_emptied : (xs : List Record) (n : ℕ) (b : Bool) → n ≡ length xs → b ≡ (n == 0) → b ≡ false → xs ≡ [] → ⊥
+not_emptied [] n b size test e none = false≢true (sym e ∙ test ∙ ap (λ k. k == 0) size)
+not_emptied (x ∷ xs) n b size test e none = cc

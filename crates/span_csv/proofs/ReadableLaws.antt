@@ -1,0 +1,204 @@
+-- The records of a parameter file without a fault are in their ranges, and no more of a kind than there may be.
+use Rattle.std.proofs.Common.{◌≡◌, ◌∙◌, refl, sym, ap, subst, arith, ℕ, ◌-◌, ◌<◌, Bool, true, false, not, ◌&&◌, ◌==◌, List, [], ◌∷◌, ◌++◌, length, length-append, map, Option, Some, None, Ok}
+use Rattle.std.specs.Prelude.{nat_le, count_by, filter_map, is_some, bytes_eq}
+use Rattle.std.specs.List.{list_all}
+use Rattle.std.proofs.lemmas.Bool.{and_parts, and_from, le-leb, ne_eqb, not-false, both_ways}
+use Rattle.std.proofs.lemmas.List.Sums.{sum_by-cons}
+use Rattle.span_tables.specs.Faults.{ok_unless}
+use Rattle.span_tables.specs.Laws.{IsFaultFree}
+use Rattle.span_tables.specs.Rules.{as_set, as_commodity, as_contract, as_tier, as_intra, as_spot, as_inter}
+use Rattle.span_tables.specs.Limits.{in_range, at_most_each, keeps_counts, is_readable}
+use Rattle.span_tables.specs.declared.limits.TheConstants.{MAX_COMMODITIES, MAX_CONTRACTS, MAX_TIERS, MAX_INTRA_SPREADS, MAX_SPOT_MONTHS, MAX_INTER_SPREADS}
+use Rattle.span_tables.specs.declared.records.Record.{Record}
+use Rattle.span_tables.proofs.FaultLaws.{first_fault_none}
+use Rattle.span_tables.proofs.NameLemmas.{same_name}
+use Rattle.span_csv.specs.Records.{Form, Fields, RecordKind, a_set, a_commodity, a_contract, a_tier, an_intra, a_spot, an_inter, records_of, all_have, has_word_form, is_in_range, forms_of, kind_of, layout_of, text_at, record_of_kind, param_record}
+use Rattle.span_csv.specs.ParamFaults.{is_set, some_fail, exceeds_limit, count_of_kind, count_of_commodity, param_fault, params_of}
+use Rattle.span_csv.proofs.RangeLemmas.{record_in_range}
+use Rattle.span_csv.proofs.CountLemmas.{IsClean, fault_of, clean, clean_kind, param_record-kind, has_kind, word_of, named_word, some_of, word_named, IsPicked, count_picked, never_more}
+
+-- ---- ranges
+
+-- no field fails a test where some_fail does not hold
+all_pass : (test : Form → List ℕ → Bool) (word : List ℕ) (fields : Fields) (forms : List Form) → layout_of (word ∷ fields) ≡ Some forms
+    → some_fail test (word ∷ fields) ≡ false → all_have test forms fields ≡ true
+all_pass test word fields forms found e =
+    let h = rw found at e in
+    not-false (all_have test forms fields) h
+
+-- a record without a fault is in its ranges
+clean_in_range : (earlier : List Fields) (r : Fields) → IsClean earlier r → in_range (param_record r) ≡ true
+clean_in_range earlier [] c = let e = c.kind in cc
+clean_in_range earlier (word ∷ fields) c =
+    let k = clean_kind earlier (word ∷ fields) c in
+    let forms = some_of (layout_of (word ∷ fields)) c.layout in
+    let count : length (word ∷ fields) - 1 ≡ length fields = omega arith in
+    let layout : layout_of (word ∷ fields) ≡ forms_of k.0 (length fields) = rw (k.1, count) refl in
+    rw (param_record-kind (word ∷ fields) k.0 k.1)
+    (record_in_range k.0 word fields forms.0 (sym layout ∙ forms.1) (record {
+      words = all_pass has_word_form word fields forms.0 forms.1 c.words;
+      ranges = all_pass is_in_range word fields forms.0 forms.1 c.ranges;
+    }))
+
+all_in_range : (before rows : List Fields) → IsFaultFree fault_of before rows → list_all in_range (map param_record rows) ≡ true
+all_in_range before [] free = refl
+all_in_range before (r ∷ rows) free =
+    and_from _ _ (clean_in_range before r (clean before r free.0)) (all_in_range (before ++ r ∷ []) rows free.1)
+
+-- ---- the SET
+
+-- the first is one
+first_set : (r : Fields) → IsClean [] r → is_some (as_set (param_record r)) ≡ true
+first_set r c =
+    let word : is_set r ≡ true = not-false (is_set r) c.first in
+    rw (param_record-kind r a_set (word_named r a_set word)) refl
+
+not_set : (k : RecordKind) (r : Fields) → kind_of r ≡ Some k → is_set r ≡ false → not (is_some (as_set (record_of_kind k r))) ≡ true
+not_set a_set r e other = absurd (both_ways (is_set r) other (named_word (text_at r 0) a_set e))
+not_set a_commodity r e other = refl
+not_set a_contract r e other = refl
+not_set a_tier r e other = refl
+not_set an_intra r e other = refl
+not_set a_spot r e other = refl
+not_set an_inter r e other = refl
+
+-- and none behind it
+later_set : (earlier : List Fields) (r : Fields) → 0 < length earlier → IsClean earlier r → not (is_some (as_set (param_record r))) ≡ true
+later_set earlier r some c =
+    let k = clean_kind earlier r c in
+    let behind : (length earlier == 0) ≡ false = ne_eqb (length earlier) 0 (λ e. absurd (omega (arith, e))) in
+    let other : is_set r ≡ false = rw behind at c.second in
+    rw (param_record-kind r k.0 k.1) (not_set k.0 r k.1 other)
+
+no_more_sets : (before rows : List Fields) → 0 < length before → IsFaultFree fault_of before rows
+    → list_all (λ x. not (is_some (as_set x))) (map param_record rows) ≡ true
+no_more_sets before [] some free = refl
+no_more_sets before (r ∷ rows) some free =
+    and_from _ _ (later_set before r some (clean before r free.0))
+    (no_more_sets (before ++ r ∷ []) rows (omega (arith, length-append before (r ∷ []))) free.1)
+
+-- ---- counts
+
+and_true : (b : Bool) → (b && true) ≡ b
+and_true true = refl
+and_true false = refl
+
+-- records of a kind with a limit
+kind_room : (kind : RecordKind) (most : ℕ) → ((earlier : List Fields) (r : Fields) → exceeds_limit earlier r (Some kind) ≡ (count_of_kind earlier r == most))
+    → (earlier : List Fields) (r : Fields) → IsClean earlier r → (has_kind kind r && true) ≡ true
+    → (count_by (λ x. has_kind kind x && true) earlier == most) ≡ false
+kind_room kind most limit earlier r c h =
+    let word = (and_parts (has_kind kind r) true h).0 in
+    let one_more : exceeds_limit earlier r (Some kind) ≡ false = subst (λ k. exceeds_limit earlier r k ≡ false) (word_named r kind word) c.room in
+    let counts : (count_by (λ x. bytes_eq (text_at x 0) (text_at r 0)) earlier == most) ≡ false = sym (limit earlier r) ∙ one_more in
+    let named = subst (λ w. (count_by (λ (x : Fields). bytes_eq (text_at x 0) w) earlier == most) ≡ false) (same_name (text_at r 0) (word_of kind) word) counts in
+    ap (λ (p : Fields → Bool). count_by p earlier == most) (λ i. λ x. and_true (has_kind kind x) i) ∙ named
+
+length-count : {A : Type 0} (xs : List A) → count_by (λ x. true) xs ≡ length xs
+length-count [] = refl
+length-count (x ∷ xs) = sum_by-cons (λ x. 1) x xs ∙ omega (arith, length-count xs)
+
+few_of_kind : {A : Type 0} (kind : RecordKind) (most : ℕ) (pick : Record → Option A)
+    → ((earlier : List Fields) (r : Fields) → exceeds_limit earlier r (Some kind) ≡ (count_of_kind earlier r == most))
+    → IsPicked kind pick (λ x. true) (λ r. true) → (rows : List Fields) → IsFaultFree fault_of [] rows
+    → nat_le (length (filter_map pick (map param_record rows))) most ≡ true
+few_of_kind kind most pick limit picked rows free =
+    let few = never_more (λ r. has_kind kind r && true) most (kind_room kind most limit) [] rows (omega arith) free in
+    let same = count_picked kind pick (λ x. true) (λ r. true) picked [] rows free in
+    let all = length-count (filter_map pick (map param_record rows)) in
+    le-leb _ most (omega (arith, few, same, all))
+
+-- records of a kind with a limit for each commodity
+commodity_room : (kind : RecordKind) (most : ℕ) (commodity : List ℕ)
+    → ((earlier : List Fields) (r : Fields) → exceeds_limit earlier r (Some kind) ≡ (count_of_commodity earlier r == most))
+    → (earlier : List Fields) (r : Fields) → IsClean earlier r → (has_kind kind r && bytes_eq (text_at r 1) commodity) ≡ true
+    → (count_by (λ x. has_kind kind x && bytes_eq (text_at x 1) commodity) earlier == most) ≡ false
+commodity_room kind most commodity limit earlier r c h =
+    let parts = and_parts (has_kind kind r) (bytes_eq (text_at r 1) commodity) h in
+    let one_more : exceeds_limit earlier r (Some kind) ≡ false = subst (λ k. exceeds_limit earlier r k ≡ false) (word_named r kind parts.0) c.room in
+    let counts : (count_by (λ x. bytes_eq (text_at x 0) (text_at r 0) && bytes_eq (text_at x 1) (text_at r 1)) earlier == most) ≡ false =
+    sym (limit earlier r) ∙ one_more in
+    let named = subst (λ w. (count_by (λ (x : Fields). bytes_eq (text_at x 0) w && bytes_eq (text_at x 1) (text_at r 1)) earlier == most) ≡ false)
+    (same_name (text_at r 0) (word_of kind) parts.0) counts in
+    subst (λ w. (count_by (λ (x : Fields). has_kind kind x && bytes_eq (text_at x 1) w) earlier == most) ≡ false) (same_name (text_at r 1) commodity parts.1) named
+
+all_true : {A : Type 0} (test : A → Bool) (xs : List A) → ((x : A) → test x ≡ true) → list_all test xs ≡ true
+all_true test [] each = refl
+all_true test (x ∷ xs) each = and_from (test x) (list_all test xs) (each x) (all_true test xs each)
+
+few_of_each : {A : Type 0} (kind : RecordKind) (most : ℕ) (pick : Record → Option A) (commodity_of : A → List ℕ)
+    → ((earlier : List Fields) (r : Fields) → exceeds_limit earlier r (Some kind) ≡ (count_of_commodity earlier r == most))
+    → ((commodity : List ℕ) → IsPicked kind pick (λ x. bytes_eq (commodity_of x) commodity) (λ r. bytes_eq (text_at r 1) commodity))
+    → (rows : List Fields) → IsFaultFree fault_of [] rows
+    → at_most_each most commodity_of (filter_map pick (map param_record rows)) ≡ true
+few_of_each kind most pick commodity_of limit picked rows free =
+    all_true _ (filter_map pick (map param_record rows)) (λ x.
+    let commodity = commodity_of x in
+    let few = never_more (λ r. has_kind kind r && bytes_eq (text_at r 1) commodity) most (commodity_room kind most commodity limit) [] rows (omega arith) free in
+    let same = count_picked kind pick (λ y. bytes_eq (commodity_of y) commodity) (λ r. bytes_eq (text_at r 1) commodity) (picked commodity) [] rows free in
+    le-leb _ most (omega (arith, few, same)))
+
+commodity_picked : IsPicked a_commodity as_commodity (λ x. true) (λ r. true)
+commodity_picked a_commodity r = refl
+commodity_picked _ r = refl
+
+contract_picked : IsPicked a_contract as_contract (λ x. true) (λ r. true)
+contract_picked a_contract r = refl
+contract_picked _ r = refl
+
+inter_picked : IsPicked an_inter as_inter (λ x. true) (λ r. true)
+inter_picked an_inter r = refl
+inter_picked _ r = refl
+
+tier_picked : (commodity : List ℕ) → IsPicked a_tier as_tier (λ t. bytes_eq t.commodity commodity) (λ r. bytes_eq (text_at r 1) commodity)
+tier_picked commodity a_tier r = refl
+tier_picked commodity _ r = refl
+
+intra_picked : (commodity : List ℕ) → IsPicked an_intra as_intra (λ s. bytes_eq s.commodity commodity) (λ r. bytes_eq (text_at r 1) commodity)
+intra_picked commodity an_intra r = refl
+intra_picked commodity _ r = refl
+
+spot_picked : (commodity : List ℕ) → IsPicked a_spot as_spot (λ s. bytes_eq s.commodity commodity) (λ r. bytes_eq (text_at r 1) commodity)
+spot_picked commodity a_spot r = refl
+spot_picked commodity _ r = refl
+
+counts_kept : (rows : List Fields) → IsFaultFree fault_of [] rows → keeps_counts (map param_record rows) ≡ true
+counts_kept rows free =
+    and_from _ _
+    (and_from _ _
+    (and_from _ _
+    (and_from _ _
+    (and_from _ _
+    (few_of_kind a_commodity MAX_COMMODITIES as_commodity (λ earlier r. refl) commodity_picked rows free)
+    (few_of_kind a_contract MAX_CONTRACTS as_contract (λ earlier r. refl) contract_picked rows free))
+    (few_of_kind an_inter MAX_INTER_SPREADS as_inter (λ earlier r. refl) inter_picked rows free))
+    (few_of_each a_tier MAX_TIERS as_tier (λ t. t.commodity) (λ earlier r. refl) tier_picked rows free))
+    (few_of_each an_intra MAX_INTRA_SPREADS as_intra (λ s. s.commodity) (λ earlier r. refl) intra_picked rows free))
+    (few_of_each a_spot MAX_SPOT_MONTHS as_spot (λ s. s.commodity) (λ earlier r. refl) spot_picked rows free)
+
+-- ---- all
+
+free_readable : (r : Fields) (rows : List Fields) → IsFaultFree fault_of [] (r ∷ rows) → is_readable (map param_record (r ∷ rows)) ≡ true
+unfolding is_readable
+free_readable r rows free =
+    and_from _ _
+    (and_from _ _
+    (and_from _ _ (first_set r (clean [] r free.0)) (no_more_sets (r ∷ []) rows (omega arith) free.1))
+    (all_in_range [] (r ∷ rows) free))
+    (counts_kept (r ∷ rows) free)
+
+rows_readable : (rows : List Fields) → param_fault rows ≡ None → is_readable (map param_record rows) ≡ true
+unfolding param_fault
+rows_readable [] e = cc
+rows_readable (r ∷ rows) e = free_readable r rows (first_fault_none fault_of [] (r ∷ rows) e)
+
+ok_parts : {A F : Type 0} (o : Option F) (x y : A) → ok_unless o x ≡ Ok y → (o ≡ None) × (x ≡ y)
+ok_parts None x y e = (refl, cc)
+ok_parts (Some f) x y e = cc
+
+-- the records of a parameter file without a fault are readable
+pub params_readable : (bytes : List ℕ) (records : List Record) → params_of bytes ≡ Ok records → is_readable records ≡ true
+unfolding params_of
+params_readable bytes records e =
+    let parts = ok_parts (param_fault (records_of bytes)) (map param_record (records_of bytes)) records e in
+    subst (λ rs. is_readable rs ≡ true) parts.1 (rows_readable (records_of bytes) parts.0)

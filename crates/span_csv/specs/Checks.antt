@@ -1,0 +1,97 @@
+-- The faults of a parameter record part by part, and the counts that its limits speak of.
+use Rattle.std.specs.Prelude.{◌≡◌, ⊤, ℕ, ◌+◌, ◌<◌, Bool, not, ◌&&◌, ◌==◌, if◌then◌else◌, List, [], ◌∷◌, ◌++◌, length, count_by, Option, Some, None, option_map, is_none, unwrap_or, codes, bytes_eq, Result, Ok, Err, MatchBool}
+use Rattle.std.specs.HashMap.{HashMap, get}
+use Rattle.span_tables.specs.Faults.{first_that_holds}
+use Rattle.span_tables.specs.declared.records.Record.{Record}
+use Rattle.span_tables.specs.declared.limits.TheConstants.{MAX_COMMODITIES, MAX_CONTRACTS, MAX_TIERS, MAX_INTRA_SPREADS, MAX_SPOT_MONTHS, MAX_INTER_SPREADS}
+use Rattle.span_csv.specs.Records.{Fields, RecordKind, a_set, a_commodity, a_contract, a_tier, an_intra, a_spot, an_inter, kind_of, layout_of, text_at, has_word_form, has_number_form, is_in_range, param_record}
+use Rattle.span_csv.specs.ParamFaults.{is_set, some_fail, param_faults, is_memory}
+use Rattle.span_csv.specs.declared.faults.ParamFault.{ParamFault}
+use Rattle.span_csv.specs.declared.faults.ParamFault.TheVariants as fault
+use Rattle.span_csv.specs.declared.tally.Tally.{Tally}
+
+-- the faults of a record's kind, where it is the first or not
+abbrev pub kind_faults : Bool → Fields → List (Bool × (ℕ → ParamFault))
+kind_faults first r = (first && not (is_set r), fault.NoSet) ∷ (not first && is_set r, fault.SecondSet) ∷ (is_none (kind_of r), fault.UnknownKind) ∷ []
+
+-- the faults of its fields
+abbrev pub field_faults : Fields → List (Bool × (ℕ → ParamFault))
+field_faults r =
+    (is_none (layout_of r), fault.FieldCount) ∷ (some_fail has_word_form r, fault.BadName) ∷ (some_fail has_number_form r, fault.BadNumber)
+    ∷ (some_fail is_in_range r, fault.OutOfRange) ∷ []
+
+-- the answer is that of the first of these faults that holds, told the record's number
+abbrev pub IsFaultOf : List (Bool × (ℕ → ParamFault)) → ℕ → ParamFault → Type 0
+IsFaultOf faults at answer = option_map (λ f. f at) (first_that_holds faults) ≡ Some answer
+
+-- no fault holds
+abbrev pub IsFree : List (Bool × (ℕ → ParamFault)) → Type 0
+IsFree faults = first_that_holds faults ≡ None
+
+-- ---- counts
+
+-- how many records there may be of a kind, or of a kind and commodity
+abbrev pub limit_of : RecordKind → ℕ
+limit_of a_set = 1
+limit_of a_commodity = MAX_COMMODITIES
+limit_of a_contract = MAX_CONTRACTS
+limit_of a_tier = MAX_TIERS
+limit_of an_intra = MAX_INTRA_SPREADS
+limit_of a_spot = MAX_SPOT_MONTHS
+limit_of an_inter = MAX_INTER_SPREADS
+
+-- how many records begin with a word
+abbrev pub count_word : List ℕ → List Fields → ℕ
+count_word word rs = count_by (λ x. bytes_eq (text_at x 0) word) rs
+
+-- how many with a word and a commodity
+abbrev pub count_words : List ℕ → List ℕ → List Fields → ℕ
+count_words word cc rs = count_by (λ x. bytes_eq (text_at x 0) word && bytes_eq (text_at x 1) cc) rs
+
+-- the count that a map has for a commodity
+abbrev pub count_in : {S : Type 0} → HashMap (List ℕ) ℕ S → List ℕ → ℕ
+count_in counts cc = unwrap_or (get bytes_eq counts cc) 0
+
+-- a commodity is counted once more
+abbrev pub CountsOne : {S : Type 0} → HashMap (List ℕ) ℕ S → List ℕ → HashMap (List ℕ) ℕ S → Type 0
+CountsOne old cc new = (q : List ℕ) → count_in new q ≡ count_in old q + (if bytes_eq cc q then 1 else 0)
+
+-- the count that the limit of a kind and commodity speaks of
+abbrev pub count_for : Tally → RecordKind → List ℕ → ℕ
+count_for t a_set cc = 0
+count_for t a_commodity cc = t.commodities
+count_for t a_contract cc = t.contracts
+count_for t a_tier cc = count_in t.tiers cc
+count_for t an_intra cc = count_in t.intras cc
+count_for t a_spot cc = count_in t.spots cc
+count_for t an_inter cc = t.inters
+
+-- a record of a kind and commodity is counted
+abbrev pub Adds : RecordKind → List ℕ → Tally → Tally → Type 0
+Adds a_set cc old new = new ≡ old
+Adds a_commodity cc old new = new ≡ record old { commodities = old.commodities + 1 }
+Adds a_contract cc old new = new ≡ record old { contracts = old.contracts + 1 }
+Adds a_tier cc old new = CountsOne old.tiers cc new.tiers × (new ≡ record old { tiers = new.tiers })
+Adds an_intra cc old new = CountsOne old.intras cc new.intras × (new ≡ record old { intras = new.intras })
+Adds a_spot cc old new = CountsOne old.spots cc new.spots × (new ≡ record old { spots = new.spots })
+Adds an_inter cc old new = new ≡ record old { inters = old.inters + 1 }
+
+-- these records were counted
+pub record Tallies (t : Tally) (rs : List Fields) : Type 0 where
+  pub commodities : t.commodities ≡ count_word (codes "COMMODITY") rs
+  pub contracts : t.contracts ≡ count_word (codes "CONTRACT") rs
+  pub tiers : (cc : List ℕ) → count_in t.tiers cc ≡ count_words (codes "TIER") cc rs
+  pub intras : (cc : List ℕ) → count_in t.intras cc ≡ count_words (codes "INTRA") cc rs
+  pub spots : (cc : List ℕ) → count_in t.spots cc ≡ count_words (codes "SPOT") cc rs
+  pub inters : t.inters ≡ count_word (codes "INTER") rs
+
+-- ---- one record behind others
+
+-- so many records were counted
+abbrev pub HasTallied : Tally → ℕ → Type 0
+HasTallied t n = (earlier : List Fields) × (length earlier ≡ n) × Tallies t earlier
+
+-- what is answered for a record behind earlier ones
+abbrev pub NextIs : List Fields → Fields → Result Record ParamFault → Tally → Type 0
+NextIs earlier r (Ok x) t = (first_that_holds (param_faults earlier r) ≡ None) × (x ≡ param_record r) × Tallies t (earlier ++ r ∷ [])
+NextIs earlier r (Err e) t = MatchBool (is_memory e) ⊤ (IsFaultOf (param_faults earlier r) (length earlier + 1) e)

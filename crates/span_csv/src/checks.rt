@@ -1,0 +1,75 @@
+//! The faults of a single record: its kind, its number of fields, and their forms and ranges.
+ghost use Rattle.std.specs.Prelude.{◌≡◌, ◌++◌, MatchResult, OnOk, Some};
+ghost use Rattle.csv.specs.Records.{fields_of};
+ghost use Rattle.span_csv.specs.Checks.{IsFaultOf, IsFree, field_faults, kind_faults};
+ghost use Rattle.span_csv.specs.Grammar.{HasForms, record_kind};
+ghost use Rattle.span_csv.specs.ParamFaults.{is_set};
+ghost use Rattle.span_csv.specs.Records.{kind_of};
+
+use crate::faults::ParamFault;
+use crate::grammar::{FieldTest, Kind, all_have, kind_named, text_at};
+use csv::ByteRecord;
+
+fn is_set(row: &ByteRecord) -> bool
+    ensures { result ≡ is_set (fields_of row.now) }
+{
+    text_at(row, 0) == b"SET".as_slice()
+}
+
+// The kind of a record, which is a SET where it is the first, and nowhere else.
+fn check_kind(first: bool, at: usize, row: &ByteRecord) -> Result<Kind, ParamFault>
+    ensures { MatchResult result
+        (λ kind. (kind_of (fields_of row.now) ≡ Some (record_kind kind)) × IsFree (kind_faults first (fields_of row.now)))
+        (λ e. IsFaultOf (kind_faults first (fields_of row.now)) at e) }
+{
+    let set = is_set(row);
+    if first && !set {
+        return Err(ParamFault::NoSet { at });
+    }
+    if !first && set {
+        return Err(ParamFault::SecondSet { at });
+    }
+    match kind_named(text_at(row, 0)) {
+        Some(kind) => Ok(kind),
+        None => Err(ParamFault::UnknownKind { at }),
+    }
+}
+
+// The number of fields of a record, and their forms and ranges.
+fn check_fields(at: usize, kind: Kind, row: &ByteRecord) -> Result<(), ParamFault>
+    requires { kind_of (fields_of row.now) ≡ Some (record_kind kind) }
+    ensures { MatchResult result
+        (λ _. HasForms (record_kind kind) (fields_of row.now) × IsFree (field_faults (fields_of row.now)))
+        (λ e. IsFaultOf (field_faults (fields_of row.now)) at e) }
+{
+    let Some(forms) = kind.forms(row.len() - 1) else {
+        return Err(ParamFault::FieldCount { at });
+    };
+    if !all_have(FieldTest::Word, forms, row) {
+        return Err(ParamFault::BadName { at });
+    }
+    // A number in its range has its form, which is tested of the others alone.
+    if all_have(FieldTest::Range, forms, row) {
+        return Ok(());
+    }
+    if all_have(FieldTest::Number, forms, row) {
+        Err(ParamFault::OutOfRange { at })
+    } else {
+        Err(ParamFault::BadNumber { at })
+    }
+}
+
+/// The kind of a record whose fields have their forms, or its lowest-numbered fault, as far as the earlier records
+/// do not matter.
+pub(crate) fn check_form(first: bool, at: usize, row: &ByteRecord) -> Result<Kind, ParamFault>
+    ensures kind { MatchResult result
+        (λ kind. (kind_of (fields_of row.now) ≡ Some (record_kind kind)) × HasForms (record_kind kind) (fields_of row.now))
+        (λ e. IsFaultOf (kind_faults first (fields_of row.now) ++ field_faults (fields_of row.now)) at e) }
+    ensures free { OnOk result (IsFree (kind_faults first (fields_of row.now) ++ field_faults (fields_of row.now))) }
+{
+    let kind = check_kind(first, at, row)?;
+    match check_fields(at, kind, row) {
+        Ok(()) => Ok(kind),
+        Err(fault) => Err(fault),
+    }
+}

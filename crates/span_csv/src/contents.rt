@@ -1,0 +1,179 @@
+//! What a record says, whose fields have their forms.
+ghost use Rattle.std.specs.Prelude.{◌≡◌, ◌+◌, ◌<◌, ◌^◌, drop, length, map, pos, true, unwrap_or};
+ghost use Rattle.csv.specs.Records.{fields_of};
+ghost use Rattle.span_csv.specs.Grammar.{HasForms, leg_at, record_kind};
+ghost use Rattle.span_csv.specs.Records.{a_commodity, a_contract, a_set, a_spot, a_tier, an_inter, an_intra, commodity_record, contract_record, count_at, inter_leg, inter_record, intra_leg, intra_record, legs_of, ratio_at, record_of_kind, set_record, spot_record, text_at, tier_record};
+ghost use Rattle.span_money.specs.Numbers.{whole_number};
+ghost use Rattle.span_tables.specs.Names.{is_name};
+
+use crate::fields::{
+    count_at, currency_at, delta_at, method_at, name_at, product_at, ratio_at, scale_at, side_at,
+    whole_at,
+};
+use crate::grammar::Kind;
+use arrayvec::ArrayVec;
+use csv::ByteRecord;
+use span_tables::records::{
+    Commodity, Contract, InterLeg, InterRecord, IntraLeg, IntraRecord, Record, SetRecord, Spot, Tier,
+};
+
+fn set_record(row: &ByteRecord) -> SetRecord
+    requires { HasForms a_set (fields_of row.now) }
+    ensures { result ≡ set_record (fields_of row.now) }
+{
+    SetRecord {
+        id: name_at(row, 1),
+        currency: currency_at(row, 3),
+    }
+}
+
+fn commodity_record(row: &ByteRecord) -> Commodity
+    requires { HasForms a_commodity (fields_of row.now) }
+    ensures { result ≡ commodity_record (fields_of row.now) }
+{
+    Commodity {
+        id: name_at(row, 1),
+        minimum_rate: count_at(row, 2),
+        method: method_at(row, 3),
+    }
+}
+
+// The sixteen values of a risk array.
+fn array_values(row: &ByteRecord) -> [i64; 16]
+    requires { length (fields_of row.now) ≡ 23 }
+    ensures { result ≡ map (λ text. unwrap_or (whole_number text) (pos 0)) (drop 7 (fields_of row.now)) }
+{
+    let mut values = [0; 16];
+    for i in 0..16 {
+        values[i] = whole_at(row, 7 + i);
+    }
+    values
+}
+
+fn contract_record(row: &ByteRecord) -> Contract
+    requires { HasForms a_contract (fields_of row.now) }
+    ensures { result ≡ contract_record (fields_of row.now) }
+{
+    Contract {
+        id: name_at(row, 1),
+        commodity: name_at(row, 2),
+        kind: product_at(row, 3),
+        month: count_at(row, 4),
+        delta: delta_at(row, 5),
+        scale: scale_at(row, 6),
+        values: array_values(row),
+    }
+}
+
+fn tier_record(row: &ByteRecord) -> Tier
+    requires { HasForms a_tier (fields_of row.now) }
+    ensures { result ≡ tier_record (fields_of row.now) }
+{
+    Tier {
+        commodity: name_at(row, 1),
+        number: count_at(row, 2),
+        first: count_at(row, 3),
+        last: count_at(row, 4),
+    }
+}
+
+// The leg whose fields begin at a place.
+fn intra_leg(row: &ByteRecord, at: usize) -> IntraLeg
+    requires inside { at + 2 < 2 ^ 64 }
+    requires tier { count_at (fields_of row.now) at < 2 ^ 32 }
+    requires ratio { ratio_at (fields_of row.now) (at + 2) < 2 ^ 32 }
+    ensures { result ≡ intra_leg (leg_at (fields_of row.now) at) }
+{
+    IntraLeg {
+        tier: count_at(row, at),
+        side: side_at(row, at + 1),
+        ratio: ratio_at(row, at + 2),
+    }
+}
+
+fn intra_legs(row: &ByteRecord) -> ArrayVec<IntraLeg, 4>
+    requires { HasForms an_intra (fields_of row.now) }
+    ensures { result.items ≡ map intra_leg (legs_of (drop 4 (fields_of row.now))) }
+{
+    let mut legs = ArrayVec::new();
+    for i in 0..(row.len() - 4) / 3 {
+        legs.push(intra_leg(row, 4 + 3 * i));
+    }
+    legs
+}
+
+fn intra_record(row: &ByteRecord) -> IntraRecord
+    requires { HasForms an_intra (fields_of row.now) }
+    ensures { result ≡ intra_record (fields_of row.now) }
+{
+    IntraRecord {
+        commodity: name_at(row, 1),
+        priority: count_at(row, 2),
+        rate: count_at(row, 3),
+        legs: intra_legs(row),
+    }
+}
+
+fn spot_record(row: &ByteRecord) -> Spot
+    requires { HasForms a_spot (fields_of row.now) }
+    ensures { result ≡ spot_record (fields_of row.now) }
+{
+    Spot {
+        commodity: name_at(row, 1),
+        month: count_at(row, 2),
+        spread_rate: count_at(row, 3),
+        outright_rate: count_at(row, 4),
+    }
+}
+
+// The leg whose fields begin at a place.
+fn inter_leg(row: &ByteRecord, at: usize) -> InterLeg
+    requires inside { at + 2 < 2 ^ 64 }
+    requires commodity { is_name (text_at (fields_of row.now) at) ≡ true }
+    requires ratio { ratio_at (fields_of row.now) (at + 2) < 2 ^ 32 }
+    ensures { result ≡ inter_leg (leg_at (fields_of row.now) at) }
+{
+    InterLeg {
+        commodity: name_at(row, at),
+        side: side_at(row, at + 1),
+        ratio: ratio_at(row, at + 2),
+    }
+}
+
+fn inter_legs(row: &ByteRecord) -> ArrayVec<InterLeg, 4>
+    requires { HasForms an_inter (fields_of row.now) }
+    ensures { result.items ≡ map inter_leg (legs_of (drop 3 (fields_of row.now))) }
+{
+    let mut legs = ArrayVec::new();
+    for i in 0..(row.len() - 3) / 3 {
+        legs.push(inter_leg(row, 3 + 3 * i));
+    }
+    legs
+}
+
+fn inter_record(row: &ByteRecord) -> InterRecord
+    requires { HasForms an_inter (fields_of row.now) }
+    ensures { result ≡ inter_record (fields_of row.now) }
+{
+    InterRecord {
+        priority: count_at(row, 1),
+        basis_points: count_at(row, 2),
+        legs: inter_legs(row),
+    }
+}
+
+/// What a record of a kind says.
+pub(crate) fn record_of_kind(kind: Kind, row: &ByteRecord) -> Record
+    requires { HasForms (record_kind kind) (fields_of row.now) }
+    ensures { result ≡ record_of_kind (record_kind kind) (fields_of row.now) }
+{
+    match kind {
+        Kind::Set => Record::Set(set_record(row)),
+        Kind::Commodity => Record::Commodity(commodity_record(row)),
+        Kind::Contract => Record::Contract(contract_record(row)),
+        Kind::Tier => Record::Tier(tier_record(row)),
+        Kind::Intra => Record::Intra(intra_record(row)),
+        Kind::Spot => Record::Spot(spot_record(row)),
+        Kind::Inter => Record::Inter(inter_record(row)),
+    }
+}

@@ -1,0 +1,119 @@
+//! How many records of each kind were read, as far as there is a limit.
+ghost use Rattle.std.specs.Prelude.{◌≡◌, ◌+◌, ◌<◌, ◌^◌, List, OnOk, [], ℕ};
+ghost use Rattle.csv.specs.Records.{fields_of};
+ghost use Rattle.span_csv.specs.Checks.{CountsOne, count_in, limit_of};
+ghost use Rattle.span_csv.specs.Grammar.{HasForms, record_kind};
+ghost use Rattle.span_csv.specs.Records.{text_at};
+
+use crate::fields::name_at;
+use crate::grammar::Kind;
+use csv::ByteRecord;
+use indexmap::IndexMap;
+use span_tables::limits::{
+    MAX_COMMODITIES, MAX_CONTRACTS, MAX_INTER_SPREADS, MAX_INTRA_SPREADS, MAX_SPOT_MONTHS,
+    MAX_TIERS,
+};
+use span_tables::name::Name;
+use std::alloc::{AllocError, Global};
+
+// The count of a commodity.
+fn count_of(counts: &IndexMap<Name, usize>, commodity: &Name) -> usize
+    ensures { result ≡ count_in counts.now commodity.now }
+{
+    match counts.get(commodity) {
+        Some(count) => *count,
+        None => 0,
+    }
+}
+
+// Counts a commodity once more.
+fn count_one(counts: &mut IndexMap<Name, usize>, commodity: Name) -> Result<(), AllocError>
+    requires { count_in counts.old commodity + 1 < 2 ^ 64 }
+    ensures { OnOk result (CountsOne counts.old commodity counts.new) }
+{
+    let count = count_of(counts, &commodity);
+    match counts.insert(commodity, count + 1) {
+        Ok(_) => Ok(()),
+        Err(_) => Err(AllocError),
+    }
+}
+
+impl Kind {
+    /// How many records there may be of the kind, or of the kind and a commodity.
+    pub(crate) fn limit(self) -> usize
+        ensures { result ≡ limit_of (record_kind self) }
+    {
+        match self {
+            Kind::Set => 1,
+            Kind::Commodity => MAX_COMMODITIES,
+            Kind::Contract => MAX_CONTRACTS,
+            Kind::Tier => MAX_TIERS,
+            Kind::Intra => MAX_INTRA_SPREADS,
+            Kind::Spot => MAX_SPOT_MONTHS,
+            Kind::Inter => MAX_INTER_SPREADS,
+        }
+    }
+}
+
+/// The records that were read: of some kinds all, of others those of each commodity.
+#[derive(Drop)]
+pub(crate) struct Tally {
+    commodities: usize,
+    contracts: usize,
+    tiers: IndexMap<Name, usize>,
+    intras: IndexMap<Name, usize>,
+    spots: IndexMap<Name, usize>,
+    inters: usize,
+}
+
+impl Tally {
+    ghost use Rattle.span_csv.specs.Checks.{Adds, Tallies, count_for};
+
+    /// No record.
+    pub(crate) fn new(alloc: Global) -> Tally
+        ensures { Tallies result [] }
+    {
+        Tally {
+            commodities: 0,
+            contracts: 0,
+            tiers: IndexMap::new(alloc),
+            intras: IndexMap::new(alloc),
+            spots: IndexMap::new(alloc),
+            inters: 0,
+        }
+    }
+
+    /// How many records the limit of a record's kind counts.
+    pub(crate) fn count(&self, kind: Kind, row: &ByteRecord) -> usize
+        requires { HasForms (record_kind kind) (fields_of row.now) }
+        ensures { result ≡ count_for self.now (record_kind kind) (text_at (fields_of row.now) 1) }
+    {
+        match kind {
+            Kind::Set => 0,
+            Kind::Commodity => self.commodities,
+            Kind::Contract => self.contracts,
+            Kind::Tier => count_of(&self.tiers, &name_at(row, 1)),
+            Kind::Intra => count_of(&self.intras, &name_at(row, 1)),
+            Kind::Spot => count_of(&self.spots, &name_at(row, 1)),
+            Kind::Inter => self.inters,
+        }
+    }
+
+    /// Counts a record.
+    pub(crate) fn add(&mut self, kind: Kind, row: &ByteRecord) -> Result<(), AllocError>
+        requires forms { HasForms (record_kind kind) (fields_of row.now) }
+        requires room { count_for self.old (record_kind kind) (text_at (fields_of row.now) 1) + 1 < 2 ^ 64 }
+        ensures { OnOk result (Adds (record_kind kind) (text_at (fields_of row.now) 1) self.old self.new) }
+    {
+        match kind {
+            Kind::Set => {}
+            Kind::Commodity => self.commodities += 1,
+            Kind::Contract => self.contracts += 1,
+            Kind::Tier => count_one(&mut self.tiers, name_at(row, 1))?,
+            Kind::Intra => count_one(&mut self.intras, name_at(row, 1))?,
+            Kind::Spot => count_one(&mut self.spots, name_at(row, 1))?,
+            Kind::Inter => self.inters += 1,
+        }
+        Ok(())
+    }
+}

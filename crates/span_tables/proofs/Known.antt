@@ -1,0 +1,135 @@
+-- Each commodity that a record names is one of the file.
+use Rattle.std.proofs.Common.{◌≡◌, ℕ, suc, zero, ◌+◌, ◌<◌, ◌≤◌, Bool, true, false, cond, eqb, ltb, not, List, [], ◌∷◌, length, map, get_or, Option, Some, None, refl, sym, ap, ◌∙◌, subst, arith, Decides}
+use Rattle.std.specs.Prelude.{All, MatchOption, ◌||◌, ◌==◌, bytes_eq, filter_map, option_map, slice_get, unwrap_or}
+use Rattle.std.specs.List.{AllByRecursion, list_any, position_or_len}
+use Rattle.std.proofs.lemmas.Bool.Decides.{nat_tests}
+use Rattle.std.proofs.lemmas.List.Elements.{All-nil, All-cons, All-head, All-tail}
+use Rattle.span_tables.specs.Accepted.{commodity_number}
+use Rattle.span_tables.specs.Names.{has_repeat}
+use Rattle.span_tables.specs.Rules.{as_contract, as_inter, as_intra, as_spot, as_tier, commodities_in, named_commodities, names_no_commodity, repeats_leg}
+use Rattle.span_tables.specs.Tables.{commodity_leg}
+use Rattle.span_tables.specs.declared.records.Commodity.{Commodity}
+use Rattle.span_tables.specs.declared.records.CommodityLeg.{CommodityLeg}
+use Rattle.span_tables.specs.declared.records.InterLeg.{InterLeg}
+use Rattle.span_tables.specs.declared.records.InterRecord.{InterRecord}
+use Rattle.span_tables.specs.declared.records.Record.{Record}
+use Rattle.span_tables.specs.declared.records.Record.TheVariants as record_of
+use Rattle.span_tables.proofs.KeptRules.{of_kind}
+use Rattle.span_tables.proofs.Places.{name_at, or_false, place_key, place_names}
+
+-- a name is that of a commodity
+abbrev pub IsKnown : List Commodity → List ℕ → Type 0
+IsKnown cs name = commodity_number cs name < length cs
+
+known_if : (b : Bool) (more : ℕ) (n : ℕ) → (b || ltb more n) ≡ true → cond (not b) (1 + more) 0 < suc n
+known_if true more n e = omega arith
+known_if false more n e = let lt : more < n = grind (arith, nat_tests) in omega (arith, lt)
+
+step_any : (b c d : Bool) → (c ≡ true → d ≡ true) → (b || c) ≡ true → (b || d) ≡ true
+step_any true c d f e = refl
+step_any false c d f e = f e
+
+within_true : (m n : ℕ) → m < n → ltb m n ≡ true
+within_true m n lt = grind (arith, nat_tests)
+
+known_name : (cs : List Commodity) (name : List ℕ) → list_any (λ c. bytes_eq c.id name) cs ≡ true → IsKnown cs name
+known_name [] name e = cc
+known_name (c ∷ cs) name e =
+    known_if (bytes_eq c.id name) (commodity_number cs name) (length cs)
+    (step_any (bytes_eq c.id name) (list_any (λ d. bytes_eq d.id name) cs) (ltb (commodity_number cs name) (length cs)) (λ more. within_true _ _ (known_name cs name more)) e)
+
+not_false : (b : Bool) → not b ≡ false → b ≡ true
+not_false true e = refl
+not_false false e = cc
+
+names_known : (cs : List Commodity) (names : List (List ℕ)) → list_any (λ name. not (list_any (λ c. bytes_eq c.id name) cs)) names ≡ false → All (IsKnown cs) names
+names_known cs [] e = All-nil (IsKnown cs)
+names_known cs (name ∷ names) e =
+    let h = or_false (not (list_any (λ c. bytes_eq c.id name) cs)) (list_any (λ n. not (list_any (λ c. bytes_eq c.id n) cs)) names) e in
+    All-cons (IsKnown cs) name names (known_name cs name (not_false _ h.0)) (names_known cs names h.1)
+
+-- the names of a record are known
+abbrev pub NamesKnown : List Commodity → Record → Type 0
+NamesKnown cs r = All (IsKnown cs) (named_commodities r)
+
+module _ (cs : List Commodity) where
+  contract_known : (r : Record) → NamesKnown cs r → MatchOption (as_contract r) (Unit {0}) (λ x. IsKnown cs x.commodity)
+  contract_known (record_of.Contract x) k = All-head (IsKnown cs) x.commodity [] k
+  contract_known _ k = tt
+
+  tier_known : (r : Record) → NamesKnown cs r → MatchOption (as_tier r) (Unit {0}) (λ x. IsKnown cs x.commodity)
+  tier_known (record_of.Tier x) k = All-head (IsKnown cs) x.commodity [] k
+  tier_known _ k = tt
+
+  intra_known : (r : Record) → NamesKnown cs r → MatchOption (as_intra r) (Unit {0}) (λ x. IsKnown cs x.commodity)
+  intra_known (record_of.Intra x) k = All-head (IsKnown cs) x.commodity [] k
+  intra_known _ k = tt
+
+  spot_known : (r : Record) → NamesKnown cs r → MatchOption (as_spot r) (Unit {0}) (λ x. IsKnown cs x.commodity)
+  spot_known (record_of.Spot x) k = All-head (IsKnown cs) x.commodity [] k
+  spot_known _ k = tt
+
+  legs_known : (legs : List InterLeg) → All (IsKnown cs) (map (λ leg. leg.commodity) legs) → All (λ leg. IsKnown cs leg.commodity) legs
+  legs_known [] k = All-nil (λ (leg : InterLeg). IsKnown cs leg.commodity)
+  legs_known (leg ∷ legs) k =
+      All-cons (λ (l : InterLeg). IsKnown cs l.commodity) leg legs (All-head (IsKnown cs) leg.commodity (map (λ (l : InterLeg). l.commodity) legs) k)
+      (legs_known legs (All-tail (IsKnown cs) leg.commodity (map (λ (l : InterLeg). l.commodity) legs) k))
+
+  inter_known : (r : Record) → NamesKnown cs r → MatchOption (as_inter r) (Unit {0}) (λ x. All (λ leg. IsKnown cs leg.commodity) x.legs.items)
+  inter_known (record_of.Inter x) k = legs_known x.legs.items k
+  inter_known _ k = tt
+
+  pub contracts_known : (rs : List Record) → AllByRecursion (NamesKnown cs) rs → All (λ x. IsKnown cs x.commodity) (filter_map as_contract rs)
+  contracts_known = of_kind as_contract _ (NamesKnown cs) contract_known
+
+  pub tiers_known : (rs : List Record) → AllByRecursion (NamesKnown cs) rs → All (λ x. IsKnown cs x.commodity) (filter_map as_tier rs)
+  tiers_known = of_kind as_tier _ (NamesKnown cs) tier_known
+
+  pub intras_known : (rs : List Record) → AllByRecursion (NamesKnown cs) rs → All (λ x. IsKnown cs x.commodity) (filter_map as_intra rs)
+  intras_known = of_kind as_intra _ (NamesKnown cs) intra_known
+
+  pub spots_known : (rs : List Record) → AllByRecursion (NamesKnown cs) rs → All (λ x. IsKnown cs x.commodity) (filter_map as_spot rs)
+  spots_known = of_kind as_spot _ (NamesKnown cs) spot_known
+
+  pub inters_known : (rs : List Record) → AllByRecursion (NamesKnown cs) rs → All (λ x. All (λ leg. IsKnown cs leg.commodity) x.legs.items) (filter_map as_inter rs)
+  inters_known = of_kind as_inter _ (NamesKnown cs) inter_known
+
+-- where no record names a commodity that there is not, each names known ones
+pub all_known : (all rs : List Record) → AllByRecursion (λ r. names_no_commodity all r ≡ false) rs → AllByRecursion (NamesKnown (commodities_in all)) rs
+all_known all [] u = tt
+all_known all (r ∷ rs) u = (names_known (commodities_in all) (named_commodities r) u.0, all_known all rs u.1)
+
+-- ---- two legs of one commodity
+
+legs_apart_each : (r : Record) → repeats_leg r ≡ false → MatchOption (as_inter r) (Unit {0}) (λ s. has_repeat (λ a b. bytes_eq a.commodity b.commodity) s.legs.items ≡ false)
+legs_apart_each (record_of.Inter s) e = e
+legs_apart_each _ e = tt
+
+pub inters_apart : (rs : List Record) → AllByRecursion (λ r. repeats_leg r ≡ false) rs
+    → All (λ s. has_repeat (λ a b. bytes_eq a.commodity b.commodity) s.legs.items ≡ false) (filter_map as_inter rs)
+inters_apart = of_kind as_inter _ (λ r. repeats_leg r ≡ false) legs_apart_each
+
+-- known names have one place where they are one
+same_place : (cs : List Commodity) (a b : List ℕ) → has_repeat (λ c d. bytes_eq c.id d.id) cs ≡ false → IsKnown cs b → eqb (commodity_number cs a) (commodity_number cs b) ≡ bytes_eq a b
+same_place [] a b apart known = absurd (omega arith)
+same_place (c ∷ cs) a b apart known =
+    place_names (λ (d : Commodity). d.id) (c ∷ cs) a (commodity_number (c ∷ cs) b) apart known
+    ∙ ap (bytes_eq a) (name_at (λ (d : Commodity). d.id) (c ∷ cs) (commodity_number (c ∷ cs) b) c known ∙ place_key (λ (d : Commodity). d.id) (c ∷ cs) b c known)
+
+module _ (cs : List Commodity) (apart : has_repeat (λ c d. bytes_eq c.id d.id) cs ≡ false) where
+  any_same : (a : InterLeg) (legs : List InterLeg) → All (λ leg. IsKnown cs leg.commodity) legs
+      → list_any (λ (b : CommodityLeg). (commodity_number cs a.commodity) == b.commodity) (map (commodity_leg cs) legs) ≡ list_any (λ b. bytes_eq a.commodity b.commodity) legs
+  any_same a [] k = refl
+  any_same a (b ∷ legs) k =
+      let here = same_place cs a.commodity b.commodity apart (All-head (λ (leg : InterLeg). IsKnown cs leg.commodity) b legs k) in
+      let rest = any_same a legs (All-tail (λ (leg : InterLeg). IsKnown cs leg.commodity) b legs k) in
+      λ i. here i || rest i
+
+  -- so legs of commodities apart have numbers apart
+  pub legs_apart : (legs : List InterLeg) → All (λ leg. IsKnown cs leg.commodity) legs
+      → has_repeat (λ (a b : CommodityLeg). a.commodity == b.commodity) (map (commodity_leg cs) legs) ≡ has_repeat (λ a b. bytes_eq a.commodity b.commodity) legs
+  legs_apart [] k = refl
+  legs_apart (a ∷ legs) k =
+      let here = any_same a legs (All-tail (λ (leg : InterLeg). IsKnown cs leg.commodity) a legs k) in
+      let rest = legs_apart legs (All-tail (λ (leg : InterLeg). IsKnown cs leg.commodity) a legs k) in
+      λ i. here i || rest i

@@ -1,0 +1,137 @@
+-- What the ranges of records say of those of each kind.
+use Rattle.std.proofs.Common.{◌≡◌, ℕ, ◌+◌, ◌<◌, ◌≤◌, Bool, true, false, cond, eqb, List, [], ◌∷◌, length, map, Option, Some, None, refl, sym, ap, ◌∙◌, subst, arith, Decides}
+use Rattle.std.specs.Prelude.{All, MatchOption, ◌&&◌, ◌==◌, filter_map, nat_abs, nat_le}
+use Rattle.std.specs.List.{AllByRecursion, list_all}
+use Rattle.std.proofs.lemmas.Bool.{leb-true}
+use Rattle.std.proofs.lemmas.Bool.Decides.{Decides-eqb}
+use Rattle.std.proofs.lemmas.List.{length-map}
+use Rattle.std.proofs.lemmas.List.Elements.{All-nil, All-cons, All-map, All-weaker}
+use Rattle.span_tables.specs.Accepted.{IsContract, IsIntra, IsSpot}
+use Rattle.span_tables.specs.Limits.{commodity_in_range, contract_in_range, in_range, inter_in_range, intra_in_range, is_ratio, is_tier_number, lies_within, spot_in_range}
+use Rattle.span_tables.specs.Names.{is_name}
+use Rattle.span_tables.specs.Tables.{intra_spread, month_leg}
+use Rattle.span_tables.specs.Rules.{as_commodity, as_contract, as_inter, as_intra, as_spot, as_tier}
+use Rattle.span_tables.specs.declared.limits.TheConstants.{MAX_ARRAY_VALUE, MAX_BASIS_POINTS, MAX_DELTA, MAX_RATE, MAX_RATIO, MAX_SCALE}
+use Rattle.span_tables.specs.declared.records.Commodity.{Commodity}
+use Rattle.span_tables.specs.declared.records.Contract.{Contract}
+use Rattle.span_tables.specs.declared.records.InterRecord.{InterRecord}
+use Rattle.span_tables.specs.declared.records.IntraRecord.{IntraRecord}
+use Rattle.span_tables.specs.declared.records.Record.{Record}
+use Rattle.span_tables.specs.declared.records.Record.TheVariants as record_of
+use Rattle.span_tables.specs.declared.records.Spot.{Spot}
+use Rattle.span_tables.specs.declared.records.Tier.{Tier}
+use Rattle.span_tables.proofs.KeptRules.{and_true, of_kind}
+
+-- what a test of all says of each
+pub all_by : {X : Type 0} (p : X → Bool) (P : X → Type 0) → ((x : X) → p x ≡ true → P x) → (xs : List X) → list_all p xs ≡ true → All P xs
+all_by p P says [] e = All-nil P
+all_by p P says (x ∷ xs) e = let h = and_true (p x) (list_all p xs) e in All-cons P x xs (says x h.0) (all_by p P says xs h.1)
+
+pub by_recursion : {X : Type 0} (p : X → Bool) (xs : List X) → list_all p xs ≡ true → AllByRecursion (λ x. p x ≡ true) xs
+by_recursion p [] e = tt
+by_recursion p (x ∷ xs) e = let h = and_true (p x) (list_all p xs) e in (h.0, by_recursion p xs h.1)
+
+within : (low high n : ℕ) → lies_within low high n ≡ true → (low ≤ n) × (n ≤ high)
+within low high n e = let h = and_true (nat_le low n) (nat_le n high) e in (leb-true low n h.0, leb-true n high h.1)
+
+-- ---- the records of each kind pass their tests
+
+commodity_passes : (r : Record) → in_range r ≡ true → MatchOption (as_commodity r) (Unit {0}) (λ c. commodity_in_range c ≡ true)
+commodity_passes (record_of.Commodity c) e = e
+commodity_passes _ e = tt
+
+contract_passes : (r : Record) → in_range r ≡ true → MatchOption (as_contract r) (Unit {0}) (λ c. contract_in_range c ≡ true)
+contract_passes (record_of.Contract c) e = e
+contract_passes _ e = tt
+
+intra_passes : (r : Record) → in_range r ≡ true → MatchOption (as_intra r) (Unit {0}) (λ s. intra_in_range s ≡ true)
+intra_passes (record_of.Intra s) e = e
+intra_passes _ e = tt
+
+spot_passes : (r : Record) → in_range r ≡ true → MatchOption (as_spot r) (Unit {0}) (λ s. spot_in_range s ≡ true)
+spot_passes (record_of.Spot s) e = e
+spot_passes _ e = tt
+
+inter_passes : (r : Record) → in_range r ≡ true → MatchOption (as_inter r) (Unit {0}) (λ s. inter_in_range s ≡ true)
+inter_passes (record_of.Inter s) e = e
+inter_passes _ e = tt
+
+-- ---- what the tests say
+
+pub rate_within : (c : Commodity) → commodity_in_range c ≡ true → c.minimum_rate ≤ MAX_RATE
+rate_within c e = leb-true _ _ (and_true _ _ e).1
+
+pub is_contract : (x : Contract) → contract_in_range x ≡ true → IsContract x
+is_contract x e =
+    let a = and_true _ _ e in
+    let b = and_true _ _ a.0 in
+    let d = and_true _ _ b.0 in
+    let f = and_true _ _ d.0 in
+    record {
+      delta = leb-true _ _ f.1;
+      scale = (within _ _ _ d.1).1;
+      sixteen = (Decides-eqb _ _).0 b.1;
+      values = all_by _ (λ v. nat_abs v ≤ MAX_ARRAY_VALUE) (λ v le. leb-true _ _ le) x.values a.1;
+    }
+
+pub is_intra : (tiers : List Tier) (s : IntraRecord) → intra_in_range s ≡ true → IsIntra (intra_spread tiers s)
+is_intra tiers s e =
+    let a = and_true _ _ e in
+    let b = and_true _ _ a.0 in
+    let d = and_true _ _ b.0 in
+    let few : (2 ≤ length s.legs.items) × (length s.legs.items ≤ 4) = within _ _ _ b.1 in
+    let long : length (map (month_leg tiers s.commodity) s.legs.items) ≡ length s.legs.items = length-map s.legs.items (month_leg tiers s.commodity) in
+    let ratios = all_by _ (λ leg. (1 ≤ leg.ratio) × (leg.ratio ≤ MAX_RATIO)) (λ leg t. within 1 MAX_RATIO leg.ratio (and_true _ _ t).1) s.legs.items a.1 in
+    record {
+      rate = leb-true _ _ d.1;
+      at_least_two = subst (λ n. 2 ≤ n) (sym long) few.0;
+      at_most_four = subst (λ n. n ≤ 4) (sym long) few.1;
+      ratios_above = All-map (λ leg. 0 < leg.ratio) (month_leg tiers s.commodity) s.legs.items (λ k z lt. (ratios k z lt).0);
+      ratios_below = All-map (λ leg. leg.ratio ≤ MAX_RATIO) (month_leg tiers s.commodity) s.legs.items (λ k z lt. (ratios k z lt).1);
+    }
+
+pub is_spot : (s : Spot) → spot_in_range s ≡ true → IsSpot s
+is_spot s e =
+    let a = and_true _ _ e in
+    let b = and_true _ _ a.0 in
+    record { spread_rate = leb-true _ _ b.1; outright_rate = leb-true _ _ a.1 }
+
+-- the fields of an intercommodity spread, and its legs' ratios
+pub record IsInterRecord (s : InterRecord) : Type 0 where
+  pub basis_points : s.basis_points ≤ MAX_BASIS_POINTS
+  pub at_least_two : 2 ≤ length s.legs.items
+  pub at_most_four : length s.legs.items ≤ 4
+  pub ratios_above : All (λ leg. 0 < leg.ratio) s.legs.items
+  pub ratios_below : All (λ leg. leg.ratio ≤ MAX_RATIO) s.legs.items
+
+pub is_inter : (s : InterRecord) → inter_in_range s ≡ true → IsInterRecord s
+is_inter s e =
+    let a = and_true _ _ e in
+    let b = and_true _ _ a.0 in
+    let d = and_true _ _ b.0 in
+    let few : (2 ≤ length s.legs.items) × (length s.legs.items ≤ 4) = within _ _ _ b.1 in
+    let ratios = all_by _ (λ leg. (1 ≤ leg.ratio) × (leg.ratio ≤ MAX_RATIO)) (λ leg t. within 1 MAX_RATIO leg.ratio (and_true _ _ t).1) s.legs.items a.1 in
+    record {
+      basis_points = leb-true _ _ d.1;
+      at_least_two = few.0;
+      at_most_four = few.1;
+      ratios_above = λ k z lt. (ratios k z lt).0;
+      ratios_below = λ k z lt. (ratios k z lt).1;
+    }
+
+-- ---- of all records
+
+pub rates_within : (rs : List Record) → list_all in_range rs ≡ true → All (λ c. c.minimum_rate ≤ MAX_RATE) (filter_map as_commodity rs)
+rates_within rs e = All-weaker (λ c. commodity_in_range c ≡ true) _ rate_within _ (of_kind as_commodity (λ c. commodity_in_range c ≡ true) (λ r. in_range r ≡ true) commodity_passes rs (by_recursion in_range rs e))
+
+pub are_contracts : (rs : List Record) → list_all in_range rs ≡ true → All IsContract (filter_map as_contract rs)
+are_contracts rs e = All-weaker (λ c. contract_in_range c ≡ true) _ is_contract _ (of_kind as_contract (λ c. contract_in_range c ≡ true) (λ r. in_range r ≡ true) contract_passes rs (by_recursion in_range rs e))
+
+pub are_intras : (rs : List Record) → list_all in_range rs ≡ true → All (λ s. intra_in_range s ≡ true) (filter_map as_intra rs)
+are_intras rs e = of_kind as_intra (λ s. intra_in_range s ≡ true) (λ r. in_range r ≡ true) intra_passes rs (by_recursion in_range rs e)
+
+pub are_spots : (rs : List Record) → list_all in_range rs ≡ true → All IsSpot (filter_map as_spot rs)
+are_spots rs e = All-weaker (λ s. spot_in_range s ≡ true) _ is_spot _ (of_kind as_spot (λ s. spot_in_range s ≡ true) (λ r. in_range r ≡ true) spot_passes rs (by_recursion in_range rs e))
+
+pub are_inters : (rs : List Record) → list_all in_range rs ≡ true → All IsInterRecord (filter_map as_inter rs)
+are_inters rs e = All-weaker (λ s. inter_in_range s ≡ true) _ is_inter _ (of_kind as_inter (λ s. inter_in_range s ≡ true) (λ r. in_range r ≡ true) inter_passes rs (by_recursion in_range rs e))

@@ -1,0 +1,84 @@
+-- What is made of accepted tables beforehand is as the tables say.
+use Rattle.std.proofs.Common.{◌≡◌, ℕ, suc, zero, ◌<◌, Bool, true, List, [], ◌∷◌, length, map, filter, get_or, refl, sym, ap, ◌∙◌, subst, arith}
+use Rattle.std.specs.Prelude.{bytes_eq, option_map, slice_get, unwrap_or}
+use Rattle.std.proofs.lemmas.List.{length-map}
+use Rattle.span_tables.specs.Accepted.{IsAccepted, IsTables, commodity_id, commodity_number}
+use Rattle.span_tables.specs.ByKind.{AreByKind}
+use Rattle.span_tables.specs.Limits.{is_readable}
+use Rattle.span_tables.specs.Rules.{commodities_in, keeps_rules}
+use Rattle.span_tables.specs.Tables.{AcceptedTables, inter_spread, inters_of, intra_spread, intras_of, rising_by, set_id_in, spots_of, tables_of}
+use Rattle.span_tables.specs.declared.records.Commodity.{Commodity}
+use Rattle.span_tables.specs.declared.records.Contract.{Contract}
+use Rattle.span_tables.specs.declared.records.Inter.{Inter}
+use Rattle.span_tables.specs.declared.records.InterRecord.{InterRecord}
+use Rattle.span_tables.specs.declared.records.Intra.{Intra}
+use Rattle.span_tables.specs.declared.records.IntraRecord.{IntraRecord}
+use Rattle.span_tables.specs.declared.records.Record.{Record}
+use Rattle.span_tables.specs.declared.records.Spot.{Spot}
+use Rattle.span_tables.specs.declared.records.Tier.{Tier}
+use Rattle.span_tables.proofs.WithinLimits.{accepted_limits}
+
+-- the list of the name at k
+listed : {C Y : Type 0} (key : C → List ℕ) (g : List ℕ → List Y) (cs : List C) (k : ℕ) → k < length cs
+    → get_or (map (λ c. g (key c)) cs) k [] ≡ g (unwrap_or (option_map key (slice_get cs k)) [])
+listed key g [] k lt = absurd (omega arith)
+listed key g (c ∷ cs) zero lt = refl
+listed key g (c ∷ cs) (suc k) lt = listed key g cs k (omega arith)
+
+module _ (t : AcceptedTables) (accepted : IsAccepted t) where
+  intras_at : (intras : List (List Intra)) → intras ≡ map (λ c. map (intra_spread t.tiers) (filter (λ s. bytes_eq s.commodity c.id) t.intras)) t.commodities
+      → (c : ℕ) → c < length t.commodities → get_or intras c [] ≡ intras_of t (commodity_id t c)
+  unfolding intras_of
+  intras_at intras is c lt =
+      ap (λ (zs : List (List Intra)). get_or zs c []) is
+      ∙ listed (λ (d : Commodity). d.id) (λ id. map (intra_spread t.tiers) (filter (λ (s : IntraRecord). bytes_eq s.commodity id) t.intras)) t.commodities c lt
+
+  spots_at : (spots : List (List Spot)) → spots ≡ map (λ c. filter (λ s. bytes_eq s.commodity c.id) t.spots) t.commodities
+      → (c : ℕ) → c < length t.commodities → get_or spots c [] ≡ spots_of t (commodity_id t c)
+  unfolding spots_of
+  spots_at spots is c lt =
+      ap (λ (zs : List (List Spot)). get_or zs c []) is
+      ∙ listed (λ (d : Commodity). d.id) (λ id. filter (λ (s : Spot). bytes_eq s.commodity id) t.spots) t.commodities c lt
+
+  inters_all : (inters : List Inter) → inters ≡ map (inter_spread t.commodities) t.inters → inters ≡ inters_of t
+  unfolding inters_of
+  inters_all inters is = is
+
+  pub are_tables : (numbers : List ℕ) (intras : List (List Intra)) (spots : List (List Spot)) (inters : List Inter)
+      → numbers ≡ map (λ x. commodity_number t.commodities x.commodity) t.contracts
+      → intras ≡ map (λ c. map (intra_spread t.tiers) (filter (λ s. bytes_eq s.commodity c.id) t.intras)) t.commodities
+      → spots ≡ map (λ c. filter (λ s. bytes_eq s.commodity c.id) t.spots) t.commodities
+      → inters ≡ map (inter_spread t.commodities) t.inters
+      → IsTables t numbers intras spots inters
+  are_tables numbers intras spots inters n i s x = record {
+    accepted = accepted;
+    limits = accepted_limits t accepted;
+    numbers_are = n;
+    every_intra = ap length i ∙ length-map t.commodities _;
+    intras_are = intras_at intras i;
+    every_spot = ap length s ∙ length-map t.commodities _;
+    spots_are = spots_at spots s;
+    inters_are = inters_all inters x;
+  }
+
+-- the parts of the tables, each as it was made
+pub same_tables : (rs : List Record) (id : List ℕ) (cs : List Commodity) (xs : List Contract) (ts : List Tier) (is js : List IntraRecord) (ss : List Spot) (ns ms : List InterRecord)
+    → id ≡ set_id_in rs → AreByKind rs cs xs ts is ss ns → js ≡ rising_by (λ s. s.priority) is → ms ≡ rising_by (λ s. s.priority) ns
+    → record { set_id = id; commodities = cs; contracts = xs; tiers = ts; intras = js; spots = ss; inters = ms } ≡ tables_of rs
+unfolding tables_of
+same_tables rs id cs xs ts is js ss ns ms named kinds i n =
+    let js_are = i ∙ ap (rising_by (λ (s : IntraRecord). s.priority)) kinds.intras_are in
+    let ms_are = n ∙ ap (rising_by (λ (s : InterRecord). s.priority)) kinds.inters_are in
+    λ k. record {
+      set_id = named k;
+      commodities = kinds.commodities_are k;
+      contracts = kinds.contracts_are k;
+      tiers = kinds.tiers_are k;
+      intras = js_are k;
+      spots = kinds.spots_are k;
+      inters = ms_are k;
+    }
+
+-- accepted tables in parts
+pub accepted_as : (t : AcceptedTables) (rs : List Record) → t ≡ tables_of rs → is_readable rs ≡ true → keeps_rules rs ≡ true → IsAccepted t
+accepted_as t rs is readable kept = record { records = rs; tables = is; readable = readable; kept = kept }

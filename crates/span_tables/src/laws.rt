@@ -1,0 +1,46 @@
+//! Laws of the definitions, in the methodology's words: each is the contract of a function that does nothing.
+ghost use Rattle.std.specs.Prelude.{false, ◌≡◌, ℕ, ◌≤◌, List, ◌∷◌, filter, bytes_eq, IsPermutation, ℤ, pos};
+ghost use Rattle.span_money.specs.Numbers.{int_sum_by};
+ghost use Rattle.span_tables.specs.Laws.{Fits, HaveRatios, IsRisingBy};
+ghost use Rattle.span_tables.specs.Names.{distinct, has_repeat, is_among};
+ghost use Rattle.span_tables.specs.Net.{held_of, holdings_of, net_of};
+ghost use Rattle.span_tables.specs.Sides.{Room, spreads_formed};
+ghost use Rattle.span_tables.specs.Tables.{rising_by};
+ghost use Rattle.span_tables.specs.declared.records.Contract.{Contract};
+ghost use Rattle.span_tables.specs.declared.records.InterRecord.{InterRecord};
+ghost use Rattle.span_tables.specs.declared.records.IntraRecord.{IntraRecord};
+ghost use Rattle.span_tables.specs.declared.records.PositionRecord.{PositionRecord};
+
+/// A sum over the held contracts of a commodity is that over all of its contracts: what is not held adds nothing.
+pub fn held_contracts_are_enough()
+    ensures { (f : Contract → ℤ → ℤ) → ((x : Contract) → f x (pos 0) ≡ pos 0)
+        → (positions : List PositionRecord) (account commodity : List ℕ) (contracts : List Contract)
+        → int_sum_by (λ h. f h.contract h.net) (held_of contracts (holdings_of contracts positions account) commodity)
+        ≡ int_sum_by (λ x. f x (net_of positions account x.id)) (filter (λ x. bytes_eq x.commodity commodity) contracts) }
+{}
+
+/// Spreads formed are the greatest number that needs no more than the side of each leg.
+pub fn spreads_formed_are_greatest()
+    ensures fit { (r : Room) (rs : List Room) → Fits (spreads_formed (r ∷ rs)) (r ∷ rs) }
+    ensures greatest { (r : Room) (rs : List Room) → HaveRatios (r ∷ rs) → (m : ℕ) → Fits m (r ∷ rs)
+        → m ≤ spreads_formed (r ∷ rs) }
+{}
+
+/// Spreads are put in order of priority, and none is lost.
+pub fn spreads_are_in_order()
+    ensures rising { (spreads : List InterRecord)
+        → IsRisingBy (λ s. s.priority) (rising_by (λ s. s.priority) spreads) }
+    ensures same { (spreads : List InterRecord)
+        → IsPermutation spreads (rising_by (λ s. s.priority) spreads) }
+    ensures intra_rising { (spreads : List IntraRecord)
+        → IsRisingBy (λ s. s.priority) (rising_by (λ s. s.priority) spreads) }
+    ensures intra_same { (spreads : List IntraRecord)
+        → IsPermutation spreads (rising_by (λ s. s.priority) spreads) }
+{}
+
+/// The distinct names of a list are each there once, and are those of the list.
+pub fn distinct_names_stand_once()
+    ensures once { (names : List (List ℕ)) → has_repeat bytes_eq (distinct names) ≡ false }
+    ensures same { (names : List (List ℕ)) (name : List ℕ)
+        → is_among (distinct names) name ≡ is_among names name }
+{}

@@ -1,0 +1,119 @@
+//! Spreads with what they name: the months of their tiers, or the numbers of their commodities.
+ghost use Rattle.std.specs.Prelude.{◌≡◌, ◌<◌, ◌&&◌, ◌==◌, length, map, filter, find, option_copied, bytes_eq, false, All, IfOk};
+ghost use Rattle.span_tables.specs.Accepted.{commodity_number};
+ghost use Rattle.span_tables.specs.Names.{has_repeat};
+ghost use Rattle.span_tables.specs.Tables.{commodity_leg, inter_spread, intra_spread, month_leg};
+
+use crate::groups::{empty_lists, number_of, push_at, tiers_by_commodity};
+use crate::name::Name;
+use crate::records::{
+    Commodity, CommodityLeg, Inter, InterLeg, InterRecord, Intra, IntraLeg, IntraRecord, MonthLeg,
+    Tier,
+};
+use arrayvec::ArrayVec;
+use std::alloc::{AllocError, Global};
+
+// The tier of a commodity and number, if there is one.
+fn tier_of<'a>(tiers: &'a [Tier], commodity: &Name, number: u32) -> Option<&'a Tier>
+    ensures { option_copied result ≡ find (λ t. bytes_eq t.commodity commodity.now && (t.number == number)) tiers.entry.now }
+{
+    tiers
+        .iter()
+        .find(|tier| tier.commodity == *commodity && tier.number == number)
+}
+
+// A leg with the months of its tier; with no months where there is no such tier.
+fn month_leg(tiers: &[Tier], commodity: &Name, leg: &IntraLeg) -> MonthLeg
+    ensures { result ≡ month_leg tiers.now commodity.now leg.now }
+{
+    match tier_of(tiers, commodity, leg.tier) {
+        Some(tier) => MonthLeg {
+            first: tier.first,
+            last: tier.last,
+            side: leg.side,
+            ratio: leg.ratio,
+        },
+        None => MonthLeg {
+            first: 1,
+            last: 0,
+            side: leg.side,
+            ratio: leg.ratio,
+        },
+    }
+}
+
+// A spread with its tiers' months.
+fn intra_of(tiers: &[Tier], spread: &IntraRecord) -> Intra
+    ensures { result ≡ intra_spread tiers.now spread.now }
+{
+    let mut legs = ArrayVec::new();
+    for leg in spread.legs.as_slice() {
+        legs.push(month_leg(tiers, &spread.commodity, leg));
+    }
+    Intra {
+        rate: spread.rate,
+        legs,
+    }
+}
+
+// The spreads of each commodity in their order, each with its tiers' months.
+pub(crate) fn intras_by_commodity(
+    alloc: Global,
+    commodities: &[Commodity],
+    tiers: &[Tier],
+    spreads: &[IntraRecord],
+) -> Result<Vec<Vec<Intra>>, AllocError>
+    requires apart { has_repeat (λ c d. bytes_eq c.id d.id) commodities.now ≡ false }
+    requires tiers_known { All (λ t. commodity_number commodities.now t.commodity < length commodities.now) tiers.now }
+    requires known { All (λ s. commodity_number commodities.now s.commodity < length commodities.now) spreads.now }
+    ensures { IfOk result (λ lists. map (λ v. v.items) lists.items ≡ map (λ c. map (intra_spread tiers.now) (filter (λ s. bytes_eq s.commodity c.id) spreads.now)) commodities.now) }
+{
+    let tier_lists = tiers_by_commodity(alloc, commodities, tiers)?;
+    let mut lists = empty_lists(alloc, commodities.len())?;
+    for spread in spreads {
+        let place = number_of(commodities, &spread.commodity);
+        let intra = intra_of(&tier_lists[place], spread);
+        push_at(&mut lists, place, intra)?;
+    }
+    Ok(lists)
+}
+
+// A leg with its commodity's number.
+fn commodity_leg(commodities: &[Commodity], leg: &InterLeg) -> CommodityLeg
+    ensures { result ≡ commodity_leg commodities.now leg.now }
+{
+    CommodityLeg {
+        commodity: number_of(commodities, &leg.commodity),
+        side: leg.side,
+        ratio: leg.ratio,
+    }
+}
+
+// A spread with its commodities' numbers.
+fn inter_of(commodities: &[Commodity], spread: &InterRecord) -> Inter
+    ensures { result ≡ inter_spread commodities.now spread.now }
+{
+    let mut legs = ArrayVec::new();
+    for leg in spread.legs.as_slice() {
+        legs.push(commodity_leg(commodities, leg));
+    }
+    Inter {
+        basis_points: spread.basis_points,
+        legs,
+    }
+}
+
+// The spreads in their order, each with its commodities' numbers.
+pub(crate) fn inters_with_numbers(
+    alloc: Global,
+    commodities: &[Commodity],
+    spreads: &[InterRecord],
+) -> Result<Vec<Inter>, AllocError>
+    ensures { IfOk result (λ inters. inters.items ≡ map (inter_spread commodities.now) spreads.now) }
+{
+    let mut inters = Vec::new(alloc);
+    for spread in spreads {
+        inters.push(inter_of(commodities, spread))?;
+    }
+    Ok(inters)
+}
