@@ -1,11 +1,10 @@
 -- The fields of the legs of a spread's record.
-use Rattle.std.proofs.Common.{◌≡◌, ◌<◌, ◌≤◌, ◌+◌, ◌-◌, ◌*◌, ◌∙◌, sym, ap, subst, refl, arith, zero, suc, ℕ, List, [], ◌∷◌, ◌++◌, length, get_or, drop, map, inl, inr, true}
+use Rattle.std.proofs.Common.{◌≡◌, ◌<◌, ◌≤◌, ◌+◌, ◌*◌, subst, refl, arith, zero, suc, ℕ, length, true}
 use Rattle.std.specs.Prelude.{pos}
-use Rattle.std.proofs.lemmas.List.{at_drop_more, at_drop_all, append_assoc, append-nil}
 use Rattle.span_tables.specs.Names.{is_name}
 use Rattle.span_tables.specs.declared.limits.TheConstants.{MAX_TIER_NUMBER, MAX_RATIO}
-use Rattle.span_csv.specs.Grammar.{HasForms, form_at, leg_at}
-use Rattle.span_csv.specs.Records.{Fields, a_name, a_whole, a_decimal, an_intra, an_inter, text_at, count_at, ratio_at, legs_of}
+use Rattle.span_csv.specs.Grammar.{HasForms, form_at}
+use Rattle.span_csv.specs.Records.{Fields, a_name, a_whole, a_decimal, an_intra, an_inter, text_at, count_at, ratio_at}
 use Rattle.span_csv.proofs.NumberLemmas.{name_field, count_field, ratio_field}
 
 -- ---- what the fields of a leg are

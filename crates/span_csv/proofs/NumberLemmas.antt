@@ -1,14 +1,14 @@
 -- The numbers of fields that are in their ranges.
-use Rattle.std.proofs.Common.{◌≡◌, ◌<◌, ◌≤◌, ◌+◌, ◌&&◌, ◌∙◌, sym, ap, subst, refl, arith, zero, suc, ℕ, Bool, true, false, List, [], ◌∷◌, length, get_or, Option, Some, None, ℤ, pos, negsuc, nat_le, inl, inr, if◌then◌else◌}
-use Rattle.std.specs.Prelude.{neg_ℤ, int_le, unwrap_or, nat_abs, ◌/◌, ◌==◌, ◌||◌}
+use Rattle.std.proofs.Common.{◌≡◌, ◌<◌, ◌≤◌, ◌+◌, ◌&&◌, sym, subst, refl, arith, zero, suc, ℕ, Bool, true, false, List, [], ◌∷◌, length, Option, Some, None, ℤ, pos, negsuc, nat_le}
+use Rattle.std.specs.Prelude.{neg_ℤ, int_le, unwrap_or, nat_abs, ◌==◌}
 use Rattle.std.specs.Char.{is_ascii_digit}
 use Rattle.std.specs.List.{list_all}
-use Rattle.std.proofs.lemmas.Bool.{false≢true, leb-true, cases_Bool}
+use Rattle.std.proofs.lemmas.Bool.{false≢true, leb-true}
 use Rattle.std.proofs.lemmas.Bool.Decides.{nat_tests}
-use Rattle.span_money.specs.Numbers.{positive_part, whole_number, decimal_number, month_number, are_digits, digits_value, has_minus, without_minus, is_month}
+use Rattle.span_money.specs.Numbers.{positive_part, whole_number, decimal_number, are_digits, digits_value, has_minus, without_minus, is_month}
 use Rattle.span_tables.specs.Names.{is_name}
 use Rattle.span_csv.specs.Grammar.{HasForms, form_at}
-use Rattle.span_csv.specs.Records.{Fields, RecordKind, Form, a_name, a_whole, a_decimal, a_month, is_within, is_in_range, has_word_form, text_at, count_at, ratio_at, decimal_at}
+use Rattle.span_csv.specs.Records.{Fields, RecordKind, a_name, a_whole, a_decimal, a_month, is_within, is_in_range, has_word_form, text_at, count_at, ratio_at, decimal_at}
 
 pub and_left : (a b : Bool) → (a && b) ≡ true → a ≡ true
 and_left true b e = refl

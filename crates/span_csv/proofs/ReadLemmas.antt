@@ -1,5 +1,5 @@
 -- The reading of a file, one record after another.
-use Rattle.std.proofs.Common.{◌≡◌, ◌+◌, ◌∙◌, sym, ap, refl, arith, ℕ, Bool, true, false, List, [], ◌∷◌, ◌++◌, length, map, Option, Some, None, Result, Ok, Err}
+use Rattle.std.proofs.Common.{◌≡◌, ◌+◌, ◌∙◌, sym, ap, refl, arith, ℕ, Bool, true, false, List, [], ◌∷◌, ◌++◌, length, map, Option, Some, None, Ok, Err}
 use Rattle.std.specs.Prelude.{⊤, option_map, MatchBool, ◌==◌}
 use Rattle.std.specs.Option.{option_or}
 use Rattle.std.proofs.lemmas.Bool.{eqb-true, false≢true}
@@ -104,8 +104,8 @@ read_fault bytes xs t r before rest e s is h =
     let given : records_of bytes ≡ [] → ⊥ = λ none. not_empty s.earlier r rest (ap (λ zs. s.earlier ++ zs) (sym is) ∙ s.whole ∙ none) in
     on_match (is_memory e) (IsFaultOf (param_faults s.earlier r) (length s.earlier + 1) e) (params_of bytes ≡ Err e)
     (λ here.
-        let first : first_fault_after fault_of s.earlier (r ∷ rest) ≡ Some e = ap (λ o. option_or o (first_fault_after fault_of (s.earlier ++ r ∷ []) rest)) here in
-        params_fault bytes e (some_records (records_of bytes) given ∙ sym s.answer ∙ ap (first_fault_after fault_of s.earlier) is ∙ first))
+    let first : first_fault_after fault_of s.earlier (r ∷ rest) ≡ Some e = ap (λ o. option_or o (first_fault_after fault_of (s.earlier ++ r ∷ []) rest)) here in
+    params_fault bytes e (some_records (records_of bytes) given ∙ sym s.answer ∙ ap (first_fault_after fault_of s.earlier) is ∙ first))
     h
 
 -- ---- a test for no records

@@ -1,6 +1,5 @@
 -- Tests of all fields of a record, one field after another.
-use Rattle.std.proofs.Common.{◌≡◌, ◌<◌, ◌≤◌, ◌+◌, ◌&&◌, ◌∙◌, sym, ap, refl, arith, zero, suc, ℕ, Bool, true, false, List, [], ◌∷◌, length, get_or, take, drop, map, inl, inr, add-one}
-use Rattle.std.proofs.lemmas.Bool.{cases_Bool, false≢true}
+use Rattle.std.proofs.Common.{◌≡◌, ◌<◌, ◌≤◌, ◌+◌, ◌&&◌, ◌∙◌, sym, arith, ℕ, Bool, true, false, List, [], ◌∷◌, length, get_or, drop, map}
 use Rattle.std.proofs.lemmas.List.{at_drop_more, at_drop_all}
 use Rattle.span_csv.specs.Records.{Fields, Form, text_at, all_have}
 

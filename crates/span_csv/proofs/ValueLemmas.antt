@@ -1,10 +1,10 @@
 -- The sixteen values of a risk array, one after another.
-use Rattle.std.proofs.Common.{◌≡◌, ◌≢◌, ◌<◌, ◌≤◌, ◌+◌, ◌-◌, ◌∙◌, sym, ap, subst, refl, arith, ℕ, List, [], length, length-drop, get_or, drop, map, ℤ, pos, get_or-set_other, get_or-set_same, below_more}
+use Rattle.std.proofs.Common.{◌≡◌, ◌≢◌, ◌<◌, ◌+◌, ◌∙◌, sym, ap, arith, ℕ, List, [], length, length-drop, get_or, drop, map, ℤ, pos, get_or-set_other, get_or-set_same, below_more}
 use Rattle.std.proofs.lemmas.List.{ext_get_or, get_or-map, get_or-drop}
 use Rattle.std.proofs.Math.ListN.{set, length-map}
 use Rattle.std.specs.Prelude.{unwrap_or}
 use Rattle.span_money.specs.Numbers.{whole_number}
-use Rattle.span_csv.specs.Records.{Fields, whole_at, text_at}
+use Rattle.span_csv.specs.Records.{Fields, whole_at}
 
 -- one value more
 pub values_more : (values : List ℤ) (i : ℕ) (v : ℤ) (fields : Fields) → i < length values → v ≡ whole_at fields (7 + i)
@@ -24,7 +24,7 @@ values_all values fields sixteen all each =
     ext_get_or (pos 0) values (map (λ text. unwrap_or (whole_number text) (pos 0)) (drop 7 fields))
     (simp length-map (omega arith))
     (λ i inside.
-        let few : i < 16 = omega arith in
-        let there : i < length (drop 7 fields) = omega arith in
-        each i few ∙ sym (get_or-map (λ text. unwrap_or (whole_number text) (pos 0)) (drop 7 fields) i [] (pos 0) there
-            ∙ ap (λ text. unwrap_or (whole_number text) (pos 0)) (get_or-drop 7 fields i [])))
+    let few : i < 16 = omega arith in
+    let there : i < length (drop 7 fields) = omega arith in
+    each i few ∙ sym (get_or-map (λ text. unwrap_or (whole_number text) (pos 0)) (drop 7 fields) i [] (pos 0) there
+    ∙ ap (λ text. unwrap_or (whole_number text) (pos 0)) (get_or-drop 7 fields i [])))

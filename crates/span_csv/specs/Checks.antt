@@ -1,5 +1,5 @@
 -- The faults of a parameter record part by part, and the counts that its limits speak of.
-use Rattle.std.specs.Prelude.{◌≡◌, ⊤, ℕ, ◌+◌, ◌<◌, Bool, not, ◌&&◌, ◌==◌, if◌then◌else◌, List, [], ◌∷◌, ◌++◌, length, count_by, Option, Some, None, option_map, is_none, unwrap_or, codes, bytes_eq, Result, Ok, Err, MatchBool}
+use Rattle.std.specs.Prelude.{◌≡◌, ⊤, ℕ, ◌+◌, Bool, not, ◌&&◌, if◌then◌else◌, List, [], ◌∷◌, ◌++◌, length, count_by, Some, None, option_map, is_none, unwrap_or, codes, bytes_eq, Result, Ok, Err, MatchBool}
 use Rattle.std.specs.HashMap.{HashMap, get}
 use Rattle.span_tables.specs.Faults.{first_that_holds}
 use Rattle.span_tables.specs.declared.records.Record.{Record}

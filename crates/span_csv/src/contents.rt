@@ -14,7 +14,8 @@ use crate::grammar::Kind;
 use arrayvec::ArrayVec;
 use csv::ByteRecord;
 use span_tables::records::{
-    Commodity, Contract, InterLeg, InterRecord, IntraLeg, IntraRecord, Record, SetRecord, Spot, Tier,
+    Commodity, Contract, InterLeg, InterRecord, IntraLeg, IntraRecord, Record, SetRecord, Spot,
+    Tier,
 };
 
 fn set_record(row: &ByteRecord) -> SetRecord

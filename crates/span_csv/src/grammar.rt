@@ -49,41 +49,51 @@ pub(crate) enum FieldTest {
 }
 
 const VERSION: FieldForm = FieldForm::Whole { low: 1, high: 1 };
+
 const RATE: FieldForm = FieldForm::Whole {
     low: 0,
     high: MAX_RATE as i64,
 };
+
 const TIER_NUMBER: FieldForm = FieldForm::Whole {
     low: 1,
     high: MAX_TIER_NUMBER as i64,
 };
+
 const PRIORITY: FieldForm = FieldForm::Whole {
     low: 1,
     high: MAX_PRIORITY as i64,
 };
+
 const BASIS_POINTS: FieldForm = FieldForm::Whole {
     low: 0,
     high: MAX_BASIS_POINTS as i64,
 };
+
 const ARRAY_VALUE: FieldForm = FieldForm::Whole {
     low: -(MAX_ARRAY_VALUE as i64),
     high: MAX_ARRAY_VALUE as i64,
 };
+
 const DELTA: FieldForm = FieldForm::Decimal {
     low: -(MAX_DELTA as i64),
     high: MAX_DELTA as i64,
 };
+
 const SCALE: FieldForm = FieldForm::Decimal {
     low: 1,
     high: MAX_SCALE as i64,
 };
+
 const RATIO: FieldForm = FieldForm::Decimal {
     low: 1,
     high: MAX_RATIO as i64,
 };
 
 static SET_FIELDS: [FieldForm; 3] = [FieldForm::Name, VERSION, FieldForm::Currency];
+
 static COMMODITY_FIELDS: [FieldForm; 3] = [FieldForm::Name, RATE, FieldForm::Method];
+
 static CONTRACT_FIELDS: [FieldForm; 22] = [
     FieldForm::Name,
     FieldForm::Name,
@@ -108,12 +118,14 @@ static CONTRACT_FIELDS: [FieldForm; 22] = [
     ARRAY_VALUE,
     ARRAY_VALUE,
 ];
+
 static TIER_FIELDS: [FieldForm; 4] = [
     FieldForm::Name,
     TIER_NUMBER,
     FieldForm::Month,
     FieldForm::Month,
 ];
+
 static INTRA_FIELDS: [FieldForm; 15] = [
     FieldForm::Name,
     PRIORITY,
@@ -131,7 +143,9 @@ static INTRA_FIELDS: [FieldForm; 15] = [
     FieldForm::Side,
     RATIO,
 ];
+
 static SPOT_FIELDS: [FieldForm; 4] = [FieldForm::Name, FieldForm::Month, RATE, RATE];
+
 static INTER_FIELDS: [FieldForm; 14] = [
     PRIORITY,
     BASIS_POINTS,
@@ -177,7 +191,11 @@ fn exactly(forms: &'static [FieldForm], fields: usize) -> Option<&'static [Field
     ensures value { option_map (λ s. map form_of s.now) result ≡ exactly (map form_of forms.now) fields }
     ensures all { IfSome result (λ s. s.now ≡ forms.now) }
 {
-    if fields == forms.len() { Some(forms) } else { None }
+    if fields == forms.len() {
+        Some(forms)
+    } else {
+        None
+    }
 }
 
 impl Kind {

@@ -6,11 +6,14 @@ mod contents;
 pub mod faults;
 mod fields;
 mod grammar;
+pub mod param_laws;
 pub mod params;
 pub mod position_laws;
 pub mod positions;
 pub mod readable;
 mod rows;
 mod tally;
+#[cfg(test)]
+mod tests_params;
 #[cfg(test)]
 mod tests_positions;

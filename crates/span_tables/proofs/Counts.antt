@@ -1,11 +1,11 @@
 -- No more records of a commodity than there may be, whatever the commodity.
-use Rattle.std.proofs.Common.{◌≡◌, ℕ, suc, zero, ◌+◌, ◌<◌, ◌≤◌, Bool, true, false, cond, List, [], ◌∷◌, length, map, filter, refl, sym, ap, ◌∙◌, subst, arith, inl, inr}
-use Rattle.std.specs.Prelude.{◌&&◌, ◌||◌, bytes_eq, count_by, nat_le, IsPermutation}
+use Rattle.std.proofs.Common.{◌≡◌, ℕ, ◌≤◌, Bool, true, false, cond, List, [], ◌∷◌, length, map, filter, refl, sym, ap, ◌∙◌, subst, arith, inl, inr}
+use Rattle.std.specs.Prelude.{◌||◌, bytes_eq, count_by, nat_le, IsPermutation}
 use Rattle.std.specs.List.{list_all, list_any}
 use Rattle.std.proofs.lemmas.Bool.{cases_Bool, leb-true}
 use Rattle.std.proofs.lemmas.List.{length-map}
 use Rattle.std.proofs.lemmas.List.Sorted.{sum_by-IsPermutation}
-use Rattle.std.proofs.lemmas.List.Sums.{length-filter, sum_by-cons}
+use Rattle.std.proofs.lemmas.List.Sums.{length-filter}
 use Rattle.std.proofs.lemmas.Slice.Eq.{bytes_eq-Decides}
 use Rattle.span_tables.specs.Limits.{at_most_each}
 use Rattle.span_tables.proofs.KeptRules.{and_true}
@@ -36,8 +36,8 @@ module _ {X : Type 0} (key : X → List ℕ) where
   pub at_most : (most : ℕ) (xs : List X) → at_most_each most key xs ≡ true → (id : List ℕ) → length (filter (λ x. bytes_eq (key x) id) xs) ≤ most
   at_most most xs few id =
       elim (cases_Bool (list_any (λ x. bytes_eq (key x) id) xs)) [
-        inl some ↦ (let le : of_name id xs ≤ most = one_has most id xs xs few some in let n : length (filter (λ x. bytes_eq (key x) id) xs) ≡ of_name id xs = length-filter (λ x. bytes_eq (key x) id) xs in omega (arith, n, le))
-      | inr none ↦ (let n : length (filter (λ x. bytes_eq (key x) id) xs) ≡ 0 = ap length (none_has id xs none) in omega (arith, n))
+        | inl some ↦ (let le : of_name id xs ≤ most = one_has most id xs xs few some in let n : length (filter (λ x. bytes_eq (key x) id) xs) ≡ of_name id xs = length-filter (λ x. bytes_eq (key x) id) xs in omega (arith, n, le))
+        | inr none ↦ (let n : length (filter (λ x. bytes_eq (key x) id) xs) ≡ 0 = ap length (none_has id xs none) in omega (arith, n))
       ]
 
   -- and in another order
@@ -47,5 +47,5 @@ module _ {X : Type 0} (key : X → List ℕ) where
       let le = at_most most xs few id in
       let long : length (map f (filter (λ x. bytes_eq (key x) id) ys)) ≡ length (filter (λ x. bytes_eq (key x) id) ys) = length-map (filter (λ x. bytes_eq (key x) id) ys) f in
       let count : length (filter (λ x. bytes_eq (key x) id) ys) ≡ length (filter (λ x. bytes_eq (key x) id) xs) =
-              length-filter (λ x. bytes_eq (key x) id) ys ∙ sum_by-IsPermutation (λ x. cond (bytes_eq (key x) id) 1 0) xs ys same ∙ sym (length-filter (λ x. bytes_eq (key x) id) xs) in
+      length-filter (λ x. bytes_eq (key x) id) ys ∙ sum_by-IsPermutation (λ x. cond (bytes_eq (key x) id) 1 0) xs ys same ∙ sym (length-filter (λ x. bytes_eq (key x) id) xs) in
       omega (arith, le, long, count)

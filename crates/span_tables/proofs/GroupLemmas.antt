@@ -1,15 +1,14 @@
 -- Lists by commodity: one for each, of what names it.
 use Rattle.std.proofs.Common.{◌≡◌, ℕ, suc, zero, ◌+◌, ◌<◌, Bool, true, false, cond, not, List, [], ◌∷◌, ◌++◌, length, map, filter, get_or, set, take, refl, sym, ap, ◌∙◌, subst, arith, Decides}
 use Rattle.std.specs.Prelude.{bytes_eq, All}
-use Rattle.std.specs.List.{position_or_len, list_any}
-use Rattle.std.proofs.lemmas.Bool.{false≢true}
+use Rattle.std.specs.List.{list_any}
 use Rattle.std.proofs.lemmas.Bool.Decides.{same_from_decides}
 use Rattle.std.proofs.lemmas.List.{append-nil, length-map, map-append, map-id, map-set, take_more}
 use Rattle.std.proofs.Math.ListN.{replicate}
 use Rattle.std.proofs.lemmas.List.Elements.{filter-append}
 use Rattle.std.proofs.lemmas.Slice.Eq.{bytes_eq-Decides}
 use Rattle.span_tables.specs.Names.{has_repeat}
-use Rattle.span_tables.proofs.Places.{place, same_name, or_false}
+use Rattle.span_tables.proofs.Places.{place, or_false}
 
 -- `==` on names goes both ways
 pub name_sym : (a b : List ℕ) → bytes_eq a b ≡ bytes_eq b a

@@ -1,5 +1,5 @@
 -- What an account holds of a commodity: by numbers, holding after holding, and within the limits.
-use Rattle.std.proofs.Common.{◌≡◌, ℕ, suc, zero, ◌+◌, ◌<◌, ◌≤◌, Bool, true, false, cond, eqb, ltb, List, [], ◌∷◌, ◌++◌, length, map, filter, get_or, take, Option, Some, None, refl, sym, ap, ◌∙◌, subst, arith, rules}
+use Rattle.std.proofs.Common.{◌≡◌, ℕ, suc, zero, ◌+◌, ◌<◌, ◌≤◌, Bool, true, false, cond, eqb, ltb, List, [], ◌∷◌, ◌++◌, length, map, filter, get_or, take, Option, Some, None, refl, sym, ap, ◌∙◌, subst, arith}
 use Rattle.std.specs.Prelude.{◌&&◌, All, bytes_eq, filter_map, nat_abs, nat_lt, option_map, slice_get}
 use Rattle.std.specs.List.{cons_option, list_all}
 use Rattle.std.specs.Option.{option_map_or}
@@ -10,7 +10,7 @@ use Rattle.span_tables.specs.Accepted.{IsContract, IsWithinLimits, commodity_id,
 use Rattle.span_tables.specs.Holdings.{AreHeld, ArePortfolio}
 use Rattle.span_tables.specs.Net.{held_contract, held_of}
 use Rattle.span_tables.specs.Tables.{AcceptedTables}
-use Rattle.span_tables.specs.declared.limits.TheConstants.{MAX_HELD, MAX_NET}
+use Rattle.span_tables.specs.declared.limits.TheConstants.{MAX_NET}
 use Rattle.span_tables.specs.declared.held.HeldContract.{HeldContract}
 use Rattle.span_tables.specs.declared.portfolios.Holding.{Holding}
 use Rattle.span_tables.specs.declared.records.Contract.{Contract}
@@ -31,7 +31,7 @@ pub number_tells : (s t : AcceptedTables) (numbers : List ℕ) → s ≡ t → I
 number_tells s t numbers same kept are k c n lt lc is =
     let limits : IsWithinLimits t = subst IsWithinLimits same kept in
     let all : numbers ≡ map (λ (x : Contract). commodity_number t.commodities x.commodity) t.contracts =
-        subst (λ (u : AcceptedTables). numbers ≡ map (λ (x : Contract). commodity_number u.commodities x.commodity) u.contracts) same are in
+    subst (λ (u : AcceptedTables). numbers ≡ map (λ (x : Contract). commodity_number u.commodities x.commodity) u.contracts) same are in
     told (λ (x : Contract). commodity_number t.commodities x.commodity) (λ (x : Contract). bytes_eq x.commodity (commodity_id t c)) c
     (λ x. place_names (λ d. d.id) t.commodities x.commodity c limits.commodities_apart lc) t.contracts k n lt
     (is ∙ ap (λ ns. get_or ns k n) all)
@@ -153,11 +153,11 @@ gathered_some contracts ks commodity hs gs i d x y held next same_ks same_gs lt 
     let at_h : get_or gs i d ≡ get_or hs i d = ap (λ (zs : List Holding). get_or zs i d) same_gs in
     let lt_h : i < length hs = subst (λ (zs : List Holding). i < length zs) same_gs lt in
     let here : x ≡ get_or contracts (get_or hs i d).contract x =
-        at ∙ ap (λ (zs : List Contract). get_or zs (get_or gs i d).contract x) same_ks ∙ ap (λ (g : Holding). get_or contracts g.contract x) at_h in
+    at ∙ ap (λ (zs : List Contract). get_or zs (get_or gs i d).contract x) same_ks ∙ ap (λ (g : Holding). get_or contracts g.contract x) at_h in
     let true_h : option_map_or (λ (z : Contract). bytes_eq z.commodity commodity) (slice_get contracts (get_or hs i d).contract) false ≡ true =
-        sym (passes ∙ ap (λ (g : Holding). option_map_or (λ (z : Contract). bytes_eq z.commodity commodity) (slice_get contracts g.contract) false) at_h) in
+    sym (passes ∙ ap (λ (g : Holding). option_map_or (λ (z : Contract). bytes_eq z.commodity commodity) (slice_get contracts g.contract) false) at_h) in
     let one : held_of contracts (get_or hs i d ∷ []) commodity ≡ record { contract = x; net = (get_or hs i d).net } ∷ [] =
-        held_of-some contracts commodity (get_or hs i d) x true_h (in_range (length contracts) hs i d all lt_h) here in
+    held_of-some contracts commodity (get_or hs i d) x true_h (in_range (length contracts) hs i d all lt_h) here in
     let is_h : y ≡ record { contract = x; net = (get_or hs i d).net } = is ∙ ap (λ (g : Holding). let k : HeldContract = record { contract = x; net = g.net } in k) at_h in
     pushed ∙ ap (λ (zs : List HeldContract). zs ++ y ∷ []) so_far ∙ ap (λ (z : HeldContract). held_of contracts (take i hs) commodity ++ z ∷ []) is_h
     ∙ ap (λ (zs : List HeldContract). held_of contracts (take i hs) commodity ++ zs) (sym one) ∙ sym (held_of-more contracts hs i d commodity lt_h)
@@ -171,7 +171,7 @@ gathered_none contracts commodity hs gs i d held same_gs lt so_far other =
     let at_h : get_or gs i d ≡ get_or hs i d = ap (λ (zs : List Holding). get_or zs i d) same_gs in
     let lt_h : i < length hs = subst (λ (zs : List Holding). i < length zs) same_gs lt in
     let false_h : option_map_or (λ (z : Contract). bytes_eq z.commodity commodity) (slice_get contracts (get_or hs i d).contract) false ≡ false =
-        sym (other ∙ ap (λ (g : Holding). option_map_or (λ (z : Contract). bytes_eq z.commodity commodity) (slice_get contracts g.contract) false) at_h) in
+    sym (other ∙ ap (λ (g : Holding). option_map_or (λ (z : Contract). bytes_eq z.commodity commodity) (slice_get contracts g.contract) false) at_h) in
     let one : held_of contracts (get_or hs i d ∷ []) commodity ≡ [] = held_of-none contracts commodity (get_or hs i d) false_h in
     so_far ∙ sym (append-nil (held_of contracts (take i hs) commodity)) ∙ ap (λ (zs : List HeldContract). held_of contracts (take i hs) commodity ++ zs) (sym one)
     ∙ sym (held_of-more contracts hs i d commodity lt_h)

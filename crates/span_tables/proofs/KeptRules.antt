@@ -1,10 +1,10 @@
 -- Records that keep a rule: no record breaks it, and what that says of the records of each kind.
-use Rattle.std.proofs.Common.{◌≡◌, ℕ, suc, zero, ◌+◌, ◌<◌, ◌≤◌, Bool, true, false, cond, not, List, [], ◌∷◌, ◌++◌, length, map, Option, Some, None, refl, sym, ap, ◌∙◌, subst, arith}
-use Rattle.std.specs.Prelude.{All, MatchOption, bytes_eq, filter_map, is_none, if◌then◌else◌, option_map, ◌||◌, ◌&&◌}
+use Rattle.std.proofs.Common.{◌≡◌, ℕ, ◌+◌, Bool, true, false, List, [], ◌∷◌, ◌++◌, length, Option, Some, None, refl, ap, ◌∙◌, subst}
+use Rattle.std.specs.Prelude.{All, MatchOption, filter_map, is_none, if◌then◌else◌, option_map, ◌||◌, ◌&&◌}
 use Rattle.std.specs.List.{AllByRecursion, cons_option, list_all, list_any}
-use Rattle.std.specs.Option.{option_or, option_map_or}
+use Rattle.std.specs.Option.{option_or}
 use Rattle.std.proofs.lemmas.List.{append-nil}
-use Rattle.std.proofs.lemmas.List.Elements.{All-nil, All-cons, All-append, All-head, All-tail, filter_map-append}
+use Rattle.std.proofs.lemmas.List.Elements.{All-nil, All-cons, All-head, All-tail, filter_map-append}
 use Rattle.span_tables.specs.Faults.{first_fault_after}
 use Rattle.span_tables.specs.Names.{has_repeat}
 use Rattle.span_tables.specs.Rules.{first_breaking, is_and, keeps_rules, rules}
@@ -93,11 +93,11 @@ module _ {Y : Type 0} (h : Record → Option Y) (alike : Y → Y → Bool) where
   apart_next : (o : Option Y) (before : List Record) (r : Record) (ys : List Y) → h r ≡ o → repeats before r ≡ false → AreApart (before ++ r ∷ []) ys → AreApart before (cons_option o ys)
   apart_next None before r ys is free more =
       let same : filter_map h (before ++ r ∷ []) ≡ filter_map h before =
-              filter_map-append h before (r ∷ []) ∙ ap (λ o. filter_map h before ++ cons_option o []) is ∙ append-nil (filter_map h before) in
+      filter_map-append h before (r ∷ []) ∙ ap (λ o. filter_map h before ++ cons_option o []) is ∙ append-nil (filter_map h before) in
       (subst (λ zs. All (λ z. list_any (alike z) ys ≡ false) zs) same more.0, more.1)
   apart_next (Some y) before r ys is free more =
       let same : filter_map h (before ++ r ∷ []) ≡ filter_map h before ++ y ∷ [] =
-              filter_map-append h before (r ∷ []) ∙ ap (λ o. filter_map h before ++ cons_option o []) is in
+      filter_map-append h before (r ∷ []) ∙ ap (λ o. filter_map h before ++ cons_option o []) is in
       let split = pushed_all (λ z. list_any (alike z) ys ≡ false) (filter_map h before) y (subst (λ zs. All (λ z. list_any (alike z) ys ≡ false) zs) same more.0) in
       let other : list_any (λ z. alike z y) (filter_map h before) ≡ false = subst (λ o. is_and o (λ y. list_any (λ z. alike z y) (filter_map h before)) ≡ false) is free in
       let none = none_any (λ z. alike z y) (filter_map h before) other in

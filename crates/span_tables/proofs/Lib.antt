@@ -16,4 +16,5 @@ pub mod Known
 pub mod WithinLimits
 pub mod TablesMade
 pub mod NameLaws
+pub mod SampleLaws
 pub mod NameLemmas

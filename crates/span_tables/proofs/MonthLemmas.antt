@@ -1,5 +1,5 @@
 -- A spread's tiers are found among those of its commodity.
-use Rattle.std.proofs.Common.{◌≡◌, ℕ, suc, zero, ◌<◌, Bool, true, false, cond, List, [], ◌∷◌, length, map, filter, get_or, refl, sym, ap, ◌∙◌, subst, arith}
+use Rattle.std.proofs.Common.{◌≡◌, ℕ, ◌<◌, Bool, true, false, cond, List, [], ◌∷◌, length, map, filter, get_or, refl, sym, ap, ◌∙◌, subst, arith}
 use Rattle.std.specs.Prelude.{◌&&◌, ◌==◌, bytes_eq, find}
 use Rattle.span_tables.specs.Accepted.{commodity_number}
 use Rattle.span_tables.specs.Tables.{intra_spread, month_leg}
@@ -46,7 +46,7 @@ tiers_found items (c ∷ cs) tiers lists n v s are at lt is =
     let placed : commodity_number (c ∷ cs) s.commodity < length (c ∷ cs) = subst (λ m. m < length (c ∷ cs)) at within in
     let name : (get_or (c ∷ cs) n c).id ≡ s.commodity = ap (λ m. (get_or (c ∷ cs) m c).id) at ∙ place_key (λ (d : Commodity). d.id) (c ∷ cs) s.commodity c placed in
     let kept : items v ≡ filter (λ t. bytes_eq t.commodity s.commodity) tiers =
-        ap items is ∙ sym (at_map items lists n v [] lt) ∙ ap (λ zs. get_or zs n []) are
-        ∙ at_map (λ (d : Commodity). filter (λ t. bytes_eq t.commodity d.id) tiers) (c ∷ cs) n c [] within
-        ∙ ap (λ m. filter (λ t. bytes_eq t.commodity m) tiers) name in
+    ap items is ∙ sym (at_map items lists n v [] lt) ∙ ap (λ zs. get_or zs n []) are
+    ∙ at_map (λ (d : Commodity). filter (λ t. bytes_eq t.commodity d.id) tiers) (c ∷ cs) n c [] within
+    ∙ ap (λ m. filter (λ t. bytes_eq t.commodity m) tiers) name in
     ap (λ ts. intra_spread ts s) kept ∙ same_spread tiers s

@@ -59,7 +59,7 @@ module _ {C : Type 0} (key : C → List ℕ) where
         (λ e. let is : place cs id ≡ k = (Decides-eqb (place cs id) k).0 e in
             let lt : place cs id < length cs = omega arith in
             sym (place_key cs id d lt) ∙ ap (λ n. key (get_or cs n d)) is),
-        (λ e. (Decides-eqb (place cs id) k).1 (ap (place cs) e ∙ place_at cs k d apart lt))
+        (λ e. (Decides-eqb (place cs id) k).1 (ap (place cs) e ∙ place_at cs k d apart lt)),
       ) in same_from_decides _ _ by_place (bytes_eq-Decides id (key (get_or cs k d)))
 
   -- the name at k, of the element that there is

@@ -1,17 +1,16 @@
 -- What the ranges of records say of those of each kind.
-use Rattle.std.proofs.Common.{◌≡◌, ℕ, ◌+◌, ◌<◌, ◌≤◌, Bool, true, false, cond, eqb, List, [], ◌∷◌, length, map, Option, Some, None, refl, sym, ap, ◌∙◌, subst, arith, Decides}
-use Rattle.std.specs.Prelude.{All, MatchOption, ◌&&◌, ◌==◌, filter_map, nat_abs, nat_le}
+use Rattle.std.proofs.Common.{◌≡◌, ℕ, ◌<◌, ◌≤◌, Bool, true, List, [], ◌∷◌, length, map, sym, subst}
+use Rattle.std.specs.Prelude.{All, MatchOption, filter_map, nat_abs, nat_le}
 use Rattle.std.specs.List.{AllByRecursion, list_all}
 use Rattle.std.proofs.lemmas.Bool.{leb-true}
 use Rattle.std.proofs.lemmas.Bool.Decides.{Decides-eqb}
 use Rattle.std.proofs.lemmas.List.{length-map}
 use Rattle.std.proofs.lemmas.List.Elements.{All-nil, All-cons, All-map, All-weaker}
 use Rattle.span_tables.specs.Accepted.{IsContract, IsIntra, IsSpot}
-use Rattle.span_tables.specs.Limits.{commodity_in_range, contract_in_range, in_range, inter_in_range, intra_in_range, is_ratio, is_tier_number, lies_within, spot_in_range}
-use Rattle.span_tables.specs.Names.{is_name}
+use Rattle.span_tables.specs.Limits.{commodity_in_range, contract_in_range, in_range, inter_in_range, intra_in_range, lies_within, spot_in_range}
 use Rattle.span_tables.specs.Tables.{intra_spread, month_leg}
-use Rattle.span_tables.specs.Rules.{as_commodity, as_contract, as_inter, as_intra, as_spot, as_tier}
-use Rattle.span_tables.specs.declared.limits.TheConstants.{MAX_ARRAY_VALUE, MAX_BASIS_POINTS, MAX_DELTA, MAX_RATE, MAX_RATIO, MAX_SCALE}
+use Rattle.span_tables.specs.Rules.{as_commodity, as_contract, as_inter, as_intra, as_spot}
+use Rattle.span_tables.specs.declared.limits.TheConstants.{MAX_ARRAY_VALUE, MAX_BASIS_POINTS, MAX_RATE, MAX_RATIO}
 use Rattle.span_tables.specs.declared.records.Commodity.{Commodity}
 use Rattle.span_tables.specs.declared.records.Contract.{Contract}
 use Rattle.span_tables.specs.declared.records.InterRecord.{InterRecord}

@@ -1,5 +1,5 @@
 -- A stable sort by a number is `rising_by`.
-use Rattle.std.proofs.Common.{◌≡◌, ℕ, suc, zero, ◌+◌, ◌<◌, ◌≤◌, Bool, true, false, cond, eqb, leb, ltb, not, List, [], ◌∷◌, length, filter, get_or, refl, sym, ap, ◌∙◌, subst, arith, inl, inr}
+use Rattle.std.proofs.Common.{◌≡◌, ℕ, suc, ◌<◌, ◌≤◌, Bool, true, false, cond, eqb, ltb, not, List, [], ◌∷◌, filter, refl, sym, ap, ◌∙◌, subst, arith, inl, inr}
 use Rattle.std.specs.Prelude.{nat_le, ◌&&◌}
 use Rattle.std.specs.List.{AllByRecursion}
 use Rattle.std.specs.List.Sorted.{IsNonDecreasingBy, IsSortedByKey, IsStableByKey, IsSortedByKeyClosure, IsStableByKeyClosure, ties}
@@ -8,7 +8,7 @@ use Rattle.std.proofs.lemmas.Fn.{always_returns_same}
 use denote.Ref.{Bor}
 use denote.Param.Members.{Mut}
 use Rattle.std.specs.Ordering.{is_lt, nat_cmp}
-use Rattle.std.proofs.Common.{Ordering, Less, Equal, Greater}
+use Rattle.std.proofs.Common.{Less, Equal, Greater}
 use Rattle.std.proofs.lemmas.Bool.{cases_lt}
 use Rattle.std.proofs.lemmas.Bool.Decides.{nat_tests}
 use Rattle.std.proofs.lemmas.List.Elements.{filter_agree, recursion_from_All}
@@ -82,7 +82,7 @@ module _ {A : Type 0} (key : A → ℕ) where
       let heads : x ∷ of_key (key x) xs ≡ y ∷ of_key (key y) ys = sym (head_of_key x xs) ∙ same x ∙ ap (λ k. of_key k (y ∷ ys)) keys ∙ head_of_key y ys in
       let here : x ≡ y = cc in
       let rest : (a : A) → of_key (key a) xs ≡ of_key (key a) ys = λ a. tail_if (eqb (key x) (key a)) x y (of_key (key a) xs) (of_key (key a) ys) here
-              (subst (λ z. of_key (key a) (x ∷ xs) ≡ cond (eqb (key z) (key a)) (y ∷ of_key (key a) ys) (of_key (key a) ys)) (sym here) (same a)) in
+      (subst (λ z. of_key (key a) (x ∷ xs) ≡ cond (eqb (key z) (key a)) (y ∷ of_key (key a) ys) (of_key (key a) ys)) (sym here) (same a)) in
       let tails = same_rising xs ys up.1 uq.1 rest in
       cc
 

@@ -1,11 +1,11 @@
 -- What is made of accepted tables beforehand is as the tables say.
-use Rattle.std.proofs.Common.{◌≡◌, ℕ, suc, zero, ◌<◌, Bool, true, List, [], ◌∷◌, length, map, filter, get_or, refl, sym, ap, ◌∙◌, subst, arith}
+use Rattle.std.proofs.Common.{◌≡◌, ℕ, suc, zero, ◌<◌, true, List, [], ◌∷◌, length, map, filter, get_or, refl, ap, ◌∙◌, arith}
 use Rattle.std.specs.Prelude.{bytes_eq, option_map, slice_get, unwrap_or}
 use Rattle.std.proofs.lemmas.List.{length-map}
 use Rattle.span_tables.specs.Accepted.{IsAccepted, IsTables, commodity_id, commodity_number}
 use Rattle.span_tables.specs.ByKind.{AreByKind}
 use Rattle.span_tables.specs.Limits.{is_readable}
-use Rattle.span_tables.specs.Rules.{commodities_in, keeps_rules}
+use Rattle.span_tables.specs.Rules.{keeps_rules}
 use Rattle.span_tables.specs.Tables.{AcceptedTables, inter_spread, inters_of, intra_spread, intras_of, rising_by, set_id_in, spots_of, tables_of}
 use Rattle.span_tables.specs.declared.records.Commodity.{Commodity}
 use Rattle.span_tables.specs.declared.records.Contract.{Contract}

@@ -1,15 +1,15 @@
 -- The tables of readable records that keep the rules are within the limits.
-use Rattle.std.proofs.Common.{◌≡◌, ℕ, ◌<◌, ◌≤◌, Bool, true, false, List, [], ◌∷◌, length, map, filter, refl, sym, ap, ◌∙◌, subst, arith}
-use Rattle.std.specs.Prelude.{All, ◌&&◌, ◌==◌, bytes_eq, filter_map, nat_le}
+use Rattle.std.proofs.Common.{◌≡◌, ◌<◌, ◌≤◌, true, false, List, [], length, map, sym, ◌∙◌, subst}
+use Rattle.std.specs.Prelude.{All, bytes_eq}
 use Rattle.std.specs.List.{AllByRecursion, list_all}
 use Rattle.std.proofs.lemmas.Bool.{leb-true}
 use Rattle.std.proofs.lemmas.List.{length-map}
 use Rattle.std.proofs.lemmas.List.Elements.{All-filter, All-map, All-weaker}
 use Rattle.std.proofs.lemmas.List.Sorted.{All-permutation, length_permutation}
-use Rattle.span_tables.specs.Accepted.{IsAccepted, IsContract, IsInter, IsIntra, IsSpot, IsWithinLimits, commodity_number}
-use Rattle.span_tables.specs.Limits.{at_most_each, begins_with_set, in_range, intra_in_range, is_readable, keeps_counts}
+use Rattle.span_tables.specs.Accepted.{IsAccepted, IsInter, IsIntra, IsSpot, IsWithinLimits, commodity_number}
+use Rattle.span_tables.specs.Limits.{at_most_each, begins_with_set, in_range, intra_in_range, is_readable}
 use Rattle.span_tables.specs.Names.{has_repeat}
-use Rattle.span_tables.specs.Rules.{as_commodity, as_contract, as_inter, as_intra, as_spot, as_tier, commodities_in, contracts_in, inters_in, intras_in, keeps_rules, names_no_commodity, repeats_leg, spots_in, tiers_in}
+use Rattle.span_tables.specs.Rules.{as_commodity, as_contract, commodities_in, contracts_in, inters_in, intras_in, keeps_rules, names_no_commodity, repeats_leg, spots_in, tiers_in}
 use Rattle.span_tables.specs.Tables.{AcceptedTables, commodity_leg, inter_spread, inters_of, intra_spread, intras_of, rising_by, spots_of, tables_of}
 use Rattle.span_tables.specs.declared.limits.TheConstants.{MAX_COMMODITIES, MAX_CONTRACTS, MAX_INTER_SPREADS, MAX_INTRA_SPREADS, MAX_SPOT_MONTHS, MAX_RATIO}
 use Rattle.span_tables.specs.declared.records.Commodity.{Commodity}

@@ -1,5 +1,5 @@
 -- What portfolios and held contracts keep.
-use Rattle.std.specs.Prelude.{◌≡◌, ℕ, ◌≢◌, ◌≤◌, Bool, nat_lt, List, length, map, All, nat_abs}
+use Rattle.std.specs.Prelude.{ℕ, ◌≢◌, ◌≤◌, Bool, nat_lt, List, length, map, All, nat_abs}
 use Rattle.std.specs.List.Sorted.{IsStrictlyIncreasing}
 use Rattle.std.specs.List.{list_all}
 use Rattle.span_tables.specs.Accepted.{IsContract}

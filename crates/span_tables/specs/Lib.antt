@@ -10,3 +10,4 @@ pub mod Holdings
 pub mod Sides
 pub mod Laws
 pub mod ByKind
+pub mod Samples

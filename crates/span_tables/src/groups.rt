@@ -12,9 +12,7 @@ use std::alloc::{AllocError, Global};
 fn place_of(commodities: &[Commodity], id: &Name) -> Option<usize>
     ensures { result ≡ position (λ c. bytes_eq c.id id.now) commodities.now }
 {
-    commodities
-        .iter()
-        .position(|commodity| commodity.id == *id)
+    commodities.iter().position(|commodity| commodity.id == *id)
 }
 
 // The number of the commodity of an id, or the number of commodities where there is none.
@@ -51,7 +49,11 @@ pub(crate) fn empty_lists<T: Drop>(alloc: Global, count: usize) -> Result<Vec<Ve
 }
 
 // Appends a value to the list at a place.
-pub(crate) fn push_at<T: Drop>(lists: &mut Vec<Vec<T>>, place: usize, value: T) -> Result<(), AllocError>
+pub(crate) fn push_at<T: Drop>(
+    lists: &mut Vec<Vec<T>>,
+    place: usize,
+    value: T,
+) -> Result<(), AllocError>
     requires { place < length lists.old.items }
     ensures items { OnOk result (map (λ v. v.items) lists.new.items ≡ slice_set (map (λ v. v.items) lists.old.items) place (slice_index_or (map (λ v. v.items) lists.old.items) place [] ++ value ∷ [])) }
     ensures len { length lists.new.items ≡ length lists.old.items }

@@ -13,3 +13,5 @@ pub mod records;
 mod sorting;
 mod spreads;
 pub mod tables;
+#[cfg(test)]
+mod tests;

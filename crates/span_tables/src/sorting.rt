@@ -6,7 +6,9 @@ use crate::records::{InterRecord, IntraRecord};
 use std::alloc::AllocError;
 
 // Intracommodity spreads by rising priority.
-pub(crate) fn intras_by_priority(mut spreads: Vec<IntraRecord>) -> Result<Vec<IntraRecord>, AllocError>
+pub(crate) fn intras_by_priority(
+    mut spreads: Vec<IntraRecord>,
+) -> Result<Vec<IntraRecord>, AllocError>
     ensures { IfOk result (λ sorted. sorted.items ≡ rising_by (λ s. s.priority) spreads.items) }
 {
     spreads.sort_by_key(|spread| spread.priority)?;
@@ -14,7 +16,9 @@ pub(crate) fn intras_by_priority(mut spreads: Vec<IntraRecord>) -> Result<Vec<In
 }
 
 // Intercommodity spreads by rising priority.
-pub(crate) fn inters_by_priority(mut spreads: Vec<InterRecord>) -> Result<Vec<InterRecord>, AllocError>
+pub(crate) fn inters_by_priority(
+    mut spreads: Vec<InterRecord>,
+) -> Result<Vec<InterRecord>, AllocError>
     ensures { IfOk result (λ sorted. sorted.items ≡ rising_by (λ s. s.priority) spreads.items) }
 {
     spreads.sort_by_key(|spread| spread.priority)?;

@@ -17,9 +17,7 @@ use std::alloc::{AllocError, Global};
 fn tier_of<'a>(tiers: &'a [Tier], commodity: &Name, number: u32) -> Option<&'a Tier>
     ensures { option_copied result ≡ find (λ t. bytes_eq t.commodity commodity.now && (t.number == number)) tiers.entry.now }
 {
-    tiers
-        .iter()
-        .find(|tier| tier.commodity == *commodity && tier.number == number)
+    tiers.iter().find(|tier| tier.commodity == *commodity && tier.number == number)
 }
 
 // A leg with the months of its tier; with no months where there is no such tier.

@@ -53,31 +53,27 @@ impl Model for Tables {
 
     ghost Value = { AcceptedTables };
 
-    ghost view = {
-        λ t. record {
-            set_id = t.set_id;
-            commodities = t.commodities.items;
-            contracts = t.contracts.items;
-            tiers = t.tiers.items;
-            intras = t.intra_records.items;
-            spots = t.spots.items;
-            inters = t.inter_records.items;
-        }
-    };
+    ghost view = { λ t. record {
+      set_id = t.set_id;
+      commodities = t.commodities.items;
+      contracts = t.contracts.items;
+      tiers = t.tiers.items;
+      intras = t.intra_records.items;
+      spots = t.spots.items;
+      inters = t.inter_records.items;
+    } };
 
-    ghost invariant = {
-        λ t. IsTables
+    ghost invariant = { λ t. IsTables
         (record {
-            set_id = t.set_id;
-            commodities = t.commodities.items;
-            contracts = t.contracts.items;
-            tiers = t.tiers.items;
-            intras = t.intra_records.items;
-            spots = t.spots.items;
-            inters = t.inter_records.items;
+          set_id = t.set_id;
+          commodities = t.commodities.items;
+          contracts = t.contracts.items;
+          tiers = t.tiers.items;
+          intras = t.intra_records.items;
+          spots = t.spots.items;
+          inters = t.inter_records.items;
         })
-        t.commodity_numbers.items (map (λ v. v.items) t.intras.items) (map (λ v. v.items) t.spot_months.items) t.inters.items
-    };
+        t.commodity_numbers.items (map (λ v. v.items) t.intras.items) (map (λ v. v.items) t.spot_months.items) t.inters.items };
 }
 
 // The list at a place.
@@ -112,22 +108,22 @@ impl Tables {
     // The tables of records that are in order, with what they name.
     fn with_numbers(alloc: Global, set_id: Name, kinds: Kinds) -> Result<Tables, AllocError>
         requires { IsAccepted (record {
-            set_id = set_id;
-            commodities = kinds.commodities.items;
-            contracts = kinds.contracts.items;
-            tiers = kinds.tiers.items;
-            intras = kinds.intras.items;
-            spots = kinds.spots.items;
-            inters = kinds.inters.items;
+          set_id = set_id;
+          commodities = kinds.commodities.items;
+          contracts = kinds.contracts.items;
+          tiers = kinds.tiers.items;
+          intras = kinds.intras.items;
+          spots = kinds.spots.items;
+          inters = kinds.inters.items;
         }) }
         ensures { IfOk result (λ tables. tables ≡ record {
-            set_id = set_id;
-            commodities = kinds.commodities.items;
-            contracts = kinds.contracts.items;
-            tiers = kinds.tiers.items;
-            intras = kinds.intras.items;
-            spots = kinds.spots.items;
-            inters = kinds.inters.items;
+          set_id = set_id;
+          commodities = kinds.commodities.items;
+          contracts = kinds.contracts.items;
+          tiers = kinds.tiers.items;
+          intras = kinds.intras.items;
+          spots = kinds.spots.items;
+          inters = kinds.inters.items;
         }) }
     {
         let commodities = kinds.commodities.as_slice();
@@ -245,12 +241,12 @@ impl Tables {
     /// How many records of each kind there are.
     pub fn counts(&self) -> Counts
         ensures { result ≡ record {
-            commodities = length self.now.commodities;
-            contracts = length self.now.contracts;
-            tiers = length self.now.tiers;
-            intra = length self.now.intras;
-            spots = length self.now.spots;
-            inter = length self.now.inters;
+          commodities = length self.now.commodities;
+          contracts = length self.now.contracts;
+          tiers = length self.now.tiers;
+          intra = length self.now.intras;
+          spots = length self.now.spots;
+          inter = length self.now.inters;
         } }
     {
         Counts {

@@ -23,8 +23,9 @@ add-requires-clause-room c =
 
 pub returns : goal.returns
 returns c = λ rs len tallies.
-    let is = c.in_ok-kind.ensures.kind.0 in
-    (next_free rs (fields_of c.args.row.now) c.args.earlier len c.in_ok-kind.ensures.free
-        (count_within c.args.tally.now (record_kind c.in_ok-kind.kind) rs (fields_of c.args.row.now) c.count.result c.limit.result is tallies c.count.ensures c.limit.ensures c.if-count-limit.false),
-    c.record_of_kind.ensures ∙ record_of (fields_of c.args.row.now) (record_kind c.in_ok-kind.kind) is,
-    tally_more c.args.tally.now c.add.new.self (record_kind c.in_ok-kind.kind) rs (fields_of c.args.row.now) is tallies c.in_ok-add.ensures)
+    let is = c.in_ok-kind.ensures.kind.0 in (
+      next_free rs (fields_of c.args.row.now) c.args.earlier len c.in_ok-kind.ensures.free
+          (count_within c.args.tally.now (record_kind c.in_ok-kind.kind) rs (fields_of c.args.row.now) c.count.result c.limit.result is tallies c.count.ensures c.limit.ensures c.if-count-limit.false),
+      c.record_of_kind.ensures ∙ record_of (fields_of c.args.row.now) (record_kind c.in_ok-kind.kind) is,
+      tally_more c.args.tally.now c.add.new.self (record_kind c.in_ok-kind.kind) rs (fields_of c.args.row.now) is tallies c.in_ok-add.ensures,
+    )

@@ -1,7 +1,7 @@
-use Rattle.std.proofs.Common.{◌≡◌, ◌∙◌, sym, ap, rules, arith, ℕ, true, false, List, [], ◌∷◌, length, vec_len, Err}
+use Rattle.std.proofs.Common.{◌≡◌, ◌∙◌, rules, [], ◌∷◌, length, vec_len, Err}
 use Rattle.std.proofs.lemmas.Bool.Decides.{when_true, when_false}
 use Rattle.csv.specs.Records.{fields_of}
-use Rattle.span_csv.specs.Records.{Fields, records_of}
+use Rattle.span_csv.specs.Records.{records_of}
 use Rattle.span_csv.proofs.ReadLemmas.{so_far_count, so_far_more, read_empty, read_all, read_fault, is_emptied, not_emptied}
 use Rattle.span_csv.proofs.params.read_records.Goals as goal
 
@@ -12,7 +12,7 @@ returns-in_err-record c =
     let count : length c.loop-records.records.items ≡ c.len.result = search rules in
     let e : c.from_residual-in_err-record.result ≡ Err c.in_err-record.field-0.0 = search rules in
     rw e (read_fault c.args.bytes.now c.loop-records.records.items c.loop-records.tally (fields_of c.next.new.row) c.loop-records.rows c.next.new.self c.in_err-record.field-0.0 so_far found
-        (c.in_err-record.ensures so_far.earlier (so_far_count _ _ _ _ so_far ∙ count) so_far.tallies))
+    (c.in_err-record.ensures so_far.earlier (so_far_count _ _ _ _ so_far ∙ count) so_far.tallies))
 
 pub loop-records-preserved : goal.loop-records-preserved
 loop-records-preserved c =
@@ -20,7 +20,7 @@ loop-records-preserved c =
     let found : c.loop-records.rows ≡ fields_of c.next.new.row ∷ c.next.new.self = when_true _ _ c.if-branch.true c.in_ok-next.ensures.found in
     let count : length c.loop-records.records.items ≡ c.len.result = search rules in
     rw c.in_ok-push.ensures.items (so_far_more (records_of c.args.bytes.now) c.loop-records.records.items c.loop-records.tally c.next_record.new.tally (fields_of c.next.new.row) c.loop-records.rows c.next.new.self c.in_ok-record.record so_far found
-        (c.in_ok-record.ensures so_far.earlier (so_far_count _ _ _ _ so_far ∙ count) so_far.tallies))
+    (c.in_ok-record.ensures so_far.earlier (so_far_count _ _ _ _ so_far ∙ count) so_far.tallies))
 
 pub returns-then-is_empty : goal.returns-then-is_empty
 returns-then-is_empty c =

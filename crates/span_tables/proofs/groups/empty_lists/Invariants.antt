@@ -1,4 +1,4 @@
-use Rattle.std.proofs.Common.{◌≡◌, List, [], map}
+use Rattle.std.proofs.Common.{◌≡◌, [], map}
 use Rattle.std.proofs.Math.ListN.{replicate}
 use Rattle.span_tables.proofs.groups.empty_lists.Given as goal
 

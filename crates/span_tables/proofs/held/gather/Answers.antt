@@ -1,4 +1,4 @@
-use Rattle.std.proofs.Common.{sym, ap, refl, ◌∙◌}
+use Rattle.std.proofs.Common.{sym}
 use Rattle.span_tables.specs.Net.{held_of}
 use Rattle.span_tables.specs.Holdings.{AreHeld}
 use Rattle.std.proofs.Common.{◌≡◌, subst, arith}
@@ -15,8 +15,8 @@ loop-holding-init c = c.new-held.ensures.items
 pub loop-holding-preserved : goal.loop-holding-preserved
 loop-holding-preserved c =
     elim c.if-is_of.branch [
-      then-is_of+in_ok-push w ↦ rw w.held-is (gathered_some _ _ _ _ _ _ _ _ _ _ _ c.contracts-contracts.ensures.value c.holdings-holding-items.ensures.value c.loop-holding-test.true c.requires.fits c.loop-holding.invariant w.if-is_of.ensures w.index-contracts-holding.is w.held_contract.ensures w.in_ok-push.ensures.items)
-    | else-is_of w ↦ rw w.held-is (gathered_none _ _ _ _ _ _ _ c.holdings-holding-items.ensures.value c.loop-holding-test.true c.loop-holding.invariant w.if-is_of.ensures)
+      | then-is_of+in_ok-push w ↦ rw w.held-is (gathered_some _ _ _ _ _ _ _ _ _ _ _ c.contracts-contracts.ensures.value c.holdings-holding-items.ensures.value c.loop-holding-test.true c.requires.fits c.loop-holding.invariant w.if-is_of.ensures w.index-contracts-holding.is w.held_contract.ensures w.in_ok-push.ensures.items)
+      | else-is_of w ↦ rw w.held-is (gathered_none _ _ _ _ _ _ _ c.holdings-holding-items.ensures.value c.loop-holding-test.true c.loop-holding.invariant w.if-is_of.ensures)
     ]
 
 pub new-requires : goal.new-requires

@@ -1,6 +1,5 @@
-use Rattle.std.proofs.Common.{◌≡◌, true, ap, subst, ◌∙◌, IfOk}
-use Rattle.span_tables.specs.Limits.{is_readable}
-use Rattle.span_tables.specs.Tables.{AcceptedTables, set_id_in, tables_of}
+use Rattle.std.proofs.Common.{◌≡◌, ap, subst, ◌∙◌, IfOk}
+use Rattle.span_tables.specs.Tables.{AcceptedTables, set_id_in}
 use Rattle.span_tables.proofs.WithinLimits.{readable}
 use Rattle.span_tables.proofs.TablesMade.{accepted_as, same_tables}
 use Rattle.span_tables.proofs.tables.Tables.new.Goals as goal
