@@ -11,7 +11,7 @@ pub(crate) fn intras_by_priority(
 ) -> Result<Vec<IntraRecord>, AllocError>
     ensures { IfOk result (λ sorted. sorted.items ≡ rising_by (λ s. s.priority) spreads.items) }
 {
-    spreads.sort_by_key(|spread| spread.priority)?;
+    spreads.sort_by_key(|intra| intra.priority)?;
     Ok(spreads)
 }
 
@@ -21,6 +21,6 @@ pub(crate) fn inters_by_priority(
 ) -> Result<Vec<InterRecord>, AllocError>
     ensures { IfOk result (λ sorted. sorted.items ≡ rising_by (λ s. s.priority) spreads.items) }
 {
-    spreads.sort_by_key(|spread| spread.priority)?;
+    spreads.sort_by_key(|inter| inter.priority)?;
     Ok(spreads)
 }
