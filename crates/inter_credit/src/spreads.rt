@@ -159,7 +159,7 @@ fn spread_one_way(lines: &mut [InterLine], spread: &Inter, direction: Direction)
 
 // A spread in both directions, with A long first.
 #[tactic(auto, unfolding(crate::specs::Credits::inter_both_ways))]
-fn spread_both_ways(lines: &mut [InterLine], spread: &Inter)
+pub(crate) fn spread_both_ways(lines: &mut [InterLine], spread: &Inter)
     requires lines { All IsLine lines.old }
     requires spread { IsInter (length lines.old) spread.now }
     ensures value { lines.new ≡ inter_both_ways lines.old spread.now }
@@ -181,7 +181,7 @@ pub fn inter_spread(
     ensures value { IfOk result (λ next. next ≡ inter_both_ways state.now spread.now) }
     ensures length { IfOk result (λ next. length next ≡ length state.now) }
 {
-    let mut lines = Vec::from_slice(alloc, state.lines())?;
-    spread_both_ways(&mut lines, spread);
-    Ok(InterState::of(lines))
+    let mut state = state.copied(alloc)?;
+    state.spread(spread);
+    Ok(state)
 }

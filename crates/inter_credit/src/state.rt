@@ -1,10 +1,13 @@
 //! For each commodity its net delta, what spreads have left of it, its price risk, and what earns its credit.
 ghost use Rattle.std.specs.Prelude.{◌≡◌, ◌<◌, ◌≤◌, ◌==◌, length, replicate, slice_set, All, IfOk, pos, nat_abs};
-ghost use Rattle.inter_credit.specs.Credits.{loaded};
+ghost use Rattle.inter_credit.specs.Credits.{inter_both_ways, loaded};
+ghost use Rattle.span_tables.specs.Accepted.{IsInter};
 ghost use Rattle.inter_credit.specs.States.{IsLine, IsNotLoaded, IsUnspread};
 ghost use Rattle.inter_credit.specs.declared.state.TheConstants.{MAX_PRICE2, MAX_UNITS};
 
+use crate::spreads::spread_both_ways;
 use span_money::amounts::Units;
+use span_tables::records::Inter;
 use std::alloc::{AllocError, Global};
 use std::marker::Model;
 
@@ -66,6 +69,38 @@ impl InterState {
         &self.lines
     }
 
+    /// The same state again. `Err` is want of memory.
+    pub fn copied(&self, alloc: Global) -> Result<InterState, AllocError>
+        ensures { IfOk result (λ state. state ≡ self.now) }
+    {
+        let lines = Vec::from_slice(alloc, &self.lines)?;
+        Ok(InterState::of(lines))
+    }
+
+    /// Gives a commodity its net delta and its price risk; its rest is its full net delta.
+    ///
+    /// Nothing was loaded for that commodity, and no spread was formed.
+    pub fn load(&mut self, commodity: usize, net: Units, price2: u64)
+        requires commodity { commodity < length self.old }
+        requires net { nat_abs net ≤ MAX_UNITS }
+        requires price2 { price2 ≤ MAX_PRICE2 }
+        requires not_loaded { IsNotLoaded self.old commodity }
+        requires unspread { IsUnspread self.old }
+        ensures value { self.new ≡ slice_set self.old commodity (loaded net price2) }
+        ensures unspread { IsUnspread self.new }
+    {
+        self.lines[commodity] = loaded(net, price2);
+    }
+
+    /// Forms a spread in both directions, with A long first: in each, as many as every leg has room for.
+    pub fn spread(&mut self, spread: &Inter)
+        requires { IsInter (length self.old) spread.now }
+        ensures value { self.new ≡ inter_both_ways self.old spread.now }
+        ensures length { length self.new ≡ length self.old }
+    {
+        spread_both_ways(&mut self.lines, spread);
+    }
+
     // These lines.
     pub(crate) fn of(lines: Vec<InterLine>) -> InterState
         requires { All IsLine lines.items }
@@ -114,7 +149,7 @@ pub fn load(
     ensures value { IfOk result (λ next. next ≡ slice_set state.now commodity (loaded net price2)) }
     ensures unspread { IfOk result IsUnspread }
 {
-    let mut lines = Vec::from_slice(alloc, state.lines())?;
-    lines[commodity] = loaded(net, price2);
-    Ok(InterState::of(lines))
+    let mut state = state.copied(alloc)?;
+    state.load(commodity, net, price2);
+    Ok(state)
 }

@@ -109,7 +109,7 @@ in_range contracts [] i d all lt = absurd (omega arith)
 in_range contracts (h ∷ hs) zero d all lt = let e : ltb h.contract contracts ≡ true = (and_true _ _ all).0 in grind (arith, nat_tests)
 in_range contracts (h ∷ hs) (suc i) d all lt = in_range contracts hs i d (and_true _ _ all).1 (omega arith)
 
-get_some : {X : Type 0} (xs : List X) (k : ℕ) (x : X) → k < length xs → x ≡ get_or xs k x → slice_get xs k ≡ Some x
+pub get_some : {X : Type 0} (xs : List X) (k : ℕ) (x : X) → k < length xs → x ≡ get_or xs k x → slice_get xs k ≡ Some x
 get_some [] k x lt is = absurd (omega arith)
 get_some (y ∷ ys) zero x lt is = ap Some (sym is)
 get_some (y ∷ ys) (suc k) x lt is = get_some ys k x (omega arith) is

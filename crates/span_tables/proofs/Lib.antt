@@ -18,3 +18,4 @@ pub mod TablesMade
 pub mod NameLaws
 pub mod SampleLaws
 pub mod NameLemmas
+pub mod GatherLemmas

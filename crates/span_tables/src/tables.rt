@@ -1,7 +1,7 @@
 //! The accepted tables of a set of parameters.
-ghost use Rattle.std.specs.Prelude.{◌≡◌, ◌<◌, ◌≤◌, [], bytes_eq, length, map, slice_get, slice_index_or, false, true, All, IfOk};
+ghost use Rattle.std.specs.Prelude.{◌≡◌, ◌<◌, ◌≤◌, [], bytes_eq, length, map, slice_get, slice_index_or, false, true, All, IfOk, IfSome};
 ghost use Rattle.std.specs.Option.{option_map_or};
-ghost use Rattle.span_tables.specs.Accepted.{IsAccepted, IsInter, IsIntra, IsSpot, IsWithinLimits, commodity_id};
+ghost use Rattle.span_tables.specs.Accepted.{IsAccepted, IsInter, IsIntra, IsSpot, IsWithinLimits, commodity_id, commodity_number};
 ghost use Rattle.span_tables.specs.Rules.{keeps_rules};
 ghost use Rattle.span_tables.specs.Tables.{inters_of, intras_of, spots_of, tables_of};
 ghost use Rattle.span_tables.specs.declared.limits.TheConstants.{MAX_INTER_SPREADS, MAX_INTRA_SPREADS, MAX_SPOT_MONTHS};
@@ -179,6 +179,15 @@ impl Tables {
         ensures { result ≡ option_map_or (λ x. bytes_eq x.commodity (commodity_id self.now commodity)) (slice_get self.now.contracts contract) false }
     {
         self.commodity_numbers[contract] == commodity
+    }
+
+    /// The number of the commodity of the contract of a number.
+    pub fn commodity_of(&self, contract: usize) -> usize
+        requires { contract < length self.now.contracts }
+        ensures value { IfSome (slice_get self.now.contracts contract) (λ x. result ≡ commodity_number self.now.commodities x.commodity) }
+        ensures known { result < length self.now.commodities }
+    {
+        self.commodity_numbers[contract]
     }
 
     /// The tiers in file order.

@@ -9,3 +9,4 @@ pub mod UseLemmas
 pub mod SizeLemmas
 pub mod SpreadLemmas
 pub mod FallLemmas
+pub mod ClosedLemmas

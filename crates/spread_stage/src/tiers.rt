@@ -1,12 +1,13 @@
 //! The rests of months after intracommodity spreads, and the exact charge of the spreads.
 ghost use Rattle.std.specs.Prelude.{◌≡◌, ℕ, ◌+◌, ◌*◌, ◌<◌, ◌≤◌, List, [], ◌∷◌, length, All, IfOk};
+ghost use Rattle.std.specs.List.{list_any};
 ghost use Rattle.span_tables.specs.Accepted.{IsIntra};
 ghost use Rattle.span_tables.specs.Sides.{spreads_formed};
 ghost use Rattle.span_tables.specs.declared.limits.TheConstants.{MAX_RATE};
 ghost use Rattle.spread_stage.specs.Market.{direction_of, market_of};
 ghost use Rattle.spread_stage.specs.Months.{AreMonths, AreTierRests, MonthsRise, Shrinks, total_size};
 ghost use Rattle.spread_stage.specs.Spreads.{is_in_tier, rests_after, rests_after_leg, spread_both_ways, tier_rooms, tier_side, unspread};
-ghost use Rattle.spread_stage.specs.Steps.{used_now};
+ghost use Rattle.spread_stage.specs.Steps.{has_closed_leg, is_open, used_now};
 ghost use Rattle.spread_stage.specs.declared.months.MonthUnits.{MonthUnits};
 ghost use Rattle.spread_stage.specs.declared.months.TheConstants.{MAX_UNITS};
 
@@ -53,6 +54,26 @@ impl TierState {
     {
         self.charge
     }
+
+    /// The same state again. `Err` is want of memory.
+    pub fn copied(&self, alloc: Global) -> Result<TierState, AllocError>
+        ensures { IfOk result (λ tiers. tiers ≡ self.now) }
+    {
+        let rests = Vec::from_slice(alloc, &self.rests)?;
+        Ok(TierState {
+            rests,
+            charge: self.charge,
+        })
+    }
+
+    /// Forms one more spread in both directions, with side A long first.
+    pub fn spread(&mut self, intra: &Intra)
+        requires { IsIntra intra.now }
+        ensures value { self.new ≡ spread_both_ways self.old intra.now }
+        ensures shrinks { (months : List MonthUnits) → Shrinks months self.old.rests → Shrinks months self.new.rests }
+    {
+        self.charge += spread_rests(&mut self.rests, intra);
+    }
 }
 
 // Whether a month is one of a leg's tier.
@@ -60,6 +81,27 @@ fn is_in_tier(leg: &MonthLeg, month: &MonthUnits) -> bool
     ensures { result ≡ is_in_tier leg.now month.now }
 {
     leg.first <= month.month && month.month <= leg.last
+}
+
+// Whether a month is one of a leg's tier and has units.
+fn is_open(leg: &MonthLeg, month: &MonthUnits) -> bool
+    ensures { result ≡ is_open leg.now month.now }
+{
+    is_in_tier(leg, month) && month.units.get().unsigned_abs() != 0
+}
+
+// Whether some month of a leg's tier has units.
+fn has_open(rests: &[MonthUnits], leg: &MonthLeg) -> bool
+    ensures { result ≡ list_any (is_open leg.now) rests.now }
+{
+    rests.iter().any(|month| is_open(leg, month))
+}
+
+// Whether some leg's tier has no month with units: then no spread is formed in either direction.
+fn has_closed_leg(rests: &[MonthUnits], legs: &[MonthLeg]) -> bool
+    ensures { result ≡ has_closed_leg rests.now legs.now }
+{
+    legs.iter().any(|leg| !has_open(rests, leg))
 }
 
 // The side of a leg's tier: the sum of its months' parts.
@@ -195,6 +237,9 @@ fn spread_rests(rests: &mut [MonthUnits], intra: &Intra) -> u128
     ensures shrinks { (months : List MonthUnits) → Shrinks months rests.old → Shrinks months rests.new }
 {
     let legs = intra.legs.as_slice();
+    if has_closed_leg(rests, legs) {
+        return 0;
+    }
     let first = spread_one_way(rests, Direction::ALong, legs);
     let second = spread_one_way(rests, Direction::AShort, legs);
     charge_of(first, intra.rate) + charge_of(second, intra.rate)
@@ -206,7 +251,7 @@ pub fn spread(alloc: Global, tiers: &TierState, intra: &Intra) -> Result<TierSta
     ensures value { IfOk result (λ t. t ≡ spread_both_ways tiers.now intra.now) }
     ensures shrinks { (months : List MonthUnits) → Shrinks months tiers.now.rests → IfOk result (λ t. Shrinks months t.rests) }
 {
-    let mut rests = Vec::from_slice(alloc, tiers.rests())?;
-    let charge = tiers.charge() + spread_rests(&mut rests, intra);
-    Ok(TierState { rests, charge })
+    let mut tiers = tiers.copied(alloc)?;
+    tiers.spread(intra);
+    Ok(tiers)
 }

@@ -4,3 +4,4 @@ pub mod LoadLemmas
 pub mod PlaceLemmas
 pub mod RowLemmas
 pub mod WriteLemmas
+pub mod NothingHeld

@@ -8,7 +8,7 @@ use Rattle.span_tables.specs.Tables.{AcceptedTables, inters_of}
 use Rattle.inter_credit.specs.Credits.{after_inter_spreads}
 use Rattle.span_tables.specs.declared.portfolios.Holding.{Holding}
 use Rattle.span_tables.specs.declared.records.Commodity.{Commodity}
-use Rattle.statement.specs.Figures.{credited, figures_of, held_of_all, inter_lines, is_held_in, line_of, stages_of}
+use Rattle.statement.specs.Figures.{credited, figures_of, held_of_all, inter_lines, is_held_in, line_of, stages_from, stages_of}
 use Rattle.statement.specs.Statement.{held_figures, row_of, total_of}
 use Rattle.statement.specs.Rows.{RowView}
 use Rattle.span_tables.specs.Net.{AccountHoldings}
@@ -54,7 +54,7 @@ module _ (tables : AcceptedTables) (holdings : List Holding) where
 
   held_from : (n : ℕ) (cs : List Commodity) → held_of_all cs (map (stages_of tables holdings) cs) (map (figures_of tables holdings) (enumerate_from n cs))
       ≡ map row_at (filter (λ numbered. is_held_in tables holdings numbered.1) (enumerate_from n cs))
-  unfolding stages_of row_at
+  unfolding stages_from row_at
   held_from n [] = refl
   held_from n (c ∷ cs) = shown_if (is_held_in tables holdings c) (n, c) _ [] _ (held_from (n + 1) cs)
 

@@ -25,10 +25,9 @@ held_in tables holdings c = held_of tables.contracts holdings c.id
 abbrev pub is_held_in : AcceptedTables → List Holding → Commodity → Bool
 is_held_in tables holdings c = not (length (held_in tables holdings c) == 0)
 
--- what the stages of a commodity by itself give: all but its credit
-unfoldable pub stages_of : AcceptedTables → List Holding → Commodity → Stages
-stages_of tables holdings c =
-    let held = held_in tables holdings c in
+-- what the stages of a commodity by itself give, of what is held of it: all but its credit
+unfoldable pub stages_from : AcceptedTables → Commodity → List HeldContract → Stages
+stages_from tables c held =
     let deltas = month_deltas held in
     let tiers = after_spreads (intras_of tables c.id) deltas in
     record {
@@ -39,6 +38,10 @@ stages_of tables holdings c =
       delivery = pos (delivery_charge deltas tiers.rests (spots_of tables c.id));
       minimum = pos (minimum_of c.minimum_rate c.method held);
     }
+
+-- what they give for an account
+abbrev pub stages_of : AcceptedTables → List Holding → Commodity → Stages
+stages_of tables holdings c = stages_from tables c (held_in tables holdings c)
 
 -- a commodity's line before any intercommodity spread: its full net delta, and its price risk doubled
 abbrev pub line_of : Stages → InterLine

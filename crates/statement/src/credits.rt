@@ -6,8 +6,7 @@ ghost use Rattle.statement.specs.Figures.{line_of};
 ghost use Rattle.std.specs.Prelude.{◌≡◌, ◌≤◌, All, IfOk, length, map};
 
 use crate::stages::Stages;
-use inter_credit::spreads::inter_spread;
-use inter_credit::state::{InterState, empty, load};
+use inter_credit::state::{InterState, empty};
 use span_tables::records::Inter;
 use std::alloc::{AllocError, Global};
 
@@ -18,27 +17,21 @@ fn load_all(alloc: Global, all: &[Stages]) -> Result<InterState, AllocError>
 {
     let mut state = empty(alloc, all.len())?;
     for (number, stages) in all.iter().enumerate() {
-        state = load(alloc, &state, number, stages.net, stages.scan.price2)?;
+        state.load(number, stages.net, stages.scan.price2);
     }
     Ok(state)
 }
 
-// The state after these spreads, in their order.
+// Forms these spreads, in their order.
 #[tactic(auto, unfolding(inter_credit::specs::Credits::after_inter_spreads))]
-fn spread_all(
-    alloc: Global,
-    loaded: InterState,
-    spreads: &[Inter],
-) -> Result<InterState, AllocError>
-    requires { All (IsInter (length loaded)) spreads.now }
-    ensures value { IfOk result (λ state. state ≡ after_inter_spreads spreads.now loaded) }
-    ensures length { IfOk result (λ state. length state ≡ length loaded) }
+fn spread_all(state: &mut InterState, spreads: &[Inter])
+    requires { All (IsInter (length state.old)) spreads.now }
+    ensures value { state.new ≡ after_inter_spreads spreads.now state.old }
+    ensures length { length state.new ≡ length state.old }
 {
-    let mut state = loaded;
     for spread in spreads {
-        state = inter_spread(alloc, &state, spread)?;
+        state.spread(spread);
     }
-    Ok(state)
 }
 
 /// The commodities of these stages after the intercommodity spreads, in their order.
@@ -52,6 +45,7 @@ pub fn credit_state(
     ensures value { IfOk result (λ state. state ≡ after_inter_spreads spreads.now (map line_of all.now)) }
     ensures length { IfOk result (λ state. length state ≡ length all.now) }
 {
-    let loaded = load_all(alloc, all)?;
-    spread_all(alloc, loaded, spreads)
+    let mut state = load_all(alloc, all)?;
+    spread_all(&mut state, spreads);
+    Ok(state)
 }

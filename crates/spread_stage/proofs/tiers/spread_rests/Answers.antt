@@ -1,6 +1,15 @@
-use Rattle.std.proofs.Common.{◌≡◌, ◌+◌, ◌*◌, refl, arith}
+use Rattle.std.proofs.Common.{◌≡◌, ◌+◌, ◌*◌, ℕ, List, refl, sym, ap, ◌∙◌, arith}
+use Rattle.spread_stage.specs.Spreads.{TierRests}
+use Rattle.spread_stage.proofs.ClosedLemmas.{both_ways_closed}
 use Rattle.spread_stage.proofs.SpreadLemmas.{both_ways}
 use Rattle.spread_stage.proofs.tiers.spread_rests.Goals as goal
+
+pub returns-then-has_closed_leg-clause-value : goal.returns-then-has_closed_leg-clause-value
+returns-then-has_closed_leg-clause-value c charge =
+    let t : TierRests = record { rests = c.args.rests.now; charge = charge } in
+    let none : charge + 0 ≡ charge = omega arith in
+    ap (λ (n : ℕ). let u : TierRests = record { rests = c.args.rests.now; charge = n } in u) none
+    ∙ sym (both_ways_closed t c.args.intra.now c.as_slice-legs.result.now c.args.rests.now c.as_slice-legs.ensures.value refl (sym c.has_closed_leg.ensures ∙ c.if-has_closed_leg.true))
 
 pub returns-clause-value : goal.returns-clause-value
 returns-clause-value c charge =

@@ -4,6 +4,6 @@ use Rattle.statement.proofs.credits.spread_all.Given as goal
 
 abbrev pub invariant-loop-spread : goal.invariant-loop-spread
 invariant-loop-spread l = record {
-  value : l.state ≡ after_inter_spreads (take l.spread-index l.spreads) l.fn.loaded;
-  length : length l.state ≡ length l.fn.loaded;
+  value : l.state ≡ after_inter_spreads (take l.spread-index l.spreads) l.fn.state;
+  length : length l.state ≡ length l.fn.state;
 }
