@@ -71,11 +71,7 @@ fn check<'a, S: Sources>(
 }
 
 // The statement of the bytes of two files.
-fn statement<'a>(
-    alloc: Global,
-    params: Vec<u8>,
-    positions: Vec<u8>,
-) -> Result<Vec<u8>, Refusal<'a>>
+fn statement<'a>(alloc: Global, params: Vec<u8>, positions: Vec<u8>) -> Result<Vec<u8>, Refusal<'a>>
     ensures { Runs (λ text. text.items) (answer_of (statement_of params.items positions.items)) result }
 {
     match margin_plain(alloc, params.as_slice(), positions.as_slice()) {

@@ -13,8 +13,29 @@ use std::alloc::{AllocError, Global};
 use std::convert::AsStr;
 use std::io::Write;
 
-const PARAMS_HELP: &str = "The parameter file: one SET record, and the COMMODITY, CONTRACT, TIER, INTRA, SPOT and INTER records of the set";
-const POSITIONS_HELP: &str = "The position file: records of an account, a contract and a quantity of contracts, long or (with a minus) short";
+const PARAMS_HELP: &str =
+    "Parameter file (CSV): a set with its commodities, contracts, tiers and spreads";
+
+const POSITIONS_HELP: &str =
+    "Position file (CSV): account, contract, quantity in contracts (minus is short)";
+
+const SPAN_MORE: &str = "\
+docs/FORMATS.md describes the files, what is printed, faults and statuses.
+docs/METHOD.md describes the method and the units.";
+
+const CHECK_MORE: &str = "\
+Prints one line, with the id of the set and how many records of each kind it has:
+  OK,set,commodities,contracts,tiers,intra,spots,inter
+A file that is no valid set is refused with its first fault and the number of the record.
+docs/FORMATS.md describes the records and the faults.";
+
+const MARGIN_MORE: &str = "\
+Prints a line for each commodity that an account holds, then one for its total:
+  R,account,set,commodity,scan,active,intra,delivery,credit,minimum,requirement
+  T,account,set,total
+Amounts are whole numbers in the minor unit of the set's currency, as cents for USD;
+`active` is the scenario, 1 to 16, that decides the scan risk.
+docs/FORMATS.md describes the files and the statement, docs/METHOD.md the figures.";
 
 // A file's name, which has to be given.
 fn file<'a>(alloc: Global, id: &'a str, help: &'a str) -> Arg<'a>
@@ -28,7 +49,9 @@ fn check<'a>(alloc: Global) -> Result<Command<'a>, AllocError>
     ensures shape { IfOk result (λ c. app_of c ≡ check_app) }
     ensures local { IfOk result (λ c. (fields_of c).has_globals ≡ false) }
 {
-    let command = Command::new(alloc, "check").about("Checks a parameter file and counts its records");
+    let command = Command::new(alloc, "check")
+        .about("Checks a parameter file and counts its records")
+        .after_help(CHECK_MORE);
     let command = command.arg(file(alloc, "PARAMS", PARAMS_HELP))?;
     Ok(command)
 }
@@ -37,7 +60,9 @@ fn margin<'a>(alloc: Global) -> Result<Command<'a>, AllocError>
     ensures shape { IfOk result (λ c. app_of c ≡ margin_app) }
     ensures local { IfOk result (λ c. (fields_of c).has_globals ≡ false) }
 {
-    let command = Command::new(alloc, "margin").about("Prints the margin statement of every account");
+    let command = Command::new(alloc, "margin")
+        .about("Prints the margin statement of every account")
+        .after_help(MARGIN_MORE);
     let command = command.arg(file(alloc, "PARAMS", PARAMS_HELP))?;
     let command = command.arg(file(alloc, "POSITIONS", POSITIONS_HELP))?;
     Ok(command)
@@ -50,6 +75,7 @@ fn span<'a>(alloc: Global) -> Result<Command<'a>, AllocError>
     let margin = margin(alloc)?;
     let command = Command::new(alloc, "span")
         .about("Margins futures and options accounts by the SPAN method")
+        .after_help(SPAN_MORE)
         .subcommand_required(true);
     let command = command.subcommand(check)?;
     let command = command.subcommand(margin)?;
