@@ -11,7 +11,7 @@ use Rattle.statement.specs.Answers.{is_memory}
 use Rattle.statement.specs.FaultLines.{fault_line, fault_status, memory_line}
 use Rattle.statement.specs.declared.faults.SpanFault.{SpanFault}
 use Rattle.statement.specs.declared.faults.SpanFault.TheVariants as fault
-use Rattle.span_cli.specs.Serving.{Answer, Answers, Asked, a_margin, IsGiven, IsUnsaid, IsUnwritten, OfAnswer, Refuses, Responds, Serves, done, margin_answer, memory, refusal_line, refusal_status, refused}
+use Rattle.span_cli.specs.Serving.{Answer, Answers, Asked, a_check, a_margin, IsGiven, IsUnsaid, IsUnwritten, OfAnswer, Refuses, Responds, Serves, check_answer, done, margin_answer, memory, refusal_line, refusal_status, refused}
 use Rattle.span_cli.specs.Sources.{File}
 use Rattle.span_cli.specs.declared.serving.Unwritten.{Unwritten}
 use Rattle.span_cli.specs.declared.serving.Unwritten.TheVariants as unwritten
@@ -47,6 +47,10 @@ refusal_serves answer (refusal.Fault e) given out old_err new_err run status lin
 
 -- what follows from a fact about the answer
 pub OfAnswer-map : (file : List ℕ → Option File) (asked : Asked) (P Q : Answer → Type 0) → ((a : Answer) → P a → Q a) → OfAnswer file asked P → OfAnswer file asked Q
+OfAnswer-map file (a_check params) P Q f h = by_file (file params) h where
+  by_file : (p : Option File) → IfSome p (λ x. P (check_answer params x)) → IfSome p (λ x. Q (check_answer params x))
+  by_file None k = tt
+  by_file (Some x) k = f (check_answer params x) k
 OfAnswer-map file (a_margin params positions) P Q f h = by_files (file params) (file positions) h where
   by_files : (p q : Option File) → IfSome p (λ x. IfSome q (λ y. P (margin_answer params positions x y))) → IfSome p (λ x. IfSome q (λ y. Q (margin_answer params positions x y)))
   by_files None q k = tt

@@ -1,11 +1,15 @@
 -- What the words of a command line ask for.
 use Rattle.std.specs.Prelude.{Bool, true, ℕ, List, Option, Some, None, codes, bytes_eq, if◌then◌else◌, option_map, option_and_then}
 use Rattle.clap.specs.Words.{App, Kinds, Row, Rule, Text, first_of, new_app, new_rule, fault_of, subcommand_of, takes, with_rule, with_subcommand}
-use Rattle.span_cli.specs.Serving.{Asked, a_margin}
+use Rattle.span_cli.specs.Serving.{Asked, a_check, a_margin}
 
 -- a file's name, which has to be given
 abbrev pub file_rule : Text → Rule
 file_rule id = record (new_rule id) { required = true }
+
+-- the command `check PARAMS`
+abbrev pub check_app : App
+check_app = with_rule (new_app (codes "check")) (file_rule (codes "PARAMS"))
 
 -- the command `margin PARAMS POSITIONS`
 abbrev pub margin_app : App
@@ -17,7 +21,11 @@ bare_app = let a = new_app (codes "span") in record a { top = record a.top { sub
 
 -- the program
 abbrev pub span_app : App
-span_app = with_subcommand bare_app margin_app.top
+span_app = with_subcommand (with_subcommand bare_app check_app.top) margin_app.top
+
+-- the file behind `check`
+abbrev pub check_in : List Row → Option Asked
+check_in rows = option_map (λ params. a_check params) (first_of (codes "PARAMS") rows)
 
 -- the files behind `margin`
 abbrev pub margin_in : List Row → Option Asked
@@ -25,9 +33,16 @@ margin_in rows =
     option_and_then (λ params. option_map (λ positions. a_margin params positions) (first_of (codes "POSITIONS") rows))
     (first_of (codes "PARAMS") rows)
 
+-- what a command of this name asks for
+abbrev pub asked_under : Text → List Row → Option Asked
+asked_under name rows =
+    if bytes_eq name (codes "check") then check_in rows
+    else if bytes_eq name (codes "margin") then margin_in rows
+    else None
+
 -- what the words ask for, if anything
 abbrev pub asked_in : List Text → Option Asked
-asked_in words = option_and_then (λ p. margin_in p.1) (subcommand_of span_app words)
+asked_in words = option_and_then (λ p. asked_under p.0 p.1) (subcommand_of span_app words)
 
 -- whether the words are a command line of the program
 unfoldable pub is_taken : List Text → Bool

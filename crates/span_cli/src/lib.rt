@@ -5,4 +5,8 @@ pub mod disk;
 pub mod memory;
 pub mod serving;
 pub mod sources;
+#[cfg(test)]
+mod tests;
+#[cfg(test)]
+mod tests_files;
 pub mod words;

@@ -1,11 +1,13 @@
 //! Requests, and the bytes that answer them.
-ghost use Rattle.span_cli.specs.Serving.{Answers, Loads, OfAnswer, Responds, Runs, answer_of, asked_by, file_line, margin_answer, refusal_line, refusal_status};
+ghost use Rattle.span_cli.specs.Serving.{Answers, Loads, OfAnswer, Responds, Runs, answer_of, asked_by, check_answer, file_line, margin_answer, refusal_line, refusal_status};
 ghost use Rattle.span_cli.specs.declared.serving.Unwritten.TheVariants as unwritten;
+ghost use Rattle.statement.specs.Counts.{counts_of};
 ghost use Rattle.statement.specs.Statement.{statement_of};
 ghost use Rattle.std.specs.Io.KnownBytes.{Appends};
 ghost use Rattle.std.specs.Prelude.{◌≡◌, IfErr, IfOk, IfSome, List, OnOk, ℕ};
 
 use crate::sources::{ReadFault, Sources};
+use statement::counts::check_plain;
 use statement::faults::{SpanFault, status, write_fault};
 use statement::margin::margin_plain;
 use std::alloc::Global;
@@ -15,6 +17,8 @@ use std::io::Write;
 /// What the program is asked for, with the names of its files.
 #[derive(Clone, Copy, Debug)]
 pub enum Request<'a> {
+    /// The counts of a parameter file by itself.
+    Check { params: &'a str },
     /// The statement of a position file under a parameter file.
     Margin { params: &'a str, positions: &'a str },
 }
@@ -44,12 +48,30 @@ fn load<'a, S: Sources>(
     }
 }
 
-// The statement of the bytes of two files.
-fn statement<'a>(
+// The counts of the bytes of a file.
+fn counts<'a>(alloc: Global, params: Vec<u8>) -> Result<Vec<u8>, Refusal<'a>>
+    ensures { Runs (λ text. text.items) (answer_of (counts_of params.items)) result }
+{
+    match check_plain(alloc, params.as_slice()) {
+        Ok(text) => Ok(text),
+        Err(fault) => Err(Refusal::Fault(fault)),
+    }
+}
+
+// The counts of a file.
+fn check<'a, S: Sources>(
     alloc: Global,
-    params: Vec<u8>,
-    positions: Vec<u8>,
+    sources: &mut S,
+    params: &'a str,
 ) -> Result<Vec<u8>, Refusal<'a>>
+    ensures { IfSome (S.file sources.old params.entry.now) (λ p. Runs (λ text. text.items) (check_answer params.entry.now p) result) }
+{
+    let param_bytes = load(alloc, sources, params)?;
+    counts(alloc, param_bytes)
+}
+
+// The statement of the bytes of two files.
+fn statement<'a>(alloc: Global, params: Vec<u8>, positions: Vec<u8>) -> Result<Vec<u8>, Refusal<'a>>
     ensures { Runs (λ text. text.items) (answer_of (statement_of params.items positions.items)) result }
 {
     match margin_plain(alloc, params.as_slice(), positions.as_slice()) {
@@ -82,6 +104,7 @@ fn run<'a, S: Sources>(
     ensures { OfAnswer (S.file sources.old) (asked_by request.entry) (λ answer. Runs (λ text. text.items) answer result) }
 {
     match request {
+        Request::Check { params } => check(alloc, sources, params),
         Request::Margin { params, positions } => margin(alloc, sources, params, positions),
     }
 }

@@ -2,7 +2,7 @@
 ghost use Rattle.clap.specs.Words.{HasKind, app_of, first_of, found_of, kind_of, rows_of, rule_of, subcommand_of, subcommand_rows_of};
 ghost use Rattle.clap.specs.declared.builder.command.Command.TheViews.{out-Command as fields_of};
 ghost use Rattle.span_cli.specs.Serving.{Answers, OfAnswer, asked_by};
-ghost use Rattle.span_cli.specs.Words.{asked_in, file_rule, is_taken, kinds_of, margin_app, margin_in, span_app};
+ghost use Rattle.span_cli.specs.Words.{asked_in, asked_under, check_app, check_in, file_rule, is_taken, kinds_of, margin_app, margin_in, span_app};
 ghost use Rattle.std.specs.Prelude.{◌⊎◌, ◌≡◌, IfErr, IfOk, IfSome, false, map, option_map, true};
 
 use crate::serving::{Request, serve};
@@ -13,6 +13,30 @@ use std::alloc::{AllocError, Global};
 use std::convert::AsStr;
 use std::io::Write;
 
+const PARAMS_HELP: &str =
+    "Parameter file (CSV): a set with its commodities, contracts, tiers and spreads";
+
+const POSITIONS_HELP: &str =
+    "Position file (CSV): account, contract, quantity in contracts (minus is short)";
+
+const SPAN_MORE: &str = "\
+docs/FORMATS.md describes the files, what is printed, faults and statuses.
+docs/METHOD.md describes the method and the units.";
+
+const CHECK_MORE: &str = "\
+Prints one line, with the id of the set and how many records of each kind it has:
+  OK,set,commodities,contracts,tiers,intra,spots,inter
+A file that is no valid set is refused with its first fault and the number of the record.
+docs/FORMATS.md describes the records and the faults.";
+
+const MARGIN_MORE: &str = "\
+Prints a line for each commodity that an account holds, then one for its total:
+  R,account,set,commodity,scan,active,intra,delivery,credit,minimum,requirement
+  T,account,set,total
+Amounts are whole numbers in the minor unit of the set's currency, as cents for USD;
+`active` is the scenario, 1 to 16, that decides the scan risk.
+docs/FORMATS.md describes the files and the statement, docs/METHOD.md the figures.";
+
 // A file's name, which has to be given.
 fn file<'a>(alloc: Global, id: &'a str, help: &'a str) -> Arg<'a>
     ensures rule { rule_of result ≡ file_rule id.entry.now }
@@ -21,23 +45,39 @@ fn file<'a>(alloc: Global, id: &'a str, help: &'a str) -> Arg<'a>
     Arg::new(alloc, id).required(true).help(help)
 }
 
+fn check<'a>(alloc: Global) -> Result<Command<'a>, AllocError>
+    ensures shape { IfOk result (λ c. app_of c ≡ check_app) }
+    ensures local { IfOk result (λ c. (fields_of c).has_globals ≡ false) }
+{
+    let command = Command::new(alloc, "check")
+        .about("Checks a parameter file and counts its records")
+        .after_help(CHECK_MORE);
+    let command = command.arg(file(alloc, "PARAMS", PARAMS_HELP))?;
+    Ok(command)
+}
+
 fn margin<'a>(alloc: Global) -> Result<Command<'a>, AllocError>
     ensures shape { IfOk result (λ c. app_of c ≡ margin_app) }
     ensures local { IfOk result (λ c. (fields_of c).has_globals ≡ false) }
 {
-    let command = Command::new(alloc, "margin").about("Prints the margin statement of every account");
-    let command = command.arg(file(alloc, "PARAMS", "The parameter file: a set, its commodities, contracts and spreads"))?;
-    let command = command.arg(file(alloc, "POSITIONS", "The position file: lines of account, contract and quantity"))?;
+    let command = Command::new(alloc, "margin")
+        .about("Prints the margin statement of every account")
+        .after_help(MARGIN_MORE);
+    let command = command.arg(file(alloc, "PARAMS", PARAMS_HELP))?;
+    let command = command.arg(file(alloc, "POSITIONS", POSITIONS_HELP))?;
     Ok(command)
 }
 
 fn span<'a>(alloc: Global) -> Result<Command<'a>, AllocError>
     ensures shape { IfOk result (λ c. app_of c ≡ span_app) }
 {
+    let check = check(alloc)?;
     let margin = margin(alloc)?;
     let command = Command::new(alloc, "span")
         .about("Margins futures and options accounts by the SPAN method")
+        .after_help(SPAN_MORE)
         .subcommand_required(true);
+    let command = command.subcommand(check)?;
     let command = command.subcommand(margin)?;
     Ok(command)
 }
@@ -48,12 +88,34 @@ fn text<'a>(matches: &ArgMatches<'a>, id: &str) -> Option<&'a str>
     matches.get_str(id)
 }
 
+fn check_request<'a>(matches: &ArgMatches<'a>) -> Option<Request<'a>>
+    ensures { option_map asked_by result ≡ check_in (rows_of (found_of matches.now)) }
+{
+    match text(matches, "PARAMS") {
+        Some(params) => Some(Request::Check { params }),
+        None => None,
+    }
+}
+
 fn margin_request<'a>(matches: &ArgMatches<'a>) -> Option<Request<'a>>
     ensures { option_map asked_by result ≡ margin_in (rows_of (found_of matches.now)) }
 {
     match (text(matches, "PARAMS"), text(matches, "POSITIONS")) {
         (Some(params), Some(positions)) => Some(Request::Margin { params, positions }),
         _ => None,
+    }
+}
+
+// What a command of this name asks for.
+fn request_under<'a>(name: &str, matches: &ArgMatches<'a>) -> Option<Request<'a>>
+    ensures { option_map asked_by result ≡ asked_under name.now (rows_of (found_of matches.now)) }
+{
+    if name == "check" {
+        check_request(matches)
+    } else if name == "margin" {
+        margin_request(matches)
+    } else {
+        None
     }
 }
 
@@ -75,7 +137,7 @@ pub fn request<'a, S: AsStr>(alloc: Global, words: &'a [S]) -> Result<Option<Req
 {
     let matches = parse(alloc, words)?;
     match matches.subcommand() {
-        Some((_, found)) => Ok(margin_request(found)),
+        Some((name, found)) => Ok(request_under(name, found)),
         None => Ok(None),
     }
 }

@@ -9,7 +9,7 @@ use Rattle.statement.specs.Statement.{figures_line, total_line}
 use Rattle.statement.specs.declared.rows.CommodityRow.{CommodityRow}
 
 -- fields with a comma between each two are the first one, and each other one with its comma in front
-joined : (first : List ℕ) (rest : List (List ℕ)) → join_with_byte 44 (first ∷ rest) ≡ first ++ flat_map field rest
+pub joined : (first : List ℕ) (rest : List (List ℕ)) → join_with_byte 44 (first ∷ rest) ≡ first ++ flat_map field rest
 joined first [] = sym (append-nil first)
 joined first (x ∷ rest) = ap (λ t. first ++ (44 ∷ t)) (joined x rest)
 

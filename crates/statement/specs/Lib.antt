@@ -1,5 +1,6 @@
 pub mod Answers
 pub mod Bounds
+pub mod Counts
 pub mod FaultLines
 pub mod Figures
 pub mod LineForms

@@ -2,6 +2,7 @@
 #![tactic(auto)]
 
 pub mod account;
+pub mod counts;
 pub mod credits;
 pub mod faults;
 pub mod figures;

@@ -11,7 +11,7 @@ use span_tables::name::Name;
 use std::alloc::{AllocError, Global};
 
 // A comma and the bytes of a field.
-fn push_field(out: &mut Vec<u8>, text: &[u8]) -> Result<(), AllocError>
+pub(crate) fn push_field(out: &mut Vec<u8>, text: &[u8]) -> Result<(), AllocError>
     ensures { OnOk result (out.new.items ≡ out.old.items ++ field text.now) }
 {
     out.push(b',')?;
@@ -24,7 +24,7 @@ fn push_number(out: &mut Vec<u8>, n: i128) -> Result<(), AllocError>
     push_field(out, decimal(n).as_bytes())
 }
 
-fn push_numbers(out: &mut Vec<u8>, numbers: &[i128]) -> Result<(), AllocError>
+pub(crate) fn push_numbers(out: &mut Vec<u8>, numbers: &[i128]) -> Result<(), AllocError>
     ensures { OnOk result (out.new.items ≡ out.old.items ++ flat_map number numbers.now) }
 {
     for n in numbers {

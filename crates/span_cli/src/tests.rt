@@ -1,0 +1,372 @@
+//! Command lines: statuses, what goes to the output and what to the error stream.
+use crate::memory::InMemory;
+use crate::sources::{ReadFault, Sources};
+use crate::words::run_words;
+use std::alloc::Global;
+use std::io;
+use std::io::{ErrorKind, Write};
+use std::test::Fail;
+
+// A set with one future, and an account that is long one of it.
+const PARAMS: &[u8] = b"\
+SET,D1,1,USD
+COMMODITY,AA,0,SUM
+CONTRACT,FA,AA,F,202503,1,1,0,0,-400,-400,400,400,-800,-800,800,800,-1200,-1200,1200,1200,-1188,1188
+";
+
+const POSITIONS: &[u8] = b"X,FA,1\n";
+
+const STATEMENT: &[u8] = b"R,X,D1,AA,1200,13,0,0,0,0,1200\nT,X,D1,1200\n";
+
+const FILES: [(&str, &[u8]); 7] = [
+    ("params.csv", PARAMS),
+    ("positions.csv", POSITIONS),
+    ("no-set.csv", b"COMMODITY,AA,0,SUM\n"),
+    (
+        "twice.csv",
+        b"SET,D1,1,USD\nCOMMODITY,AA,0,SUM\nCOMMODITY,AA,0,SUM\n",
+    ),
+    ("space.csv", b"X,FA,1\nX,F A,1\n"),
+    ("unknown.csv", b"X,FA,1\nY,FZ,1\n"),
+    ("empty.csv", b""),
+];
+
+/// A status, and what was written.
+#[derive(Drop)]
+pub struct Given {
+    pub status: u8,
+    pub out: Vec<u8>,
+    pub err: Vec<u8>,
+}
+
+impl Given {
+    pub fn is(&self, status: u8, out: &[u8], err: &[u8]) -> bool {
+        self.status == status && self.out.as_slice() == out && self.err.as_slice() == err
+    }
+}
+
+fn run_on<S: Sources>(alloc: Global, words: &[&str], sources: &mut S) -> Given {
+    let mut out = Vec::new(alloc);
+    let mut err = Vec::new(alloc);
+    let status = run_words(alloc, words, sources, &mut out, &mut err);
+    Given { status, out, err }
+}
+
+// Answers a command line over `FILES`.
+fn run(alloc: Global, words: &[&str]) -> Given {
+    let files = FILES;
+    let mut sources = InMemory { files: &files };
+    run_on(alloc, words, &mut sources)
+}
+
+fn margin(alloc: Global, params: &str, positions: &str) -> Given {
+    run(alloc, &["span", "margin", params, positions])
+}
+
+#[test]
+fn prints_a_statement(rt: HostRuntime) -> Result<(), Fail> {
+    let alloc = rt.alloc();
+    assert!(rt; margin(alloc, "params.csv", "positions.csv").is(0, STATEMENT, b""));
+    assert!(rt; margin(alloc, "params.csv", "empty.csv").is(0, b"", b""));
+    Ok(())
+}
+
+#[test]
+fn prints_counts(rt: HostRuntime) -> Result<(), Fail> {
+    let alloc = rt.alloc();
+    assert!(rt; run(alloc, &["span", "check", "params.csv"]).is(0, b"OK,D1,1,1,0,0,0,0\n", b""));
+    Ok(())
+}
+
+#[test]
+fn refuses_files(rt: HostRuntime) -> Result<(), Fail> {
+    let alloc = rt.alloc();
+    let cases: [(&str, &str, u8, &[u8]); 7] = [
+        (
+            "no-set.csv",
+            "space.csv",
+            3,
+            b"parameters: P1 NoSet at record 1\n",
+        ),
+        (
+            "empty.csv",
+            "positions.csv",
+            3,
+            b"parameters: P1 NoSet at record 0\n",
+        ),
+        (
+            "twice.csv",
+            "space.csv",
+            3,
+            b"parameters: C1 DuplicateCommodity at record 3\n",
+        ),
+        (
+            "params.csv",
+            "space.csv",
+            4,
+            b"positions: Q2 BadName at record 2\n",
+        ),
+        (
+            "params.csv",
+            "unknown.csv",
+            4,
+            b"positions: B1 UnknownContract at record 2 account Y\n",
+        ),
+        ("no-set.csv", "missing.csv", 6, b"file: missing.csv\n"),
+        ("missing.csv", "missing-too.csv", 6, b"file: missing.csv\n"),
+    ];
+    for (params, positions, status, line) in cases {
+        assert!(rt;
+            margin(alloc, params, positions).is(status, b"", line),
+            "{params} {positions}"
+        );
+    }
+    assert!(rt;
+        run(alloc, &["span", "check", "twice.csv"]).is(
+            3,
+            b"",
+            b"parameters: C1 DuplicateCommodity at record 3\n"
+        )
+    );
+    assert!(rt; run(alloc, &["span", "check", "none"]).is(6, b"", b"file: none\n"));
+    Ok(())
+}
+
+// Each file is too long.
+#[derive(Drop)]
+struct Long;
+
+impl Sources for Long {
+    fn read(&mut self, _alloc: Global, _name: &str) -> Result<Vec<u8>, ReadFault> {
+        Err(ReadFault::TooLong)
+    }
+}
+
+// No file has room in memory.
+#[derive(Drop)]
+struct Cramped;
+
+impl Sources for Cramped {
+    fn read(&mut self, _alloc: Global, _name: &str) -> Result<Vec<u8>, ReadFault> {
+        Err(ReadFault::OutOfMemory)
+    }
+}
+
+#[test]
+fn refuses_what_cannot_be_read(rt: HostRuntime) -> Result<(), Fail> {
+    let alloc = rt.alloc();
+    let margin = ["span", "margin", "p", "q"];
+    let check = ["span", "check", "p"];
+    assert!(rt; run_on(alloc, &margin, &mut Long).is(6, b"", b"file: p\n"));
+    assert!(rt; run_on(alloc, &check, &mut Long).is(6, b"", b"file: p\n"));
+    assert!(rt; run_on(alloc, &margin, &mut Cramped).is(5, b"", b"memory\n"));
+    assert!(rt; run_on(alloc, &check, &mut Cramped).is(5, b"", b"memory\n"));
+    Ok(())
+}
+
+// Takes a few bytes and then fails.
+#[derive(Drop)]
+struct Breaking {
+    room: usize,
+}
+
+impl Write for Breaking {
+    fn write(&mut self, buf: &[u8]) -> io::Result<usize> {
+        if self.room == 0 {
+            return Err(io::Error::from(ErrorKind::BrokenPipe));
+        }
+        let taken = self.room.min(buf.len());
+        self.room -= taken;
+        Ok(taken)
+    }
+
+    fn flush(&mut self) -> io::Result<()> {
+        Ok(())
+    }
+}
+
+fn run_into<W: Write, E: Write>(alloc: Global, words: &[&str], out: &mut W, err: &mut E) -> u8 {
+    let files = FILES;
+    let mut sources = InMemory { files: &files };
+    run_words(alloc, words, &mut sources, out, err)
+}
+
+#[test]
+fn says_that_the_output_failed(rt: HostRuntime) -> Result<(), Fail> {
+    let alloc = rt.alloc();
+    let lines: [&[&str]; 3] = [
+        &["span", "margin", "params.csv", "positions.csv"],
+        &["span", "check", "params.csv"],
+        &["span", "--help"],
+    ];
+    for words in lines {
+        for room in [0usize, 3] {
+            let mut err = Vec::new(alloc);
+            assert_eq!(rt; run_into(alloc, words, &mut Breaking { room }, &mut err), 6);
+            assert!(rt; err.as_slice() == b"file: output\n".as_slice());
+        }
+    }
+    Ok(())
+}
+
+#[test]
+fn keeps_its_status_where_the_error_stream_fails(rt: HostRuntime) -> Result<(), Fail> {
+    let alloc = rt.alloc();
+    let lines: [(&[&str], u8); 5] = [
+        (&["span", "margin", "no-set.csv", "positions.csv"], 3),
+        (&["span", "margin", "params.csv", "unknown.csv"], 4),
+        (&["span", "check", "missing.csv"], 6),
+        (&["span", "plot", "params.csv"], 2),
+        (&["span", "margin", "params.csv", "positions.csv"], 0),
+    ];
+    for (words, status) in lines {
+        let mut out = Vec::new(alloc);
+        assert_eq!(rt;
+            run_into(alloc, words, &mut out, &mut Breaking { room: 3 }),
+            status
+        );
+        assert_eq!(rt; out.is_empty(), status != 0);
+    }
+    Ok(())
+}
+
+#[test]
+fn keeps_its_status_where_both_streams_fail(rt: HostRuntime) -> Result<(), Fail> {
+    let words = ["span", "margin", "params.csv", "positions.csv"];
+    let status = run_into(
+        rt.alloc(),
+        &words,
+        &mut Breaking { room: 5 },
+        &mut Breaking { room: 0 },
+    );
+    assert_eq!(rt; status, 6);
+    Ok(())
+}
+
+const SPAN_HELP: &[u8] = b"\
+Margins futures and options accounts by the SPAN method
+
+Usage: span <COMMAND>
+
+Commands:
+  check   Checks a parameter file and counts its records
+  margin  Prints the margin statement of every account
+  help    Print this message or the help of the given subcommand(s)
+
+Options:
+  -h, --help  Print help
+
+docs/FORMATS.md describes the files, what is printed, faults and statuses.
+docs/METHOD.md describes the method and the units.
+";
+
+const CHECK_HELP: &[u8] = b"\
+Checks a parameter file and counts its records
+
+Usage: span check <PARAMS>
+
+Arguments:
+  <PARAMS>  Parameter file (CSV): a set with its commodities, contracts, tiers and spreads
+
+Options:
+  -h, --help  Print help
+
+Prints one line, with the id of the set and how many records of each kind it has:
+  OK,set,commodities,contracts,tiers,intra,spots,inter
+A file that is no valid set is refused with its first fault and the number of the record.
+docs/FORMATS.md describes the records and the faults.
+";
+
+const MARGIN_HELP: &[u8] = b"\
+Prints the margin statement of every account
+
+Usage: span margin <PARAMS> <POSITIONS>
+
+Arguments:
+  <PARAMS>     Parameter file (CSV): a set with its commodities, contracts, tiers and spreads
+  <POSITIONS>  Position file (CSV): account, contract, quantity in contracts (minus is short)
+
+Options:
+  -h, --help  Print help
+
+Prints a line for each commodity that an account holds, then one for its total:
+  R,account,set,commodity,scan,active,intra,delivery,credit,minimum,requirement
+  T,account,set,total
+Amounts are whole numbers in the minor unit of the set's currency, as cents for USD;
+`active` is the scenario, 1 to 16, that decides the scan risk.
+docs/FORMATS.md describes the files and the statement, docs/METHOD.md the figures.
+";
+
+#[test]
+fn helps(rt: HostRuntime) -> Result<(), Fail> {
+    let alloc = rt.alloc();
+    let cases: [(&[&str], &[u8]); 6] = [
+        (&["span", "--help"], SPAN_HELP),
+        (&["span", "help"], SPAN_HELP),
+        (&["span", "help", "check"], CHECK_HELP),
+        (&["span", "check", "-h"], CHECK_HELP),
+        (&["span", "help", "margin"], MARGIN_HELP),
+        (&["span", "margin", "params.csv", "--help"], MARGIN_HELP),
+    ];
+    for (words, text) in cases {
+        assert!(rt; run(alloc, words).is(0, text, b""));
+    }
+    Ok(())
+}
+
+const NO_COMMAND: &[u8] = b"\
+error: 'span' requires a subcommand but one was not provided
+  [subcommands: check, margin, help]
+
+Usage: span <COMMAND>
+
+For more information, try '--help'.
+";
+
+const NEAR_COMMAND: &[u8] = b"\
+error: unrecognized subcommand 'margn'
+
+  tip: a similar subcommand exists: 'margin'
+
+Usage: span <COMMAND>
+
+For more information, try '--help'.
+";
+
+const NO_POSITIONS: &[u8] = b"\
+error: the following required arguments were not provided:
+  <POSITIONS>
+
+Usage: span margin <PARAMS> <POSITIONS>
+
+For more information, try '--help'.
+";
+
+const ONE_TOO_MANY: &[u8] = b"\
+error: unexpected argument 'positions.csv' found
+
+Usage: span check <PARAMS>
+
+For more information, try '--help'.
+";
+
+#[test]
+fn refuses_words(rt: HostRuntime) -> Result<(), Fail> {
+    let alloc = rt.alloc();
+    let cases: [(&[&str], &[u8]); 4] = [
+        (&["span"], NO_COMMAND),
+        (
+            &["span", "margn", "params.csv", "positions.csv"],
+            NEAR_COMMAND,
+        ),
+        (&["span", "margin", "params.csv"], NO_POSITIONS),
+        (
+            &["span", "check", "params.csv", "positions.csv"],
+            ONE_TOO_MANY,
+        ),
+    ];
+    for (words, text) in cases {
+        assert!(rt; run(alloc, words).is(2, b"", text));
+    }
+    Ok(())
+}
