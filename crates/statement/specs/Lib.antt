@@ -3,5 +3,6 @@ pub mod Bounds
 pub mod FaultLines
 pub mod Figures
 pub mod LineForms
+pub mod OnLiterals
 pub mod Rows
 pub mod Statement

@@ -9,3 +9,4 @@ pub mod lines;
 pub mod margin;
 pub mod rows;
 pub mod stages;
+pub mod worked;
