@@ -4,5 +4,6 @@ pub mod Counts
 pub mod FaultLines
 pub mod Figures
 pub mod LineForms
+pub mod OnLiterals
 pub mod Rows
 pub mod Statement

@@ -78,7 +78,10 @@ fn write_param_fault<W: Write>(fault: &ParamFault, out: &mut W) -> io::Result<()
     match fault {
         ParamFault::NoSet { at } => writeln!(out, "parameters: P1 NoSet at record {at}"),
         ParamFault::SecondSet { at } => writeln!(out, "parameters: P2 SecondSet at record {at}"),
-        ParamFault::UnknownKind { at } => writeln!(out, "parameters: P3 UnknownKind at record {at}"),
+        ParamFault::UnknownKind { at } => writeln!(
+            out,
+            "parameters: P3 UnknownKind at record {at}"
+        ),
         ParamFault::FieldCount { at } => writeln!(out, "parameters: P4 FieldCount at record {at}"),
         ParamFault::BadName { at } => writeln!(out, "parameters: P5 BadName at record {at}"),
         ParamFault::BadNumber { at } => writeln!(out, "parameters: P6 BadNumber at record {at}"),
@@ -92,17 +95,47 @@ fn write_check_fault<W: Write>(fault: &CheckFault, out: &mut W) -> io::Result<()
     ensures { OnOk result (Appends (W.contents out.old) (W.contents out.new) (check_line fault.now)) }
 {
     match fault {
-        CheckFault::DuplicateCommodity { at } => writeln!(out, "parameters: C1 DuplicateCommodity at record {at}"),
-        CheckFault::UnknownCommodity { at } => writeln!(out, "parameters: C2 UnknownCommodity at record {at}"),
-        CheckFault::DuplicateContract { at } => writeln!(out, "parameters: C3 DuplicateContract at record {at}"),
-        CheckFault::DuplicateTier { at } => writeln!(out, "parameters: C4 DuplicateTier at record {at}"),
-        CheckFault::TierBackwards { at } => writeln!(out, "parameters: C5 TierBackwards at record {at}"),
-        CheckFault::TierOverlap { at } => writeln!(out, "parameters: C6 TierOverlap at record {at}"),
-        CheckFault::UnknownTier { at } => writeln!(out, "parameters: C7 UnknownTier at record {at}"),
-        CheckFault::RepeatedLeg { at } => writeln!(out, "parameters: C8 RepeatedLeg at record {at}"),
+        CheckFault::DuplicateCommodity { at } => writeln!(
+            out,
+            "parameters: C1 DuplicateCommodity at record {at}"
+        ),
+        CheckFault::UnknownCommodity { at } => writeln!(
+            out,
+            "parameters: C2 UnknownCommodity at record {at}"
+        ),
+        CheckFault::DuplicateContract { at } => writeln!(
+            out,
+            "parameters: C3 DuplicateContract at record {at}"
+        ),
+        CheckFault::DuplicateTier { at } => writeln!(
+            out,
+            "parameters: C4 DuplicateTier at record {at}"
+        ),
+        CheckFault::TierBackwards { at } => writeln!(
+            out,
+            "parameters: C5 TierBackwards at record {at}"
+        ),
+        CheckFault::TierOverlap { at } => writeln!(
+            out,
+            "parameters: C6 TierOverlap at record {at}"
+        ),
+        CheckFault::UnknownTier { at } => writeln!(
+            out,
+            "parameters: C7 UnknownTier at record {at}"
+        ),
+        CheckFault::RepeatedLeg { at } => writeln!(
+            out,
+            "parameters: C8 RepeatedLeg at record {at}"
+        ),
         CheckFault::OneSided { at } => writeln!(out, "parameters: C9 OneSided at record {at}"),
-        CheckFault::DuplicatePriority { at } => writeln!(out, "parameters: C10 DuplicatePriority at record {at}"),
-        CheckFault::DuplicateSpot { at } => writeln!(out, "parameters: C11 DuplicateSpot at record {at}"),
+        CheckFault::DuplicatePriority { at } => writeln!(
+            out,
+            "parameters: C10 DuplicatePriority at record {at}"
+        ),
+        CheckFault::DuplicateSpot { at } => writeln!(
+            out,
+            "parameters: C11 DuplicateSpot at record {at}"
+        ),
         CheckFault::OutOfMemory => writeln!(out, "memory"),
     }
 }
@@ -111,11 +144,20 @@ fn write_position_fault<W: Write>(fault: &PositionFault, out: &mut W) -> io::Res
     ensures { OnOk result (Appends (W.contents out.old) (W.contents out.new) (position_line fault.now)) }
 {
     match fault {
-        PositionFault::FieldCount { at } => writeln!(out, "positions: Q1 FieldCount at record {at}"),
+        PositionFault::FieldCount { at } => writeln!(
+            out,
+            "positions: Q1 FieldCount at record {at}"
+        ),
         PositionFault::BadName { at } => writeln!(out, "positions: Q2 BadName at record {at}"),
         PositionFault::BadNumber { at } => writeln!(out, "positions: Q3 BadNumber at record {at}"),
-        PositionFault::OutOfRange { at } => writeln!(out, "positions: Q4 OutOfRange at record {at}"),
-        PositionFault::TooManyAccounts { at } => writeln!(out, "positions: Q5 TooManyAccounts at record {at}"),
+        PositionFault::OutOfRange { at } => writeln!(
+            out,
+            "positions: Q4 OutOfRange at record {at}"
+        ),
+        PositionFault::TooManyAccounts { at } => writeln!(
+            out,
+            "positions: Q5 TooManyAccounts at record {at}"
+        ),
         PositionFault::OutOfMemory => writeln!(out, "memory"),
     }
 }
@@ -152,9 +194,24 @@ fn write_bind_fault<W: Write>(fault: &BindFault, out: &mut W) -> io::Result<()>
     ensures { OnOk result (Appends (W.contents out.old) (W.contents out.new) (bind_line fault.now)) }
 {
     match fault {
-        BindFault::UnknownContract { at, account } => write_account_line(out, "B1 UnknownContract", *at, account),
-        BindFault::NetOutOfRange { at, account } => write_account_line(out, "B2 NetOutOfRange", *at, account),
-        BindFault::TooManyHeld { at, account } => write_account_line(out, "B3 TooManyHeld", *at, account),
+        BindFault::UnknownContract { at, account } => write_account_line(
+            out,
+            "B1 UnknownContract",
+            *at,
+            account,
+        ),
+        BindFault::NetOutOfRange { at, account } => write_account_line(
+            out,
+            "B2 NetOutOfRange",
+            *at,
+            account,
+        ),
+        BindFault::TooManyHeld { at, account } => write_account_line(
+            out,
+            "B3 TooManyHeld",
+            *at,
+            account,
+        ),
         BindFault::OutOfMemory => writeln!(out, "memory"),
     }
 }

@@ -6,7 +6,11 @@ pub mod counts;
 pub mod credits;
 pub mod faults;
 pub mod figures;
+pub mod laws;
 pub mod lines;
 pub mod margin;
 pub mod rows;
 pub mod stages;
+#[cfg(test)]
+mod tests;
+pub mod worked;

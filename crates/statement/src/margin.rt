@@ -4,9 +4,9 @@ ghost use Rattle.statement.specs.Statement.{statement_of, statement_text, statem
 ghost use Rattle.span_tables.specs.Holdings.{fits};
 ghost use Rattle.std.specs.Prelude.{◌≡◌, All, IfOk, length, true};
 
+use crate::account::margin_account;
 use crate::faults::SpanFault;
 use crate::lines::push_row;
-use crate::account::margin_account;
 use param_check::binding::bind;
 use param_check::check::check;
 use span_csv::params::read_params;
@@ -35,11 +35,7 @@ pub fn margin_portfolios(
 
 // The statement of a position file under accepted tables, or its fault.
 #[tactic(auto, unfolding(crate::specs::Statement::statement_under))]
-fn margin_positions(
-    alloc: Global,
-    tables: &Tables,
-    positions: &[u8],
-) -> Result<Vec<u8>, SpanFault>
+fn margin_positions(alloc: Global, tables: &Tables, positions: &[u8]) -> Result<Vec<u8>, SpanFault>
     ensures { GivesText (λ text. text.items) result (statement_under tables.now positions.now) }
 {
     let positions = read_positions(alloc, positions)?;
@@ -51,11 +47,7 @@ fn margin_positions(
 /// The statement of two files, or the first fault in reading the parameters, checking them, reading the positions and
 /// binding them; or want of memory.
 #[tactic(auto, unfolding(crate::specs::Statement::statement_of))]
-pub fn margin_plain(
-    alloc: Global,
-    params: &[u8],
-    positions: &[u8],
-) -> Result<Vec<u8>, SpanFault>
+pub fn margin_plain(alloc: Global, params: &[u8], positions: &[u8]) -> Result<Vec<u8>, SpanFault>
     ensures { GivesText (λ text. text.items) result (statement_of params.now positions.now) }
 {
     let raw = read_params(alloc, params)?;

@@ -27,9 +27,7 @@ impl Model for Row {
 
     ghost Value = { RowView };
 
-    ghost view = {
-        λ row. record { account = row.account; set_id = row.set_id; held = row.held.items; total = row.total }
-    };
+    ghost view = { λ row. record { account = row.account; set_id = row.set_id; held = row.held.items; total = row.total } };
 }
 
 impl Row {

@@ -1,0 +1,23 @@
+-- What an answer unfolds to compute the definitions on literals.
+use Rattle.std.specs.Prelude.{⊤}
+use Rattle.std.specs.Fmt.{digits}
+use Rattle.span_csv.specs.OnLiterals.{reading_on_literals}
+use Rattle.span_tables.specs.Rules.{keeps_rules}
+use Rattle.param_check.specs.CheckFaults.{check_fault, checked}
+use Rattle.span_tables.specs.Limits.{is_readable}
+use Rattle.span_tables.specs.Tables.{tables_of, intras_of, spots_of, inters_of}
+use Rattle.span_tables.specs.Net.{portfolios_of, held_of}
+use Rattle.param_check.specs.Binding.{bind_fault, bound}
+use Rattle.scan_risk.specs.Scenarios.{scenario_sums, scan_of}
+use Rattle.spread_stage.specs.Deltas.{month_deltas}
+use Rattle.spread_stage.specs.Spreads.{spread_both_ways, after_spreads}
+use Rattle.spread_stage.specs.Charges.{intra_charge, delivery_charge}
+use Rattle.inter_credit.specs.Credits.{inter_both_ways, after_inter_spreads, credit_of}
+use Rattle.inter_credit.specs.Requirement.{minimum_of, requirement_of}
+use Rattle.statement.specs.Figures.{stages_of, inter_lines, figures_of}
+use Rattle.statement.specs.Statement.{figures_line, total_line, row_text, total_of, held_figures, statement_text, statement_under, statement_of}
+
+-- all words that computing on literals unfolds
+unfoldable pub on_literals : ⊤
+unfolding digits reading_on_literals keeps_rules is_readable check_fault checked tables_of intras_of spots_of inters_of portfolios_of held_of bind_fault bound scenario_sums scan_of month_deltas spread_both_ways after_spreads intra_charge delivery_charge inter_both_ways after_inter_spreads credit_of minimum_of requirement_of stages_of inter_lines figures_of figures_line total_line row_text total_of held_figures statement_text statement_under statement_of
+on_literals = tt

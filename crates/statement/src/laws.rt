@@ -1,0 +1,68 @@
+//! Laws of the definitions, in the formats' own words: each is the contract of a function that does nothing.
+#![tactic(auto, unfolding(crate::specs::OnLiterals::on_literals))]
+
+ghost use Rattle.param_check.specs.Binding.{bound};
+ghost use Rattle.param_check.specs.CheckFaults.{checked};
+ghost use Rattle.param_check.specs.declared.faults.BindFault.{BindFault};
+ghost use Rattle.param_check.specs.declared.faults.CheckFault.{CheckFault};
+ghost use Rattle.span_csv.specs.ParamFaults.{params_of};
+ghost use Rattle.span_csv.specs.PositionFaults.{positions_of};
+ghost use Rattle.span_csv.specs.declared.faults.ParamFault.{ParamFault};
+ghost use Rattle.span_csv.specs.declared.faults.PositionFault.{PositionFault};
+ghost use Rattle.span_tables.specs.Net.{AccountHoldings};
+ghost use Rattle.span_tables.specs.Tables.{AcceptedTables};
+ghost use Rattle.span_tables.specs.declared.records.PositionRecord.{PositionRecord};
+ghost use Rattle.span_tables.specs.declared.records.Record.{Record};
+ghost use Rattle.statement.specs.Answers.{is_memory};
+ghost use Rattle.statement.specs.FaultLines.{fault_line, fault_status, memory_line};
+ghost use Rattle.statement.specs.Rows.{RowView};
+ghost use Rattle.statement.specs.Statement.{figures_line, row_of, row_text, statement_of, statement_text, statement_under, total_line};
+ghost use Rattle.statement.specs.declared.faults.SpanFault.{SpanFault};
+ghost use Rattle.statement.specs.declared.faults.SpanFault.TheVariants as fault;
+ghost use Rattle.std.specs.Prelude.{◌++◌, ◌≡◌, ◌∷◌, Err, List, Ok, [], flat_map, nat_eq, true, ℕ};
+
+/// An account's lines are those of its commodities and end with the line of its total.
+pub fn lines_end_with_the_total()
+    ensures commodities { (row : RowView) → row_text row
+        ≡ flat_map (figures_line row.account row.set_id) row.held ++ total_line row.account row.set_id row.total }
+    ensures total_alone { (row : RowView) → row.held ≡ [] → row_text row ≡ total_line row.account row.set_id row.total }
+{}
+
+/// No accounts give no bytes, and neither does an empty position file; the lines of some accounts do not depend on the
+/// others, and stand in the order of the accounts.
+pub fn accounts_stand_by_themselves()
+    ensures none { (tables : AcceptedTables) → statement_text tables [] ≡ [] }
+    ensures no_positions { (tables : AcceptedTables) → statement_under tables [] ≡ Ok [] }
+    ensures one { (tables : AcceptedTables) (p : AccountHoldings)
+        → statement_text tables (p ∷ []) ≡ row_text (row_of tables p) }
+    ensures in_order { (tables : AcceptedTables) (ps qs : List AccountHoldings)
+        → statement_text tables (ps ++ qs) ≡ statement_text tables ps ++ statement_text tables qs }
+{}
+
+/// The fault is that of reading the parameters; else of checking them; else of reading the positions; else of binding
+/// them. Where there is none, the answer is the statement.
+pub fn faults_come_in_order()
+    ensures params { (params positions : List ℕ) (e : ParamFault) → params_of params ≡ Err e
+        → statement_of params positions ≡ Err (fault.Params e) }
+    ensures check { (params positions : List ℕ) (records : List Record) (e : CheckFault)
+        → params_of params ≡ Ok records → checked records ≡ Err e
+        → statement_of params positions ≡ Err (fault.Check e) }
+    ensures positions { (params positions : List ℕ) (records : List Record) (tables : AcceptedTables) (e : PositionFault)
+        → params_of params ≡ Ok records → checked records ≡ Ok tables → positions_of positions ≡ Err e
+        → statement_of params positions ≡ Err (fault.Positions e) }
+    ensures bind { (params positions : List ℕ) (records : List Record) (tables : AcceptedTables)
+        (held : List PositionRecord) (e : BindFault)
+        → params_of params ≡ Ok records → checked records ≡ Ok tables → positions_of positions ≡ Ok held
+        → bound tables.contracts held ≡ Err e → statement_of params positions ≡ Err (fault.Bind e) }
+    ensures statement { (params positions : List ℕ) (records : List Record) (tables : AcceptedTables)
+        (held : List PositionRecord) (accounts : List AccountHoldings)
+        → params_of params ≡ Ok records → checked records ≡ Ok tables → positions_of positions ≡ Ok held
+        → bound tables.contracts held ≡ Ok accounts
+        → statement_of params positions ≡ Ok (statement_text tables accounts) }
+{}
+
+/// Want of memory has one line and one status, wherever it arises; and no other fault has that status.
+pub fn want_of_memory_is_told_apart()
+    ensures line { (e : SpanFault) → is_memory e ≡ true → fault_line e ≡ memory_line }
+    ensures status { (e : SpanFault) → nat_eq (fault_status e) 5 ≡ is_memory e }
+{}

@@ -1,0 +1,224 @@
+use crate::faults::{SpanFault, status, write_fault};
+use crate::figures::Figures;
+use crate::lines::write;
+use crate::margin::margin_plain;
+use crate::rows::{CommodityRow, Row};
+use param_check::faults::{BindFault, CheckFault};
+use span_csv::faults::{ParamFault, PositionFault};
+use span_money::amounts::Money;
+use span_tables::name::Name;
+use std::alloc::Global;
+use std::process::Abort;
+use std::test::Fail;
+
+const PARAMS: &[u8] = b"SET,D1,1,USD
+COMMODITY,AA,0,SUM
+COMMODITY,BB,0,SUM
+COMMODITY,CC,0,SUM
+CONTRACT,FA,AA,F,202503,1,1,0,0,-400,-400,400,400,-800,-800,800,800,-1200,-1200,1200,1200,-1188,1188
+CONTRACT,FB,BB,F,202503,1,1,0,0,-300,-300,300,300,-600,-600,600,600,-900,-900,900,900,-891,891
+CONTRACT,FC,CC,F,202503,1,1,0,0,-100,-100,100,100,-200,-200,200,200,-300,-300,300,300,-297,297
+INTER,1,5000,AA,A,1,BB,B,1
+INTER,2,2000,AA,A,1,CC,B,1
+";
+
+const POSITIONS: &[u8] = b"X,FA,3
+X,FB,-1
+X,FC,-1
+";
+
+const STATEMENT: &[u8] = b"R,X,D1,AA,3600,13,0,0,840,0,2760
+R,X,D1,BB,900,11,0,0,450,0,450
+R,X,D1,CC,300,11,0,0,60,0,240
+T,X,D1,3450
+";
+
+// The set has a commodity twice.
+const REPEATED: &[u8] = b"SET,D1,1,USD
+COMMODITY,AA,0,SUM
+COMMODITY,AA,0,SUM
+";
+
+fn name(text: &[u8]) -> Name {
+    Name::new(text).unwrap_or(Name::default())
+}
+
+#[test]
+fn three_commodities_two_spreads(rt: HostRuntime) -> Result<(), Fail> {
+    let text = margin_plain(rt.alloc(), PARAMS, POSITIONS)?;
+    assert_eq!(rt; text.as_slice(), STATEMENT);
+    Ok(())
+}
+
+// Whether a fault is want of memory, whichever stage found it.
+fn is_memory(fault: &SpanFault) -> bool {
+    match fault {
+        SpanFault::Memory
+        | SpanFault::Params(ParamFault::OutOfMemory)
+        | SpanFault::Check(CheckFault::OutOfMemory)
+        | SpanFault::Positions(PositionFault::OutOfMemory)
+        | SpanFault::Bind(BindFault::OutOfMemory) => true,
+        _ => false,
+    }
+}
+
+// Whatever growth of memory is refused, the answer is these bytes or want of memory, never other bytes.
+#[test]
+fn bytes_or_want_of_memory(rt: HostRuntime) {
+    match margin_plain(rt.alloc(), PARAMS, POSITIONS) {
+        Ok(text) => assert_eq!(rt; text.as_slice(), STATEMENT),
+        Err(fault) => assert!(rt; is_memory(&fault)),
+    }
+}
+
+// Whether the answer of these files is this fault or want of memory: never bytes, nor another fault.
+fn is_refused(alloc: Global, params: &[u8], positions: &[u8], expected: &SpanFault) -> bool {
+    match margin_plain(alloc, params, positions) {
+        Ok(_text) => false,
+        Err(fault) => fault == *expected || is_memory(&fault),
+    }
+}
+
+// Whatever growth of memory is refused, the answer is this fault or want of memory.
+#[test]
+fn faults_or_want_of_memory(rt: HostRuntime) {
+    let alloc = rt.alloc();
+    let no_set = SpanFault::Params(ParamFault::NoSet { at: 0 });
+    let repeated = SpanFault::Check(CheckFault::DuplicateCommodity { at: 3 });
+    let two_fields = SpanFault::Positions(PositionFault::FieldCount { at: 2 });
+    let account = name(b"Y");
+    let unknown = SpanFault::Bind(BindFault::UnknownContract { at: 2, account });
+    assert!(rt; is_refused(alloc, b"", b"?", &no_set));
+    assert!(rt; is_refused(alloc, REPEATED, b"?", &repeated));
+    assert!(rt; is_refused(alloc, PARAMS, b"X,FZ,1\nX,FA\n", &two_fields));
+    assert!(rt; is_refused(alloc, PARAMS, b"X,FA,1\nY,FZ,1\n", &unknown));
+}
+
+// An account with one commodity, and one without any.
+#[test]
+fn lines_of_rows(rt: HostRuntime) -> Result<(), Fail> {
+    let alloc = rt.alloc();
+    let figures = Figures {
+        scan: Money::new(1200),
+        active: 13,
+        intra: Money::new(500),
+        delivery: Money::new(40),
+        credit: Money::new(7),
+        minimum: Money::new(0),
+        requirement: Money::new(1733),
+    };
+    let mut held = Vec::new(alloc);
+    held.push(CommodityRow {
+        commodity: name(b"AA"),
+        figures,
+    })?;
+    let mut rows = Vec::new(alloc);
+    rows.push(Row::new(name(b"X-1"), name(b"D_1"), held, Money::new(1733)))?;
+    rows.push(Row::new(name(b"Y"), name(b"D_1"), Vec::new(alloc), Money::new(-5)))?;
+    let text = write(alloc, rows.as_slice())?;
+    assert_eq!(rt;
+        text.as_slice(),
+        b"R,X-1,D_1,AA,1200,13,500,40,7,0,1733\nT,X-1,D_1,1733\nT,Y,D_1,-5\n".as_slice()
+    );
+    Ok(())
+}
+
+// The line and the exit status of a fault.
+fn says(
+    rt: &impl Abort,
+    alloc: Global,
+    fault: SpanFault,
+    line: &str,
+    number: u8,
+) -> Result<(), Fail> {
+    let mut out = Vec::new(alloc);
+    write_fault(&fault, &mut out)?;
+    assert_eq!(rt; out.as_slice(), line.as_bytes());
+    assert_eq!(rt; status(&fault), number);
+    Ok(())
+}
+
+#[test]
+fn lines_of_faults(rt: HostRuntime) -> Result<(), Fail> {
+    let alloc = rt.alloc();
+    let account = name(b"ACC-1");
+    says(
+        &rt,
+        alloc,
+        SpanFault::from(ParamFault::NoSet { at: 0 }),
+        "parameters: P1 NoSet at record 0\n",
+        3,
+    )?;
+    says(
+        &rt,
+        alloc,
+        SpanFault::from(CheckFault::DuplicateSpot { at: 12 }),
+        "parameters: C11 DuplicateSpot at record 12\n",
+        3,
+    )?;
+    says(
+        &rt,
+        alloc,
+        SpanFault::from(PositionFault::TooManyAccounts { at: 1025 }),
+        "positions: Q5 TooManyAccounts at record 1025\n",
+        4,
+    )?;
+    says(
+        &rt,
+        alloc,
+        SpanFault::from(BindFault::NetOutOfRange { at: 3, account }),
+        "positions: B2 NetOutOfRange at record 3 account ACC-1\n",
+        4,
+    )?;
+    says(&rt, alloc, SpanFault::Memory, "memory\n", 5)
+}
+
+// Want of memory is the same line and status, whichever stage finds it.
+#[test]
+fn lines_of_want_of_memory(rt: HostRuntime) -> Result<(), Fail> {
+    let alloc = rt.alloc();
+    says(
+        &rt,
+        alloc,
+        SpanFault::from(ParamFault::OutOfMemory),
+        "memory\n",
+        5,
+    )?;
+    says(
+        &rt,
+        alloc,
+        SpanFault::from(CheckFault::OutOfMemory),
+        "memory\n",
+        5,
+    )?;
+    says(
+        &rt,
+        alloc,
+        SpanFault::from(PositionFault::OutOfMemory),
+        "memory\n",
+        5,
+    )?;
+    says(
+        &rt,
+        alloc,
+        SpanFault::from(BindFault::OutOfMemory),
+        "memory\n",
+        5,
+    )
+}
+
+// A writer that has no room for the whole line refuses it.
+#[test]
+fn line_without_room(rt: HostRuntime) {
+    let fault = SpanFault::Bind(BindFault::TooManyHeld {
+        at: 9,
+        account: name(b"X"),
+    });
+    let mut room = [0; 40];
+    let mut out = &mut room[..];
+    assert!(rt; write_fault(&fault, &mut out).is_err());
+    assert_eq!(rt;
+        room.as_slice(),
+        b"positions: B3 TooManyHeld at record 9 ac".as_slice()
+    );
+}
