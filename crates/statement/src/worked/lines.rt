@@ -1,0 +1,70 @@
+//! The line and the exit status of each fault, and the lines of a row, computed by the definitions.
+#![tactic(auto, unfolding(crate::specs::OnLiterals::on_literals))]
+
+ghost use Rattle.param_check.specs.declared.faults.BindFault.TheVariants as bind;
+ghost use Rattle.param_check.specs.declared.faults.CheckFault.TheVariants as check;
+ghost use Rattle.span_csv.specs.declared.faults.ParamFault.TheVariants as params;
+ghost use Rattle.span_csv.specs.declared.faults.PositionFault.TheVariants as positions;
+ghost use Rattle.statement.specs.FaultLines.{fault_line, fault_status};
+ghost use Rattle.statement.specs.Statement.{figures_line, total_line};
+ghost use Rattle.statement.specs.declared.faults.SpanFault.TheVariants as span_fault;
+ghost use Rattle.std.specs.Prelude.{◌≡◌, codes, neg_ℤ, pos};
+
+// Parameters that are not read.
+fn lines_of_parameters()
+    ensures p1 { fault_line (span_fault.Params (params.NoSet 0)) ≡ codes "parameters: P1 NoSet at record 0\n" }
+    ensures p2 { fault_line (span_fault.Params (params.SecondSet 3)) ≡ codes "parameters: P2 SecondSet at record 3\n" }
+    ensures p3 { fault_line (span_fault.Params (params.UnknownKind 3)) ≡ codes "parameters: P3 UnknownKind at record 3\n" }
+    ensures p4 { fault_line (span_fault.Params (params.FieldCount 3)) ≡ codes "parameters: P4 FieldCount at record 3\n" }
+    ensures p5 { fault_line (span_fault.Params (params.BadName 3)) ≡ codes "parameters: P5 BadName at record 3\n" }
+    ensures p6 { fault_line (span_fault.Params (params.BadNumber 3)) ≡ codes "parameters: P6 BadNumber at record 3\n" }
+    ensures p7 { fault_line (span_fault.Params (params.OutOfRange 3)) ≡ codes "parameters: P7 OutOfRange at record 3\n" }
+    ensures p8 { fault_line (span_fault.Params (params.TooMany 1234567)) ≡ codes "parameters: P8 TooMany at record 1234567\n" }
+{}
+
+// Parameters that break a rule.
+fn lines_of_rules()
+    ensures c1 { fault_line (span_fault.Check (check.DuplicateCommodity 12)) ≡ codes "parameters: C1 DuplicateCommodity at record 12\n" }
+    ensures c2 { fault_line (span_fault.Check (check.UnknownCommodity 12)) ≡ codes "parameters: C2 UnknownCommodity at record 12\n" }
+    ensures c3 { fault_line (span_fault.Check (check.DuplicateContract 12)) ≡ codes "parameters: C3 DuplicateContract at record 12\n" }
+    ensures c4 { fault_line (span_fault.Check (check.DuplicateTier 12)) ≡ codes "parameters: C4 DuplicateTier at record 12\n" }
+    ensures c5 { fault_line (span_fault.Check (check.TierBackwards 12)) ≡ codes "parameters: C5 TierBackwards at record 12\n" }
+    ensures c6 { fault_line (span_fault.Check (check.TierOverlap 12)) ≡ codes "parameters: C6 TierOverlap at record 12\n" }
+    ensures c7 { fault_line (span_fault.Check (check.UnknownTier 12)) ≡ codes "parameters: C7 UnknownTier at record 12\n" }
+    ensures c8 { fault_line (span_fault.Check (check.RepeatedLeg 12)) ≡ codes "parameters: C8 RepeatedLeg at record 12\n" }
+    ensures c9 { fault_line (span_fault.Check (check.OneSided 12)) ≡ codes "parameters: C9 OneSided at record 12\n" }
+    ensures c10 { fault_line (span_fault.Check (check.DuplicatePriority 12)) ≡ codes "parameters: C10 DuplicatePriority at record 12\n" }
+    ensures c11 { fault_line (span_fault.Check (check.DuplicateSpot 12)) ≡ codes "parameters: C11 DuplicateSpot at record 12\n" }
+{}
+
+// Positions that are not read, or do not fit the tables.
+fn lines_of_positions()
+    ensures q1 { fault_line (span_fault.Positions (positions.FieldCount 1)) ≡ codes "positions: Q1 FieldCount at record 1\n" }
+    ensures q2 { fault_line (span_fault.Positions (positions.BadName 1)) ≡ codes "positions: Q2 BadName at record 1\n" }
+    ensures q3 { fault_line (span_fault.Positions (positions.BadNumber 1)) ≡ codes "positions: Q3 BadNumber at record 1\n" }
+    ensures q4 { fault_line (span_fault.Positions (positions.OutOfRange 1)) ≡ codes "positions: Q4 OutOfRange at record 1\n" }
+    ensures q5 { fault_line (span_fault.Positions (positions.TooManyAccounts 1025)) ≡ codes "positions: Q5 TooManyAccounts at record 1025\n" }
+    ensures b1 { fault_line (span_fault.Bind (bind.UnknownContract 1 (codes "X"))) ≡ codes "positions: B1 UnknownContract at record 1 account X\n" }
+    ensures b2 { fault_line (span_fault.Bind (bind.NetOutOfRange 2 (codes "ACC-1"))) ≡ codes "positions: B2 NetOutOfRange at record 2 account ACC-1\n" }
+    ensures b3 { fault_line (span_fault.Bind (bind.TooManyHeld 258 (codes "A_B"))) ≡ codes "positions: B3 TooManyHeld at record 258 account A_B\n" }
+{}
+
+// Want of memory, and the exit statuses.
+fn statuses()
+    ensures memory { fault_line span_fault.Memory ≡ codes "memory\n" }
+    ensures params { fault_status (span_fault.Params (params.BadName 3)) ≡ 3 }
+    ensures check { fault_status (span_fault.Check (check.OneSided 3)) ≡ 3 }
+    ensures positions { fault_status (span_fault.Positions (positions.BadName 3)) ≡ 4 }
+    ensures bind { fault_status (span_fault.Bind (bind.TooManyHeld 3 (codes "X"))) ≡ 4 }
+    ensures memory_status { fault_status span_fault.Memory ≡ 5 }
+    ensures memory_of_parameters { fault_status (span_fault.Params params.OutOfMemory) ≡ 5 }
+    ensures memory_of_binding { fault_status (span_fault.Bind bind.OutOfMemory) ≡ 5 }
+{}
+
+// The line of a commodity and that of a total.
+fn lines_of_a_row()
+    ensures figures { figures_line (codes "X-1") (codes "D_1") (record { commodity = codes "AA"; figures = record { scan = pos 1200; active = 13; intra = pos 500; delivery = pos 40; credit = pos 7; minimum = pos 0; requirement = pos 1733 } })
+        ≡ codes "R,X-1,D_1,AA,1200,13,500,40,7,0,1733\n" }
+    ensures total { total_line (codes "X-1") (codes "D_1") (pos 1733) ≡ codes "T,X-1,D_1,1733\n" }
+    ensures below_zero { total_line (codes "Y") (codes "D_1") (neg_ℤ (pos 5)) ≡ codes "T,Y,D_1,-5\n" }
+{}
