@@ -1,4 +1,3 @@
-use Rattle.std.proofs.Common.{IfOk}
 use Rattle.statement.proofs.CountLemmas.{counts_form_is}
 use Rattle.statement.proofs.counts.write_counts.Goals as goal
 
