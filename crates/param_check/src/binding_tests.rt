@@ -1,10 +1,12 @@
-ghost use Rattle.std.specs.Prelude.{◌≡◌, not, bytes_eq};
+ghost use Rattle.std.specs.Prelude.{◌≡◌, ◌≤◌, All, not, bytes_eq, nat_abs, true};
+ghost use Rattle.span_tables.specs.declared.limits.TheConstants.{MAX_QUANTITY};
 ghost use Rattle.span_tables.specs.Names.{has_repeat};
 ghost use Rattle.std.specs.List.{list_any};
 
 use crate::binding::bind_records;
 use crate::faults::BindFault;
 use span_money::amounts::{Delta, Scale};
+use span_tables::limits::MAX_QUANTITY;
 use span_tables::name::Name;
 use span_tables::portfolios::Portfolio;
 use span_tables::records::{Contract, PositionRecord, ProductKind};
@@ -65,6 +67,12 @@ fn is_apart(contracts: &[Contract]) -> bool
     }
 }
 
+fn are_in_range(records: &[PositionRecord]) -> bool
+    ensures { result ≡ true → All (λ p. nat_abs p.quantity ≤ MAX_QUANTITY) records.now }
+{
+    records.iter().all(|record| record.quantity.unsigned_abs() <= u64::from(MAX_QUANTITY))
+}
+
 fn record(account: &[u8], contract: u32, quantity: i64) -> PositionRecord {
     PositionRecord {
         account: name(account),
@@ -90,6 +98,7 @@ fn fault_of(
 ) -> Result<Option<BindFault>, AllocError> {
     let contracts = contracts(alloc, count)?;
     assert!(rt; is_apart(&contracts));
+    assert!(rt; are_in_range(records));
     match bind_records(alloc, &contracts, records) {
         Ok(_) => Ok(None),
         Err(BindFault::OutOfMemory) => Err(AllocError),
@@ -113,6 +122,7 @@ fn portfolios_in_order_of_appearance(rt: HostRuntime) -> Result<(), Fail> {
         record(b"X", 0, -7),
         record(b"Z", 1, 0),
     ]?;
+    assert!(rt; are_in_range(&records));
     let all = bind_records(alloc, &contracts, &records)?.into_vec();
     assert_eq!(rt; all.len(), 3);
     assert!(rt; is_holding(&all[0], b"Y", &[(0, -4), (2, 15)]));
