@@ -10,7 +10,7 @@ use span_tables::portfolios::Holding;
 use std::alloc::{AllocError, Global};
 use std::marker::Model;
 
-/// The records of one account, at most: no memory holds as many, and their sum fits 64 bits.
+// The records of one account, at most: no memory holds as many, and their sum fits 64 bits.
 const MAX_ENTRIES: usize = 1_099_511_627_776;
 
 /// A position record of an account: the number of its contract, and its quantity.
@@ -110,7 +110,7 @@ fn held_nets(alloc: Global, nets: &[i64], room: usize) -> Result<Vec<Holding>, A
     Ok(held)
 }
 
-/// What an account of these entries holds, in a table that has a place for each contract.
+// What an account of these entries holds, in a table that has a place for each contract.
 #[tactic(auto, using(crate::proofs::NetLaws::holdings_in_table))]
 fn account_nets(alloc: Global, table: &mut [i64], book: &Book) -> Result<AccountNets, AllocError>
     ensures nets { IfOk result (λ nets. nets ≡ entry_holdings (length table.old) book.now) }
