@@ -1,5 +1,5 @@
 -- Laws of nets by contract number.
-use Rattle.std.proofs.Common.{◌≡◌, ℕ, zero, suc, ◌+◌, ◌*◌, ◌^◌, ◌<◌, ◌≤◌, ◌⊎◌, Bool, true, false, cond, ◌==◌, List, [], ◌∷◌, ◌++◌, length, get_or, set, take, filter, map, refl, sym, ap, ◌∙◌, inl, inr, arith}
+use Rattle.std.proofs.Common.{◌≡◌, ℕ, zero, suc, ◌+◌, ◌*◌, ◌<◌, ◌≤◌, ◌⊎◌, Bool, true, false, cond, ◌==◌, List, [], ◌∷◌, ◌++◌, length, get_or, set, take, filter, map, refl, sym, ap, ◌∙◌, inl, inr, arith}
 use Rattle.std.specs.Prelude.{ℤ, pos, ◌+ℤ◌, nat_abs, replicate}
 use Rattle.std.specs.List.{range_with_len}
 use Rattle.std.proofs.lemmas.Int.{ints}
@@ -10,6 +10,7 @@ use Rattle.std.proofs.lemmas.List.Sums.{fold_push}
 use Rattle.std.proofs.lemmas.Bool.{not_from_true, not_from_false, cases_eq, cases_lt, eq-eqb, ne_eqb}
 use Rattle.span_money.specs.Numbers.{int_sum_by}
 use Rattle.span_tables.specs.Net.{is_held}
+use Rattle.span_tables.specs.declared.limits.TheConstants.{MAX_QUANTITY}
 use Rattle.span_tables.specs.declared.portfolios.Holding.{Holding}
 use Rattle.param_check.specs.Nets.{entry_net, entry_holdings, holding_at, holdings_in}
 use Rattle.param_check.specs.declared.nets.Entry.{Entry}
@@ -87,20 +88,20 @@ table_none n = replicate-map n 0
     replicate-map (suc m) a = ap (λ xs. pos 0 ∷ xs) (replicate-map m (a + 1))
 
 -- a net grows by no more than the quantity
-pub small_more : (nets : List ℤ) (c i : ℕ) (q : ℤ) → nat_abs q ≤ 2 ^ 63 → ((k : ℕ) → nat_abs (get_or nets k (pos 0)) ≤ i * 2 ^ 63)
-    → (k : ℕ) → nat_abs (get_or (set nets c (get_or nets c (pos 0) +ℤ q)) k (pos 0)) ≤ (i + 1) * 2 ^ 63
+pub small_more : (nets : List ℤ) (c i : ℕ) (q : ℤ) → nat_abs q ≤ MAX_QUANTITY → ((k : ℕ) → nat_abs (get_or nets k (pos 0)) ≤ i * MAX_QUANTITY)
+    → (k : ℕ) → nat_abs (get_or (set nets c (get_or nets c (pos 0) +ℤ q)) k (pos 0)) ≤ (i + 1) * MAX_QUANTITY
 small_more nets c i q small all k = by (cases_eq k c) (cases_lt c (length nets))
   where
     sum : ℤ
     sum = get_or nets c (pos 0) +ℤ q
 
-    grown : (a b : ℤ) → nat_abs a ≤ i * 2 ^ 63 → nat_abs b ≤ 2 ^ 63 → nat_abs (a +ℤ b) ≤ (i + 1) * 2 ^ 63
+    grown : (a b : ℤ) → nat_abs a ≤ i * MAX_QUANTITY → nat_abs b ≤ MAX_QUANTITY → nat_abs (a +ℤ b) ≤ (i + 1) * MAX_QUANTITY
     grown a b x y = omega (arith, ints)
 
-    same : (a : ℤ) → nat_abs a ≤ i * 2 ^ 63 → nat_abs a ≤ (i + 1) * 2 ^ 63
+    same : (a : ℤ) → nat_abs a ≤ i * MAX_QUANTITY → nat_abs a ≤ (i + 1) * MAX_QUANTITY
     same a x = omega (arith, ints)
 
-    by : (k ≡ c) ⊎ (k ≡ c → ⊥) → (c < length nets) ⊎ (length nets ≤ c) → nat_abs (get_or (set nets c sum) k (pos 0)) ≤ (i + 1) * 2 ^ 63
+    by : (k ≡ c) ⊎ (k ≡ c → ⊥) → (c < length nets) ⊎ (length nets ≤ c) → nat_abs (get_or (set nets c sum) k (pos 0)) ≤ (i + 1) * MAX_QUANTITY
     by (inl e) (inl lt) = rw (e, get_or-set_same nets c sum (pos 0) lt) (grown (get_or nets c (pos 0)) q (all c) small)
     by (inl e) (inr le) = rw (set_past nets c sum le) (same (get_or nets k (pos 0)) (all k))
     by (inr ne) z = rw (get_or-set_other nets c k sum (pos 0) ne) (same (get_or nets k (pos 0)) (all k))

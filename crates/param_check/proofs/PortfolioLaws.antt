@@ -1,14 +1,12 @@
 -- Laws of portfolios that have no fault.
 use Rattle.std.proofs.Common.{◌≡◌, ◌≢◌, ℕ, zero, suc, ◌+◌, ◌<◌, ◌≤◌, ◌⊎◌, inl, inr, Bool, true, false, cond, ◌||◌, ◌&&◌, List, [], ◌∷◌, ◌++◌, length, get_or, take, filter, map, refl, sym, ap, subst, ◌∙◌, arith}
-use Rattle.std.specs.Prelude.{pos, nat_abs, bytes_eq, ◌==◌, nat_lt, All}
-use Rattle.std.specs.List.{list_any, enumerate_from, range_with_len, AllPairs}
+use Rattle.std.specs.Prelude.{nat_abs, bytes_eq, ◌==◌, nat_lt, All}
+use Rattle.std.specs.List.{list_any, enumerate_from, range_with_len}
 use Rattle.std.specs.List.Sorted.{IsStrictlyIncreasing}
 use Rattle.std.proofs.lemmas.Bool.{true≢false, false≢true, or_parts, ltb-false, eq-eqb, not_from_true}
-use Rattle.std.proofs.lemmas.List.{get_or-map, length-map, take_more, length-take-le}
+use Rattle.std.proofs.lemmas.List.{length-append, take_more, length-take-le}
 use Rattle.std.proofs.lemmas.List.Elements.{All-filter, All-map, All-weaker, All-same, filter_passes}
 use Rattle.std.proofs.lemmas.List.Folds.{list_any_at}
-use Rattle.std.proofs.lemmas.List.FromFn.{length-range_with_len, get_or-range_with_len}
-use Rattle.std.proofs.lemmas.List.Kept.{AllPairs-filter, AllPairs-from_increasing}
 use Rattle.span_money.specs.Numbers.{int_sum_by}
 use Rattle.span_tables.specs.Holdings.{ArePortfolio}
 use Rattle.span_tables.specs.Net.{AccountHoldings, accounts_of, net_of, is_held, holding_of, holdings_of, portfolios_of}
@@ -19,6 +17,7 @@ use Rattle.span_tables.specs.declared.records.PositionRecord.{PositionRecord}
 use Rattle.param_check.specs.Binding.{exceeds_net, exceeds_held}
 use Rattle.param_check.specs.Holdings.{paired}
 use Rattle.param_check.proofs.AccountLaws.{same_bytes, bytes_eq-refl, among_distinct}
+use Rattle.param_check.proofs.OrderLaws.{held_rise}
 
 module _ (positions : List PositionRecord) (account name : List ℕ) where
   -- where no record is over the limit, no net is
@@ -67,15 +66,6 @@ few_from contracts positions account (p ∷ xs) among h = by (bytes_eq account p
         subst (λ a. length (holdings_of contracts positions a) ≤ MAX_HELD) (sym (same_bytes account p.account e)) few
     by false e among more = more among
 
--- ---- the order of holdings
-
-numbers_rise : (a n : ℕ) → IsStrictlyIncreasing (range_with_len a n)
-numbers_rise a n k lt =
-    let size = length-range_with_len a n in
-    let here = get_or-range_with_len a n k 0 (omega (arith, lt, size)) in
-    let next = get_or-range_with_len a n (k + 1) 0 (omega (arith, lt, size)) in
-    omega (arith, here, next)
-
 module _ (contracts : List Contract) (positions : List PositionRecord) (account : List ℕ) where
   numbers_from : (a : ℕ) (xs : List Contract) → map (λ h. h.contract) (map (holding_of positions account) (enumerate_from a xs)) ≡ range_with_len a (length xs)
   numbers_from a [] = refl
@@ -84,29 +74,9 @@ module _ (contracts : List Contract) (positions : List PositionRecord) (account 
   all : List Holding
   all = map (holding_of positions account) (enumerate_from 0 contracts)
 
-  in_order : AllPairs (λ (x y : Holding). x.contract < y.contract) all
-  unfolding all
-  in_order i j d l m =
-      let rise : IsStrictlyIncreasing (map (λ (h : Holding). h.contract) all) = subst IsStrictlyIncreasing (sym (numbers_from 0 contracts)) (numbers_rise 0 (length contracts)) in
-      let m' : j < length (map (λ (h : Holding). h.contract) all) = omega (arith, m, length-map all (λ (h : Holding). h.contract)) in
-      let i' : i < length all = omega (arith, l, m) in
-      let less = AllPairs-from_increasing (map (λ (h : Holding). h.contract) all) rise i j 0 l m' in
-      let first = get_or-map (λ (h : Holding). h.contract) all i d 0 i' in
-      let second = get_or-map (λ (h : Holding). h.contract) all j d 0 m in
-      omega (arith, less, first, second)
-
   rising : IsStrictlyIncreasing (map (λ h. h.contract) (holdings_of contracts positions account))
   unfolding all
-  rising k lt =
-      let held = filter is_held all in
-      let size = length-map held (λ (h : Holding). h.contract) in
-      let none : Holding = record { contract = 0; net = pos 0 } in
-      let m : k + 1 < length held = omega (arith, lt, size) in
-      let l : k < length held = omega (arith, m) in
-      let kept = AllPairs-filter (λ (x y : Holding). x.contract < y.contract) is_held all in_order k (k + 1) none (omega arith) m in
-      let first = get_or-map (λ (h : Holding). h.contract) held k none 0 l in
-      let second = get_or-map (λ (h : Holding). h.contract) held (k + 1) none 0 m in
-      omega (arith, kept, first, second)
+  rising = held_rise all (length contracts) (numbers_from 0 contracts)
 
   not_zero : (h : Holding) → is_held h ≡ true → nat_abs h.net ≢ 0
   not_zero h e = λ z. true≢false (sym e ∙ not_from_true (nat_abs h.net == 0) (eq-eqb (nat_abs h.net) 0 z))
@@ -149,14 +119,14 @@ module _ (contracts : List Contract) (positions : List PositionRecord) (accounts
       ∙ ap (map (λ account. (let it : AccountHoldings = record { account = account; holdings = holdings_of contracts positions account } in it))) are
 
 -- one more account with its nets
-pub paired_more : (accounts : List (List ℕ)) (nets : List (List Holding)) (i : ℕ) (name : List ℕ) (held : List Holding) → i < length accounts → length nets ≡ length accounts
-    → name ≡ get_or accounts i name → held ≡ get_or nets i held → (all : List AccountHoldings) → all ≡ paired (take i accounts) (take i nets)
-    → all ++ record { account = name; holdings = held } ∷ [] ≡ paired (take (i + 1) accounts) (take (i + 1) nets)
-paired_more accounts nets i name held lt size at with_held all are =
-    ap (λ xs. xs ++ (let it : AccountHoldings = record { account = name; holdings = held } in it) ∷ []) are
-    ∙ sym (pairs_push (take i accounts) (take i nets) name held (length-take-le i accounts (omega (arith, lt)) ∙ sym (length-take-le i nets (omega (arith, lt, size)))))
-    ∙ ap (λ xs. paired xs (take i nets ++ held ∷ [])) (sym (take_more accounts i name lt ∙ ap (λ z. take i accounts ++ z ∷ []) (sym at)))
-    ∙ ap (paired (take (i + 1) accounts)) (sym (take_more nets i held (omega (arith, lt, size)) ∙ ap (λ z. take i nets ++ z ∷ []) (sym with_held)))
+pub paired_more : (accounts : List (List ℕ)) (nets : List (List Holding)) (i : ℕ) (name : List ℕ) (held : List Holding) → i < length accounts → i ≡ length nets
+    → name ≡ get_or accounts i name → (all : List AccountHoldings) → all ≡ paired (take (length nets) accounts) nets
+    → all ++ record { account = name; holdings = held } ∷ [] ≡ paired (take (length (nets ++ held ∷ [])) accounts) (nets ++ held ∷ [])
+paired_more accounts nets i name held lt many at all are =
+    ap (λ xs. xs ++ (let it : AccountHoldings = record { account = name; holdings = held } in it) ∷ []) (are ∙ ap (λ n. paired (take n accounts) nets) (sym many))
+    ∙ sym (pairs_push (take i accounts) nets name held (length-take-le i accounts (omega (arith, lt)) ∙ many))
+    ∙ ap (λ xs. paired xs (nets ++ held ∷ [])) (sym (take_more accounts i name lt ∙ ap (λ z. take i accounts ++ z ∷ []) (sym at)))
+    ∙ ap (λ n. paired (take n accounts) (nets ++ held ∷ [])) (ap (λ n. n + 1) many ∙ sym (length-append nets (held ∷ [])))
   where
     pairs_push : (ks : List (List ℕ)) (vs : List (List Holding)) (k : List ℕ) (v : List Holding) → length ks ≡ length vs
         → paired (ks ++ k ∷ []) (vs ++ v ∷ []) ≡ paired ks vs ++ record { account = k; holdings = v } ∷ []

@@ -1,13 +1,20 @@
-ghost use Rattle.std.specs.Prelude.{◌≡◌, not, bytes_eq};
+ghost use Rattle.std.specs.Prelude.{◌≡◌, ◌≤◌, All, not, bytes_eq, nat_abs, true};
+ghost use Rattle.span_tables.specs.declared.limits.TheConstants.{MAX_QUANTITY};
+ghost use Rattle.span_tables.specs.Limits.{contract_in_range};
 ghost use Rattle.span_tables.specs.Names.{has_repeat};
 ghost use Rattle.std.specs.List.{list_any};
 
-use crate::binding::bind_records;
+use crate::binding::{bind, bind_records};
+use crate::check::check;
 use crate::faults::BindFault;
 use span_money::amounts::{Delta, Scale};
+use span_tables::limits::MAX_QUANTITY;
 use span_tables::name::Name;
 use span_tables::portfolios::Portfolio;
-use span_tables::records::{Contract, PositionRecord, ProductKind};
+use span_tables::raw::{RawPositions, RawTables};
+use span_tables::records::{
+    Commodity, Contract, MinimumMethod, PositionRecord, ProductKind, Record, SetRecord,
+};
 use std::alloc::{AllocError, Global};
 use std::process::Abort;
 use std::test::Fail;
@@ -29,7 +36,9 @@ fn numbered(letter: u8, number: u32) -> Name {
     ])
 }
 
-fn contract(id: Name) -> Contract {
+fn contract(id: Name) -> Contract
+    ensures { contract_in_range result ≡ true }
+{
     Contract {
         id,
         commodity: name(b"CRUDE"),
@@ -65,6 +74,12 @@ fn is_apart(contracts: &[Contract]) -> bool
     }
 }
 
+fn are_in_range(records: &[PositionRecord]) -> bool
+    ensures { result ≡ true → All (λ p. nat_abs p.quantity ≤ MAX_QUANTITY) records.now }
+{
+    records.iter().all(|record| record.quantity.unsigned_abs() <= u64::from(MAX_QUANTITY))
+}
+
 fn record(account: &[u8], contract: u32, quantity: i64) -> PositionRecord {
     PositionRecord {
         account: name(account),
@@ -90,6 +105,7 @@ fn fault_of(
 ) -> Result<Option<BindFault>, AllocError> {
     let contracts = contracts(alloc, count)?;
     assert!(rt; is_apart(&contracts));
+    assert!(rt; are_in_range(records));
     match bind_records(alloc, &contracts, records) {
         Ok(_) => Ok(None),
         Err(BindFault::OutOfMemory) => Err(AllocError),
@@ -113,6 +129,7 @@ fn portfolios_in_order_of_appearance(rt: HostRuntime) -> Result<(), Fail> {
         record(b"X", 0, -7),
         record(b"Z", 1, 0),
     ]?;
+    assert!(rt; are_in_range(&records));
     let all = bind_records(alloc, &contracts, &records)?.into_vec();
     assert_eq!(rt; all.len(), 3);
     assert!(rt; is_holding(&all[0], b"Y", &[(0, -4), (2, 15)]));
@@ -199,5 +216,39 @@ fn too_many_held_after_net(rt: HostRuntime) -> Result<(), Fail> {
             account: name(b"Z")
         })
     );
+    Ok(())
+}
+
+// A file of a SET, a COMMODITY and two CONTRACTs.
+#[tactic(auto, unfolding(span_tables::specs::Limits::is_readable))]
+fn two_contracts(alloc: Global) -> Result<RawTables, AllocError> {
+    let (id, commodity) = (name(b"D1"), name(b"CRUDE"));
+    let (first, second) = (contract(numbered(b'C', 0)), contract(numbered(b'C', 1)));
+    let mut records = Vec::new(alloc);
+    records.push(Record::Set(SetRecord {
+        id,
+        currency: *b"USD",
+    }))?;
+    records.push(Record::Commodity(Commodity {
+        id: commodity,
+        minimum_rate: 0,
+        method: MinimumMethod::Sum,
+    }))?;
+    records.push(Record::Contract(first))?;
+    records.push(Record::Contract(second))?;
+    Ok(RawTables::new(records))
+}
+
+#[test]
+fn binds_to_tables(rt: HostRuntime) -> Result<(), Fail> {
+    let alloc = rt.alloc();
+    let tables = check(alloc, two_contracts(alloc)?)?;
+    let records = vec![in alloc; record(b"Y", 1, -3), record(b"X", 0, 4), record(b"Y", 1, 5)]?;
+    assert!(rt; are_in_range(&records));
+    let positions = RawPositions::new(records);
+    let all = bind(alloc, &tables, &positions)?.into_vec();
+    assert_eq!(rt; all.len(), 2);
+    assert!(rt; is_holding(&all[0], b"Y", &[(1, 2)]));
+    assert!(rt; is_holding(&all[1], b"X", &[(0, 4)]));
     Ok(())
 }

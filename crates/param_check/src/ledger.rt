@@ -1,5 +1,6 @@
 //! The entries of each account, gathered from the records of a position file.
-ghost use Rattle.std.specs.Prelude.{◌≡◌, ◌≤◌, ◌++◌, ◌∷◌, [], ⊤, true, Some, length, bytes_eq, slice_get, IfOk, OnOk, MatchBool, MatchResult};
+ghost use Rattle.std.specs.Prelude.{◌≡◌, ◌≤◌, ◌++◌, ◌∷◌, [], ⊤, true, Some, length, bytes_eq, nat_abs, slice_get, All, IfOk, IfSome, OnOk, MatchBool, MatchResult};
+ghost use Rattle.span_tables.specs.declared.limits.TheConstants.{MAX_QUANTITY};
 ghost use Rattle.std.specs.List.{IsDistinct};
 ghost use Rattle.indexmap.specs.IndexSet.{insert_key};
 ghost use Rattle.param_check.specs.Binding.{is_memory};
@@ -20,12 +21,15 @@ pub(crate) struct Book {
 }
 
 impl Model for Book {
-    ghost use Rattle.std.specs.Prelude.{List};
+    ghost use Rattle.std.specs.Prelude.{◌≤◌, All, List, nat_abs};
     ghost use Rattle.param_check.specs.declared.nets.Entry.{Entry};
+    ghost use Rattle.span_tables.specs.declared.limits.TheConstants.{MAX_QUANTITY};
 
     ghost Value = { List Entry };
 
     ghost view = { λ b. b.entries.items };
+
+    ghost invariant = { λ b. All (λ e. nat_abs e.quantity ≤ MAX_QUANTITY) b.entries.items };
 }
 
 impl Book {
@@ -38,6 +42,7 @@ impl Book {
     }
 
     fn push(&mut self, entry: Entry) -> Result<(), AllocError>
+        requires { nat_abs entry.quantity ≤ MAX_QUANTITY }
         ensures { OnOk result (self.new ≡ self.old ++ entry ∷ []) }
     {
         self.entries.push(entry)?;
@@ -46,7 +51,8 @@ impl Book {
 
     /// The entries in their order.
     pub(crate) fn as_slice(&self) -> &[Entry]
-        ensures { result.now ≡ self.now }
+        ensures value { result.now ≡ self.now }
+        ensures quantities { All (λ e. nat_abs e.quantity ≤ MAX_QUANTITY) self.now }
     {
         &self.entries
     }
@@ -62,7 +68,8 @@ pub(crate) struct Ledger {
 // The entry of a record, or `None` where its contract is not known.
 #[tactic(auto, unfolding(crate::specs::Ledger::known_entry))]
 fn entry(numbers: &IndexSet<Name>, position: &PositionRecord) -> Option<Entry>
-    ensures { result ≡ known_entry numbers.now.keys position.now }
+    ensures entry { result ≡ known_entry numbers.now.keys position.now }
+    ensures quantity { IfSome result (λ entry. entry.quantity ≡ position.now.quantity) }
 {
     let contract = numbers.get_index_of(&position.contract)?;
     Some(Entry {
@@ -103,6 +110,7 @@ fn enter(
     account: usize,
     entry: Entry,
 ) -> Result<(), AllocError>
+    requires { nat_abs entry.quantity ≤ MAX_QUANTITY }
     ensures { OnOk result (books.new.items ≡ entered books.old.items account entry) }
 {
     if account < books.len() {
@@ -121,6 +129,7 @@ pub(crate) fn gather(
     numbers: &IndexSet<Name>,
     positions: &[PositionRecord],
 ) -> Result<Ledger, BindFault>
+    requires { All (λ p. nat_abs p.quantity ≤ MAX_QUANTITY) positions.now }
     ensures { MatchResult result
         (λ l. IsLedger numbers.now.keys positions.now l.accounts.keys l.books.items)
         (λ e. MatchBool (is_memory e) ⊤ (foreign_fault numbers.now.keys positions.now ≡ Some e)) }

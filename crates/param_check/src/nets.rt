@@ -1,14 +1,17 @@
 //! The net quantities of one account.
-ghost use Rattle.std.specs.Prelude.{◌≡◌, ◌==◌, ◌&&◌, ◌<◌, ◌≤◌, ◌*◌, ◌^◌, ◌+ℤ◌, ◌-◌, length, map, nat_abs, replicate, pos, slice_index_or, slice_set, IfOk, OnOk, ◌++◌, ◌∷◌, []};
+ghost use Rattle.std.specs.Prelude.{◌≡◌, ◌<◌, ◌≤◌, ◌+◌, ◌^◌, ◌+ℤ◌, All, length, map, nat_abs, replicate, pos, slice_index_or, slice_set, IfOk, OnOk, ◌++◌};
 ghost use Rattle.std.specs.List.{range_with_len};
-ghost use Rattle.param_check.specs.Holdings.{is_over};
 ghost use Rattle.param_check.specs.Nets.{entry_holdings, entry_net, held_part, holdings_in};
+ghost use Rattle.param_check.specs.declared.nets.TheConstants.{MAX_ENTRIES};
+ghost use Rattle.span_tables.specs.declared.limits.TheConstants.{MAX_QUANTITY};
 
 use crate::ledger::Book;
-use span_tables::limits::MAX_NET;
 use span_tables::portfolios::Holding;
 use std::alloc::{AllocError, Global};
 use std::marker::Model;
+
+// The records of one account, at most: no memory holds as many, and their sum fits 64 bits.
+const MAX_ENTRIES: usize = 1_099_511_627_776;
 
 /// A position record of an account: the number of its contract, and its quantity.
 #[derive(Clone, Copy)]
@@ -17,71 +20,41 @@ pub(crate) struct Entry {
     pub(crate) quantity: i64,
 }
 
-/// An account's net quantity in the contract of a number, whatever its size.
-#[derive(Drop)]
-pub(crate) struct WideHolding {
-    contract: usize,
-    net: i128,
-}
-
-impl Model for WideHolding {
-    ghost use Rattle.span_tables.specs.declared.portfolios.Holding.{Holding};
-
-    ghost Value = { Holding };
-
-    ghost view = { λ h. record { contract = h.contract; net = h.net } };
-}
-
-impl WideHolding {
-    ghost use Rattle.std.specs.Prelude.{nat_abs};
-
-    /// Whether the net is over the limit either way.
-    pub(crate) fn is_over(&self) -> bool
-        ensures { result ≡ is_over self.now }
-    {
-        self.net.unsigned_abs() > u128::from(MAX_NET)
-    }
-
-    /// Whether the holding is of the contract of a number and over the limit.
-    pub(crate) fn is_over_at(&self, contract: usize) -> bool
-        ensures { result ≡ ((self.now.contract == contract) && is_over self.now) }
-    {
-        self.contract == contract && self.is_over()
-    }
-
-    /// The holding, whose net is within the limit.
-    pub(crate) fn narrow(&self) -> Holding
-        requires { nat_abs self.now.net ≤ MAX_NET }
-        ensures { result ≡ self.now }
-    {
-        Holding {
-            contract: self.contract,
-            net: self.net as i64,
-        }
-    }
-}
-
 /// What one account holds, whatever the sizes of its nets. Contracts see the list.
 #[derive(Drop)]
 pub(crate) struct AccountNets {
-    holdings: Vec<WideHolding>,
+    holdings: Vec<Holding>,
 }
 
 impl Model for AccountNets {
-    ghost use Rattle.std.specs.Prelude.{List};
+    ghost use Rattle.std.specs.Prelude.{List, map};
+    ghost use Rattle.std.specs.List.Sorted.{IsStrictlyIncreasing};
     ghost use Rattle.span_tables.specs.declared.portfolios.Holding.{Holding};
 
     ghost Value = { List Holding };
 
     ghost view = { λ n. n.holdings.items };
+
+    ghost invariant = { λ n. IsStrictlyIncreasing (map (λ h. h.contract) n.holdings.items) };
 }
 
 impl AccountNets {
+    ghost use Rattle.std.specs.Prelude.{map};
+    ghost use Rattle.std.specs.List.Sorted.{IsStrictlyIncreasing};
+
     /// The holdings by rising contract number.
-    pub(crate) fn as_slice(&self) -> &[WideHolding]
-        ensures { result.now ≡ self.now }
+    pub(crate) fn as_slice(&self) -> &[Holding]
+        ensures value { result.now ≡ self.now }
+        ensures rising { IsStrictlyIncreasing (map (λ h. h.contract) self.now) }
     {
         &self.holdings
+    }
+
+    /// The holdings by rising contract number, handed over.
+    pub(crate) fn into_vec(self) -> Vec<Holding>
+        ensures { result.items ≡ self }
+    {
+        self.holdings
     }
 
     /// How many contracts are held.
@@ -93,20 +66,22 @@ impl AccountNets {
 }
 
 // Adds an entry's quantity to the net of its contract; one of no contract adds nothing.
-fn add(nets: &mut [i128], entry: &Entry)
-    requires { nat_abs (slice_index_or nets.old entry.now.contract (pos 0)) < 2 ^ 127 - 2 ^ 63 }
-    ensures value { nets.new ≡ slice_set nets.old entry.now.contract (slice_index_or nets.old entry.now.contract (pos 0) +ℤ entry.now.quantity) }
-    ensures small { nat_abs entry.now.quantity ≤ 2 ^ 63 }
+fn add(nets: &mut [i64], entry: &Entry)
+    requires quantity { nat_abs entry.now.quantity ≤ MAX_QUANTITY }
+    requires room { nat_abs (slice_index_or nets.old entry.now.contract (pos 0)) + MAX_QUANTITY < 2 ^ 63 }
+    ensures { nets.new ≡ slice_set nets.old entry.now.contract (slice_index_or nets.old entry.now.contract (pos 0) +ℤ entry.now.quantity) }
 {
     let Entry { contract, quantity } = *entry;
     if contract < nets.len() {
-        nets[contract] += i128::from(quantity);
+        nets[contract] += quantity;
     }
 }
 
 // Adds each entry's quantity to the net of its contract, from nets of 0.
-fn add_all(nets: &mut [i128], entries: &[Entry])
-    requires { nets.old ≡ replicate (length nets.old) (pos 0) }
+fn add_all(nets: &mut [i64], entries: &[Entry])
+    requires zero { nets.old ≡ replicate (length nets.old) (pos 0) }
+    requires few { length entries.now ≤ MAX_ENTRIES }
+    requires quantities { All (λ e. nat_abs e.quantity ≤ MAX_QUANTITY) entries.now }
     ensures { nets.new ≡ map (entry_net entries.now) (range_with_len 0 (length nets.old)) }
 {
     for entry in entries {
@@ -115,46 +90,39 @@ fn add_all(nets: &mut [i128], entries: &[Entry])
 }
 
 // Appends the net in the contract of a number, unless it is 0.
-fn push_held(held: &mut Vec<WideHolding>, contract: usize, net: i128) -> Result<(), AllocError>
+fn push_held(held: &mut Vec<Holding>, contract: usize, net: i64) -> Result<(), AllocError>
     ensures { OnOk result (held.new.items ≡ held.old.items ++ held_part contract net) }
 {
     if net != 0 {
-        held.push(WideHolding { contract, net })?;
+        held.push(Holding { contract, net })?;
     }
     Ok(())
 }
 
-// The nets that are not 0, with their contract's numbers.
-fn held_nets(alloc: Global, nets: &[i128]) -> Result<Vec<WideHolding>, AllocError>
+// The nets that are not 0, with their contract's numbers; there is room for so many at first.
+fn held_nets(alloc: Global, nets: &[i64], room: usize) -> Result<Vec<Holding>, AllocError>
     ensures { IfOk result (λ held. held.items ≡ holdings_in nets.now (length nets.now)) }
 {
-    let mut held = Vec::new(alloc);
+    let mut held = Vec::with_capacity(alloc, room)?;
     for contract in 0..nets.len() {
         push_held(&mut held, contract, nets[contract])?;
     }
     Ok(held)
 }
 
-// The net in each of so many contracts.
-fn net_table(alloc: Global, contracts: usize, entries: &[Entry]) -> Result<Vec<i128>, AllocError>
-    ensures { IfOk result (λ nets. nets.items ≡ map (entry_net entries.now) (range_with_len 0 contracts)) }
-{
-    let mut nets = vec![in alloc; 0i128; contracts]?;
-    add_all(&mut nets, entries);
-    Ok(nets)
-}
-
+// What an account of these entries holds, in a table that has a place for each contract.
 #[tactic(auto, using(crate::proofs::NetLaws::holdings_in_table))]
-/// What an account of these entries holds, of so many contracts.
-pub(crate) fn account_nets(
-    alloc: Global,
-    contracts: usize,
-    entries: &[Entry],
-) -> Result<AccountNets, AllocError>
-    ensures { IfOk result (λ nets. nets ≡ entry_holdings contracts entries.now) }
+fn account_nets(alloc: Global, table: &mut [i64], book: &Book) -> Result<AccountNets, AllocError>
+    ensures nets { IfOk result (λ nets. nets ≡ entry_holdings (length table.old) book.now) }
+    ensures places { length table.new ≡ length table.old }
 {
-    let nets = net_table(alloc, contracts, entries)?;
-    let holdings = held_nets(alloc, &nets)?;
+    let entries = book.as_slice();
+    if entries.len() > MAX_ENTRIES {
+        return Err(AllocError);
+    }
+    table.fill(0);
+    add_all(table, entries);
+    let holdings = held_nets(alloc, table, entries.len().min(table.len()))?;
     Ok(AccountNets { holdings })
 }
 
@@ -166,9 +134,10 @@ pub(crate) fn all_nets(
 ) -> Result<Vec<AccountNets>, AllocError>
     ensures { IfOk result (λ nets. nets.items ≡ map (entry_holdings contracts) books.now) }
 {
-    let mut nets = Vec::new(alloc);
+    let mut table = vec![in alloc; 0i64; contracts]?;
+    let mut nets = Vec::with_capacity(alloc, books.len())?;
     for book in books {
-        nets.push(account_nets(alloc, contracts, book.as_slice())?)?;
+        nets.push(account_nets(alloc, &mut table, book)?)?;
     }
     Ok(nets)
 }

@@ -1,27 +1,40 @@
 //! The records whose nets or whose accounts are over a limit.
-ghost use Rattle.std.specs.Prelude.{◌≡◌, ◌<◌, length, position};
+ghost use Rattle.std.specs.Prelude.{◌≡◌, map};
+ghost use Rattle.std.specs.List.Sorted.{IsStrictlyIncreasing};
 ghost use Rattle.std.specs.List.{list_any};
 ghost use Rattle.param_check.specs.Holdings.{are_many, held_exceeds, held_fault, is_over, is_over_at, net_exceeds, net_fault};
 
 use crate::faults::BindFault;
-use crate::nets::{AccountNets, WideHolding};
+use crate::nets::AccountNets;
 use indexmap::IndexSet;
-use span_tables::limits::MAX_HELD;
+use span_tables::limits::{MAX_HELD, MAX_NET};
 use span_tables::name::Name;
+use span_tables::portfolios::Holding;
 use span_tables::records::PositionRecord;
 
+// Whether a net is over the limit either way.
+fn is_over(holding: &Holding) -> bool
+    ensures { result ≡ is_over holding.now }
+{
+    holding.net.unsigned_abs() > MAX_NET
+}
+
 // Whether some net is over the limit.
-fn has_over(holdings: &[WideHolding]) -> bool
+fn has_over(holdings: &[Holding]) -> bool
     ensures { result ≡ list_any is_over holdings.now }
 {
-    holdings.iter().any(|holding| holding.is_over())
+    holdings.iter().any(|holding| is_over(holding))
 }
 
 // Whether the net in the contract of a number is over the limit.
-fn is_over_at(holdings: &[WideHolding], contract: usize) -> bool
+fn is_over_at(holdings: &[Holding], contract: usize) -> bool
+    requires { IsStrictlyIncreasing (map (λ h. h.contract) holdings.now) }
     ensures { result ≡ is_over_at contract holdings.now }
 {
-    holdings.iter().any(|holding| holding.is_over_at(contract))
+    match holdings.binary_search_by_key(&contract, |holding| holding.contract) {
+        Ok(place) => is_over(&holdings[place]),
+        Err(_) => false,
+    }
 }
 
 // Whether some account has a net over the limit.

@@ -1,7 +1,7 @@
 use crate::faults::ParamFault;
 use crate::params::read_params;
 use span_tables::records::{MinimumMethod, ProductKind, Record, Side};
-use std::alloc::Global;
+use std::alloc::{AllocError, Global};
 use std::test::Fail;
 
 const EVERY_KIND: &[u8] = b"SET,S1,1,USD
@@ -22,13 +22,16 @@ INTER,3,1,GC,A,1,SI,B,2,HG,B,3,PL,A,4
 ";
 
 // How many records a file has, or its fault.
-fn count(alloc: Global, bytes: &[u8]) -> Result<usize, ParamFault> {
-    let tables = read_params(alloc, bytes)?;
-    Ok(tables.records().len())
+fn count(alloc: Global, bytes: &[u8]) -> Result<Result<usize, ParamFault>, AllocError> {
+    match read_params(alloc, bytes) {
+        Ok(read) => Ok(Ok(read.records().len())),
+        Err(ParamFault::OutOfMemory) => Err(AllocError),
+        Err(fault) => Ok(Err(fault)),
+    }
 }
 
 // The fault of a record behind a SET.
-fn behind_set(alloc: Global, line: &str) -> Result<usize, ParamFault> {
+fn behind_set(alloc: Global, line: &str) -> Result<Result<usize, ParamFault>, AllocError> {
     let mut text = String::new(alloc);
     text.push_str("SET,S1,1,USD\n")?;
     text.push_str(line)?;
@@ -36,7 +39,11 @@ fn behind_set(alloc: Global, line: &str) -> Result<usize, ParamFault> {
 }
 
 // So many lines of one record behind a SET.
-fn repeated(alloc: Global, line: &str, times: usize) -> Result<usize, ParamFault> {
+fn repeated(
+    alloc: Global,
+    line: &str,
+    times: usize,
+) -> Result<Result<usize, ParamFault>, AllocError> {
     let mut text = String::new(alloc);
     text.push_str("SET,S1,1,USD\n")?;
     for _ in 0..times {
@@ -48,71 +55,77 @@ fn repeated(alloc: Global, line: &str, times: usize) -> Result<usize, ParamFault
 #[test]
 fn names_each_fault(rt: HostRuntime) -> Result<(), Fail> {
     let alloc = rt.alloc();
-    assert!(rt; count(alloc, b"") == Err(ParamFault::NoSet { at: 0 }));
-    assert!(rt; count(alloc, b"TIER\n") == Err(ParamFault::NoSet { at: 1 }));
-    assert!(rt; behind_set(alloc, "SET") == Err(ParamFault::SecondSet { at: 2 }));
+    assert!(rt; count(alloc, b"")? == Err(ParamFault::NoSet { at: 0 }));
+    assert!(rt; count(alloc, b"TIER\n")? == Err(ParamFault::NoSet { at: 1 }));
+    assert!(rt; behind_set(alloc, "SET")? == Err(ParamFault::SecondSet { at: 2 }));
     assert!(rt;
-        behind_set(alloc, "Tier,GC,1,202601,202602") == Err(ParamFault::UnknownKind { at: 2 })
+        behind_set(alloc, "Tier,GC,1,202601,202602")? == Err(ParamFault::UnknownKind { at: 2 })
     );
-    assert!(rt; behind_set(alloc, "TIER,g,x,0") == Err(ParamFault::FieldCount { at: 2 }));
-    assert!(rt; behind_set(alloc, "INTRA,GC,1,1,1,A,1") == Err(ParamFault::FieldCount { at: 2 }));
-    assert!(rt; behind_set(alloc, "TIER,g,x,0,0") == Err(ParamFault::BadName { at: 2 }));
-    assert!(rt; behind_set(alloc, "COMMODITY,GC,1,sum") == Err(ParamFault::BadName { at: 2 }));
-    assert!(rt; behind_set(alloc, "INTER,1,1,GC,A,1,SI,C,1") == Err(ParamFault::BadName { at: 2 }));
+    assert!(rt; behind_set(alloc, "TIER,g,x,0")? == Err(ParamFault::FieldCount { at: 2 }));
+    assert!(rt; behind_set(alloc, "INTRA,GC,1,1,1,A,1")? == Err(ParamFault::FieldCount { at: 2 }));
+    assert!(rt; behind_set(alloc, "TIER,g,x,0,0")? == Err(ParamFault::BadName { at: 2 }));
+    assert!(rt; behind_set(alloc, "COMMODITY,GC,1,sum")? == Err(ParamFault::BadName { at: 2 }));
     assert!(rt;
-        behind_set(alloc, "TIER,GC,99,20260,202602") == Err(ParamFault::BadNumber { at: 2 })
-    );
-    assert!(rt;
-        behind_set(alloc, "TIER,GC,33,202601,202602") == Err(ParamFault::OutOfRange { at: 2 })
+        behind_set(alloc, "INTER,1,1,GC,A,1,SI,C,1")? == Err(ParamFault::BadName { at: 2 })
     );
     assert!(rt;
-        behind_set(alloc, "TIER,GC,1,202613,202602") == Err(ParamFault::OutOfRange { at: 2 })
+        behind_set(alloc, "TIER,GC,99,20260,202602")? == Err(ParamFault::BadNumber { at: 2 })
     );
-    assert!(rt; behind_set(alloc, "SPOT,GC,202601,1,-1") == Err(ParamFault::OutOfRange { at: 2 }));
-    assert!(rt; count(alloc, b"SET,S1,2,USD\n") == Err(ParamFault::OutOfRange { at: 1 }));
-    assert!(rt; count(alloc, b"SET,S1,1,usd\n") == Err(ParamFault::BadName { at: 1 }));
+    assert!(rt;
+        behind_set(alloc, "TIER,GC,33,202601,202602")? == Err(ParamFault::OutOfRange { at: 2 })
+    );
+    assert!(rt;
+        behind_set(alloc, "TIER,GC,1,202613,202602")? == Err(ParamFault::OutOfRange { at: 2 })
+    );
+    assert!(rt; behind_set(alloc, "SPOT,GC,202601,1,-1")? == Err(ParamFault::OutOfRange { at: 2 }));
+    assert!(rt; count(alloc, b"SET,S1,2,USD\n")? == Err(ParamFault::OutOfRange { at: 1 }));
+    assert!(rt; count(alloc, b"SET,S1,1,usd\n")? == Err(ParamFault::BadName { at: 1 }));
     Ok(())
 }
 
 #[test]
 fn counts_records(rt: HostRuntime) -> Result<(), Fail> {
     let alloc = rt.alloc();
-    assert!(rt; repeated(alloc, "COMMODITY,GC,1,SUM\n", 64) == Ok(65));
-    assert!(rt; repeated(alloc, "COMMODITY,GC,1,SUM\n", 65) == Err(ParamFault::TooMany { at: 66 }));
+    assert!(rt; repeated(alloc, "COMMODITY,GC,1,SUM\n", 64)? == Ok(65));
+    assert!(rt;
+        repeated(alloc, "COMMODITY,GC,1,SUM\n", 65)? == Err(ParamFault::TooMany { at: 66 })
+    );
     assert!(rt;
         repeated(
             alloc,
             "TIER,GC,1,202601,202602\nTIER,SI,1,202601,202602\n",
             32
-        ) == Ok(65)
+        )? == Ok(65)
     );
     assert!(rt;
         repeated(
             alloc,
             "TIER,GC,1,202601,202602\nTIER,SI,1,202601,202602\n",
             33
-        ) == Err(ParamFault::TooMany { at: 66 })
+        )? == Err(ParamFault::TooMany { at: 66 })
     );
     assert!(rt;
-        repeated(alloc, "INTRA,GC,1,1,1,A,1,1,B,1\n", 65) == Err(ParamFault::TooMany { at: 66 })
+        repeated(alloc, "INTRA,GC,1,1,1,A,1,1,B,1\n", 65)? == Err(ParamFault::TooMany { at: 66 })
     );
-    assert!(rt; repeated(alloc, "SPOT,GC,202601,1,1\n", 17) == Err(ParamFault::TooMany { at: 18 }));
     assert!(rt;
-        repeated(alloc, "INTER,1,1,GC,A,1,SI,B,1\n", 257) == Err(ParamFault::TooMany { at: 258 })
+        repeated(alloc, "SPOT,GC,202601,1,1\n", 17)? == Err(ParamFault::TooMany { at: 18 })
+    );
+    assert!(rt;
+        repeated(alloc, "INTER,1,1,GC,A,1,SI,B,1\n", 257)? == Err(ParamFault::TooMany { at: 258 })
     );
     assert!(rt;
         repeated(
             alloc,
             "CONTRACT,X,GC,F,202601,0,1,0,0,0,0,0,0,0,0,0,0,0,0,0,0,0,0\n",
             4096
-        ) == Ok(4097)
+        )? == Ok(4097)
     );
     assert!(rt;
         repeated(
             alloc,
             "CONTRACT,X,GC,F,202601,0,1,0,0,0,0,0,0,0,0,0,0,0,0,0,0,0,0\n",
             4097
-        ) == Err(ParamFault::TooMany { at: 4098 })
+        )? == Err(ParamFault::TooMany { at: 4098 })
     );
     Ok(())
 }
@@ -120,12 +133,12 @@ fn counts_records(rt: HostRuntime) -> Result<(), Fail> {
 #[test]
 fn reads_what_a_file_may_have(rt: HostRuntime) -> Result<(), Fail> {
     let alloc = rt.alloc();
-    assert!(rt; count(alloc, EVERY_KIND) == Ok(15));
+    assert!(rt; count(alloc, EVERY_KIND)? == Ok(15));
     assert!(rt;
         count(
             alloc,
             b"\xEF\xBB\xBFSET,S1,1,USD\r\n\r\n\"TIER\",\"GC\",\"01\",202601,202602"
-        ) == Ok(2)
+        )? == Ok(2)
     );
     Ok(())
 }
@@ -134,11 +147,9 @@ fn reads_what_a_file_may_have(rt: HostRuntime) -> Result<(), Fail> {
 #[test]
 fn answers_or_wants_memory(rt: HostRuntime) -> Result<(), Fail> {
     let answer = count(rt.alloc(), EVERY_KIND);
-    assert!(rt; answer == Ok(15) || answer == Err(ParamFault::OutOfMemory));
+    assert!(rt; answer == Ok(Ok(15)) || answer == Err(AllocError));
     let answer = behind_set(rt.alloc(), "TIER,GC,33,202601,202602");
-    assert!(rt;
-        answer == Err(ParamFault::OutOfRange { at: 2 }) || answer == Err(ParamFault::OutOfMemory)
-    );
+    assert!(rt; answer == Ok(Err(ParamFault::OutOfRange { at: 2 })) || answer == Err(AllocError));
     Ok(())
 }
 

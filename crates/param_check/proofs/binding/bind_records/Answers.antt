@@ -13,14 +13,14 @@ returns-in_err-ledger c =
 
 pub settle-requires-clause-fit : goal.settle-requires-clause-fit
 settle-requires-clause-fit c =
-    nets_hold c.args.contracts.now c.args.records.now c.in_ok-numbers.numbers.keys c.in_ok-ledger.ledger.accounts.keys c.in_ok-ledger.ledger.books.items c.deref-2.result.now
-    c.requires c.in_ok-numbers.ensures c.in_ok-ledger.ensures
-    (c.deref-2.ensures.value ∙ c.in_ok-nets.ensures ∙ ap (map (entry_holdings (length c.args.contracts.now))) c.deref.ensures.value)
+    nets_hold c.args.contracts.now c.args.records.now c.in_ok-numbers.numbers.keys c.in_ok-ledger.ledger.accounts.keys c.in_ok-ledger.ledger.books.items c.in_ok-nets.nets.items
+    c.requires.apart c.in_ok-numbers.ensures c.in_ok-ledger.ensures
+    (c.in_ok-nets.ensures ∙ ap (map (entry_holdings (length c.args.contracts.now))) c.deref.ensures.value)
 
 pub returns : goal.returns
 returns c =
     subst (Gives is_memory c.settle.result)
-    (bound_settled c.args.contracts.now c.args.records.now c.in_ok-numbers.numbers.keys c.in_ok-ledger.ledger.accounts.keys c.in_ok-ledger.ledger.books.items c.deref-2.result.now
-    c.requires c.in_ok-numbers.ensures c.in_ok-ledger.ensures
-    (c.deref-2.ensures.value ∙ c.in_ok-nets.ensures ∙ ap (map (entry_holdings (length c.args.contracts.now))) c.deref.ensures.value))
+    (bound_settled c.args.contracts.now c.args.records.now c.in_ok-numbers.numbers.keys c.in_ok-ledger.ledger.accounts.keys c.in_ok-ledger.ledger.books.items c.in_ok-nets.nets.items
+    c.requires.apart c.in_ok-numbers.ensures c.in_ok-ledger.ensures
+    (c.in_ok-nets.ensures ∙ ap (map (entry_holdings (length c.args.contracts.now))) c.deref.ensures.value))
     c.settle.ensures

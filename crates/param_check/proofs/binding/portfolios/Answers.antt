@@ -1,12 +1,23 @@
-use Rattle.std.proofs.Common.{◌∙◌, ◌++◌, ◌∷◌, [], ap}
+use Rattle.std.proofs.Common.{◌≡◌, ◌+◌, ◌<◌, ◌∙◌, ◌++◌, ◌∷◌, [], ap, sym, length, arith}
+use Rattle.std.proofs.lemmas.List.{length-append}
 use Rattle.param_check.proofs.PortfolioLaws.{paired_more}
 use Rattle.param_check.proofs.binding.portfolios.Goals as goal
 
-pub loop-number-preserved : goal.loop-number-preserved
-loop-number-preserved c =
-    let name = c.index-accounts-number.result in
-    let held = c.index-nets-number.result in
-    c.in_ok-push.ensures.items
-    ∙ ap (λ p. c.loop-number.all.items ++ p ∷ []) c.in_ok-portfolio.ensures
-    ∙ paired_more c.args.accounts.now c.args.nets.now c.loop-number.number name held c.loop-number-test.true c.requires.as_many c.index-accounts-number.is c.index-nets-number.is
-    c.loop-number.all.items c.loop-number.invariant
+pub loop-held-preserved : goal.loop-held-preserved
+loop-held-preserved c =
+    let was = c.loop-held.invariant in
+    let i = c.len.result in
+    let name = c.index-accounts-len.result in
+    let size = ap length c.in-Some.ensures.steps.0 in
+    let lt : i < length c.args.accounts.now = omega (arith, size, c.len.ensures, was.left) in
+    let at : i ≡ length c.loop-held.yielded = omega (arith, c.len.ensures, was.many) in
+    let pushed = ap length c.in_ok-push.ensures.items ∙ length-append c.loop-held.all.items (c.new.result ∷ []) in
+    let made = c.new.ensures ∙ ap (λ a. record { account = a; holdings = c.into_vec.result.items }) c.copied-account.ensures ∙ ap (λ h. record { account = name; holdings = h }) c.into_vec.ensures in
+    record {
+      are =
+          c.in_ok-push.ensures.items
+          ∙ ap (λ p. c.loop-held.all.items ++ p ∷ []) made
+          ∙ paired_more c.args.accounts.now c.loop-held.yielded i name c.in-Some.held lt at c.index-accounts-len.is c.loop-held.all.items was.are;
+      many = pushed ∙ ap (λ n. n + 1) was.many ∙ sym (length-append c.loop-held.yielded (c.in-Some.held ∷ []));
+      left = omega (arith, pushed, size, was.left);
+    }

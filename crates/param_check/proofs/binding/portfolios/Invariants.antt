@@ -1,6 +1,11 @@
-use Rattle.std.proofs.Common.{◌≡◌, take}
+use Rattle.std.proofs.Common.{◌≡◌, ◌+◌, take}
+use Rattle.std.specs.Prelude.{length}
 use Rattle.param_check.specs.Holdings.{paired}
 use Rattle.param_check.proofs.binding.portfolios.Given as goal
 
-abbrev pub invariant-loop-number : goal.invariant-loop-number
-invariant-loop-number l = l.all.items ≡ paired (take l.number l.accounts) (take l.number l.nets)
+abbrev pub invariant-loop-held : goal.invariant-loop-held
+invariant-loop-held l = record {
+  are : l.all.items ≡ paired (take (length l.yielded) l.accounts) l.yielded;
+  many : length l.all.items ≡ length l.yielded;
+  left : length l.all.items + length l.held-iterator.rest.items ≡ length l.accounts;
+}

@@ -1,0 +1,116 @@
+-- Laws of holdings by rising contract number, and of a search among them.
+use Rattle.std.proofs.Common.{◌≡◌, ℕ, zero, suc, ◌+◌, ◌<◌, ◌≤◌, Bool, true, false, ◌||◌, ◌&&◌, List, [], ◌∷◌, length, get_or, filter, map, Ok, Err, refl, sym, ap, subst, ◌∙◌, arith}
+use Rattle.std.specs.Prelude.{pos, ◌==◌}
+use Rattle.std.specs.List.{range_with_len, AllPairs}
+use Rattle.std.specs.List.Sorted.{IsStrictlyIncreasing, IsBinarySearchResult, IsNonDecreasingBy}
+use Rattle.std.specs.Ordering.{nat_cmp, ordering_index}
+use Rattle.std.proofs.lemmas.Bool.{or_from, ne_eqb, eq-eqb}
+use Rattle.std.proofs.lemmas.Bool.Decides.{nat_tests}
+use Rattle.std.proofs.lemmas.Cmp.{ranked}
+use Rattle.std.proofs.lemmas.List.{get_or-map, length-map, get_or_default}
+use Rattle.std.proofs.lemmas.List.FromFn.{length-range_with_len, get_or-range_with_len}
+use Rattle.std.proofs.lemmas.List.Kept.{AllPairs-filter, AllPairs-from_increasing}
+use Rattle.std.proofs.lemmas.List.Sorted.{IsNonDecreasingBy-from_default}
+use Rattle.span_tables.specs.Net.{is_held}
+use Rattle.span_tables.specs.declared.portfolios.Holding.{Holding}
+use Rattle.param_check.specs.Holdings.{is_over, is_over_at}
+use Rattle.param_check.specs.Nets.{entry_net, entry_holdings}
+use Rattle.param_check.specs.declared.nets.Entry.{Entry}
+
+none : Holding
+none = record { contract = 0; net = pos 0 }
+
+Rise : List Holding → Type 0
+Rise holdings = AllPairs (λ (x y : Holding). x.contract < y.contract) holdings
+
+-- ---- the order of what is held
+
+numbers_rise : (a n : ℕ) → IsStrictlyIncreasing (range_with_len a n)
+numbers_rise a n k lt =
+    let size = length-range_with_len a n in
+    let here = get_or-range_with_len a n k 0 (omega (arith, lt, size)) in
+    let next = get_or-range_with_len a n (k + 1) 0 (omega (arith, lt, size)) in
+    omega (arith, here, next)
+
+pairs_rise : (all : List Holding) → IsStrictlyIncreasing (map (λ h. h.contract) all) → Rise all
+unfolding Rise
+pairs_rise all rise i j d l m =
+    let size = length-map all (λ (h : Holding). h.contract) in
+    let m' : j < length (map (λ (h : Holding). h.contract) all) = omega (arith, m, size) in
+    let i' : i < length all = omega (arith, l, m) in
+    let less = AllPairs-from_increasing (map (λ (h : Holding). h.contract) all) rise i j 0 l m' in
+    let first = get_or-map (λ (h : Holding). h.contract) all i d 0 i' in
+    let second = get_or-map (λ (h : Holding). h.contract) all j d 0 m in
+    omega (arith, less, first, second)
+
+-- what is held of holdings by contract number rises
+pub held_rise : (all : List Holding) (n : ℕ) → map (λ h. h.contract) all ≡ range_with_len 0 n → IsStrictlyIncreasing (map (λ h. h.contract) (filter is_held all))
+unfolding Rise
+held_rise all n numbers k lt =
+    let rise : IsStrictlyIncreasing (map (λ (h : Holding). h.contract) all) = subst IsStrictlyIncreasing (sym numbers) (numbers_rise 0 n) in
+    let held = filter is_held all in
+    let size = length-map held (λ (h : Holding). h.contract) in
+    let m : k + 1 < length held = omega (arith, lt, size) in
+    let l : k < length held = omega (arith, m) in
+    let kept = AllPairs-filter (λ (x y : Holding). x.contract < y.contract) is_held all (pairs_rise all rise) k (k + 1) none (omega arith) m in
+    let first = get_or-map (λ (h : Holding). h.contract) held k none 0 l in
+    let second = get_or-map (λ (h : Holding). h.contract) held (k + 1) none 0 m in
+    omega (arith, kept, first, second)
+
+-- the holdings of an account rise
+pub entry_holdings_rise : (n : ℕ) (entries : List Entry) → IsStrictlyIncreasing (map (λ h. h.contract) (entry_holdings n entries))
+unfolding entry_holdings
+entry_holdings_rise n entries = held_rise (map (λ c. (let it : Holding = record { contract = c; net = entry_net entries c } in it)) (range_with_len 0 n)) n (numbers 0 n)
+  where
+    numbers : (a m : ℕ) → map (λ h. h.contract) (map (λ c. (let it : Holding = record { contract = c; net = entry_net entries c } in it)) (range_with_len a m)) ≡ range_with_len a m
+    numbers a zero = refl
+    numbers a (suc m) = ap (λ ns. a ∷ ns) (numbers (a + 1) m)
+
+-- ---- a search by contract number
+
+-- no holding of the number
+absent_in : (c : ℕ) (holdings : List Holding) → ((k : ℕ) → k < length holdings → (get_or holdings k none).contract ≡ c → ⊥) → is_over_at c holdings ≡ false
+absent_in c [] h = refl
+absent_in c (x ∷ holdings) h =
+    or_from ((x.contract == c) && is_over x) (is_over_at c holdings)
+    (ap (λ b. b && is_over x) (ne_eqb x.contract c (h 0 (omega arith))))
+    (absent_in c holdings (λ k lt. h (suc k) (omega (arith, lt))))
+
+-- the holding of the number stands at a place
+over_in : (c : ℕ) (holdings : List Holding) (k : ℕ) → Rise holdings → k < length holdings → (get_or holdings k none).contract ≡ c → is_over_at c holdings ≡ is_over (get_or holdings k none)
+unfolding Rise
+over_in c [] k rise lt at = absurd (omega (arith, lt))
+over_in c (x ∷ holdings) zero rise lt at =
+    ap (λ b. (b && is_over x) || is_over_at c holdings) (eq-eqb x.contract c at)
+    ∙ ap (λ b. is_over x || b) (absent_in c holdings (λ k l same. let less = rise 0 (suc k) none (omega arith) (omega (arith, l)) in omega (arith, less, at, same)))
+    ∙ alone (is_over x)
+  where
+    alone : (b : Bool) → (b || false) ≡ b
+    alone true = refl
+    alone false = refl
+over_in c (x ∷ holdings) (suc k) rise lt at =
+    let less = rise 0 (suc k) none (omega arith) lt in
+    ap (λ b. (b && is_over x) || is_over_at c holdings) (ne_eqb x.contract c (λ same. omega (arith, less, at, same)))
+    ∙ over_in c holdings k (λ i j d l m. rise (suc i) (suc j) d (omega (arith, l)) (omega (arith, m))) (omega (arith, lt)) at
+
+module _ (holdings : List Holding) (rising : IsStrictlyIncreasing (map (λ h. h.contract) holdings)) (c : ℕ) where
+  rise : Rise holdings
+  rise = pairs_rise holdings rising
+
+  -- the comparisons with the number rise along the holdings, as a binary search asks
+  comparisons_rise : IsNonDecreasingBy (λ h. ordering_index (nat_cmp h.contract c)) holdings
+  unfolding Rise
+  comparisons_rise = IsNonDecreasingBy-from_default (λ h. ordering_index (nat_cmp h.contract c)) holdings none (λ i j le in_range.
+      let less = rise i j none in
+      grind (arith, nat_tests, less, λ (same : i ≡ j). ap (λ k. (get_or holdings k none).contract) same))
+
+  pub over_found : (place : ℕ) (d : Holding) → place < length holdings → IsBinarySearchResult (λ h. nat_cmp h.contract c) holdings (Ok place) → is_over (get_or holdings place d) ≡ is_over_at c holdings
+  over_found place d lt equal =
+      ap is_over (get_or_default holdings place d none lt)
+      ∙ sym (over_in c holdings place rise lt (ranked _ c _ (sym (equal none))))
+
+  pub over_absent : (place : ℕ) → place ≤ length holdings → IsBinarySearchResult (λ h. nat_cmp h.contract c) holdings (Err place) → false ≡ is_over_at c holdings
+  over_absent place le parted = sym (absent_in c holdings (λ k lt same.
+      let before = λ (l : k < place). ranked _ c _ (sym ((parted comparisons_rise).0 k none (omega (arith, le)) l)) in
+      let after = λ (l : place ≤ k). ranked _ c _ (sym ((parted comparisons_rise).1 k none l lt)) in
+      grind (arith, before, after, same)))
