@@ -87,14 +87,21 @@ fn is_in_tier(leg: &MonthLeg, month: &MonthUnits) -> bool
 fn is_open(leg: &MonthLeg, month: &MonthUnits) -> bool
     ensures { result ≡ is_open leg.now month.now }
 {
-    is_in_tier(leg, month) && month.units.get().unsigned_abs() != 0
+    (leg.first <= month.month)
+        & (month.month <= leg.last)
+        & (month.units.get().unsigned_abs() != 0)
 }
 
-// Whether some month of a leg's tier has units.
+// Whether some month of a leg's tier has units. No test of a month decides whether the next one is tested: most months
+// are of other tiers, and a branch for each would be guessed wrong.
 fn has_open(rests: &[MonthUnits], leg: &MonthLeg) -> bool
     ensures { result ≡ list_any (is_open leg.now) rests.now }
 {
-    rests.iter().any(|month| is_open(leg, month))
+    let mut open = false;
+    for month in rests {
+        open |= is_open(leg, month);
+    }
+    open
 }
 
 // Whether some leg's tier has no month with units: then no spread is formed in either direction.
