@@ -1,6 +1,5 @@
 //! The rests of months after intracommodity spreads, and the exact charge of the spreads.
 ghost use Rattle.std.specs.Prelude.{◌≡◌, ℕ, ◌+◌, ◌*◌, ◌<◌, ◌≤◌, List, [], ◌∷◌, length, All, IfOk};
-ghost use Rattle.std.specs.List.{list_any};
 ghost use Rattle.span_tables.specs.Accepted.{IsIntra};
 ghost use Rattle.span_tables.specs.Sides.{spreads_formed};
 ghost use Rattle.span_tables.specs.declared.limits.TheConstants.{MAX_RATE};
@@ -8,7 +7,7 @@ ghost use Rattle.spread_stage.specs.Market.{direction_of, market_of};
 ghost use Rattle.spread_stage.specs.Months.{AreMonths, AreTierRests, MonthsRise, Shrinks, total_size};
 ghost use Rattle.spread_stage.specs.Slots.{HaveSlots};
 ghost use Rattle.spread_stage.specs.Spreads.{is_in_tier, rests_after, rests_after_leg, spread_both_ways, tier_rooms, tier_side, unspread};
-ghost use Rattle.spread_stage.specs.Steps.{has_closed_leg, is_open, used_now};
+ghost use Rattle.spread_stage.specs.Steps.{used_now};
 ghost use Rattle.spread_stage.specs.declared.months.MonthUnits.{MonthUnits};
 ghost use Rattle.spread_stage.specs.declared.months.TheConstants.{MAX_UNITS};
 
@@ -87,42 +86,6 @@ fn is_in_tier(leg: &MonthLeg, month: &MonthUnits) -> bool
     leg.first <= month.month && month.month <= leg.last
 }
 
-// Whether a month is one of a leg's tier and has units.
-fn is_open(leg: &MonthLeg, month: &MonthUnits) -> bool
-    ensures { result ≡ is_open leg.now month.now }
-{
-    (leg.first <= month.month)
-        & (month.month <= leg.last)
-        & (month.units.get().unsigned_abs() != 0)
-}
-
-// Whether some month of a leg's tier has units. No test of a month decides whether the next one is tested: most months
-// are of other tiers, and a branch for each would be guessed wrong.
-fn has_open(rests: &[MonthUnits], leg: &MonthLeg) -> bool
-    ensures { result ≡ list_any (is_open leg.now) rests.now }
-{
-    let mut open = false;
-    for month in rests {
-        open |= is_open(leg, month);
-    }
-    open
-}
-
-// Whether some leg's tier has no month with units: then no spread is formed in either direction.
-fn has_closed_leg(rests: &[MonthUnits], legs: &[MonthLeg]) -> bool
-    ensures { result ≡ has_closed_leg rests.now legs.now }
-{
-    legs.iter().any(|leg| !has_open(rests, leg))
-}
-
-// Whether some leg has nothing to use: the slots of months tell it mostly, and else the months.
-fn is_idle(rests: &[MonthUnits], slots: &[bool; 64], legs: &[MonthLeg]) -> bool
-    requires { HaveSlots slots.now rests.now }
-    ensures { result ≡ has_closed_leg rests.now legs.now }
-{
-    has_clear_leg(slots, legs) || has_closed_leg(rests, legs)
-}
-
 // The side of a leg's tier: the sum of its months' parts.
 fn tier_side(rests: &[MonthUnits], on: MarketSide, leg: &MonthLeg) -> u128
     requires { total_size rests.now ≤ MAX_UNITS }
@@ -143,10 +106,11 @@ fn room(rests: &[MonthUnits], direction: Direction, leg: &MonthLeg) -> u128
     requires ratio { 0 < leg.now.ratio }
     ensures { result ≡ spreads_formed (tier_rooms (direction_of direction) (leg.now ∷ []) rests.now) }
 {
-    greatest_fit(
-        tier_side(rests, market_side(direction, leg.side), leg),
-        leg.ratio,
-    )
+    let side = tier_side(rests, market_side(direction, leg.side), leg);
+    if side == 0 {
+        return 0;
+    }
+    greatest_fit(side, leg.ratio)
 }
 
 // The number of spreads that the legs have room for, in 10^-4 spreads.
@@ -263,7 +227,7 @@ fn spread_rests(rests: &mut [MonthUnits], slots: &[bool; 64], intra: &Intra) -> 
     ensures shrinks { (months : List MonthUnits) → Shrinks months rests.old → Shrinks months rests.new }
 {
     let legs = intra.legs.as_slice();
-    if is_idle(rests, slots, legs) {
+    if has_clear_leg(slots, legs) {
         return 0;
     }
     let first = spread_one_way(rests, Direction::ALong, legs);

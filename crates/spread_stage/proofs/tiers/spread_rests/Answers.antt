@@ -6,12 +6,12 @@ use Rattle.spread_stage.proofs.SlotLemmas.{slots_of_rests}
 use Rattle.spread_stage.proofs.SpreadLemmas.{both_ways}
 use Rattle.spread_stage.proofs.tiers.spread_rests.Goals as goal
 
-pub returns-then-is_idle-clause-value : goal.returns-then-is_idle-clause-value
-returns-then-is_idle-clause-value c charge =
+pub returns-then-has_clear_leg-clause-value : goal.returns-then-has_clear_leg-clause-value
+returns-then-has_clear_leg-clause-value c charge =
     let t : TierRests = record { rests = c.args.rests.now; charge = charge } in
     let none : charge + 0 ≡ charge = omega arith in
     ap (λ (n : ℕ). let u : TierRests = record { rests = c.args.rests.now; charge = n } in u) none
-    ∙ sym (both_ways_closed t c.args.intra.now c.as_slice-legs.result.now c.args.rests.now c.as_slice-legs.ensures.value refl (sym c.is_idle.ensures ∙ c.if-is_idle.true))
+    ∙ sym (both_ways_closed t c.args.intra.now c.as_slice-legs.result.now c.args.rests.now c.as_slice-legs.ensures.value refl (c.has_clear_leg.ensures c.if-has_clear_leg.true c.args.rests.now c.requires.have))
 
 pub returns-clause-value : goal.returns-clause-value
 returns-clause-value c charge =
