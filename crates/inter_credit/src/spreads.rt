@@ -58,7 +58,11 @@ fn fit(lines: &[InterLine], leg: &CommodityLeg, direction: Direction) -> u128
     ensures { result ≡ part_on (market_side (direction_of direction) leg.now.side) (rest_at lines.now leg.now.commodity) / leg.now.ratio }
 {
     let on = market_side(direction, leg.side);
-    greatest_fit(part_on(on, lines[leg.commodity].rest), leg.ratio)
+    let side = part_on(on, lines[leg.commodity].rest);
+    if side == 0 {
+        return 0;
+    }
+    greatest_fit(side, leg.ratio)
 }
 
 // How many spreads are formed in a direction: what each leg has room for.

@@ -5,3 +5,4 @@ pub mod Months
 pub mod Market
 pub mod Steps
 pub mod Samples
+pub mod Slots

@@ -6,6 +6,7 @@ pub mod deltas;
 pub mod laws;
 pub mod months;
 mod sides;
+mod slots;
 #[cfg(test)]
 mod tests;
 pub mod tiers;

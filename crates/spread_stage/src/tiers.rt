@@ -1,17 +1,18 @@
 //! The rests of months after intracommodity spreads, and the exact charge of the spreads.
 ghost use Rattle.std.specs.Prelude.{◌≡◌, ℕ, ◌+◌, ◌*◌, ◌<◌, ◌≤◌, List, [], ◌∷◌, length, All, IfOk};
-ghost use Rattle.std.specs.List.{list_any};
 ghost use Rattle.span_tables.specs.Accepted.{IsIntra};
 ghost use Rattle.span_tables.specs.Sides.{spreads_formed};
 ghost use Rattle.span_tables.specs.declared.limits.TheConstants.{MAX_RATE};
 ghost use Rattle.spread_stage.specs.Market.{direction_of, market_of};
 ghost use Rattle.spread_stage.specs.Months.{AreMonths, AreTierRests, MonthsRise, Shrinks, total_size};
+ghost use Rattle.spread_stage.specs.Slots.{HaveSlots};
 ghost use Rattle.spread_stage.specs.Spreads.{is_in_tier, rests_after, rests_after_leg, spread_both_ways, tier_rooms, tier_side, unspread};
-ghost use Rattle.spread_stage.specs.Steps.{has_closed_leg, is_open, used_now};
+ghost use Rattle.spread_stage.specs.Steps.{used_now};
 ghost use Rattle.spread_stage.specs.declared.months.MonthUnits.{MonthUnits};
 ghost use Rattle.spread_stage.specs.declared.months.TheConstants.{MAX_UNITS};
 
 use crate::months::{MonthUnits, Months};
+use crate::slots::{has_clear_leg, slots_of};
 use crate::sides::{Direction, MarketSide, less_used, market_side, part_on};
 use span_money::division::greatest_fit;
 use span_tables::records::{Intra, MonthLeg};
@@ -25,17 +26,18 @@ use std::marker::Model;
 pub struct TierState {
     rests: Vec<MonthUnits>,
     charge: u128,
+    slots: [bool; 64],
 }
 
 impl Model for TierState {
-    ghost use Rattle.spread_stage.specs.Months.{AreTierRests};
+    ghost use Rattle.spread_stage.specs.Slots.{AreTiers};
     ghost use Rattle.spread_stage.specs.Spreads.{TierRests};
 
     ghost Value = { TierRests };
 
     ghost view = { λ t. record { rests = t.rests.items; charge = t.charge } };
 
-    ghost invariant = { λ t. AreTierRests (record { rests = t.rests.items; charge = t.charge }) };
+    ghost invariant = { λ t. AreTiers (record { rests = t.rests.items; charge = t.charge }) t.slots };
 }
 
 impl TierState {
@@ -63,6 +65,7 @@ impl TierState {
         Ok(TierState {
             rests,
             charge: self.charge,
+            slots: self.slots,
         })
     }
 
@@ -72,7 +75,7 @@ impl TierState {
         ensures value { self.new ≡ spread_both_ways self.old intra.now }
         ensures shrinks { (months : List MonthUnits) → Shrinks months self.old.rests → Shrinks months self.new.rests }
     {
-        self.charge += spread_rests(&mut self.rests, intra);
+        self.charge += spread_rests(&mut self.rests, &self.slots, intra);
     }
 }
 
@@ -81,27 +84,6 @@ fn is_in_tier(leg: &MonthLeg, month: &MonthUnits) -> bool
     ensures { result ≡ is_in_tier leg.now month.now }
 {
     leg.first <= month.month && month.month <= leg.last
-}
-
-// Whether a month is one of a leg's tier and has units.
-fn is_open(leg: &MonthLeg, month: &MonthUnits) -> bool
-    ensures { result ≡ is_open leg.now month.now }
-{
-    is_in_tier(leg, month) && month.units.get().unsigned_abs() != 0
-}
-
-// Whether some month of a leg's tier has units.
-fn has_open(rests: &[MonthUnits], leg: &MonthLeg) -> bool
-    ensures { result ≡ list_any (is_open leg.now) rests.now }
-{
-    rests.iter().any(|month| is_open(leg, month))
-}
-
-// Whether some leg's tier has no month with units: then no spread is formed in either direction.
-fn has_closed_leg(rests: &[MonthUnits], legs: &[MonthLeg]) -> bool
-    ensures { result ≡ has_closed_leg rests.now legs.now }
-{
-    legs.iter().any(|leg| !has_open(rests, leg))
 }
 
 // The side of a leg's tier: the sum of its months' parts.
@@ -124,10 +106,11 @@ fn room(rests: &[MonthUnits], direction: Direction, leg: &MonthLeg) -> u128
     requires ratio { 0 < leg.now.ratio }
     ensures { result ≡ spreads_formed (tier_rooms (direction_of direction) (leg.now ∷ []) rests.now) }
 {
-    greatest_fit(
-        tier_side(rests, market_side(direction, leg.side), leg),
-        leg.ratio,
-    )
+    let side = tier_side(rests, market_side(direction, leg.side), leg);
+    if side == 0 {
+        return 0;
+    }
+    greatest_fit(side, leg.ratio)
 }
 
 // The number of spreads that the legs have room for, in 10^-4 spreads.
@@ -222,22 +205,29 @@ pub fn start(alloc: Global, months: &Months) -> Result<TierState, AllocError>
     ensures shrinks { IfOk result (λ tiers. Shrinks months.now tiers.rests) }
 {
     let rests = Vec::from_slice(alloc, months.as_slice())?;
-    Ok(TierState { rests, charge: 0 })
+    let slots = slots_of(&rests);
+    Ok(TierState {
+        rests,
+        charge: 0,
+        slots,
+    })
 }
 
 // Forms a spread in both directions, with side A long first, and gives its charge, in 10^-4 minor units.
-fn spread_rests(rests: &mut [MonthUnits], intra: &Intra) -> u128
+fn spread_rests(rests: &mut [MonthUnits], slots: &[bool; 64], intra: &Intra) -> u128
+    requires have { HaveSlots slots.now rests.old }
     requires intra { IsIntra intra.now }
     requires rise { MonthsRise rests.old }
     requires small { total_size rests.old ≤ MAX_UNITS }
     ensures value { (charge : ℕ) → record { rests = rests.new; charge = charge + result }
         ≡ spread_both_ways (record { rests = rests.old; charge = charge }) intra.now }
     ensures rise { MonthsRise rests.new }
+    ensures have { HaveSlots slots.now rests.new }
     ensures bound { result + MAX_RATE * total_size rests.new ≤ MAX_RATE * total_size rests.old }
     ensures shrinks { (months : List MonthUnits) → Shrinks months rests.old → Shrinks months rests.new }
 {
     let legs = intra.legs.as_slice();
-    if has_closed_leg(rests, legs) {
+    if has_clear_leg(slots, legs) {
         return 0;
     }
     let first = spread_one_way(rests, Direction::ALong, legs);
