@@ -8,7 +8,6 @@ ghost use Rattle.spread_stage.specs.declared.months.MonthUnits.{MonthUnits};
 use crate::months::MonthUnits;
 use span_tables::records::MonthLeg;
 
-
 // The widest tier whose slots are looked at, in month numbers.
 const WIDEST: u32 = 24;
 

@@ -12,8 +12,8 @@ ghost use Rattle.spread_stage.specs.declared.months.MonthUnits.{MonthUnits};
 ghost use Rattle.spread_stage.specs.declared.months.TheConstants.{MAX_UNITS};
 
 use crate::months::{MonthUnits, Months};
-use crate::slots::{has_clear_leg, slots_of};
 use crate::sides::{Direction, MarketSide, less_used, market_side, part_on};
+use crate::slots::{has_clear_leg, slots_of};
 use span_money::division::greatest_fit;
 use span_tables::records::{Intra, MonthLeg};
 use std::alloc::{AllocError, Global};

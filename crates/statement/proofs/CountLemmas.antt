@@ -11,5 +11,5 @@ pub counts_form_is : (t : AcceptedTables) → counts_form t ≡ counts_line t
 unfolding counts_form counts_line
 counts_form_is t =
     let texts = decimal (length t.commodities) ∷ decimal (length t.contracts) ∷ decimal (length t.tiers)
-        ∷ decimal (length t.intras) ∷ decimal (length t.spots) ∷ decimal (length t.inters) ∷ [] in
+    ∷ decimal (length t.intras) ∷ decimal (length t.spots) ∷ decimal (length t.inters) ∷ [] in
     ap (λ x. x ++ 10 ∷ []) (append_assoc (codes "OK") (field t.set_id) (flat_map field texts) ∙ sym (joined (codes "OK") (t.set_id ∷ texts)))

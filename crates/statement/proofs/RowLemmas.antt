@@ -68,7 +68,7 @@ pub held_step : (cs : List Commodity) (all : List Stages) (figures : List Figure
     → drop i cs ≡ c ∷ drop (i + 1) cs → drop i all ≡ s ∷ drop (i + 1) all → drop i figures ≡ f ∷ drop (i + 1) figures
     → held_of_all (drop i cs) (drop i all) (drop i figures)
     ≡ cond s.is_held (record { commodity = c.id; figures = f } ∷ held_of_all (drop (i + 1) cs) (drop (i + 1) all) (drop (i + 1) figures))
-      (held_of_all (drop (i + 1) cs) (drop (i + 1) all) (drop (i + 1) figures))
+    (held_of_all (drop (i + 1) cs) (drop (i + 1) all) (drop (i + 1) figures))
 held_step cs all figures i c s f ec es ef = rw (ec, es, ef) refl
 
 module _ (tables : AcceptedTables) (p : AccountHoldings) (all : List Stages) (state : List InterLine) (figures : List Figures)
@@ -108,7 +108,7 @@ module _ (cs : List Commodity) (all : List Stages) (figures : List Figures) (i :
 
   split : held_of_all (drop i cs) (drop i all) (drop i figures)
       ≡ cond s.is_held (record { commodity = c.id; figures = f } ∷ held_of_all (drop (i + 1) cs) (drop (i + 1) all) (drop (i + 1) figures))
-        (held_of_all (drop (i + 1) cs) (drop (i + 1) all) (drop (i + 1) figures))
+      (held_of_all (drop (i + 1) cs) (drop (i + 1) all) (drop (i + 1) figures))
   split = held_step cs all figures i c s f (one_off cs c refl c_is) (one_off all s as_many_stages s_is) (one_off figures f as_many_figures f_is)
 
   -- a commodity that is held is appended

@@ -44,11 +44,7 @@ pub struct Stages {
 
 // The rests and the charge after the intracommodity spreads, in their order.
 #[tactic(auto, unfolding(spread_stage::specs::Spreads::after_spreads))]
-fn after_spreads(
-    alloc: Global,
-    months: &Months,
-    intras: &[Intra],
-) -> Result<TierState, AllocError>
+fn after_spreads(alloc: Global, months: &Months, intras: &[Intra]) -> Result<TierState, AllocError>
     requires { All IsIntra intras.now }
     ensures value { IfOk result (λ tiers. tiers ≡ after_spreads intras.now months.now) }
     ensures shrinks { IfOk result (λ tiers. Shrinks months.now tiers.rests) }

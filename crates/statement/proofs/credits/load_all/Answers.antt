@@ -12,7 +12,7 @@ loop-number-preserved c =
     let before = map line_of (take i all) ++ replicate (length all - i) (loaded (pos 0) 0) in
     record {
       value = c.load.ensures.value ∙ ap (λ s. slice_set s i (line_of item)) c.loop-number.invariant.value
-      ∙ ap (λ y. slice_set before i (line_of y)) c.index-all-number.is
-      ∙ set_next line_of (loaded (pos 0) 0) all i item (omega arith);
+          ∙ ap (λ y. slice_set before i (line_of y)) c.index-all-number.is
+          ∙ set_next line_of (loaded (pos 0) 0) all i item (omega arith);
       unspread = c.load.ensures.unspread;
     }
