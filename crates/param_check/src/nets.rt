@@ -10,8 +10,9 @@ use span_tables::portfolios::Holding;
 use std::alloc::{AllocError, Global};
 use std::marker::Model;
 
-// The records of one account, at most: no memory holds as many, and their sum fits 64 bits.
-const MAX_ENTRIES: usize = 1_099_511_627_776;
+// So many records of one account add up within 64 bits. No process has more: 2^43 position records are larger than the
+// 2^47 bytes that a process can address.
+const MAX_ENTRIES: usize = 8_796_093_022_208;
 
 /// A position record of an account: the number of its contract, and its quantity.
 #[derive(Clone, Copy)]

@@ -15,7 +15,7 @@ use scan_risk::Scan;
 use scan_risk::scanning::scan;
 use scan_risk::scenarios::sums;
 use span_money::amounts::{Money, Units};
-use span_tables::held::{Held, gather, gather_all};
+use span_tables::held::{Held, gather_all};
 use span_tables::portfolios::Portfolio;
 use span_tables::records::{Commodity, Intra};
 use span_tables::tables::Tables;
@@ -120,24 +120,6 @@ pub fn compute_held(
         [] => Ok(nothing_held()),
         _ => stages_of(alloc, tables, number, commodity, held),
     }
-}
-
-/// The stages of the commodity of a number, for an account.
-pub fn compute(
-    alloc: Global,
-    tables: &Tables,
-    portfolio: &Portfolio,
-    number: usize,
-    commodity: &Commodity,
-) -> Result<Stages, AllocError>
-    requires fits { fits (length tables.now.contracts) portfolio.now.holdings ≡ true }
-    requires number { slice_get tables.now.commodities number ≡ Some commodity.now }
-    requires rate { commodity.now.minimum_rate ≤ MAX_RATE }
-    ensures value { IfOk result (λ s. s ≡ stages_of tables.now portfolio.now.holdings commodity.now) }
-    ensures bounds { IfOk result AreBounded }
-{
-    let held = gather(alloc, tables, portfolio, number)?;
-    compute_held(alloc, tables, number, commodity, &held)
 }
 
 /// The stages of each commodity, by its number, for an account.
