@@ -8,10 +8,10 @@ use Rattle.span_csv.specs.declared.faults.PositionFault.TheVariants as position
 use Rattle.param_check.specs.declared.faults.CheckFault.TheVariants as check
 use Rattle.param_check.specs.declared.faults.BindFault.TheVariants as bind
 use Rattle.statement.specs.Answers.{is_memory}
-use Rattle.statement.specs.FaultLines.{fault_line, fault_status, memory_line}
+use Rattle.statement.specs.FaultLines.{fault_line, fault_status}
 use Rattle.statement.specs.declared.faults.SpanFault.{SpanFault}
 use Rattle.statement.specs.declared.faults.SpanFault.TheVariants as fault
-use Rattle.span_cli.specs.Serving.{Answer, Answers, Asked, a_check, a_margin, IsGiven, IsUnsaid, IsUnwritten, OfAnswer, Refuses, Responds, Serves, check_answer, done, margin_answer, memory, refusal_line, refusal_status, refused}
+use Rattle.span_cli.specs.Serving.{Answer, Answers, Asked, a_check, a_margin, IsUnsaid, OfAnswer, Refuses, Responds, Serves, check_answer, done, margin_answer, memory, refusal_line, refusal_status, refused}
 use Rattle.span_cli.specs.Sources.{File}
 use Rattle.span_cli.specs.declared.serving.Unwritten.{Unwritten}
 use Rattle.span_cli.specs.declared.serving.Unwritten.TheVariants as unwritten
