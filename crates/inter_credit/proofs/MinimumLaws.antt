@@ -6,7 +6,7 @@ use Rattle.std.proofs.lemmas.Bool.Decides.{nat_tests}
 use Rattle.std.proofs.lemmas.List.Sums.{sum_by-cons}
 use Rattle.std.proofs.lemmas.Int.{ints, clamps}
 use Rattle.span_money.specs.Numbers.{negative_part}
-use Rattle.span_tables.specs.declared.held.HeldContract.{HeldContract}
+use Rattle.span_tables.specs.Net.{HeldContract}
 use Rattle.span_tables.specs.declared.records.ProductKind.{ProductKind}
 use Rattle.span_tables.specs.declared.records.MinimumMethod.TheVariants as method
 use Rattle.inter_credit.specs.Requirement.{is_call, is_put, minimum_of, requirement_of, short_count}

@@ -3,7 +3,7 @@ use Rattle.std.specs.Prelude.{ℕ, ◌≤◌, [], ◌∷◌, codes, ℤ, pos, na
 use Rattle.std.specs.List.{repeat}
 use Rattle.span_tables.specs.Accepted.{IsContract}
 use Rattle.span_tables.specs.declared.limits.TheConstants.{MAX_NET}
-use Rattle.span_tables.specs.declared.held.HeldContract.{HeldContract}
+use Rattle.span_tables.specs.Net.{HeldContract}
 use Rattle.span_tables.specs.declared.records.Inter.{Inter}
 use Rattle.span_tables.specs.declared.records.ProductKind.{ProductKind}
 use Rattle.span_tables.specs.declared.records.Side.TheVariants as side

@@ -1,12 +1,12 @@
 //! The short option minimum, and the requirement of a commodity.
-ghost use Rattle.std.specs.Prelude.{◌≡◌, ◌+◌, ◌*◌, ◌≤◌, ◌+ℤ◌, ◌-ℤ◌, All, length, pos, nat_abs};
+ghost use Rattle.std.specs.Prelude.{◌≡◌, ◌+◌, ◌*◌, ◌≤◌, ◌+ℤ◌, ◌-ℤ◌, pos, nat_abs};
 ghost use Rattle.span_money.specs.Numbers.{negative_part};
 ghost use Rattle.span_tables.specs.declared.limits.TheConstants.{MAX_HELD, MAX_NET, MAX_RATE};
 ghost use Rattle.inter_credit.specs.Requirement.{is_call, is_put, minimum_of, requirement_of, short_count, short_options};
 ghost use Rattle.inter_credit.specs.declared.requirement.TheConstants.{MAX_PART};
 
 use span_money::amounts::Money;
-use span_tables::held::{Held, HeldContract};
+use span_tables::held::Held;
 use span_tables::records::{MinimumMethod, ProductKind};
 
 /// The size of each part of a requirement, in minor units.
@@ -28,20 +28,18 @@ struct ShortCounts {
 }
 
 // How many calls and how many puts are short.
-fn short_counts(held: &[HeldContract]) -> ShortCounts
-    requires few { length held.now ≤ MAX_HELD }
-    requires nets { All (λ h. nat_abs h.net ≤ MAX_NET) held.now }
+fn short_counts(held: &Held) -> ShortCounts
     ensures calls { result.calls ≡ short_count is_call held.now }
     ensures puts { result.puts ≡ short_count is_put held.now }
     ensures bound { result.calls + result.puts ≤ MAX_HELD * MAX_NET }
 {
     let mut calls = 0;
     let mut puts = 0;
-    for h in held {
-        match h.contract.kind {
+    for place in 0..held.len() {
+        match held.contract(place).kind {
             ProductKind::Future => {}
-            ProductKind::Call => calls += short_part(h.net),
-            ProductKind::Put => puts += short_part(h.net),
+            ProductKind::Call => calls += short_part(held.net(place)),
+            ProductKind::Put => puts += short_part(held.net(place)),
         }
     }
     ShortCounts { calls, puts }
@@ -52,7 +50,7 @@ fn short_options(held: &Held, method: MinimumMethod) -> u64
     ensures value { result ≡ short_options method held.now }
     ensures bound { result ≤ MAX_HELD * MAX_NET }
 {
-    let short = short_counts(held.as_slice());
+    let short = short_counts(held);
     match method {
         MinimumMethod::Sum => short.calls + short.puts,
         MinimumMethod::Max => short.calls.max(short.puts),

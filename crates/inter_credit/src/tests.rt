@@ -10,12 +10,14 @@ use super::spreads::inter_spread;
 use super::state::{InterLine, InterState, MAX_PRICE2, MAX_UNITS, empty, load};
 use arrayvec::ArrayVec;
 use span_money::amounts::{Delta, Money, Ratio, Scale, Units};
-use span_tables::held::{Held, HeldContract};
+use span_tables::held::Held;
 use span_tables::limits::{MAX_BASIS_POINTS, MAX_NET};
 use span_tables::name::Name;
+use span_tables::portfolios::Holding;
 use span_tables::records::{CommodityLeg, Contract, Inter, MinimumMethod, ProductKind, Side};
 use std::alloc::{AllocError, Global};
 use std::process::Abort;
+use std::sync::Arc;
 use std::test::Fail;
 
 // A state with these net deltas and price risks.
@@ -229,22 +231,18 @@ fn no_commodity(rt: HostRuntime) -> Result<(), Fail> {
     Ok(())
 }
 
-// So many of a contract of a kind.
-fn held(rt: &impl Abort, kind: ProductKind, net: i64) -> HeldContract
-    ensures { IsHeld result }
+// A contract of a kind.
+fn contract(kind: ProductKind) -> Contract
+    ensures { IsContract result }
 {
-    assert!(rt; net.unsigned_abs() <= MAX_NET);
-    HeldContract {
-        contract: Contract {
-            id: Name::new(b"X").unwrap(),
-            commodity: Name::new(b"AA").unwrap(),
-            kind,
-            month: 202_503,
-            delta: Delta::new(10_000),
-            scale: Scale::new(10_000),
-            values: [0; 16],
-        },
-        net,
+    Contract {
+        id: Name::new(b"X").unwrap(),
+        commodity: Name::new(b"AA").unwrap(),
+        kind,
+        month: 202_503,
+        delta: Delta::new(10_000),
+        scale: Scale::new(10_000),
+        values: [0; 16],
     }
 }
 
@@ -257,10 +255,16 @@ fn minimums(rt: HostRuntime) -> Result<(), Fail> {
         (ProductKind::Future, -5),
     ];
     let mut contracts = Vec::new(rt.alloc());
-    for (kind, net) in kinds {
-        contracts.push(held(&rt, kind, net))?;
+    let mut holdings = Vec::new(rt.alloc());
+    for (number, (kind, net)) in kinds.into_iter().enumerate() {
+        assert!(rt; net.unsigned_abs() <= MAX_NET);
+        contracts.push(contract(kind))?;
+        holdings.push(Holding {
+            contract: number,
+            net,
+        })?;
     }
-    let held = Held::new(contracts);
+    let held = Held::new(Arc::new(rt.alloc(), contracts)?, holdings);
     assert_eq!(rt; minimum(&held, 500, MinimumMethod::Sum).get(), 2500);
     assert_eq!(rt; minimum(&held, 500, MinimumMethod::Max).get(), 1500);
     assert_eq!(rt; minimum(&held, 0, MinimumMethod::Sum).get(), 0);

@@ -3,7 +3,7 @@ use Rattle.std.specs.Prelude.{[], ◌∷◌, ◌++◌, codes, ℤ, pos, neg_ℤ}
 use Rattle.std.specs.List.{repeat}
 use Rattle.span_tables.specs.declared.records.ProductKind.TheVariants as product
 use Rattle.span_tables.specs.declared.records.Contract.{Contract}
-use Rattle.span_tables.specs.declared.held.HeldContract.{HeldContract}
+use Rattle.span_tables.specs.Net.{HeldContract}
 
 -- a future with delta 1, scale 1, and 400 for each third of the scan range
 abbrev pub future : Contract

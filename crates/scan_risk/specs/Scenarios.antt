@@ -3,7 +3,7 @@ use Rattle.std.specs.Prelude.{ℕ, ◌+◌, ◌-◌, ◌%◌, Bool, ◌==◌, na
 use Rattle.std.specs.Int.{int_max}
 use Rattle.std.specs.List.{list_all, range_with_len}
 use Rattle.span_money.specs.Numbers.{int_sum_by, positive_part}
-use Rattle.span_tables.specs.declared.held.HeldContract.{HeldContract}
+use Rattle.span_tables.specs.Net.{HeldContract}
 use Rattle.scan_risk.specs.declared.Scan.{Scan}
 
 -- what stands for a scenario, numbered from 1

@@ -5,7 +5,8 @@ ghost use Rattle.span_tables.specs.Accepted.{IsContract};
 ghost use Rattle.scan_risk.specs.Scenarios.{at_scenario, scenario_sums};
 ghost use Rattle.scan_risk.specs.declared.TheConstants.{MAX_SUM, MAX_TERM};
 
-use span_tables::held::{Held, HeldContract};
+use span_tables::held::Held;
+use span_tables::records::Contract;
 
 // What a net quantity adds to a sum, at an array value for one contract.
 fn term(net: i64, value: i64) -> i64
@@ -17,17 +18,17 @@ fn term(net: i64, value: i64) -> i64
     net * value
 }
 
-// Adds a held contract to the sum of each scenario.
-fn add_contract(sums: &mut [i64; 16], held: &HeldContract)
-    requires net { nat_abs held.now.net ≤ MAX_NET }
-    requires contract { IsContract held.now.contract }
+// Adds a net quantity of a contract to the sum of each scenario.
+fn add_contract(sums: &mut [i64; 16], contract: &Contract, net: i64)
+    requires net { nat_abs net ≤ MAX_NET }
+    requires contract { IsContract contract.now }
     requires room { All (λ s. nat_abs s + MAX_TERM ≤ MAX_SUM) sums.old }
     ensures added { (k : ℕ) → k < 16 → slice_index_or sums.new k (pos 0)
-        ≡ slice_index_or sums.old k (pos 0) +ℤ held.now.net *ℤ at_scenario (held.now.contract).values (k + 1) }
+        ≡ slice_index_or sums.old k (pos 0) +ℤ net *ℤ at_scenario (contract.now).values (k + 1) }
     ensures bound { (b : ℕ) → All (λ s. nat_abs s ≤ b) sums.old → All (λ s. nat_abs s ≤ b + MAX_TERM) sums.new }
 {
     for (scenario, sum) in sums.iter_mut().enumerate() {
-        *sum += term(held.net, held.contract.values[scenario]);
+        *sum += term(net, contract.values[scenario]);
     }
 }
 
@@ -37,8 +38,8 @@ pub fn sums(held: &Held) -> [i64; 16]
     ensures bound { All (λ s. nat_abs s ≤ MAX_SUM) result }
 {
     let mut sums = [0; 16];
-    for contract in held.as_slice() {
-        add_contract(&mut sums, contract);
+    for place in 0..held.len() {
+        add_contract(&mut sums, held.contract(place), held.net(place));
     }
     sums
 }

@@ -4,9 +4,11 @@ ghost use Rattle.span_tables.specs.Accepted.{IsContract};
 use crate::scanning::scan;
 use crate::scenarios::sums;
 use span_money::amounts::{Delta, Scale};
-use span_tables::held::{Held, HeldContract};
+use span_tables::held::Held;
 use span_tables::name::Name;
+use span_tables::portfolios::Holding;
 use span_tables::records::{Contract, ProductKind};
+use std::sync::Arc;
 use std::test::Fail;
 
 // A future with 400 for each third of the scan range.
@@ -30,17 +32,18 @@ fn future(id: &[u8]) -> Option<Contract>
 fn sums_held_contracts(rt: HostRuntime) -> Result<(), Fail> {
     let near = future(b"FA").ok_or("name")?;
     let far = future(b"FB").ok_or("name")?;
-    let held = vec![in rt.alloc();
-        HeldContract {
-            contract: near,
+    let contracts = Arc::new(rt.alloc(), vec![in rt.alloc(); near, far]?)?;
+    let holdings = vec![in rt.alloc();
+        Holding {
+            contract: 0,
             net: 3
         },
-        HeldContract {
-            contract: far,
+        Holding {
+            contract: 1,
             net: -4
         },
     ]?;
-    let sums = sums(&Held::new(held));
+    let sums = sums(&Held::new(contracts, holdings));
     assert_eq!(rt;
         sums,
         [

@@ -1,20 +1,20 @@
--- What an account holds of each commodity, in one pass over its holdings.
-use Rattle.std.proofs.Common.{◌≡◌, ℕ, suc, zero, ◌+◌, ◌<◌, true, false, List, [], ◌∷◌, ◌++◌, length, filter, map, set, get_or, take, replicate, Some, refl, sym, ap, ◌∙◌, subst, arith}
-use Rattle.std.specs.Prelude.{All, IfSome, bytes_eq, filter_map, nat_lt, slice_get}
+-- The holdings of each commodity, in one pass over an account's holdings.
+use Rattle.std.proofs.Common.{◌≡◌, ℕ, suc, zero, ◌+◌, ◌<◌, Bool, true, false, cond, List, [], ◌∷◌, ◌++◌, length, filter, map, set, get_or, take, replicate, Option, Some, None, refl, sym, ap, ◌∙◌, subst, arith}
+use Rattle.std.specs.Prelude.{All, IfSome, bytes_eq, nat_lt, option_map, slice_get, unwrap_or}
 use Rattle.std.specs.List.{list_all}
-use Rattle.std.proofs.lemmas.List.{length-map, take_more}
-use Rattle.std.proofs.lemmas.List.Elements.{All-head, All-tail, filter_map-append}
+use Rattle.std.proofs.lemmas.List.{append-nil, take_more}
+use Rattle.std.proofs.lemmas.List.Elements.{All-head, All-tail, filter_more}
 use Rattle.span_tables.specs.Accepted.{IsWithinLimits, commodity_number}
-use Rattle.span_tables.specs.Holdings.{AreHeld, ArePortfolio}
+use Rattle.span_tables.specs.Holdings.{ArePortfolio}
 use Rattle.span_tables.specs.Names.{has_repeat}
-use Rattle.span_tables.specs.Net.{held_contract, held_of}
+use Rattle.span_tables.specs.Net.{held_of}
 use Rattle.span_tables.specs.Tables.{AcceptedTables}
-use Rattle.span_tables.specs.declared.held.HeldContract.{HeldContract}
 use Rattle.span_tables.specs.declared.portfolios.Holding.{Holding}
 use Rattle.span_tables.specs.declared.records.Commodity.{Commodity}
 use Rattle.span_tables.specs.declared.records.Contract.{Contract}
-use Rattle.span_tables.proofs.GroupLemmas.{at_map, copies_none, copies_push}
-use Rattle.span_tables.proofs.HeldLemmas.{are_held, get_some, in_range}
+use Rattle.span_tables.specs.steps.Gathered.{AreHoldings, commodity_held, held_contracts, holdings_in}
+use Rattle.span_tables.proofs.GroupLemmas.{copies_none, copies_push}
+use Rattle.span_tables.proofs.HeldLemmas.{all_known, are_holdings, held_in}
 
 -- a number made of the element at k
 told_is : {X : Type 0} (f : X → ℕ) (xs : List X) (k n : ℕ) → k < length xs → n ≡ get_or (map f xs) k n → IfSome (slice_get xs k) (λ x. n ≡ f x)
@@ -41,46 +41,95 @@ module _ (s t : AcceptedTables) (numbers : List ℕ) (same : s ≡ t) (kept : Is
       told_below (λ (x : Contract). commodity_number t.commodities x.commodity) (length t.commodities) t.contracts k n lt (at ∙ ap (λ ns. get_or ns k n) all)
       (subst IsWithinLimits same kept).contracts_known
 
-module _ (contracts : List Contract) (cs : List Commodity) where
-  -- what is held of each
-  abbrev lists_of : List Holding → List (List HeldContract)
-  lists_of hs = map (λ c. held_of contracts hs c.id) cs
+-- what is told of the contract of a holding is told of the commodity that is held
+known_at : {X : Type 0} (xs : List X) (k : ℕ) (name : X → List ℕ) (P : List ℕ → Type 0) → k < length xs → IfSome (slice_get xs k) (λ x. P (name x))
+    → P (unwrap_or (option_map name (slice_get xs k)) [])
+known_at [] k name P lt is = absurd (omega arith)
+known_at (x ∷ xs) zero name P lt is = is
+known_at (x ∷ xs) (suc k) name P lt is = known_at xs k name P (omega arith) is
 
-  pub gathered_of_none : replicate (length cs) [] ≡ lists_of []
-  unfolding held_of
-  gathered_of_none = copies_none (λ c. c.id) (λ (h : HeldContract). (h.contract).commodity) cs
+module _ (contracts : List Contract) where
+  -- the holding at i is of a contract that there is
+  pub known_holding : (hs gs : List Holding) (i : ℕ) (d : Holding) → gs ≡ hs → i < length gs → list_all (λ h. nat_lt h.contract (length contracts)) hs ≡ true
+      → (get_or gs i d).contract < length contracts
+  known_holding hs gs i d same lt all =
+      let lt_h : i < length hs = subst (λ (zs : List Holding). i < length zs) same lt in
+      subst (λ (zs : List Holding). (get_or zs i d).contract < length contracts) (sym same) (all_known (length contracts) hs all i d lt_h)
 
-  next_held : (hs : List Holding) (i : ℕ) (d : Holding) (x : Contract) → i < length hs → slice_get contracts (get_or hs i d).contract ≡ Some x
-      → filter_map (held_contract contracts) (take (i + 1) hs) ≡ filter_map (held_contract contracts) (take i hs) ++ record { contract = x; net = (get_or hs i d).net } ∷ []
-  next_held hs i d x lt got =
-      ap (filter_map (held_contract contracts)) (take_more hs i d lt) ∙ filter_map-append (held_contract contracts) (take i hs) (get_or hs i d ∷ [])
-      ∙ rw got refl
+  -- one holding more of an account, of which those of a commodity are kept
+  gathered_more : (hs gs : List Holding) (i : ℕ) (d : Holding) (commodity : List ℕ) (b : Bool) (held : List Holding)
+      → gs ≡ hs → i < length gs → list_all (λ h. nat_lt h.contract (length contracts)) hs ≡ true
+      → held ≡ holdings_in contracts (take i hs) commodity
+      → IfSome (slice_get contracts (get_or gs i d).contract) (λ x. b ≡ bytes_eq x.commodity commodity)
+      → held ++ cond b (get_or gs i d ∷ []) [] ≡ holdings_in contracts (take (i + 1) hs) commodity
+  gathered_more hs gs i d commodity b held same lt all so_far tells =
+      let lt_h : i < length hs = subst (λ (zs : List Holding). i < length zs) same lt in
+      let told : b ≡ bytes_eq (commodity_held contracts (get_or gs i d)) commodity =
+      known_at contracts (get_or gs i d).contract (λ x. x.commodity) (λ name. b ≡ bytes_eq name commodity) (known_holding hs gs i d same lt all) tells in
+      ap (λ c. held ++ cond c (get_or gs i d ∷ []) []) told
+      ∙ ap (λ (g : Holding). held ++ cond (bytes_eq (commodity_held contracts g) commodity) (g ∷ []) []) (ap (λ (zs : List Holding). get_or zs i d) same)
+      ∙ ap (λ (zs : List Holding). zs ++ cond (bytes_eq (commodity_held contracts (get_or hs i d)) commodity) (get_or hs i d ∷ []) []) so_far
+      ∙ sym (filter_more (λ h. bytes_eq (commodity_held contracts h) commodity) hs i d lt_h)
+
+  -- the next holding is of the commodity, or is not
+  pub gathered_some : (hs gs : List Holding) (i : ℕ) (d : Holding) (commodity : List ℕ) (b : Bool) (held next : List Holding)
+      → gs ≡ hs → i < length gs → list_all (λ h. nat_lt h.contract (length contracts)) hs ≡ true
+      → held ≡ holdings_in contracts (take i hs) commodity
+      → IfSome (slice_get contracts (get_or gs i d).contract) (λ x. b ≡ bytes_eq x.commodity commodity)
+      → b ≡ true → next ≡ held ++ get_or gs i d ∷ []
+      → next ≡ holdings_in contracts (take (i + 1) hs) commodity
+  gathered_some hs gs i d commodity b held next same lt all so_far tells is pushed =
+      pushed ∙ ap (λ c. held ++ cond c (get_or gs i d ∷ []) []) (sym is) ∙ gathered_more hs gs i d commodity b held same lt all so_far tells
+
+  pub gathered_none : (hs gs : List Holding) (i : ℕ) (d : Holding) (commodity : List ℕ) (b : Bool) (held : List Holding)
+      → gs ≡ hs → i < length gs → list_all (λ h. nat_lt h.contract (length contracts)) hs ≡ true
+      → held ≡ holdings_in contracts (take i hs) commodity
+      → IfSome (slice_get contracts (get_or gs i d).contract) (λ x. b ≡ bytes_eq x.commodity commodity)
+      → b ≡ false
+      → held ≡ holdings_in contracts (take (i + 1) hs) commodity
+  gathered_none hs gs i d commodity b held same lt all so_far tells is =
+      sym (append-nil held) ∙ ap (λ c. held ++ cond c (get_or gs i d ∷ []) []) (sym is) ∙ gathered_more hs gs i d commodity b held same lt all so_far tells
+
+  -- the holdings of each commodity
+  abbrev lists_of : List Commodity → List Holding → List (List Holding)
+  lists_of cs hs = map (λ c. holdings_in contracts hs c.id) cs
+
+  pub gathered_of_none : (cs : List Commodity) → replicate (length cs) [] ≡ lists_of cs []
+  gathered_of_none = copies_none (λ c. c.id) (commodity_held contracts)
 
   -- the next holding goes to its commodity
-  pub gathered_next : (ks : List Contract) (hs gs : List Holding) (i n : ℕ) (d : Holding) (x : Contract) (y : HeldContract) (now next : List (List HeldContract))
-      → has_repeat (λ c d. bytes_eq c.id d.id) cs ≡ false → ks ≡ contracts → gs ≡ hs → i < length gs → list_all (λ h. nat_lt h.contract (length contracts)) hs ≡ true
-      → x ≡ get_or ks (get_or gs i d).contract x → y ≡ record { contract = x; net = (get_or gs i d).net }
-      → IfSome (slice_get contracts (get_or gs i d).contract) (λ z. n ≡ commodity_number cs z.commodity) → n < length cs
-      → now ≡ lists_of (take i hs) → next ≡ set now n (get_or now n [] ++ y ∷ [])
-      → next ≡ lists_of (take (i + 1) hs)
-  unfolding held_of
-  gathered_next ks hs gs i n d x y now next apart same_ks same_gs lt all at is place known so_far step =
-      let lt_h : i < length hs = subst (λ (zs : List Holding). i < length zs) same_gs lt in
-      let below : (get_or gs i d).contract < length contracts =
-      subst (λ (zs : List Holding). (get_or zs i d).contract < length contracts) (sym same_gs) (in_range (length contracts) hs i d all lt_h) in
-      let got : slice_get contracts (get_or gs i d).contract ≡ Some x = get_some contracts (get_or gs i d).contract x below (at ∙ ap (λ (zs : List Contract). get_or zs (get_or gs i d).contract x) same_ks) in
-      let there : n ≡ commodity_number cs x.commodity = subst (λ o. IfSome o (λ (z : Contract). n ≡ commodity_number cs z.commodity)) got place in
-      let more = ap (λ (zs : List Holding). filter_map (held_contract contracts) (take (i + 1) zs)) (sym same_gs) ∙ next_held gs i d x lt got in
-      let from : filter_map (held_contract contracts) (take i gs) ≡ filter_map (held_contract contracts) (take i hs) = ap (λ (zs : List Holding). filter_map (held_contract contracts) (take i zs)) same_gs in
-      copies_push (λ c. c.id) (λ (h : HeldContract). (h.contract).commodity) cs _ _ now next n (record { contract = x; net = (get_or gs i d).net }) y apart known there
-      (so_far ∙ ap (λ (hs : List HeldContract). map (λ c. filter (λ h. bytes_eq (h.contract).commodity c.id) hs) cs) (sym from)) more is step
+  pub gathered_next : (cs : List Commodity) (hs gs : List Holding) (i n : ℕ) (d : Holding) (now next : List (List Holding))
+      → has_repeat (λ c d. bytes_eq c.id d.id) cs ≡ false → gs ≡ hs → i < length gs → list_all (λ h. nat_lt h.contract (length contracts)) hs ≡ true
+      → IfSome (slice_get contracts (get_or gs i d).contract) (λ x. n ≡ commodity_number cs x.commodity) → n < length cs
+      → now ≡ lists_of cs (take i hs) → next ≡ set now n (get_or now n [] ++ get_or gs i d ∷ [])
+      → next ≡ lists_of cs (take (i + 1) hs)
+  gathered_next cs hs gs i n d now next apart same lt all place known so_far step =
+      let lt_h : i < length hs = subst (λ (zs : List Holding). i < length zs) same lt in
+      let there : n ≡ commodity_number cs (commodity_held contracts (get_or gs i d)) =
+      known_at contracts (get_or gs i d).contract (λ x. x.commodity) (λ name. n ≡ commodity_number cs name) (known_holding hs gs i d same lt all) place in
+      let more : take (i + 1) hs ≡ take i hs ++ get_or gs i d ∷ [] = take_more hs i d lt_h ∙ ap (λ (zs : List Holding). take i hs ++ get_or zs i d ∷ []) (sym same) in
+      copies_push (λ c. c.id) (commodity_held contracts) cs (take i hs) (take (i + 1) hs) now next n (get_or gs i d) (get_or gs i d) apart known there so_far more refl step
 
 -- each list is within the limits
-pub all_are_held : {V : Type 0} (items : V → List HeldContract) (t : AcceptedTables) (hs : List Holding) (lists : List V) (cs : List Commodity)
-    → IsWithinLimits t → ArePortfolio hs → map items lists ≡ map (λ c. held_of t.contracts hs c.id) cs → All (λ v. AreHeld (items v)) lists
-all_are_held items t hs [] cs limits portfolio are k d lt = absurd (omega arith)
-all_are_held items t hs (v ∷ vs) [] limits portfolio are k d lt = cc
-all_are_held items t hs (v ∷ vs) (c ∷ cs) limits portfolio are zero d lt =
-    let here : items v ≡ held_of t.contracts hs c.id = cc in subst AreHeld (sym here) (are_held t hs c.id limits portfolio)
-all_are_held items t hs (v ∷ vs) (c ∷ cs) limits portfolio are (suc k) d lt =
-    let more : map items vs ≡ map (λ (x : Commodity). held_of t.contracts hs x.id) cs = cc in all_are_held items t hs vs cs limits portfolio more k d (omega arith)
+pub all_are_holdings : {V : Type 0} (items : V → List Holding) (t : AcceptedTables) (hs : List Holding) (lists : List V) (cs : List Commodity)
+    → IsWithinLimits t → ArePortfolio hs → list_all (λ h. nat_lt h.contract (length t.contracts)) hs ≡ true
+    → map items lists ≡ map (λ c. holdings_in t.contracts hs c.id) cs → All (λ v. AreHoldings t.contracts (items v)) lists
+all_are_holdings items t hs [] cs limits portfolio known are k d lt = absurd (omega arith)
+all_are_holdings items t hs (v ∷ vs) [] limits portfolio known are k d lt = cc
+all_are_holdings items t hs (v ∷ vs) (c ∷ cs) limits portfolio known are zero d lt =
+    let here : items v ≡ holdings_in t.contracts hs c.id = cc in subst (AreHoldings t.contracts) (sym here) (are_holdings t hs c.id limits portfolio known)
+all_are_holdings items t hs (v ∷ vs) (c ∷ cs) limits portfolio known are (suc k) d lt =
+    let more : map items vs ≡ map (λ (x : Commodity). holdings_in t.contracts hs x.id) cs = cc in all_are_holdings items t hs vs cs limits portfolio known more k d (omega arith)
+
+-- the lists of holdings, each with its records, are what is held of each
+pub all_held_in : {V : Type 0} (items : V → List Holding) (contracts : List Contract) (hs : List Holding) (lists : List V) (cs : List Commodity)
+    → map items lists ≡ map (λ c. holdings_in contracts hs c.id) cs → map (λ v. held_contracts contracts (items v)) lists ≡ map (λ c. held_of contracts hs c.id) cs
+all_held_in items contracts hs [] [] are = refl
+all_held_in items contracts hs [] (c ∷ cs) are = cc
+all_held_in items contracts hs (v ∷ vs) [] are = cc
+all_held_in items contracts hs (v ∷ vs) (c ∷ cs) are =
+    let here : items v ≡ holdings_in contracts hs c.id = cc in
+    let more : map items vs ≡ map (λ (x : Commodity). holdings_in contracts hs x.id) cs = cc in
+    let first = ap (held_contracts contracts) here ∙ held_in contracts hs c.id in
+    let rest = all_held_in items contracts hs vs cs more in
+    λ i. first i ∷ rest i

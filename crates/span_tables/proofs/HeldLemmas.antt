@@ -1,24 +1,22 @@
--- What an account holds of a commodity: by numbers, holding after holding, and within the limits.
-use Rattle.std.proofs.Common.{◌≡◌, ℕ, suc, zero, ◌+◌, ◌<◌, ◌≤◌, Bool, true, false, cond, eqb, ltb, List, [], ◌∷◌, ◌++◌, length, map, filter, get_or, take, Option, Some, None, refl, sym, ap, ◌∙◌, subst, arith}
-use Rattle.std.specs.Prelude.{◌&&◌, All, bytes_eq, filter_map, nat_abs, nat_lt, option_map, slice_get}
+-- What an account holds of a commodity: holdings of contracts that there are, with their whole records, and within the limits.
+use Rattle.std.proofs.Common.{◌≡◌, ℕ, ℤ, suc, zero, ◌+◌, ◌<◌, ◌≤◌, Bool, true, false, cond, eqb, ltb, List, [], ◌∷◌, length, map, filter, get_or, Option, Some, None, refl, sym, ap, ◌∙◌, subst, arith}
+use Rattle.std.specs.Prelude.{◌&&◌, All, IfSome, bytes_eq, filter_map, nat_abs, nat_lt, option_map, slice_get, unwrap_or}
 use Rattle.std.specs.List.{cons_option, list_all}
-use Rattle.std.specs.Option.{option_map_or}
 use Rattle.std.proofs.lemmas.Bool.Decides.{nat_tests}
-use Rattle.std.proofs.lemmas.List.{append-nil, take_more}
-use Rattle.std.proofs.lemmas.List.Elements.{All-nil, All-cons, All-head, All-tail, filter-append, filter_map-append}
+use Rattle.std.proofs.lemmas.List.Elements.{All-nil, All-cons, All-head, All-tail, All-filter}
 use Rattle.span_tables.specs.Accepted.{IsContract, IsWithinLimits, commodity_id, commodity_number}
 use Rattle.span_tables.specs.Holdings.{AreHeld, ArePortfolio}
-use Rattle.span_tables.specs.Net.{held_contract, held_of}
+use Rattle.span_tables.specs.Net.{HeldContract, held_contract, held_of}
 use Rattle.span_tables.specs.Tables.{AcceptedTables}
-use Rattle.span_tables.specs.declared.limits.TheConstants.{MAX_NET}
-use Rattle.span_tables.specs.declared.held.HeldContract.{HeldContract}
+use Rattle.span_tables.specs.declared.limits.TheConstants.{MAX_HELD, MAX_NET}
 use Rattle.span_tables.specs.declared.portfolios.Holding.{Holding}
 use Rattle.span_tables.specs.declared.records.Contract.{Contract}
+use Rattle.span_tables.specs.steps.Gathered.{AreHoldings, commodity_held, held_contracts, holdings_in}
 use Rattle.span_tables.proofs.Places.{place_names}
 
 -- a number made of the element at k passes as the element does
 told : {X : Type 0} (f : X → ℕ) (g : X → Bool) (c : ℕ) → ((x : X) → eqb (f x) c ≡ g x)
-    → (xs : List X) (k n : ℕ) → k < length xs → n ≡ get_or (map f xs) k n → eqb n c ≡ option_map_or g (slice_get xs k) false
+    → (xs : List X) (k n : ℕ) → k < length xs → n ≡ get_or (map f xs) k n → IfSome (slice_get xs k) (λ x. eqb n c ≡ g x)
 told f g c same [] k n lt is = absurd (omega arith)
 told f g c same (x ∷ xs) zero n lt is = ap (λ m. eqb m c) is ∙ same x
 told f g c same (x ∷ xs) (suc k) n lt is = told f g c same xs k n (omega arith) is
@@ -27,7 +25,7 @@ told f g c same (x ∷ xs) (suc k) n lt is = told f g c same xs k n (omega arith
 pub number_tells : (s t : AcceptedTables) (numbers : List ℕ) → s ≡ t → IsWithinLimits s
     → numbers ≡ map (λ x. commodity_number s.commodities x.commodity) s.contracts
     → (k c n : ℕ) → k < length t.contracts → c < length t.commodities → n ≡ get_or numbers k n
-    → eqb n c ≡ option_map_or (λ x. bytes_eq x.commodity (commodity_id t c)) (slice_get t.contracts k) false
+    → IfSome (slice_get t.contracts k) (λ x. eqb n c ≡ bytes_eq x.commodity (commodity_id t c))
 number_tells s t numbers same kept are k c n lt lc is =
     let limits : IsWithinLimits t = subst IsWithinLimits same kept in
     let all : numbers ≡ map (λ (x : Contract). commodity_number t.commodities x.commodity) t.contracts =
@@ -36,142 +34,175 @@ number_tells s t numbers same kept are k c n lt lc is =
     (λ x. place_names (λ d. d.id) t.commodities x.commodity c limits.commodities_apart lc) t.contracts k n lt
     (is ∙ ap (λ ns. get_or ns k n) all)
 
--- the held contracts of two lists of holdings, one after the other
-pub held_of-append : (contracts : List Contract) (hs gs : List Holding) (commodity : List ℕ)
-    → held_of contracts (hs ++ gs) commodity ≡ held_of contracts hs commodity ++ held_of contracts gs commodity
-unfolding held_of
-held_of-append contracts hs gs commodity =
-    rw filter_map-append (rw filter-append refl)
-
-pub held_of-more : (contracts : List Contract) (hs : List Holding) (i : ℕ) (d : Holding) (commodity : List ℕ) → i < length hs
-    → held_of contracts (take (i + 1) hs) commodity ≡ held_of contracts (take i hs) commodity ++ held_of contracts (get_or hs i d ∷ []) commodity
-held_of-more contracts hs i d commodity lt =
-    ap (λ xs. held_of contracts xs commodity) (take_more hs i d lt) ∙ held_of-append contracts (take i hs) (get_or hs i d ∷ []) commodity
-
--- what holds of each holding with its contract holds of those held
-module _ (P : HeldContract → Type 0) (contracts : List Contract) (commodity : List ℕ) where
-  abbrev Each : Holding → Type 0
-  Each h = (x : Contract) → slice_get contracts h.contract ≡ Some x → P (record { contract = x; net = h.net })
-
-  kept_if : (b : Bool) (h : HeldContract) (hs : List HeldContract) → P h → All P hs → All P (cond b (h ∷ hs) hs)
-  kept_if true h hs p all = All-cons P h hs p all
-  kept_if false h hs p all = all
-
-  next_all : (o : Option Contract) (h : Holding) (hs : List HeldContract) → slice_get contracts h.contract ≡ o → Each h
-      → All P (filter (λ k. bytes_eq (k.contract).commodity commodity) hs)
-      → All P (filter (λ k. bytes_eq (k.contract).commodity commodity) (cons_option (option_map (λ x. record { contract = x; net = h.net }) o) hs))
-  next_all None h hs is each all = all
-  next_all (Some x) h hs is each all = kept_if (bytes_eq x.commodity commodity) _ _ (each x is) all
-
-  pub all_held : (hs : List Holding) → All Each hs → All P (held_of contracts hs commodity)
-  unfolding held_of
-  all_held [] each = All-nil P
-  all_held (h ∷ hs) each =
-      next_all (slice_get contracts h.contract) h _ refl (All-head Each h hs each) (all_held hs (All-tail Each h hs each))
-
-few_if : (b : Bool) (h : HeldContract) (hs : List HeldContract) (n : ℕ) → length hs ≤ n → length (cond b (h ∷ hs) hs) ≤ n + 1
-few_if true h hs n le = omega arith
-few_if false h hs n le = omega arith
-
-few_next : (o : Option HeldContract) (p : HeldContract → Bool) (hs : List HeldContract) (n : ℕ) → length (filter p hs) ≤ n
-    → length (filter p (cons_option o hs)) ≤ n + 1
-few_next None p hs n le = omega arith
-few_next (Some h) p hs n le = few_if (p h) h (filter p hs) n le
-
-few_held : (contracts : List Contract) (hs : List Holding) (commodity : List ℕ) → length (held_of contracts hs commodity) ≤ length hs
-unfolding held_of
-few_held contracts [] commodity = omega arith
-few_held contracts (h ∷ hs) commodity =
-    let more = few_next (held_contract contracts h) (λ k. bytes_eq (k.contract).commodity commodity) (filter_map (held_contract contracts) hs) (length hs) (few_held contracts hs commodity) in
-    omega (arith, more)
-
-get_passes : {X : Type 0} (P : X → Type 0) (xs : List X) (k : ℕ) (x : X) → All P xs → slice_get xs k ≡ Some x → P x
-get_passes P [] k x all is = cc
-get_passes P (y ∷ ys) zero x all is = let same : y ≡ x = cc in subst P same (All-head P y ys all)
-get_passes P (y ∷ ys) (suc k) x all is = get_passes P ys k x (All-tail P y ys all) is
-
--- what an account holds of a commodity is within the limits
-pub are_held : (t : AcceptedTables) (hs : List Holding) (commodity : List ℕ) → IsWithinLimits t → ArePortfolio hs → AreHeld (held_of t.contracts hs commodity)
-are_held t hs commodity limits portfolio = record {
-  few = let less = few_held t.contracts hs commodity in let most = portfolio.few in omega (arith, less, most);
-  nets = all_held (λ h. nat_abs h.net ≤ MAX_NET) t.contracts commodity hs (λ k d lt x is. portfolio.nets k d lt);
-  contracts = all_held (λ h. IsContract h.contract) t.contracts commodity hs (λ k d lt x is. get_passes IsContract t.contracts _ x limits.contracts_in_range is);
-}
-
 and_true : (a b : Bool) → (a && b) ≡ true → (a ≡ true) × (b ≡ true)
 and_true true b e = (refl, e)
 and_true false b e = cc
 
--- one of them is of a contract that there is
-pub in_range : (contracts : ℕ) (hs : List Holding) (i : ℕ) (d : Holding) → list_all (λ h. nat_lt h.contract contracts) hs ≡ true → i < length hs
-    → (get_or hs i d).contract < contracts
-in_range contracts [] i d all lt = absurd (omega arith)
-in_range contracts (h ∷ hs) zero d all lt = let e : ltb h.contract contracts ≡ true = (and_true _ _ all).0 in grind (arith, nat_tests)
-in_range contracts (h ∷ hs) (suc i) d all lt = in_range contracts hs i d (and_true _ _ all).1 (omega arith)
+-- each is of a contract that there is
+pub all_known : (contracts : ℕ) (hs : List Holding) → list_all (λ h. nat_lt h.contract contracts) hs ≡ true → All (λ h. h.contract < contracts) hs
+all_known contracts [] all = All-nil (λ h. h.contract < contracts)
+all_known contracts (h ∷ hs) all =
+    let e = and_true _ _ all in
+    let below : ltb h.contract contracts ≡ true = e.0 in
+    All-cons (λ h. h.contract < contracts) h hs (grind (arith, nat_tests)) (all_known contracts hs e.1)
 
 pub get_some : {X : Type 0} (xs : List X) (k : ℕ) (x : X) → k < length xs → x ≡ get_or xs k x → slice_get xs k ≡ Some x
 get_some [] k x lt is = absurd (omega arith)
 get_some (y ∷ ys) zero x lt is = ap Some (sym is)
 get_some (y ∷ ys) (suc k) x lt is = get_some ys k x (omega arith) is
 
-is_of : List ℕ → Contract → Bool
-is_of commodity x = bytes_eq x.commodity commodity
+-- within a list there is an element
+there : {X : Type 0} (xs : List X) (k : ℕ) → k < length xs → (x : X) × (slice_get xs k ≡ Some x)
+there [] k lt = absurd (omega arith)
+there (y ∷ ys) zero lt = (y, refl)
+there (y ∷ ys) (suc k) lt = there ys k (omega arith)
 
-held_one : (o : Option Contract) (commodity : List ℕ) (h : Holding) → option_map_or (is_of commodity) o false ≡ false
-    → filter (λ (k : HeldContract). bytes_eq (k.contract).commodity commodity) (cons_option (option_map (λ x. record { contract = x; net = h.net }) o) []) ≡ []
-unfolding is_of
-held_one None commodity h other = refl
-held_one (Some x) commodity h other = rw other refl
+found : {X : Type 0} (xs : List X) (k : ℕ) (x : X) → slice_get xs k ≡ Some x → x ≡ get_or xs k x
+found [] k x is = cc
+found (y ∷ ys) zero x is = let same : y ≡ x = cc in sym same
+found (y ∷ ys) (suc k) x is = found ys k x is
 
--- a holding of another commodity adds nothing
-held_of-none : (contracts : List Contract) (commodity : List ℕ) (h : Holding)
-    → option_map_or (λ x. bytes_eq x.commodity commodity) (slice_get contracts h.contract) false ≡ false
-    → held_of contracts (h ∷ []) commodity ≡ []
-unfolding held_of is_of
-held_of-none contracts commodity h other = held_one (slice_get contracts h.contract) commodity h other
+get_passes : {X : Type 0} (P : X → Type 0) (xs : List X) (k : ℕ) (x : X) → All P xs → slice_get xs k ≡ Some x → P x
+get_passes P [] k x all is = cc
+get_passes P (y ∷ ys) zero x all is = let same : y ≡ x = cc in subst P same (All-head P y ys all)
+get_passes P (y ∷ ys) (suc k) x all is = get_passes P ys k x (All-tail P y ys all) is
 
--- a holding of the commodity adds its contract
-held_of-some : (contracts : List Contract) (commodity : List ℕ) (h : Holding) (x : Contract)
-    → option_map_or (λ x. bytes_eq x.commodity commodity) (slice_get contracts h.contract) false ≡ true
-    → h.contract < length contracts → x ≡ get_or contracts h.contract x
-    → held_of contracts (h ∷ []) commodity ≡ record { contract = x; net = h.net } ∷ []
-unfolding held_of
-held_of-some contracts commodity h x same lt at =
-    let got : slice_get contracts h.contract ≡ Some x = get_some contracts h.contract x lt at in
-    let passes : bytes_eq x.commodity commodity ≡ true = sym (ap (λ o. option_map_or (λ (y : Contract). bytes_eq y.commodity commodity) o false) got) ∙ same in
-    rw got (rw passes refl)
+-- ---- holdings with their contracts' whole records
 
--- the next holding is of the commodity
-pub gathered_some : (contracts ks : List Contract) (commodity : List ℕ) (hs gs : List Holding) (i : ℕ) (d : Holding) (x : Contract) (y : HeldContract) (held next : List HeldContract)
-    → ks ≡ contracts → gs ≡ hs → i < length gs → list_all (λ h. nat_lt h.contract (length contracts)) hs ≡ true
-    → held ≡ held_of contracts (take i hs) commodity
-    → true ≡ option_map_or (λ z. bytes_eq z.commodity commodity) (slice_get contracts (get_or gs i d).contract) false
-    → x ≡ get_or ks (get_or gs i d).contract x → y ≡ record { contract = x; net = (get_or gs i d).net } → next ≡ held ++ y ∷ []
-    → next ≡ held_of contracts (take (i + 1) hs) commodity
-gathered_some contracts ks commodity hs gs i d x y held next same_ks same_gs lt all so_far passes at is pushed =
-    let h : Holding = get_or hs i d in
-    let at_h : get_or gs i d ≡ get_or hs i d = ap (λ (zs : List Holding). get_or zs i d) same_gs in
-    let lt_h : i < length hs = subst (λ (zs : List Holding). i < length zs) same_gs lt in
-    let here : x ≡ get_or contracts (get_or hs i d).contract x =
-    at ∙ ap (λ (zs : List Contract). get_or zs (get_or gs i d).contract x) same_ks ∙ ap (λ (g : Holding). get_or contracts g.contract x) at_h in
-    let true_h : option_map_or (λ (z : Contract). bytes_eq z.commodity commodity) (slice_get contracts (get_or hs i d).contract) false ≡ true =
-    sym (passes ∙ ap (λ (g : Holding). option_map_or (λ (z : Contract). bytes_eq z.commodity commodity) (slice_get contracts g.contract) false) at_h) in
-    let one : held_of contracts (get_or hs i d ∷ []) commodity ≡ record { contract = x; net = (get_or hs i d).net } ∷ [] =
-    held_of-some contracts commodity (get_or hs i d) x true_h (in_range (length contracts) hs i d all lt_h) here in
-    let is_h : y ≡ record { contract = x; net = (get_or hs i d).net } = is ∙ ap (λ (g : Holding). let k : HeldContract = record { contract = x; net = g.net } in k) at_h in
-    pushed ∙ ap (λ (zs : List HeldContract). zs ++ y ∷ []) so_far ∙ ap (λ (z : HeldContract). held_of contracts (take i hs) commodity ++ z ∷ []) is_h
-    ∙ ap (λ (zs : List HeldContract). held_of contracts (take i hs) commodity ++ zs) (sym one) ∙ sym (held_of-more contracts hs i d commodity lt_h)
+module _ (contracts : List Contract) where
+  abbrev IsKnown : Holding → Type 0
+  IsKnown h = h.contract < length contracts
 
--- the next holding is of another commodity
-pub gathered_none : (contracts : List Contract) (commodity : List ℕ) (hs gs : List Holding) (i : ℕ) (d : Holding) (held : List HeldContract)
-    → gs ≡ hs → i < length gs → held ≡ held_of contracts (take i hs) commodity
-    → false ≡ option_map_or (λ z. bytes_eq z.commodity commodity) (slice_get contracts (get_or gs i d).contract) false
-    → held ≡ held_of contracts (take (i + 1) hs) commodity
-gathered_none contracts commodity hs gs i d held same_gs lt so_far other =
-    let at_h : get_or gs i d ≡ get_or hs i d = ap (λ (zs : List Holding). get_or zs i d) same_gs in
-    let lt_h : i < length hs = subst (λ (zs : List Holding). i < length zs) same_gs lt in
-    let false_h : option_map_or (λ (z : Contract). bytes_eq z.commodity commodity) (slice_get contracts (get_or hs i d).contract) false ≡ false =
-    sym (other ∙ ap (λ (g : Holding). option_map_or (λ (z : Contract). bytes_eq z.commodity commodity) (slice_get contracts g.contract) false) at_h) in
-    let one : held_of contracts (get_or hs i d ∷ []) commodity ≡ [] = held_of-none contracts commodity (get_or hs i d) false_h in
-    so_far ∙ sym (append-nil (held_of contracts (take i hs) commodity)) ∙ ap (λ (zs : List HeldContract). held_of contracts (take i hs) commodity ++ zs) (sym one)
-    ∙ sym (held_of-more contracts hs i d commodity lt_h)
+  -- a known holding stands there with its record
+  held_next : (h : Holding) (hs : List Holding) (x : Contract) → slice_get contracts h.contract ≡ Some x
+      → held_contracts contracts (h ∷ hs) ≡ record { contract = x; net = h.net } ∷ held_contracts contracts hs
+  held_next h hs x got = rw got refl
+
+  pub length_held : (hs : List Holding) → All IsKnown hs → length (held_contracts contracts hs) ≡ length hs
+  length_held [] known = refl
+  length_held (h ∷ hs) known =
+      let x = there contracts h.contract (All-head IsKnown h hs known) in
+      ap length (held_next h hs x.0 x.1) ∙ ap suc (length_held hs (All-tail IsKnown h hs known))
+
+  -- the held contract at a place is of the holding there
+  pub held_at : (hs : List Holding) (i : ℕ) (h : Holding) (x : Contract) → All IsKnown hs → i < length hs → h ≡ get_or hs i h
+      → x ≡ get_or contracts h.contract x → slice_get (held_contracts contracts hs) i ≡ Some (record { contract = x; net = h.net })
+  held_at [] i h x known lt at is = absurd (omega arith)
+  held_at (g ∷ hs) zero h x known lt at is =
+      let below : g.contract < length contracts = All-head IsKnown g hs known in
+      let same : g ≡ h = sym at in
+      let got : slice_get contracts g.contract ≡ Some x = subst (λ (k : Holding). slice_get contracts k.contract ≡ Some x) (sym same) (get_some contracts h.contract x (subst IsKnown same below) is) in
+      ap (λ (hs : List HeldContract). slice_get hs 0) (held_next g hs x got)
+      ∙ ap (λ (k : Holding). (let c : HeldContract = record { contract = x; net = k.net } in Some c)) same
+  held_at (g ∷ hs) (suc i) h x known lt at is =
+      let y = there contracts g.contract (All-head IsKnown g hs known) in
+      ap (λ (hs : List HeldContract). slice_get hs (suc i)) (held_next g hs y.0 y.1)
+      ∙ held_at hs i h x (All-tail IsKnown g hs known) (omega arith) at is
+
+  -- what holds of each holding with its contract holds of the held contracts
+  module _ (P : HeldContract → Type 0) where
+    abbrev Each : Holding → Type 0
+    Each h = (x : Contract) → slice_get contracts h.contract ≡ Some x → P (record { contract = x; net = h.net })
+
+    next_all : (o : Option Contract) (h : Holding) (hs : List HeldContract) → slice_get contracts h.contract ≡ o → Each h → All P hs
+        → All P (cons_option (option_map (λ x. record { contract = x; net = h.net }) o) hs)
+    next_all None h hs is each all = all
+    next_all (Some x) h hs is each all = All-cons P _ hs (each x is) all
+
+    all_held : (hs : List Holding) → All Each hs → All P (held_contracts contracts hs)
+    all_held [] each = All-nil P
+    all_held (h ∷ hs) each =
+        next_all (slice_get contracts h.contract) h _ refl (All-head Each h hs each) (all_held hs (All-tail Each h hs each))
+
+  pub are_held : (hs : List Holding) → AreHoldings contracts hs → AreHeld (held_contracts contracts hs)
+  are_held hs are = record {
+    few = subst (λ n. n ≤ MAX_HELD) (sym (length_held hs are.known)) are.few;
+    nets = all_held (λ h. nat_abs h.net ≤ MAX_NET) hs (λ k d lt x is. are.nets k d lt);
+    contracts = all_held (λ h. IsContract h.contract) hs (λ k d lt x is. get_passes IsContract contracts _ x are.in_range is);
+  }
+
+  -- ---- what a reader of held contracts tells; ks are the held contracts
+
+  pub held_len : (hs : List Holding) (ks : List HeldContract) → held_contracts contracts hs ≡ ks → AreHoldings contracts hs → length hs ≡ length ks
+  held_len hs ks same are = sym (length_held hs are.known) ∙ ap length same
+
+  module _ (hs : List Holding) (ks : List HeldContract) (same : held_contracts contracts hs ≡ ks) (are : AreHoldings contracts hs) (place : ℕ) (within : place < length ks) where
+    inside : place < length hs
+    inside = let long = held_len hs ks same are in omega (arith, long, within)
+
+    at_place : (h : Holding) (x : Contract) → h ≡ get_or hs place h → x ≡ get_or contracts h.contract x → slice_get ks place ≡ Some (record { contract = x; net = h.net })
+    at_place h x at is = ap (λ (zs : List HeldContract). slice_get zs place) (sym same) ∙ held_at hs place h x are.known inside at is
+
+    pub place_known : (h : Holding) → h ≡ get_or hs place h → h.contract < length contracts
+    place_known h at = subst IsKnown (sym at) (are.known place h inside)
+
+    pub contract_told : (h : Holding) (x : Contract) → h ≡ get_or hs place h → x ≡ get_or contracts h.contract x
+        → IfSome (slice_get ks place) (λ held. x ≡ held.contract)
+    contract_told h x at is = subst (λ (o : Option HeldContract). IfSome o (λ held. x ≡ held.contract)) (sym (at_place h x at is)) refl
+
+    pub contract_kept : (h : Holding) (x : Contract) → h ≡ get_or hs place h → x ≡ get_or contracts h.contract x → IsContract x
+    contract_kept h x at is =
+        subst IsContract (sym is) (are.in_range h.contract x (place_known h at))
+
+    pub net_told : (h : Holding) → h ≡ get_or hs place h → IfSome (slice_get ks place) (λ held. h.net ≡ held.net)
+    net_told h at =
+        let x = there contracts h.contract (place_known h at) in
+        subst (λ (o : Option HeldContract). IfSome o (λ held. h.net ≡ held.net)) (sym (at_place h x.0 at (found contracts h.contract x.0 x.1))) refl
+
+    pub net_kept : (h : Holding) → h ≡ get_or hs place h → nat_abs h.net ≤ MAX_NET
+    net_kept h at = subst (λ (k : Holding). nat_abs k.net ≤ MAX_NET) (sym at) (are.nets place h inside)
+
+  -- ---- the holdings of a commodity
+
+  if_kept : (b : Bool) (h : Holding) (k : HeldContract) (hs : List Holding) (ks : List HeldContract)
+      → held_contracts contracts (h ∷ hs) ≡ k ∷ held_contracts contracts hs → held_contracts contracts hs ≡ ks
+      → held_contracts contracts (cond b (h ∷ hs) hs) ≡ cond b (k ∷ ks) ks
+  if_kept true h k hs ks next same = next ∙ ap (λ zs. k ∷ zs) same
+  if_kept false h k hs ks next same = same
+
+  if_none : (b : Bool) (h : Holding) (hs : List Holding) (ks : List HeldContract)
+      → held_contracts contracts (h ∷ hs) ≡ held_contracts contracts hs → held_contracts contracts hs ≡ ks
+      → held_contracts contracts (cond b (h ∷ hs) hs) ≡ ks
+  if_none true h hs ks next same = next ∙ same
+  if_none false h hs ks next same = same
+
+  next_kept : (commodity : List ℕ) (o : Option Contract) (h : Holding) (hs : List Holding) (ks : List HeldContract) → slice_get contracts h.contract ≡ o
+      → held_contracts contracts hs ≡ filter (λ k. bytes_eq (k.contract).commodity commodity) ks
+      → held_contracts contracts (cond (bytes_eq (unwrap_or (option_map (λ x. x.commodity) o) []) commodity) (h ∷ hs) hs)
+      ≡ filter (λ k. bytes_eq (k.contract).commodity commodity) (cons_option (option_map (λ x. record { contract = x; net = h.net }) o) ks)
+  next_kept commodity None h hs ks is same = if_none (bytes_eq [] commodity) h hs _ (rw is refl) same
+  next_kept commodity (Some x) h hs ks is same = if_kept (bytes_eq x.commodity commodity) h _ hs _ (held_next h hs x is) same
+
+  -- the holdings of a commodity are what is held of it
+  pub held_in : (hs : List Holding) (commodity : List ℕ) → held_contracts contracts (holdings_in contracts hs commodity) ≡ held_of contracts hs commodity
+  unfolding held_of
+  held_in [] commodity = refl
+  held_in (h ∷ hs) commodity = next_kept commodity (slice_get contracts h.contract) h _ _ refl (held_in hs commodity)
+
+few_if : (b : Bool) (h : Holding) (hs : List Holding) (n : ℕ) → length hs ≤ n → length (cond b (h ∷ hs) hs) ≤ suc n
+few_if true h hs n le = omega arith
+few_if false h hs n le = omega arith
+
+few_in : (p : Holding → Bool) (hs : List Holding) → length (filter p hs) ≤ length hs
+few_in p [] = omega arith
+few_in p (h ∷ hs) = few_if (p h) h (filter p hs) (length hs) (few_in p hs)
+
+-- the holdings of a commodity are within the limits
+pub are_holdings : (t : AcceptedTables) (hs : List Holding) (commodity : List ℕ) → IsWithinLimits t → ArePortfolio hs
+    → list_all (λ h. nat_lt h.contract (length t.contracts)) hs ≡ true → AreHoldings t.contracts (holdings_in t.contracts hs commodity)
+are_holdings t hs commodity limits portfolio all =
+    let test : Holding → Bool = λ h. bytes_eq (commodity_held t.contracts h) commodity in
+    record {
+      few = let less = few_in test hs in let most = portfolio.few in omega (arith, less, most);
+      nets = All-filter test (λ h. nat_abs h.net ≤ MAX_NET) hs portfolio.nets;
+      known = All-filter test (λ h. h.contract < length t.contracts) hs (all_known (length t.contracts) hs all);
+      in_range = limits.contracts_in_range;
+    }
+
+-- the held contract at a place, by its record and its net
+pub held_here : (held : List HeldContract) (i : ℕ) (x : Contract) (n : ℤ) → i < length held
+    → IfSome (slice_get held i) (λ h. x ≡ h.contract) → IfSome (slice_get held i) (λ h. n ≡ h.net)
+    → record { contract = x; net = n } ≡ get_or held i (record { contract = x; net = n })
+held_here [] i x n lt contract net = absurd (omega arith)
+held_here (h ∷ hs) zero x n lt contract net = λ j. record { contract = contract j; net = net j }
+held_here (h ∷ hs) (suc i) x n lt contract net = held_here hs i x n (omega arith) contract net

@@ -6,11 +6,10 @@ use Rattle.std.proofs.lemmas.Int.{ints}
 use Rattle.std.proofs.lemmas.Bool.Decides.{nat_tests}
 use Rattle.std.proofs.lemmas.List.{append_assoc}
 use Rattle.span_money.specs.Numbers.{int_sum_by}
-use Rattle.span_tables.specs.Net.{net_of, is_held, holding_of, holdings_of, held_contract, held_of}
+use Rattle.span_tables.specs.Net.{HeldContract, net_of, is_held, holding_of, holdings_of, held_contract, held_of}
 use Rattle.span_tables.specs.declared.records.Contract.{Contract}
 use Rattle.span_tables.specs.declared.records.PositionRecord.{PositionRecord}
 use Rattle.span_tables.specs.declared.portfolios.Holding.{Holding}
-use Rattle.span_tables.specs.declared.held.HeldContract.{HeldContract}
 use Rattle.span_tables.proofs.SumLaws.{int_sum_by-if}
 
 -- the element behind a front

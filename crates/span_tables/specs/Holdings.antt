@@ -3,9 +3,9 @@ use Rattle.std.specs.Prelude.{ℕ, ◌≢◌, ◌≤◌, Bool, nat_lt, List, len
 use Rattle.std.specs.List.Sorted.{IsStrictlyIncreasing}
 use Rattle.std.specs.List.{list_all}
 use Rattle.span_tables.specs.Accepted.{IsContract}
+use Rattle.span_tables.specs.Net.{HeldContract}
 use Rattle.span_tables.specs.declared.limits.TheConstants.{MAX_HELD, MAX_NET}
 use Rattle.span_tables.specs.declared.portfolios.Holding.{Holding}
-use Rattle.span_tables.specs.declared.held.HeldContract.{HeldContract}
 
 -- the holdings of an account: few, by rising contract number, and each net is not 0 and within its limit
 pub record ArePortfolio (holdings : List Holding) : Type 0 where

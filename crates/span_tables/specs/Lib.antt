@@ -11,3 +11,4 @@ pub mod Sides
 pub mod Laws
 pub mod ByKind
 pub mod Samples
+pub mod steps

@@ -6,7 +6,6 @@ use Rattle.span_tables.specs.Names.{distinct}
 use Rattle.span_tables.specs.declared.records.Contract.{Contract}
 use Rattle.span_tables.specs.declared.records.PositionRecord.{PositionRecord}
 use Rattle.span_tables.specs.declared.portfolios.Holding.{Holding}
-use Rattle.span_tables.specs.declared.held.HeldContract.{HeldContract}
 
 -- an account's name, and its net quantity in each contract that it holds, by rising contract number
 pub record AccountHoldings : Type 0 where
@@ -38,6 +37,11 @@ holdings_of contracts positions account = filter is_held (map (holding_of positi
 unfoldable pub portfolios_of : List Contract → List PositionRecord → List AccountHoldings
 portfolios_of contracts positions =
     map (λ account. record { account = account; holdings = holdings_of contracts positions account }) (accounts_of positions)
+
+-- a contract that an account holds: its whole record, and the net quantity
+pub record HeldContract : Type 0 where
+  pub contract : Contract
+  pub net : ℤ
 
 -- a holding with its contract's whole record
 abbrev pub held_contract : List Contract → Holding → Option HeldContract

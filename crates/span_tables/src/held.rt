@@ -1,56 +1,87 @@
 //! The contracts of one commodity that an account holds.
-ghost use Rattle.std.specs.Prelude.{◌≡◌, ◌<◌, true, length, map, All, IfOk};
-ghost use Rattle.span_tables.specs.Accepted.{commodity_id};
+ghost use Rattle.std.specs.Prelude.{◌≡◌, ◌==◌, ◌<◌, ◌≤◌, true, length, map, nat_abs, slice_get, All, IfOk, IfSome};
+ghost use Rattle.std.specs.Arc.{arc_value};
+ghost use Rattle.span_tables.specs.Accepted.{IsContract, IsWithinLimits, commodity_id};
 ghost use Rattle.span_tables.specs.Holdings.{AreHeld, fits};
 ghost use Rattle.span_tables.specs.Net.{held_of};
+ghost use Rattle.span_tables.specs.declared.limits.TheConstants.{MAX_HELD, MAX_NET};
+ghost use Rattle.span_tables.specs.steps.Gathered.{AreHoldings, held_contracts, holdings_in};
 
-use crate::groups::{empty_lists, push_at};
+use crate::limits::MAX_COMMODITIES;
+use crate::groups::{lists_with_room, push_at};
 use crate::portfolios::{Holding, Portfolio};
 use crate::records::Contract;
 use crate::tables::Tables;
 use std::alloc::{AllocError, Global};
 use std::marker::Model;
+use std::sync::Arc;
 
-/// A contract that an account holds, with its net quantity.
-#[derive(Drop)]
-pub struct HeldContract {
-    pub contract: Contract,
-    pub net: i64,
-}
-
-/// The contracts of one commodity that an account holds, by rising contract number. Contracts see the list.
+/// The contracts of one commodity that an account holds, by rising contract number, each with its net quantity.
+///
+/// Contracts see the list of them, each with its whole record. No record is copied: all that is kept of the tables
+/// is a hold on their contracts.
 #[derive(Drop)]
 pub struct Held {
-    contracts: Vec<HeldContract>,
+    contracts: Arc<Vec<Contract>>,
+    holdings: Vec<Holding>,
 }
 
 impl Model for Held {
     ghost use Rattle.std.specs.Prelude.{List};
-    ghost use Rattle.span_tables.specs.Holdings.{AreHeld};
-    ghost use Rattle.span_tables.specs.declared.held.HeldContract.{HeldContract};
+    ghost use Rattle.std.specs.Arc.{arc_value};
+    ghost use Rattle.span_tables.specs.Net.{HeldContract};
+    ghost use Rattle.span_tables.specs.steps.Gathered.{AreHoldings, held_contracts};
 
     ghost Value = { List HeldContract };
 
-    ghost view = { λ held. held.contracts.items };
+    ghost view = { λ held. held_contracts (arc_value held.contracts).items held.holdings.items };
 
-    ghost invariant = { λ held. AreHeld held.contracts.items };
+    ghost invariant = { λ held. AreHoldings (arc_value held.contracts).items held.holdings.items };
 }
 
 impl Held {
-    /// These held contracts: few, each with its net and its contract in range.
-    pub fn new(contracts: Vec<HeldContract>) -> Held
-        requires { AreHeld contracts.items }
-        ensures { result ≡ contracts.items }
+    /// The held contracts of these holdings: few, each of one of these contracts, with its net and record in range.
+    pub fn new(contracts: Arc<Vec<Contract>>, holdings: Vec<Holding>) -> Held
+        requires { AreHoldings (arc_value contracts).items holdings.items }
+        ensures { result ≡ held_contracts (arc_value contracts).items holdings.items }
     {
-        Held { contracts }
+        Held {
+            contracts,
+            holdings,
+        }
     }
 
-    /// The held contracts in their order.
-    pub fn as_slice(&self) -> &[HeldContract]
-        ensures value { result.now ≡ self.now }
+    /// How many contracts are held.
+    pub fn len(&self) -> usize
+        ensures value { result ≡ length self.now }
         ensures kept { AreHeld self.now }
     {
-        &self.contracts
+        self.holdings.len()
+    }
+
+    /// Whether no contract is held.
+    pub fn is_empty(&self) -> bool
+        ensures { result ≡ (length self.now == 0) }
+    {
+        self.holdings.is_empty()
+    }
+
+    /// The record of the held contract at a place.
+    pub fn contract(&self, place: usize) -> &Contract
+        requires { place < length self.now }
+        ensures value { IfSome (slice_get self.now place) (λ held. result.now ≡ held.contract) }
+        ensures in_range { IsContract result.now }
+    {
+        &self.contracts[self.holdings[place].contract]
+    }
+
+    /// The net quantity of the held contract at a place.
+    pub fn net(&self, place: usize) -> i64
+        requires { place < length self.now }
+        ensures value { IfSome (slice_get self.now place) (λ held. result ≡ held.net) }
+        ensures in_range { nat_abs result ≤ MAX_NET }
+    {
+        self.holdings[place].net
     }
 }
 
@@ -65,54 +96,60 @@ pub fn gather(
     requires commodity { commodity < length tables.now.commodities }
     ensures { IfOk result (λ held. held ≡ held_of tables.now.contracts portfolio.now.holdings (commodity_id tables.now commodity)) }
 {
-    let contracts = tables.contracts();
     let mut held = Vec::new(alloc);
     for holding in portfolio.holdings() {
         if tables.is_of(holding.contract, commodity) {
-            held.push(held_contract(&contracts[holding.contract], holding))?;
+            held.push(*holding)?;
         }
     }
-    Ok(Held::new(held))
+    Ok(Held::new(tables.share_contracts()?, held))
 }
 
-// A contract with the net quantity of a holding.
-fn held_contract(contract: &Contract, holding: &Holding) -> HeldContract
-    ensures { result ≡ record { contract = contract.now; net = holding.now.net } }
+// How many holdings there are of each commodity: the room that their lists need.
+fn rooms(tables: &Tables, portfolio: &Portfolio) -> [usize; MAX_COMMODITIES]
+    requires limits { IsWithinLimits tables.now }
+    requires fits { fits (length tables.now.contracts) portfolio.now.holdings ≡ true }
 {
-    HeldContract {
-        contract: contract.copied(),
-        net: holding.net,
+    let mut rooms = [0usize; MAX_COMMODITIES];
+    for holding in portfolio.holdings() {
+        let place = tables.commodity_of(holding.contract);
+        rooms[place] = rooms[place].saturating_add(1);
     }
+    rooms
 }
 
-// The contracts of each commodity that an account holds, in one pass over its holdings.
-fn grouped(
+// The holdings of each commodity.
+fn holdings_by_commodity(
     alloc: Global,
     tables: &Tables,
     portfolio: &Portfolio,
-) -> Result<Vec<Vec<HeldContract>>, AllocError>
+) -> Result<Vec<Vec<Holding>>, AllocError>
     requires { fits (length tables.now.contracts) portfolio.now.holdings ≡ true }
-    ensures value { IfOk result (λ lists. map (λ v. v.items) lists.items ≡ map (λ c. held_of tables.now.contracts portfolio.now.holdings c.id) tables.now.commodities) }
-    ensures held { IfOk result (λ lists. All (λ v. AreHeld v.items) lists.items) }
+    ensures value { IfOk result (λ lists. map (λ v. v.items) lists.items ≡ map (λ c. holdings_in tables.now.contracts portfolio.now.holdings c.id) tables.now.commodities) }
+    ensures in_range { IfOk result (λ lists. All (λ v. AreHoldings tables.now.contracts v.items) lists.items) }
 {
-    let contracts = tables.contracts();
-    let mut lists = empty_lists(alloc, tables.commodities().len())?;
+    let commodities = tables.commodities().len();
+    let rooms = rooms(tables, portfolio);
+    let mut lists = lists_with_room(alloc, &rooms[..commodities])?;
     for holding in portfolio.holdings() {
         let place = tables.commodity_of(holding.contract);
-        let held = held_contract(&contracts[holding.contract], holding);
-        push_at(&mut lists, place, held)?;
+        push_at(&mut lists, place, *holding)?;
     }
     Ok(lists)
 }
 
-// These lists of held contracts.
-fn as_held(alloc: Global, lists: Vec<Vec<HeldContract>>) -> Result<Vec<Held>, AllocError>
-    requires { All (λ v. AreHeld v.items) lists.items }
-    ensures { IfOk result (λ held. held.items ≡ map (λ v. v.items) lists.items) }
+// The held contracts of each of these lists of holdings.
+fn as_held(
+    alloc: Global,
+    tables: &Tables,
+    lists: Vec<Vec<Holding>>,
+) -> Result<Vec<Held>, AllocError>
+    requires { All (λ v. AreHoldings tables.now.contracts v.items) lists.items }
+    ensures { IfOk result (λ held. held.items ≡ map (λ v. held_contracts tables.now.contracts v.items) lists.items) }
 {
     let mut held = Vec::with_capacity(alloc, lists.len())?;
-    for list in lists {
-        held.push(Held::new(list))?;
+    for holdings in lists {
+        held.push(Held::new(tables.share_contracts()?, holdings))?;
     }
     Ok(held)
 }
@@ -127,6 +164,6 @@ pub fn gather_all(
     requires { fits (length tables.now.contracts) portfolio.now.holdings ≡ true }
     ensures { IfOk result (λ held. held.items ≡ map (λ c. held_of tables.now.contracts portfolio.now.holdings c.id) tables.now.commodities) }
 {
-    let lists = grouped(alloc, tables, portfolio)?;
-    as_held(alloc, lists)
+    let lists = holdings_by_commodity(alloc, tables, portfolio)?;
+    as_held(alloc, tables, lists)
 }

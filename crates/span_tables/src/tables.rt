@@ -1,6 +1,6 @@
 //! The accepted tables of a set of parameters.
 ghost use Rattle.std.specs.Prelude.{◌≡◌, ◌<◌, ◌≤◌, [], bytes_eq, length, map, slice_get, slice_index_or, false, true, All, IfOk, IfSome};
-ghost use Rattle.std.specs.Option.{option_map_or};
+ghost use Rattle.std.specs.Arc.{arc_value};
 ghost use Rattle.span_tables.specs.Accepted.{IsAccepted, IsInter, IsIntra, IsSpot, IsWithinLimits, commodity_id, commodity_number};
 ghost use Rattle.span_tables.specs.Rules.{keeps_rules};
 ghost use Rattle.span_tables.specs.Tables.{inters_of, intras_of, spots_of, tables_of};
@@ -15,6 +15,7 @@ use crate::sorting::{inters_by_priority, intras_by_priority};
 use crate::spreads::{inters_with_numbers, intras_by_commodity};
 use std::alloc::{AllocError, Global};
 use std::marker::Model;
+use std::sync::Arc;
 
 /// How many records of each kind the tables have.
 #[derive(Clone, Copy, Debug, PartialEq, Eq)]
@@ -35,7 +36,7 @@ pub struct Counts {
 pub struct Tables {
     set_id: Name,
     commodities: Vec<Commodity>,
-    contracts: Vec<Contract>,
+    contracts: Arc<Vec<Contract>>,
     tiers: Vec<Tier>,
     intra_records: Vec<IntraRecord>,
     spots: Vec<Spot>,
@@ -48,6 +49,7 @@ pub struct Tables {
 
 impl Model for Tables {
     ghost use Rattle.std.specs.Prelude.{map};
+    ghost use Rattle.std.specs.Arc.{arc_value};
     ghost use Rattle.span_tables.specs.Accepted.{IsTables};
     ghost use Rattle.span_tables.specs.Tables.{AcceptedTables};
 
@@ -56,7 +58,7 @@ impl Model for Tables {
     ghost view = { λ t. record {
       set_id = t.set_id;
       commodities = t.commodities.items;
-      contracts = t.contracts.items;
+      contracts = (arc_value t.contracts).items;
       tiers = t.tiers.items;
       intras = t.intra_records.items;
       spots = t.spots.items;
@@ -67,7 +69,7 @@ impl Model for Tables {
         (record {
           set_id = t.set_id;
           commodities = t.commodities.items;
-          contracts = t.contracts.items;
+          contracts = (arc_value t.contracts).items;
           tiers = t.tiers.items;
           intras = t.intra_records.items;
           spots = t.spots.items;
@@ -134,10 +136,11 @@ impl Tables {
         let intras = intras_by_commodity(alloc, commodities, tiers, spreads)?;
         let spot_months = spots_by_commodity(alloc, commodities, spots)?;
         let inters = inters_with_numbers(alloc, commodities, &kinds.inters)?;
+        let contracts = Arc::new(alloc, kinds.contracts)?;
         Ok(Tables {
             set_id,
             commodities: kinds.commodities,
-            contracts: kinds.contracts,
+            contracts,
             tiers: kinds.tiers,
             intra_records: kinds.intras,
             spots: kinds.spots,
@@ -172,50 +175,30 @@ impl Tables {
         &self.contracts
     }
 
-    /// Whether the contract of a number is of the commodity of a number: their numbers are compared, and no names.
-    pub fn is_of(&self, contract: usize, commodity: usize) -> bool
+    // One more hold on the contracts.
+    pub(crate) fn share_contracts(&self) -> Result<Arc<Vec<Contract>>, AllocError>
+        ensures value { IfOk result (λ contracts. (arc_value contracts).items ≡ self.now.contracts) }
+        ensures limits { IsWithinLimits self.now }
+    {
+        Arc::try_clone(&self.contracts)
+    }
+
+    // Whether the contract of a number is of the commodity of a number: their numbers are compared, and no names.
+    pub(crate) fn is_of(&self, contract: usize, commodity: usize) -> bool
         requires contract { contract < length self.now.contracts }
         requires commodity { commodity < length self.now.commodities }
-        ensures { result ≡ option_map_or (λ x. bytes_eq x.commodity (commodity_id self.now commodity)) (slice_get self.now.contracts contract) false }
+        ensures { IfSome (slice_get self.now.contracts contract) (λ x. result ≡ bytes_eq x.commodity (commodity_id self.now commodity)) }
     {
         self.commodity_numbers[contract] == commodity
     }
 
-    /// The number of the commodity of the contract of a number.
-    pub fn commodity_of(&self, contract: usize) -> usize
+    // The number of the commodity of the contract of a number.
+    pub(crate) fn commodity_of(&self, contract: usize) -> usize
         requires { contract < length self.now.contracts }
         ensures value { IfSome (slice_get self.now.contracts contract) (λ x. result ≡ commodity_number self.now.commodities x.commodity) }
         ensures known { result < length self.now.commodities }
     {
         self.commodity_numbers[contract]
-    }
-
-    /// The tiers in file order.
-    pub fn tiers(&self) -> &[Tier]
-        ensures { result.now ≡ self.now.tiers }
-    {
-        &self.tiers
-    }
-
-    /// The records of intracommodity spreads by rising priority.
-    pub fn intra_records(&self) -> &[IntraRecord]
-        ensures { result.now ≡ self.now.intras }
-    {
-        &self.intra_records
-    }
-
-    /// The spot months in file order.
-    pub fn spot_records(&self) -> &[Spot]
-        ensures { result.now ≡ self.now.spots }
-    {
-        &self.spots
-    }
-
-    /// The records of intercommodity spreads by rising priority.
-    pub fn inter_records(&self) -> &[InterRecord]
-        ensures { result.now ≡ self.now.inters }
-    {
-        &self.inter_records
     }
 
     /// The intracommodity spreads of the commodity of a number, by rising priority.

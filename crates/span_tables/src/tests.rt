@@ -197,9 +197,9 @@ fn held_of_a_commodity(rt: HostRuntime) -> Result<(), Fail> {
     assert!(rt; portfolio.fits(&tables));
     assert_eq!(rt; tables.commodities().len(), 2);
     let held = gather(alloc, &tables, &portfolio, 1)?;
-    assert_eq!(rt; held.as_slice().len(), 1);
-    assert_eq!(rt; held.as_slice()[0].contract.id.as_bytes(), b"FB".as_slice());
-    assert_eq!(rt; held.as_slice()[0].net, -3);
+    assert_eq!(rt; held.len(), 1);
+    assert_eq!(rt; held.contract(0).id.as_bytes(), b"FB".as_slice());
+    assert_eq!(rt; held.net(0), -3);
     Ok(())
 }
 

@@ -9,7 +9,7 @@ use Rattle.span_money.specs.Numbers.{int_sum_by}
 use Rattle.spread_stage.specs.Deltas.{units_of, with_month, months_of, month_delta, month_deltas}
 use Rattle.spread_stage.specs.Months.{total_size}
 use Rattle.spread_stage.specs.Steps.{with_units}
-use Rattle.span_tables.specs.declared.held.HeldContract.{HeldContract}
+use Rattle.span_tables.specs.Net.{HeldContract}
 use Rattle.spread_stage.specs.declared.months.MonthUnits.{MonthUnits}
 use Rattle.spread_stage.proofs.SumLaws.{int_sum_by-if}
 use Rattle.spread_stage.proofs.MonthLaws.{Rise, Has, months_rise_up, months_have, later_than, all_above}

@@ -7,7 +7,7 @@ use Rattle.std.proofs.lemmas.Bool.Decides.{nat_tests}
 use Rattle.span_money.specs.Numbers.{int_sum_by}
 use Rattle.spread_stage.specs.Deltas.{units_of, with_month, months_of, month_delta, month_deltas, net_delta}
 use Rattle.spread_stage.specs.Months.{MonthsRise}
-use Rattle.span_tables.specs.declared.held.HeldContract.{HeldContract}
+use Rattle.span_tables.specs.Net.{HeldContract}
 use Rattle.spread_stage.specs.declared.months.MonthUnits.{MonthUnits}
 use Rattle.spread_stage.proofs.SumLaws.{int_sum_by-cons, int_sum_by-if}
 

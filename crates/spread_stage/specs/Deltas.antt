@@ -1,7 +1,7 @@
 -- The deltas of months.
 use Rattle.std.specs.Prelude.{ℕ, ◌==◌, nat_lt, if◌then◌else◌, List, [], ◌∷◌, map, filter, find, unwrap_or, option_map, ℤ, pos, ◌*ℤ◌}
 use Rattle.span_money.specs.Numbers.{int_sum_by}
-use Rattle.span_tables.specs.declared.held.HeldContract.{HeldContract}
+use Rattle.span_tables.specs.Net.{HeldContract}
 use Rattle.spread_stage.specs.declared.months.MonthUnits.{MonthUnits}
 
 -- the delta of a held contract, in units of 10^-8

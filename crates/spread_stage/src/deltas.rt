@@ -9,19 +9,20 @@ ghost use Rattle.spread_stage.specs.Steps.{with_units};
 
 use crate::months::{MonthUnits, Months};
 use span_money::amounts::Units;
-use span_tables::held::{Held, HeldContract};
+use span_tables::held::Held;
+use span_tables::records::Contract;
 use std::alloc::{AllocError, Global};
 
-// The delta of a held contract, in units of 10^-8.
-fn units_of(held: &HeldContract) -> i128
-    requires net { nat_abs held.now.net ≤ MAX_NET }
-    requires contract { IsContract held.now.contract }
-    ensures value { result ≡ units_of held.now }
+// The delta of a net quantity of a contract, in units of 10^-8.
+fn units_of(contract: &Contract, net: i64) -> i128
+    requires net { nat_abs net ≤ MAX_NET }
+    requires contract { IsContract contract.now }
+    ensures value { result ≡ units_of (record { contract = contract.now; net = net }) }
     ensures bound { nat_abs result ≤ MAX_NET * MAX_DELTA * MAX_SCALE }
 {
-    let net = i128::from(held.net);
-    let delta = i128::from(held.contract.delta.get());
-    let scale = i128::from(held.contract.scale.get());
+    let net = i128::from(net);
+    let delta = i128::from(contract.delta.get());
+    let scale = i128::from(contract.scale.get());
     net * delta * scale
 }
 
@@ -62,10 +63,10 @@ fn add(months: &mut Vec<MonthUnits>, month: u32, units: i128) -> Result<(), Allo
 pub fn month_deltas(alloc: Global, held: &Held) -> Result<Months, AllocError>
     ensures { IfOk result (λ months. months ≡ month_deltas held.now) }
 {
-    let held = held.as_slice();
     let mut months = Vec::new(alloc);
     for i in (0..held.len()).rev() {
-        add(&mut months, held[i].contract.month, units_of(&held[i]))?;
+        let contract = held.contract(i);
+        add(&mut months, contract.month, units_of(contract, held.net(i)))?;
     }
     Ok(Months::new(months))
 }

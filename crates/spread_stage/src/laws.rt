@@ -2,7 +2,7 @@
 ghost use Rattle.std.specs.Prelude.{◌≡◌, ℕ, ◌+◌, ◌*◌, ◌^◌, ◌≤◌, List, ◌∷◌, ◌++◌, sum_by};
 ghost use Rattle.span_money.specs.Numbers.{int_sum_by};
 ghost use Rattle.span_tables.specs.Sides.{MarketSide};
-ghost use Rattle.span_tables.specs.declared.held.HeldContract.{HeldContract};
+ghost use Rattle.span_tables.specs.Net.{HeldContract};
 ghost use Rattle.span_tables.specs.declared.records.Intra.{Intra};
 ghost use Rattle.span_tables.specs.declared.records.MonthLeg.{MonthLeg};
 ghost use Rattle.span_tables.specs.declared.records.Spot.{Spot};

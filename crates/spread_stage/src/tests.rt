@@ -10,12 +10,14 @@ use crate::months::{MonthUnits, Months};
 use crate::tiers::{TierState, spread, start};
 use arrayvec::ArrayVec;
 use span_money::amounts::{Delta, Ratio, Scale};
-use span_tables::held::{Held, HeldContract};
+use span_tables::held::Held;
 use span_tables::limits::{MAX_NET, MAX_RATE, MAX_RATIO};
 use span_tables::name::Name;
+use span_tables::portfolios::Holding;
 use span_tables::records::{Contract, Intra, MonthLeg, ProductKind, Side, Spot};
 use std::alloc::Global;
 use std::process::Abort;
+use std::sync::Arc;
 use std::test::Fail;
 
 // A future with delta 1 and scale 1.
@@ -33,27 +35,20 @@ fn future(month: u32) -> Contract
     }
 }
 
-// So many futures of a month.
-fn position(month: u32, net: i64) -> HeldContract
-    requires { nat_abs net ≤ MAX_NET }
-    ensures net { nat_abs result.net ≤ MAX_NET }
-    ensures contract { IsContract result.contract }
-{
-    HeldContract {
-        contract: future(month),
-        net,
-    }
-}
-
 // What holds so many futures of these months.
 fn held(rt: &impl Abort, alloc: Global, positions: &[(u32, i64)]) -> Result<Held, Fail> {
     let mut contracts = Vec::new(alloc);
+    let mut holdings = Vec::new(alloc);
     assert!(rt; positions.len() <= 3);
-    for (month, net) in positions {
+    for (contract, (month, net)) in positions.iter().enumerate() {
         assert!(rt; net.unsigned_abs() <= MAX_NET);
-        contracts.push(position(*month, *net))?;
+        contracts.push(future(*month))?;
+        holdings.push(Holding {
+            contract,
+            net: *net,
+        })?;
     }
-    Ok(Held::new(contracts))
+    Ok(Held::new(Arc::new(alloc, contracts)?, holdings))
 }
 
 fn leg(first: u32, last: u32, side: Side, ratio: u32) -> MonthLeg

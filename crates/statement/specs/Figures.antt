@@ -1,7 +1,7 @@
 -- The seven figures of a commodity, of accepted tables and one portfolio.
 use Rattle.std.specs.Prelude.{ℕ, Bool, not, ◌==◌, if◌then◌else◌, List, [], ◌∷◌, length, map, ℤ, pos}
 use Rattle.span_tables.specs.Tables.{AcceptedTables, intras_of, spots_of, inters_of}
-use Rattle.span_tables.specs.Net.{held_of}
+use Rattle.span_tables.specs.Net.{HeldContract, held_of}
 use Rattle.scan_risk.specs.Scenarios.{scenario_sums, scan_of}
 use Rattle.spread_stage.specs.Deltas.{month_deltas, net_delta}
 use Rattle.spread_stage.specs.Spreads.{after_spreads}
@@ -11,7 +11,6 @@ use Rattle.inter_credit.specs.States.{credit_at}
 use Rattle.inter_credit.specs.Requirement.{minimum_of, requirement_of}
 use Rattle.span_tables.specs.declared.records.Commodity.{Commodity}
 use Rattle.span_tables.specs.declared.portfolios.Holding.{Holding}
-use Rattle.span_tables.specs.declared.held.HeldContract.{HeldContract}
 use Rattle.inter_credit.specs.declared.state.InterLine.{InterLine}
 use Rattle.statement.specs.declared.figures.Figures.{Figures}
 use Rattle.statement.specs.declared.rows.CommodityRow.{CommodityRow}

@@ -94,7 +94,7 @@ fn stages_of(
     let months = month_deltas(alloc, held)?;
     let tiers = after_spreads(alloc, &months, tables.intras(number))?;
     Ok(Stages {
-        is_held: !held.as_slice().is_empty(),
+        is_held: !held.is_empty(),
         scan: scan(&sums(held)),
         net: months.net(),
         intra: intra_charge(&tiers),
@@ -116,9 +116,10 @@ pub fn compute_held(
     ensures value { IfOk result (λ s. s ≡ stages_from tables.now commodity.now held.now) }
     ensures bounds { IfOk result AreBounded }
 {
-    match held.as_slice() {
-        [] => Ok(nothing_held()),
-        _ => stages_of(alloc, tables, number, commodity, held),
+    if held.is_empty() {
+        Ok(nothing_held())
+    } else {
+        stages_of(alloc, tables, number, commodity, held)
     }
 }
 

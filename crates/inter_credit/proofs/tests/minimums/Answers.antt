@@ -3,7 +3,7 @@ use Rattle.std.proofs.lemmas.List.Elements.{All-push}
 use Rattle.span_tables.specs.Accepted.{IsContract}
 use Rattle.span_tables.specs.Holdings.{AreHeld}
 use Rattle.span_tables.specs.declared.limits.TheConstants.{MAX_NET}
-use Rattle.span_tables.specs.declared.held.HeldContract.{HeldContract}
+use Rattle.span_tables.specs.Net.{HeldContract}
 use Rattle.inter_credit.specs.Samples.{IsHeld}
 use Rattle.inter_credit.proofs.tests.minimums.Goals as goal
 

@@ -8,8 +8,8 @@ use Rattle.scan_risk.proofs.scenarios.add_contract.Goals as goal
 pub loop-scenario-preserved : goal.loop-scenario-preserved
 loop-scenario-preserved c =
     let old = c.args.sums.now in
-    let values = c.args.held.now.contract.values in
-    let net : ℤ = c.args.held.now.net in
+    let values = c.args.contract.now.values in
+    let net : ℤ = c.args.net in
     let s = c.loop-scenario.scenario in
     let sum : ℤ = get_or c.loop-scenario.sums s (pos 0) in
     let kept : sum ≡ get_or old s (pos 0) = c.loop-scenario.invariant.left s (omega arith) in
@@ -29,5 +29,5 @@ loop-scenario-preserved c =
 
 pub returns-clause-bound : goal.returns-clause-bound
 returns-clause-bound c =
-    bound_more c.args.sums.now c.loop-scenario.sums c.args.held.now.contract.values c.args.held.now.net c.requires.net c.requires.contract.values (omega (arith, c.loop-scenario.invariant.long))
+    bound_more c.args.sums.now c.loop-scenario.sums c.args.contract.now.values c.args.net c.requires.net c.requires.contract.values (omega (arith, c.loop-scenario.invariant.long))
     (λ k h. c.loop-scenario.invariant.added k (omega arith))

@@ -1,31 +1,33 @@
 use Rattle.std.proofs.Common.{◌≡◌, ◌+◌, ◌*◌, ◌+ℤ◌, ◌*ℤ◌, pos, ap, sym, ◌∙◌, arith, take, ℤ}
 use Rattle.std.proofs.lemmas.List.{ext_get_or, take_all}
 use Rattle.std.proofs.lemmas.List.FromFn.{get_or-map-range_with_len, length-map-range_with_len}
+use Rattle.span_tables.specs.Net.{HeldContract}
+use Rattle.span_tables.proofs.HeldLemmas.{held_here}
 use Rattle.scan_risk.specs.Scenarios.{at_scenario, scenario_sum, scenario_sums}
 use Rattle.scan_risk.proofs.SumLemmas.{sum_more}
 use Rattle.scan_risk.specs.declared.TheConstants.{MAX_TERM}
 use Rattle.scan_risk.proofs.scenarios.sums.Goals as goal
 
-pub loop-contract-preserved : goal.loop-contract-preserved
-loop-contract-preserved c =
-    let held = c.as_slice-contract-items.result.now in
-    let i = c.loop-contract.contract-index in
-    let h = c.contract-item.result in
+pub loop-place-preserved : goal.loop-place-preserved
+loop-place-preserved c =
+    let held = c.args.held.now in
+    let i = c.loop-place.place in
+    let h : HeldContract = record { contract = c.contract.result.now; net = c.net.result } in
+    let at = held_here held i c.contract.result.now c.net.result (omega arith) c.contract.ensures.value c.net.ensures.value in
     record {
       long = c.add_contract.array_long;
       value = λ k lt. c.add_contract.ensures.added k lt
-          ∙ ap (λ (z : ℤ). z +ℤ h.net *ℤ at_scenario h.contract.values (k + 1)) (c.loop-contract.invariant.value k lt)
-          ∙ sym (sum_more held i (k + 1) h (omega arith) c.contract-item.is);
-      bound = λ k d lt. omega (arith, c.add_contract.ensures.bound (i * MAX_TERM) c.loop-contract.invariant.bound k d lt);
+          ∙ ap (λ (z : ℤ). z +ℤ h.net *ℤ at_scenario h.contract.values (k + 1)) (c.loop-place.invariant.value k lt)
+          ∙ sym (sum_more held i (k + 1) h (omega arith) at);
+      bound = λ k d lt. omega (arith, c.add_contract.ensures.bound (i * MAX_TERM) c.loop-place.invariant.bound k d lt);
     }
 
 pub returns-clause-value : goal.returns-clause-value
 unfolding scenario_sums
 returns-clause-value c =
     let held = c.args.held.now in
-    let long = c.loop-contract.invariant.long in
-    let all : take c.loop-contract.contract-index c.as_slice-contract-items.result.now ≡ held =
-    take_all c.loop-contract.contract-index c.as_slice-contract-items.result.now (omega arith) ∙ c.as_slice-contract-items.ensures.value in
-    ext_get_or (pos 0) c.loop-contract.sums (scenario_sums held) (long ∙ sym (length-map-range_with_len (scenario_sum held) 1 16))
-    (λ i lt. c.loop-contract.invariant.value i (omega (arith, long, lt)) ∙ ap (λ xs. scenario_sum xs (i + 1)) all
+    let long = c.loop-place.invariant.long in
+    let all = take_all c.loop-place.place held (omega arith) in
+    ext_get_or (pos 0) c.loop-place.sums (scenario_sums held) (long ∙ sym (length-map-range_with_len (scenario_sum held) 1 16))
+    (λ i lt. c.loop-place.invariant.value i (omega (arith, long, lt)) ∙ ap (λ xs. scenario_sum xs (i + 1)) all
     ∙ sym (get_or-map-range_with_len (scenario_sum held) 1 16 i (i + 1) (pos 0) (omega (arith, long, lt)) (omega arith)))

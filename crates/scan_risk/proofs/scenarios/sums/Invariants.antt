@@ -3,9 +3,9 @@ use Rattle.scan_risk.specs.Scenarios.{scenario_sum}
 use Rattle.scan_risk.specs.declared.TheConstants.{MAX_TERM}
 use Rattle.scan_risk.proofs.scenarios.sums.Given as goal
 
-abbrev pub invariant-loop-contract : goal.invariant-loop-contract
-invariant-loop-contract l = record {
+abbrev pub invariant-loop-place : goal.invariant-loop-place
+invariant-loop-place l = record {
   long : length l.sums ≡ 16;
-  value : (k : ℕ) → k < 16 → get_or l.sums k (pos 0) ≡ scenario_sum (take l.contract-index l.contract-items) (k + 1);
-  bound : All (λ s. nat_abs s ≤ l.contract-index * MAX_TERM) l.sums;
+  value : (k : ℕ) → k < 16 → get_or l.sums k (pos 0) ≡ scenario_sum (take l.place l.held) (k + 1);
+  bound : All (λ s. nat_abs s ≤ l.place * MAX_TERM) l.sums;
 }

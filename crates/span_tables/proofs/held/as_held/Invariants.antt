@@ -1,5 +1,6 @@
 use Rattle.std.proofs.Common.{◌≡◌, map}
+use Rattle.span_tables.specs.steps.Gathered.{held_contracts}
 use Rattle.span_tables.proofs.held.as_held.Given as goal
 
-abbrev pub invariant-loop-list : goal.invariant-loop-list
-invariant-loop-list l = l.held.items ≡ map (λ v. v.items) l.yielded
+abbrev pub invariant-loop-holdings : goal.invariant-loop-holdings
+invariant-loop-holdings l = l.held.items ≡ map (λ v. held_contracts l.tables.contracts v.items) l.yielded

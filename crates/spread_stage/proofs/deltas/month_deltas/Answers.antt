@@ -1,6 +1,7 @@
 use Rattle.std.proofs.Common.{◌≡◌, ◌≤◌, ◌<◌, ◌+◌, ◌-◌, ◌*◌, nat_abs, sym, ap, ◌∙◌, subst, arith, length, drop, suc, get_or, drop-cons, ◌∷◌, lit<}
 use Rattle.spread_stage.proofs.ProductLemmas.{same_128}
-use Rattle.spread_stage.proofs.PlaceLemmas.{get_same}
+use Rattle.span_tables.specs.Net.{HeldContract}
+use Rattle.span_tables.proofs.HeldLemmas.{held_here}
 use Rattle.spread_stage.specs.Months.{total_size, MonthsRise}
 use Rattle.spread_stage.specs.Deltas.{month_deltas, units_of}
 use Rattle.spread_stage.specs.Steps.{with_units}
@@ -10,15 +11,15 @@ use Rattle.spread_stage.proofs.deltas.month_deltas.Goals as goal
 
 pub loop-i-preserved : goal.loop-i-preserved
 loop-i-preserved c =
-    let held = c.as_slice-held.result.now in
+    let held = c.args.held.now in
     let i = c.loop-i.i in
     let k = i - 1 in
-    let h = get_or held k c.index-held-i.result in
+    let h : HeldContract = record { contract = c.contract-contract.result.now; net = c.net.result } in
     let above : 0 < i = omega arith in
     let next : suc k ≡ i = omega (arith, above) in
-    let lt : k < length held = omega (arith, above, c.loop-i.auto.i) in
-    let split : drop k held ≡ h ∷ drop i held = drop-cons held k c.index-held-i.result lt ∙ ap (λ n. h ∷ drop n held) next in
-    let units : c.units_of.result ≡ units_of h = c.units_of.ensures.value ∙ ap units_of (c.index-held-i-in-loop-i.is ∙ get_same held k c.index-held-i-in-loop-i.result c.index-held-i.result lt) in
+    let lt : k < length held = omega (arith, above, c.len.ensures.value, c.loop-i.auto.i) in
+    let at = held_here held k h.contract h.net lt c.contract-contract.ensures.value c.net.ensures.value in
+    let split : drop k held ≡ h ∷ drop i held = drop-cons held k h lt ∙ ap (λ (x : HeldContract). x ∷ drop (suc k) held) (sym at) ∙ ap (λ n. h ∷ drop n held) next in
     let bound : nat_abs c.units_of.result ≤ 100000000000000 = c.units_of.ensures.bound in
     let kept = same_128 c.units_of.result 100000000000000 bound (lit< tt) in
     let added : c.add.new.months.items ≡ with_units (h.contract).month c.units_of.result c.loop-i.months.items =
@@ -27,7 +28,7 @@ loop-i-preserved c =
     let same : total_size c.add.new.months.items ≡ total_size (with_units (h.contract).month c.units_of.result c.loop-i.months.items) = ap total_size added in
     let before : total_size c.loop-i.months.items + i * 100000000000000 ≤ length held * 100000000000000 = c.loop-i.invariant.small in
     record {
-      value = added ∙ ap (λ u. with_units (h.contract).month u c.loop-i.months.items) units
+      value = added ∙ ap (λ u. with_units (h.contract).month u c.loop-i.months.items) c.units_of.ensures.value
           ∙ ap (with_units (h.contract).month (units_of h)) c.loop-i.invariant.value
           ∙ month_deltas-cons h (drop i held) ∙ ap month_deltas (sym split);
       small = omega (arith, larger, same, bound, before, above);
@@ -35,8 +36,6 @@ loop-i-preserved c =
 
 pub new-requires : goal.new-requires
 new-requires c = record {
-  rise = subst MonthsRise (sym c.loop-i.invariant.value) (month_deltas_rise (drop c.loop-i.i c.as_slice-held.result.now));
-  small =
-      let few : length c.args.held.now ≤ 256 = c.as_slice-held.ensures.kept.few in
-      let same : length c.as_slice-held.result.now ≡ length c.args.held.now = ap length c.as_slice-held.ensures.value in omega (arith, few, same, c.loop-i.invariant.small);
+  rise = subst MonthsRise (sym c.loop-i.invariant.value) (month_deltas_rise (drop c.loop-i.i c.args.held.now));
+  small = let few : length c.args.held.now ≤ 256 = c.len.ensures.kept.few in omega (arith, few, c.loop-i.invariant.small);
 }

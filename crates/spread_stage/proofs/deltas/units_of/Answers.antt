@@ -24,24 +24,24 @@ module _ (a b s : ℤ) (x : nat_abs a ≤ 100000) (y : nat_abs b ≤ 10000) (z :
   whole = rw (first, same_128 s 100000 z (lit< tt)) (same_128 (a *ℤ b *ℤ s) 100000000000000 size (lit< tt))
 
 module _ (c : goal.After-from-scale) where
-  net : c.from-net.result ≡ c.args.held.now.net
-  net = c.from-net.ensures ∙ same_64 c.args.held.now.net c.requires.net
+  net : c.from-net.result ≡ c.args.net
+  net = c.from-net.ensures ∙ same_64 c.args.net c.requires.net
 
-  delta : c.from-delta.result ≡ (c.args.held.now.contract).delta
-  delta = c.from-delta.ensures ∙ ap (λ z. to_z w32 (of_z w32 z)) c.get.ensures ∙ same_32 (c.args.held.now.contract).delta c.requires.contract.delta
+  delta : c.from-delta.result ≡ (c.args.contract.now).delta
+  delta = c.from-delta.ensures ∙ ap (λ z. to_z w32 (of_z w32 z)) c.get.ensures ∙ same_32 (c.args.contract.now).delta c.requires.contract.delta
 
-  scale : c.from-scale.result ≡ pos (c.args.held.now.contract).scale
+  scale : c.from-scale.result ≡ pos (c.args.contract.now).scale
   scale = c.from-scale.ensures ∙ ap pos c.get-2.ensures
 
 pub overflow_mul-result-2 : goal.overflow_mul-result-2
 overflow_mul-result-2 c =
-    rw (net c, delta c, scale c) (fits c.args.held.now.net (c.args.held.now.contract).delta (pos (c.args.held.now.contract).scale) c.requires.net c.requires.contract.delta c.requires.contract.scale)
+    rw (net c, delta c, scale c) (fits c.args.net (c.args.contract.now).delta (pos (c.args.contract.now).scale) c.requires.net c.requires.contract.delta c.requires.contract.scale)
 
 pub returns-clause-value : goal.returns-clause-value
 returns-clause-value c =
-    rw (net c, delta c, scale c) (whole c.args.held.now.net (c.args.held.now.contract).delta (pos (c.args.held.now.contract).scale) c.requires.net c.requires.contract.delta c.requires.contract.scale)
+    rw (net c, delta c, scale c) (whole c.args.net (c.args.contract.now).delta (pos (c.args.contract.now).scale) c.requires.net c.requires.contract.delta c.requires.contract.scale)
 
 pub returns-clause-bound : goal.returns-clause-bound
 returns-clause-bound c =
-    rw (net c, delta c, scale c, whole c.args.held.now.net (c.args.held.now.contract).delta (pos (c.args.held.now.contract).scale) c.requires.net c.requires.contract.delta c.requires.contract.scale)
-    (size c.args.held.now.net (c.args.held.now.contract).delta (pos (c.args.held.now.contract).scale) c.requires.net c.requires.contract.delta c.requires.contract.scale)
+    rw (net c, delta c, scale c, whole c.args.net (c.args.contract.now).delta (pos (c.args.contract.now).scale) c.requires.net c.requires.contract.delta c.requires.contract.scale)
+    (size c.args.net (c.args.contract.now).delta (pos (c.args.contract.now).scale) c.requires.net c.requires.contract.delta c.requires.contract.scale)

@@ -2,7 +2,7 @@ use Rattle.std.proofs.Common.{◌≡◌, ◌≤◌, ◌++◌, ◌∷◌, [], len
 use Rattle.std.specs.Prelude.{All}
 use Rattle.std.proofs.lemmas.List.Elements.{All-push}
 use Rattle.span_tables.specs.Accepted.{IsContract}
-use Rattle.span_tables.specs.declared.held.HeldContract.{HeldContract}
+use Rattle.span_tables.specs.Net.{HeldContract}
 use Rattle.span_tables.specs.declared.limits.TheConstants.{MAX_NET}
 use Rattle.spread_stage.proofs.tests.held.Goals as goal
 
