@@ -22,7 +22,7 @@ memory_line = codes "memory\n"
 
 -- a fault of a record of a file: what file, the fault's number and name, and the record's number
 abbrev pub record_line : List ℕ → List ℕ → ℕ → List ℕ
-record_line file code at = file ++ codes ": " ++ code ++ codes " at record " ++ decimal at ++ codes "\n"
+record_line file code at = file ++ (codes ": " ++ (code ++ (codes " at record " ++ (decimal at ++ codes "\n"))))
 
 -- the line of positions that do not fit the tables, up to the account
 abbrev pub place_text : List ℕ → ℕ → List ℕ
