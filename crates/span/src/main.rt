@@ -2,9 +2,9 @@
 #![tactic(auto)]
 
 use span_cli::disk::Disk;
-use span_cli::words::run_words;
+use span_cli::words::{refuse_words, run_words};
+use span_told::Told;
 use std::alloc::Global;
-use std::io::Write;
 use std::process::ExitCode;
 use std::{env, io};
 
@@ -15,13 +15,14 @@ fn words_of(rt: &HostRuntime, alloc: Global) -> io::Result<Vec<String>> {
 
 fn main(rt: HostRuntime) -> ExitCode {
     let alloc = rt.alloc();
-    let mut out = rt.stdout();
-    let mut err = rt.stderr();
-    let Ok(words) = words_of(&rt, alloc) else {
-        let _ = err.write_all(b"memory\n");
-        return ExitCode::from(5);
+    let mut out = Told::new(rt.stdout());
+    let mut err = Told::new(rt.stderr());
+    let status = match words_of(&rt, alloc) {
+        Ok(words) => {
+            let mut disk = Disk::new(&rt);
+            run_words(alloc, words.as_slice(), &mut disk, &mut out, &mut err)
+        }
+        Err(error) => refuse_words(&error, &mut err),
     };
-    let mut disk = Disk::new(&rt);
-    let status = run_words(alloc, words.as_slice(), &mut disk, &mut out, &mut err);
     ExitCode::from(status)
 }

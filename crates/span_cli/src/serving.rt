@@ -1,17 +1,19 @@
 //! Requests, and the bytes that answer them.
-ghost use Rattle.span_cli.specs.Serving.{Answers, Loads, OfAnswer, Responds, Runs, answer_of, asked_by, check_answer, file_line, margin_answer, refusal_line, refusal_status};
-ghost use Rattle.span_cli.specs.declared.serving.Unwritten.TheVariants as unwritten;
+ghost use Rattle.span_cli.specs.Serving.{OfAnswer, answer_of, asked_by, check_answer, done, margin_answer};
+ghost use Rattle.span_cli.specs.Telling.{Serves, Tells};
+ghost use Rattle.span_cli.specs.steps.Refusals.{Loads, Runs, refusal_line, refusal_status};
+ghost use Rattle.span_told.specs.Streams.{Says};
 ghost use Rattle.statement.specs.Counts.{counts_of};
 ghost use Rattle.statement.specs.Statement.{statement_of};
-ghost use Rattle.std.specs.Io.KnownBytes.{Appends};
-ghost use Rattle.std.specs.Prelude.{◌≡◌, IfErr, IfOk, IfSome, List, OnOk, ℕ};
+ghost use Rattle.std.specs.Prelude.{◌≡◌, IfSome, List, false, ℕ};
 
 use crate::sources::{ReadFault, Sources};
+use span_told::Told;
 use statement::counts::check_plain;
-use statement::faults::{SpanFault, status, write_fault};
+use statement::faults::{SpanFault, status, tell_fault};
 use statement::margin::margin_plain;
+use statement::statuses::{DONE, FILE_FAILED};
 use std::alloc::Global;
-use std::io;
 use std::io::Write;
 
 /// What the program is asked for, with the names of its files.
@@ -23,12 +25,12 @@ pub enum Request<'a> {
     Margin { params: &'a str, positions: &'a str },
 }
 
-/// Why a request is refused.
+// Why a request is refused.
 #[derive(Debug, Drop)]
-pub enum Refusal<'a> {
-    /// A file that cannot be read, or is too long.
+enum Refusal<'a> {
+    // A file that cannot be read, or is too long.
     File(&'a str),
-    /// A fault of the files, or want of memory.
+    // A fault of the files, or want of memory.
     Fault(SpanFault),
 }
 
@@ -52,10 +54,7 @@ fn load<'a, S: Sources>(
 fn counts<'a>(alloc: Global, params: Vec<u8>) -> Result<Vec<u8>, Refusal<'a>>
     ensures { Runs (λ text. text.items) (answer_of (counts_of params.items)) result }
 {
-    match check_plain(alloc, params.as_slice()) {
-        Ok(text) => Ok(text),
-        Err(fault) => Err(Refusal::Fault(fault)),
-    }
+    check_plain(alloc, params.as_slice()).map_err(Refusal::Fault)
 }
 
 // The counts of a file.
@@ -74,10 +73,7 @@ fn check<'a, S: Sources>(
 fn statement<'a>(alloc: Global, params: Vec<u8>, positions: Vec<u8>) -> Result<Vec<u8>, Refusal<'a>>
     ensures { Runs (λ text. text.items) (answer_of (statement_of params.items positions.items)) result }
 {
-    match margin_plain(alloc, params.as_slice(), positions.as_slice()) {
-        Ok(text) => Ok(text),
-        Err(fault) => Err(Refusal::Fault(fault)),
-    }
+    margin_plain(alloc, params.as_slice(), positions.as_slice()).map_err(Refusal::Fault)
 }
 
 // The statement of two files, which are read in their order.
@@ -109,92 +105,67 @@ fn run<'a, S: Sources>(
     }
 }
 
-// The line of a refusal.
-fn write_refusal<E: Write>(refusal: &Refusal<'_>, err: &mut E) -> io::Result<()>
-    ensures { OnOk result (Appends (E.contents err.old) (E.contents err.new) (refusal_line refusal.now)) }
-{
-    match refusal {
-        Refusal::File(name) => writeln!(err, "file: {name}"),
-        Refusal::Fault(fault) => write_fault(fault, err),
-    }
-}
-
 // The status of a refusal.
 fn refusal_status(refusal: &Refusal<'_>) -> u8
     ensures { result ≡ refusal_status refusal.now }
 {
     match refusal {
-        Refusal::File(_) => 6,
+        Refusal::File(_) => FILE_FAILED,
         Refusal::Fault(fault) => status(fault),
     }
 }
 
-/// A write that failed; a part may have gone out.
-#[derive(Clone, Copy, Debug, PartialEq, Eq)]
-pub enum Unwritten {
-    /// The output of a request that was done.
-    Output,
-    /// The line of a refusal, which has this status.
-    Line(u8),
-}
-
-// Writes what a request gave.
-fn give<W: Write>(text: Vec<u8>, out: &mut W) -> Result<u8, Unwritten>
-    ensures written { IfOk result (λ status. (status ≡ 0) × Appends (W.contents out.old) (W.contents out.new) text.items) }
-    ensures failed { IfErr result (λ e. e ≡ unwritten.Output) }
+// Writes the line of a refusal.
+fn tell_refusal<E: Write>(refusal: &Refusal<'_>, err: &mut Told<E>)
+    ensures { Says err.old err.new (refusal_line refusal.now) }
 {
-    match out.write_all(text.as_slice()) {
-        Ok(()) => Ok(0),
-        Err(_) => Err(Unwritten::Output),
+    match refusal {
+        Refusal::File(name) => {
+            let _ = writeln!(err, "file: {name}");
+        }
+        Refusal::Fault(fault) => tell_fault(fault, err),
     }
 }
 
 // Writes the line of a refusal and gives its status.
-fn refuse<E: Write>(refusal: Refusal<'_>, err: &mut E) -> Result<u8, Unwritten>
-    ensures written { IfOk result (λ status. (status ≡ refusal_status refusal.entry) × Appends (E.contents err.old) (E.contents err.new) (refusal_line refusal.entry)) }
-    ensures failed { IfErr result (λ e. e ≡ unwritten.Line (refusal_status refusal.entry)) }
+fn refuse<E: Write>(refusal: Refusal<'_>, err: &mut Told<E>) -> u8
+    ensures status { result ≡ refusal_status refusal.entry }
+    ensures line { Says err.old err.new (refusal_line refusal.entry) }
 {
-    match write_refusal(&refusal, err) {
-        Ok(()) => Ok(refusal_status(&refusal)),
-        Err(_) => Err(Unwritten::Line(refusal_status(&refusal))),
+    tell_refusal(&refusal, err);
+    refusal_status(&refusal)
+}
+
+// Writes what a request gave, or says that it cannot be written.
+fn give<W: Write, E: Write>(text: Vec<u8>, out: &mut Told<W>, err: &mut Told<E>) -> u8
+    requires { out.old.failed ≡ false }
+    ensures { Tells (done text.items) result out.old out.new err.old err.new }
+{
+    match out.write_all(text.as_slice()) {
+        Ok(()) => DONE,
+        Err(_) => {
+            let _ = writeln!(err, "file: output");
+            FILE_FAILED
+        }
     }
 }
 
-/// Answers a request and gives the status, or says which write failed.
-pub fn respond<S: Sources, W: Write, E: Write>(
-    alloc: Global,
-    request: Request<'_>,
-    sources: &mut S,
-    out: &mut W,
-    err: &mut E,
-) -> Result<u8, Unwritten>
-    ensures { OfAnswer (S.file sources.old) (asked_by request.entry) (λ answer.
-        Responds answer result (W.contents out.old) (W.contents out.new) (E.contents err.old) (E.contents err.new)) }
-{
-    match run(alloc, request, sources) {
-        Ok(text) => give(text, out),
-        Err(refusal) => refuse(refusal, err),
-    }
-}
-
-/// Answers a request and gives the status: that of the answer, or 6 with the line `file: output` where the output cannot
-/// be written.
+/// Answers a request and gives the status. Where no write fails, just the bytes of the answer go to each stream and the
+/// status is the answer's; where a write of the output fails, the status is that of a file that failed and the line on
+/// `err` is `file: output`; where a write of the line fails, the status stands. To `out` no write may have failed before.
 pub fn serve<S: Sources, W: Write, E: Write>(
     alloc: Global,
     request: Request<'_>,
     sources: &mut S,
-    out: &mut W,
-    err: &mut E,
+    out: &mut Told<W>,
+    err: &mut Told<E>,
 ) -> u8
+    requires { out.old.failed ≡ false }
     ensures { OfAnswer (S.file sources.old) (asked_by request.entry) (λ answer.
-        Answers answer result (W.contents out.old) (W.contents out.new) (E.contents err.old) (E.contents err.new)) }
+        Serves answer result out.old out.new err.old err.new) }
 {
-    match respond(alloc, request, sources, out, err) {
-        Ok(status) => status,
-        Err(Unwritten::Line(status)) => status,
-        Err(Unwritten::Output) => {
-            let _ = err.write_all(b"file: output\n");
-            6
-        }
+    match run(alloc, request, sources) {
+        Ok(text) => give(text, out, err),
+        Err(refusal) => refuse(refusal, err),
     }
 }

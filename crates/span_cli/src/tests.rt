@@ -1,25 +1,20 @@
 //! Command lines: statuses, what goes to the output and what to the error stream.
+use crate::builders::{Breaking, Given, ONE_FUTURE, run_on};
 use crate::memory::InMemory;
 use crate::sources::{ReadFault, Sources};
-use crate::words::run_words;
+use crate::words::{refuse_words, run_words};
+use span_told::Told;
 use std::alloc::Global;
 use std::io;
 use std::io::{ErrorKind, Write};
 use std::test::Fail;
-
-// A set with one future, and an account that is long one of it.
-const PARAMS: &[u8] = b"\
-SET,D1,1,USD
-COMMODITY,AA,0,SUM
-CONTRACT,FA,AA,F,202503,1,1,0,0,-400,-400,400,400,-800,-800,800,800,-1200,-1200,1200,1200,-1188,1188
-";
 
 const POSITIONS: &[u8] = b"X,FA,1\n";
 
 const STATEMENT: &[u8] = b"R,X,D1,AA,1200,13,0,0,0,0,1200\nT,X,D1,1200\n";
 
 const FILES: [(&str, &[u8]); 7] = [
-    ("params.csv", PARAMS),
+    ("params.csv", ONE_FUTURE),
     ("positions.csv", POSITIONS),
     ("no-set.csv", b"COMMODITY,AA,0,SUM\n"),
     (
@@ -30,27 +25,6 @@ const FILES: [(&str, &[u8]); 7] = [
     ("unknown.csv", b"X,FA,1\nY,FZ,1\n"),
     ("empty.csv", b""),
 ];
-
-/// A status, and what was written.
-#[derive(Drop)]
-pub struct Given {
-    pub status: u8,
-    pub out: Vec<u8>,
-    pub err: Vec<u8>,
-}
-
-impl Given {
-    pub fn is(&self, status: u8, out: &[u8], err: &[u8]) -> bool {
-        self.status == status && self.out.as_slice() == out && self.err.as_slice() == err
-    }
-}
-
-fn run_on<S: Sources>(alloc: Global, words: &[&str], sources: &mut S) -> Given {
-    let mut out = Vec::new(alloc);
-    let mut err = Vec::new(alloc);
-    let status = run_words(alloc, words, sources, &mut out, &mut err);
-    Given { status, out, err }
-}
 
 // Answers a command line over `FILES`.
 fn run(alloc: Global, words: &[&str]) -> Given {
@@ -164,31 +138,14 @@ fn refuses_what_cannot_be_read(rt: HostRuntime) -> Result<(), Fail> {
     Ok(())
 }
 
-// Takes a few bytes and then fails.
-#[derive(Drop)]
-struct Breaking {
-    room: usize,
-}
-
-impl Write for Breaking {
-    fn write(&mut self, buf: &[u8]) -> io::Result<usize> {
-        if self.room == 0 {
-            return Err(io::Error::from(ErrorKind::BrokenPipe));
-        }
-        let taken = self.room.min(buf.len());
-        self.room -= taken;
-        Ok(taken)
-    }
-
-    fn flush(&mut self) -> io::Result<()> {
-        Ok(())
-    }
-}
-
-fn run_into<W: Write, E: Write>(alloc: Global, words: &[&str], out: &mut W, err: &mut E) -> u8 {
+// The status of a command line over `FILES`, and what a writer of the output and one of the lines hold in the end.
+fn run_into<W: Write, E: Write>(alloc: Global, words: &[&str], out: W, err: E) -> (u8, W, E) {
     let files = FILES;
     let mut sources = InMemory { files: &files };
-    run_words(alloc, words, &mut sources, out, err)
+    let mut out = Told::new(out);
+    let mut err = Told::new(err);
+    let status = run_words(alloc, words, &mut sources, &mut out, &mut err);
+    (status, out.into_inner(), err.into_inner())
 }
 
 #[test]
@@ -201,8 +158,8 @@ fn says_that_the_output_failed(rt: HostRuntime) -> Result<(), Fail> {
     ];
     for words in lines {
         for room in [0usize, 3] {
-            let mut err = Vec::new(alloc);
-            assert_eq!(rt; run_into(alloc, words, &mut Breaking { room }, &mut err), 6);
+            let (status, _, err) = run_into(alloc, words, Breaking { room }, Vec::new(alloc));
+            assert_eq!(rt; status, 6);
             assert!(rt; err.as_slice() == b"file: output\n".as_slice());
         }
     }
@@ -220,11 +177,8 @@ fn keeps_its_status_where_the_error_stream_fails(rt: HostRuntime) -> Result<(), 
         (&["span", "margin", "params.csv", "positions.csv"], 0),
     ];
     for (words, status) in lines {
-        let mut out = Vec::new(alloc);
-        assert_eq!(rt;
-            run_into(alloc, words, &mut out, &mut Breaking { room: 3 }),
-            status
-        );
+        let (given, out, _) = run_into(alloc, words, Vec::new(alloc), Breaking { room: 3 });
+        assert_eq!(rt; given, status);
         assert_eq!(rt; out.is_empty(), status != 0);
     }
     Ok(())
@@ -233,12 +187,7 @@ fn keeps_its_status_where_the_error_stream_fails(rt: HostRuntime) -> Result<(), 
 #[test]
 fn keeps_its_status_where_both_streams_fail(rt: HostRuntime) -> Result<(), Fail> {
     let words = ["span", "margin", "params.csv", "positions.csv"];
-    let status = run_into(
-        rt.alloc(),
-        &words,
-        &mut Breaking { room: 5 },
-        &mut Breaking { room: 0 },
-    );
+    let (status, _, _) = run_into(rt.alloc(), &words, Breaking { room: 5 }, Breaking { room: 0 });
     assert_eq!(rt; status, 6);
     Ok(())
 }
@@ -254,7 +203,8 @@ Commands:
   help    Print this message or the help of the given subcommand(s)
 
 Options:
-  -h, --help  Print help
+  -h, --help     Print help
+  -V, --version  Print version
 
 docs/FORMATS.md describes the files, what is printed, faults and statuses.
 docs/METHOD.md describes the method and the units.
@@ -310,6 +260,34 @@ fn helps(rt: HostRuntime) -> Result<(), Fail> {
     ];
     for (words, text) in cases {
         assert!(rt; run(alloc, words).is(0, text, b""));
+    }
+    Ok(())
+}
+
+#[test]
+fn names_its_version(rt: HostRuntime) -> Result<(), Fail> {
+    let alloc = rt.alloc();
+    for word in ["--version", "-V"] {
+        assert!(rt; run(alloc, &["span", word]).is(0, b"span 1.0.0 (profile 1)\n", b""));
+    }
+    Ok(())
+}
+
+// A word that is no text is a mistake of usage; another fault in reading the words is want of memory.
+#[test]
+fn refuses_words_that_cannot_be_read(rt: HostRuntime) -> Result<(), Fail> {
+    let cases: [(ErrorKind, u8, &[u8]); 2] = [
+        (
+            ErrorKind::InvalidData,
+            2,
+            b"error: a word of the command line is not UTF-8\n",
+        ),
+        (ErrorKind::OutOfMemory, 5, b"memory\n"),
+    ];
+    for (kind, status, line) in cases {
+        let mut err = Told::new(Vec::new(rt.alloc()));
+        assert_eq!(rt; refuse_words(&io::Error::from(kind), &mut err), status);
+        assert!(rt; err.into_inner().as_slice() == line);
     }
     Ok(())
 }

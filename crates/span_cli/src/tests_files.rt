@@ -1,16 +1,8 @@
 //! Whole files: what is printed for them.
-use crate::memory::InMemory;
-use crate::serving::{Request, serve};
-use crate::tests::Given;
+use crate::builders::{Given, ONE_FUTURE, answer};
+use crate::serving::Request;
 use std::alloc::Global;
 use std::test::Fail;
-
-// One commodity with one future.
-const ONE_FUTURE: &[u8] = b"\
-SET,D1,1,USD
-COMMODITY,AA,0,SUM
-CONTRACT,FA,AA,F,202503,1,1,0,0,-400,-400,400,400,-800,-800,800,800,-1200,-1200,1200,1200,-1188,1188
-";
 
 // The second commodity stands behind a contract that names it.
 const FILE_ORDER: &[u8] = b"\
@@ -100,25 +92,17 @@ CONTRACT,FA,AA,F,202503,1,1,0,0,-400,-400,400,400,-800,-800,800,800,-1200,-1200,
 TIER,AA,4,202502,202501
 ";
 
-fn answer(alloc: Global, request: Request<'_>, params: &[u8], positions: &[u8]) -> Given {
-    let files = [("params", params), ("positions", positions)];
-    let mut sources = InMemory { files: &files };
-    let mut out = Vec::new(alloc);
-    let mut err = Vec::new(alloc);
-    let status = serve(alloc, request, &mut sources, &mut out, &mut err);
-    Given { status, out, err }
-}
-
 fn margin(alloc: Global, params: &[u8], positions: &[u8]) -> Given {
     let request = Request::Margin {
         params: "params",
         positions: "positions",
     };
-    answer(alloc, request, params, positions)
+    let files = [("params", params), ("positions", positions)];
+    answer(alloc, request, &files)
 }
 
 fn check(alloc: Global, params: &[u8]) -> Given {
-    answer(alloc, Request::Check { params: "params" }, params, b"")
+    answer(alloc, Request::Check { params: "params" }, &[("params", params)])
 }
 
 #[test]

@@ -1,17 +1,28 @@
 //! The words of a command line.
-ghost use Rattle.clap.specs.Words.{HasKind, app_of, first_of, found_of, kind_of, rows_of, rule_of, subcommand_of, subcommand_rows_of};
+ghost use Rattle.clap.specs.Words.{FailsBy, app_of, first_of, found_of, kind_of, rows_of, rule_of, subcommand_of, subcommand_rows_of};
 ghost use Rattle.clap.specs.declared.builder.command.Command.TheViews.{out-Command as fields_of};
-ghost use Rattle.span_cli.specs.Serving.{Answers, OfAnswer, asked_by};
+ghost use Rattle.span_cli.specs.Serving.{OfAnswer, asked_by, memory};
+ghost use Rattle.span_cli.specs.Telling.{IsMistake, IsShown, Refuses, RefusesBy, Serves, Tells, no_text_line};
 ghost use Rattle.span_cli.specs.Words.{asked_in, asked_under, check_app, check_in, file_rule, is_taken, kinds_of, margin_app, margin_in, span_app};
-ghost use Rattle.std.specs.Prelude.{◌⊎◌, ◌≡◌, IfErr, IfOk, IfSome, false, map, option_map, true};
+ghost use Rattle.span_told.specs.Streams.{Says};
+ghost use Rattle.statement.specs.FaultLines.{memory_line};
+ghost use Rattle.std.specs.IoError.{error_kind};
+ghost use Rattle.std_io.specs.declared.io.kind.ErrorKind.TheVariants as kind;
+ghost use Rattle.std.specs.Prelude.{◌≡◌, ◌≢◌, IfErr, IfOk, IfSome, [], false, map, option_map, true};
 
 use crate::serving::{Request, serve};
 use crate::sources::Sources;
 use clap::error::ErrorKind;
 use clap::{Arg, ArgMatches, Command, Error};
+use span_told::Told;
+use statement::statuses::{DONE, FILE_FAILED, OUT_OF_MEMORY, USAGE};
 use std::alloc::{AllocError, Global};
 use std::convert::AsStr;
+use std::io;
 use std::io::Write;
+
+/// The program's version, and that of the profile of the method that it follows (docs/METHOD.md).
+const VERSION: &str = "1.0.0 (profile 1)";
 
 const PARAMS_HELP: &str =
     "Parameter file (CSV): a set with its commodities, contracts, tiers and spreads";
@@ -76,6 +87,7 @@ fn span<'a>(alloc: Global) -> Result<Command<'a>, AllocError>
     let command = Command::new(alloc, "span")
         .about("Margins futures and options accounts by the SPAN method")
         .after_help(SPAN_MORE)
+        .version(VERSION)
         .subcommand_required(true);
     let command = command.subcommand(check)?;
     let command = command.subcommand(margin)?;
@@ -91,19 +103,16 @@ fn text<'a>(matches: &ArgMatches<'a>, id: &str) -> Option<&'a str>
 fn check_request<'a>(matches: &ArgMatches<'a>) -> Option<Request<'a>>
     ensures { option_map asked_by result ≡ check_in (rows_of (found_of matches.now)) }
 {
-    match text(matches, "PARAMS") {
-        Some(params) => Some(Request::Check { params }),
-        None => None,
-    }
+    let params = text(matches, "PARAMS")?;
+    Some(Request::Check { params })
 }
 
 fn margin_request<'a>(matches: &ArgMatches<'a>) -> Option<Request<'a>>
     ensures { option_map asked_by result ≡ margin_in (rows_of (found_of matches.now)) }
 {
-    match (text(matches, "PARAMS"), text(matches, "POSITIONS")) {
-        (Some(params), Some(positions)) => Some(Request::Margin { params, positions }),
-        _ => None,
-    }
+    let params = text(matches, "PARAMS")?;
+    let positions = text(matches, "POSITIONS")?;
+    Some(Request::Margin { params, positions })
 }
 
 // What a command of this name asks for.
@@ -123,7 +132,7 @@ fn request_under<'a>(name: &str, matches: &ArgMatches<'a>) -> Option<Request<'a>
 fn parse<'a, S: AsStr>(alloc: Global, words: &'a [S]) -> Result<ArgMatches<'a>, Error>
     ensures ok { IfOk result (λ m. subcommand_rows_of m ≡ subcommand_of span_app (map S.text words.entry.now)) }
     ensures err { IfErr result (λ e. is_taken (map S.text words.entry.now) ≡ true → kind_of e ≡ ErrorKind.OutOfMemory) }
-    ensures kinds { IfErr result (HasKind (kinds_of (map S.text words.entry.now))) }
+    ensures kinds { FailsBy (kinds_of (map S.text words.entry.now)) result }
 {
     let command = span(alloc)?;
     command.try_get_matches_from(words)
@@ -133,7 +142,7 @@ fn parse<'a, S: AsStr>(alloc: Global, words: &'a [S]) -> Result<ArgMatches<'a>, 
 pub fn request<'a, S: AsStr>(alloc: Global, words: &'a [S]) -> Result<Option<Request<'a>>, Error>
     ensures ok { IfOk result (λ found. option_map asked_by found ≡ asked_in (map S.text words.entry.now)) }
     ensures err { IfErr result (λ e. is_taken (map S.text words.entry.now) ≡ true → kind_of e ≡ ErrorKind.OutOfMemory) }
-    ensures kinds { IfErr result (HasKind (kinds_of (map S.text words.entry.now))) }
+    ensures kinds { FailsBy (kinds_of (map S.text words.entry.now)) result }
 {
     let matches = parse(alloc, words)?;
     match matches.subcommand() {
@@ -142,60 +151,83 @@ pub fn request<'a, S: AsStr>(alloc: Global, words: &'a [S]) -> Result<Option<Req
     }
 }
 
-// Writes what is asked for by a request for help, and gives the status.
-fn help<W: Write, E: Write>(error: &Error, out: &mut W, err: &mut E) -> u8
-    ensures { (result ≡ 0) ⊎ (result ≡ 6) }
+// Shows help or the version, and gives the status.
+fn show<W: Write, E: Write>(error: &Error, out: &mut Told<W>, err: &mut Told<E>) -> u8
+    requires { out.old.failed ≡ false }
+    ensures { IsShown result out.new err.old err.new }
 {
     match write!(out, "{error}") {
-        Ok(()) => 0,
+        Ok(()) => DONE,
         Err(_) => {
-            let _ = err.write_all(b"file: output\n");
-            6
+            let _ = writeln!(err, "file: output");
+            FILE_FAILED
         }
     }
 }
 
-// Answers words that are no request: a request for help goes to the output, and a mistake to the error stream.
-fn refuse<W: Write, E: Write>(error: Error, out: &mut W, err: &mut E) -> u8
-    ensures { (result ≡ 2) ⊎ ((result ≡ 0) ⊎ (result ≡ 6)) }
+// Says what is wrong with the words, and gives the status.
+fn say_mistake<E: Write>(error: &Error, err: &mut Told<E>) -> u8
+    ensures { result ≡ USAGE }
 {
-    if error.use_stderr() {
-        let _ = write!(err, "{error}");
-        2
-    } else {
-        help(&error, out, err)
+    let _ = write!(err, "{error}");
+    USAGE
+}
+
+// Says that memory was refused in reading the words, and gives the status.
+fn give_up<E: Write>(err: &mut Told<E>) -> u8
+    ensures status { result ≡ OUT_OF_MEMORY }
+    ensures line { Says err.old err.new memory_line }
+{
+    let _ = writeln!(err, "memory");
+    OUT_OF_MEMORY
+}
+
+// Answers words that are no request.
+fn refuse<W: Write, E: Write>(error: Error, out: &mut Told<W>, err: &mut Told<E>) -> u8
+    requires { out.old.failed ≡ false }
+    ensures { Refuses (kind_of error.entry) result out.old out.new err.old err.new }
+{
+    match error.kind() {
+        ErrorKind::OutOfMemory => give_up(err),
+        ErrorKind::DisplayHelp | ErrorKind::DisplayVersion => show(&error, out, err),
+        _ => say_mistake(&error, err),
     }
 }
 
-// Says that memory ran out in reading the words.
-fn give_up<E: Write>(err: &mut E) -> u8
-    ensures { result ≡ 5 }
-{
-    let _ = err.write_all(b"memory\n");
-    5
-}
-
-/// Answers a command line, of which the first word is the program's name, and gives the status.
+/// Answers a command line, of which the first word is the program's name, and gives the status. A request is answered
+/// as by `serve`; help and the version go to `out` alone and a mistake to `err` alone. To `out` no write may have failed
+/// before.
 pub fn run_words<T: AsStr, S: Sources, W: Write, E: Write>(
     alloc: Global,
     words: &[T],
     sources: &mut S,
-    out: &mut W,
-    err: &mut E,
+    out: &mut Told<W>,
+    err: &mut Told<E>,
 ) -> u8
-    ensures { is_taken (map T.text words.now) ≡ true → IfSome (asked_in (map T.text words.now)) (λ asked.
-        OfAnswer (S.file sources.old) asked (λ answer.
-        Answers answer result (W.contents out.old) (W.contents out.new) (E.contents err.old) (E.contents err.new))) }
+    requires { out.old.failed ≡ false }
+    ensures taken { is_taken (map T.text words.now) ≡ true → IfSome (asked_in (map T.text words.now)) (λ asked.
+        OfAnswer (S.file sources.old) asked (λ answer. Serves answer result out.old out.new err.old err.new)) }
+    ensures refused { kinds_of (map T.text words.now) ≢ [] →
+        RefusesBy (kinds_of (map T.text words.now)) result out.old out.new err.old err.new }
 {
     match request(alloc, words) {
         Ok(Some(request)) => serve(alloc, request, sources, out, err),
-        Ok(None) => 2,
-        Err(error) => {
-            if error.kind() == ErrorKind::OutOfMemory {
-                give_up(err)
-            } else {
-                refuse(error, out, err)
-            }
-        }
+        Ok(None) => USAGE,
+        Err(error) => refuse(error, out, err),
     }
+}
+
+/// Answers words that cannot be read, and gives the status: a word that is no text is a mistake of usage, and else
+/// memory was refused.
+pub fn refuse_words<E: Write>(error: &io::Error, err: &mut Told<E>) -> u8
+    ensures no_text { error_kind error.now ≡ kind.InvalidData → result ≡ USAGE }
+    ensures memory { error_kind error.now ≢ kind.InvalidData → result ≡ OUT_OF_MEMORY }
+    ensures no_text_line { error_kind error.now ≡ kind.InvalidData → Says err.old err.new no_text_line }
+    ensures memory_line { error_kind error.now ≢ kind.InvalidData → Says err.old err.new memory_line }
+{
+    if error.kind() == io::ErrorKind::InvalidData {
+        let _ = writeln!(err, "error: a word of the command line is not UTF-8");
+        return USAGE;
+    }
+    give_up(err)
 }

@@ -4,5 +4,4 @@ pub mod LineLemmas
 pub mod LoadLemmas
 pub mod PlaceLemmas
 pub mod RowLemmas
-pub mod WriteLemmas
 pub mod NothingHeld

@@ -4,7 +4,7 @@ use Rattle.std.specs.Prelude.{decimal}
 use Rattle.std.specs.Fmt.{signed_decimal}
 use Rattle.std.specs.List.{join_with_byte}
 use Rattle.std.proofs.lemmas.List.{append_assoc, append-nil}
-use Rattle.statement.specs.LineForms.{field, figures_form, total_form}
+use Rattle.statement.specs.steps.LineForms.{field, figures_form, total_form}
 use Rattle.statement.specs.Statement.{figures_line, total_line}
 use Rattle.statement.specs.declared.rows.CommodityRow.{CommodityRow}
 

@@ -1,5 +1,5 @@
 -- What a call answers for a definition that may name a fault of both files.
-use Rattle.std.specs.Prelude.{◌≡◌, ⊤, ℕ, List, Bool, true, false, Result, Ok, Err, MatchBool}
+use Rattle.std.specs.Prelude.{◌≡◌, ◌⊎◌, ℕ, List, Bool, true, false, Result, Ok, Err}
 use Rattle.span_csv.specs.ParamFaults as param
 use Rattle.span_csv.specs.PositionFaults as position
 use Rattle.param_check.specs.CheckFaults as check
@@ -15,7 +15,8 @@ is_memory (fault.Positions e) = position.is_memory e
 is_memory (fault.Bind e) = bind.is_memory e
 is_memory fault.Memory = true
 
--- the text or the fault of the definition; or want of memory, which says nothing of the definition
+-- The text or the fault of the definition; or `Memory`, which says nothing of the definition. Want of memory is
+-- answered by no other fault.
 abbrev pub GivesText : {Y : Type 0} → (Y → List ℕ) → Result Y SpanFault → Result (List ℕ) SpanFault → Type 0
 GivesText text (Ok y) answer = answer ≡ Ok (text y)
-GivesText text (Err e) answer = MatchBool (is_memory e) ⊤ (answer ≡ Err e)
+GivesText text (Err e) answer = (e ≡ fault.Memory) ⊎ ((is_memory e ≡ false) × (answer ≡ Err e))

@@ -1,9 +1,8 @@
 -- What is said of a parameter file by itself: the counts of its tables.
-use Rattle.std.specs.Prelude.{ℕ, List, [], ◌∷◌, ◌++◌, codes, decimal, flat_map, length, pos, Result, Ok, Err}
+use Rattle.std.specs.Prelude.{ℕ, List, [], ◌∷◌, codes, decimal, length, Result, Ok, Err}
 use Rattle.span_csv.specs.ParamFaults.{params_of}
 use Rattle.param_check.specs.CheckFaults.{checked}
 use Rattle.span_tables.specs.Tables.{AcceptedTables}
-use Rattle.statement.specs.LineForms.{field, number}
 use Rattle.statement.specs.Statement.{and_then, line}
 use Rattle.statement.specs.declared.faults.SpanFault.{SpanFault}
 use Rattle.statement.specs.declared.faults.SpanFault.TheVariants as fault
@@ -13,12 +12,6 @@ unfoldable pub counts_line : AcceptedTables → List ℕ
 counts_line t =
     line (codes "OK" ∷ t.set_id ∷ decimal (length t.commodities) ∷ decimal (length t.contracts) ∷ decimal (length t.tiers)
     ∷ decimal (length t.intras) ∷ decimal (length t.spots) ∷ decimal (length t.inters) ∷ [])
-
--- the same in its parts, each field with the comma in front of it
-unfoldable pub counts_form : AcceptedTables → List ℕ
-counts_form t =
-    ((codes "OK" ++ field t.set_id) ++ flat_map number (pos (length t.commodities) ∷ pos (length t.contracts) ∷ pos (length t.tiers)
-    ∷ pos (length t.intras) ∷ pos (length t.spots) ∷ pos (length t.inters) ∷ [])) ++ 10 ∷ []
 
 -- the counts of a parameter file, or the first fault: in reading it, in checking it
 unfoldable pub counts_of : List ℕ → Result (List ℕ) SpanFault

@@ -14,6 +14,7 @@ use Rattle.param_check.specs.declared.faults.BindFault.TheVariants as bind
 use Rattle.param_check.specs.Binding as bind_fault
 use Rattle.statement.specs.declared.faults.SpanFault.{SpanFault}
 use Rattle.statement.specs.declared.faults.SpanFault.TheVariants as fault
+use Rattle.statement.specs.declared.statuses.TheConstants.{OUT_OF_MEMORY, PARAMETERS_REFUSED, POSITIONS_REFUSED}
 
 -- want of memory
 abbrev pub memory_line : List ℕ
@@ -21,50 +22,50 @@ memory_line = codes "memory\n"
 
 -- a fault of a record of a file: what file, the fault's number and name, and the record's number
 abbrev pub record_line : List ℕ → List ℕ → ℕ → List ℕ
-record_line file code at = file ++ code ++ codes " at record " ++ decimal at ++ codes "\n"
+record_line file code at = file ++ (codes ": " ++ (code ++ (codes " at record " ++ (decimal at ++ codes "\n"))))
 
--- where positions do not fit
+-- the line of positions that do not fit the tables, up to the account
 abbrev pub place_text : List ℕ → ℕ → List ℕ
 place_text code at = codes "positions: " ++ (code ++ (codes " at record " ++ (decimal at ++ codes " account ")))
 
--- the line of positions that do not fit, with the record's account
+-- that line, with the record's account
 abbrev pub account_line : List ℕ → ℕ → List ℕ → List ℕ
 account_line code at account = place_text code at ++ (account ++ codes "\n")
 
 -- the line of a parameter file's fault
 abbrev pub param_line : ParamFault → List ℕ
-param_line (param.NoSet at) = record_line (codes "parameters: ") (codes "P1 NoSet") at
-param_line (param.SecondSet at) = record_line (codes "parameters: ") (codes "P2 SecondSet") at
-param_line (param.UnknownKind at) = record_line (codes "parameters: ") (codes "P3 UnknownKind") at
-param_line (param.FieldCount at) = record_line (codes "parameters: ") (codes "P4 FieldCount") at
-param_line (param.BadName at) = record_line (codes "parameters: ") (codes "P5 BadName") at
-param_line (param.BadNumber at) = record_line (codes "parameters: ") (codes "P6 BadNumber") at
-param_line (param.OutOfRange at) = record_line (codes "parameters: ") (codes "P7 OutOfRange") at
-param_line (param.TooMany at) = record_line (codes "parameters: ") (codes "P8 TooMany") at
+param_line (param.NoSet at) = record_line (codes "parameters") (codes "P1 NoSet") at
+param_line (param.SecondSet at) = record_line (codes "parameters") (codes "P2 SecondSet") at
+param_line (param.UnknownKind at) = record_line (codes "parameters") (codes "P3 UnknownKind") at
+param_line (param.FieldCount at) = record_line (codes "parameters") (codes "P4 FieldCount") at
+param_line (param.BadName at) = record_line (codes "parameters") (codes "P5 BadName") at
+param_line (param.BadNumber at) = record_line (codes "parameters") (codes "P6 BadNumber") at
+param_line (param.OutOfRange at) = record_line (codes "parameters") (codes "P7 OutOfRange") at
+param_line (param.TooMany at) = record_line (codes "parameters") (codes "P8 TooMany") at
 param_line param.OutOfMemory = memory_line
 
 -- the line of a broken rule
 abbrev pub check_line : CheckFault → List ℕ
-check_line (check.DuplicateCommodity at) = record_line (codes "parameters: ") (codes "C1 DuplicateCommodity") at
-check_line (check.UnknownCommodity at) = record_line (codes "parameters: ") (codes "C2 UnknownCommodity") at
-check_line (check.DuplicateContract at) = record_line (codes "parameters: ") (codes "C3 DuplicateContract") at
-check_line (check.DuplicateTier at) = record_line (codes "parameters: ") (codes "C4 DuplicateTier") at
-check_line (check.TierBackwards at) = record_line (codes "parameters: ") (codes "C5 TierBackwards") at
-check_line (check.TierOverlap at) = record_line (codes "parameters: ") (codes "C6 TierOverlap") at
-check_line (check.UnknownTier at) = record_line (codes "parameters: ") (codes "C7 UnknownTier") at
-check_line (check.RepeatedLeg at) = record_line (codes "parameters: ") (codes "C8 RepeatedLeg") at
-check_line (check.OneSided at) = record_line (codes "parameters: ") (codes "C9 OneSided") at
-check_line (check.DuplicatePriority at) = record_line (codes "parameters: ") (codes "C10 DuplicatePriority") at
-check_line (check.DuplicateSpot at) = record_line (codes "parameters: ") (codes "C11 DuplicateSpot") at
+check_line (check.DuplicateCommodity at) = record_line (codes "parameters") (codes "C1 DuplicateCommodity") at
+check_line (check.UnknownCommodity at) = record_line (codes "parameters") (codes "C2 UnknownCommodity") at
+check_line (check.DuplicateContract at) = record_line (codes "parameters") (codes "C3 DuplicateContract") at
+check_line (check.DuplicateTier at) = record_line (codes "parameters") (codes "C4 DuplicateTier") at
+check_line (check.TierBackwards at) = record_line (codes "parameters") (codes "C5 TierBackwards") at
+check_line (check.TierOverlap at) = record_line (codes "parameters") (codes "C6 TierOverlap") at
+check_line (check.UnknownTier at) = record_line (codes "parameters") (codes "C7 UnknownTier") at
+check_line (check.RepeatedLeg at) = record_line (codes "parameters") (codes "C8 RepeatedLeg") at
+check_line (check.OneSided at) = record_line (codes "parameters") (codes "C9 OneSided") at
+check_line (check.DuplicatePriority at) = record_line (codes "parameters") (codes "C10 DuplicatePriority") at
+check_line (check.DuplicateSpot at) = record_line (codes "parameters") (codes "C11 DuplicateSpot") at
 check_line check.OutOfMemory = memory_line
 
 -- the line of a position file's fault
 abbrev pub position_line : PositionFault → List ℕ
-position_line (position.FieldCount at) = record_line (codes "positions: ") (codes "Q1 FieldCount") at
-position_line (position.BadName at) = record_line (codes "positions: ") (codes "Q2 BadName") at
-position_line (position.BadNumber at) = record_line (codes "positions: ") (codes "Q3 BadNumber") at
-position_line (position.OutOfRange at) = record_line (codes "positions: ") (codes "Q4 OutOfRange") at
-position_line (position.TooManyAccounts at) = record_line (codes "positions: ") (codes "Q5 TooManyAccounts") at
+position_line (position.FieldCount at) = record_line (codes "positions") (codes "Q1 FieldCount") at
+position_line (position.BadName at) = record_line (codes "positions") (codes "Q2 BadName") at
+position_line (position.BadNumber at) = record_line (codes "positions") (codes "Q3 BadNumber") at
+position_line (position.OutOfRange at) = record_line (codes "positions") (codes "Q4 OutOfRange") at
+position_line (position.TooManyAccounts at) = record_line (codes "positions") (codes "Q5 TooManyAccounts") at
 position_line position.OutOfMemory = memory_line
 
 -- the line of positions that do not fit the tables
@@ -82,10 +83,10 @@ fault_line (fault.Positions e) = position_line e
 fault_line (fault.Bind e) = bind_line e
 fault_line fault.Memory = memory_line
 
--- the exit status of a fault: 3 where the parameters are refused, 4 where the positions are, 5 for want of memory
+-- the exit status of a fault: that of refused parameters, of refused positions, or of want of memory
 abbrev pub fault_status : SpanFault → ℕ
-fault_status (fault.Params e) = if param_fault.is_memory e then 5 else 3
-fault_status (fault.Check e) = if check_fault.is_memory e then 5 else 3
-fault_status (fault.Positions e) = if position_fault.is_memory e then 5 else 4
-fault_status (fault.Bind e) = if bind_fault.is_memory e then 5 else 4
-fault_status fault.Memory = 5
+fault_status (fault.Params e) = if param_fault.is_memory e then OUT_OF_MEMORY else PARAMETERS_REFUSED
+fault_status (fault.Check e) = if check_fault.is_memory e then OUT_OF_MEMORY else PARAMETERS_REFUSED
+fault_status (fault.Positions e) = if position_fault.is_memory e then OUT_OF_MEMORY else POSITIONS_REFUSED
+fault_status (fault.Bind e) = if bind_fault.is_memory e then OUT_OF_MEMORY else POSITIONS_REFUSED
+fault_status fault.Memory = OUT_OF_MEMORY

@@ -3,7 +3,8 @@ pub mod Bounds
 pub mod Counts
 pub mod FaultLines
 pub mod Figures
-pub mod LineForms
 pub mod OnLiterals
 pub mod Rows
+pub mod SpanFaults
 pub mod Statement
+pub mod steps

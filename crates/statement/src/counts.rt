@@ -1,6 +1,7 @@
 //! What is said of a parameter file by itself.
 ghost use Rattle.statement.specs.Answers.{GivesText};
-ghost use Rattle.statement.specs.Counts.{counts_form, counts_line, counts_of};
+ghost use Rattle.statement.specs.Counts.{counts_line, counts_of};
+ghost use Rattle.statement.specs.steps.LineForms.{counts_form};
 ghost use Rattle.std.specs.Prelude.{◌≡◌, IfOk};
 
 use crate::faults::SpanFault;
@@ -10,7 +11,7 @@ use span_csv::params::read_params;
 use span_tables::tables::Tables;
 use std::alloc::{AllocError, Global};
 
-#[tactic(auto, unfolding(crate::specs::Counts::counts_form))]
+#[tactic(auto, unfolding(crate::specs::steps::LineForms::counts_form))]
 fn write_parts(alloc: Global, tables: &Tables) -> Result<Vec<u8>, AllocError>
     ensures { IfOk result (λ text. text.items ≡ counts_form tables.now) }
 {

@@ -1,12 +1,17 @@
 //! Why there is no statement, and the line and the exit status that say so.
-ghost use Rattle.statement.specs.FaultLines.{account_line, bind_line, check_line, fault_line, fault_status, param_line, place_text, position_line};
+ghost use Rattle.statement.specs.FaultLines.{account_line, bind_line, check_line, fault_line, fault_status, param_line, place_text, position_line, record_line};
+ghost use Rattle.statement.specs.SpanFaults.{of_bind, of_check, of_params, of_positions};
 ghost use Rattle.statement.specs.declared.faults.SpanFault.TheVariants as fault;
+ghost use Rattle.statement.specs.steps.LineParts.{text_of};
+ghost use Rattle.span_told.specs.Streams.{Says};
 ghost use Rattle.std.specs.Io.KnownBytes.{Appends};
 ghost use Rattle.std.specs.Prelude.{◌++◌, ◌≡◌, OnOk, codes};
 
+use crate::statuses::{OUT_OF_MEMORY, PARAMETERS_REFUSED, POSITIONS_REFUSED};
 use param_check::faults::{BindFault, CheckFault};
 use span_csv::faults::{ParamFault, PositionFault};
 use span_tables::name::Name;
+use span_told::Told;
 use std::alloc::AllocError;
 use std::io;
 use std::io::Write;
@@ -33,34 +38,46 @@ pub enum SpanFault {
 }
 
 impl From<ParamFault> for SpanFault {
-    ghost from_gives = { λ e answer. answer ≡ fault.Params e };
+    ghost from_gives = { λ e answer. answer ≡ of_params e };
 
     fn from(error: ParamFault) -> SpanFault {
-        SpanFault::Params(error)
+        match error {
+            ParamFault::OutOfMemory => SpanFault::Memory,
+            fault => SpanFault::Params(fault),
+        }
     }
 }
 
 impl From<CheckFault> for SpanFault {
-    ghost from_gives = { λ e answer. answer ≡ fault.Check e };
+    ghost from_gives = { λ e answer. answer ≡ of_check e };
 
     fn from(error: CheckFault) -> SpanFault {
-        SpanFault::Check(error)
+        match error {
+            CheckFault::OutOfMemory => SpanFault::Memory,
+            fault => SpanFault::Check(fault),
+        }
     }
 }
 
 impl From<PositionFault> for SpanFault {
-    ghost from_gives = { λ e answer. answer ≡ fault.Positions e };
+    ghost from_gives = { λ e answer. answer ≡ of_positions e };
 
     fn from(error: PositionFault) -> SpanFault {
-        SpanFault::Positions(error)
+        match error {
+            PositionFault::OutOfMemory => SpanFault::Memory,
+            fault => SpanFault::Positions(fault),
+        }
     }
 }
 
 impl From<BindFault> for SpanFault {
-    ghost from_gives = { λ e answer. answer ≡ fault.Bind e };
+    ghost from_gives = { λ e answer. answer ≡ of_bind e };
 
     fn from(error: BindFault) -> SpanFault {
-        SpanFault::Bind(error)
+        match error {
+            BindFault::OutOfMemory => SpanFault::Memory,
+            fault => SpanFault::Bind(fault),
+        }
     }
 }
 
@@ -72,147 +89,157 @@ impl From<AllocError> for SpanFault {
     }
 }
 
-fn write_param_fault<W: Write>(fault: &ParamFault, out: &mut W) -> io::Result<()>
-    ensures { OnOk result (Appends (W.contents out.old) (W.contents out.new) (param_line fault.now)) }
+// What the line of a fault says.
+#[derive(Clone, Copy)]
+enum Line<'a> {
+    // A fault of a record: the file that it stands in, the fault's number and name, and the record's number.
+    Record {
+        file: &'static str,
+        code: &'static str,
+        at: usize,
+    },
+    // Positions that do not fit the tables: the fault's number and name, the record's number and its account.
+    Account {
+        code: &'static str,
+        at: usize,
+        account: &'a Name,
+    },
+    // Memory ran out.
+    Memory,
+}
+
+// A fault of a record of the parameters.
+fn in_params(code: &'static str, at: usize) -> Line<'static>
+    ensures { text_of result ≡ record_line (codes "parameters") code.entry.now at }
 {
-    match fault {
-        ParamFault::NoSet { at } => writeln!(out, "parameters: P1 NoSet at record {at}"),
-        ParamFault::SecondSet { at } => writeln!(out, "parameters: P2 SecondSet at record {at}"),
-        ParamFault::UnknownKind { at } => writeln!(
-            out,
-            "parameters: P3 UnknownKind at record {at}"
-        ),
-        ParamFault::FieldCount { at } => writeln!(out, "parameters: P4 FieldCount at record {at}"),
-        ParamFault::BadName { at } => writeln!(out, "parameters: P5 BadName at record {at}"),
-        ParamFault::BadNumber { at } => writeln!(out, "parameters: P6 BadNumber at record {at}"),
-        ParamFault::OutOfRange { at } => writeln!(out, "parameters: P7 OutOfRange at record {at}"),
-        ParamFault::TooMany { at } => writeln!(out, "parameters: P8 TooMany at record {at}"),
-        ParamFault::OutOfMemory => writeln!(out, "memory"),
+    Line::Record {
+        file: "parameters",
+        code,
+        at,
     }
 }
 
-fn write_check_fault<W: Write>(fault: &CheckFault, out: &mut W) -> io::Result<()>
-    ensures { OnOk result (Appends (W.contents out.old) (W.contents out.new) (check_line fault.now)) }
+// A fault of a record of the positions.
+fn in_positions(code: &'static str, at: usize) -> Line<'static>
+    ensures { text_of result ≡ record_line (codes "positions") code.entry.now at }
 {
-    match fault {
-        CheckFault::DuplicateCommodity { at } => writeln!(
-            out,
-            "parameters: C1 DuplicateCommodity at record {at}"
-        ),
-        CheckFault::UnknownCommodity { at } => writeln!(
-            out,
-            "parameters: C2 UnknownCommodity at record {at}"
-        ),
-        CheckFault::DuplicateContract { at } => writeln!(
-            out,
-            "parameters: C3 DuplicateContract at record {at}"
-        ),
-        CheckFault::DuplicateTier { at } => writeln!(
-            out,
-            "parameters: C4 DuplicateTier at record {at}"
-        ),
-        CheckFault::TierBackwards { at } => writeln!(
-            out,
-            "parameters: C5 TierBackwards at record {at}"
-        ),
-        CheckFault::TierOverlap { at } => writeln!(
-            out,
-            "parameters: C6 TierOverlap at record {at}"
-        ),
-        CheckFault::UnknownTier { at } => writeln!(
-            out,
-            "parameters: C7 UnknownTier at record {at}"
-        ),
-        CheckFault::RepeatedLeg { at } => writeln!(
-            out,
-            "parameters: C8 RepeatedLeg at record {at}"
-        ),
-        CheckFault::OneSided { at } => writeln!(out, "parameters: C9 OneSided at record {at}"),
-        CheckFault::DuplicatePriority { at } => writeln!(
-            out,
-            "parameters: C10 DuplicatePriority at record {at}"
-        ),
-        CheckFault::DuplicateSpot { at } => writeln!(
-            out,
-            "parameters: C11 DuplicateSpot at record {at}"
-        ),
-        CheckFault::OutOfMemory => writeln!(out, "memory"),
+    Line::Record {
+        file: "positions",
+        code,
+        at,
     }
 }
 
-fn write_position_fault<W: Write>(fault: &PositionFault, out: &mut W) -> io::Result<()>
-    ensures { OnOk result (Appends (W.contents out.old) (W.contents out.new) (position_line fault.now)) }
+// Positions that do not fit the tables.
+fn of_account<'a>(code: &'static str, at: usize, account: &'a Name) -> Line<'a>
+    ensures { text_of result ≡ account_line code.entry.now at account.entry.now }
+{
+    Line::Account { code, at, account }
+}
+
+fn param_line(fault: &ParamFault) -> Line<'static>
+    ensures { text_of result ≡ param_line fault.now }
 {
     match fault {
-        PositionFault::FieldCount { at } => writeln!(
-            out,
-            "positions: Q1 FieldCount at record {at}"
-        ),
-        PositionFault::BadName { at } => writeln!(out, "positions: Q2 BadName at record {at}"),
-        PositionFault::BadNumber { at } => writeln!(out, "positions: Q3 BadNumber at record {at}"),
-        PositionFault::OutOfRange { at } => writeln!(
-            out,
-            "positions: Q4 OutOfRange at record {at}"
-        ),
-        PositionFault::TooManyAccounts { at } => writeln!(
-            out,
-            "positions: Q5 TooManyAccounts at record {at}"
-        ),
-        PositionFault::OutOfMemory => writeln!(out, "memory"),
+        ParamFault::NoSet { at } => in_params("P1 NoSet", *at),
+        ParamFault::SecondSet { at } => in_params("P2 SecondSet", *at),
+        ParamFault::UnknownKind { at } => in_params("P3 UnknownKind", *at),
+        ParamFault::FieldCount { at } => in_params("P4 FieldCount", *at),
+        ParamFault::BadName { at } => in_params("P5 BadName", *at),
+        ParamFault::BadNumber { at } => in_params("P6 BadNumber", *at),
+        ParamFault::OutOfRange { at } => in_params("P7 OutOfRange", *at),
+        ParamFault::TooMany { at } => in_params("P8 TooMany", *at),
+        ParamFault::OutOfMemory => Line::Memory,
     }
 }
 
-// The line of positions that do not fit, up to the account.
-fn write_place<W: Write>(out: &mut W, code: &str, at: usize) -> io::Result<()>
+fn check_line(fault: &CheckFault) -> Line<'static>
+    ensures { text_of result ≡ check_line fault.now }
+{
+    match fault {
+        CheckFault::DuplicateCommodity { at } => in_params("C1 DuplicateCommodity", *at),
+        CheckFault::UnknownCommodity { at } => in_params("C2 UnknownCommodity", *at),
+        CheckFault::DuplicateContract { at } => in_params("C3 DuplicateContract", *at),
+        CheckFault::DuplicateTier { at } => in_params("C4 DuplicateTier", *at),
+        CheckFault::TierBackwards { at } => in_params("C5 TierBackwards", *at),
+        CheckFault::TierOverlap { at } => in_params("C6 TierOverlap", *at),
+        CheckFault::UnknownTier { at } => in_params("C7 UnknownTier", *at),
+        CheckFault::RepeatedLeg { at } => in_params("C8 RepeatedLeg", *at),
+        CheckFault::OneSided { at } => in_params("C9 OneSided", *at),
+        CheckFault::DuplicatePriority { at } => in_params("C10 DuplicatePriority", *at),
+        CheckFault::DuplicateSpot { at } => in_params("C11 DuplicateSpot", *at),
+        CheckFault::OutOfMemory => Line::Memory,
+    }
+}
+
+fn position_line(fault: &PositionFault) -> Line<'static>
+    ensures { text_of result ≡ position_line fault.now }
+{
+    match fault {
+        PositionFault::FieldCount { at } => in_positions("Q1 FieldCount", *at),
+        PositionFault::BadName { at } => in_positions("Q2 BadName", *at),
+        PositionFault::BadNumber { at } => in_positions("Q3 BadNumber", *at),
+        PositionFault::OutOfRange { at } => in_positions("Q4 OutOfRange", *at),
+        PositionFault::TooManyAccounts { at } => in_positions("Q5 TooManyAccounts", *at),
+        PositionFault::OutOfMemory => Line::Memory,
+    }
+}
+
+fn bind_line(fault: &BindFault) -> Line<'_>
+    ensures { text_of result ≡ bind_line fault.now }
+{
+    match fault {
+        BindFault::UnknownContract { at, account } => of_account("B1 UnknownContract", *at, account),
+        BindFault::NetOutOfRange { at, account } => of_account("B2 NetOutOfRange", *at, account),
+        BindFault::TooManyHeld { at, account } => of_account("B3 TooManyHeld", *at, account),
+        BindFault::OutOfMemory => Line::Memory,
+    }
+}
+
+// What the line of a fault says.
+fn line_of(fault: &SpanFault) -> Line<'_>
+    ensures { text_of result ≡ fault_line fault.now }
+{
+    match fault {
+        SpanFault::Params(fault) => param_line(fault),
+        SpanFault::Check(fault) => check_line(fault),
+        SpanFault::Positions(fault) => position_line(fault),
+        SpanFault::Bind(fault) => bind_line(fault),
+        SpanFault::Memory => Line::Memory,
+    }
+}
+
+// Writes the line of positions that do not fit, up to the account.
+fn write_start<W: Write>(code: &str, at: usize, out: &mut W) -> io::Result<()>
     ensures { OnOk result (Appends (W.contents out.old) (W.contents out.new) (place_text code.now at)) }
 {
     write!(out, "positions: {code} at record {at} account ")
 }
 
-// The rest of that line.
-fn write_account<W: Write>(out: &mut W, account: &Name) -> io::Result<()>
+// Writes the rest of it.
+fn write_account<W: Write>(account: &Name, out: &mut W) -> io::Result<()>
     ensures { OnOk result (Appends (W.contents out.old) (W.contents out.new) (account.now ++ codes "\n")) }
 {
     out.write_all(account.as_bytes())?;
     out.write_all(b"\n")
 }
 
-// The line of positions that do not fit, with the record's account.
-fn write_account_line<W: Write>(
-    out: &mut W,
-    code: &str,
-    at: usize,
-    account: &Name,
-) -> io::Result<()>
+// Writes that line.
+fn write_place<W: Write>(code: &str, at: usize, account: &Name, out: &mut W) -> io::Result<()>
     ensures { OnOk result (Appends (W.contents out.old) (W.contents out.new) (account_line code.now at account.now)) }
 {
-    write_place(out, code, at)?;
-    write_account(out, account)
+    write_start(code, at, out)?;
+    write_account(account, out)
 }
 
-fn write_bind_fault<W: Write>(fault: &BindFault, out: &mut W) -> io::Result<()>
-    ensures { OnOk result (Appends (W.contents out.old) (W.contents out.new) (bind_line fault.now)) }
+// Writes a line.
+fn write_line<W: Write>(line: &Line<'_>, out: &mut W) -> io::Result<()>
+    ensures { OnOk result (Appends (W.contents out.old) (W.contents out.new) (text_of line.now)) }
 {
-    match fault {
-        BindFault::UnknownContract { at, account } => write_account_line(
-            out,
-            "B1 UnknownContract",
-            *at,
-            account,
-        ),
-        BindFault::NetOutOfRange { at, account } => write_account_line(
-            out,
-            "B2 NetOutOfRange",
-            *at,
-            account,
-        ),
-        BindFault::TooManyHeld { at, account } => write_account_line(
-            out,
-            "B3 TooManyHeld",
-            *at,
-            account,
-        ),
-        BindFault::OutOfMemory => writeln!(out, "memory"),
+    match line {
+        Line::Record { file, code, at } => writeln!(out, "{file}: {code} at record {at}"),
+        Line::Account { code, at, account } => write_place(code, *at, account, out),
+        Line::Memory => writeln!(out, "memory"),
     }
 }
 
@@ -220,16 +247,57 @@ fn write_bind_fault<W: Write>(fault: &BindFault, out: &mut W) -> io::Result<()>
 pub fn write_fault<W: Write>(fault: &SpanFault, out: &mut W) -> io::Result<()>
     ensures { OnOk result (Appends (W.contents out.old) (W.contents out.new) (fault_line fault.now)) }
 {
-    match fault {
-        SpanFault::Params(fault) => write_param_fault(fault, out),
-        SpanFault::Check(fault) => write_check_fault(fault, out),
-        SpanFault::Positions(fault) => write_position_fault(fault, out),
-        SpanFault::Bind(fault) => write_bind_fault(fault, out),
-        SpanFault::Memory => writeln!(out, "memory"),
+    let line = line_of(fault);
+    write_line(&line, out)
+}
+
+// Tells the line of positions that do not fit, up to the account.
+fn tell_start<W: Write>(code: &str, at: usize, out: &mut Told<W>)
+    ensures { Says out.old out.new (place_text code.now at) }
+{
+    let _ = write!(out, "positions: {code} at record {at} account ");
+}
+
+// Tells the rest of it.
+fn tell_account<W: Write>(account: &Name, out: &mut Told<W>)
+    ensures { Says out.old out.new (account.now ++ codes "\n") }
+{
+    let _ = out.write_all(account.as_bytes());
+    let _ = out.write_all(b"\n");
+}
+
+// Tells that line.
+fn tell_place<W: Write>(code: &str, at: usize, account: &Name, out: &mut Told<W>)
+    ensures { Says out.old out.new (account_line code.now at account.now) }
+{
+    tell_start(code, at, out);
+    tell_account(account, out);
+}
+
+// Tells a line.
+fn tell_line<W: Write>(line: &Line<'_>, out: &mut Told<W>)
+    ensures { Says out.old out.new (text_of line.now) }
+{
+    match line {
+        Line::Record { file, code, at } => {
+            let _ = writeln!(out, "{file}: {code} at record {at}");
+        }
+        Line::Account { code, at, account } => tell_place(code, *at, account, out),
+        Line::Memory => {
+            let _ = writeln!(out, "memory");
+        }
     }
 }
 
-/// The exit status of a fault: 3 where the parameters are refused, 4 where the positions are, 5 for want of memory.
+/// Writes the line of a fault to a writer that remembers a failed write.
+pub fn tell_fault<W: Write>(fault: &SpanFault, out: &mut Told<W>)
+    ensures { Says out.old out.new (fault_line fault.now) }
+{
+    let line = line_of(fault);
+    tell_line(&line, out);
+}
+
+/// The exit status of a fault: that of refused parameters, of refused positions, or of want of memory.
 pub fn status(fault: &SpanFault) -> u8
     ensures { result ≡ fault_status fault.now }
 {
@@ -238,8 +306,8 @@ pub fn status(fault: &SpanFault) -> u8
         | SpanFault::Check(CheckFault::OutOfMemory)
         | SpanFault::Positions(PositionFault::OutOfMemory)
         | SpanFault::Bind(BindFault::OutOfMemory)
-        | SpanFault::Memory => 5,
-        SpanFault::Params(_) | SpanFault::Check(_) => 3,
-        SpanFault::Positions(_) | SpanFault::Bind(_) => 4,
+        | SpanFault::Memory => OUT_OF_MEMORY,
+        SpanFault::Params(_) | SpanFault::Check(_) => PARAMETERS_REFUSED,
+        SpanFault::Positions(_) | SpanFault::Bind(_) => POSITIONS_REFUSED,
     }
 }

@@ -11,6 +11,7 @@ pub mod lines;
 pub mod margin;
 pub mod rows;
 pub mod stages;
+pub mod statuses;
 #[cfg(test)]
 mod tests;
 pub mod worked;

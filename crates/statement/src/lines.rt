@@ -1,5 +1,5 @@
 //! The text of a statement.
-ghost use Rattle.statement.specs.LineForms.{field, figures_fields, figures_form, number, total_form};
+ghost use Rattle.statement.specs.steps.LineForms.{field, figures_fields, figures_form, number, total_form};
 ghost use Rattle.statement.specs.Statement.{figures_line, row_text, total_line};
 ghost use Rattle.std.specs.Prelude.{[], ◌++◌, ◌∷◌, ◌≡◌, IfOk, OnOk, flat_map};
 
@@ -62,7 +62,7 @@ fn push_figures(out: &mut Vec<u8>, figures: &Figures) -> Result<(), AllocError>
     push_numbers(out, &numbers)
 }
 
-#[tactic(auto, unfolding(crate::specs::LineForms::figures_form))]
+#[tactic(auto, unfolding(crate::specs::steps::LineForms::figures_form))]
 fn push_commodity_parts(
     out: &mut Vec<u8>,
     account: &Name,
@@ -90,7 +90,7 @@ fn push_commodity(
     push_commodity_parts(out, account, set_id, row)
 }
 
-#[tactic(auto, unfolding(crate::specs::LineForms::total_form))]
+#[tactic(auto, unfolding(crate::specs::steps::LineForms::total_form))]
 fn push_total_parts(
     out: &mut Vec<u8>,
     account: &Name,

@@ -1,6 +1,7 @@
 -- The parts that the lines of a statement are written in: each field with the comma in front of it.
-use Rattle.std.specs.Prelude.{ℕ, List, [], ◌∷◌, ◌++◌, flat_map, ℤ, pos}
+use Rattle.std.specs.Prelude.{ℕ, List, [], ◌∷◌, ◌++◌, codes, flat_map, length, ℤ, pos}
 use Rattle.std.specs.Fmt.{signed_decimal}
+use Rattle.span_tables.specs.Tables.{AcceptedTables}
 use Rattle.statement.specs.declared.rows.CommodityRow.{CommodityRow}
 use Rattle.statement.specs.declared.figures.Figures.{Figures}
 
@@ -24,3 +25,9 @@ figures_form account set_id c =
 -- the line of an account's total: 84 is `T`
 unfoldable pub total_form : List ℕ → List ℕ → ℤ → List ℕ
 total_form account set_id total = (84 ∷ (field account ++ field set_id)) ++ number total ++ 10 ∷ []
+
+-- the line of accepted tables
+unfoldable pub counts_form : AcceptedTables → List ℕ
+counts_form t =
+    ((codes "OK" ++ field t.set_id) ++ flat_map number (pos (length t.commodities) ∷ pos (length t.contracts) ∷ pos (length t.tiers)
+    ∷ pos (length t.intras) ∷ pos (length t.spots) ∷ pos (length t.inters) ∷ [])) ++ 10 ∷ []

@@ -1,0 +1,12 @@
+-- What an answer unfolds to compute the definitions on literals.
+use Rattle.std.specs.Prelude.{⊤}
+use Rattle.clap.specs.Faults.{defaults_fault, flags_fault, walk_fault}
+use Rattle.clap.specs.Takes.{flags_pass, walk_passes}
+use Rattle.clap.specs.Walk.{bundle_met, walked}
+use Rattle.statement.specs.OnLiterals.{on_literals as statement_on_literals}
+use Rattle.span_cli.specs.Words.{is_taken, kinds_of}
+
+-- all words that computing on literals unfolds
+unfoldable pub on_literals : ⊤
+unfolding statement_on_literals defaults_fault flags_fault walk_fault flags_pass walk_passes bundle_met walked is_taken kinds_of
+on_literals = tt

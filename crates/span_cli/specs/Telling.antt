@@ -1,0 +1,60 @@
+-- What is told of an answer, over two writers that remember a failed write.
+use Rattle.std.specs.Prelude.{◌≡◌, ◌⊎◌, ℕ, Bool, true, List, [], ◌∷◌, codes, if◌then◌else◌}
+use Rattle.clap.specs.Words.{Kinds}
+use Rattle.clap.specs.declared.error.kind.ErrorKind.{ErrorKind}
+use Rattle.clap.specs.declared.error.kind.ErrorKind.TheVariants as kind
+use Rattle.span_told.specs.Streams.{Says, Stream}
+use Rattle.statement.specs.declared.statuses.TheConstants.{DONE, FILE_FAILED, USAGE}
+use Rattle.span_cli.specs.Serving.{Answer, done, file_line, memory, refused}
+
+-- the output could not be written
+abbrev pub unwritten : Answer
+unwritten = refused FILE_FAILED (file_line (codes "output"))
+
+-- what is told in the end, where a write of the output failed or not
+abbrev pub told : Bool → Answer → Answer
+told failed answer = if failed then unwritten else answer
+
+-- the answer was told
+pub record Tells (answer : Answer) (given : ℕ) (old_out new_out old_err new_err : Stream) : Type 0 where
+  -- the status is the answer's, or that of an output that could not be written
+  pub status : given ≡ (told new_out.failed answer).status
+  -- just the answer's bytes went to the output, unless a write of them failed
+  pub out : Says old_out new_out answer.out
+  -- just the answer's line, or that of the output, went to the error stream, unless a write of it failed
+  pub err : Says old_err new_err (told new_out.failed answer).err
+  -- the output fails only for an answer that is done
+  pub cause : new_out.failed ≡ true → answer.status ≡ DONE
+
+-- the answer or want of memory was told
+abbrev pub Serves : Answer → ℕ → Stream → Stream → Stream → Stream → Type 0
+Serves answer given old_out new_out old_err new_err =
+    Tells answer given old_out new_out old_err new_err ⊎ Tells memory given old_out new_out old_err new_err
+
+-- A mistake of usage was told: nothing went to the output. The text on the error stream is the reader's of the words.
+pub record IsMistake (given : ℕ) (old_out new_out : Stream) : Type 0 where
+  pub status : given ≡ USAGE
+  pub out : new_out ≡ old_out
+
+-- Help or the version was shown: nothing went to the error stream, unless the output could not be written. The text on
+-- the output is the reader's of the words.
+pub record IsShown (given : ℕ) (new_out old_err new_err : Stream) : Type 0 where
+  pub status : given ≡ (told new_out.failed (done [])).status
+  pub err : Says old_err new_err (told new_out.failed (done [])).err
+
+-- what is told where the words are refused for this kind of reason
+abbrev pub Refuses : ErrorKind → ℕ → Stream → Stream → Stream → Stream → Type 0
+Refuses kind.OutOfMemory given old_out new_out old_err new_err = Tells memory given old_out new_out old_err new_err
+Refuses kind.DisplayHelp given old_out new_out old_err new_err = IsShown given new_out old_err new_err
+Refuses kind.DisplayVersion given old_out new_out old_err new_err = IsShown given new_out old_err new_err
+Refuses other given old_out new_out old_err new_err = IsMistake given old_out new_out
+
+-- what is told where the words may be refused for these kinds of reason, or for want of memory
+abbrev pub RefusesBy : Kinds → ℕ → Stream → Stream → Stream → Stream → Type 0
+RefusesBy [] given old_out new_out old_err new_err = Tells memory given old_out new_out old_err new_err
+RefusesBy (k ∷ ks) given old_out new_out old_err new_err =
+    Refuses k given old_out new_out old_err new_err ⊎ RefusesBy ks given old_out new_out old_err new_err
+
+-- the line for words that are no text
+abbrev pub no_text_line : List ℕ
+no_text_line = codes "error: a word of the command line is not UTF-8\n"

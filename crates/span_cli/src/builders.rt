@@ -1,0 +1,76 @@
+//! What the tests share: a parameter file, sources, writers that break, and what a command line gives.
+use crate::memory::InMemory;
+use crate::sources::Sources;
+use crate::serving::{Request, serve};
+use crate::words::run_words;
+use span_told::Told;
+use std::alloc::Global;
+use std::io;
+use std::io::{ErrorKind, Write};
+
+/// A set with one future.
+pub const ONE_FUTURE: &[u8] = b"\
+SET,D1,1,USD
+COMMODITY,AA,0,SUM
+CONTRACT,FA,AA,F,202503,1,1,0,0,-400,-400,400,400,-800,-800,800,800,-1200,-1200,1200,1200,-1188,1188
+";
+
+/// A status, and what was written.
+#[derive(Drop)]
+pub struct Given {
+    pub status: u8,
+    pub out: Vec<u8>,
+    pub err: Vec<u8>,
+}
+
+impl Given {
+    pub fn is(&self, status: u8, out: &[u8], err: &[u8]) -> bool {
+        self.status == status && self.out.as_slice() == out && self.err.as_slice() == err
+    }
+}
+
+/// What a command line gives over these sources.
+pub fn run_on<S: Sources>(alloc: Global, words: &[&str], sources: &mut S) -> Given {
+    let mut out = Told::new(Vec::new(alloc));
+    let mut err = Told::new(Vec::new(alloc));
+    let status = run_words(alloc, words, sources, &mut out, &mut err);
+    Given {
+        status,
+        out: out.into_inner(),
+        err: err.into_inner(),
+    }
+}
+
+/// What a request gives over files in memory.
+pub fn answer(alloc: Global, request: Request<'_>, files: &[(&str, &[u8])]) -> Given {
+    let mut sources = InMemory { files };
+    let mut out = Told::new(Vec::new(alloc));
+    let mut err = Told::new(Vec::new(alloc));
+    let status = serve(alloc, request, &mut sources, &mut out, &mut err);
+    Given {
+        status,
+        out: out.into_inner(),
+        err: err.into_inner(),
+    }
+}
+
+/// Takes a few bytes and then fails.
+#[derive(Drop)]
+pub struct Breaking {
+    pub room: usize,
+}
+
+impl Write for Breaking {
+    fn write(&mut self, buf: &[u8]) -> io::Result<usize> {
+        if self.room == 0 {
+            return Err(io::Error::from(ErrorKind::BrokenPipe));
+        }
+        let taken = self.room.min(buf.len());
+        self.room -= taken;
+        Ok(taken)
+    }
+
+    fn flush(&mut self) -> io::Result<()> {
+        Ok(())
+    }
+}

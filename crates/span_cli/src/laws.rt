@@ -1,0 +1,42 @@
+//! Laws of what is told: each is the contract of a function that does nothing.
+ghost use Rattle.span_cli.specs.Serving.{Answer, answer_of, done, file_line, refused};
+ghost use Rattle.span_cli.specs.Telling.{Tells};
+ghost use Rattle.span_told.specs.Streams.{Stream};
+ghost use Rattle.statement.specs.FaultLines.{fault_line, fault_status};
+ghost use Rattle.statement.specs.declared.faults.SpanFault.{SpanFault};
+ghost use Rattle.std.specs.Io.KnownBytes.{Appends};
+ghost use Rattle.std.specs.Prelude.{◌×◌, ◌≡◌, ◌≢◌, Err, List, [], codes, false, true, ℕ};
+
+/// Where an answer that is done was told and no write failed, the status is 0, just its bytes went to the output, and
+/// nothing to the error stream.
+pub fn done_is_on_the_output()
+    ensures { (text : List ℕ) (given : ℕ) (old_out new_out old_err new_err : Stream)
+        → Tells (done text) given old_out new_out old_err new_err → new_out.failed ≡ false → new_err.failed ≡ false
+        → (given ≡ 0) × (Appends old_out.held new_out.held text × Appends old_err.held new_err.held []) }
+{}
+
+/// Where a fault was told and no write failed, the status and the line are the fault's, and nothing went to the output.
+pub fn refused_is_on_the_error_stream()
+    ensures { (fault : SpanFault) (given : ℕ) (old_out new_out old_err new_err : Stream)
+        → Tells (answer_of (Err fault)) given old_out new_out old_err new_err → new_out.failed ≡ false → new_err.failed ≡ false
+        → (given ≡ fault_status fault)
+        × (Appends old_out.held new_out.held [] × Appends old_err.held new_err.held (fault_line fault)) }
+{}
+
+/// Where the output failed the status is 6, and just `file: output` went to the error stream, if that took it.
+pub fn unwritten_is_said()
+    ensures status { (answer : Answer) (given : ℕ) (old_out new_out old_err new_err : Stream)
+        → Tells answer given old_out new_out old_err new_err → new_out.failed ≡ true → given ≡ 6 }
+    ensures line { (answer : Answer) (given : ℕ) (old_out new_out old_err new_err : Stream)
+        → Tells answer given old_out new_out old_err new_err → new_out.failed ≡ true → new_err.failed ≡ false
+        → Appends old_err.held new_err.held (codes "file: output\n") }
+{}
+
+/// Where the output did not fail the status is the answer's, whatever became of its line; and an answer that is refused
+/// never makes the output fail.
+pub fn status_stands()
+    ensures status { (answer : Answer) (given : ℕ) (old_out new_out old_err new_err : Stream)
+        → Tells answer given old_out new_out old_err new_err → new_out.failed ≡ false → given ≡ answer.status }
+    ensures refused { (answer : Answer) (given : ℕ) (old_out new_out old_err new_err : Stream)
+        → Tells answer given old_out new_out old_err new_err → answer.status ≢ 0 → new_out.failed ≡ false }
+{}

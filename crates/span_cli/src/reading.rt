@@ -1,0 +1,122 @@
+//! Reading to the end, within a limit.
+ghost use Rattle.std.specs.Io.KnownBytes.{ReadConsumes};
+ghost use Rattle.std.specs.Io.{ReadsAtMost};
+ghost use Rattle.std.specs.IoError.{error_kind};
+ghost use Rattle.std.specs.Prelude.{◌+◌, ◌<◌, ◌≡◌, ◌≢◌, ◌≤◌, ◌⊎◌, Err, IfErr, IfOk, IfSome, OnOk, false, length, true, vec_len};
+
+use crate::sources::ReadFault;
+use std::alloc::Global;
+use std::io;
+use std::io::{ErrorKind, Read};
+use std::marker::Model;
+
+// How many bytes a turn asks for.
+const PIECE: usize = 65_536;
+
+/// A reader that gives so many turns, and remembers whether one of them failed. A turn that was interrupted is none that
+/// failed.
+#[derive(Drop)]
+pub struct Turns<R: Read> {
+    reader: R,
+    left: u32,
+    failed: bool,
+}
+
+impl<R: Read> Model for Turns<R> {
+    ghost use Rattle.span_cli.specs.Reading.{Reading};
+
+    ghost Value = { Reading };
+
+    ghost view = { λ t. record { bytes = R.remaining t.reader; turns = t.left; failed = t.failed } };
+}
+
+impl<R: Read> Turns<R> {
+    /// So many turns of a reader.
+    pub fn new(reader: R, turns: u32) -> Turns<R>
+        ensures bytes { result.bytes ≡ R.remaining reader }
+        ensures turns { result.turns ≡ turns }
+        ensures failed { result.failed ≡ false }
+    {
+        Turns {
+            reader,
+            left: turns,
+            failed: false,
+        }
+    }
+
+    /// Whether a turn failed.
+    pub fn failed(&self) -> bool
+        ensures { result ≡ self.now.failed }
+    {
+        self.failed
+    }
+
+    /// How many turns are left.
+    pub fn left(&self) -> u32
+        ensures { result ≡ self.now.turns }
+    {
+        self.left
+    }
+
+    // One turn of reading.
+    fn read(&mut self, buffer: &mut [u8]) -> io::Result<usize>
+        requires { 0 < self.old.turns }
+        ensures turns { self.new.turns + 1 ≡ self.old.turns }
+        ensures bound { ReadsAtMost result buffer.new }
+        ensures bytes { ReadConsumes self.old.bytes self.new.bytes result buffer.new }
+        ensures length { length buffer.new ≡ length buffer.old }
+        ensures same { OnOk result (self.new.failed ≡ self.old.failed) }
+        ensures interrupted { IfErr result (λ e. error_kind e ≡ ErrorKind.Interrupted → self.new.failed ≡ self.old.failed) }
+        ensures failed { IfErr result (λ e. error_kind e ≢ ErrorKind.Interrupted → self.new.failed ≡ true) }
+    {
+        self.left -= 1;
+        let result = self.reader.read(buffer);
+        if let Err(error) = &result {
+            if error.kind() != ErrorKind::Interrupted {
+                self.failed = true;
+            }
+        }
+        result
+    }
+}
+
+/// The bytes of a reader, at most `cap` of them. A reader that comes to no end within its turns has failed; it has to
+/// have a turn for each of the bytes and one for the end.
+pub fn read_within<R: Read>(
+    alloc: Global,
+    reader: &mut Turns<R>,
+    cap: usize,
+) -> Result<Vec<u8>, ReadFault>
+    requires turns { cap < reader.old.turns }
+    requires fresh { reader.old.failed ≡ false }
+
+    ensures whole { IfOk result (λ bytes. IfSome reader.old.bytes (λ all. bytes.items ≡ all)) }
+    ensures within { IfOk result (λ bytes. vec_len bytes ≤ cap) }
+    ensures read { OnOk result (reader.new.failed ≡ false) }
+
+    ensures too_long { result ≡ Err ReadFault.TooLong → IfSome reader.old.bytes (λ all. cap < length all) }
+    // Refused memory, and a turn that was interrupted, are no failure.
+    ensures failed { result ≡ Err ReadFault.Failed → (reader.new.failed ≡ true) ⊎ (reader.new.turns ≡ 0) }
+{
+    let mut bytes = Vec::new(alloc);
+    let mut buffer = vec![in alloc; 0u8; PIECE].map_err(|_| ReadFault::OutOfMemory)?;
+    for turn in 0..reader.left() {
+        match reader.read(buffer.as_mut_slice()) {
+            Ok(0) => return Ok(bytes),
+            Ok(n) => {
+                if bytes.extend_from_slice(&buffer[..n]).is_err() {
+                    return Err(ReadFault::OutOfMemory);
+                }
+                if bytes.len() > cap {
+                    return Err(ReadFault::TooLong);
+                }
+            }
+            Err(error) => {
+                if error.kind() != ErrorKind::Interrupted {
+                    return Err(ReadFault::Failed);
+                }
+            }
+        }
+    }
+    Err(ReadFault::Failed)
+}

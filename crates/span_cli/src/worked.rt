@@ -1,0 +1,54 @@
+//! Command lines and files with what the definitions make of them, each computed by the definitions alone.
+#![tactic(auto, unfolding(crate::specs::OnLiterals::on_literals))]
+
+ghost use Rattle.clap.specs.declared.error.kind.ErrorKind.TheVariants as kind;
+ghost use Rattle.span_cli.specs.Serving.{a_check, a_margin, check_answer, done, margin_answer, memory, refused};
+ghost use Rattle.span_cli.specs.Words.{asked_in, is_taken, kinds_of};
+ghost use Rattle.span_cli.specs.declared.sources.ReadFault.TheVariants as read;
+ghost use Rattle.std.specs.Prelude.{◌≡◌, ◌∷◌, Err, None, Ok, Some, [], codes, true};
+
+// `span check p` is taken, and asks for just that.
+fn check_of_a_file()
+    ensures taken { is_taken (codes "span" ∷ codes "check" ∷ codes "p" ∷ []) ≡ true }
+    ensures asked { asked_in (codes "span" ∷ codes "check" ∷ codes "p" ∷ []) ≡ Some (a_check (codes "p")) }
+{}
+
+// `span margin p q` is taken, and asks for just that, with the files in their order.
+fn margin_of_two_files()
+    ensures taken { is_taken (codes "span" ∷ codes "margin" ∷ codes "p" ∷ codes "q" ∷ []) ≡ true }
+    ensures asked { asked_in (codes "span" ∷ codes "margin" ∷ codes "p" ∷ codes "q" ∷ [])
+        ≡ Some (a_margin (codes "p") (codes "q")) }
+{}
+
+// Words that are no request: a command left out, a file left out, and a word too many.
+fn mistakes()
+    ensures no_command { kinds_of (codes "span" ∷ []) ≡ kind.MissingSubcommand ∷ [] }
+    ensures no_file { kinds_of (codes "span" ∷ codes "check" ∷ []) ≡ kind.MissingRequiredArgument ∷ [] }
+    ensures no_positions { kinds_of (codes "span" ∷ codes "margin" ∷ codes "p" ∷ []) ≡ kind.MissingRequiredArgument ∷ [] }
+    ensures too_many { kinds_of (codes "span" ∷ codes "check" ∷ codes "p" ∷ codes "q" ∷ []) ≡ kind.UnknownArgument ∷ [] }
+{}
+
+// Requests for help and for the version.
+fn shown()
+    ensures help { kinds_of (codes "span" ∷ codes "--help" ∷ []) ≡ kind.DisplayHelp ∷ [] }
+    ensures version { kinds_of (codes "span" ∷ codes "--version" ∷ []) ≡ kind.DisplayVersion ∷ [] }
+{}
+
+// A file that cannot be read, or is too long, is named; the first one of two.
+fn files_that_are_not_read()
+    ensures failed { check_answer (codes "p") (Err read.Failed) ≡ refused 6 (codes "file: p\n") }
+    ensures too_long { check_answer (codes "p") (Err read.TooLong) ≡ refused 6 (codes "file: p\n") }
+    ensures memory { check_answer (codes "p") (Err read.OutOfMemory) ≡ refused 5 (codes "memory\n") }
+    ensures first { margin_answer (codes "p") (codes "q") (Err read.Failed) (Err read.TooLong) ≡ refused 6 (codes "file: p\n") }
+    ensures second { margin_answer (codes "p") (codes "q") (Ok []) (Err read.Failed) ≡ refused 6 (codes "file: q\n") }
+{}
+
+// The counts and the statement of small files, and two that are refused.
+fn files_that_are_read()
+    ensures counts { check_answer (codes "p") (Ok (codes "SET,D1,1,USD\nCOMMODITY,AA,0,SUM\n"))
+        ≡ done (codes "OK,D1,1,0,0,0,0,0\n") }
+    ensures no_accounts { margin_answer (codes "p") (codes "q") (Ok (codes "SET,D1,1,USD\n")) (Ok []) ≡ done [] }
+    ensures no_set { check_answer (codes "p") (Ok []) ≡ refused 3 (codes "parameters: P1 NoSet at record 0\n") }
+    ensures unknown_contract { margin_answer (codes "p") (codes "q") (Ok (codes "SET,D1,1,USD\n")) (Ok (codes "X,FA,1\n"))
+        ≡ refused 4 (codes "positions: B1 UnknownContract at record 1 account X\n") }
+{}

@@ -1,0 +1,68 @@
+//! Writers that fail, and writers that do not.
+use crate::Told;
+use std::fmt::{Display, Formatter};
+use std::io::{ErrorKind, Write};
+use std::test::Fail;
+use std::{fmt, io};
+
+// Takes so many bytes and then fails.
+#[derive(Drop)]
+struct Breaking {
+    room: usize,
+}
+
+impl Write for Breaking {
+    fn write(&mut self, buf: &[u8]) -> io::Result<usize> {
+        if self.room == 0 {
+            return Err(ErrorKind::BrokenPipe.into());
+        }
+        let taken = self.room.min(buf.len());
+        self.room -= taken;
+        Ok(taken)
+    }
+
+    fn flush(&mut self) -> io::Result<()> {
+        Ok(())
+    }
+}
+
+// A text that cannot be formatted.
+#[derive(Drop)]
+struct Unsayable;
+
+impl Display for Unsayable {
+    fn fmt<W: fmt::Write>(&self, _f: &mut Formatter<W>) -> fmt::Result {
+        Err(fmt::Error)
+    }
+}
+
+#[test]
+fn keeps_the_bytes_in_order(rt: HostRuntime) -> Result<(), Fail> {
+    let mut told = Told::new(Vec::new(rt.alloc()));
+    told.write_all(b"one,")?;
+    writeln!(told, "{} {}", 2, "three")?;
+    assert!(rt; !told.failed());
+    assert!(rt; told.into_inner().as_slice() == b"one,2 three\n".as_slice());
+    Ok(())
+}
+
+#[test]
+fn remembers_a_failed_write(rt: HostRuntime) -> Result<(), Fail> {
+    let mut told = Told::new(Breaking { room: 5 });
+    assert!(rt; told.write_all(b"1234").is_ok() && !told.failed());
+    assert!(rt; told.write_all(b"56").is_err() && told.failed());
+    // A write of nothing succeeds, and takes nothing back.
+    assert!(rt; told.write_all(b"").is_ok() && told.failed());
+    assert!(rt; writeln!(told, "7").is_err() && told.failed());
+    Ok(())
+}
+
+#[test]
+fn remembers_a_failed_text(rt: HostRuntime) -> Result<(), Fail> {
+    let mut told = Told::new(Breaking { room: 2 });
+    assert!(rt; write!(told, "{}", 12).is_ok() && !told.failed());
+    assert!(rt; write!(told, "{}", 3).is_err() && told.failed());
+    let mut told = Told::new(Breaking { room: 2 });
+    assert!(rt; write!(told, "{}", Unsayable).is_err() && told.failed());
+    Ok(())
+}
