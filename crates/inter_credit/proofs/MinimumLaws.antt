@@ -1,13 +1,16 @@
 -- The short option minimum counts short calls and short puts; the requirement is the larger of two numbers.
-use Rattle.std.proofs.Common.{◌≡◌, ℕ, ◌+◌, ◌*◌, Bool, true, false, cond, ◌&&◌, List, [], ◌∷◌, max, filter, sum_by, nat_abs, ℤ, pos, negsuc, ◌≤ℤ◌, ◌+ℤ◌, ◌-ℤ◌, refl, sym, ap, ◌∙◌, arith}
-use Rattle.std.specs.Prelude.{int_lt}
+use Rattle.std.proofs.Common.{◌≡◌, ℕ, ◌+◌, ◌*◌, ◌<◌, Bool, true, false, cond, ◌&&◌, List, [], ◌∷◌, max, filter, length, take, get_or, sum_by, nat_abs, ℤ, pos, negsuc, ◌≤ℤ◌, ◌+ℤ◌, ◌-ℤ◌, refl, sym, ap, ◌∙◌, arith}
+use Rattle.std.specs.Prelude.{IfSome, int_lt, slice_get}
 use Rattle.std.specs.Int.{int_max}
 use Rattle.std.proofs.lemmas.Bool.Decides.{nat_tests}
-use Rattle.std.proofs.lemmas.List.Sums.{sum_by-cons}
+use Rattle.std.proofs.lemmas.List.Sums.{sum_by-append, sum_by-cons}
+use Rattle.std.proofs.lemmas.List.Elements.{filter_more}
 use Rattle.std.proofs.lemmas.Int.{ints, clamps}
 use Rattle.span_money.specs.Numbers.{negative_part}
 use Rattle.span_tables.specs.Net.{HeldContract}
+use Rattle.span_tables.specs.declared.records.Contract.{Contract}
 use Rattle.span_tables.specs.declared.records.ProductKind.{ProductKind}
+use Rattle.span_tables.proofs.HeldLemmas.{held_here}
 use Rattle.span_tables.specs.declared.records.MinimumMethod.TheVariants as method
 use Rattle.inter_credit.specs.Requirement.{is_call, is_put, minimum_of, requirement_of, short_count}
 
@@ -31,6 +34,22 @@ short_count_is is_kind (h ∷ held) =
     ∙ ap (λ n. n + short_count is_kind held) (counted (is_kind (h.contract).kind) h.net)
     ∙ ap (λ n. cond (is_short h) (nat_abs h.net) 0 + n) (short_count_is is_kind held)
     ∙ sym (by_test (is_short h) (λ x. nat_abs x.net) h (filter is_short held))
+
+last_of : (b : Bool) (h : HeldContract) → sum_by (λ x. negative_part x.net) (cond b (h ∷ []) []) ≡ cond b (negative_part h.net) 0
+last_of true h = sum_by-cons (λ (x : HeldContract). negative_part x.net) h [] ∙ omega arith
+last_of false h = refl
+
+-- one held contract more, by its record and its net
+pub short_count_more : (is_kind : ProductKind → Bool) (held : List HeldContract) (i : ℕ) (x : Contract) (n : ℤ) → i < length held
+    → IfSome (slice_get held i) (λ h. x ≡ h.contract) → IfSome (slice_get held i) (λ h. n ≡ h.net)
+    → short_count is_kind (take (i + 1) held) ≡ short_count is_kind (take i held) + cond (is_kind x.kind) (negative_part n) 0
+short_count_more is_kind held i x n lt contract net =
+    let h : HeldContract = record { contract = x; net = n } in
+    let of_kind : HeldContract → Bool = λ x. is_kind (x.contract).kind in
+    let term : HeldContract → ℕ = λ x. negative_part x.net in
+    ap (sum_by term) (filter_more of_kind held i h lt) ∙ sum_by-append term (filter of_kind (take i held)) (cond (of_kind (get_or held i h)) (get_or held i h ∷ []) [])
+    ∙ ap (λ (k : HeldContract). short_count is_kind (take i held) + sum_by term (cond (of_kind k) (k ∷ []) [])) (sym (held_here held i x n lt contract net))
+    ∙ ap (λ m. short_count is_kind (take i held) + m) (last_of (is_kind x.kind) h)
 
 -- the sum of both kinds
 pub minimum_of_sum : (rate : ℕ) (held : List HeldContract)

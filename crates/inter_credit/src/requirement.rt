@@ -36,10 +36,11 @@ fn short_counts(held: &Held) -> ShortCounts
     let mut calls = 0;
     let mut puts = 0;
     for place in 0..held.len() {
+        let short = short_part(held.net(place));
         match held.contract(place).kind {
             ProductKind::Future => {}
-            ProductKind::Call => calls += short_part(held.net(place)),
-            ProductKind::Put => puts += short_part(held.net(place)),
+            ProductKind::Call => calls += short,
+            ProductKind::Put => puts += short,
         }
     }
     ShortCounts { calls, puts }

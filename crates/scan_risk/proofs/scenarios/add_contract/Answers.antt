@@ -1,6 +1,7 @@
-use Rattle.std.proofs.Common.{◌≡◌, ◌≤◌, ◌+◌, ◌-◌, ◌+ℤ◌, ◌*ℤ◌, ◌∙◌, ap, sym, arith, pos, ℤ, get_or, nat_abs, FitsSigned, w64, rules, subst}
+use Rattle.std.proofs.Common.{◌≡◌, ◌≤◌, ◌+◌, ◌-◌, ◌+ℤ◌, ◌*ℤ◌, ◌∙◌, ap, sym, arith, pos, ℤ, get_or, nat_abs, FitsSigned, to_z, of_z, w64, rules, subst}
 use Rattle.std.proofs.Math.ListN.{length-set}
 use Rattle.std.proofs.lemmas.Int.{to_z-of_z}
+use Rattle.span_tables.specs.declared.limits.TheConstants.{MAX_NET}
 use Rattle.scan_risk.proofs.SumLemmas.{added_more, left_more, bound_more, added_value}
 use Rattle.scan_risk.specs.declared.TheConstants.{MAX_TERM, MAX_SUM}
 use Rattle.scan_risk.proofs.scenarios.add_contract.Goals as goal
@@ -9,14 +10,16 @@ pub loop-scenario-preserved : goal.loop-scenario-preserved
 loop-scenario-preserved c =
     let old = c.args.sums.now in
     let values = c.args.contract.now.values in
-    let net : ℤ = c.args.net in
+    let fits : FitsSigned w64 c.args.net = search rules in
+    let same : to_z w64 (of_z w64 c.args.net) ≡ c.args.net = to_z-of_z w64 c.args.net fits in
+    let net : ℤ = to_z w64 (of_z w64 c.args.net) in
     let s = c.loop-scenario.scenario in
     let sum : ℤ = get_or c.loop-scenario.sums s (pos 0) in
     let kept : sum ≡ get_or old s (pos 0) = c.loop-scenario.invariant.left s (omega arith) in
     let room : nat_abs (get_or old s (pos 0)) + MAX_TERM ≤ MAX_SUM = c.requires.room s (pos 0) (omega (arith, c.told-sums)) in
-    let fits : FitsSigned w64 net = search rules in
     let fits2 : FitsSigned w64 (get_or values s (pos 0)) = search rules in
-    let product : c.term.result ≡ net *ℤ get_or values s (pos 0) = simp to_z-of_z at c.term.ensures.product in
+    let product : c.term.result ≡ net *ℤ get_or values s (pos 0) =
+    (simp to_z-of_z at c.term.ensures.product) ∙ ap (λ (z : ℤ). z *ℤ get_or values s (pos 0)) (sym same) in
     let place : s + 1 - 1 ≡ s = omega arith in
     record {
       long = simp length-set c.loop-scenario.invariant.long;
@@ -29,5 +32,7 @@ loop-scenario-preserved c =
 
 pub returns-clause-bound : goal.returns-clause-bound
 returns-clause-bound c =
-    bound_more c.args.sums.now c.loop-scenario.sums c.args.contract.now.values c.args.net c.requires.net c.requires.contract.values (omega (arith, c.loop-scenario.invariant.long))
-    (λ k h. c.loop-scenario.invariant.added k (omega arith))
+    let fits : FitsSigned w64 c.args.net = search rules in
+    let same : to_z w64 (of_z w64 c.args.net) ≡ c.args.net = to_z-of_z w64 c.args.net fits in
+    bound_more c.args.sums.now c.loop-scenario.sums c.args.contract.now.values (to_z w64 (of_z w64 c.args.net)) (subst (λ z. nat_abs z ≤ MAX_NET) (sym same) c.requires.net)
+    c.requires.contract.values (omega (arith, c.loop-scenario.invariant.long)) (λ k h. c.loop-scenario.invariant.added k (omega arith))

@@ -1,4 +1,5 @@
-use Rattle.std.proofs.Common.{◌≡◌, ◌≤◌, ◌<◌, ◌+◌, ◌-◌, ◌*◌, nat_abs, sym, ap, ◌∙◌, subst, arith, length, drop, suc, get_or, drop-cons, ◌∷◌, lit<}
+use Rattle.std.proofs.Common.{◌≡◌, ◌≤◌, ◌<◌, ◌+◌, ◌-◌, ◌*◌, nat_abs, sym, ap, ◌∙◌, subst, arith, length, drop, suc, get_or, drop-cons, ◌∷◌, lit<, ℤ, FitsSigned, to_z, of_z, w64, rules}
+use Rattle.std.proofs.lemmas.Int.{to_z-of_z}
 use Rattle.spread_stage.proofs.ProductLemmas.{same_128}
 use Rattle.span_tables.specs.Net.{HeldContract}
 use Rattle.span_tables.proofs.HeldLemmas.{held_here}
@@ -17,9 +18,13 @@ loop-i-preserved c =
     let h : HeldContract = record { contract = c.contract-contract.result.now; net = c.net.result } in
     let above : 0 < i = omega arith in
     let next : suc k ≡ i = omega (arith, above) in
-    let lt : k < length held = omega (arith, above, c.len.ensures.value, c.loop-i.auto.i) in
+    let lt : k < length held = omega (arith, above, c.len-i.ensures.value, c.loop-i.auto.i) in
     let at = held_here held k h.contract h.net lt c.contract-contract.ensures.value c.net.ensures.value in
     let split : drop k held ≡ h ∷ drop i held = drop-cons held k h lt ∙ ap (λ (x : HeldContract). x ∷ drop (suc k) held) (sym at) ∙ ap (λ n. h ∷ drop n held) next in
+    let fits : FitsSigned w64 c.net.result = search rules in
+    let same_net : to_z w64 (of_z w64 c.net.result) ≡ c.net.result = to_z-of_z w64 c.net.result fits in
+    let units : c.units_of.result ≡ units_of h =
+    c.units_of.ensures.value ∙ ap (λ (n : ℤ). (let k : HeldContract = record { contract = h.contract; net = n } in units_of k)) same_net in
     let bound : nat_abs c.units_of.result ≤ 100000000000000 = c.units_of.ensures.bound in
     let kept = same_128 c.units_of.result 100000000000000 bound (lit< tt) in
     let added : c.add.new.months.items ≡ with_units (h.contract).month c.units_of.result c.loop-i.months.items =
@@ -28,7 +33,7 @@ loop-i-preserved c =
     let same : total_size c.add.new.months.items ≡ total_size (with_units (h.contract).month c.units_of.result c.loop-i.months.items) = ap total_size added in
     let before : total_size c.loop-i.months.items + i * 100000000000000 ≤ length held * 100000000000000 = c.loop-i.invariant.small in
     record {
-      value = added ∙ ap (λ u. with_units (h.contract).month u c.loop-i.months.items) c.units_of.ensures.value
+      value = added ∙ ap (λ u. with_units (h.contract).month u c.loop-i.months.items) units
           ∙ ap (with_units (h.contract).month (units_of h)) c.loop-i.invariant.value
           ∙ month_deltas-cons h (drop i held) ∙ ap month_deltas (sym split);
       small = omega (arith, larger, same, bound, before, above);
@@ -37,5 +42,5 @@ loop-i-preserved c =
 pub new-requires : goal.new-requires
 new-requires c = record {
   rise = subst MonthsRise (sym c.loop-i.invariant.value) (month_deltas_rise (drop c.loop-i.i c.args.held.now));
-  small = let few : length c.args.held.now ≤ 256 = c.len.ensures.kept.few in omega (arith, few, c.loop-i.invariant.small);
+  small = let few : length c.args.held.now ≤ 256 = c.len-i.ensures.kept.few in omega (arith, few, c.loop-i.invariant.small);
 }
