@@ -5,3 +5,4 @@ pub mod RestLaws
 pub mod Sizes
 pub mod SpreadLemmas
 pub mod LineLemmas
+mod NothingFormed

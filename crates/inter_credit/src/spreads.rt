@@ -71,14 +71,17 @@ fn spreads_formed(lines: &[InterLine], legs: &[CommodityLeg], direction: Directi
     requires ratios { All (λ leg. 0 < leg.ratio) legs.now }
     ensures { result ≡ spreads_formed (commodity_rooms (direction_of direction) legs.now lines.now) }
 {
-    let [first, others @ ..] = legs else {
-        return 0;
-    };
-    let mut n = fit(lines, first, direction);
-    for leg in others {
-        n = n.min(fit(lines, leg, direction));
+    match legs {
+        [] => 0,
+        [leg] => fit(lines, leg, direction),
+        [leg, others @ ..] => {
+            let n = fit(lines, leg, direction);
+            if n == 0 {
+                return 0;
+            }
+            n.min(spreads_formed(lines, others, direction))
+        }
     }
-    n
 }
 
 // A rest of which some units on a market side were used.
@@ -158,7 +161,9 @@ fn spread_one_way(lines: &mut [InterLine], spread: &Inter, direction: Direction)
 {
     let legs = spread.legs.as_slice();
     let n = spreads_formed(lines, legs, direction);
-    use_legs(lines, legs, direction, n, spread.basis_points);
+    if n > 0 {
+        use_legs(lines, legs, direction, n, spread.basis_points);
+    }
 }
 
 // A spread in both directions, with A long first.
