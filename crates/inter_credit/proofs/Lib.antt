@@ -6,3 +6,4 @@ pub mod Sizes
 pub mod SpreadLemmas
 pub mod LineLemmas
 mod NothingFormed
+pub mod OpenLemmas

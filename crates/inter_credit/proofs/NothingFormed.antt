@@ -33,5 +33,5 @@ none_formed d b (leg ∷ legs) lines =
 
 -- a spread of which none is formed
 pub nothing_formed : (spread : Inter) (d : Direction) (lines : List InterLine)
-    → spreads_formed (commodity_rooms d spread.legs.items lines) ≡ 0 → inter_one_way spread d lines ≡ lines
-nothing_formed spread d lines none = rw none (none_formed d spread.basis_points spread.legs.items lines)
+    → spreads_formed (commodity_rooms d spread.legs lines) ≡ 0 → inter_one_way spread d lines ≡ lines
+nothing_formed spread d lines none = rw none (none_formed d spread.basis_points spread.legs lines)

@@ -95,11 +95,11 @@ legs_use d n bp (leg ∷ legs) lines room k =
     (change_uses (market_side d leg.side) (n * leg.ratio) bp leg.commodity lines (room.room 0 leg (omega arith)) k)
     (legs_use d n bp legs (change_at f leg.commodity lines) (HaveRoom-rest d n leg legs lines f room) k)
 
-one_way_uses : (s : Inter) (d : Direction) (lines : List InterLine) → IsInter (length lines) s
+pub one_way_uses : (s : Inter) (d : Direction) (lines : List InterLine) → IsInter (length lines) s
     → (k : ℕ) → UsesLine s.basis_points (line_at lines k) (line_at (inter_one_way s d lines) k)
 one_way_uses s d lines inter k =
-    let n : ℕ = spreads_formed (commodity_rooms d s.legs.items lines) in
-    legs_use d n s.basis_points s.legs.items lines (formed_have_room (length lines) d s lines s.legs.items n inter refl refl refl) k
+    let n : ℕ = spreads_formed (commodity_rooms d s.legs lines) in
+    legs_use d n s.basis_points s.legs lines (formed_have_room (length lines) d s lines s.legs n inter refl refl refl) k
 
 -- a spread in both directions
 pub both_ways_use : (lines : List InterLine) (s : Inter) → IsInter (length lines) s
@@ -107,7 +107,7 @@ pub both_ways_use : (lines : List InterLine) (s : Inter) → IsInter (length lin
 unfolding inter_both_ways
 both_ways_use lines s inter k =
     let first = inter_one_way s a_long lines in
-    let long = length-lines_after a_long (spreads_formed (commodity_rooms a_long s.legs.items lines)) s.basis_points s.legs.items lines in
+    let long = length-lines_after a_long (spreads_formed (commodity_rooms a_long s.legs lines)) s.basis_points s.legs lines in
     then_line s.basis_points (line_at lines k) (line_at first k) (line_at (inter_one_way s a_short first) k)
     (one_way_uses s a_long lines inter k) (one_way_uses s a_short first (rw long inter) k)
 
@@ -116,5 +116,5 @@ pub length-inter_both_ways : (lines : List InterLine) (s : Inter) → length (in
 unfolding inter_both_ways
 length-inter_both_ways lines s =
     let first = inter_one_way s a_long lines in
-    length-lines_after a_short (spreads_formed (commodity_rooms a_short s.legs.items first)) s.basis_points s.legs.items first
-    ∙ length-lines_after a_long (spreads_formed (commodity_rooms a_long s.legs.items lines)) s.basis_points s.legs.items lines
+    length-lines_after a_short (spreads_formed (commodity_rooms a_short s.legs first)) s.basis_points s.legs first
+    ∙ length-lines_after a_long (spreads_formed (commodity_rooms a_long s.legs lines)) s.basis_points s.legs lines

@@ -69,11 +69,11 @@ formed_fit f (leg ∷ next ∷ legs) =
 
 -- the spreads formed fit each leg
 pub formed_have_room : (commodities : ℕ) (d : Direction) (spread : Inter) (lines : List InterLine) (legs : List CommodityLeg) (n : ℕ)
-    → IsInter commodities spread → length lines ≡ commodities → legs ≡ spread.legs.items → n ≡ spreads_formed (commodity_rooms d legs lines)
+    → IsInter commodities spread → length lines ≡ commodities → legs ≡ spread.legs → n ≡ spreads_formed (commodity_rooms d legs lines)
     → HaveRoom d n legs lines
 unfolding room_of
 formed_have_room commodities d spread lines legs n inter long same formed =
-    let known : All (λ leg. leg.commodity < commodities) legs = All-same (λ leg. leg.commodity < commodities) legs spread.legs.items same inter.known in
+    let known : All (λ leg. leg.commodity < commodities) legs = All-same (λ leg. leg.commodity < commodities) legs spread.legs same inter.known in
     record {
       known = rw long known;
       room = rw formed (All-from_recursion (λ leg. spreads_formed (commodity_rooms d legs lines) * leg.ratio ≤ part_on (market_side d leg.side) (rest_at lines leg.commodity)) legs (formed_fit (room_of d lines) legs));

@@ -37,7 +37,7 @@ lines_after d n basis_points legs lines =
 -- a spread in one direction
 abbrev pub inter_one_way : Inter → Direction → List InterLine → List InterLine
 inter_one_way s d lines =
-    lines_after d (spreads_formed (commodity_rooms d s.legs.items lines)) s.basis_points s.legs.items lines
+    lines_after d (spreads_formed (commodity_rooms d s.legs lines)) s.basis_points s.legs lines
 
 -- a spread in both directions, with A long first
 unfoldable pub inter_both_ways : List InterLine → Inter → List InterLine

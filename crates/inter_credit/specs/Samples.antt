@@ -12,7 +12,7 @@ use Rattle.span_tables.specs.declared.records.Side.TheVariants as side
 abbrev pub spread_of : ℕ → ℕ → ℕ → ℕ → ℕ → Inter
 spread_of basis_points first first_ratio second second_ratio = record {
   basis_points = basis_points;
-  legs = record { items = record { commodity = first; side = side.A; ratio = first_ratio } ∷ record { commodity = second; side = side.B; ratio = second_ratio } ∷ [] };
+  legs = record { commodity = first; side = side.A; ratio = first_ratio } ∷ record { commodity = second; side = side.B; ratio = second_ratio } ∷ [];
 }
 
 -- so many of a contract of a kind

@@ -2,7 +2,9 @@
 use Rattle.std.specs.Prelude.{◌≡◌, ℕ, ◌+◌, ◌*◌, ◌≤◌, List, slice_get, option_map, unwrap_or, IfSome, All, ℤ, pos, nat_abs}
 use Rattle.span_money.specs.Numbers.{positive_part, negative_part}
 use Rattle.span_tables.specs.declared.limits.TheConstants.{MAX_BASIS_POINTS}
-use Rattle.inter_credit.specs.Credits.{credit_of, loaded}
+use Rattle.span_tables.specs.Slots.{IsOpenAt}
+use Rattle.span_tables.specs.declared.slots.OpenSides.{OpenSides}
+use Rattle.inter_credit.specs.Credits.{credit_of, loaded, rest_at}
 use Rattle.inter_credit.specs.declared.state.InterLine.{InterLine}
 use Rattle.inter_credit.specs.declared.state.TheConstants.{MAX_UNITS, MAX_PRICE2}
 
@@ -47,3 +49,12 @@ IsNotLoaded lines commodity = IfSome (slice_get lines commodity) (λ line. (line
 -- the credit of the commodity of a number
 abbrev pub credit_at : List InterLine → ℕ → ℕ
 credit_at lines commodity = unwrap_or (option_map credit_of (slice_get lines commodity)) 0
+
+-- the rest of each commodity lies on one of these sides of the market
+abbrev pub AreOpen : OpenSides → List InterLine → Type 0
+AreOpen sides lines = (commodity : ℕ) → IsOpenAt sides commodity (rest_at lines commodity)
+
+-- lines within their ranges, and the sides of the market that their rests lie on
+pub record AreLines (lines : List InterLine) (sides : OpenSides) : Type 0 where
+  pub in_range : All IsLine lines
+  pub open_sides : AreOpen sides lines

@@ -1,18 +1,20 @@
 //! Intercommodity spreads: how many are formed in a direction, and what they use of each commodity.
-ghost use Rattle.std.specs.Prelude.{◌≡◌, ◌<◌, ◌≤◌, ◌*◌, ◌/◌, ◌+◌, length, All, IfOk, nat_abs};
+ghost use Rattle.std.specs.Prelude.{◌≡◌, ◌<◌, ◌≤◌, ◌*◌, ◌/◌, ◌+◌, length, false, List, All, IfOk, nat_abs};
 ghost use Rattle.span_tables.specs.Accepted.{IsInter};
 ghost use Rattle.span_tables.specs.Sides.{less_used, market_side, part_on, spreads_formed};
 ghost use Rattle.span_tables.specs.declared.limits.TheConstants.{MAX_BASIS_POINTS};
 ghost use Rattle.inter_credit.specs.Credits.{change_at, commodity_rooms, inter_both_ways, inter_one_way, line_after, lines_after, rest_at};
 ghost use Rattle.inter_credit.specs.Directions.{direction_of, market_of};
 ghost use Rattle.inter_credit.specs.Rooms.{HaveRoom};
-ghost use Rattle.inter_credit.specs.States.{IsLeftOf, IsLine};
+ghost use Rattle.inter_credit.specs.States.{AreOpen, IsLeftOf, IsLine};
+ghost use Rattle.inter_credit.specs.declared.state.InterLine.{InterLine};
 ghost use Rattle.inter_credit.specs.declared.state.TheConstants.{MAX_UNITS};
 
 use crate::state::{InterLine, InterState};
 use span_money::amounts::Units;
 use span_money::division::greatest_fit;
 use span_tables::records::{CommodityLeg, Inter, Side};
+use span_tables::slots::OpenSides;
 use std::alloc::{AllocError, Global};
 
 // The direction of a spread: side A long and B short, or side A short and B long.
@@ -153,29 +155,68 @@ fn use_legs(
 }
 
 // A spread in one direction.
-fn spread_one_way(lines: &mut [InterLine], spread: &Inter, direction: Direction)
+fn form(lines: &mut [InterLine], spread: &Inter, direction: Direction)
     requires lines { All IsLine lines.old }
     requires spread { IsInter (length lines.old) spread.now }
     ensures value { lines.new ≡ inter_one_way spread.now (direction_of direction) lines.old }
     ensures lines { All IsLine lines.new }
 {
-    let legs = spread.legs.as_slice();
+    let legs = spread.legs();
     let n = spreads_formed(lines, legs, direction);
     if n > 0 {
-        use_legs(lines, legs, direction, n, spread.basis_points);
+        use_legs(lines, legs, direction, n, spread.basis_points());
     }
 }
 
-// A spread in both directions, with A long first.
-#[tactic(auto, unfolding(crate::specs::Credits::inter_both_ways))]
-pub(crate) fn spread_both_ways(lines: &mut [InterLine], spread: &Inter)
+// Whether a spread may be formed in a direction, where rests lie on these sides of the market. `false` says that none is.
+fn may_form(sides: &OpenSides, spread: &Inter, direction: Direction) -> bool
+    ensures { (lines : List InterLine) → AreOpen sides.now lines → result ≡ false → inter_one_way spread.now (direction_of direction) lines ≡ lines }
+{
+    match direction {
+        Direction::ALong => spread.may_draw_on(sides.long, sides.short),
+        Direction::AShort => spread.may_draw_on(sides.short, sides.long),
+    }
+}
+
+// A spread in one direction, which is looked at where rests lie on the sides of the market that it needs.
+fn spread_one_way(
+    lines: &mut [InterLine],
+    sides: &OpenSides,
+    spread: &Inter,
+    direction: Direction,
+)
     requires lines { All IsLine lines.old }
+    requires sides { AreOpen sides.now lines.old }
+    requires spread { IsInter (length lines.old) spread.now }
+    ensures value { lines.new ≡ inter_one_way spread.now (direction_of direction) lines.old }
+    ensures lines { All IsLine lines.new }
+    ensures sides { AreOpen sides.now lines.new }
+{
+    if may_form(sides, spread, direction) {
+        form(lines, spread, direction);
+    }
+}
+
+// A spread in both directions, with A long first, where rests lie on these sides of the market.
+#[tactic(auto, unfolding(crate::specs::Credits::inter_both_ways))]
+pub(crate) fn spread_both_ways(lines: &mut [InterLine], sides: &OpenSides, spread: &Inter)
+    requires lines { All IsLine lines.old }
+    requires sides { AreOpen sides.now lines.old }
     requires spread { IsInter (length lines.old) spread.now }
     ensures value { lines.new ≡ inter_both_ways lines.old spread.now }
     ensures lines { All IsLine lines.new }
+    ensures sides { AreOpen sides.now lines.new }
 {
-    spread_one_way(lines, spread, Direction::ALong);
-    spread_one_way(lines, spread, Direction::AShort);
+    spread_one_way(lines, sides, spread, Direction::ALong);
+    spread_one_way(lines, sides, spread, Direction::AShort);
+}
+
+// Whether a spread may be formed in one of the directions. `false` says that none is.
+#[tactic(auto, unfolding(crate::specs::Credits::inter_both_ways))]
+pub(crate) fn may_form_either(sides: &OpenSides, spread: &Inter) -> bool
+    ensures { (lines : List InterLine) → AreOpen sides.now lines → result ≡ false → inter_both_ways lines spread.now ≡ lines }
+{
+    may_form(sides, spread, Direction::ALong) || may_form(sides, spread, Direction::AShort)
 }
 
 /// The state after a spread in both directions, with A long first: in each, as many are formed as every leg has room for.

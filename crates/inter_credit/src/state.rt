@@ -1,13 +1,14 @@
 //! For each commodity its net delta, what spreads have left of it, its price risk, and what earns its credit.
-ghost use Rattle.std.specs.Prelude.{◌≡◌, ◌<◌, ◌≤◌, ◌==◌, length, replicate, slice_set, All, IfOk, pos, nat_abs};
+ghost use Rattle.std.specs.Prelude.{◌≡◌, ◌<◌, ◌≤◌, ◌==◌, false, length, replicate, slice_set, All, IfOk, pos, nat_abs};
 ghost use Rattle.inter_credit.specs.Credits.{inter_both_ways, loaded};
 ghost use Rattle.span_tables.specs.Accepted.{IsInter};
 ghost use Rattle.inter_credit.specs.States.{IsLine, IsNotLoaded, IsUnspread};
 ghost use Rattle.inter_credit.specs.declared.state.TheConstants.{MAX_PRICE2, MAX_UNITS};
 
-use crate::spreads::spread_both_ways;
+use crate::spreads::{may_form_either, spread_both_ways};
 use span_money::amounts::Units;
 use span_tables::records::Inter;
+use span_tables::slots::OpenSides;
 use std::alloc::{AllocError, Global};
 use std::marker::Model;
 
@@ -32,18 +33,20 @@ pub struct InterLine {
 #[derive(Drop)]
 pub struct InterState {
     lines: Vec<InterLine>,
+    // The sides of the market on which commodities had a rest when they were loaded.
+    sides: OpenSides,
 }
 
 impl Model for InterState {
     ghost use Rattle.std.specs.Prelude.{List, All};
-    ghost use Rattle.inter_credit.specs.States.{IsLine};
+    ghost use Rattle.inter_credit.specs.States.{AreLines};
     ghost use Rattle.inter_credit.specs.declared.state.InterLine.{InterLine};
 
     ghost Value = { List InterLine };
 
     ghost view = { λ state. state.lines.items };
 
-    ghost invariant = { λ state. All IsLine state.lines.items };
+    ghost invariant = { λ state. AreLines state.lines.items state.sides };
 }
 
 impl InterState {
@@ -74,7 +77,8 @@ impl InterState {
         ensures { IfOk result (λ state. state ≡ self.now) }
     {
         let lines = Vec::from_slice(alloc, &self.lines)?;
-        Ok(InterState::of(lines))
+        let sides = self.sides;
+        Ok(InterState { lines, sides })
     }
 
     /// Gives a commodity its net delta and its price risk; its rest is its full net delta.
@@ -89,6 +93,10 @@ impl InterState {
         ensures value { self.new ≡ slice_set self.old commodity (loaded net price2) }
         ensures unspread { IsUnspread self.new }
     {
+        if net.get() == 0 && price2 == 0 {
+            return;
+        }
+        self.sides = self.sides.with(commodity, net.get());
         self.lines[commodity] = loaded(net, price2);
     }
 
@@ -98,15 +106,14 @@ impl InterState {
         ensures value { self.new ≡ inter_both_ways self.old spread.now }
         ensures length { length self.new ≡ length self.old }
     {
-        spread_both_ways(&mut self.lines, spread);
+        spread_both_ways(&mut self.lines, &self.sides, spread);
     }
 
-    // These lines.
-    pub(crate) fn of(lines: Vec<InterLine>) -> InterState
-        requires { All IsLine lines.items }
-        ensures { result ≡ lines.items }
+    /// Whether a spread may be formed. `false` says that none is, and that the state stays as it is.
+    pub fn may_spread(&self, spread: &Inter) -> bool
+        ensures { result ≡ false → inter_both_ways self.now spread.now ≡ self.now }
     {
-        InterState { lines }
+        may_form_either(&self.sides, spread)
     }
 }
 
@@ -128,7 +135,8 @@ pub fn empty(alloc: Global, commodities: usize) -> Result<InterState, AllocError
     ensures unspread { IfOk result IsUnspread }
 {
     let lines = vec![in alloc; loaded(Units::new(0), 0); commodities]?;
-    Ok(InterState::of(lines))
+    let sides = OpenSides::none();
+    Ok(InterState { lines, sides })
 }
 
 /// The state with the net delta and the price risk of one more commodity, whose rest is its full net delta.

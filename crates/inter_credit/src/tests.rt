@@ -64,7 +64,7 @@ fn spread_of(
         side: Side::B,
         ratio: Ratio::new(second.1),
     });
-    Inter { basis_points, legs }
+    Inter::new(basis_points, legs)
 }
 
 #[test]

@@ -1,18 +1,7 @@
-use Rattle.std.proofs.Common.{◌≡◌, ◌<◌, refl, sym, ◌∙◌, arith}
-use Rattle.inter_credit.specs.Credits.{commodity_rooms}
-use Rattle.span_tables.specs.Sides.{spreads_formed}
-use Rattle.inter_credit.proofs.NothingFormed.{nothing_formed}
 use Rattle.inter_credit.specs.Directions.{direction_of}
-use Rattle.inter_credit.proofs.SpreadLemmas.{formed_have_room}
+use Rattle.inter_credit.proofs.OpenLemmas.{open_after}
 use Rattle.inter_credit.proofs.spreads.spread_one_way.Goals as goal
 
-pub use_legs-requires-clause-room : goal.use_legs-requires-clause-room
-use_legs-requires-clause-room c =
-    formed_have_room _ (direction_of c.args.direction) c.args.spread.now c.args.lines.now c.as_slice-legs.result.now c.spreads_formed-n.result
-    c.requires.spread refl c.as_slice-legs.ensures.value c.spreads_formed-n.ensures
-
-pub returns-else-n-gt0-clause-value : goal.returns-else-n-gt0-clause-value
-returns-else-n-gt0-clause-value c =
-    let none : c.spreads_formed-n.result ≡ 0 = omega (arith, c.if-n-gt0.false) in
-    sym (nothing_formed c.args.spread.now (direction_of c.args.direction) c.args.lines.now
-        (rw c.as_slice-legs.ensures.value at (sym c.spreads_formed-n.ensures ∙ none)))
+pub returns-then-may_form-clause-sides : goal.returns-then-may_form-clause-sides
+returns-then-may_form-clause-sides c =
+    rw c.form.ensures.value (open_after c.args.spread.now (direction_of c.args.direction) c.args.sides.now c.args.lines.now c.requires.spread c.requires.sides)
