@@ -40,7 +40,7 @@ fn market_side(direction: Direction, side: Side) -> MarketSide
 }
 
 // How much of a rest is on a market side.
-fn part_on(on: MarketSide, rest: Units) -> u128
+fn part_on(on: MarketSide, rest: Units) -> u64
     ensures { result ≡ part_on (market_of on) rest }
 {
     let rest = rest.get();
@@ -52,7 +52,7 @@ fn part_on(on: MarketSide, rest: Units) -> u128
 }
 
 // How many spreads a leg's commodity has room for.
-fn fit(lines: &[InterLine], leg: &CommodityLeg, direction: Direction) -> u128
+fn fit(lines: &[InterLine], leg: &CommodityLeg, direction: Direction) -> u64
     requires known { leg.now.commodity < length lines.now }
     requires ratio { 0 < leg.now.ratio }
     ensures { result ≡ part_on (market_side (direction_of direction) leg.now.side) (rest_at lines.now leg.now.commodity) / leg.now.ratio }
@@ -66,7 +66,7 @@ fn fit(lines: &[InterLine], leg: &CommodityLeg, direction: Direction) -> u128
 }
 
 // How many spreads are formed in a direction: what each leg has room for.
-fn spreads_formed(lines: &[InterLine], legs: &[CommodityLeg], direction: Direction) -> u128
+fn spreads_formed(lines: &[InterLine], legs: &[CommodityLeg], direction: Direction) -> u64
     requires known { All (λ leg. leg.commodity < length lines.now) legs.now }
     requires ratios { All (λ leg. 0 < leg.ratio) legs.now }
     ensures { result ≡ spreads_formed (commodity_rooms (direction_of direction) legs.now lines.now) }
@@ -82,7 +82,7 @@ fn spreads_formed(lines: &[InterLine], legs: &[CommodityLeg], direction: Directi
 }
 
 // A rest of which some units on a market side were used.
-fn less_used(on: MarketSide, rest: Units, used: u128) -> Units
+fn less_used(on: MarketSide, rest: Units, used: u64) -> Units
     requires rest { nat_abs rest ≤ MAX_UNITS }
     requires used { used ≤ part_on (market_of on) rest }
     ensures value { result ≡ less_used (market_of on) rest used }
@@ -90,13 +90,13 @@ fn less_used(on: MarketSide, rest: Units, used: u128) -> Units
     ensures used { nat_abs result + used ≡ nat_abs rest }
 {
     match on {
-        MarketSide::Long => Units::new(rest.get() - used as i128),
-        MarketSide::Short => Units::new(rest.get() + used as i128),
+        MarketSide::Long => Units::new(rest.get() - used as i64),
+        MarketSide::Short => Units::new(rest.get() + used as i64),
     }
 }
 
 // A commodity of which some units on a market side were used, at so many basis points.
-fn line_after(line: InterLine, on: MarketSide, used: u128, basis_points: u32) -> InterLine
+fn line_after(line: InterLine, on: MarketSide, used: u64, basis_points: u32) -> InterLine
     requires line { IsLine line }
     requires used { used ≤ part_on (market_of on) line.rest }
     requires basis_points { basis_points ≤ MAX_BASIS_POINTS }
@@ -105,7 +105,7 @@ fn line_after(line: InterLine, on: MarketSide, used: u128, basis_points: u32) ->
 {
     InterLine {
         rest: less_used(on, line.rest, used),
-        weight: line.weight + used * u128::from(basis_points),
+        weight: line.weight + u128::from(used) * u128::from(basis_points),
         ..line
     }
 }
@@ -115,7 +115,7 @@ fn use_leg(
     lines: &mut [InterLine],
     leg: &CommodityLeg,
     direction: Direction,
-    n: u128,
+    n: u64,
     basis_points: u32,
 )
     requires known { leg.now.commodity < length lines.old }
@@ -126,7 +126,7 @@ fn use_leg(
     ensures lines { All IsLine lines.new }
 {
     let on = market_side(direction, leg.side);
-    let used = n * u128::from(leg.ratio.get());
+    let used = n * u64::from(leg.ratio.get());
     lines[leg.commodity] = line_after(lines[leg.commodity], on, used, basis_points);
 }
 
@@ -135,7 +135,7 @@ fn use_legs(
     lines: &mut [InterLine],
     legs: &[CommodityLeg],
     direction: Direction,
-    n: u128,
+    n: u64,
     basis_points: u32,
 )
     requires lines { All IsLine lines.old }
