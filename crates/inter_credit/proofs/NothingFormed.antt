@@ -2,15 +2,18 @@
 use Rattle.std.proofs.Common.{◌≡◌, ◌+◌, ◌*◌, ◌==◌, ◌≤◌, ℕ, ℤ, zero, suc, List, [], ◌∷◌, refl, sym, ap, ◌∙◌, arith}
 use Rattle.std.proofs.lemmas.Int.{ints}
 use Rattle.std.specs.Prelude.{pos, ◌-ℤ◌, ◌+ℤ◌}
-use Rattle.span_tables.specs.Sides.{Direction, MarketSide, long, short, market_side, less_used, spreads_formed}
+use Rattle.span_tables.specs.Sides.{market_side, less_used, spreads_formed}
+use Rattle.span_tables.specs.declared.sides.Direction.{Direction}
+use Rattle.span_tables.specs.declared.sides.MarketSide.{MarketSide}
+use Rattle.span_tables.specs.declared.sides.MarketSide.TheVariants.{Long, Short}
 use Rattle.span_tables.specs.declared.records.CommodityLeg.{CommodityLeg}
 use Rattle.span_tables.specs.declared.records.Inter.{Inter}
 use Rattle.inter_credit.specs.Credits.{change_at, commodity_rooms, inter_one_way, line_after, lines_after}
 use Rattle.inter_credit.specs.declared.state.InterLine.{InterLine}
 
 none_used : (on : MarketSide) (z : ℤ) → less_used on z 0 ≡ z
-none_used long z = let e : z -ℤ pos 0 ≡ z = omega (arith, ints) in e
-none_used short z = let e : z +ℤ pos 0 ≡ z = omega (arith, ints) in e
+none_used Long z = let e : z -ℤ pos 0 ≡ z = omega (arith, ints) in e
+none_used Short z = let e : z +ℤ pos 0 ≡ z = omega (arith, ints) in e
 
 no_weight : (w b : ℕ) → w + 0 * b ≡ w
 no_weight w b = omega arith

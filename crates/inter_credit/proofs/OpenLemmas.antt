@@ -5,34 +5,20 @@ use Rattle.std.proofs.Math.Nat.{zero-div}
 use Rattle.std.proofs.lemmas.List.Elements.{All-from_recursion}
 use Rattle.span_money.specs.Numbers.{positive_part, negative_part}
 use Rattle.span_tables.specs.Accepted.{IsInter}
-use Rattle.span_tables.specs.Sides.{Direction, a_long, a_short, MarketSide, long, short, market_side, part_on, spreads_formed}
-use Rattle.span_tables.specs.Slots.{IsMarked, IsOpenAt, by_side}
+use Rattle.span_tables.specs.Sides.{IsLeftOf, market_side, part_on, spreads_formed}
+use Rattle.span_tables.specs.Slots.{IsMarked, IsOpenAt, numbers_on}
 use Rattle.span_tables.specs.declared.records.CommodityLeg.{CommodityLeg}
 use Rattle.span_tables.specs.declared.records.Inter.{Inter}
-use Rattle.span_tables.specs.declared.records.Side.{Side}
-use Rattle.span_tables.specs.declared.records.Side.TheVariants as side
+use Rattle.span_tables.specs.declared.sides.Direction.{Direction}
+use Rattle.span_tables.specs.declared.sides.MarketSide.TheVariants.{Long, Short}
 use Rattle.span_tables.specs.declared.slots.OpenSides.{OpenSides}
 use Rattle.inter_credit.specs.Credits.{commodity_rooms, inter_one_way, loaded, rest_at}
-use Rattle.inter_credit.specs.States.{AreOpen, IsLeftOf, IsLine, IsNotLoaded, IsUnspread, IsUnspreadLine, line_at}
+use Rattle.inter_credit.specs.States.{AreOpen, IsLine, IsNotLoaded, IsUnspread, IsUnspreadLine, line_at}
 use Rattle.inter_credit.specs.declared.state.InterLine.{InterLine}
+use Rattle.inter_credit.specs.declared.state.TheConstants.{MAX_PRICE2}
+use Rattle.span_tables.specs.declared.limits.TheConstants.{MAX_UNITS}
 use Rattle.inter_credit.proofs.NothingFormed.{nothing_formed}
 use Rattle.inter_credit.proofs.RestLaws.{one_way_uses}
-
--- the numbers that may have a rest on a side of the market
-abbrev pub numbers_on : MarketSide → OpenSides → ℕ
-numbers_on long sides = sides.long
-numbers_on short sides = sides.short
-
--- those of a side of a spread, in a direction
-abbrev pub numbers_for : Direction → OpenSides → Side → ℕ
-numbers_for d sides s = by_side s (numbers_on (market_side d side.A) sides) (numbers_on (market_side d side.B) sides)
-
-leg_marked : (d : Direction) (s : Side) (sides : OpenSides) (number : ℕ) (rest : ℤ) → IsOpenAt sides number rest
-    → 0 < part_on (market_side d s) rest → IsMarked (numbers_for d sides s) number
-leg_marked a_long side.A sides number rest at some = at.long some
-leg_marked a_long side.B sides number rest at some = at.short some
-leg_marked a_short side.A sides number rest at some = at.short some
-leg_marked a_short side.B sides number rest at some = at.long some
 
 some_of_some : (x d : ℕ) → 0 < x / d → 0 < x
 some_of_some zero d some = absurd (omega (arith, some, zero-div d))
@@ -41,32 +27,32 @@ some_of_some (suc x) d some = omega arith
 -- where spreads are formed, each leg's commodity is marked
 legs_marked : (d : Direction) (sides : OpenSides) (lines : List InterLine) → AreOpen sides lines → (legs : List CommodityLeg)
     → 0 < spreads_formed (commodity_rooms d legs lines)
-    → AllByRecursion (λ leg. IsMarked (numbers_for d sides leg.side) leg.commodity) legs
+    → AllByRecursion (λ leg. IsMarked (numbers_on (market_side d leg.side) sides) leg.commodity) legs
 legs_marked d sides lines open_sides [] some = tt
 legs_marked d sides lines open_sides (leg ∷ []) some =
-    (leg_marked d leg.side sides leg.commodity (rest_at lines leg.commodity) (open_sides leg.commodity) (some_of_some _ leg.ratio some), tt)
+    (open_sides leg.commodity (market_side d leg.side) (some_of_some _ leg.ratio some), tt)
 legs_marked d sides lines open_sides (leg ∷ next ∷ legs) some =
     let n : ℕ = spreads_formed (commodity_rooms d (next ∷ legs) lines) in
     let fit : ℕ = part_on (market_side d leg.side) (rest_at lines leg.commodity) / leg.ratio in
     let here : 0 < fit = omega (arith, some) in
     let others : 0 < n = omega (arith, some) in
-    (leg_marked d leg.side sides leg.commodity (rest_at lines leg.commodity) (open_sides leg.commodity) (some_of_some _ leg.ratio here),
+    (open_sides leg.commodity (market_side d leg.side) (some_of_some _ leg.ratio here),
     legs_marked d sides lines open_sides (next ∷ legs) others)
 
 closed_by : (n : ℕ) (spread : Inter) (d : Direction) (sides : OpenSides) (lines : List InterLine) (marked : Bool)
     → spreads_formed (commodity_rooms d spread.legs lines) ≡ n
-    → (All (λ leg. IsMarked (numbers_for d sides leg.side) leg.commodity) spread.legs → marked ≡ true)
+    → (All (λ leg. IsMarked (numbers_on (market_side d leg.side) sides) leg.commodity) spread.legs → marked ≡ true)
     → AreOpen sides lines → marked ≡ false → inter_one_way spread d lines ≡ lines
 closed_by zero spread d sides lines marked formed tells open_sides not = nothing_formed spread d lines formed
 closed_by (suc n) spread d sides lines marked formed tells open_sides not =
     let is : marked ≡ true =
-        tells (All-from_recursion (λ leg. IsMarked (numbers_for d sides leg.side) leg.commodity) spread.legs
+        tells (All-from_recursion (λ leg. IsMarked (numbers_on (market_side d leg.side) sides) leg.commodity) spread.legs
             (legs_marked d sides lines open_sides spread.legs (omega (arith, formed)))) in
     absurd cc
 
 -- where some leg's commodity is not marked, nothing is formed
 pub closed_way : (spread : Inter) (d : Direction) (sides : OpenSides) (lines : List InterLine) (marked : Bool)
-    → (All (λ leg. IsMarked (numbers_for d sides leg.side) leg.commodity) spread.legs → marked ≡ true)
+    → (All (λ leg. IsMarked (numbers_on (market_side d leg.side) sides) leg.commodity) spread.legs → marked ≡ true)
     → AreOpen sides lines → marked ≡ false → inter_one_way spread d lines ≡ lines
 closed_way spread d sides lines marked tells open_sides not =
     closed_by (spreads_formed (commodity_rooms d spread.legs lines)) spread d sides lines marked refl tells open_sides not
@@ -77,10 +63,8 @@ rest_of_line (line ∷ lines) zero = refl
 rest_of_line (line ∷ lines) (suc k) = rest_of_line lines k
 
 open_left : (sides : OpenSides) (k : ℕ) (before after : ℤ) → IsLeftOf before after → IsOpenAt sides k before → IsOpenAt sides k after
-open_left sides k before after left at = record {
-  long = λ some. at.long (omega (arith, some, left.long));
-  short = λ some. at.short (omega (arith, some, left.short));
-}
+open_left sides k before after left at Long some = at Long (omega (arith, some, left.long))
+open_left sides k before after left at Short some = at Short (omega (arith, some, left.short))
 
 -- what a spread leaves lies on the same sides
 pub open_after : (spread : Inter) (d : Direction) (sides : OpenSides) (lines : List InterLine) → IsInter (length lines) spread
@@ -90,7 +74,8 @@ open_after spread d sides lines inter open_sides k =
     rw rest_of_line (open_left sides k (line_at lines k).rest (line_at (inter_one_way spread d lines) k).rest uses.rest (rw rest_of_line at (open_sides k)))
 
 no_rest : (sides : OpenSides) (k : ℕ) → IsOpenAt sides k (pos 0)
-no_rest sides k = record { long = λ some. absurd (omega (arith, some)); short = λ some. absurd (omega (arith, some)) }
+no_rest sides k Long some = absurd (omega (arith, some))
+no_rest sides k Short some = absurd (omega (arith, some))
 
 no_rest_at : (n k : ℕ) → rest_at (replicate n (loaded (pos 0) 0)) k ≡ pos 0
 no_rest_at zero k = refl

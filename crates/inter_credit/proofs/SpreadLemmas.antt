@@ -5,7 +5,8 @@ use Rattle.std.proofs.Math.Nat.{div-mul-le_self, mul-le-mul_right, min-le_left, 
 use Rattle.std.proofs.lemmas.List.Elements.{All-from_recursion, All-same}
 use Rattle.std.proofs.lemmas.List.{take_more, map-append, length-take, length-drop, get_or-take, get_or-drop}
 use Rattle.span_tables.specs.Accepted.{IsInter}
-use Rattle.span_tables.specs.Sides.{Direction, Room, market_side, part_on, spreads_formed}
+use Rattle.span_tables.specs.Sides.{Room, market_side, part_on, spreads_formed}
+use Rattle.span_tables.specs.declared.sides.Direction.{Direction}
 use Rattle.span_tables.specs.declared.records.CommodityLeg.{CommodityLeg}
 use Rattle.span_tables.specs.declared.records.Inter.{Inter}
 use Rattle.inter_credit.specs.Credits.{commodity_rooms, rest_at}

@@ -1,6 +1,9 @@
 -- Intercommodity spreads and their credits.
 use Rattle.std.specs.Prelude.{ℕ, zero, suc, ◌+◌, ◌*◌, ◌/◌, ◌^◌, ◌==◌, if◌then◌else◌, List, [], ◌∷◌, map, fold, slice_get, option_map, unwrap_or, ℤ, pos, nat_abs}
-use Rattle.span_tables.specs.Sides.{Direction, a_long, a_short, MarketSide, market_side, part_on, less_used, Room, spreads_formed}
+use Rattle.span_tables.specs.Sides.{market_side, part_on, less_used, Room, spreads_formed}
+use Rattle.span_tables.specs.declared.sides.Direction.{Direction}
+use Rattle.span_tables.specs.declared.sides.Direction.TheVariants.{ALong, AShort}
+use Rattle.span_tables.specs.declared.sides.MarketSide.{MarketSide}
 use Rattle.span_tables.specs.declared.records.CommodityLeg.{CommodityLeg}
 use Rattle.span_tables.specs.declared.records.Inter.{Inter}
 use Rattle.inter_credit.specs.declared.state.InterLine.{InterLine}
@@ -41,7 +44,7 @@ inter_one_way s d lines =
 
 -- a spread in both directions, with A long first
 unfoldable pub inter_both_ways : List InterLine → Inter → List InterLine
-inter_both_ways lines s = inter_one_way s a_short (inter_one_way s a_long lines)
+inter_both_ways lines s = inter_one_way s AShort (inter_one_way s ALong lines)
 
 -- after the spreads of the set, in their order
 unfoldable pub after_inter_spreads : List Inter → List InterLine → List InterLine

@@ -1,5 +1,4 @@
 pub mod Credits
-pub mod Directions
 pub mod Requirement
 pub mod Rooms
 pub mod Samples

@@ -30,7 +30,7 @@ fn credit_of(line: &InterLine) -> u128
     if net == 0 {
         return 0;
     }
-    floor_div(product(line), DOUBLED_WHOLE * net)
+    floor_div(product(line), DOUBLED_WHOLE * u128::from(net))
 }
 
 /// The intercommodity credit of the commodity of a number, in minor units.

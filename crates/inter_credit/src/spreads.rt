@@ -1,63 +1,25 @@
 //! Intercommodity spreads: how many are formed in a direction, and what they use of each commodity.
 ghost use Rattle.std.specs.Prelude.{◌≡◌, ◌<◌, ◌≤◌, ◌*◌, ◌/◌, ◌+◌, length, false, List, All, IfOk, nat_abs};
 ghost use Rattle.span_tables.specs.Accepted.{IsInter};
-ghost use Rattle.span_tables.specs.Sides.{less_used, market_side, part_on, spreads_formed};
+ghost use Rattle.span_tables.specs.Sides.{market_side, part_on, spreads_formed};
 ghost use Rattle.span_tables.specs.declared.limits.TheConstants.{MAX_BASIS_POINTS};
 ghost use Rattle.inter_credit.specs.Credits.{change_at, commodity_rooms, inter_both_ways, inter_one_way, line_after, lines_after, rest_at};
-ghost use Rattle.inter_credit.specs.Directions.{direction_of, market_of};
 ghost use Rattle.inter_credit.specs.Rooms.{HaveRoom};
-ghost use Rattle.inter_credit.specs.States.{AreOpen, IsLeftOf, IsLine};
+ghost use Rattle.inter_credit.specs.States.{AreOpen, IsLine};
 ghost use Rattle.inter_credit.specs.declared.state.InterLine.{InterLine};
-ghost use Rattle.inter_credit.specs.declared.state.TheConstants.{MAX_UNITS};
 
 use crate::state::{InterLine, InterState};
-use span_money::amounts::Units;
 use span_money::division::greatest_fit;
-use span_tables::records::{CommodityLeg, Inter, Side};
+use span_tables::records::{CommodityLeg, Inter};
+use span_tables::sides::{Direction, MarketSide, less_used, market_side, part_on};
 use span_tables::slots::OpenSides;
 use std::alloc::{AllocError, Global};
 
-// The direction of a spread: side A long and B short, or side A short and B long.
-#[derive(Clone, Copy)]
-enum Direction {
-    ALong,
-    AShort,
-}
-
-// The two sides of the market.
-#[derive(Clone, Copy)]
-enum MarketSide {
-    Long,
-    Short,
-}
-
-// The market side of a leg's side, in a direction.
-fn market_side(direction: Direction, side: Side) -> MarketSide
-    ensures { market_of result ≡ market_side (direction_of direction) side }
-{
-    match (direction, side) {
-        (Direction::ALong, Side::A) | (Direction::AShort, Side::B) => MarketSide::Long,
-        (Direction::ALong, Side::B) | (Direction::AShort, Side::A) => MarketSide::Short,
-    }
-}
-
-// How much of a rest is on a market side.
-fn part_on(on: MarketSide, rest: Units) -> u128
-    ensures { result ≡ part_on (market_of on) rest }
-{
-    let rest = rest.get();
-    match on {
-        MarketSide::Long if rest > 0 => rest.unsigned_abs(),
-        MarketSide::Short if rest < 0 => rest.unsigned_abs(),
-        _ => 0,
-    }
-}
-
 // How many spreads a leg's commodity has room for.
-fn fit(lines: &[InterLine], leg: &CommodityLeg, direction: Direction) -> u128
+fn fit(lines: &[InterLine], leg: &CommodityLeg, direction: Direction) -> u64
     requires known { leg.now.commodity < length lines.now }
     requires ratio { 0 < leg.now.ratio }
-    ensures { result ≡ part_on (market_side (direction_of direction) leg.now.side) (rest_at lines.now leg.now.commodity) / leg.now.ratio }
+    ensures { result ≡ part_on (market_side direction leg.now.side) (rest_at lines.now leg.now.commodity) / leg.now.ratio }
 {
     let on = market_side(direction, leg.side);
     let side = part_on(on, lines[leg.commodity].rest);
@@ -68,10 +30,10 @@ fn fit(lines: &[InterLine], leg: &CommodityLeg, direction: Direction) -> u128
 }
 
 // How many spreads are formed in a direction: what each leg has room for.
-fn spreads_formed(lines: &[InterLine], legs: &[CommodityLeg], direction: Direction) -> u128
+fn spreads_formed(lines: &[InterLine], legs: &[CommodityLeg], direction: Direction) -> u64
     requires known { All (λ leg. leg.commodity < length lines.now) legs.now }
     requires ratios { All (λ leg. 0 < leg.ratio) legs.now }
-    ensures { result ≡ spreads_formed (commodity_rooms (direction_of direction) legs.now lines.now) }
+    ensures { result ≡ spreads_formed (commodity_rooms direction legs.now lines.now) }
 {
     match legs {
         [] => 0,
@@ -86,31 +48,17 @@ fn spreads_formed(lines: &[InterLine], legs: &[CommodityLeg], direction: Directi
     }
 }
 
-// A rest of which some units on a market side were used.
-fn less_used(on: MarketSide, rest: Units, used: u128) -> Units
-    requires rest { nat_abs rest ≤ MAX_UNITS }
-    requires used { used ≤ part_on (market_of on) rest }
-    ensures value { result ≡ less_used (market_of on) rest used }
-    ensures left { IsLeftOf rest result }
-    ensures used { nat_abs result + used ≡ nat_abs rest }
-{
-    match on {
-        MarketSide::Long => Units::new(rest.get() - used as i128),
-        MarketSide::Short => Units::new(rest.get() + used as i128),
-    }
-}
-
 // A commodity of which some units on a market side were used, at so many basis points.
-fn line_after(line: InterLine, on: MarketSide, used: u128, basis_points: u32) -> InterLine
+fn line_after(line: InterLine, on: MarketSide, used: u64, basis_points: u32) -> InterLine
     requires line { IsLine line }
-    requires used { used ≤ part_on (market_of on) line.rest }
+    requires used { used ≤ part_on on line.rest }
     requires basis_points { basis_points ≤ MAX_BASIS_POINTS }
-    ensures value { result ≡ line_after (market_of on) used basis_points line }
+    ensures value { result ≡ line_after on used basis_points line }
     ensures line { IsLine result }
 {
     InterLine {
         rest: less_used(on, line.rest, used),
-        weight: line.weight + used * u128::from(basis_points),
+        weight: line.weight + u128::from(used) * u128::from(basis_points),
         ..line
     }
 }
@@ -120,18 +68,18 @@ fn use_leg(
     lines: &mut [InterLine],
     leg: &CommodityLeg,
     direction: Direction,
-    n: u128,
+    n: u64,
     basis_points: u32,
 )
     requires known { leg.now.commodity < length lines.old }
     requires lines { All IsLine lines.old }
-    requires room { n * leg.now.ratio ≤ part_on (market_side (direction_of direction) leg.now.side) (rest_at lines.old leg.now.commodity) }
+    requires room { n * leg.now.ratio ≤ part_on (market_side direction leg.now.side) (rest_at lines.old leg.now.commodity) }
     requires basis_points { basis_points ≤ MAX_BASIS_POINTS }
-    ensures value { lines.new ≡ change_at (line_after (market_side (direction_of direction) leg.now.side) (n * leg.now.ratio) basis_points) leg.now.commodity lines.old }
+    ensures value { lines.new ≡ change_at (line_after (market_side direction leg.now.side) (n * leg.now.ratio) basis_points) leg.now.commodity lines.old }
     ensures lines { All IsLine lines.new }
 {
     let on = market_side(direction, leg.side);
-    let used = n * u128::from(leg.ratio.get());
+    let used = n * u64::from(leg.ratio.get());
     lines[leg.commodity] = line_after(lines[leg.commodity], on, used, basis_points);
 }
 
@@ -140,13 +88,13 @@ fn use_legs(
     lines: &mut [InterLine],
     legs: &[CommodityLeg],
     direction: Direction,
-    n: u128,
+    n: u64,
     basis_points: u32,
 )
     requires lines { All IsLine lines.old }
-    requires room { HaveRoom (direction_of direction) n legs.now lines.old }
+    requires room { HaveRoom direction n legs.now lines.old }
     requires basis_points { basis_points ≤ MAX_BASIS_POINTS }
-    ensures value { lines.new ≡ lines_after (direction_of direction) n basis_points legs.now lines.old }
+    ensures value { lines.new ≡ lines_after direction n basis_points legs.now lines.old }
     ensures lines { All IsLine lines.new }
 {
     for leg in legs {
@@ -158,23 +106,13 @@ fn use_legs(
 fn form(lines: &mut [InterLine], spread: &Inter, direction: Direction)
     requires lines { All IsLine lines.old }
     requires spread { IsInter (length lines.old) spread.now }
-    ensures value { lines.new ≡ inter_one_way spread.now (direction_of direction) lines.old }
+    ensures value { lines.new ≡ inter_one_way spread.now direction lines.old }
     ensures lines { All IsLine lines.new }
 {
     let legs = spread.legs();
     let n = spreads_formed(lines, legs, direction);
     if n > 0 {
         use_legs(lines, legs, direction, n, spread.basis_points());
-    }
-}
-
-// Whether a spread may be formed in a direction, where rests lie on these sides of the market. `false` says that none is.
-fn may_form(sides: &OpenSides, spread: &Inter, direction: Direction) -> bool
-    ensures { (lines : List InterLine) → AreOpen sides.now lines → result ≡ false → inter_one_way spread.now (direction_of direction) lines ≡ lines }
-{
-    match direction {
-        Direction::ALong => spread.may_draw_on(sides.long, sides.short),
-        Direction::AShort => spread.may_draw_on(sides.short, sides.long),
     }
 }
 
@@ -188,11 +126,11 @@ fn spread_one_way(
     requires lines { All IsLine lines.old }
     requires sides { AreOpen sides.now lines.old }
     requires spread { IsInter (length lines.old) spread.now }
-    ensures value { lines.new ≡ inter_one_way spread.now (direction_of direction) lines.old }
+    ensures value { lines.new ≡ inter_one_way spread.now direction lines.old }
     ensures lines { All IsLine lines.new }
     ensures sides { AreOpen sides.now lines.new }
 {
-    if may_form(sides, spread, direction) {
+    if spread.may_form(direction, sides) {
         form(lines, spread, direction);
     }
 }
@@ -216,7 +154,7 @@ pub(crate) fn spread_both_ways(lines: &mut [InterLine], sides: &OpenSides, sprea
 pub(crate) fn may_form_either(sides: &OpenSides, spread: &Inter) -> bool
     ensures { (lines : List InterLine) → AreOpen sides.now lines → result ≡ false → inter_both_ways lines spread.now ≡ lines }
 {
-    may_form(sides, spread, Direction::ALong) || may_form(sides, spread, Direction::AShort)
+    spread.may_form(Direction::ALong, sides) || spread.may_form(Direction::AShort, sides)
 }
 
 /// The state after a spread in both directions, with A long first: in each, as many are formed as every leg has room for.

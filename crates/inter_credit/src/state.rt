@@ -3,7 +3,8 @@ ghost use Rattle.std.specs.Prelude.{◌≡◌, ◌<◌, ◌≤◌, ◌==◌, fal
 ghost use Rattle.inter_credit.specs.Credits.{inter_both_ways, loaded};
 ghost use Rattle.span_tables.specs.Accepted.{IsInter};
 ghost use Rattle.inter_credit.specs.States.{IsLine, IsNotLoaded, IsUnspread};
-ghost use Rattle.inter_credit.specs.declared.state.TheConstants.{MAX_PRICE2, MAX_UNITS};
+ghost use Rattle.inter_credit.specs.declared.state.TheConstants.{MAX_PRICE2};
+ghost use Rattle.span_tables.specs.declared.limits.TheConstants.{MAX_UNITS};
 
 use crate::spreads::{may_form_either, spread_both_ways};
 use span_money::amounts::Units;
@@ -12,8 +13,6 @@ use span_tables::slots::OpenSides;
 use std::alloc::{AllocError, Global};
 use std::marker::Model;
 
-/// The size of a net delta, in units of 10^-8 deltas.
-pub const MAX_UNITS: u64 = 25_600_000_000_000_000;
 /// Price risk doubled, in minor units.
 pub const MAX_PRICE2: u64 = 10_240_000_000_000_000;
 
@@ -96,7 +95,7 @@ impl InterState {
         if net.get() == 0 && price2 == 0 {
             return;
         }
-        self.sides = self.sides.with(commodity, net.get());
+        self.sides = self.sides.with(commodity, net);
         self.lines[commodity] = loaded(net, price2);
     }
 

@@ -7,11 +7,11 @@ ghost use Rattle.inter_credit.specs.declared.requirement.TheConstants.{MAX_PART}
 use super::credit::credit;
 use super::requirement::{MAX_PART, minimum, requirement};
 use super::spreads::inter_spread;
-use super::state::{InterLine, InterState, MAX_PRICE2, MAX_UNITS, empty, load};
+use super::state::{InterLine, InterState, MAX_PRICE2, empty, load};
 use arrayvec::ArrayVec;
 use span_money::amounts::{Delta, Money, Ratio, Scale, Units};
 use span_tables::held::{Held, HeldContract};
-use span_tables::limits::{MAX_BASIS_POINTS, MAX_NET};
+use span_tables::limits::{MAX_BASIS_POINTS, MAX_NET, MAX_UNITS};
 use span_tables::name::Name;
 use span_tables::records::{CommodityLeg, Contract, Inter, MinimumMethod, ProductKind, Side};
 use std::alloc::{AllocError, Global};
@@ -22,12 +22,12 @@ use std::test::Fail;
 fn loaded(
     rt: &impl Abort,
     alloc: Global,
-    commodities: &[(i128, u64)],
+    commodities: &[(i64, u64)],
 ) -> Result<InterState, AllocError> {
     let mut state = empty(alloc, commodities.len())?;
     for (i, (net, price2)) in commodities.iter().enumerate() {
         assert!(rt; i < state.len());
-        assert!(rt; net.unsigned_abs() <= u128::from(MAX_UNITS));
+        assert!(rt; net.unsigned_abs() <= MAX_UNITS);
         assert!(rt; *price2 <= MAX_PRICE2);
         let line = state.lines()[i];
         assert!(rt; line.net.get() == 0);
@@ -204,7 +204,7 @@ fn spreads_of_three_commodities(rt: HostRuntime) -> Result<(), Fail> {
 // The largest net deltas and price risks that a state may have, all of it used at all basis points.
 #[test]
 fn largest_credits(rt: HostRuntime) -> Result<(), Fail> {
-    let largest = i128::from(MAX_UNITS);
+    let largest = MAX_UNITS as i64;
     let state = loaded(
         &rt,
         rt.alloc(),

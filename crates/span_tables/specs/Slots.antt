@@ -2,9 +2,9 @@
 use Rattle.std.specs.Prelude.{◌≡◌, ℕ, ◌<◌, ◌%◌, ◌^◌, ◌==◌, Bool, ℤ, bit_and}
 use Rattle.std.specs.Int.{bit_at}
 use Rattle.std.specs.Int.RustNames.{bit_or}
-use Rattle.span_money.specs.Numbers.{positive_part, negative_part}
-use Rattle.span_tables.specs.declared.records.Side.{Side}
-use Rattle.span_tables.specs.declared.records.Side.TheVariants as side
+use Rattle.span_tables.specs.Sides.{part_on}
+use Rattle.span_tables.specs.declared.sides.MarketSide.{MarketSide}
+use Rattle.span_tables.specs.declared.sides.MarketSide.TheVariants.{Long, Short}
 use Rattle.span_tables.specs.declared.slots.OpenSides.{OpenSides}
 use Rattle.span_tables.specs.declared.slots.TheConstants.{SLOTS}
 
@@ -20,12 +20,11 @@ with_slot word number = bit_or word (2 ^ (number % SLOTS))
 abbrev pub has_all : ℕ → ℕ → Bool
 has_all word other = bit_and word other == other
 
--- a number of this rest is marked on the side of the market that the rest is on
-pub record IsOpenAt (sides : OpenSides) (number : ℕ) (rest : ℤ) : Type 0 where
-  pub long : 0 < positive_part rest → IsMarked sides.long number
-  pub short : 0 < negative_part rest → IsMarked sides.short number
+-- the numbers that may have a rest on a side of the market
+abbrev pub numbers_on : MarketSide → OpenSides → ℕ
+numbers_on Long sides = sides.long
+numbers_on Short sides = sides.short
 
--- what is given for a side, of what is given for both
-abbrev pub by_side : {A : Type 0} → Side → A → A → A
-by_side side.A a b = a
-by_side side.B a b = b
+-- the number of a rest may have it on the side of the market that it is on
+abbrev pub IsOpenAt : OpenSides → ℕ → ℤ → Type 0
+IsOpenAt sides number rest = (on : MarketSide) → 0 < part_on on rest → IsMarked (numbers_on on sides) number

@@ -3,7 +3,8 @@ ghost use Rattle.std.specs.Prelude.{◌≡◌};
 ghost use Rattle.span_tables.specs.steps.Legs.{slots_on};
 
 use crate::name::Name;
-use crate::slots::Slots;
+use crate::sides::{Direction, market_side};
+use crate::slots::{OpenSides, Slots};
 use arrayvec::ArrayVec;
 use span_money::amounts::{Delta, Ratio, Scale};
 use std::marker::Model;
@@ -228,7 +229,8 @@ impl Model for Inter {
 
 impl Inter {
     ghost use Rattle.std.specs.Prelude.{◌≡◌, All, true};
-    ghost use Rattle.span_tables.specs.Slots.{IsMarked, by_side};
+    ghost use Rattle.span_tables.specs.Sides.{market_side};
+    ghost use Rattle.span_tables.specs.Slots.{IsMarked, numbers_on};
 
     /// A spread of this credit rate and these legs.
     pub fn new(basis_points: u32, legs: ArrayVec<CommodityLeg, 4>) -> Inter
@@ -253,13 +255,14 @@ impl Inter {
         self.legs.as_slice()
     }
 
-    /// Whether the commodity of each leg may be in the set that is given for the leg's side.
+    /// Whether the commodity of each leg may have a rest on the side of the market that the leg needs in a direction.
     ///
-    /// `false` tells that one of them is not.
-    pub fn may_draw_on(&self, a: Slots, b: Slots) -> bool
-        ensures { All (λ leg. IsMarked (by_side leg.side a b) leg.commodity) self.now.legs → result ≡ true }
+    /// `false` tells that one of them has none.
+    pub fn may_form(&self, direction: Direction, sides: &OpenSides) -> bool
+        ensures { All (λ leg. IsMarked (numbers_on (market_side direction leg.side) sides.now) leg.commodity) self.now.legs → result ≡ true }
     {
-        a.has_all(self.a) && b.has_all(self.b)
+        sides.on(market_side(direction, Side::A)).has_all(self.a)
+            && sides.on(market_side(direction, Side::B)).has_all(self.b)
     }
 }
 

@@ -1,8 +1,10 @@
 //! Sets of numbers in a word each: of some numbers they tell that they are not in the set.
 ghost use Rattle.std.specs.Prelude.{◌≡◌, ℕ, ℤ};
-ghost use Rattle.span_tables.specs.Slots.{IsOpenAt, has_all, with_slot};
+ghost use Rattle.span_tables.specs.Slots.{IsOpenAt, has_all, numbers_on, with_slot};
 ghost use Rattle.span_tables.specs.declared.slots.OpenSides.{OpenSides};
 
+use crate::sides::MarketSide;
+use span_money::amounts::Units;
 use std::marker::Model;
 
 /// How many slots a word has.
@@ -69,17 +71,28 @@ impl OpenSides {
         }
     }
 
+    /// The numbers that may have a rest on a side of the market.
+    pub fn on(&self, side: MarketSide) -> Slots
+        ensures { result ≡ numbers_on side self.now }
+    {
+        match side {
+            MarketSide::Long => self.long,
+            MarketSide::Short => self.short,
+        }
+    }
+
     /// The sides with one more rest, which is the number's.
-    pub fn with(self, number: usize, rest: i64) -> OpenSides
+    pub fn with(self, number: usize, rest: Units) -> OpenSides
         ensures added { IsOpenAt result number rest }
         ensures kept { (other : ℕ) (z : ℤ) → IsOpenAt self other z → IsOpenAt result other z }
     {
-        if rest > 0 {
+        let units = rest.get();
+        if units > 0 {
             OpenSides {
                 long: self.long.with(number),
                 ..self
             }
-        } else if rest < 0 {
+        } else if units < 0 {
             OpenSides {
                 short: self.short.with(number),
                 ..self

@@ -1,10 +1,9 @@
 //! The deltas of the months in which an account holds contracts of a commodity.
 ghost use Rattle.std.specs.Prelude.{◌≡◌, ◌+◌, ◌*◌, ◌≤◌, nat_abs, nat_le, position, OnOk, IfOk};
 ghost use Rattle.span_tables.specs.Accepted.{IsContract};
-ghost use Rattle.span_tables.specs.declared.limits.TheConstants.{MAX_DELTA, MAX_NET, MAX_SCALE};
+ghost use Rattle.span_tables.specs.declared.limits.TheConstants.{MAX_DELTA, MAX_NET, MAX_SCALE, MAX_UNITS};
 ghost use Rattle.spread_stage.specs.Deltas.{month_deltas, units_of};
 ghost use Rattle.spread_stage.specs.Months.{total_size};
-ghost use Rattle.spread_stage.specs.declared.months.TheConstants.{MAX_UNITS};
 ghost use Rattle.spread_stage.specs.Steps.{with_units};
 
 use crate::months::{MonthUnits, Months};
@@ -13,16 +12,15 @@ use span_tables::held::{Held, HeldContract};
 use std::alloc::{AllocError, Global};
 
 // The delta of a held contract, in units of 10^-8.
-fn units_of(held: &HeldContract) -> i128
+fn units_of(held: &HeldContract) -> i64
     requires net { nat_abs held.now.net ≤ MAX_NET }
     requires contract { IsContract held.now.contract }
     ensures value { result ≡ units_of held.now }
     ensures bound { nat_abs result ≤ MAX_NET * MAX_DELTA * MAX_SCALE }
 {
-    let net = i128::from(held.net);
-    let delta = i128::from(held.contract.delta.get());
-    let scale = i128::from(held.contract.scale.get());
-    net * delta * scale
+    let delta = i64::from(held.contract.delta.get());
+    let scale = i64::from(held.contract.scale.get());
+    held.net * delta * scale
 }
 
 // The place of the first month that is not earlier.
@@ -33,7 +31,7 @@ fn place_of(months: &[MonthUnits], month: u32) -> Option<usize>
 }
 
 // Adds units to a month's, or puts the month with them into its place.
-fn add(months: &mut Vec<MonthUnits>, month: u32, units: i128) -> Result<(), AllocError>
+fn add(months: &mut Vec<MonthUnits>, month: u32, units: i64) -> Result<(), AllocError>
     requires { total_size months.old.items + nat_abs units ≤ MAX_UNITS }
     ensures { OnOk result (months.new.items ≡ with_units month units months.old.items) }
 {

@@ -1,11 +1,11 @@
 //! Laws of the definitions, in the methodology's words: each is the contract of a function that does nothing.
 ghost use Rattle.std.specs.Prelude.{◌≡◌, ℕ, ◌+◌, ◌*◌, ◌^◌, ◌≤◌, List, ◌∷◌, ◌++◌, sum_by};
 ghost use Rattle.span_money.specs.Numbers.{int_sum_by};
-ghost use Rattle.span_tables.specs.Sides.{MarketSide};
 ghost use Rattle.span_tables.specs.declared.held.HeldContract.{HeldContract};
 ghost use Rattle.span_tables.specs.declared.records.Intra.{Intra};
 ghost use Rattle.span_tables.specs.declared.records.MonthLeg.{MonthLeg};
 ghost use Rattle.span_tables.specs.declared.records.Spot.{Spot};
+ghost use Rattle.span_tables.specs.declared.sides.MarketSide.{MarketSide};
 ghost use Rattle.spread_stage.specs.Charges.{delivery_charge, intra_charge, spot_charge};
 ghost use Rattle.spread_stage.specs.Deltas.{month_deltas, net_delta, units_of};
 ghost use Rattle.spread_stage.specs.Months.{MonthsRise, Shrinks};

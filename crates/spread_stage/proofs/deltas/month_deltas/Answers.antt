@@ -1,5 +1,5 @@
 use Rattle.std.proofs.Common.{◌≡◌, ◌≤◌, ◌<◌, ◌+◌, ◌-◌, ◌*◌, nat_abs, sym, ap, ◌∙◌, subst, arith, length, drop, suc, get_or, drop-cons, ◌∷◌, lit<}
-use Rattle.spread_stage.proofs.ProductLemmas.{same_128}
+use Rattle.spread_stage.proofs.ProductLemmas.{same_64}
 use Rattle.spread_stage.proofs.PlaceLemmas.{get_same}
 use Rattle.spread_stage.specs.Months.{total_size, MonthsRise}
 use Rattle.spread_stage.specs.Deltas.{month_deltas, units_of}
@@ -20,7 +20,7 @@ loop-i-preserved c =
     let split : drop k held ≡ h ∷ drop i held = drop-cons held k c.index-held-i.result lt ∙ ap (λ n. h ∷ drop n held) next in
     let units : c.units_of.result ≡ units_of h = c.units_of.ensures.value ∙ ap units_of (c.index-held-i-in-loop-i.is ∙ get_same held k c.index-held-i-in-loop-i.result c.index-held-i.result lt) in
     let bound : nat_abs c.units_of.result ≤ 100000000000000 = c.units_of.ensures.bound in
-    let kept = same_128 c.units_of.result 100000000000000 bound (lit< tt) in
+    let kept = same_64 c.units_of.result 100000000000000 bound (lit< tt) in
     let added : c.add.new.months.items ≡ with_units (h.contract).month c.units_of.result c.loop-i.months.items =
     c.in_ok-add.ensures ∙ ap (λ u. with_units (h.contract).month u c.loop-i.months.items) kept in
     let larger = size-with_units (h.contract).month c.units_of.result c.loop-i.months.items in
