@@ -12,9 +12,10 @@ use Rattle.span_tables.specs.declared.records.Inter.{Inter}
 use Rattle.span_tables.specs.declared.sides.Direction.{Direction}
 use Rattle.span_tables.specs.declared.sides.MarketSide.TheVariants.{Long, Short}
 use Rattle.span_tables.specs.declared.slots.OpenSides.{OpenSides}
-use Rattle.inter_credit.specs.Credits.{commodity_rooms, inter_one_way, loaded, rest_at}
-use Rattle.inter_credit.specs.States.{AreOpen, IsLine, IsNotLoaded, IsUnspread, IsUnspreadLine, line_at}
+use Rattle.inter_credit.specs.Credits.{commodity_rooms, inter_one_way, unspread_line, rest_at}
+use Rattle.inter_credit.specs.States.{IsLine, IsNotLoaded, IsUnspread, IsUnspreadLine, line_at}
 use Rattle.inter_credit.specs.declared.state.InterLine.{InterLine}
+use Rattle.inter_credit.specs.steps.Open.{AreOpen}
 use Rattle.inter_credit.specs.declared.state.TheConstants.{MAX_PRICE2}
 use Rattle.span_tables.specs.declared.limits.TheConstants.{MAX_UNITS}
 use Rattle.inter_credit.proofs.NothingFormed.{nothing_formed}
@@ -77,13 +78,13 @@ no_rest : (sides : OpenSides) (k : ℕ) → IsOpenAt sides k (pos 0)
 no_rest sides k Long some = absurd (omega (arith, some))
 no_rest sides k Short some = absurd (omega (arith, some))
 
-no_rest_at : (n k : ℕ) → rest_at (replicate n (loaded (pos 0) 0)) k ≡ pos 0
+no_rest_at : (n k : ℕ) → rest_at (replicate n (unspread_line (pos 0) 0)) k ≡ pos 0
 no_rest_at zero k = refl
 no_rest_at (suc n) zero = refl
 no_rest_at (suc n) (suc k) = no_rest_at n k
 
 -- commodities without a net delta open no side
-pub none_open : (sides : OpenSides) (n : ℕ) → AreOpen sides (replicate n (loaded (pos 0) 0))
+pub none_open : (sides : OpenSides) (n : ℕ) → AreOpen sides (replicate n (unspread_line (pos 0) 0))
 none_open sides n k = rw (no_rest_at n k) (no_rest sides k)
 
 -- a commodity that is loaded opens its side
@@ -102,7 +103,7 @@ load_open before after lines i line kept new open_sides =
     set_open (IsOpenAt after) lines i line (λ k. kept k (rest_at lines k) (open_sides k)) new
 
 same_line : (line : InterLine) (net : ℤ) (price2 : ℕ) → net ≡ pos 0 → price2 ≡ 0 → line.net ≡ pos 0 → line.price2 ≡ 0
-    → IsUnspreadLine line → line ≡ loaded net price2
+    → IsUnspreadLine line → line ≡ unspread_line net price2
 same_line line net price2 no_net no_risk none nothing unspread = λ k. record {
   net = (none ∙ sym no_net) k;
   rest = (unspread.rest ∙ none ∙ sym no_net) k;
@@ -112,7 +113,7 @@ same_line line net price2 no_net no_risk none nothing unspread = λ k. record {
 
 -- to load nothing where nothing is loaded changes nothing
 pub nothing_loaded : (lines : List InterLine) (i : ℕ) (net : ℤ) (price2 : ℕ) → net ≡ pos 0 → price2 ≡ 0 → IsNotLoaded lines i → IsUnspread lines
-    → lines ≡ set lines i (loaded net price2)
+    → lines ≡ set lines i (unspread_line net price2)
 nothing_loaded [] i net price2 no_net no_risk none unspread = refl
 nothing_loaded (x ∷ xs) zero net price2 no_net no_risk none unspread =
     ap (λ y. y ∷ xs) (same_line x net price2 no_net no_risk none.0 none.1 (unspread 0 x (omega arith)))
@@ -120,7 +121,7 @@ nothing_loaded (x ∷ xs) (suc i) net price2 no_net no_risk none unspread =
     ap (λ ys. x ∷ ys) (nothing_loaded xs i net price2 no_net no_risk none (λ k d lt. unspread (suc k) d (omega arith)))
 
 -- a net delta and a price risk in their ranges make a line
-pub loaded_line : (net : ℤ) (price2 : ℕ) → nat_abs net ≤ MAX_UNITS → price2 ≤ MAX_PRICE2 → IsLine (loaded net price2)
+pub loaded_line : (net : ℤ) (price2 : ℕ) → nat_abs net ≤ MAX_UNITS → price2 ≤ MAX_PRICE2 → IsLine (unspread_line net price2)
 loaded_line net price2 small few = record {
   net = small;
   price2 = few;

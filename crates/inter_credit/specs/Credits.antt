@@ -9,8 +9,8 @@ use Rattle.span_tables.specs.declared.records.Inter.{Inter}
 use Rattle.inter_credit.specs.declared.state.InterLine.{InterLine}
 
 -- a commodity before any spread: its rest is its full net delta
-abbrev pub loaded : ℤ → ℕ → InterLine
-loaded net price2 = record { net = net; rest = net; price2 = price2; weight = 0 }
+abbrev pub unspread_line : ℤ → ℕ → InterLine
+unspread_line net price2 = record { net = net; rest = net; price2 = price2; weight = 0 }
 
 -- a list with the element at a place changed
 abbrev pub change_at : {A : Type 0} → (A → A) → ℕ → List A → List A
@@ -50,6 +50,10 @@ inter_both_ways lines s = inter_one_way s AShort (inter_one_way s ALong lines)
 unfoldable pub after_inter_spreads : List Inter → List InterLine → List InterLine
 after_inter_spreads spreads lines = fold inter_both_ways lines spreads
 
+-- the basis points of a whole
+abbrev pub whole : ℕ
+whole = 10 ^ 4
+
 -- the credit of a commodity: price2 * weight / (2 * 10^4 * |net|) rounded down, and 0 where its net delta is 0
 unfoldable pub credit_of : InterLine → ℕ
-credit_of line = if nat_abs line.net == 0 then 0 else (line.price2 * line.weight) / (2 * 10 ^ 4 * nat_abs line.net)
+credit_of line = if nat_abs line.net == 0 then 0 else (line.price2 * line.weight) / (2 * whole * nat_abs line.net)

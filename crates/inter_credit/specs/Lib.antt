@@ -1,5 +1,5 @@
 pub mod Credits
 pub mod Requirement
-pub mod Rooms
 pub mod Samples
 pub mod States
+pub mod steps

@@ -2,9 +2,7 @@
 use Rattle.std.specs.Prelude.{◌≡◌, ℕ, ◌+◌, ◌*◌, ◌≤◌, List, slice_get, option_map, unwrap_or, IfSome, All, ℤ, pos, nat_abs}
 use Rattle.span_tables.specs.declared.limits.TheConstants.{MAX_BASIS_POINTS, MAX_UNITS}
 use Rattle.span_tables.specs.Sides.{IsLeftOf}
-use Rattle.span_tables.specs.Slots.{IsOpenAt}
-use Rattle.span_tables.specs.declared.slots.OpenSides.{OpenSides}
-use Rattle.inter_credit.specs.Credits.{credit_of, loaded, rest_at}
+use Rattle.inter_credit.specs.Credits.{credit_of, unspread_line}
 use Rattle.inter_credit.specs.declared.state.InterLine.{InterLine}
 use Rattle.inter_credit.specs.declared.state.TheConstants.{MAX_PRICE2}
 
@@ -26,7 +24,7 @@ pub record UsesLine (basis_points : ℕ) (before after : InterLine) : Type 0 whe
 
 -- the line of the commodity of a number
 abbrev pub line_at : List InterLine → ℕ → InterLine
-line_at lines commodity = unwrap_or (slice_get lines commodity) (loaded (pos 0) 0)
+line_at lines commodity = unwrap_or (slice_get lines commodity) (unspread_line (pos 0) 0)
 
 -- no spread was formed: the rest of a commodity is its full net delta
 pub record IsUnspreadLine (line : InterLine) : Type 0 where
@@ -44,12 +42,3 @@ IsNotLoaded lines commodity = IfSome (slice_get lines commodity) (λ line. (line
 -- the credit of the commodity of a number
 abbrev pub credit_at : List InterLine → ℕ → ℕ
 credit_at lines commodity = unwrap_or (option_map credit_of (slice_get lines commodity)) 0
-
--- the rest of each commodity lies on one of these sides of the market
-abbrev pub AreOpen : OpenSides → List InterLine → Type 0
-AreOpen sides lines = (commodity : ℕ) → IsOpenAt sides commodity (rest_at lines commodity)
-
--- lines within their ranges, and the sides of the market that their rests lie on
-pub record AreLines (lines : List InterLine) (sides : OpenSides) : Type 0 where
-  pub in_range : All IsLine lines
-  pub open_sides : AreOpen sides lines

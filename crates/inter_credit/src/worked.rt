@@ -4,13 +4,13 @@
 ghost use Rattle.std.specs.Prelude.{◌≡◌, [], ◌∷◌, map, pos, neg_ℤ};
 ghost use Rattle.span_tables.specs.declared.records.MinimumMethod.TheVariants as method;
 ghost use Rattle.span_tables.specs.declared.records.ProductKind.TheVariants as kind;
-ghost use Rattle.inter_credit.specs.Credits.{after_inter_spreads, credit_of, loaded};
+ghost use Rattle.inter_credit.specs.Credits.{after_inter_spreads, credit_of, unspread_line};
 ghost use Rattle.inter_credit.specs.Requirement.{minimum_of, requirement_of};
 ghost use Rattle.inter_credit.specs.Samples.{held_of_kind, spread_of};
 
 // One long delta against two short ones, at 5000 basis points.
 fn one_credit()
-    ensures { after_inter_spreads (spread_of 5000 0 10000 1 10000 ∷ []) (loaded (pos 100000000) 2400 ∷ loaded (neg_ℤ (pos 200000000)) 3600 ∷ []) ≡ record { net = pos 100000000; rest = pos 0; price2 = 2400; weight = 500000000000 } ∷ record { net = neg_ℤ (pos 200000000); rest = neg_ℤ (pos 100000000); price2 = 3600; weight = 500000000000 } ∷ [] }
+    ensures { after_inter_spreads (spread_of 5000 0 10000 1 10000 ∷ []) (unspread_line (pos 100000000) 2400 ∷ unspread_line (neg_ℤ (pos 200000000)) 3600 ∷ []) ≡ record { net = pos 100000000; rest = pos 0; price2 = 2400; weight = 500000000000 } ∷ record { net = neg_ℤ (pos 200000000); rest = neg_ℤ (pos 100000000); price2 = 3600; weight = 500000000000 } ∷ [] }
 {}
 
 // One long delta against two short ones, at 5000 basis points: the credits.
@@ -20,7 +20,7 @@ fn one_credit_credits()
 
 // Two spreads that share a commodity.
 fn two_spreads()
-    ensures { after_inter_spreads (spread_of 5000 0 10000 1 10000 ∷ spread_of 2000 0 10000 2 10000 ∷ []) (loaded (pos 300000000) 7200 ∷ loaded (neg_ℤ (pos 100000000)) 1800 ∷ loaded (neg_ℤ (pos 100000000)) 600 ∷ []) ≡ record { net = pos 300000000; rest = pos 100000000; price2 = 7200; weight = 700000000000 } ∷ record { net = neg_ℤ (pos 100000000); rest = pos 0; price2 = 1800; weight = 500000000000 } ∷ record { net = neg_ℤ (pos 100000000); rest = pos 0; price2 = 600; weight = 200000000000 } ∷ [] }
+    ensures { after_inter_spreads (spread_of 5000 0 10000 1 10000 ∷ spread_of 2000 0 10000 2 10000 ∷ []) (unspread_line (pos 300000000) 7200 ∷ unspread_line (neg_ℤ (pos 100000000)) 1800 ∷ unspread_line (neg_ℤ (pos 100000000)) 600 ∷ []) ≡ record { net = pos 300000000; rest = pos 100000000; price2 = 7200; weight = 700000000000 } ∷ record { net = neg_ℤ (pos 100000000); rest = pos 0; price2 = 1800; weight = 500000000000 } ∷ record { net = neg_ℤ (pos 100000000); rest = pos 0; price2 = 600; weight = 200000000000 } ∷ [] }
 {}
 
 // Two spreads that share a commodity: the credits.
@@ -30,7 +30,7 @@ fn two_spreads_credits()
 
 // Credits of 399.96 and 299.97.
 fn rounded_down()
-    ensures { after_inter_spreads (spread_of 3333 0 10000 1 10000 ∷ []) (loaded (pos 100000000) 2400 ∷ loaded (neg_ℤ (pos 200000000)) 3600 ∷ []) ≡ record { net = pos 100000000; rest = pos 0; price2 = 2400; weight = 333300000000 } ∷ record { net = neg_ℤ (pos 200000000); rest = neg_ℤ (pos 100000000); price2 = 3600; weight = 333300000000 } ∷ [] }
+    ensures { after_inter_spreads (spread_of 3333 0 10000 1 10000 ∷ []) (unspread_line (pos 100000000) 2400 ∷ unspread_line (neg_ℤ (pos 200000000)) 3600 ∷ []) ≡ record { net = pos 100000000; rest = pos 0; price2 = 2400; weight = 333300000000 } ∷ record { net = neg_ℤ (pos 200000000); rest = neg_ℤ (pos 100000000); price2 = 3600; weight = 333300000000 } ∷ [] }
 {}
 
 // Credits of 399.96 and 299.97: the credits.
@@ -40,7 +40,7 @@ fn rounded_down_credits()
 
 // A ratio of 2 against 3.
 fn unequal_ratios()
-    ensures { after_inter_spreads (spread_of 5000 0 20000 1 30000 ∷ []) (loaded (pos 100000000) 2400 ∷ loaded (neg_ℤ (pos 200000000)) 3600 ∷ []) ≡ record { net = pos 100000000; rest = pos 0; price2 = 2400; weight = 500000000000 } ∷ record { net = neg_ℤ (pos 200000000); rest = neg_ℤ (pos 50000000); price2 = 3600; weight = 750000000000 } ∷ [] }
+    ensures { after_inter_spreads (spread_of 5000 0 20000 1 30000 ∷ []) (unspread_line (pos 100000000) 2400 ∷ unspread_line (neg_ℤ (pos 200000000)) 3600 ∷ []) ≡ record { net = pos 100000000; rest = pos 0; price2 = 2400; weight = 500000000000 } ∷ record { net = neg_ℤ (pos 200000000); rest = neg_ℤ (pos 50000000); price2 = 3600; weight = 750000000000 } ∷ [] }
 {}
 
 // A ratio of 2 against 3: the credits.
@@ -50,7 +50,7 @@ fn unequal_ratios_credits()
 
 // A net delta of 0 forms no spread.
 fn no_net_delta()
-    ensures { after_inter_spreads (spread_of 5000 0 10000 1 10000 ∷ []) (loaded (pos 0) 2400 ∷ loaded (neg_ℤ (pos 200000000)) 3600 ∷ []) ≡ record { net = pos 0; rest = pos 0; price2 = 2400; weight = 0 } ∷ record { net = neg_ℤ (pos 200000000); rest = neg_ℤ (pos 200000000); price2 = 3600; weight = 0 } ∷ [] }
+    ensures { after_inter_spreads (spread_of 5000 0 10000 1 10000 ∷ []) (unspread_line (pos 0) 2400 ∷ unspread_line (neg_ℤ (pos 200000000)) 3600 ∷ []) ≡ record { net = pos 0; rest = pos 0; price2 = 2400; weight = 0 } ∷ record { net = neg_ℤ (pos 200000000); rest = neg_ℤ (pos 200000000); price2 = 3600; weight = 0 } ∷ [] }
 {}
 
 // A net delta of 0 forms no spread: the credits.
@@ -60,7 +60,7 @@ fn no_net_delta_credits()
 
 // Side A short and B long.
 fn second_direction()
-    ensures { after_inter_spreads (spread_of 5000 0 10000 1 10000 ∷ []) (loaded (neg_ℤ (pos 100000000)) 2400 ∷ loaded (pos 200000000) 3600 ∷ []) ≡ record { net = neg_ℤ (pos 100000000); rest = pos 0; price2 = 2400; weight = 500000000000 } ∷ record { net = pos 200000000; rest = pos 100000000; price2 = 3600; weight = 500000000000 } ∷ [] }
+    ensures { after_inter_spreads (spread_of 5000 0 10000 1 10000 ∷ []) (unspread_line (neg_ℤ (pos 100000000)) 2400 ∷ unspread_line (pos 200000000) 3600 ∷ []) ≡ record { net = neg_ℤ (pos 100000000); rest = pos 0; price2 = 2400; weight = 500000000000 } ∷ record { net = pos 200000000; rest = pos 100000000; price2 = 3600; weight = 500000000000 } ∷ [] }
 {}
 
 // Side A short and B long: the credits.
@@ -70,7 +70,7 @@ fn second_direction_credits()
 
 // The largest credits.
 fn largest_credits()
-    ensures { map credit_of (after_inter_spreads (spread_of 10000 0 2550000 1 10000 ∷ []) (loaded (pos 25500000000000000) 10200000000000000 ∷ loaded (neg_ℤ (pos 100000000000000)) 40000000000000 ∷ [])) ≡ 5100000000000000 ∷ 20000000000000 ∷ [] }
+    ensures { map credit_of (after_inter_spreads (spread_of 10000 0 2550000 1 10000 ∷ []) (unspread_line (pos 25500000000000000) 10200000000000000 ∷ unspread_line (neg_ℤ (pos 100000000000000)) 40000000000000 ∷ [])) ≡ 5100000000000000 ∷ 20000000000000 ∷ [] }
 {}
 
 // Two short calls and three short puts, beside long puts and short futures.
