@@ -31,7 +31,7 @@ none_formed d b [] lines = refl
 none_formed d b (leg ∷ legs) lines =
     let none : 0 * leg.ratio ≡ 0 = omega arith in
     let step : change_at (line_after (market_side d leg.side) (0 * leg.ratio) b) leg.commodity lines ≡ lines =
-        rw none (same_lines (line_after (market_side d leg.side) 0 b) (same_line (market_side d leg.side) b) leg.commodity lines) in
+    rw none (same_lines (line_after (market_side d leg.side) 0 b) (same_line (market_side d leg.side) b) leg.commodity lines) in
     ap (λ ls. lines_after d 0 b legs ls) step ∙ none_formed d b legs lines
 
 -- a spread of which none is formed

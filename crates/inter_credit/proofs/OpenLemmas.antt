@@ -36,9 +36,10 @@ legs_marked d sides lines open_sides (leg ∷ next ∷ legs) some =
     let n : ℕ = spreads_formed (commodity_rooms d (next ∷ legs) lines) in
     let fit : ℕ = part_on (market_side d leg.side) (rest_at lines leg.commodity) / leg.ratio in
     let here : 0 < fit = omega (arith, some) in
-    let others : 0 < n = omega (arith, some) in
-    (open_sides leg.commodity (market_side d leg.side) (some_of_some _ leg.ratio here),
-    legs_marked d sides lines open_sides (next ∷ legs) others)
+    let others : 0 < n = omega (arith, some) in (
+      open_sides leg.commodity (market_side d leg.side) (some_of_some _ leg.ratio here),
+      legs_marked d sides lines open_sides (next ∷ legs) others,
+    )
 
 closed_by : (n : ℕ) (spread : Inter) (d : Direction) (sides : OpenSides) (lines : List InterLine) (marked : Bool)
     → spreads_formed (commodity_rooms d spread.legs lines) ≡ n
@@ -47,8 +48,8 @@ closed_by : (n : ℕ) (spread : Inter) (d : Direction) (sides : OpenSides) (line
 closed_by zero spread d sides lines marked formed tells open_sides not = nothing_formed spread d lines formed
 closed_by (suc n) spread d sides lines marked formed tells open_sides not =
     let is : marked ≡ true =
-        tells (All-from_recursion (λ leg. IsMarked (numbers_on (market_side d leg.side) sides) leg.commodity) spread.legs
-            (legs_marked d sides lines open_sides spread.legs (omega (arith, formed)))) in
+    tells (All-from_recursion (λ leg. IsMarked (numbers_on (market_side d leg.side) sides) leg.commodity) spread.legs
+    (legs_marked d sides lines open_sides spread.legs (omega (arith, formed)))) in
     absurd cc
 
 -- where some leg's commodity is not marked, nothing is formed

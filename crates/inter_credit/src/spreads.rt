@@ -118,12 +118,7 @@ fn form(lines: &mut [InterLine], spread: &Inter, direction: Direction)
 }
 
 // A spread in one direction, which is looked at where rests lie on the sides of the market that it needs.
-fn spread_one_way(
-    lines: &mut [InterLine],
-    sides: &OpenSides,
-    spread: &Inter,
-    direction: Direction,
-)
+fn spread_one_way(lines: &mut [InterLine], sides: &OpenSides, spread: &Inter, direction: Direction)
     requires lines { All IsLine lines.old }
     requires sides { AreOpen sides.now lines.old }
     requires spread { IsInter (length lines.old) spread.now }

@@ -14,4 +14,4 @@ pub returns-else-n-gt0-clause-value : goal.returns-else-n-gt0-clause-value
 returns-else-n-gt0-clause-value c =
     let none : c.spreads_formed-n.result ≡ 0 = omega (arith, c.if-n-gt0.false) in
     sym (nothing_formed c.args.spread.now c.args.direction c.args.lines.now
-        (rw c.legs-legs.ensures at (sym c.spreads_formed-n.ensures ∙ none)))
+    (rw c.legs-legs.ensures at (sym c.spreads_formed-n.ensures ∙ none)))
