@@ -4,10 +4,11 @@ use Rattle.std.specs.List.{list_any}
 use Rattle.std.proofs.lemmas.Bool.Decides.{nat_tests}
 use Rattle.std.proofs.lemmas.List.{drop_more}
 use Rattle.span_tables.specs.Names.{has_repeat}
-use Rattle.span_tables.specs.Sides.{Direction, market_side, part_on}
+use Rattle.span_tables.specs.Sides.{market_side, part_on}
+use Rattle.span_tables.specs.declared.sides.Direction.{Direction}
 use Rattle.span_tables.specs.declared.records.CommodityLeg.{CommodityLeg}
 use Rattle.inter_credit.specs.Credits.{change_at, rest_at}
-use Rattle.inter_credit.specs.Rooms.{HaveRoom}
+use Rattle.inter_credit.specs.steps.Rooms.{HaveRoom}
 use Rattle.inter_credit.specs.declared.state.InterLine.{InterLine}
 
 -- a change at a place is a write

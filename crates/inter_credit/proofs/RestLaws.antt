@@ -2,12 +2,16 @@
 use Rattle.std.proofs.Common.{◌≡◌, ◌+◌, ◌*◌, ◌-◌, ◌≤◌, ℕ, zero, suc, List, [], ◌∷◌, length, ℤ, pos, negsuc, neg_ℤ, nat_abs, refl, ◌∙◌, arith}
 use Rattle.std.proofs.lemmas.Int.{ints}
 use Rattle.span_tables.specs.Accepted.{IsInter}
-use Rattle.span_tables.specs.Sides.{Direction, a_long, a_short, MarketSide, long, short, less_used, market_side, part_on, spreads_formed}
+use Rattle.span_tables.specs.Sides.{IsLeftOf, less_used, market_side, part_on, spreads_formed}
+use Rattle.span_tables.specs.declared.sides.Direction.{Direction}
+use Rattle.span_tables.specs.declared.sides.Direction.TheVariants.{ALong, AShort}
+use Rattle.span_tables.specs.declared.sides.MarketSide.{MarketSide}
+use Rattle.span_tables.specs.declared.sides.MarketSide.TheVariants.{Long, Short}
 use Rattle.span_tables.specs.declared.records.CommodityLeg.{CommodityLeg}
 use Rattle.span_tables.specs.declared.records.Inter.{Inter}
 use Rattle.inter_credit.specs.Credits.{change_at, commodity_rooms, inter_both_ways, inter_one_way, line_after, lines_after, rest_at}
-use Rattle.inter_credit.specs.Rooms.{HaveRoom}
-use Rattle.inter_credit.specs.States.{IsLeftOf, UsesLine, line_at}
+use Rattle.inter_credit.specs.steps.Rooms.{HaveRoom}
+use Rattle.inter_credit.specs.States.{UsesLine, line_at}
 use Rattle.inter_credit.specs.declared.state.InterLine.{InterLine}
 use Rattle.inter_credit.proofs.LineLemmas.{HaveRoom-rest, length-change_at}
 use Rattle.inter_credit.proofs.SpreadLemmas.{formed_have_room}
@@ -31,20 +35,20 @@ size_of_neg (suc n) (suc m) used e = e
 
 -- what is left of a rest after a use that it has room for
 used_left : (on : MarketSide) (z : ℤ) (used : ℕ) → used ≤ part_on on z → IsLeftOf z (less_used on z used)
-used_left long (pos n) used le = let e : less_used long (pos n) used ≡ pos (n - used) = omega (arith, ints, le) in rw e (record { long = omega arith; short = omega arith })
-used_left long (negsuc n) used le = let e : less_used long (negsuc n) used ≡ negsuc n = omega (arith, ints, le) in rw e (same_left (negsuc n))
-used_left short (pos n) used le = let e : less_used short (pos n) used ≡ pos n = omega (arith, ints, le) in rw e (same_left (pos n))
-used_left short (negsuc n) used le =
-    let e : less_used short (negsuc n) used ≡ neg_ℤ (pos (suc n - used)) = omega (arith, ints, le) in
+used_left Long (pos n) used le = let e : less_used Long (pos n) used ≡ pos (n - used) = omega (arith, ints, le) in rw e (record { long = omega arith; short = omega arith })
+used_left Long (negsuc n) used le = let e : less_used Long (negsuc n) used ≡ negsuc n = omega (arith, ints, le) in rw e (same_left (negsuc n))
+used_left Short (pos n) used le = let e : less_used Short (pos n) used ≡ pos n = omega (arith, ints, le) in rw e (same_left (pos n))
+used_left Short (negsuc n) used le =
+    let e : less_used Short (negsuc n) used ≡ neg_ℤ (pos (suc n - used)) = omega (arith, ints, le) in
     rw e (left_of_neg (suc n) (suc n - used) (omega arith))
 
 -- what was used and what is left make up the rest
 used_size : (on : MarketSide) (z : ℤ) (used : ℕ) → used ≤ part_on on z → nat_abs (less_used on z used) + used ≡ nat_abs z
-used_size long (pos n) used le = let e : less_used long (pos n) used ≡ pos (n - used) = omega (arith, ints, le) in rw e (omega arith)
-used_size long (negsuc n) used le = let e : less_used long (negsuc n) used ≡ negsuc n = omega (arith, ints, le) in rw e (omega arith)
-used_size short (pos n) used le = let none : used ≤ 0 = le in omega arith
-used_size short (negsuc n) used le =
-    let e : less_used short (negsuc n) used ≡ neg_ℤ (pos (suc n - used)) = omega (arith, ints, le) in
+used_size Long (pos n) used le = let e : less_used Long (pos n) used ≡ pos (n - used) = omega (arith, ints, le) in rw e (omega arith)
+used_size Long (negsuc n) used le = let e : less_used Long (negsuc n) used ≡ negsuc n = omega (arith, ints, le) in rw e (omega arith)
+used_size Short (pos n) used le = let none : used ≤ 0 = le in omega arith
+used_size Short (negsuc n) used le =
+    let e : less_used Short (negsuc n) used ≡ neg_ℤ (pos (suc n - used)) = omega (arith, ints, le) in
     rw e (size_of_neg (suc n) (suc n - used) used (omega arith))
 
 same_line : (basis_points : ℕ) (line : InterLine) → UsesLine basis_points line line
@@ -95,26 +99,26 @@ legs_use d n bp (leg ∷ legs) lines room k =
     (change_uses (market_side d leg.side) (n * leg.ratio) bp leg.commodity lines (room.room 0 leg (omega arith)) k)
     (legs_use d n bp legs (change_at f leg.commodity lines) (HaveRoom-rest d n leg legs lines f room) k)
 
-one_way_uses : (s : Inter) (d : Direction) (lines : List InterLine) → IsInter (length lines) s
+pub one_way_uses : (s : Inter) (d : Direction) (lines : List InterLine) → IsInter (length lines) s
     → (k : ℕ) → UsesLine s.basis_points (line_at lines k) (line_at (inter_one_way s d lines) k)
 one_way_uses s d lines inter k =
-    let n : ℕ = spreads_formed (commodity_rooms d s.legs.items lines) in
-    legs_use d n s.basis_points s.legs.items lines (formed_have_room (length lines) d s lines s.legs.items n inter refl refl refl) k
+    let n : ℕ = spreads_formed (commodity_rooms d s.legs lines) in
+    legs_use d n s.basis_points s.legs lines (formed_have_room (length lines) d s lines s.legs n inter refl refl refl) k
 
 -- a spread in both directions
 pub both_ways_use : (lines : List InterLine) (s : Inter) → IsInter (length lines) s
     → (k : ℕ) → UsesLine s.basis_points (line_at lines k) (line_at (inter_both_ways lines s) k)
 unfolding inter_both_ways
 both_ways_use lines s inter k =
-    let first = inter_one_way s a_long lines in
-    let long = length-lines_after a_long (spreads_formed (commodity_rooms a_long s.legs.items lines)) s.basis_points s.legs.items lines in
-    then_line s.basis_points (line_at lines k) (line_at first k) (line_at (inter_one_way s a_short first) k)
-    (one_way_uses s a_long lines inter k) (one_way_uses s a_short first (rw long inter) k)
+    let first = inter_one_way s ALong lines in
+    let long = length-lines_after ALong (spreads_formed (commodity_rooms ALong s.legs lines)) s.basis_points s.legs lines in
+    then_line s.basis_points (line_at lines k) (line_at first k) (line_at (inter_one_way s AShort first) k)
+    (one_way_uses s ALong lines inter k) (one_way_uses s AShort first (rw long inter) k)
 
 -- and there are as many commodities as before
 pub length-inter_both_ways : (lines : List InterLine) (s : Inter) → length (inter_both_ways lines s) ≡ length lines
 unfolding inter_both_ways
 length-inter_both_ways lines s =
-    let first = inter_one_way s a_long lines in
-    length-lines_after a_short (spreads_formed (commodity_rooms a_short s.legs.items first)) s.basis_points s.legs.items first
-    ∙ length-lines_after a_long (spreads_formed (commodity_rooms a_long s.legs.items lines)) s.basis_points s.legs.items lines
+    let first = inter_one_way s ALong lines in
+    length-lines_after AShort (spreads_formed (commodity_rooms AShort s.legs first)) s.basis_points s.legs first
+    ∙ length-lines_after ALong (spreads_formed (commodity_rooms ALong s.legs lines)) s.basis_points s.legs lines

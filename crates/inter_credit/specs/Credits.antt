@@ -1,13 +1,16 @@
 -- Intercommodity spreads and their credits.
 use Rattle.std.specs.Prelude.{ℕ, zero, suc, ◌+◌, ◌*◌, ◌/◌, ◌^◌, ◌==◌, if◌then◌else◌, List, [], ◌∷◌, map, fold, slice_get, option_map, unwrap_or, ℤ, pos, nat_abs}
-use Rattle.span_tables.specs.Sides.{Direction, a_long, a_short, MarketSide, market_side, part_on, less_used, Room, spreads_formed}
+use Rattle.span_tables.specs.Sides.{market_side, part_on, less_used, Room, spreads_formed}
+use Rattle.span_tables.specs.declared.sides.Direction.{Direction}
+use Rattle.span_tables.specs.declared.sides.Direction.TheVariants.{ALong, AShort}
+use Rattle.span_tables.specs.declared.sides.MarketSide.{MarketSide}
 use Rattle.span_tables.specs.declared.records.CommodityLeg.{CommodityLeg}
 use Rattle.span_tables.specs.declared.records.Inter.{Inter}
 use Rattle.inter_credit.specs.declared.state.InterLine.{InterLine}
 
 -- a commodity before any spread: its rest is its full net delta
-abbrev pub loaded : ℤ → ℕ → InterLine
-loaded net price2 = record { net = net; rest = net; price2 = price2; weight = 0 }
+abbrev pub unspread_line : ℤ → ℕ → InterLine
+unspread_line net price2 = record { net = net; rest = net; price2 = price2; weight = 0 }
 
 -- a list with the element at a place changed
 abbrev pub change_at : {A : Type 0} → (A → A) → ℕ → List A → List A
@@ -37,16 +40,20 @@ lines_after d n basis_points legs lines =
 -- a spread in one direction
 abbrev pub inter_one_way : Inter → Direction → List InterLine → List InterLine
 inter_one_way s d lines =
-    lines_after d (spreads_formed (commodity_rooms d s.legs.items lines)) s.basis_points s.legs.items lines
+    lines_after d (spreads_formed (commodity_rooms d s.legs lines)) s.basis_points s.legs lines
 
 -- a spread in both directions, with A long first
 unfoldable pub inter_both_ways : List InterLine → Inter → List InterLine
-inter_both_ways lines s = inter_one_way s a_short (inter_one_way s a_long lines)
+inter_both_ways lines s = inter_one_way s AShort (inter_one_way s ALong lines)
 
 -- after the spreads of the set, in their order
 unfoldable pub after_inter_spreads : List Inter → List InterLine → List InterLine
 after_inter_spreads spreads lines = fold inter_both_ways lines spreads
 
+-- the basis points of a whole
+abbrev pub whole : ℕ
+whole = 10 ^ 4
+
 -- the credit of a commodity: price2 * weight / (2 * 10^4 * |net|) rounded down, and 0 where its net delta is 0
 unfoldable pub credit_of : InterLine → ℕ
-credit_of line = if nat_abs line.net == 0 then 0 else (line.price2 * line.weight) / (2 * 10 ^ 4 * nat_abs line.net)
+credit_of line = if nat_abs line.net == 0 then 0 else (line.price2 * line.weight) / (2 * whole * nat_abs line.net)

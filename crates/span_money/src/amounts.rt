@@ -47,7 +47,7 @@ impl Money {
 /// A delta position, in units of 10^-8 deltas. A long one is positive.
 #[derive(Clone, Copy, Debug, PartialEq, Eq, PartialOrd, Ord)]
 pub struct Units {
-    hundred_millionths: i128,
+    hundred_millionths: i64,
 }
 
 impl Model for Units {
@@ -62,14 +62,14 @@ impl Model for Units {
 
 impl Units {
     /// The position of so many units.
-    pub fn new(hundred_millionths: i128) -> Units
+    pub fn new(hundred_millionths: i64) -> Units
         ensures { result ≡ hundred_millionths }
     {
         Units { hundred_millionths }
     }
 
     /// How many units it is.
-    pub fn get(self) -> i128
+    pub fn get(self) -> i64
         ensures { result ≡ self }
     {
         self.hundred_millionths

@@ -21,10 +21,10 @@ pub fn ceil_div(n: u128, d: u128) -> u128
 }
 
 /// The greatest number n with `n * ratio` at most `rest`.
-pub fn greatest_fit(rest: u128, ratio: Ratio) -> u128
+pub fn greatest_fit(rest: u64, ratio: Ratio) -> u64
     requires { 0 < ratio }
     ensures value { result ≡ rest / ratio }
     ensures fits { result * ratio ≤ rest }
 {
-    rest / u128::from(ratio.get())
+    rest / u64::from(ratio.get())
 }

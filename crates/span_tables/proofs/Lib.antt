@@ -3,6 +3,8 @@ pub mod SumLaws
 pub mod NetLaws
 pub mod OrderLaws
 pub mod SpreadLaws
+pub mod SlotLemmas
+mod LegSlots
 pub mod Places
 pub mod HeldLemmas
 pub mod StableSort

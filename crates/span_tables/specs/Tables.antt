@@ -86,7 +86,7 @@ commodity_leg commodities leg = record {
 -- a spread with its commodities' numbers
 abbrev pub inter_spread : List Commodity → InterRecord → Inter
 inter_spread commodities s =
-    record { basis_points = s.basis_points; legs = record { items = map (commodity_leg commodities) s.legs.items } }
+    record { basis_points = s.basis_points; legs = map (commodity_leg commodities) s.legs.items }
 
 -- the intercommodity spreads, by rising priority
 unfoldable pub inters_of : AcceptedTables → List Inter

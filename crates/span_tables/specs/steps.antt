@@ -1,2 +1,3 @@
 -- Forms near to the code, which only clauses of private functions and invariants cite.
 pub mod Gathered
+pub mod Legs

@@ -10,6 +10,8 @@ pub mod name;
 pub mod portfolios;
 pub mod raw;
 pub mod records;
+pub mod sides;
+pub mod slots;
 mod sorting;
 mod spreads;
 pub mod tables;

@@ -37,3 +37,7 @@ pub const MAX_PRIORITY: u32 = 9999;
 pub const MAX_BASIS_POINTS: u32 = 10_000;
 /// The size of a position record's quantity.
 pub const MAX_QUANTITY: u32 = 1_000_000;
+
+/// The sizes of an account's month deltas in a commodity together, in units of 10^-8: as many contracts as may be held,
+/// each with the largest net quantity, delta and scale.
+pub const MAX_UNITS: u64 = MAX_HELD as u64 * MAX_NET * MAX_DELTA as u64 * MAX_SCALE as u64;

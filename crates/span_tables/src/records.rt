@@ -1,7 +1,13 @@
 //! The records of both files, and the spreads that the tables make of them: plain data.
+ghost use Rattle.std.specs.Prelude.{◌≡◌};
+ghost use Rattle.span_tables.specs.steps.Legs.{slots_on};
+
 use crate::name::Name;
+use crate::sides::{Direction, market_side};
+use crate::slots::{OpenSides, Slots};
 use arrayvec::ArrayVec;
 use span_money::amounts::{Delta, Ratio, Scale};
+use std::marker::Model;
 
 /// A future, a call or a put.
 #[derive(Clone, Copy, Debug, PartialEq, Eq)]
@@ -201,9 +207,74 @@ pub struct CommodityLeg {
     pub ratio: Ratio,
 }
 
-/// An accepted intercommodity spread, with its credit rate in basis points.
+/// An accepted intercommodity spread: its credit rate in basis points and its legs, with the commodities of either side.
 #[derive(Drop)]
 pub struct Inter {
-    pub basis_points: u32,
-    pub legs: ArrayVec<CommodityLeg, 4>,
+    legs: ArrayVec<CommodityLeg, 4>,
+    a: Slots,
+    b: Slots,
+    basis_points: u32,
+}
+
+impl Model for Inter {
+    ghost use Rattle.span_tables.specs.Spreads.{InterSpread};
+    ghost use Rattle.span_tables.specs.steps.Legs.{AreOfLegs};
+
+    ghost Value = { InterSpread };
+
+    ghost view = { λ s. record { basis_points = s.basis_points; legs = s.legs.items } };
+
+    ghost invariant = { λ s. AreOfLegs s.a s.b s.legs.items };
+}
+
+impl Inter {
+    ghost use Rattle.std.specs.Prelude.{◌≡◌, All, true};
+    ghost use Rattle.span_tables.specs.Sides.{market_side};
+    ghost use Rattle.span_tables.specs.Slots.{IsMarked, numbers_on};
+
+    /// A spread of this credit rate and these legs.
+    pub fn new(basis_points: u32, legs: ArrayVec<CommodityLeg, 4>) -> Inter
+        ensures { result ≡ record { basis_points = basis_points; legs = legs.items } }
+    {
+        let a = commodities_on(&legs, Side::A);
+        let b = commodities_on(&legs, Side::B);
+        Inter { legs, a, b, basis_points }
+    }
+
+    /// The credit rate in basis points.
+    pub fn basis_points(&self) -> u32
+        ensures { result ≡ self.now.basis_points }
+    {
+        self.basis_points
+    }
+
+    /// The legs.
+    pub fn legs(&self) -> &[CommodityLeg]
+        ensures { result.now ≡ self.now.legs }
+    {
+        self.legs.as_slice()
+    }
+
+    /// Whether the commodity of each leg may have a rest on the side of the market that the leg needs in a direction.
+    ///
+    /// `false` tells that one of them has none.
+    pub fn may_form(&self, direction: Direction, sides: &OpenSides) -> bool
+        ensures { All (λ leg. IsMarked (numbers_on (market_side direction leg.side) sides.now) leg.commodity) self.now.legs → result ≡ true }
+    {
+        sides.on(market_side(direction, Side::A)).has_all(self.a)
+            && sides.on(market_side(direction, Side::B)).has_all(self.b)
+    }
+}
+
+// The commodities of the legs on a side.
+fn commodities_on(legs: &[CommodityLeg], side: Side) -> Slots
+    ensures { result ≡ slots_on side legs.now }
+{
+    let mut slots = Slots::none();
+    for leg in legs {
+        if leg.side == side {
+            slots = slots.with(leg.commodity);
+        }
+    }
+    slots
 }

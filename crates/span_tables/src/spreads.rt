@@ -95,10 +95,7 @@ fn inter_of(commodities: &[Commodity], spread: &InterRecord) -> Inter
     for leg in spread.legs.as_slice() {
         legs.push(commodity_leg(commodities, leg));
     }
-    Inter {
-        basis_points: spread.basis_points,
-        legs,
-    }
+    Inter::new(spread.basis_points, legs)
 }
 
 // The spreads in their order, each with its commodities' numbers.

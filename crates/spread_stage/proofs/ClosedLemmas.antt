@@ -7,7 +7,11 @@ use Rattle.std.proofs.Math.Nat.{zero-div}
 use Rattle.std.proofs.lemmas.Bool.Decides.{nat_tests}
 use Rattle.std.proofs.lemmas.Int.{ints}
 use Rattle.std.proofs.lemmas.List.Sums.{sum_by-cons}
-use Rattle.span_tables.specs.Sides.{Direction, a_long, a_short, MarketSide, long, short, market_side, part_on, spreads_formed}
+use Rattle.span_tables.specs.Sides.{market_side, part_on, spreads_formed}
+use Rattle.span_tables.specs.declared.sides.Direction.{Direction}
+use Rattle.span_tables.specs.declared.sides.Direction.TheVariants.{ALong, AShort}
+use Rattle.span_tables.specs.declared.sides.MarketSide.{MarketSide}
+use Rattle.span_tables.specs.declared.sides.MarketSide.TheVariants.{Long, Short}
 use Rattle.span_tables.specs.declared.records.Intra.{Intra}
 use Rattle.span_tables.specs.declared.records.MonthLeg.{MonthLeg}
 use Rattle.span_tables.specs.declared.records.Spot.{Spot}
@@ -19,10 +23,10 @@ use Rattle.spread_stage.proofs.SpreadLemmas.{legs_none}
 use Rattle.spread_stage.proofs.UseLaws.{side-cons, weight}
 
 part_none : (on : MarketSide) (z : ℤ) → nat_abs z ≡ 0 → part_on on z ≡ 0
-part_none long (pos n) e = omega (arith, ints, e)
-part_none long (negsuc n) e = omega (arith, ints, e)
-part_none short (pos n) e = omega (arith, ints, e)
-part_none short (negsuc n) e = omega (arith, ints, e)
+part_none Long (pos n) e = omega (arith, ints, e)
+part_none Long (negsuc n) e = omega (arith, ints, e)
+part_none Short (pos n) e = omega (arith, ints, e)
+part_none Short (negsuc n) e = omega (arith, ints, e)
 
 weight_none : (on : MarketSide) (b : Bool) (z : ℤ) → (b && not (nat_abs z == 0)) ≡ false → cond b (part_on on z) 0 ≡ 0
 weight_none on true z e = let none : nat_abs z ≡ 0 = grind (arith, nat_tests, e) in part_none on z none
@@ -71,7 +75,7 @@ one_way_none t s d e =
 
 both_ways_none : (t : TierRests) (s : Intra) → ((d : Direction) → spreads_formed (tier_rooms d s.legs.items t.rests) ≡ 0) → spread_both_ways t s ≡ t
 unfolding spread_both_ways
-both_ways_none t s none = ap (spread_one_way s a_short) (one_way_none t s a_long (none a_long)) ∙ one_way_none t s a_short (none a_short)
+both_ways_none t s none = ap (spread_one_way s AShort) (one_way_none t s ALong (none ALong)) ∙ one_way_none t s AShort (none AShort)
 
 -- a spread with a leg whose tier is used up changes nothing
 pub both_ways_closed : (t : TierRests) (s : Intra) (legs : List MonthLeg) (rests : List MonthUnits) → legs ≡ s.legs.items → rests ≡ t.rests → has_closed_leg rests legs ≡ true → spread_both_ways t s ≡ t

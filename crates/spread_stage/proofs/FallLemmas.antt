@@ -4,7 +4,10 @@ use Rattle.std.specs.Prelude.{ℤ, pos, negsuc, ◌+ℤ◌, ◌-ℤ◌}
 use Rattle.std.proofs.lemmas.Int.{ints}
 use Rattle.std.proofs.lemmas.List.Sums.{sum_by-cons}
 use Rattle.span_money.specs.Numbers.{positive_part, negative_part}
-use Rattle.span_tables.specs.Sides.{a_long, a_short, MarketSide, long, short, part_on, less_used, spreads_formed}
+use Rattle.span_tables.specs.Sides.{part_on, less_used, spreads_formed}
+use Rattle.span_tables.specs.declared.sides.Direction.TheVariants.{ALong, AShort}
+use Rattle.span_tables.specs.declared.sides.MarketSide.{MarketSide}
+use Rattle.span_tables.specs.declared.sides.MarketSide.TheVariants.{Long, Short}
 use Rattle.span_tables.specs.declared.records.Intra.{Intra}
 use Rattle.span_tables.specs.declared.records.MonthLeg.{MonthLeg}
 use Rattle.spread_stage.specs.Months.{MonthsRise, Shrinks}
@@ -23,14 +26,14 @@ positive_left z n e = ap positive_part e
 
 -- what is left on a side and what was used make the part
 part-less_used : (on : MarketSide) (z : ℤ) (u : ℕ) → u ≤ part_on on z → part_on on (less_used on z u) + u ≡ part_on on z
-part-less_used long (pos n) u h =
+part-less_used Long (pos n) u h =
     let e : pos n -ℤ pos u ≡ pos (n - u) = omega (arith, ints, h) in
     let p = positive_left (pos n -ℤ pos u) (n - u) e in omega (arith, h, p)
-part-less_used long (negsuc n) u h =
+part-less_used Long (negsuc n) u h =
     let e : negsuc n -ℤ pos u ≡ negsuc n = omega (arith, ints, h) in
     let p : positive_part (negsuc n -ℤ pos u) ≡ 0 = ap positive_part e in omega (arith, h, p)
-part-less_used short (pos n) u h = omega (arith, h)
-part-less_used short (negsuc n) u h =
+part-less_used Short (pos n) u h = omega (arith, h)
+part-less_used Short (negsuc n) u h =
     let e : negsuc n +ℤ pos u +ℤ pos (suc n - u) ≡ pos 0 = omega (arith, ints, h) in
     let p = negative_left (negsuc n +ℤ pos u) (suc n - u) u e in omega (arith, h, p)
 
@@ -68,9 +71,9 @@ side_falls on leg rests needed rise enough =
 both_shrink : (deltas : List MonthUnits) (t : TierRests) (s : Intra) → Shrinks deltas t.rests → Shrinks deltas (spread_both_ways t s).rests
 unfolding spread_both_ways
 both_shrink deltas t s h =
-    let once = spread_one_way s a_long t in
-    legs_shrink a_short (spreads_formed (tier_rooms a_short s.legs.items once.rests)) deltas s.legs.items once.rests
-    (legs_shrink a_long (spreads_formed (tier_rooms a_long s.legs.items t.rests)) deltas s.legs.items t.rests h)
+    let once = spread_one_way s ALong t in
+    legs_shrink AShort (spreads_formed (tier_rooms AShort s.legs.items once.rests)) deltas s.legs.items once.rests
+    (legs_shrink ALong (spreads_formed (tier_rooms ALong s.legs.items t.rests)) deltas s.legs.items t.rests h)
 
 all_shrink : (deltas : List MonthUnits) (spreads : List Intra) (t : TierRests) → Shrinks deltas t.rests → Shrinks deltas (fold spread_both_ways t spreads).rests
 all_shrink deltas [] t h = h

@@ -5,7 +5,9 @@ use Rattle.std.specs.List.{AllByRecursion}
 use Rattle.std.proofs.lemmas.Int.{ints}
 use Rattle.std.proofs.lemmas.Bool.Decides.{nat_tests}
 use Rattle.std.proofs.lemmas.List.Sums.{sum_by-cons}
-use Rattle.span_tables.specs.Sides.{MarketSide, long, short, part_on, less_used}
+use Rattle.span_tables.specs.Sides.{part_on, less_used}
+use Rattle.span_tables.specs.declared.sides.MarketSide.{MarketSide}
+use Rattle.span_tables.specs.declared.sides.MarketSide.TheVariants.{Long, Short}
 use Rattle.spread_stage.specs.Deltas.{units_at}
 use Rattle.spread_stage.specs.Spreads.{is_in_tier, tier_side}
 use Rattle.spread_stage.specs.Months.{MonthsRise, total_size, IsPartOf, Shrinks}
@@ -14,17 +16,17 @@ use Rattle.spread_stage.specs.declared.months.MonthUnits.{MonthUnits}
 
 -- a part is at most the size
 pub part_on-le : (on : MarketSide) (z : ℤ) → part_on on z ≤ nat_abs z
-part_on-le long (pos n) = omega arith
-part_on-le long (negsuc n) = omega arith
-part_on-le short (pos n) = omega arith
-part_on-le short (negsuc n) = omega arith
+part_on-le Long (pos n) = omega arith
+part_on-le Long (negsuc n) = omega arith
+part_on-le Short (pos n) = omega arith
+part_on-le Short (negsuc n) = omega arith
 
 -- what was used and what is left make the size
 pub size-less_used : (on : MarketSide) (z : ℤ) (u : ℕ) → u ≤ part_on on z → nat_abs (less_used on z u) + u ≡ nat_abs z
-size-less_used long (pos n) u h = omega (arith, ints, h)
-size-less_used long (negsuc n) u h = omega (arith, ints, h)
-size-less_used short (pos n) u h = omega (arith, ints, h)
-size-less_used short (negsuc n) u h = omega (arith, ints, h)
+size-less_used Long (pos n) u h = omega (arith, ints, h)
+size-less_used Long (negsuc n) u h = omega (arith, ints, h)
+size-less_used Short (pos n) u h = omega (arith, ints, h)
+size-less_used Short (negsuc n) u h = omega (arith, ints, h)
 
 -- a side is at most the size of all rests
 size_if : (on : MarketSide) (b : Bool) (m : MonthUnits) (xs : List MonthUnits) → sum_by (λ (x : MonthUnits). part_on on x.units) (cond b (m ∷ xs) xs) ≤ part_on on m.units + sum_by (λ (x : MonthUnits). part_on on x.units) xs
@@ -58,7 +60,7 @@ IsPartOf-part (negsuc n) (pos k) (negsuc j) h g = absurd g
 IsPartOf-part (negsuc n) (negsuc k) (pos j) h g = g
 IsPartOf-part (negsuc n) (negsuc k) (negsuc j) h g = omega (arith, h, g)
 
-left_of_short : (b : Bool) (n u : ℕ) → nat_lt n u ≡ b → u ≤ suc n → IsPartOf (negsuc n) (less_used short (negsuc n) u)
+left_of_short : (b : Bool) (n u : ℕ) → nat_lt n u ≡ b → u ≤ suc n → IsPartOf (negsuc n) (less_used Short (negsuc n) u)
 left_of_short true n u e h =
     let lt : n < u = grind (arith, nat_tests, e) in
     let z : negsuc n +ℤ pos u ≡ pos 0 = omega (arith, ints, lt, h) in
@@ -71,16 +73,16 @@ left_of_short false n u e h =
 
 -- what is left of a rest is a part of it
 pub IsPartOf-less_used : (on : MarketSide) (z : ℤ) (u : ℕ) → u ≤ part_on on z → IsPartOf z (less_used on z u)
-IsPartOf-less_used long (pos n) u h =
+IsPartOf-less_used Long (pos n) u h =
     let z : pos n -ℤ pos u ≡ pos (n - u) = omega (arith, ints, h) in
     let small : n - u ≤ n = omega arith in
     subst (IsPartOf (pos n)) (sym z) small
-IsPartOf-less_used long (negsuc n) u h =
+IsPartOf-less_used Long (negsuc n) u h =
     let z : negsuc n -ℤ pos u ≡ negsuc n = omega (arith, ints, h) in
     let small : n ≤ n = omega arith in
     subst (IsPartOf (negsuc n)) (sym z) small
-IsPartOf-less_used short (pos n) u h = omega (arith, h)
-IsPartOf-less_used short (negsuc n) u h = left_of_short (nat_lt n u) n u refl h
+IsPartOf-less_used Short (pos n) u h = omega (arith, h)
+IsPartOf-less_used Short (negsuc n) u h = left_of_short (nat_lt n u) n u refl h
 
 -- a part is at most as large
 pub IsPartOf-size : (a b : ℤ) → IsPartOf a b → nat_abs b ≤ nat_abs a

@@ -3,7 +3,11 @@ use Rattle.std.proofs.Common.{◌≡◌, ℕ, zero, suc, ◌+◌, ◌*◌, ◌-�
 use Rattle.std.specs.Prelude.{ℤ, All}
 use Rattle.std.proofs.Math.Nat.{mul-le-mul}
 use Rattle.std.proofs.lemmas.Int.{ints}
-use Rattle.span_tables.specs.Sides.{Direction, a_long, a_short, MarketSide, long, short, market_side, part_on, less_used, spreads_formed}
+use Rattle.span_tables.specs.Sides.{market_side, part_on, less_used, spreads_formed}
+use Rattle.span_tables.specs.declared.sides.Direction.{Direction}
+use Rattle.span_tables.specs.declared.sides.Direction.TheVariants.{ALong, AShort}
+use Rattle.span_tables.specs.declared.sides.MarketSide.{MarketSide}
+use Rattle.span_tables.specs.declared.sides.MarketSide.TheVariants.{Long, Short}
 use Rattle.span_tables.specs.Laws.{Fits}
 use Rattle.span_tables.proofs.SpreadLaws.{formed_fit}
 use Rattle.span_tables.specs.declared.records.Intra.{Intra}
@@ -11,7 +15,7 @@ use Rattle.span_tables.specs.declared.records.MonthLeg.{MonthLeg}
 use Rattle.spread_stage.specs.Months.{MonthsRise, total_size, Shrinks}
 use Rattle.spread_stage.specs.Spreads.{is_in_tier, tier_side, side_before, used_of_month, rests_after_leg, rests_after, tier_rooms, TierRests, spread_both_ways}
 use Rattle.spread_stage.specs.declared.months.MonthUnits.{MonthUnits}
-use Rattle.spread_stage.specs.declared.months.TheConstants.{MAX_UNITS}
+use Rattle.span_tables.specs.declared.limits.TheConstants.{MAX_UNITS}
 use Rattle.spread_stage.proofs.SizeLemmas.{rise_after, size_after, shrinks_after, tier_side-le}
 use Rattle.spread_stage.proofs.UseLaws.{used_total}
 
@@ -43,8 +47,8 @@ module _ (on : MarketSide) (needed : ℕ) (rests : List MonthUnits) (leg : Month
   leg_falls rise enough = let e = leg_size in let all = used_total on leg rests needed rise enough in omega (arith, e, all)
 
 none_used : (on : MarketSide) (z : ℤ) (u : ℕ) → u ≡ 0 → less_used on z u ≡ z
-none_used long z u e = omega (arith, ints, e)
-none_used short z u e = omega (arith, ints, e)
+none_used Long z u e = omega (arith, ints, e)
+none_used Short z u e = omega (arith, ints, e)
 
 unused : (on : MarketSide) (used : MonthUnits → ℕ) → ((m : MonthUnits) → used m ≡ 0) → (ms : List MonthUnits)
     → map (λ m. record { month = m.month; units = less_used on m.units (used m) }) ms ≡ ms
@@ -132,8 +136,8 @@ module _ (d : Direction) where
 
 -- both directions, one after the other
 pub both_ways : (t : TierRests) (s : Intra) (legs : List MonthLeg) (none first second : List MonthUnits) (n k charge : ℕ) → legs ≡ s.legs.items → none ≡ t.rests
-    → n ≡ spreads_formed (tier_rooms a_long legs none) → first ≡ rests_after a_long n legs none
-    → k ≡ spreads_formed (tier_rooms a_short legs first) → second ≡ rests_after a_short k legs first
+    → n ≡ spreads_formed (tier_rooms ALong legs none) → first ≡ rests_after ALong n legs none
+    → k ≡ spreads_formed (tier_rooms AShort legs first) → second ≡ rests_after AShort k legs first
     → charge ≡ t.charge + n * s.rate + k * s.rate → record { rests = second; charge = charge } ≡ spread_both_ways t s
 unfolding spread_both_ways
 both_ways t s legs none first second n k charge a b e f g h i = cc

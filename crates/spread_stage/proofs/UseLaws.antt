@@ -6,7 +6,8 @@ use Rattle.std.proofs.lemmas.Bool.Decides.{nat_tests}
 use Rattle.std.proofs.lemmas.List.{append_assoc}
 use Rattle.std.proofs.lemmas.List.Elements.{filter-append}
 use Rattle.std.proofs.lemmas.List.Sums.{sum_by-append, sum_by-cons}
-use Rattle.span_tables.specs.Sides.{MarketSide, part_on}
+use Rattle.span_tables.specs.Sides.{part_on}
+use Rattle.span_tables.specs.declared.sides.MarketSide.{MarketSide}
 use Rattle.spread_stage.specs.Spreads.{is_in_tier, tier_side, side_before, used_of_month}
 use Rattle.spread_stage.specs.Months.{MonthsRise}
 use Rattle.spread_stage.specs.declared.months.MonthUnits.{MonthUnits}

@@ -1,6 +1,7 @@
 -- What legs use, in one pass over the rests.
 use Rattle.std.proofs.Common.{◌≡◌, ℕ, ◌+◌, ◌-◌, min, Bool, true, false, cond, List, [], ◌∷◌, ◌++◌, refl, sym, ap, ◌∙◌, subst, arith, append_assoc, map}
-use Rattle.span_tables.specs.Sides.{MarketSide, part_on, less_used}
+use Rattle.span_tables.specs.Sides.{part_on, less_used}
+use Rattle.span_tables.specs.declared.sides.MarketSide.{MarketSide}
 use Rattle.spread_stage.specs.Spreads.{is_in_tier, tier_side, used_of_month, rests_after_leg}
 use Rattle.spread_stage.specs.Steps.{used_now, used_in_turn}
 use Rattle.spread_stage.specs.Months.{MonthsRise}

@@ -2,7 +2,6 @@ pub mod Deltas
 pub mod Spreads
 pub mod Charges
 pub mod Months
-pub mod Market
 pub mod Steps
 pub mod Samples
 pub mod Slots

@@ -1,10 +1,9 @@
 -- What months and the rests of tiers keep.
 use Rattle.std.specs.Prelude.{◌≡◌, ℕ, ◌+◌, ◌*◌, ◌<◌, ◌≤◌, List, [], ◌∷◌, sum_by, ⊤, ℤ, pos, negsuc, nat_abs}
 use Rattle.std.specs.List.{AllByRecursion}
-use Rattle.span_tables.specs.declared.limits.TheConstants.{MAX_RATE}
+use Rattle.span_tables.specs.declared.limits.TheConstants.{MAX_RATE, MAX_UNITS}
 use Rattle.spread_stage.specs.Spreads.{TierRests}
 use Rattle.spread_stage.specs.declared.months.MonthUnits.{MonthUnits}
-use Rattle.spread_stage.specs.declared.months.TheConstants.{MAX_UNITS}
 
 -- the months rise, so that each stands once
 abbrev pub MonthsRise : List MonthUnits → Type 0

@@ -1,6 +1,9 @@
 -- Intracommodity spreads: the sides of tiers, what spreads use of them, and the rests and the charge after them.
 use Rattle.std.specs.Prelude.{ℕ, ◌+◌, ◌-◌, ◌*◌, min, Bool, ◌&&◌, nat_lt, nat_le, if◌then◌else◌, List, map, filter, sum_by, fold}
-use Rattle.span_tables.specs.Sides.{Direction, a_long, a_short, MarketSide, market_side, part_on, less_used, Room, spreads_formed}
+use Rattle.span_tables.specs.Sides.{market_side, part_on, less_used, Room, spreads_formed}
+use Rattle.span_tables.specs.declared.sides.Direction.{Direction}
+use Rattle.span_tables.specs.declared.sides.Direction.TheVariants.{ALong, AShort}
+use Rattle.span_tables.specs.declared.sides.MarketSide.{MarketSide}
 use Rattle.spread_stage.specs.declared.months.MonthUnits.{MonthUnits}
 use Rattle.span_tables.specs.declared.records.MonthLeg.{MonthLeg}
 use Rattle.span_tables.specs.declared.records.Intra.{Intra}
@@ -50,7 +53,7 @@ spread_one_way s d t =
 
 -- a spread in both directions, with A long first
 unfoldable pub spread_both_ways : TierRests → Intra → TierRests
-spread_both_ways t s = spread_one_way s a_short (spread_one_way s a_long t)
+spread_both_ways t s = spread_one_way s AShort (spread_one_way s ALong t)
 
 -- before any spread, each month's rest is its delta
 abbrev pub unspread : List MonthUnits → TierRests

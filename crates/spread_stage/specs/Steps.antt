@@ -1,7 +1,8 @@
 -- The steps of the code, in the words of the definitions.
 use Rattle.std.specs.Prelude.{ℕ, ◌-◌, ◌==◌, min, Bool, not, ◌&&◌, nat_lt, if◌then◌else◌, List, [], ◌∷◌, ℤ, ◌+ℤ◌, nat_abs}
 use Rattle.std.specs.List.{list_any}
-use Rattle.span_tables.specs.Sides.{MarketSide, part_on, less_used}
+use Rattle.span_tables.specs.Sides.{part_on, less_used}
+use Rattle.span_tables.specs.declared.sides.MarketSide.{MarketSide}
 use Rattle.span_tables.specs.declared.records.MonthLeg.{MonthLeg}
 use Rattle.spread_stage.specs.Spreads.{is_in_tier}
 use Rattle.spread_stage.specs.declared.months.MonthUnits.{MonthUnits}

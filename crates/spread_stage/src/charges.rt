@@ -1,11 +1,10 @@
 //! The intracommodity charge and the delivery charge.
 ghost use Rattle.std.specs.Prelude.{option_copied, ◌≡◌, ◌+◌, ◌*◌, ◌/◌, ◌==◌, ◌≤◌, find, length, All, sum_by, nat_abs, pos};
 ghost use Rattle.span_tables.specs.Accepted.{IsSpot};
-ghost use Rattle.span_tables.specs.declared.limits.TheConstants.{MAX_RATE, MAX_SPOT_MONTHS};
+ghost use Rattle.span_tables.specs.declared.limits.TheConstants.{MAX_RATE, MAX_SPOT_MONTHS, MAX_UNITS};
 ghost use Rattle.spread_stage.specs.Charges.{delivery_charge, intra_charge, left_of, spot_charge, used_of};
 ghost use Rattle.spread_stage.specs.Deltas.{units_at};
 ghost use Rattle.spread_stage.specs.Months.{AreMonths, Shrinks, total_size};
-ghost use Rattle.spread_stage.specs.declared.months.TheConstants.{MAX_UNITS};
 
 use crate::months::{MonthUnits, Months};
 use crate::tiers::TierState;
@@ -52,7 +51,7 @@ fn size_at(months: &[MonthUnits], month: u32) -> u128
     ensures value { result ≡ nat_abs (units_at months.now month) }
     ensures bound { result ≤ MAX_UNITS }
 {
-    units_at(months, month).get().unsigned_abs()
+    u128::from(units_at(months, month).get().unsigned_abs())
 }
 
 // So many units at a rate.

@@ -1,10 +1,9 @@
 //! The deltas of the months in which an account holds contracts of a commodity.
 ghost use Rattle.std.specs.Prelude.{◌≡◌, ◌+◌, ◌*◌, ◌≤◌, nat_abs, nat_le, position, OnOk, IfOk};
 ghost use Rattle.span_tables.specs.Accepted.{IsContract};
-ghost use Rattle.span_tables.specs.declared.limits.TheConstants.{MAX_DELTA, MAX_NET, MAX_SCALE};
+ghost use Rattle.span_tables.specs.declared.limits.TheConstants.{MAX_DELTA, MAX_NET, MAX_SCALE, MAX_UNITS};
 ghost use Rattle.spread_stage.specs.Deltas.{month_deltas, units_of};
 ghost use Rattle.spread_stage.specs.Months.{total_size};
-ghost use Rattle.spread_stage.specs.declared.months.TheConstants.{MAX_UNITS};
 ghost use Rattle.spread_stage.specs.Steps.{with_units};
 
 use crate::months::{MonthUnits, Months};
@@ -14,15 +13,14 @@ use span_tables::records::Contract;
 use std::alloc::{AllocError, Global};
 
 // The delta of a net quantity of a contract, in units of 10^-8.
-fn units_of(contract: &Contract, net: i64) -> i128
+fn units_of(contract: &Contract, net: i64) -> i64
     requires net { nat_abs net ≤ MAX_NET }
     requires contract { IsContract contract.now }
     ensures value { result ≡ units_of (record { contract = contract.now; net = net }) }
     ensures bound { nat_abs result ≤ MAX_NET * MAX_DELTA * MAX_SCALE }
 {
-    let net = i128::from(net);
-    let delta = i128::from(contract.delta.get());
-    let scale = i128::from(contract.scale.get());
+    let delta = i64::from(contract.delta.get());
+    let scale = i64::from(contract.scale.get());
     net * delta * scale
 }
 
@@ -34,7 +32,7 @@ fn place_of(months: &[MonthUnits], month: u32) -> Option<usize>
 }
 
 // Adds units to a month's, or puts the month with them into its place.
-fn add(months: &mut Vec<MonthUnits>, month: u32, units: i128) -> Result<(), AllocError>
+fn add(months: &mut Vec<MonthUnits>, month: u32, units: i64) -> Result<(), AllocError>
     requires { total_size months.old.items + nat_abs units ≤ MAX_UNITS }
     ensures { OnOk result (months.new.items ≡ with_units month units months.old.items) }
 {

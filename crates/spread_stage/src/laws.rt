@@ -6,6 +6,7 @@ ghost use Rattle.span_tables.specs.Net.{HeldContract};
 ghost use Rattle.span_tables.specs.declared.records.Intra.{Intra};
 ghost use Rattle.span_tables.specs.declared.records.MonthLeg.{MonthLeg};
 ghost use Rattle.span_tables.specs.declared.records.Spot.{Spot};
+ghost use Rattle.span_tables.specs.declared.sides.MarketSide.{MarketSide};
 ghost use Rattle.spread_stage.specs.Charges.{delivery_charge, intra_charge, spot_charge};
 ghost use Rattle.spread_stage.specs.Deltas.{month_deltas, net_delta, units_of};
 ghost use Rattle.spread_stage.specs.Months.{MonthsRise, Shrinks};

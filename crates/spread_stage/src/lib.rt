@@ -5,7 +5,6 @@ pub mod charges;
 pub mod deltas;
 pub mod laws;
 pub mod months;
-mod sides;
 mod slots;
 #[cfg(test)]
 mod tests;

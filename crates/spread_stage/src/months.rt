@@ -1,15 +1,11 @@
 //! Months with their delta positions.
 ghost use Rattle.std.specs.Prelude.{◌≡◌, ◌≤◌, nat_abs};
+ghost use Rattle.span_tables.specs.declared.limits.TheConstants.{MAX_UNITS};
 ghost use Rattle.spread_stage.specs.Deltas.{net_delta};
 ghost use Rattle.spread_stage.specs.Months.{AreMonths};
-ghost use Rattle.spread_stage.specs.declared.months.TheConstants.{MAX_UNITS};
 
 use span_money::amounts::Units;
 use std::marker::Model;
-
-/// The largest sum of the sizes of the month deltas of an account in a commodity, in units of 10^-8: as many
-/// contracts as may be held, each with the largest net quantity, delta and scale.
-pub const MAX_UNITS: u128 = 25_600_000_000_000_000;
 
 /// A month (`yyyymm`) and a delta position in it: its delta, or what spreads left of it.
 #[derive(Clone, Copy, Debug, PartialEq, Eq)]
@@ -37,7 +33,7 @@ impl Model for Months {
 }
 
 // The sum of the units of months.
-fn net_delta(months: &[MonthUnits]) -> i128
+fn net_delta(months: &[MonthUnits]) -> i64
     requires { AreMonths months.now }
     ensures value { result ≡ net_delta months.now }
     ensures bound { nat_abs result ≤ MAX_UNITS }

@@ -100,7 +100,7 @@ fn spot(rt: &impl Abort, month: u32, spread_rate: u32, outright_rate: u32) -> Sp
     }
 }
 
-fn expect_months(rt: &impl Abort, months: &[MonthUnits], want: &[(u32, i128)], case: &str) {
+fn expect_months(rt: &impl Abort, months: &[MonthUnits], want: &[(u32, i64)], case: &str) {
     assert_eq!(rt; months.len(), want.len(), "{case}");
     for (got, want) in months.iter().zip(want) {
         assert_eq!(rt; got.month, want.0, "{case}");
@@ -144,7 +144,7 @@ fn two_tiers_and_a_spot_month(rt: HostRuntime) -> Result<(), Fail> {
 struct Case<'a> {
     name: &'a str,
     positions: &'a [(u32, i64)],
-    rests: &'a [(u32, i128)],
+    rests: &'a [(u32, i64)],
     charge: u128,
     intra_charge: i128,
     delivery: i128,

@@ -2,20 +2,18 @@
 ghost use Rattle.std.specs.Prelude.{◌≡◌, ℕ, ◌+◌, ◌*◌, ◌<◌, ◌≤◌, List, [], ◌∷◌, length, All, IfOk};
 ghost use Rattle.span_tables.specs.Accepted.{IsIntra};
 ghost use Rattle.span_tables.specs.Sides.{spreads_formed};
-ghost use Rattle.span_tables.specs.declared.limits.TheConstants.{MAX_RATE};
-ghost use Rattle.spread_stage.specs.Market.{direction_of, market_of};
+ghost use Rattle.span_tables.specs.declared.limits.TheConstants.{MAX_RATE, MAX_UNITS};
 ghost use Rattle.spread_stage.specs.Months.{AreMonths, AreTierRests, MonthsRise, Shrinks, total_size};
 ghost use Rattle.spread_stage.specs.Slots.{HaveSlots};
 ghost use Rattle.spread_stage.specs.Spreads.{is_in_tier, rests_after, rests_after_leg, spread_both_ways, tier_rooms, tier_side, unspread};
 ghost use Rattle.spread_stage.specs.Steps.{used_now};
 ghost use Rattle.spread_stage.specs.declared.months.MonthUnits.{MonthUnits};
-ghost use Rattle.spread_stage.specs.declared.months.TheConstants.{MAX_UNITS};
 
 use crate::months::{MonthUnits, Months};
-use crate::sides::{Direction, MarketSide, less_used, market_side, part_on};
 use crate::slots::{has_clear_leg, slots_of};
 use span_money::division::greatest_fit;
 use span_tables::records::{Intra, MonthLeg};
+use span_tables::sides::{Direction, MarketSide, less_used, market_side, part_on};
 use std::alloc::{AllocError, Global};
 use std::marker::Model;
 
@@ -87,9 +85,9 @@ fn is_in_tier(leg: &MonthLeg, month: &MonthUnits) -> bool
 }
 
 // The side of a leg's tier: the sum of its months' parts.
-fn tier_side(rests: &[MonthUnits], on: MarketSide, leg: &MonthLeg) -> u128
+fn tier_side(rests: &[MonthUnits], on: MarketSide, leg: &MonthLeg) -> u64
     requires { total_size rests.now ≤ MAX_UNITS }
-    ensures { result ≡ tier_side rests.now (market_of on) leg.now }
+    ensures { result ≡ tier_side rests.now on leg.now }
 {
     let mut side = 0;
     for rest in rests {
@@ -101,10 +99,10 @@ fn tier_side(rests: &[MonthUnits], on: MarketSide, leg: &MonthLeg) -> u128
 }
 
 // How many spreads a leg has room for, in 10^-4 spreads.
-fn room(rests: &[MonthUnits], direction: Direction, leg: &MonthLeg) -> u128
+fn room(rests: &[MonthUnits], direction: Direction, leg: &MonthLeg) -> u64
     requires small { total_size rests.now ≤ MAX_UNITS }
     requires ratio { 0 < leg.now.ratio }
-    ensures { result ≡ spreads_formed (tier_rooms (direction_of direction) (leg.now ∷ []) rests.now) }
+    ensures { result ≡ spreads_formed (tier_rooms direction (leg.now ∷ []) rests.now) }
 {
     let side = tier_side(rests, market_side(direction, leg.side), leg);
     if side == 0 {
@@ -114,10 +112,10 @@ fn room(rests: &[MonthUnits], direction: Direction, leg: &MonthLeg) -> u128
 }
 
 // The number of spreads that the legs have room for, in 10^-4 spreads.
-fn spreads_formed(rests: &[MonthUnits], direction: Direction, legs: &[MonthLeg]) -> u128
+fn spreads_formed(rests: &[MonthUnits], direction: Direction, legs: &[MonthLeg]) -> u64
     requires small { total_size rests.now ≤ MAX_UNITS }
     requires ratios { All (λ leg. 0 < leg.ratio) legs.now }
-    ensures { result ≡ spreads_formed (tier_rooms (direction_of direction) legs.now rests.now) }
+    ensures { result ≡ spreads_formed (tier_rooms direction legs.now rests.now) }
 {
     match legs {
         [] => 0,
@@ -133,8 +131,8 @@ fn spreads_formed(rests: &[MonthUnits], direction: Direction, legs: &[MonthLeg])
 }
 
 // What a leg uses of a month that still needs so many units.
-fn used_now(month: &MonthUnits, on: MarketSide, leg: &MonthLeg, needed: u128) -> u128
-    ensures { result ≡ used_now (market_of on) leg.now needed month.now }
+fn used_now(month: &MonthUnits, on: MarketSide, leg: &MonthLeg, needed: u64) -> u64
+    ensures { result ≡ used_now on leg.now needed month.now }
 {
     if is_in_tier(leg, month) {
         part_on(on, month.units).min(needed)
@@ -144,10 +142,10 @@ fn used_now(month: &MonthUnits, on: MarketSide, leg: &MonthLeg, needed: u128) ->
 }
 
 // Takes what a leg needs of its tier's side, from the earliest month on.
-fn use_leg(rests: &mut [MonthUnits], on: MarketSide, leg: &MonthLeg, needed: u128)
+fn use_leg(rests: &mut [MonthUnits], on: MarketSide, leg: &MonthLeg, needed: u64)
     requires rise { MonthsRise rests.old }
     requires small { total_size rests.old ≤ MAX_UNITS }
-    ensures { rests.new ≡ rests_after_leg (market_of on) needed rests.old leg.now }
+    ensures { rests.new ≡ rests_after_leg on needed rests.old leg.now }
 {
     let mut needed = needed;
     for rest in rests.iter_mut() {
@@ -158,26 +156,26 @@ fn use_leg(rests: &mut [MonthUnits], on: MarketSide, leg: &MonthLeg, needed: u12
 }
 
 // Takes what each leg of so many spreads needs, one leg after the other.
-fn use_legs(rests: &mut [MonthUnits], direction: Direction, legs: &[MonthLeg], formed: u128)
+fn use_legs(rests: &mut [MonthUnits], direction: Direction, legs: &[MonthLeg], formed: u64)
     requires rise { MonthsRise rests.old }
     requires small { total_size rests.old ≤ MAX_UNITS }
     requires fit { All (λ leg. formed * leg.ratio ≤ MAX_UNITS) legs.now }
-    ensures { rests.new ≡ rests_after (direction_of direction) formed legs.now rests.old }
+    ensures { rests.new ≡ rests_after direction formed legs.now rests.old }
 {
     for leg in legs {
-        let needed = formed * u128::from(leg.ratio.get());
+        let needed = formed * u64::from(leg.ratio.get());
         use_leg(rests, market_side(direction, leg.side), leg, needed);
     }
 }
 
 // Forms a spread in one direction, and gives the number of spreads formed, in 10^-4 spreads.
-fn spread_one_way(rests: &mut [MonthUnits], direction: Direction, legs: &[MonthLeg]) -> u128
+fn spread_one_way(rests: &mut [MonthUnits], direction: Direction, legs: &[MonthLeg]) -> u64
     requires rise { MonthsRise rests.old }
     requires small { total_size rests.old ≤ MAX_UNITS }
     requires legs { 0 < length legs.now }
     requires ratios { All (λ leg. 0 < leg.ratio) legs.now }
-    ensures formed { result ≡ spreads_formed (tier_rooms (direction_of direction) legs.now rests.old) }
-    ensures rests { rests.new ≡ rests_after (direction_of direction) result legs.now rests.old }
+    ensures formed { result ≡ spreads_formed (tier_rooms direction legs.now rests.old) }
+    ensures rests { rests.new ≡ rests_after direction result legs.now rests.old }
     ensures rise { MonthsRise rests.new }
     ensures less { result + total_size rests.new ≤ total_size rests.old }
     ensures shrinks { (months : List MonthUnits) → Shrinks months rests.old → Shrinks months rests.new }
@@ -190,13 +188,13 @@ fn spread_one_way(rests: &mut [MonthUnits], direction: Direction, legs: &[MonthL
 }
 
 // The charge of so many spreads, in 10^-4 minor units.
-fn charge_of(formed: u128, rate: u32) -> u128
+fn charge_of(formed: u64, rate: u32) -> u128
     requires formed { formed ≤ MAX_UNITS }
     requires rate { rate ≤ MAX_RATE }
     ensures value { result ≡ formed * rate }
     ensures bound { result ≤ MAX_RATE * formed }
 {
-    formed * u128::from(rate)
+    u128::from(formed) * u128::from(rate)
 }
 
 /// The state before any spread: each month's rest is its delta, and nothing is charged.

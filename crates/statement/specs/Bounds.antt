@@ -1,9 +1,8 @@
 -- How large the figures of a commodity may be.
 use Rattle.std.specs.Prelude.{ℕ, ◌*◌, ◌≤◌, nat_abs}
-use Rattle.span_tables.specs.declared.limits.TheConstants.{MAX_HELD, MAX_NET, MAX_RATE}
+use Rattle.span_tables.specs.declared.limits.TheConstants.{MAX_HELD, MAX_NET, MAX_RATE, MAX_UNITS}
 use Rattle.scan_risk.specs.declared.TheConstants.{MAX_PRICE2, MAX_SUM}
 use Rattle.spread_stage.specs.declared.charges.TheConstants.{MAX_DELIVERY_CHARGE, MAX_INTRA_CHARGE}
-use Rattle.spread_stage.specs.declared.months.TheConstants.{MAX_UNITS}
 use Rattle.statement.specs.declared.stages.Stages.{Stages}
 
 -- the stages of a commodity by itself are within their bounds

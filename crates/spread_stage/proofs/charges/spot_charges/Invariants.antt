@@ -1,7 +1,6 @@
 use Rattle.std.proofs.Common.{◌≡◌, ◌≤◌, ◌*◌, take, sum_by}
-use Rattle.span_tables.specs.declared.limits.TheConstants.{MAX_RATE}
+use Rattle.span_tables.specs.declared.limits.TheConstants.{MAX_RATE, MAX_UNITS}
 use Rattle.spread_stage.specs.Charges.{spot_charge}
-use Rattle.spread_stage.specs.declared.months.TheConstants.{MAX_UNITS}
 use Rattle.spread_stage.proofs.charges.spot_charges.Given as goal
 
 abbrev pub invariant-loop-spot : goal.invariant-loop-spot

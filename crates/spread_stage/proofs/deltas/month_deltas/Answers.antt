@@ -1,6 +1,6 @@
 use Rattle.std.proofs.Common.{◌≡◌, ◌≤◌, ◌<◌, ◌+◌, ◌-◌, ◌*◌, nat_abs, sym, ap, ◌∙◌, subst, arith, length, drop, suc, get_or, drop-cons, ◌∷◌, lit<, ℤ, FitsSigned, to_z, of_z, w64, rules}
 use Rattle.std.proofs.lemmas.Int.{to_z-of_z}
-use Rattle.spread_stage.proofs.ProductLemmas.{same_128}
+use Rattle.spread_stage.proofs.ProductLemmas.{same_64}
 use Rattle.span_tables.specs.Net.{HeldContract}
 use Rattle.span_tables.proofs.HeldLemmas.{held_here}
 use Rattle.spread_stage.specs.Months.{total_size, MonthsRise}
@@ -26,7 +26,7 @@ loop-i-preserved c =
     let units : c.units_of.result ≡ units_of h =
     c.units_of.ensures.value ∙ ap (λ (n : ℤ). (let k : HeldContract = record { contract = h.contract; net = n } in units_of k)) same_net in
     let bound : nat_abs c.units_of.result ≤ 100000000000000 = c.units_of.ensures.bound in
-    let kept = same_128 c.units_of.result 100000000000000 bound (lit< tt) in
+    let kept = same_64 c.units_of.result 100000000000000 bound (lit< tt) in
     let added : c.add.new.months.items ≡ with_units (h.contract).month c.units_of.result c.loop-i.months.items =
     c.in_ok-add.ensures ∙ ap (λ u. with_units (h.contract).month u c.loop-i.months.items) kept in
     let larger = size-with_units (h.contract).month c.units_of.result c.loop-i.months.items in

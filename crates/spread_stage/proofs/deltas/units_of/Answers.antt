@@ -1,32 +1,25 @@
 use Rattle.std.proofs.Common.{◌≡◌, ◌≤◌, to_z, of_z, w32, w64, pos, nat_abs, ap, ◌∙◌, lit<, arith, ℤ, ◌*ℤ◌, FitsSigned, ◌^◌, ◌<◌}
-use Rattle.std.specs.Int.{w128}
 use Rattle.std.proofs.lemmas.Int.{fits_signed_from_abs, to_z-of_z}
-use Rattle.spread_stage.proofs.ProductLemmas.{product_size, fits_128, same_128}
+use Rattle.spread_stage.proofs.ProductLemmas.{product_size, fits_64, same_64}
 use Rattle.spread_stage.proofs.deltas.units_of.Goals as goal
-
-same_64 : (z : ℤ) → nat_abs z ≤ 100000 → to_z w64 (of_z w64 z) ≡ z
-same_64 z le = let below : nat_abs z < 2 ^ 63 = omega (arith, le) in to_z-of_z w64 z (fits_signed_from_abs w64 z below)
 
 same_32 : (z : ℤ) → nat_abs z ≤ 10000 → to_z w32 (of_z w32 z) ≡ z
 same_32 z le = let below : nat_abs z < 2 ^ 31 = omega (arith, le) in to_z-of_z w32 z (fits_signed_from_abs w32 z below)
 
 module _ (a b s : ℤ) (x : nat_abs a ≤ 100000) (y : nat_abs b ≤ 10000) (z : nat_abs s ≤ 100000) where
-  first : to_z w128 (of_z w128 (to_z w128 (of_z w128 a) *ℤ to_z w128 (of_z w128 b))) ≡ a *ℤ b
-  first = rw (same_128 a 100000 x (lit< tt), same_128 b 10000 y (lit< tt)) (same_128 (a *ℤ b) 1000000000 (product_size a b 100000 10000 x y) (lit< tt))
+  first : to_z w64 (of_z w64 (to_z w64 (of_z w64 a) *ℤ to_z w64 (of_z w64 b))) ≡ a *ℤ b
+  first = rw (same_64 a 100000 x (lit< tt), same_64 b 10000 y (lit< tt)) (same_64 (a *ℤ b) 1000000000 (product_size a b 100000 10000 x y) (lit< tt))
 
   size : nat_abs (a *ℤ b *ℤ s) ≤ 100000000000000
   size = product_size (a *ℤ b) s 1000000000 100000 (product_size a b 100000 10000 x y) z
 
-  fits : FitsSigned w128 (to_z w128 (of_z w128 (to_z w128 (of_z w128 a) *ℤ to_z w128 (of_z w128 b))) *ℤ to_z w128 (of_z w128 s))
-  fits = rw (first, same_128 s 100000 z (lit< tt)) (fits_128 (a *ℤ b *ℤ s) 100000000000000 size (lit< tt))
+  fits : FitsSigned w64 (to_z w64 (of_z w64 (to_z w64 (of_z w64 a) *ℤ to_z w64 (of_z w64 b))) *ℤ to_z w64 (of_z w64 s))
+  fits = rw (first, same_64 s 100000 z (lit< tt)) (fits_64 (a *ℤ b *ℤ s) 100000000000000 size (lit< tt))
 
-  whole : to_z w128 (of_z w128 (to_z w128 (of_z w128 (to_z w128 (of_z w128 a) *ℤ to_z w128 (of_z w128 b))) *ℤ to_z w128 (of_z w128 s))) ≡ a *ℤ b *ℤ s
-  whole = rw (first, same_128 s 100000 z (lit< tt)) (same_128 (a *ℤ b *ℤ s) 100000000000000 size (lit< tt))
+  whole : to_z w64 (of_z w64 (to_z w64 (of_z w64 (to_z w64 (of_z w64 a) *ℤ to_z w64 (of_z w64 b))) *ℤ to_z w64 (of_z w64 s))) ≡ a *ℤ b *ℤ s
+  whole = rw (first, same_64 s 100000 z (lit< tt)) (same_64 (a *ℤ b *ℤ s) 100000000000000 size (lit< tt))
 
-module _ (c : goal.After-from-scale) where
-  net : c.from-net.result ≡ c.args.net
-  net = c.from-net.ensures ∙ same_64 c.args.net c.requires.net
-
+module _ (c : goal.After-result-1) where
   delta : c.from-delta.result ≡ (c.args.contract.now).delta
   delta = c.from-delta.ensures ∙ ap (λ z. to_z w32 (of_z w32 z)) c.get.ensures ∙ same_32 (c.args.contract.now).delta c.requires.contract.delta
 
@@ -35,13 +28,13 @@ module _ (c : goal.After-from-scale) where
 
 pub overflow_mul-result-2 : goal.overflow_mul-result-2
 overflow_mul-result-2 c =
-    rw (net c, delta c, scale c) (fits c.args.net (c.args.contract.now).delta (pos (c.args.contract.now).scale) c.requires.net c.requires.contract.delta c.requires.contract.scale)
+    rw (delta c, scale c) (fits c.args.net (c.args.contract.now).delta (pos (c.args.contract.now).scale) c.requires.net c.requires.contract.delta c.requires.contract.scale)
 
 pub returns-clause-value : goal.returns-clause-value
 returns-clause-value c =
-    rw (net c, delta c, scale c) (whole c.args.net (c.args.contract.now).delta (pos (c.args.contract.now).scale) c.requires.net c.requires.contract.delta c.requires.contract.scale)
+    rw (delta c, scale c) (whole c.args.net (c.args.contract.now).delta (pos (c.args.contract.now).scale) c.requires.net c.requires.contract.delta c.requires.contract.scale)
 
 pub returns-clause-bound : goal.returns-clause-bound
 returns-clause-bound c =
-    rw (net c, delta c, scale c, whole c.args.net (c.args.contract.now).delta (pos (c.args.contract.now).scale) c.requires.net c.requires.contract.delta c.requires.contract.scale)
+    rw (delta c, scale c, whole c.args.net (c.args.contract.now).delta (pos (c.args.contract.now).scale) c.requires.net c.requires.contract.delta c.requires.contract.scale)
     (size c.args.net (c.args.contract.now).delta (pos (c.args.contract.now).scale) c.requires.net c.requires.contract.delta c.requires.contract.scale)

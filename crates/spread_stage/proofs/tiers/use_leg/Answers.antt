@@ -4,14 +4,13 @@ use Rattle.std.proofs.Math.Seq.{take-length}
 use Rattle.std.proofs.lemmas.List.{append-nil}
 use Rattle.std.proofs.lemmas.List.Sums.{sum_by-drop_more, sum_by-take-drop}
 use Rattle.spread_stage.specs.Months.{total_size}
-use Rattle.spread_stage.specs.Market.{market_of}
 use Rattle.spread_stage.specs.Steps.{used_in_turn}
 use Rattle.spread_stage.specs.declared.months.MonthUnits.{MonthUnits}
 use Rattle.spread_stage.proofs.UseLemmas.{in_turn_is}
 use Rattle.spread_stage.proofs.tiers.use_leg.Goals as goal
 
-pub less_used-rest-requires-clause-small : goal.less_used-rest-requires-clause-small
-less_used-rest-requires-clause-small c =
+pub less_used-rest-requires-clause-rest : goal.less_used-rest-requires-clause-rest
+less_used-rest-requires-clause-rest c =
     let f = λ (m : MonthUnits). nat_abs m.units in
     let i = c.loop-rest.rest-index in
     let lt : i < length c.loop-rest.rests = omega arith in
@@ -29,8 +28,8 @@ returns c =
     let end : i ≡ length rests = omega arith in
     let whole : take i rests ≡ rests = ap (λ n. take n rests) end ∙ take-length rests in
     let none : drop i rests ≡ [] = drop_of_length-le rests long in
-    sym (ap (λ (xs : List MonthUnits). xs ++ used_in_turn (market_of c.args.on) c.args.leg.now c.loop-rest.needed (drop i rests)) whole
-    ∙ ap (λ (xs : List MonthUnits). rests ++ used_in_turn (market_of c.args.on) c.args.leg.now c.loop-rest.needed xs) none
+    sym (ap (λ (xs : List MonthUnits). xs ++ used_in_turn c.args.on c.args.leg.now c.loop-rest.needed (drop i rests)) whole
+    ∙ ap (λ (xs : List MonthUnits). rests ++ used_in_turn c.args.on c.args.leg.now c.loop-rest.needed xs) none
     ∙ append-nil rests)
     ∙ c.loop-rest.invariant.all
-    ∙ in_turn_is (market_of c.args.on) c.args.leg.now c.args.needed c.args.rests.now c.requires.rise
+    ∙ in_turn_is c.args.on c.args.leg.now c.args.needed c.args.rests.now c.requires.rise

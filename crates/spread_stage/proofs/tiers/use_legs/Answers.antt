@@ -2,7 +2,6 @@ use Rattle.std.proofs.Common.{◌≡◌, ◌<◌, ◌*◌, sym, ap, ◌∙◌, s
 use Rattle.std.proofs.lemmas.List.Sums.{fold_more}
 use Rattle.span_tables.specs.Sides.{market_side}
 use Rattle.span_tables.specs.declared.records.MonthLeg.{MonthLeg}
-use Rattle.spread_stage.specs.Market.{direction_of, market_of}
 use Rattle.spread_stage.specs.Months.{MonthsRise, total_size}
 use Rattle.spread_stage.specs.Spreads.{rests_after, rests_after_leg}
 use Rattle.spread_stage.specs.declared.months.MonthUnits.{MonthUnits}
@@ -11,7 +10,7 @@ use Rattle.spread_stage.proofs.tiers.use_legs.Goals as goal
 
 pub loop-leg-preserved : goal.loop-leg-preserved
 loop-leg-preserved c =
-    let d = direction_of c.args.direction in
+    let d = c.args.direction in
     let legs = c.args.legs.now in
     let i = c.loop-leg.leg-index in
     let leg = c.leg-item.result in
@@ -22,10 +21,10 @@ loop-leg-preserved c =
     c.use_leg.ensures ∙ ap (λ on. rests_after_leg on (c.args.formed * c.from.result) c.loop-leg.rests leg) c.market_side.ensures
     ∙ ap (λ r. rests_after_leg (market_side d leg.side) (c.args.formed * r) c.loop-leg.rests leg) ratio in
     let more = fold_more after c.args.rests.now legs i leg lt in
-    let less = leg_less (market_of c.market_side.result) (c.args.formed * c.from.result) c.loop-leg.rests leg in
-    let same : total_size c.use_leg.new.rests ≡ total_size (rests_after_leg (market_of c.market_side.result) (c.args.formed * c.from.result) c.loop-leg.rests leg) = ap total_size c.use_leg.ensures in
+    let less = leg_less c.market_side.result (c.args.formed * c.from.result) c.loop-leg.rests leg in
+    let same : total_size c.use_leg.new.rests ≡ total_size (rests_after_leg c.market_side.result (c.args.formed * c.from.result) c.loop-leg.rests leg) = ap total_size c.use_leg.ensures in
     record {
       value = now ∙ ap (λ (rs : List MonthUnits). after rs leg) c.loop-leg.invariant.value ∙ ap (after (rests_after d c.args.formed (take i legs) c.args.rests.now)) c.leg-item.is ∙ sym more;
-      rise = subst MonthsRise (sym c.use_leg.ensures) (leg_rise (market_of c.market_side.result) (c.args.formed * c.from.result) c.loop-leg.rests leg c.loop-leg.invariant.rise);
+      rise = subst MonthsRise (sym c.use_leg.ensures) (leg_rise c.market_side.result (c.args.formed * c.from.result) c.loop-leg.rests leg c.loop-leg.invariant.rise);
       small = omega (arith, less, same, c.loop-leg.invariant.small);
     }

@@ -1,7 +1,8 @@
 -- What the legs of a spread may still use.
 use Rattle.std.specs.Prelude.{◌≡◌, ℕ, ◌*◌, ◌<◌, ◌≤◌, ◌==◌, false, List, length, All}
 use Rattle.span_tables.specs.Names.{has_repeat}
-use Rattle.span_tables.specs.Sides.{Direction, market_side, part_on}
+use Rattle.span_tables.specs.Sides.{market_side, part_on}
+use Rattle.span_tables.specs.declared.sides.Direction.{Direction}
 use Rattle.span_tables.specs.declared.records.CommodityLeg.{CommodityLeg}
 use Rattle.inter_credit.specs.Credits.{rest_at}
 use Rattle.inter_credit.specs.declared.state.InterLine.{InterLine}

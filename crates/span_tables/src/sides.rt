@@ -1,0 +1,58 @@
+//! The directions of a spread, the market sides of its legs in them, and how much of a rest is on a market side.
+ghost use Rattle.std.specs.Prelude.{◌≡◌, ◌+◌, ◌≤◌, nat_abs};
+ghost use Rattle.span_tables.specs.Sides.{IsLeftOf, less_used, market_side, part_on};
+ghost use Rattle.span_tables.specs.declared.limits.TheConstants.{MAX_UNITS};
+
+use crate::records::Side;
+use span_money::amounts::Units;
+
+/// The direction of a spread: side A long and B short, or side A short and B long.
+#[derive(Clone, Copy, Debug, PartialEq, Eq)]
+pub enum Direction {
+    ALong,
+    AShort,
+}
+
+/// A side of the market.
+#[derive(Clone, Copy, Debug, PartialEq, Eq)]
+pub enum MarketSide {
+    Long,
+    Short,
+}
+
+/// The market side of a leg's side, in a direction.
+pub fn market_side(direction: Direction, side: Side) -> MarketSide
+    ensures { result ≡ market_side direction side }
+{
+    match (direction, side) {
+        (Direction::ALong, Side::A) | (Direction::AShort, Side::B) => MarketSide::Long,
+        (Direction::ALong, Side::B) | (Direction::AShort, Side::A) => MarketSide::Short,
+    }
+}
+
+/// How much of a rest is on a market side, in units of 10^-8: a positive rest is long, a negative one short.
+pub fn part_on(side: MarketSide, rest: Units) -> u64
+    ensures value { result ≡ part_on side rest }
+    ensures bound { result ≤ nat_abs rest }
+{
+    let units = rest.get();
+    match side {
+        MarketSide::Long if units > 0 => units.unsigned_abs(),
+        MarketSide::Short if units < 0 => units.unsigned_abs(),
+        _ => 0,
+    }
+}
+
+/// A rest of which some units on a market side were used.
+pub fn less_used(side: MarketSide, rest: Units, used: u64) -> Units
+    requires rest { nat_abs rest ≤ MAX_UNITS }
+    requires used { used ≤ part_on side rest }
+    ensures value { result ≡ less_used side rest used }
+    ensures left { IsLeftOf rest result }
+    ensures used { nat_abs result + used ≡ nat_abs rest }
+{
+    match side {
+        MarketSide::Long => Units::new(rest.get() - used as i64),
+        MarketSide::Short => Units::new(rest.get() + used as i64),
+    }
+}
