@@ -39,7 +39,7 @@ refusal_serves answer (refusal.File name) given out old_err new_err fresh status
     inl (rw run (refused_tells _ _ given out old_err new_err fresh status line))
 refusal_serves answer (refusal.Fault e) given out old_err new_err fresh status line (inl wanted) =
     inr (refused_tells _ _ given out old_err new_err fresh (status ∙ ap fault_status wanted)
-        (subst (λ (x : SpanFault). Says old_err new_err (fault_line x)) wanted line))
+    (subst (λ (x : SpanFault). Says old_err new_err (fault_line x)) wanted line))
 refusal_serves answer (refusal.Fault e) given out old_err new_err fresh status line (inr run) =
     inl (rw run (refused_tells _ _ given out old_err new_err fresh status line))
 
@@ -86,6 +86,7 @@ pub refused_by : (kinds : Kinds) (e : Error) (given : ℕ) (old_out new_out old_
 refused_by kinds e given old_out new_out old_err new_err (inl wanted) told = of_memory kinds where
   memory_told : Tells memory given old_out new_out old_err new_err
   memory_told = subst (λ (k : ErrorKind). telling.Refuses k given old_out new_out old_err new_err) wanted told
+
   of_memory : (ks : Kinds) → RefusesBy ks given old_out new_out old_err new_err
   of_memory [] = memory_told
   of_memory (k ∷ ks) = inr (of_memory ks)
