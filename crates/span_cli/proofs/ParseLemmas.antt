@@ -1,6 +1,6 @@
 -- What `clap` says of a command, said of the program's own.
-use Rattle.std.proofs.Common.{◌≡◌, subst, refl, List, true, Result, Ok, Err, IfErr}
-use Rattle.clap.specs.Words.{App, FailsBy, HasKind, Text, fault_of, is_simple_and_free, kind_of, takes}
+use Rattle.std.proofs.Common.{◌≡◌, subst, refl, List, true, Result, IfErr}
+use Rattle.clap.specs.Words.{App, FailsBy, Text, fault_of, is_simple_and_free, kind_of, takes}
 use Rattle.clap.specs.declared.error.Error.{Error}
 use Rattle.clap.specs.declared.error.kind.ErrorKind.TheVariants.{OutOfMemory}
 use Rattle.span_cli.specs.Words.{is_taken, kinds_of, span_app}
@@ -11,13 +11,8 @@ pub taken_fails : {T : Type 0} (a : App) (words : List Text) (r : Result T Error
 unfolding is_taken
 taken_fails a words r same h = subst (λ (x : App). IfErr r (λ e. takes x words ≡ true → kind_of e ≡ OutOfMemory)) same h
 
-has_kinds : {T : Type 0} (words : List Text) (r : Result T Error) → FailsBy (kinds_of words) r → IfErr r (HasKind (kinds_of words))
-has_kinds words (Ok x) h = tt
-has_kinds words (Err e) h = h
-
 -- and others for a mistake that they have
 pub mistaken_fails : {T : Type 0} (a : App) (words : List Text) (r : Result T Error) → a ≡ span_app
-    → (is_simple_and_free a ≡ true → FailsBy (fault_of a words) r) → IfErr r (HasKind (kinds_of words))
+    → (is_simple_and_free a ≡ true → FailsBy (fault_of a words) r) → FailsBy (kinds_of words) r
 unfolding kinds_of
-mistaken_fails a words r same h =
-    has_kinds words r (subst (λ (x : App). is_simple_and_free x ≡ true → FailsBy (fault_of x words) r) same h refl)
+mistaken_fails a words r same h = subst (λ (x : App). is_simple_and_free x ≡ true → FailsBy (fault_of x words) r) same h refl

@@ -1,14 +1,18 @@
 -- What is told of an answer.
-use Rattle.std.proofs.Common.{◌≡◌, ◌⊎◌, ℕ, List, [], Bool, true, false, Option, Some, None, Ok, refl, sym, subst, inl, inr}
+use Rattle.std.proofs.Common.{◌≡◌, ◌⊎◌, ℕ, List, [], ◌∷◌, Bool, true, false, Option, Some, None, Ok, refl, sym, subst, ap, ◌∙◌, inl, inr}
 use Rattle.std.proofs.lemmas.List.{append-nil}
 use Rattle.std.specs.Prelude.{IfSome}
 use Rattle.std.specs.Io.KnownBytes.{Appends}
+use Rattle.clap.specs.Words.{HasKind, IsAmong, Kinds, kind_of}
+use Rattle.clap.specs.declared.error.Error.{Error}
+use Rattle.clap.specs.declared.error.kind.ErrorKind.{ErrorKind}
 use Rattle.span_told.specs.Streams.{Says, Stream}
 use Rattle.statement.specs.FaultLines.{fault_line, fault_status}
-use Rattle.statement.specs.declared.faults.SpanFault.TheVariants as fault
-use Rattle.span_cli.specs.Serving.{Answer, Asked, a_check, a_margin, OfAnswer, check_answer, margin_answer, refused}
+use Rattle.statement.specs.declared.faults.SpanFault.{SpanFault}
+use Rattle.span_cli.specs.Serving.{Answer, Asked, a_check, a_margin, OfAnswer, check_answer, margin_answer, memory, refused}
 use Rattle.span_cli.specs.Sources.{File}
-use Rattle.span_cli.specs.Telling.{Serves, Tells}
+use Rattle.span_cli.specs.Telling.{RefusesBy, Serves, Tells}
+use Rattle.span_cli.specs.Telling as telling
 use Rattle.span_cli.specs.steps.Refusals.{Refuses, refusal_line, refusal_status}
 use Rattle.span_cli.specs.declared.serving.Refusal.{Refusal}
 use Rattle.span_cli.specs.declared.serving.Refusal.TheVariants as refusal
@@ -33,9 +37,9 @@ pub refusal_serves : (answer : Answer) (r : Refusal) (given : ℕ) (out old_err 
     → given ≡ refusal_status r → Says old_err new_err (refusal_line r) → Refuses answer r → Serves answer given out out old_err new_err
 refusal_serves answer (refusal.File name) given out old_err new_err fresh status line run =
     inl (rw run (refused_tells _ _ given out old_err new_err fresh status line))
-refusal_serves answer (refusal.Fault e) given out old_err new_err fresh status line (inl wanted) = inr (memory_told wanted) where
-  memory_told : e ≡ fault.Memory → Tells (refused (fault_status fault.Memory) (fault_line fault.Memory)) given out out old_err new_err
-  memory_told is = rw (← is) (refused_tells _ _ given out old_err new_err fresh status line)
+refusal_serves answer (refusal.Fault e) given out old_err new_err fresh status line (inl wanted) =
+    inr (refused_tells _ _ given out old_err new_err fresh (status ∙ ap fault_status wanted)
+    (subst (λ (x : SpanFault). Says old_err new_err (fault_line x)) wanted line))
 refusal_serves answer (refusal.Fault e) given out old_err new_err fresh status line (inr run) =
     inl (rw run (refused_tells _ _ given out old_err new_err fresh status line))
 
@@ -75,3 +79,19 @@ both_known P (Some p) None later ps qs same h k holds = tt
 both_known P (Some p) (Some q) later ps qs same h k holds =
     let known : IfSome (Some q) (λ f. f ≡ Ok qs) = subst (λ o. IfSome o (λ f. f ≡ Ok qs)) same k in
     rw (h, known) holds
+
+-- words that are refused for one of these kinds of reason, or for want of memory
+pub refused_by : (kinds : Kinds) (e : Error) (given : ℕ) (old_out new_out old_err new_err : Stream) → HasKind kinds e
+    → telling.Refuses (kind_of e) given old_out new_out old_err new_err → RefusesBy kinds given old_out new_out old_err new_err
+refused_by kinds e given old_out new_out old_err new_err (inl wanted) told = of_memory kinds where
+  memory_told : Tells memory given old_out new_out old_err new_err
+  memory_told = subst (λ (k : ErrorKind). telling.Refuses k given old_out new_out old_err new_err) wanted told
+
+  of_memory : (ks : Kinds) → RefusesBy ks given old_out new_out old_err new_err
+  of_memory [] = memory_told
+  of_memory (k ∷ ks) = inr (of_memory ks)
+refused_by kinds e given old_out new_out old_err new_err (inr among) told = of_kind kinds among where
+  of_kind : (ks : Kinds) → IsAmong (kind_of e) ks → RefusesBy ks given old_out new_out old_err new_err
+  of_kind [] among = absurd among
+  of_kind (k ∷ ks) (inl is) = inl (subst (λ (x : ErrorKind). telling.Refuses x given old_out new_out old_err new_err) is told)
+  of_kind (k ∷ ks) (inr later) = inr (of_kind ks later)

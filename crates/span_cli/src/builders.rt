@@ -1,7 +1,7 @@
 //! What the tests share: a parameter file, sources, writers that break, and what a command line gives.
 use crate::memory::InMemory;
-use crate::sources::Sources;
 use crate::serving::{Request, serve};
+use crate::sources::Sources;
 use crate::words::run_words;
 use span_told::Told;
 use std::alloc::Global;

@@ -5,7 +5,7 @@ ghost use Rattle.span_told.specs.Streams.{Stream};
 ghost use Rattle.statement.specs.FaultLines.{fault_line, fault_status};
 ghost use Rattle.statement.specs.declared.faults.SpanFault.{SpanFault};
 ghost use Rattle.std.specs.Io.KnownBytes.{Appends};
-ghost use Rattle.std.specs.Prelude.{◌×◌, ◌≡◌, ◌≢◌, Err, List, [], codes, false, true, ℕ};
+ghost use Rattle.std.specs.Prelude.{◌≡◌, ◌≢◌, Err, List, [], codes, false, true, ℕ};
 
 /// Where an answer that is done was told and no write failed, the status is 0, just its bytes went to the output, and
 /// nothing to the error stream.

@@ -1,11 +1,11 @@
 //! Reading to the end, within a limit.
-ghost use Rattle.std.specs.Io.KnownBytes.{ReadConsumes};
+ghost use Rattle.std.specs.Io.KnownBytes.{IsAtEnd, ReadConsumes};
 ghost use Rattle.std.specs.Io.{ReadsAtMost};
 ghost use Rattle.std.specs.IoError.{error_kind};
 ghost use Rattle.std.specs.Prelude.{◌+◌, ◌<◌, ◌≡◌, ◌≢◌, ◌≤◌, ◌⊎◌, Err, IfErr, IfOk, IfSome, OnOk, false, length, true, vec_len};
 
 use crate::sources::ReadFault;
-use std::alloc::Global;
+use std::alloc::{AllocError, Global};
 use std::io;
 use std::io::{ErrorKind, Read};
 use std::marker::Model;
@@ -60,11 +60,13 @@ impl<R: Read> Turns<R> {
 
     // One turn of reading.
     fn read(&mut self, buffer: &mut [u8]) -> io::Result<usize>
-        requires { 0 < self.old.turns }
+        requires turns { 0 < self.old.turns }
+        requires room { 0 < length buffer.old }
         ensures turns { self.new.turns + 1 ≡ self.old.turns }
         ensures bound { ReadsAtMost result buffer.new }
         ensures bytes { ReadConsumes self.old.bytes self.new.bytes result buffer.new }
-        ensures length { length buffer.new ≡ length buffer.old }
+        ensures end { IfOk result (λ n. n ≡ 0 → IsAtEnd self.new.bytes) }
+        ensures room { length buffer.new ≡ length buffer.old }
         ensures same { OnOk result (self.new.failed ≡ self.old.failed) }
         ensures interrupted { IfErr result (λ e. error_kind e ≡ ErrorKind.Interrupted → self.new.failed ≡ self.old.failed) }
         ensures failed { IfErr result (λ e. error_kind e ≢ ErrorKind.Interrupted → self.new.failed ≡ true) }
@@ -78,6 +80,50 @@ impl<R: Read> Turns<R> {
         }
         result
     }
+}
+
+// So many zeros.
+fn zeros(alloc: Global, count: usize) -> Result<Vec<u8>, AllocError>
+    ensures { IfOk result (λ zeros. vec_len zeros ≡ count) }
+{
+    vec![in alloc; 0u8; count]
+}
+
+// The bytes of a reader, at most `cap` of them, read by pieces into a buffer.
+fn read_pieces<R: Read>(
+    alloc: Global,
+    reader: &mut Turns<R>,
+    buffer: &mut [u8],
+    cap: usize,
+) -> Result<Vec<u8>, ReadFault>
+    requires room { 0 < length buffer.old }
+    requires fresh { reader.old.failed ≡ false }
+    ensures whole { IfOk result (λ bytes. IfSome reader.old.bytes (λ all. bytes.items ≡ all)) }
+    ensures within { IfOk result (λ bytes. vec_len bytes ≤ cap) }
+    ensures read { OnOk result (reader.new.failed ≡ false) }
+    ensures too_long { result ≡ Err ReadFault.TooLong → IfSome reader.old.bytes (λ all. cap < length all) }
+    ensures failed { result ≡ Err ReadFault.Failed → (reader.new.failed ≡ true) ⊎ (reader.new.turns ≡ 0) }
+{
+    let mut bytes = Vec::new(alloc);
+    for turn in 0..reader.left() {
+        match reader.read(buffer) {
+            Ok(0) => return Ok(bytes),
+            Ok(n) => {
+                if bytes.extend_from_slice(&buffer[..n]).is_err() {
+                    return Err(ReadFault::OutOfMemory);
+                }
+                if bytes.len() > cap {
+                    return Err(ReadFault::TooLong);
+                }
+            }
+            Err(error) => {
+                if error.kind() != ErrorKind::Interrupted {
+                    return Err(ReadFault::Failed);
+                }
+            }
+        }
+    }
+    Err(ReadFault::Failed)
 }
 
 /// The bytes of a reader, at most `cap` of them. A reader that comes to no end within its turns has failed; it has to
@@ -98,25 +144,8 @@ pub fn read_within<R: Read>(
     // Refused memory, and a turn that was interrupted, are no failure.
     ensures failed { result ≡ Err ReadFault.Failed → (reader.new.failed ≡ true) ⊎ (reader.new.turns ≡ 0) }
 {
-    let mut bytes = Vec::new(alloc);
-    let mut buffer = vec![in alloc; 0u8; PIECE].map_err(|_| ReadFault::OutOfMemory)?;
-    for turn in 0..reader.left() {
-        match reader.read(buffer.as_mut_slice()) {
-            Ok(0) => return Ok(bytes),
-            Ok(n) => {
-                if bytes.extend_from_slice(&buffer[..n]).is_err() {
-                    return Err(ReadFault::OutOfMemory);
-                }
-                if bytes.len() > cap {
-                    return Err(ReadFault::TooLong);
-                }
-            }
-            Err(error) => {
-                if error.kind() != ErrorKind::Interrupted {
-                    return Err(ReadFault::Failed);
-                }
-            }
-        }
+    match zeros(alloc, PIECE) {
+        Ok(mut buffer) => read_pieces(alloc, reader, buffer.as_mut_slice(), cap),
+        Err(_) => Err(ReadFault::OutOfMemory),
     }
-    Err(ReadFault::Failed)
 }

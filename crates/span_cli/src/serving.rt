@@ -2,6 +2,7 @@
 ghost use Rattle.span_cli.specs.Serving.{OfAnswer, answer_of, asked_by, check_answer, done, margin_answer};
 ghost use Rattle.span_cli.specs.Telling.{Serves, Tells};
 ghost use Rattle.span_cli.specs.steps.Refusals.{Loads, Runs, refusal_line, refusal_status};
+ghost use Rattle.span_cli.specs.declared.serving.Refusal.TheVariants as refusal;
 ghost use Rattle.span_told.specs.Streams.{Says};
 ghost use Rattle.statement.specs.Counts.{counts_of};
 ghost use Rattle.statement.specs.Statement.{statement_of};
@@ -34,6 +35,14 @@ enum Refusal<'a> {
     Fault(SpanFault),
 }
 
+impl<'a> From<SpanFault> for Refusal<'a> {
+    ghost from_gives = { λ e answer. answer ≡ refusal.Fault e };
+
+    fn from(fault: SpanFault) -> Refusal<'a> {
+        Refusal::Fault(fault)
+    }
+}
+
 // The file of a name.
 fn load<'a, S: Sources>(
     alloc: Global,
@@ -54,7 +63,8 @@ fn load<'a, S: Sources>(
 fn counts<'a>(alloc: Global, params: Vec<u8>) -> Result<Vec<u8>, Refusal<'a>>
     ensures { Runs (λ text. text.items) (answer_of (counts_of params.items)) result }
 {
-    check_plain(alloc, params.as_slice()).map_err(Refusal::Fault)
+    let text = check_plain(alloc, params.as_slice())?;
+    Ok(text)
 }
 
 // The counts of a file.
@@ -73,7 +83,8 @@ fn check<'a, S: Sources>(
 fn statement<'a>(alloc: Global, params: Vec<u8>, positions: Vec<u8>) -> Result<Vec<u8>, Refusal<'a>>
     ensures { Runs (λ text. text.items) (answer_of (statement_of params.items positions.items)) result }
 {
-    margin_plain(alloc, params.as_slice(), positions.as_slice()).map_err(Refusal::Fault)
+    let text = margin_plain(alloc, params.as_slice(), positions.as_slice())?;
+    Ok(text)
 }
 
 // The statement of two files, which are read in their order.

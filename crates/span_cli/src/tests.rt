@@ -187,7 +187,12 @@ fn keeps_its_status_where_the_error_stream_fails(rt: HostRuntime) -> Result<(), 
 #[test]
 fn keeps_its_status_where_both_streams_fail(rt: HostRuntime) -> Result<(), Fail> {
     let words = ["span", "margin", "params.csv", "positions.csv"];
-    let (status, _, _) = run_into(rt.alloc(), &words, Breaking { room: 5 }, Breaking { room: 0 });
+    let (status, _, _) = run_into(
+        rt.alloc(),
+        &words,
+        Breaking { room: 5 },
+        Breaking { room: 0 },
+    );
     assert_eq!(rt; status, 6);
     Ok(())
 }

@@ -102,7 +102,11 @@ fn margin(alloc: Global, params: &[u8], positions: &[u8]) -> Given {
 }
 
 fn check(alloc: Global, params: &[u8]) -> Given {
-    answer(alloc, Request::Check { params: "params" }, &[("params", params)])
+    answer(
+        alloc,
+        Request::Check { params: "params" },
+        &[("params", params)],
+    )
 }
 
 #[test]

@@ -53,7 +53,10 @@ fn reads_to_the_end(rt: HostRuntime) -> Result<(), Fail> {
         (&[Turn::Gives(b"ab")], b"ab"),
         // Exactly as many bytes as there may be.
         (&[Turn::Gives(b"abc")], b"abc"),
-        (&[Turn::Gives(b"a"), Turn::Gives(b"b"), Turn::Gives(b"c")], b"abc"),
+        (
+            &[Turn::Gives(b"a"), Turn::Gives(b"b"), Turn::Gives(b"c")],
+            b"abc",
+        ),
         (
             &[
                 Turn::IsInterrupted,
@@ -112,7 +115,14 @@ fn fails_where_a_turn_fails(rt: HostRuntime) {
 fn fails_where_the_turns_run_out(rt: HostRuntime) {
     let alloc = rt.alloc();
     assert!(rt; is_refused(alloc, &[], Turn::IsInterrupted, ReadFault::Failed));
-    assert!(rt; is_refused(alloc, &[Turn::Gives(b"abc")], Turn::IsInterrupted, ReadFault::Failed));
+    assert!(rt;
+        is_refused(
+            alloc,
+            &[Turn::Gives(b"abc")],
+            Turn::IsInterrupted,
+            ReadFault::Failed
+        )
+    );
     let turns = &[Turn::IsInterrupted; 8];
     assert!(rt; is_refused(alloc, turns, Turn::Ends, ReadFault::Failed));
 }

@@ -7,7 +7,7 @@ ghost use Rattle.span_cli.specs.Words.{asked_in, asked_under, check_app, check_i
 ghost use Rattle.span_told.specs.Streams.{Says};
 ghost use Rattle.statement.specs.FaultLines.{memory_line};
 ghost use Rattle.std.specs.IoError.{error_kind};
-ghost use Rattle.std_io.specs.declared.io.kind.ErrorKind.TheVariants as kind;
+ghost use Rattle.std.specs.declared.io.ErrorKind.TheVariants as kind;
 ghost use Rattle.std.specs.Prelude.{◌≡◌, ◌≢◌, IfErr, IfOk, IfSome, [], false, map, option_map, true};
 
 use crate::serving::{Request, serve};
@@ -173,6 +173,14 @@ fn say_mistake<E: Write>(error: &Error, err: &mut Told<E>) -> u8
     USAGE
 }
 
+// Says that the words ask for nothing, and gives the status.
+fn say_nothing_asked<E: Write>(err: &mut Told<E>) -> u8
+    ensures { result ≡ USAGE }
+{
+    let _ = writeln!(err, "error: nothing is asked for");
+    USAGE
+}
+
 // Says that memory was refused in reading the words, and gives the status.
 fn give_up<E: Write>(err: &mut Told<E>) -> u8
     ensures status { result ≡ OUT_OF_MEMORY }
@@ -185,7 +193,7 @@ fn give_up<E: Write>(err: &mut Told<E>) -> u8
 // Answers words that are no request.
 fn refuse<W: Write, E: Write>(error: Error, out: &mut Told<W>, err: &mut Told<E>) -> u8
     requires { out.old.failed ≡ false }
-    ensures { Refuses (kind_of error.entry) result out.old out.new err.old err.new }
+    ensures { Refuses (kind_of error) result out.old out.new err.old err.new }
 {
     match error.kind() {
         ErrorKind::OutOfMemory => give_up(err),
@@ -212,7 +220,7 @@ pub fn run_words<T: AsStr, S: Sources, W: Write, E: Write>(
 {
     match request(alloc, words) {
         Ok(Some(request)) => serve(alloc, request, sources, out, err),
-        Ok(None) => USAGE,
+        Ok(None) => say_nothing_asked(err),
         Err(error) => refuse(error, out, err),
     }
 }

@@ -5,6 +5,8 @@ ghost use Rattle.clap.specs.declared.error.kind.ErrorKind.TheVariants as kind;
 ghost use Rattle.span_cli.specs.Serving.{a_check, a_margin, check_answer, done, margin_answer, memory, refused};
 ghost use Rattle.span_cli.specs.Words.{asked_in, is_taken, kinds_of};
 ghost use Rattle.span_cli.specs.declared.sources.ReadFault.TheVariants as read;
+ghost use Rattle.span_cli.specs.declared.disk.TheConstants.{MAX_TURNS};
+ghost use Rattle.span_cli.specs.declared.sources.TheConstants.{FILE_CAP};
 ghost use Rattle.std.specs.Prelude.{◌≡◌, ◌∷◌, Err, None, Ok, Some, [], codes, true};
 
 // `span check p` is taken, and asks for just that.
@@ -51,4 +53,10 @@ fn files_that_are_read()
     ensures no_set { check_answer (codes "p") (Ok []) ≡ refused 3 (codes "parameters: P1 NoSet at record 0\n") }
     ensures unknown_contract { margin_answer (codes "p") (codes "q") (Ok (codes "SET,D1,1,USD\n")) (Ok (codes "X,FA,1\n"))
         ≡ refused 4 (codes "positions: B1 UnknownContract at record 1 account X\n") }
+{}
+
+// How long a file may be, and how many turns a reading of it has.
+fn limits()
+    ensures bytes { FILE_CAP ≡ 67108864 }
+    ensures turns { MAX_TURNS ≡ 67108865 }
 {}

@@ -189,7 +189,11 @@ fn bind_line(fault: &BindFault) -> Line<'_>
     ensures { text_of result ≡ bind_line fault.now }
 {
     match fault {
-        BindFault::UnknownContract { at, account } => of_account("B1 UnknownContract", *at, account),
+        BindFault::UnknownContract { at, account } => of_account(
+            "B1 UnknownContract",
+            *at,
+            account,
+        ),
         BindFault::NetOutOfRange { at, account } => of_account("B2 NetOutOfRange", *at, account),
         BindFault::TooManyHeld { at, account } => of_account("B3 TooManyHeld", *at, account),
         BindFault::OutOfMemory => Line::Memory,

@@ -5,8 +5,8 @@ ghost use Rattle.std.specs.Prelude.{[], ◌++◌, ◌∷◌, ◌≡◌, IfOk, On
 
 use crate::figures::Figures;
 use crate::rows::{CommodityRow, Row};
+use itoa::Buffer;
 use span_money::amounts::Money;
-use span_money::texts::decimal;
 use span_tables::name::Name;
 use std::alloc::{AllocError, Global};
 
@@ -21,7 +21,11 @@ pub(crate) fn push_field(out: &mut Vec<u8>, text: &[u8]) -> Result<(), AllocErro
 fn push_number(out: &mut Vec<u8>, n: i128) -> Result<(), AllocError>
     ensures { OnOk result (out.new.items ≡ out.old.items ++ number n) }
 {
-    push_field(out, decimal(n).as_bytes())
+    let mut buffer = Buffer::new();
+    match u64::try_from(n) {
+        Ok(small) => push_field(out, buffer.format(small).as_bytes()),
+        Err(_) => push_field(out, buffer.format(n).as_bytes()),
+    }
 }
 
 pub(crate) fn push_numbers(out: &mut Vec<u8>, numbers: &[i128]) -> Result<(), AllocError>

@@ -1,4 +1,4 @@
-use crate::faults::{SpanFault, status, write_fault};
+use crate::faults::{SpanFault, status, tell_fault, write_fault};
 use crate::figures::Figures;
 use crate::lines::write;
 use crate::margin::margin_plain;
@@ -7,6 +7,7 @@ use param_check::faults::{BindFault, CheckFault};
 use span_csv::faults::{ParamFault, PositionFault};
 use span_money::amounts::Money;
 use span_tables::name::Name;
+use span_told::Told;
 use std::alloc::Global;
 use std::process::Abort;
 use std::test::Fail;
@@ -50,24 +51,12 @@ fn three_commodities_two_spreads(rt: HostRuntime) -> Result<(), Fail> {
     Ok(())
 }
 
-// Whether a fault is want of memory, whichever stage found it.
-fn is_memory(fault: &SpanFault) -> bool {
-    match fault {
-        SpanFault::Memory
-        | SpanFault::Params(ParamFault::OutOfMemory)
-        | SpanFault::Check(CheckFault::OutOfMemory)
-        | SpanFault::Positions(PositionFault::OutOfMemory)
-        | SpanFault::Bind(BindFault::OutOfMemory) => true,
-        _ => false,
-    }
-}
-
 // Whatever growth of memory is refused, the answer is these bytes or want of memory, never other bytes.
 #[test]
 fn bytes_or_want_of_memory(rt: HostRuntime) {
     match margin_plain(rt.alloc(), PARAMS, POSITIONS) {
         Ok(text) => assert_eq!(rt; text.as_slice(), STATEMENT),
-        Err(fault) => assert!(rt; is_memory(&fault)),
+        Err(fault) => assert_eq!(rt; fault, SpanFault::Memory),
     }
 }
 
@@ -75,7 +64,7 @@ fn bytes_or_want_of_memory(rt: HostRuntime) {
 fn is_refused(alloc: Global, params: &[u8], positions: &[u8], expected: &SpanFault) -> bool {
     match margin_plain(alloc, params, positions) {
         Ok(_text) => false,
-        Err(fault) => fault == *expected || is_memory(&fault),
+        Err(fault) => fault == *expected || fault == SpanFault::Memory,
     }
 }
 
@@ -134,6 +123,10 @@ fn says(
     let mut out = Vec::new(alloc);
     write_fault(&fault, &mut out)?;
     assert_eq!(rt; out.as_slice(), line.as_bytes());
+    let mut out = Told::new(Vec::new(alloc));
+    tell_fault(&fault, &mut out);
+    assert!(rt; !out.failed());
+    assert_eq!(rt; out.into_inner().as_slice(), line.as_bytes());
     assert_eq!(rt; status(&fault), number);
     Ok(())
 }
@@ -159,8 +152,8 @@ fn lines_of_faults(rt: HostRuntime) -> Result<(), Fail> {
     says(
         &rt,
         alloc,
-        SpanFault::from(PositionFault::TooManyAccounts { at: 1025 }),
-        "positions: Q5 TooManyAccounts at record 1025\n",
+        SpanFault::from(PositionFault::TooManyAccounts { at: 4097 }),
+        "positions: Q5 TooManyAccounts at record 4097\n",
         4,
     )?;
     says(
@@ -173,38 +166,18 @@ fn lines_of_faults(rt: HostRuntime) -> Result<(), Fail> {
     says(&rt, alloc, SpanFault::Memory, "memory\n", 5)
 }
 
-// Want of memory is the same line and status, whichever stage finds it.
+// Want of memory is one fault, whichever stage answers it.
 #[test]
-fn lines_of_want_of_memory(rt: HostRuntime) -> Result<(), Fail> {
-    let alloc = rt.alloc();
-    says(
-        &rt,
-        alloc,
+fn want_of_memory_is_one_fault(rt: HostRuntime) {
+    let faults = [
         SpanFault::from(ParamFault::OutOfMemory),
-        "memory\n",
-        5,
-    )?;
-    says(
-        &rt,
-        alloc,
         SpanFault::from(CheckFault::OutOfMemory),
-        "memory\n",
-        5,
-    )?;
-    says(
-        &rt,
-        alloc,
         SpanFault::from(PositionFault::OutOfMemory),
-        "memory\n",
-        5,
-    )?;
-    says(
-        &rt,
-        alloc,
         SpanFault::from(BindFault::OutOfMemory),
-        "memory\n",
-        5,
-    )
+    ];
+    for fault in faults {
+        assert_eq!(rt; fault, SpanFault::Memory);
+    }
 }
 
 // A writer that has no room for the whole line refuses it.
@@ -221,4 +194,8 @@ fn line_without_room(rt: HostRuntime) {
         room.as_slice(),
         b"positions: B3 TooManyHeld at record 9 ac".as_slice()
     );
+    let mut room = [0; 40];
+    let mut out = Told::new(&mut room[..]);
+    tell_fault(&fault, &mut out);
+    assert!(rt; out.failed());
 }

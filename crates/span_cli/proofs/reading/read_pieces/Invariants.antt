@@ -1,7 +1,6 @@
-use Rattle.std.proofs.Common.{◌≡◌, ◌≤◌, ◌+◌, false, length}
+use Rattle.std.proofs.Common.{◌≡◌, ◌≤◌, ◌<◌, ◌+◌, false, length}
 use Rattle.std.specs.Io.KnownBytes.{Consumes}
-use Rattle.span_cli.specs.declared.reading.TheConstants.{PIECE}
-use Rattle.span_cli.proofs.reading.read_within.Given as goal
+use Rattle.span_cli.proofs.reading.read_pieces.Given as goal
 
 abbrev pub invariant-loop-turn : goal.invariant-loop-turn
 invariant-loop-turn g l = record {
@@ -9,5 +8,5 @@ invariant-loop-turn g l = record {
   within : length l.bytes.items ≤ l.fn.cap;
   turns : l.reader.turns + l.turn ≡ l.fn.reader.turns;
   fresh : l.reader.failed ≡ false;
-  buffer : length l.buffer.items ≡ PIECE;
+  buffer : 0 < length l.buffer;
 }
