@@ -6,8 +6,10 @@ pub mod GroupLemmas
 pub mod HoldingLaws
 pub mod IdLaws
 pub mod KeyLemmas
+pub mod KeptLaws
 pub mod LedgerLaws
 pub mod LimitLaws
+pub mod MarkLaws
 pub mod NetLaws
 pub mod OrderLaws
 pub mod OverlapLemmas

@@ -6,3 +6,4 @@ pub mod Keys
 pub mod Ledger
 pub mod Nets
 pub mod Overlaps
+pub mod steps

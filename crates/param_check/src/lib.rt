@@ -13,6 +13,7 @@ mod nets;
 mod numbers;
 mod overlaps;
 mod rules;
+mod sums;
 #[cfg(test)]
 mod tests;
 mod unfit;
