@@ -17,3 +17,4 @@ mod sums;
 #[cfg(test)]
 mod tests;
 mod unfit;
+mod worked;

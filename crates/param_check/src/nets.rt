@@ -18,8 +18,8 @@ pub(crate) struct Entry {
     pub(crate) quantity: i64,
 }
 
-/// What one account holds, whatever the sizes of its nets; one over the limit stands as the least that is. Contracts see
-/// the list.
+/// What one account holds, whatever the sizes of its nets; one over the limit stands as the least that is. Contracts
+/// see the list.
 #[derive(Drop)]
 pub(crate) struct AccountNets {
     holdings: Vec<Holding>,
