@@ -7,28 +7,23 @@ use Rattle.std.proofs.lemmas.Bool.Decides.{nat_tests}
 use Rattle.span_tables.specs.Rules.{is_and, first_breaking, as_commodity, as_contract, as_tier, as_intra, as_inter, as_spot, repeats_commodity, repeats_contract, repeats_tier, repeats_priority, repeats_spot}
 use Rattle.span_tables.specs.declared.records.Record.{Record}
 use Rattle.span_tables.specs.declared.records.Record.TheVariants as record_of
-use Rattle.param_check.specs.Keys.{named, key_of, is_same_key, repeats_key, first_repeat}
+use Rattle.param_check.specs.steps.Keys.{named, key_of, is_same_key, repeats_key, first_repeat}
 use Rattle.param_check.specs.declared.keys.Key.{Key}
 use Rattle.param_check.specs.declared.keys.Identity.{Identity}
 use Rattle.param_check.specs.declared.keys.Identity.TheVariants as identity
+use Rattle.param_check.proofs.AccountLaws.{bytes_eq-flip}
 use Rattle.param_check.proofs.FilterMaps.{list_any-filter_map, list_any-same}
 use Rattle.param_check.proofs.FirstFaults.{first_breaking-same}
 
 eqb-swap : (m n : ℕ) → eqb m n ≡ eqb n m
 eqb-swap m n = grind (arith, nat_tests)
 
-bytes_eq-swap : (xs ys : List ℕ) → bytes_eq xs ys ≡ bytes_eq ys xs
-bytes_eq-swap [] [] = refl
-bytes_eq-swap [] (y ∷ ys) = refl
-bytes_eq-swap (x ∷ xs) [] = refl
-bytes_eq-swap (x ∷ xs) (y ∷ ys) = rw (eqb-swap x y) (rw (bytes_eq-swap xs ys) refl)
-
 key_swap : (x y : List ℕ) (m n : ℕ) → is_same_key (named x m) (named y n) ≡ (bytes_eq y x && eqb n m)
-key_swap x y m n = rw (eqb-swap m n) (rw (bytes_eq-swap x y) refl)
+key_swap x y m n = rw (eqb-swap m n) (rw (bytes_eq-flip x y) refl)
 
 -- a number of 0 says nothing
 name_swap : (x y : List ℕ) → is_same_key (named x 0) (named y 0) ≡ bytes_eq y x
-name_swap x y = and-true (bytes_eq x y) ∙ bytes_eq-swap x y
+name_swap x y = and-true (bytes_eq x y) ∙ bytes_eq-flip x y
 
 -- keys and what they are made of are found alike
 among : {A : Type 0} (i : Identity) (h : Record → Option A) (key : Key) (q : A → Bool)

@@ -1,3 +1,4 @@
+pub mod AcceptedLaws
 pub mod AccountLaws
 pub mod BindLaws
 pub mod FilterMaps
@@ -6,8 +7,11 @@ pub mod GroupLemmas
 pub mod HoldingLaws
 pub mod IdLaws
 pub mod KeyLemmas
+pub mod KeptLaws
+pub mod KindLaws
 pub mod LedgerLaws
 pub mod LimitLaws
+pub mod MarkLaws
 pub mod NetLaws
 pub mod OrderLaws
 pub mod OverlapLemmas

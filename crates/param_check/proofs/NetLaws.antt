@@ -3,7 +3,7 @@ use Rattle.std.proofs.Common.{◌≡◌, ℕ, zero, suc, ◌+◌, ◌*◌, ◌<�
 use Rattle.std.specs.Prelude.{ℤ, pos, ◌+ℤ◌, nat_abs, replicate}
 use Rattle.std.specs.List.{range_with_len}
 use Rattle.std.proofs.lemmas.Int.{ints}
-use Rattle.std.proofs.lemmas.List.{append-nil, take_more, length-set, get_or-set_same, get_or-set_other, same_lists, set_past}
+use Rattle.std.proofs.lemmas.List.{append-nil, length-replicate, take_more, length-set, get_or-set_same, get_or-set_other, same_lists, set_past}
 use Rattle.std.proofs.lemmas.List.Elements.{filter-append}
 use Rattle.std.proofs.lemmas.List.FromFn.{get_or-map-range_with_len, length-map-range_with_len}
 use Rattle.std.proofs.lemmas.List.Sums.{fold_push}
@@ -141,3 +141,17 @@ holdings_in_table n entries nets e =
   where
     holding_with : ℕ → ℤ → Holding
     holding_with k z = record { contract = k; net = z }
+
+-- the table of an account's entries, from one of as many nets of 0
+module _ (n : ℕ) (entries book : List Entry) (zeros nets : List ℤ) (cleared : zeros ≡ replicate n (pos 0)) (is : entries ≡ book)
+    (added : nets ≡ map (entry_net entries) (range_with_len 0 (length zeros))) where
+  pub table_is : nets ≡ map (entry_net book) (range_with_len 0 n)
+  table_is =
+      added ∙ ap (λ es. map (entry_net es) (range_with_len 0 (length zeros))) is
+      ∙ ap (λ m. map (entry_net book) (range_with_len 0 m)) (ap length cleared ∙ length-replicate n (pos 0))
+
+  pub table_long : length nets ≡ n
+  table_long = ap length table_is ∙ length-map-range_with_len (entry_net book) 0 n
+
+  pub table_holds : holdings_in nets (length nets) ≡ entry_holdings n book
+  table_holds = holdings_in_table n book nets table_is

@@ -4,16 +4,13 @@ use Rattle.std.specs.Prelude.{if◌then◌else◌, filter_map}
 use Rattle.std.specs.List.{list_any}
 use Rattle.std.specs.Option.{option_map_or}
 use Rattle.std.proofs.lemmas.List.{append-nil}
-use Rattle.std.proofs.lemmas.Slice.Eq.{bytes_eq-Decides}
 use Rattle.span_tables.specs.Rules.{is_and, as_tier, share_month, overlaps_tier}
 use Rattle.span_tables.specs.declared.records.Record.{Record}
 use Rattle.span_tables.specs.declared.records.Record.TheVariants as record_of
-use Rattle.param_check.specs.Overlaps.{meet, meets_earlier, months_of, months_under}
+use Rattle.param_check.specs.steps.Overlaps.{meet, meets_earlier, months_of, months_under}
 use Rattle.param_check.specs.declared.overlaps.Months.{Months}
+use Rattle.param_check.proofs.AccountLaws.{same_bytes}
 use Rattle.param_check.proofs.FilterMaps.{list_any-filter_map, list_any-same}
-
-same_bytes : (xs ys : List ℕ) → bytes_eq xs ys ≡ true → xs ≡ ys
-same_bytes xs ys e = (bytes_eq-Decides xs ys).0 e
 
 -- a new group under k, where there was none
 pub begun : {V M : Type 0} (items : V → List M) (found : List ℕ → Option V) (k q : List ℕ) (group : V) (m : M) → items group ≡ m ∷ [] → found k ≡ None → (b : Bool) → bytes_eq k q ≡ b

@@ -2,7 +2,7 @@
 use Rattle.std.proofs.Common.{◌≡◌, ℕ, suc, ◌+◌, ◌<◌, Bool, true, false, cond, not, ◌||◌, ◌&&◌, List, [], ◌∷◌, length, get_or, filter, map, Some, None, position, refl, sym, ap, ◌∙◌, arith}
 use Rattle.std.specs.Prelude.{ℤ, nat_abs, bytes_eq, ◌==◌, nat_lt}
 use Rattle.std.specs.List.{list_any, enumerate_from, position_or_len}
-use Rattle.std.proofs.lemmas.Bool.{true≢false, false≢true, eq-eqb, ne_eqb, eqb-true, lt-ltb, le-ltb, not-false, false_from_ne_true, and_parts}
+use Rattle.std.proofs.lemmas.Bool.{true≢false, false≢true, eq-eqb, ne_eqb, eqb-true, lt-ltb, le-ltb, not-false, false_from_ne_true}
 use Rattle.std.proofs.lemmas.List.{get_or-map, length-map}
 use Rattle.std.proofs.lemmas.List.Folds.{list_any_at}
 use Rattle.span_tables.specs.Net.{accounts_of, net_of, is_held, holding_of, holdings_of}
@@ -15,7 +15,8 @@ use Rattle.param_check.specs.Holdings.{ids_of, is_over, is_over_at, over_at, net
 use Rattle.param_check.specs.Ledger.{is_foreign, foreign_fault}
 use Rattle.param_check.specs.declared.faults.BindFault.TheVariants as fault
 use Rattle.param_check.proofs.AccountLaws.{same_bytes, bytes_eq-refl, bytes_eq-flip, among_distinct}
-use Rattle.param_check.proofs.UnfitLaws.{unfit_same, first_of_kind}
+use Rattle.param_check.proofs.KindLaws.{net_of_kind, held_of_kind}
+use Rattle.param_check.proofs.UnfitLaws.{unfit_same}
 
 -- ---- the place of a name
 
@@ -158,24 +159,13 @@ module _ (contracts : List Contract) (positions : List PositionRecord) (accounts
   pub net_fault_is : net_fault (ids_of contracts) accounts nets positions
       ≡ first_unfit fault.NetOutOfRange (λ earlier p. is_first_of_contract earlier p && exceeds_net positions p) positions
   net_fault_is =
-      net_fault_any
-      ∙ sym (first_of_kind fault.NetOutOfRange (λ x p. bytes_eq x.account p.account && bytes_eq x.contract p.contract) (exceeds_net positions) alike positions)
-    where
-      alike : (x p : PositionRecord) → (bytes_eq x.account p.account && bytes_eq x.contract p.contract) ≡ true → exceeds_net positions p ≡ true → exceeds_net positions x ≡ true
-      alike x p same e =
-          let parts = and_parts (bytes_eq x.account p.account) (bytes_eq x.contract p.contract) same in
-          ap (λ a. nat_lt MAX_NET (nat_abs (net_of positions a x.contract))) (same_bytes x.account p.account parts.0)
-          ∙ ap (λ c. nat_lt MAX_NET (nat_abs (net_of positions p.account c))) (same_bytes x.contract p.contract parts.1) ∙ e
+      net_fault_any ∙ sym (net_of_kind positions)
 
   -- the first account that holds too many contracts is that of the definition
   pub held_fault_is : held_fault accounts nets positions
       ≡ first_unfit fault.TooManyHeld (λ earlier p. is_first_of_account earlier p && exceeds_held contracts positions p) positions
   held_fault_is =
-      held_fault_any
-      ∙ sym (first_of_kind fault.TooManyHeld (λ x p. bytes_eq x.account p.account) (exceeds_held contracts positions) alike positions)
-    where
-      alike : (x p : PositionRecord) → bytes_eq x.account p.account ≡ true → exceeds_held contracts positions p ≡ true → exceeds_held contracts positions x ≡ true
-      alike x p same e = ap (λ a. nat_lt MAX_HELD (length (holdings_of contracts positions a))) (same_bytes x.account p.account same) ∙ e
+      held_fault_any ∙ sym (held_of_kind contracts positions)
 
 -- the first unknown contract is that of the definition
 pub foreign_fault_is : (contracts : List Contract) (positions : List PositionRecord)

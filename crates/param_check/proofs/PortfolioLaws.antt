@@ -42,7 +42,7 @@ module _ (positions : List PositionRecord) (account name : List ℕ) where
       by true false a c more = more
       by false c a d more = more
 
-  net_within : list_any (exceeds_net positions) positions ≡ false → nat_abs (net_of positions account name) ≤ MAX_NET
+  pub net_within : list_any (exceeds_net positions) positions ≡ false → nat_abs (net_of positions account name) ≤ MAX_NET
   net_within h = by (within_from positions h)
     where
       by : (filter (λ p. bytes_eq p.account account && bytes_eq p.contract name) positions ≡ []) ⊎ (nat_lt MAX_NET (nat_abs (net_of positions account name)) ≡ false) → nat_abs (net_of positions account name) ≤ MAX_NET
@@ -50,7 +50,7 @@ module _ (positions : List PositionRecord) (account name : List ℕ) where
       by (inr e) = ltb-false MAX_NET (nat_abs (net_of positions account name)) e
 
 -- where no record's account holds too many, no account does
-few_from : (contracts : List Contract) (positions : List PositionRecord) (account : List ℕ) (xs : List PositionRecord) → list_any (bytes_eq account) (map (λ p. p.account) xs) ≡ true
+pub few_from : (contracts : List Contract) (positions : List PositionRecord) (account : List ℕ) (xs : List PositionRecord) → list_any (bytes_eq account) (map (λ p. p.account) xs) ≡ true
     → list_any (exceeds_held contracts positions) xs ≡ false → length (holdings_of contracts positions account) ≤ MAX_HELD
 few_from contracts positions account [] among h = absurd (false≢true among)
 few_from contracts positions account (p ∷ xs) among h = by (bytes_eq account p.account) refl among (λ e. few_from contracts positions account xs e parts.1)

@@ -1,18 +1,14 @@
--- Records without a fault of the check keep every rule, and the first outcome counts.
+-- Records without a fault of the check keep every rule.
 use Rattle.std.proofs.Common.{◌≡◌, ℕ, ◌+◌, Bool, true, false, List, [], ◌∷◌, ◌++◌, Option, Some, None, refl, ap, length, map, arith}
 use Rattle.std.specs.Prelude.{zip, is_none, if◌then◌else◌, option_map}
 use Rattle.std.specs.List.{list_all}
 use Rattle.std.specs.Option.{option_or}
 use Rattle.span_tables.specs.Faults.{first_some, first_fault_after}
-use Rattle.span_tables.specs.Laws.{IsFirstOutcome}
 use Rattle.span_tables.specs.Rules.{rules, first_breaking, keeps_rules}
 use Rattle.param_check.specs.CheckFaults.{rule_names, check_fault}
 use Rattle.span_tables.specs.declared.records.Record.{Record}
 use Rattle.param_check.specs.declared.faults.CheckFault.{CheckFault}
-
--- the fault of one record, under a name
-named : {F : Type 0} → (ℕ → F) → (List Record → Record → Bool) → List Record → Record → Option (ℕ → F)
-named fault breaks earlier r = if breaks earlier r then Some fault else None
+use Rattle.param_check.proofs.FirstFaults.{named}
 
 head_free : {F : Type 0} (b : Bool) (fault : ℕ → F) (n : ℕ) (rest : Option F) → option_or (option_map (λ f. f n) (if b then Some fault else None)) rest ≡ None → (b ≡ false) × (rest ≡ None)
 head_free true fault n rest e = cc
@@ -21,7 +17,6 @@ head_free false fault n rest e = (refl, e)
 -- whether a rule is broken does not depend on its name
 same_under : {F : Type 0} (fault : ℕ → F) (breaks : List Record → Record → Bool) (before xs : List Record)
     → first_fault_after (named fault breaks) before xs ≡ None → first_fault_after (named (λ at. at) breaks) before xs ≡ None
-unfolding named
 same_under fault breaks before [] e = refl
 same_under fault breaks before (x ∷ xs) e =
     let h = head_free (breaks before x) fault (length before + 1) (first_fault_after (named fault breaks) (before ++ x ∷ []) xs) e in
@@ -33,7 +28,6 @@ or_none (Some x) rest e = cc
 
 all_kept : (all : List Record) (names : List (ℕ → CheckFault)) (tests : List (List Record → Record → Bool)) → length names ≡ length tests
     → first_some (map (λ p. first_breaking p.0 p.1 all) (zip names tests)) ≡ None → list_all (λ breaks. is_none (first_breaking (λ at. at) breaks all)) tests ≡ true
-unfolding named
 all_kept all [] [] same e = refl
 all_kept all [] (t ∷ ts) same e = cc
 all_kept all (n ∷ ns) [] same e = refl
@@ -46,11 +40,3 @@ all_kept all (n ∷ ns) (t ∷ ts) same e =
 pub check_keeps_rules : (all : List Record) → check_fault all ≡ None → keeps_rules all ≡ true
 unfolding check_fault keeps_rules
 check_keeps_rules all e = all_kept all rule_names (rules all) refl e
-
--- the answer is the first outcome that is one
-pub first_some_is : {F : Type 0} (outcomes : List (Option F)) (y : F) → first_some outcomes ≡ Some y → IsFirstOutcome outcomes y
-first_some_is [] y e = cc
-first_some_is (Some x ∷ rest) y e = record { earlier = []; later = rest; split = ap (λ o. o ∷ rest) e; none_earlier = tt }
-first_some_is (None ∷ rest) y e =
-    let more = first_some_is rest y e in
-    record { earlier = None ∷ more.earlier; later = more.later; split = ap (λ os. None ∷ os) more.split; none_earlier = (refl, more.none_earlier) }

@@ -23,7 +23,7 @@ rule_names =
     ∷ fault.DuplicateSpot
     ∷ []
 
--- the fault of a parameter file's records: the lowest-numbered rule that some record breaks, with the first that breaks it
+-- the fault of a parameter file's records: the lowest-numbered rule that some record breaks, with the first that does
 unfoldable pub check_fault : List Record → Option CheckFault
 check_fault all = first_some (map (λ named. first_breaking named.0 named.1 all) (zip rule_names (rules all)))
 

@@ -73,7 +73,7 @@ pub(crate) fn bind_records(
 {
     let numbers = contract_numbers(alloc, contracts)?;
     let ledger = gather(alloc, &numbers, records)?;
-    let nets = all_nets(alloc, contracts.len(), &ledger.books)?;
+    let nets = all_nets(alloc, contracts.len(), ledger.books)?;
     settle(alloc, &numbers, &ledger.accounts, nets, records)
 }
 

@@ -1,7 +1,7 @@
 //! The checker of parameter files.
 ghost use Rattle.std.specs.Prelude.{◌≡◌, IfOk};
 ghost use Rattle.param_check.specs.CheckFaults.{check_fault, checked, is_memory};
-ghost use Rattle.param_check.specs.Groups.{name_fault, spread_fault, tier_fault};
+ghost use Rattle.param_check.specs.steps.Groups.{name_fault, spread_fault, tier_fault};
 ghost use Rattle.span_tables.specs.Gives.{Gives};
 
 use crate::faults::CheckFault;
@@ -17,7 +17,7 @@ use span_tables::tables::Tables;
 use std::alloc::{AllocError, Global};
 
 // Which of C1 to C3 is broken first.
-#[tactic(auto, unfolding(crate::specs::Groups::name_fault))]
+#[tactic(auto, unfolding(crate::specs::steps::Groups::name_fault))]
 fn name_fault(alloc: Global, records: &[Record]) -> Result<Option<CheckFault>, AllocError>
     ensures { IfOk result (λ fault. fault ≡ name_fault records.now) }
 {
@@ -34,7 +34,7 @@ fn name_fault(alloc: Global, records: &[Record]) -> Result<Option<CheckFault>, A
 }
 
 // Which of C4 to C7 is broken first.
-#[tactic(auto, unfolding(crate::specs::Groups::tier_fault))]
+#[tactic(auto, unfolding(crate::specs::steps::Groups::tier_fault))]
 fn tier_fault(alloc: Global, records: &[Record]) -> Result<Option<CheckFault>, AllocError>
     ensures { IfOk result (λ fault. fault ≡ tier_fault records.now) }
 {
@@ -54,7 +54,7 @@ fn tier_fault(alloc: Global, records: &[Record]) -> Result<Option<CheckFault>, A
 }
 
 // Which of C8 to C11 is broken first.
-#[tactic(auto, unfolding(crate::specs::Groups::spread_fault))]
+#[tactic(auto, unfolding(crate::specs::steps::Groups::spread_fault))]
 fn spread_fault(alloc: Global, records: &[Record]) -> Result<Option<CheckFault>, AllocError>
     ensures { IfOk result (λ fault. fault ≡ spread_fault records.now) }
 {
@@ -90,7 +90,8 @@ pub(crate) fn check_fault(
     spread_fault(alloc, records)
 }
 
-/// The tables of the records of a file, or the lowest-numbered rule that they break with the first record that breaks it.
+/// The tables of the records of a file, or the lowest-numbered rule that they break with the first record that breaks
+/// it.
 #[tactic(auto, using(crate::proofs::GroupLemmas::checked_fault, crate::proofs::GroupLemmas::checked_tables, crate::proofs::RuleLaws::check_keeps_rules))]
 pub fn check(alloc: Global, raw: RawTables) -> Result<Tables, CheckFault>
     ensures { Gives is_memory result (checked raw) }

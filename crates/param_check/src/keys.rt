@@ -1,6 +1,6 @@
 //! What no two records of a kind may share, as keys of a set.
 ghost use Rattle.std.specs.Prelude.{◌≡◌, ◌++◌, ◌||◌, false, option_to_list, IfOk, OnOk};
-ghost use Rattle.param_check.specs.Keys.{first_repeat, has_key, is_among, is_same, key_of};
+ghost use Rattle.param_check.specs.steps.Keys.{first_repeat, has_key, is_among, is_same, key_of};
 
 use indexmap::IndexSet;
 use span_tables::name::Name;
@@ -60,10 +60,11 @@ pub(crate) fn named(name: &Name, number: u32) -> Key
 }
 
 // Takes the key of a record among those so far, and says whether it was among them.
-fn is_repeat(keys: &mut IndexSet<Key>, key: Option<Key>) -> Result<bool, AllocError>
+fn repeats_or_joins(keys: &mut IndexSet<Key>, key: Option<Key>) -> Result<bool, AllocError>
     ensures repeats { IfOk result (λ repeats. repeats ≡ is_among keys.old.keys key) }
     ensures taken { IfOk result (λ repeats. repeats ≡ false → keys.new.keys ≡ keys.old.keys ++ option_to_list key) }
-    ensures members { OnOk result ((k : Key) → is_among keys.new.keys (Some k) ≡ (is_among keys.old.keys (Some k) || is_same key k)) }
+    ensures members { OnOk result ((k : Key)
+        → is_among keys.new.keys (Some k) ≡ (is_among keys.old.keys (Some k) || is_same key k)) }
 {
     let Some(key) = key else {
         return Ok(false);
@@ -82,7 +83,7 @@ pub(crate) fn first_repeat(
 {
     let mut keys = IndexSet::new(alloc);
     for (index, item) in records.iter().enumerate() {
-        if is_repeat(&mut keys, key_of(identity, item))? {
+        if repeats_or_joins(&mut keys, key_of(identity, item))? {
             return Ok(Some(index + 1));
         }
     }
@@ -99,7 +100,7 @@ pub(crate) fn all_keys(
 {
     let mut keys = IndexSet::new(alloc);
     for item in records {
-        is_repeat(&mut keys, key_of(identity, item))?;
+        repeats_or_joins(&mut keys, key_of(identity, item))?;
     }
     Ok(keys)
 }

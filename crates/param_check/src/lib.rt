@@ -13,6 +13,8 @@ mod nets;
 mod numbers;
 mod overlaps;
 mod rules;
+mod sums;
 #[cfg(test)]
 mod tests;
 mod unfit;
+mod worked;

@@ -1,18 +1,15 @@
 //! The net quantities of one account.
-ghost use Rattle.std.specs.Prelude.{◌≡◌, ◌<◌, ◌≤◌, ◌+◌, ◌^◌, ◌+ℤ◌, All, length, map, nat_abs, replicate, pos, slice_index_or, slice_set, IfOk, OnOk, ◌++◌};
+ghost use Rattle.std.specs.Prelude.{◌≡◌, ◌<◌, ◌≤◌, ◌+◌, ◌^◌, ◌+ℤ◌, All, length, map, nat_abs, replicate, pos, slice_index_or, slice_set, IfOk};
 ghost use Rattle.std.specs.List.{range_with_len};
-ghost use Rattle.param_check.specs.Nets.{entry_holdings, entry_net, held_part, holdings_in};
-ghost use Rattle.param_check.specs.declared.nets.TheConstants.{MAX_ENTRIES};
+ghost use Rattle.param_check.specs.Nets.{entry_net};
+ghost use Rattle.param_check.specs.steps.Sums.{kept_holdings};
 ghost use Rattle.span_tables.specs.declared.limits.TheConstants.{MAX_QUANTITY};
 
 use crate::ledger::Book;
+use crate::sums::Sums;
 use span_tables::portfolios::Holding;
 use std::alloc::{AllocError, Global};
 use std::marker::Model;
-
-// So many records of one account add up within 64 bits. No process has more: 2^43 position records are larger than the
-// 2^47 bytes that a process can address.
-const MAX_ENTRIES: usize = 8_796_093_022_208;
 
 /// A position record of an account: the number of its contract, and its quantity.
 #[derive(Clone, Copy)]
@@ -21,7 +18,8 @@ pub(crate) struct Entry {
     pub(crate) quantity: i64,
 }
 
-/// What one account holds, whatever the sizes of its nets. Contracts see the list.
+/// What one account holds, whatever the sizes of its nets; one over the limit stands as the least that is. Contracts
+/// see the list.
 #[derive(Drop)]
 pub(crate) struct AccountNets {
     holdings: Vec<Holding>,
@@ -67,21 +65,18 @@ impl AccountNets {
 }
 
 // Adds an entry's quantity to the net of its contract; one of no contract adds nothing.
-fn add(nets: &mut [i64], entry: &Entry)
+fn add(nets: &mut Sums, entry: &Entry)
     requires quantity { nat_abs entry.now.quantity ≤ MAX_QUANTITY }
-    requires room { nat_abs (slice_index_or nets.old entry.now.contract (pos 0)) + MAX_QUANTITY < 2 ^ 63 }
-    ensures { nets.new ≡ slice_set nets.old entry.now.contract (slice_index_or nets.old entry.now.contract (pos 0) +ℤ entry.now.quantity) }
+    requires room { nat_abs (slice_index_or nets.old entry.now.contract (pos 0)) + MAX_QUANTITY < 2 ^ 127 }
+    ensures { nets.new ≡ slice_set nets.old entry.now.contract
+        (slice_index_or nets.old entry.now.contract (pos 0) +ℤ entry.now.quantity) }
 {
-    let Entry { contract, quantity } = *entry;
-    if contract < nets.len() {
-        nets[contract] += quantity;
-    }
+    nets.add(entry.contract, entry.quantity);
 }
 
 // Adds each entry's quantity to the net of its contract, from nets of 0.
-fn add_all(nets: &mut [i64], entries: &[Entry])
+fn add_all(nets: &mut Sums, entries: &[Entry])
     requires zero { nets.old ≡ replicate (length nets.old) (pos 0) }
-    requires few { length entries.now ≤ MAX_ENTRIES }
     requires quantities { All (λ e. nat_abs e.quantity ≤ MAX_QUANTITY) entries.now }
     ensures { nets.new ≡ map (entry_net entries.now) (range_with_len 0 (length nets.old)) }
 {
@@ -90,55 +85,30 @@ fn add_all(nets: &mut [i64], entries: &[Entry])
     }
 }
 
-// Appends the net in the contract of a number, unless it is 0.
-fn push_held(held: &mut Vec<Holding>, contract: usize, net: i64) -> Result<(), AllocError>
-    ensures { OnOk result (held.new.items ≡ held.old.items ++ held_part contract net) }
-{
-    if net != 0 {
-        held.push(Holding { contract, net })?;
-    }
-    Ok(())
-}
-
-// The nets that are not 0, with their contract's numbers; there is room for so many at first.
-fn held_nets(alloc: Global, nets: &[i64], room: usize) -> Result<Vec<Holding>, AllocError>
-    ensures { IfOk result (λ held. held.items ≡ holdings_in nets.now (length nets.now)) }
-{
-    let mut held = Vec::with_capacity(alloc, room)?;
-    for contract in 0..nets.len() {
-        push_held(&mut held, contract, nets[contract])?;
-    }
-    Ok(held)
-}
-
-// What an account of these entries holds, in a table that has a place for each contract.
-#[tactic(auto, using(crate::proofs::NetLaws::holdings_in_table))]
-fn account_nets(alloc: Global, table: &mut [i64], book: &Book) -> Result<AccountNets, AllocError>
-    ensures nets { IfOk result (λ nets. nets ≡ entry_holdings (length table.old) book.now) }
-    ensures places { length table.new ≡ length table.old }
+// What an account of these entries holds, by sums that have a place for each contract.
+fn account_nets(alloc: Global, sums: &mut Sums, book: &Book) -> Result<AccountNets, AllocError>
+    ensures nets { IfOk result (λ nets. nets ≡ kept_holdings (length sums.old) book.now) }
+    ensures places { length sums.new ≡ length sums.old }
 {
     let entries = book.as_slice();
-    if entries.len() > MAX_ENTRIES {
-        return Err(AllocError);
-    }
-    table.fill(0);
-    add_all(table, entries);
-    let holdings = held_nets(alloc, table, entries.len().min(table.len()))?;
+    sums.clear();
+    add_all(sums, entries);
+    let holdings = sums.holdings(alloc, entries.len().min(sums.len()))?;
     Ok(AccountNets { holdings })
 }
 
-/// What each account of some books holds, of so many contracts.
+/// What the account of each book holds, of so many contracts.
 pub(crate) fn all_nets(
     alloc: Global,
     contracts: usize,
-    books: &[Book],
+    books: Vec<Book>,
 ) -> Result<Vec<AccountNets>, AllocError>
-    ensures { IfOk result (λ nets. nets.items ≡ map (entry_holdings contracts) books.now) }
+    ensures { IfOk result (λ nets. nets.items ≡ map (kept_holdings contracts) books.items) }
 {
-    let mut table = vec![in alloc; 0i64; contracts]?;
+    let mut sums = Sums::new(alloc, contracts)?;
     let mut nets = Vec::with_capacity(alloc, books.len())?;
     for book in books {
-        nets.push(account_nets(alloc, &mut table, book)?)?;
+        nets.push(account_nets(alloc, &mut sums, &book)?)?;
     }
     Ok(nets)
 }

@@ -4,7 +4,7 @@ ghost use Rattle.std.specs.List.{list_any};
 ghost use Rattle.std.specs.Option.{option_map_or};
 ghost use Rattle.indexmap.specs.IndexMap.{get};
 ghost use Rattle.span_tables.specs.Rules.{first_breaking, overlaps_tier};
-ghost use Rattle.param_check.specs.Overlaps.{meet, meets_earlier, months_under};
+ghost use Rattle.param_check.specs.steps.Overlaps.{meet, meets_earlier, months_under};
 
 use indexmap::IndexMap;
 use span_tables::name::Name;
@@ -39,9 +39,12 @@ fn meets_or_joins(
     commodity: &Name,
     months: Months,
 ) -> Result<bool, AllocError>
-    ensures meets { IfOk result (λ met. met ≡ list_any (meet months) (option_map_or (λ v. v.items) (get bytes_eq tiers.old commodity.now) [])) }
-    ensures joins { IfOk result (λ met. met ≡ false → (c : List ℕ) → option_map_or (λ v. v.items) (get bytes_eq tiers.new c) []
-        ≡ option_map_or (λ v. v.items) (get bytes_eq tiers.old c) [] ++ (if bytes_eq commodity.now c then months ∷ [] else [])) }
+    ensures meets { IfOk result (λ met. met
+        ≡ list_any (meet months) (option_map_or (λ v. v.items) (get bytes_eq tiers.old commodity.now) [])) }
+    ensures joins { IfOk result (λ met. met ≡ false → (c : List ℕ)
+        → option_map_or (λ v. v.items) (get bytes_eq tiers.new c) []
+        ≡ option_map_or (λ v. v.items) (get bytes_eq tiers.old c) []
+        ++ (if bytes_eq commodity.now c then months ∷ [] else [])) }
 {
     if let Some(earlier) = tiers.get_mut(commodity) {
         if meets(months, earlier) {
@@ -62,8 +65,10 @@ fn overlaps_or_joins(
     tiers: &mut IndexMap<Name, Vec<Months>>,
     item: &Record,
 ) -> Result<bool, AllocError>
-    ensures meets { IfOk result (λ met. met ≡ meets_earlier (λ c. option_map_or (λ v. v.items) (get bytes_eq tiers.old c) []) item.now) }
-    ensures joins { IfOk result (λ met. met ≡ false → (c : List ℕ) → option_map_or (λ v. v.items) (get bytes_eq tiers.new c) []
+    ensures meets { IfOk result (λ met. met
+        ≡ meets_earlier (λ c. option_map_or (λ v. v.items) (get bytes_eq tiers.old c) []) item.now) }
+    ensures joins { IfOk result (λ met. met ≡ false → (c : List ℕ)
+        → option_map_or (λ v. v.items) (get bytes_eq tiers.new c) []
         ≡ option_map_or (λ v. v.items) (get bytes_eq tiers.old c) [] ++ option_to_list (months_under c item.now)) }
 {
     let Record::Tier(tier) = item else {

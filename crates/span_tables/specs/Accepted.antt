@@ -5,7 +5,7 @@ use Rattle.span_tables.specs.Names.{has_repeat}
 use Rattle.span_tables.specs.Rules.{keeps_rules}
 use Rattle.span_tables.specs.Limits.{is_readable}
 use Rattle.span_tables.specs.Tables.{AcceptedTables, tables_of, intras_of, spots_of, inters_of}
-use Rattle.span_tables.specs.declared.limits.TheConstants.{MAX_COMMODITIES, MAX_CONTRACTS, MAX_INTRA_SPREADS, MAX_SPOT_MONTHS, MAX_INTER_SPREADS, MAX_RATE, MAX_ARRAY_VALUE, MAX_DELTA, MAX_SCALE, MAX_RATIO, MAX_BASIS_POINTS}
+use Rattle.span_tables.specs.declared.limits.TheConstants.{MAX_COMMODITIES, MAX_CONTRACTS, MAX_INTRA_SPREADS, MAX_SPOT_MONTHS, MAX_INTER_SPREADS, MAX_RATE, MAX_ARRAY_VALUE, MAX_DELTA, MAX_SCALE, SCENARIOS, MAX_RATIO, MAX_BASIS_POINTS}
 use Rattle.span_tables.specs.declared.records.Commodity.{Commodity}
 use Rattle.span_tables.specs.declared.records.Contract.{Contract}
 use Rattle.span_tables.specs.declared.records.Spot.{Spot}
@@ -32,7 +32,7 @@ commodity_number commodities id = position_or_len (λ c. bytes_eq c.id id) commo
 pub record IsContract (x : Contract) : Type 0 where
   pub delta : nat_abs x.delta ≤ MAX_DELTA
   pub scale : x.scale ≤ MAX_SCALE
-  pub sixteen : length x.values ≡ 16
+  pub sixteen : length x.values ≡ SCENARIOS
   pub values : All (λ v. nat_abs v ≤ MAX_ARRAY_VALUE) x.values
 
 -- an intracommodity spread has 2 to 4 legs, and its rate and ratios lie in their ranges

@@ -12,7 +12,7 @@ use Rattle.span_tables.specs.declared.records.Spot.{Spot}
 use Rattle.span_tables.specs.declared.records.InterRecord.{InterRecord}
 use Rattle.span_tables.specs.declared.records.Record.{Record}
 use Rattle.span_tables.specs.declared.records.Record.TheVariants as record_of
-use Rattle.span_tables.specs.declared.limits.TheConstants.{MAX_COMMODITIES, MAX_CONTRACTS, MAX_TIERS, MAX_INTRA_SPREADS, MAX_SPOT_MONTHS, MAX_INTER_SPREADS, MAX_RATE, MAX_ARRAY_VALUE, MAX_DELTA, MAX_SCALE, MAX_RATIO, MAX_TIER_NUMBER, MAX_PRIORITY, MAX_BASIS_POINTS}
+use Rattle.span_tables.specs.declared.limits.TheConstants.{MAX_COMMODITIES, MAX_CONTRACTS, MAX_TIERS, MAX_INTRA_SPREADS, MAX_SPOT_MONTHS, MAX_INTER_SPREADS, MAX_RATE, MAX_ARRAY_VALUE, MAX_DELTA, MAX_SCALE, MAX_RATIO, MAX_TIER_NUMBER, MAX_PRIORITY, MAX_BASIS_POINTS, MIN_LEGS, MAX_LEGS, SCENARIOS}
 
 -- n lies from low to high
 abbrev pub lies_within : ℕ → ℕ → ℕ → Bool
@@ -40,30 +40,30 @@ is_priority n = lies_within 1 MAX_PRIORITY n
 abbrev pub commodity_in_range : Commodity → Bool
 commodity_in_range c = is_name c.id && is_rate c.minimum_rate
 
--- a contract: its names, month, delta, scale and sixteen values
+-- a contract: its names, month, delta, scale and a value for each scenario
 abbrev pub contract_in_range : Contract → Bool
 contract_in_range x =
     is_name x.id && is_name x.commodity && is_month x.month && nat_le (nat_abs x.delta) MAX_DELTA && lies_within 1 MAX_SCALE x.scale
-    && (length x.values == 16) && list_all (λ v. nat_le (nat_abs v) MAX_ARRAY_VALUE) x.values
+    && (length x.values == SCENARIOS) && list_all (λ v. nat_le (nat_abs v) MAX_ARRAY_VALUE) x.values
 
 -- a tier: its commodity, number and months
 abbrev pub tier_in_range : Tier → Bool
 tier_in_range t = is_name t.commodity && is_tier_number t.number && is_month t.first && is_month t.last
 
--- an intracommodity spread: its commodity, priority, rate and 2 to 4 legs
+-- an intracommodity spread: its commodity, priority, rate and as many legs as it may have
 abbrev pub intra_in_range : IntraRecord → Bool
 intra_in_range s =
-    is_name s.commodity && is_priority s.priority && is_rate s.rate && lies_within 2 4 (length s.legs.items)
+    is_name s.commodity && is_priority s.priority && is_rate s.rate && lies_within MIN_LEGS MAX_LEGS (length s.legs.items)
     && list_all (λ leg. is_tier_number leg.tier && is_ratio leg.ratio) s.legs.items
 
 -- a spot month: its commodity, month and rates
 abbrev pub spot_in_range : Spot → Bool
 spot_in_range s = is_name s.commodity && is_month s.month && is_rate s.spread_rate && is_rate s.outright_rate
 
--- an intercommodity spread: its priority, basis points and 2 to 4 legs
+-- an intercommodity spread: its priority, basis points and as many legs as it may have
 abbrev pub inter_in_range : InterRecord → Bool
 inter_in_range s =
-    is_priority s.priority && nat_le s.basis_points MAX_BASIS_POINTS && lies_within 2 4 (length s.legs.items)
+    is_priority s.priority && nat_le s.basis_points MAX_BASIS_POINTS && lies_within MIN_LEGS MAX_LEGS (length s.legs.items)
     && list_all (λ leg. is_name leg.commodity && is_ratio leg.ratio) s.legs.items
 
 -- a record of any kind

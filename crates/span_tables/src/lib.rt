@@ -5,6 +5,7 @@ mod groups;
 pub mod held;
 mod kinds;
 pub mod laws;
+pub mod limit_digits;
 pub mod limits;
 pub mod name;
 pub mod portfolios;

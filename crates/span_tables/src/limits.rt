@@ -18,6 +18,12 @@ pub const MAX_ACCOUNTS: usize = 4096;
 pub const MAX_NET: u64 = 100_000;
 /// Contracts that an account holds.
 pub const MAX_HELD: usize = 256;
+/// Scenarios of a risk array: the values of a CONTRACT record.
+pub const SCENARIOS: usize = 16;
+/// Legs of an INTRA or INTER record, at least.
+pub const MIN_LEGS: usize = 2;
+/// Legs of an INTRA or INTER record, at most.
+pub const MAX_LEGS: usize = 4;
 
 /// A rate, in minor units.
 pub const MAX_RATE: u32 = 100_000_000;

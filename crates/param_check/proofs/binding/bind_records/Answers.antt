@@ -1,8 +1,8 @@
-use Rattle.std.proofs.Common.{◌∙◌, ap, subst, length, map}
+use Rattle.std.proofs.Common.{subst}
 use Rattle.span_tables.specs.Gives.{Gives}
 use Rattle.param_check.specs.Binding.{is_memory}
-use Rattle.param_check.specs.Nets.{entry_holdings}
-use Rattle.param_check.proofs.BindLaws.{unknown_given, bound_settled, nets_hold, err_is}
+use Rattle.param_check.proofs.BindLaws.{unknown_given, err_is}
+use Rattle.param_check.proofs.KeptLaws.{kept_settled, kept_hold}
 use Rattle.param_check.proofs.binding.bind_records.Goals as goal
 
 pub returns-in_err-ledger : goal.returns-in_err-ledger
@@ -13,14 +13,12 @@ returns-in_err-ledger c =
 
 pub settle-requires-clause-fit : goal.settle-requires-clause-fit
 settle-requires-clause-fit c =
-    nets_hold c.args.contracts.now c.args.records.now c.in_ok-numbers.numbers.keys c.in_ok-ledger.ledger.accounts.keys c.in_ok-ledger.ledger.books.items c.in_ok-nets.nets.items
-    c.requires.apart c.in_ok-numbers.ensures c.in_ok-ledger.ensures
-    (c.in_ok-nets.ensures ∙ ap (map (entry_holdings (length c.args.contracts.now))) c.deref.ensures.value)
+    kept_hold c.args.contracts.now c.args.records.now c.in_ok-numbers.numbers.keys c.in_ok-ledger.ledger.accounts.keys c.in_ok-ledger.ledger.books.items c.in_ok-nets.nets.items
+    c.requires.apart c.in_ok-numbers.ensures c.in_ok-ledger.ensures c.in_ok-nets.ensures
 
 pub returns : goal.returns
 returns c =
     subst (Gives is_memory c.settle.result)
-    (bound_settled c.args.contracts.now c.args.records.now c.in_ok-numbers.numbers.keys c.in_ok-ledger.ledger.accounts.keys c.in_ok-ledger.ledger.books.items c.in_ok-nets.nets.items
-    c.requires.apart c.in_ok-numbers.ensures c.in_ok-ledger.ensures
-    (c.in_ok-nets.ensures ∙ ap (map (entry_holdings (length c.args.contracts.now))) c.deref.ensures.value))
+    (kept_settled c.args.contracts.now c.args.records.now c.in_ok-numbers.numbers.keys c.in_ok-ledger.ledger.accounts.keys c.in_ok-ledger.ledger.books.items c.in_ok-nets.nets.items
+    c.requires.apart c.in_ok-numbers.ensures c.in_ok-ledger.ensures c.in_ok-nets.ensures)
     c.settle.ensures

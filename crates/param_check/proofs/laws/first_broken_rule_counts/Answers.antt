@@ -1,6 +1,6 @@
 use Rattle.std.proofs.Common.{[]}
 use Rattle.span_tables.proofs.FaultLaws.{first_fault_some}
-use Rattle.param_check.proofs.RuleLaws.{first_some_is}
+use Rattle.span_tables.proofs.OrderLaws.{first_some_is}
 use Rattle.param_check.proofs.laws.first_broken_rule_counts.Goals as goal
 
 pub returns-clause-first : goal.returns-clause-first

@@ -2,7 +2,7 @@ use Rattle.std.proofs.Common.{◌≡◌, ◌++◌, [], arith, sym, ◌∙◌, ap
 use Rattle.std.specs.Option.{option_map_or}
 use Rattle.indexmap.specs.IndexMap.{get}
 use Rattle.span_tables.specs.Rules.{overlaps_tier}
-use Rattle.param_check.specs.Overlaps.{months_under}
+use Rattle.param_check.specs.steps.Overlaps.{months_under}
 use Rattle.param_check.proofs.FilterMaps.{filter_map_more}
 use Rattle.param_check.proofs.FirstFaults.{breaking_from-here, breaking_from-next}
 use Rattle.param_check.proofs.OverlapLemmas.{overlaps_tier-grouped}

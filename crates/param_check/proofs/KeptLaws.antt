@@ -1,0 +1,153 @@
+-- What the nets as they are kept say of the nets.
+use Rattle.std.proofs.Common.{◌≡◌, ℕ, zero, suc, ◌+◌, ◌<◌, ◌≤◌, Bool, true, false, cond, ◌||◌, ◌&&◌, List, [], ◌∷◌, length, get_or, map, Option, Some, None, position, refl, sym, ap, subst, ◌∙◌, arith}
+use Rattle.std.specs.Prelude.{All, bytes_eq, nat_abs, nat_lt, pos, ◌==◌}
+use Rattle.std.specs.List.Sorted.{IsStrictlyIncreasing}
+use Rattle.std.specs.Option.{option_or}
+use Rattle.std.proofs.lemmas.Bool.{le-ltb}
+use Rattle.std.proofs.lemmas.List.{length-map}
+use Rattle.span_tables.specs.Faults.{ok_unless}
+use Rattle.span_tables.specs.Holdings.{ArePortfolio}
+use Rattle.span_tables.specs.Names.{has_repeat}
+use Rattle.span_tables.specs.declared.limits.TheConstants.{MAX_NET, MAX_HELD}
+use Rattle.span_tables.specs.declared.portfolios.Holding.{Holding}
+use Rattle.span_tables.specs.declared.records.Contract.{Contract}
+use Rattle.span_tables.specs.declared.records.PositionRecord.{PositionRecord}
+use Rattle.param_check.specs.Binding.{first_unfit, bound}
+use Rattle.param_check.specs.Holdings.{ids_of, is_over, is_over_at, over_at, net_exceeds, are_many, many_at, held_exceeds, net_fault, held_fault, paired, settled}
+use Rattle.param_check.specs.Ledger.{IsLedger}
+use Rattle.param_check.specs.Nets.{entry_holdings}
+use Rattle.param_check.specs.steps.Sums.{kept, kept_net, kept_holdings}
+use Rattle.param_check.specs.declared.faults.BindFault.{BindFault}
+use Rattle.param_check.specs.declared.faults.BindFault.TheVariants as fault
+use Rattle.param_check.specs.declared.nets.Entry.{Entry}
+use Rattle.param_check.proofs.BindLaws.{bound_settled, nets_hold}
+
+-- the contracts are the same
+kept_contracts : (hs : List Holding) → map (λ h. h.contract) (map kept hs) ≡ map (λ h. h.contract) hs
+kept_contracts [] = refl
+kept_contracts (h ∷ hs) = ap (λ cs. h.contract ∷ cs) (kept_contracts hs)
+
+pub kept_rise : (hs : List Holding) → IsStrictlyIncreasing (map (λ h. h.contract) hs) → IsStrictlyIncreasing (map (λ h. h.contract) (map kept hs))
+kept_rise hs rise = subst IsStrictlyIncreasing (sym (kept_contracts hs)) rise
+
+-- a net is over the limit as it is kept just where it is
+over_kept : (h : Holding) → is_over (kept h) ≡ is_over h
+over_kept h = by (is_over h) refl
+  where
+    by : (b : Bool) → is_over h ≡ b → nat_lt MAX_NET (nat_abs (cond b (pos (MAX_NET + 1)) h.net)) ≡ b
+    by true e = refl
+    by false e = e
+
+over_at_kept : (c : ℕ) (hs : List Holding) → is_over_at c (map kept hs) ≡ is_over_at c hs
+over_at_kept c [] = refl
+over_at_kept c (h ∷ hs) =
+    let here = over_kept h in
+    let rest = over_at_kept c hs in
+    λ i. ((h.contract == c) && here i) || rest i
+
+many_kept : (hs : List Holding) → are_many (map kept hs) ≡ are_many hs
+many_kept hs = ap (nat_lt MAX_HELD) (length-map hs kept)
+
+all_kept : List (List Holding) → List (List Holding)
+all_kept nets = map (map kept) nets
+
+kept_at : (nets : List (List Holding)) (a : ℕ) → get_or (all_kept nets) a [] ≡ map kept (get_or nets a [])
+unfolding all_kept
+kept_at [] a = refl
+kept_at (hs ∷ nets) zero = refl
+kept_at (hs ∷ nets) (suc a) = kept_at nets a
+
+-- so the same records are at fault
+over_at_all : (a c : Option ℕ) (nets : List (List Holding)) → over_at a c (all_kept nets) ≡ over_at a c nets
+over_at_all (Some a) (Some c) nets = ap (is_over_at c) (kept_at nets a) ∙ over_at_kept c (get_or nets a [])
+over_at_all (Some a) None nets = refl
+over_at_all None c nets = refl
+
+many_at_all : (a : Option ℕ) (nets : List (List Holding)) → many_at a (all_kept nets) ≡ many_at a nets
+many_at_all (Some a) nets = ap are_many (kept_at nets a) ∙ many_kept (get_or nets a [])
+many_at_all None nets = refl
+
+module _ (ids accounts : List (List ℕ)) (nets : List (List Holding)) (positions : List PositionRecord) where
+  exceeds_all : (p : PositionRecord) → net_exceeds ids accounts (all_kept nets) p ≡ net_exceeds ids accounts nets p
+  exceeds_all p = over_at_all (position (bytes_eq p.account) accounts) (position (bytes_eq p.contract) ids) nets
+
+  too_many_all : (p : PositionRecord) → held_exceeds accounts (all_kept nets) p ≡ held_exceeds accounts nets p
+  too_many_all p = many_at_all (position (bytes_eq p.account) accounts) nets
+
+  net_fault_kept : net_fault ids accounts (all_kept nets) positions ≡ net_fault ids accounts nets positions
+  unfolding net_fault
+  net_fault_kept = λ i. first_unfit fault.NetOutOfRange (λ earlier p. exceeds_all p i) positions
+
+  held_fault_kept : held_fault accounts (all_kept nets) positions ≡ held_fault accounts nets positions
+  unfolding held_fault
+  held_fault_kept = λ i. first_unfit fault.TooManyHeld (λ earlier p. too_many_all p i) positions
+
+-- nets within the limit are kept as they are
+kept_same : (h : Holding) → nat_abs h.net ≤ MAX_NET → kept h ≡ h
+kept_same h within =
+    let e : nat_lt MAX_NET (nat_abs h.net) ≡ false = le-ltb MAX_NET (nat_abs h.net) (omega (arith, within)) in
+    ap (λ b. (let it : Holding = record { contract = h.contract; net = cond b (pos (MAX_NET + 1)) h.net } in it)) e
+
+each_same : (hs : List Holding) → All (λ h. nat_abs h.net ≤ MAX_NET) hs → map kept hs ≡ hs
+each_same [] all = refl
+each_same (h ∷ hs) all =
+    let here = kept_same h (all 0 h (omega arith)) in
+    let rest = each_same hs (λ k d lt. all (suc k) d (omega (arith, lt))) in
+    λ i. here i ∷ rest i
+
+all_same : (nets : List (List Holding)) → All ArePortfolio nets → all_kept nets ≡ nets
+unfolding all_kept
+all_same [] all = refl
+all_same (hs ∷ nets) all =
+    let here = each_same hs (all 0 hs (omega arith)).nets in
+    let rest = all_same nets (λ k d lt. all (suc k) d (omega (arith, lt))) in
+    λ i. here i ∷ rest i
+
+module _ (contracts : List Contract) (positions : List PositionRecord) (ids accounts : List (List ℕ)) (books : List (List Entry)) (nets : List (List Holding))
+    (apart : has_repeat (λ x y. bytes_eq x.id y.id) contracts ≡ false) (ids_are : ids ≡ ids_of contracts) (ledger : IsLedger ids positions accounts books)
+    (nets_are : nets ≡ map (kept_holdings (length contracts)) books) where
+  exact : List (List Holding)
+  exact = map (entry_holdings (length contracts)) books
+
+  are_kept : nets ≡ all_kept exact
+  unfolding exact all_kept
+  are_kept = nets_are ∙ each books
+    where
+      each : (bs : List (List Entry)) → map (kept_holdings (length contracts)) bs ≡ map (map kept) (map (entry_holdings (length contracts)) bs)
+      each [] = refl
+      each (b ∷ bs) = ap (λ ns. kept_holdings (length contracts) b ∷ ns) (each bs)
+
+  exact_hold : net_fault ids accounts exact positions ≡ None → held_fault accounts exact positions ≡ None → All ArePortfolio exact
+  unfolding exact
+  exact_hold = nets_hold contracts positions ids accounts books exact apart ids_are ledger refl
+
+  net_fault_is : net_fault ids accounts nets positions ≡ net_fault ids accounts exact positions
+  net_fault_is = ap (λ ns. net_fault ids accounts ns positions) are_kept ∙ net_fault_kept ids accounts exact positions
+
+  held_fault_is : held_fault accounts nets positions ≡ held_fault accounts exact positions
+  held_fault_is = ap (λ ns. held_fault accounts ns positions) are_kept ∙ held_fault_kept ids accounts exact positions
+
+  -- what the kept nets are settled to is what the records are bound to
+  pub kept_settled : settled ids accounts nets positions ≡ bound contracts positions
+  unfolding settled exact
+  kept_settled = by (net_fault ids accounts exact positions) (held_fault accounts exact positions) refl refl ∙ exact_settled
+    where
+      exact_settled : settled ids accounts exact positions ≡ bound contracts positions
+      exact_settled = bound_settled contracts positions ids accounts books exact apart ids_are ledger refl
+
+      settles : (ns : List (List Holding)) (b2 b3 : Option BindFault) → net_fault ids accounts ns positions ≡ b2 → held_fault accounts ns positions ≡ b3
+          → settled ids accounts ns positions ≡ ok_unless (option_or b2 b3) (paired accounts ns)
+      settles ns b2 b3 x y =
+          ap (λ o. ok_unless (option_or o (held_fault accounts ns positions)) (paired accounts ns)) x ∙ ap (λ o. ok_unless (option_or b2 o) (paired accounts ns)) y
+
+      by : (b2 b3 : Option BindFault) → net_fault ids accounts exact positions ≡ b2 → held_fault accounts exact positions ≡ b3
+          → settled ids accounts nets positions ≡ settled ids accounts exact positions
+      by (Some e) b3 x y = settles nets (Some e) b3 (net_fault_is ∙ x) (held_fault_is ∙ y) ∙ sym (settles exact (Some e) b3 x y)
+      by None (Some e) x y = settles nets None (Some e) (net_fault_is ∙ x) (held_fault_is ∙ y) ∙ sym (settles exact None (Some e) x y)
+      by None None x y = ap (λ ns. settled ids accounts ns positions) (are_kept ∙ all_same exact (exact_hold x y))
+
+  -- and they are portfolios where there is no fault
+  pub kept_hold : net_fault ids accounts nets positions ≡ None → held_fault accounts nets positions ≡ None → All ArePortfolio nets
+  kept_hold none few =
+      let holds = exact_hold (sym net_fault_is ∙ none) (sym held_fault_is ∙ few) in
+      subst (All ArePortfolio) (sym (are_kept ∙ all_same exact holds)) holds

@@ -1,7 +1,0 @@
-use Rattle.std.proofs.Common.{◌≡◌}
-use Rattle.span_tables.specs.Rules.{first_breaking, is_backwards}
-use Rattle.param_check.proofs.FirstFaults.{breaking_from}
-use Rattle.param_check.proofs.rules.first_backwards.Given as goal
-
-abbrev pub invariant-loop-index : goal.invariant-loop-index
-invariant-loop-index l = breaking_from (λ earlier r. is_backwards r) l.records l.index ≡ first_breaking (λ at. at) (λ earlier r. is_backwards r) l.records

@@ -1,0 +1,61 @@
+-- Records of which the worked faults are made.
+use Rattle.std.specs.Prelude.{ℕ, ◌+◌, List, [], ◌∷◌, codes, ℤ, pos}
+use Rattle.std.specs.List.{repeat}
+use Rattle.span_tables.specs.declared.records.MinimumMethod.TheVariants as method
+use Rattle.span_tables.specs.declared.records.ProductKind.TheVariants as product
+use Rattle.span_tables.specs.declared.records.Side.{Side}
+use Rattle.span_tables.specs.declared.records.Side.TheVariants as side
+use Rattle.span_tables.specs.declared.limits.TheConstants.{SCENARIOS}
+use Rattle.span_tables.specs.declared.records.Contract.{Contract}
+use Rattle.span_tables.specs.declared.records.PositionRecord.{PositionRecord}
+use Rattle.span_tables.specs.declared.records.Record.{Record}
+use Rattle.span_tables.specs.declared.records.Record.TheVariants as record_of
+
+-- a contract of this id
+abbrev pub contract_of : List ℕ → Contract
+contract_of id = record {
+  id = id;
+  commodity = codes "AA";
+  kind = product.Future;
+  month = 202503;
+  delta = pos 10000;
+  scale = 10000;
+  values = repeat SCENARIOS (pos 0 ∷ []);
+}
+
+-- a position
+abbrev pub position_of : List ℕ → List ℕ → ℤ → PositionRecord
+position_of account contract quantity = record { account = account; contract = contract; quantity = quantity }
+
+-- a commodity of this id
+abbrev pub commodity_record : List ℕ → Record
+commodity_record id = record_of.Commodity (record { id = id; minimum_rate = 0; method = method.Sum })
+
+-- a tier of one quarter
+abbrev pub tier_record : List ℕ → ℕ → ℕ → Record
+tier_record commodity number first =
+    record_of.Tier (record { commodity = commodity; number = number; first = first; last = first + 2 })
+
+-- a spread of tiers 1 and 2
+abbrev pub intra_record : List ℕ → ℕ → Record
+intra_record commodity priority =
+    record_of.Intra (record {
+      commodity = commodity;
+      priority = priority;
+      rate = 250;
+      legs = record {
+        items = record { tier = 1; side = side.A; ratio = 10000 } ∷ record { tier = 2; side = side.B; ratio = 10000 } ∷ [];
+      };
+    })
+
+-- a spread of two commodities, each on a side
+abbrev pub inter_record : ℕ → List ℕ × Side → List ℕ × Side → Record
+inter_record priority one other =
+    record_of.Inter (record {
+      priority = priority;
+      basis_points = 5000;
+      legs = record {
+        items = record { commodity = one.0; side = one.1; ratio = 10000 }
+            ∷ record { commodity = other.0; side = other.1; ratio = 10000 } ∷ [];
+      };
+    })

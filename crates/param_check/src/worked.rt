@@ -1,0 +1,81 @@
+//! Worked faults, computed by the definitions alone.
+#![tactic(auto, unfolding(crate::specs::Binding::bind_fault, crate::specs::CheckFaults::check_fault))]
+
+ghost use Rattle.std.specs.Prelude.{◌≡◌, [], ◌∷◌, None, Some, codes, neg_ℤ, pos};
+ghost use Rattle.param_check.specs.Binding.{bind_fault};
+ghost use Rattle.param_check.specs.CheckFaults.{check_fault};
+ghost use Rattle.param_check.specs.Samples.{commodity_record, contract_of, inter_record, intra_record, position_of, tier_record};
+ghost use Rattle.param_check.specs.declared.faults.BindFault.TheVariants as bind;
+ghost use Rattle.param_check.specs.declared.faults.CheckFault.TheVariants as check;
+ghost use Rattle.span_tables.specs.declared.records.Side.TheVariants as side;
+
+// ---- positions
+
+// B2 of a pair that is not its account's first: the pair's first record is named, and so is its account.
+fn net_of_a_later_pair()
+    ensures { bind_fault (contract_of (codes "FA") ∷ contract_of (codes "FB") ∷ [])
+        (position_of (codes "X") (codes "FA") (pos 1) ∷ position_of (codes "X") (codes "FB") (pos 60000)
+        ∷ position_of (codes "X") (codes "FB") (pos 60000) ∷ [])
+        ≡ Some (bind.NetOutOfRange 2 (codes "X")) }
+{}
+
+// A net that is in range at the end, and was not on the way.
+fn net_that_comes_back()
+    ensures { bind_fault (contract_of (codes "FA") ∷ [])
+        (position_of (codes "X") (codes "FA") (pos 100000) ∷ position_of (codes "X") (codes "FA") (pos 100000)
+        ∷ position_of (codes "X") (codes "FA") (neg_ℤ (pos 100000)) ∷ [])
+        ≡ None }
+{}
+
+// Two accounts whose nets are in range by themselves.
+fn nets_of_two_accounts()
+    ensures { bind_fault (contract_of (codes "FA") ∷ [])
+        (position_of (codes "X") (codes "FA") (pos 100000) ∷ position_of (codes "Y") (codes "FA") (pos 100000) ∷ [])
+        ≡ None }
+{}
+
+// B1 of the last record, before B2 of the first.
+fn unknown_contract_first()
+    ensures { bind_fault (contract_of (codes "FA") ∷ [])
+        (position_of (codes "X") (codes "FA") (pos 100001) ∷ position_of (codes "Y") (codes "ZZ") (pos 1) ∷ [])
+        ≡ Some (bind.UnknownContract 2 (codes "Y")) }
+{}
+
+// ---- spreads between commodities
+
+// C2 of a leg.
+fn leg_of_an_unknown_commodity()
+    ensures { check_fault (commodity_record (codes "AA")
+        ∷ inter_record 1 (codes "AA", side.A) (codes "BB", side.B) ∷ [])
+        ≡ Some (check.UnknownCommodity 2) }
+{}
+
+// C8: two legs of one commodity, though on two sides.
+fn legs_of_one_commodity()
+    ensures { check_fault (commodity_record (codes "AA")
+        ∷ inter_record 1 (codes "AA", side.A) (codes "AA", side.B) ∷ [])
+        ≡ Some (check.RepeatedLeg 2) }
+{}
+
+// C9: no leg on B.
+fn legs_on_one_side()
+    ensures { check_fault (commodity_record (codes "AA") ∷ commodity_record (codes "BB")
+        ∷ inter_record 1 (codes "AA", side.A) (codes "BB", side.A) ∷ [])
+        ≡ Some (check.OneSided 3) }
+{}
+
+// C10 of two intercommodity spreads.
+fn priority_of_an_earlier_spread()
+    ensures { check_fault (commodity_record (codes "AA") ∷ commodity_record (codes "BB")
+        ∷ inter_record 7 (codes "AA", side.A) (codes "BB", side.B)
+        ∷ inter_record 7 (codes "BB", side.A) (codes "AA", side.B) ∷ [])
+        ≡ Some (check.DuplicatePriority 4) }
+{}
+
+// One priority within a commodity and between commodities is two.
+fn priority_of_both_kinds()
+    ensures { check_fault (commodity_record (codes "AA") ∷ commodity_record (codes "BB")
+        ∷ tier_record (codes "AA") 1 202501 ∷ tier_record (codes "AA") 2 202504
+        ∷ intra_record (codes "AA") 7 ∷ inter_record 7 (codes "AA", side.A) (codes "BB", side.B) ∷ [])
+        ≡ None }
+{}
