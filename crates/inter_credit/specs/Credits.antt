@@ -22,10 +22,13 @@ change_at change (suc place) (x ∷ xs) = x ∷ change_at change place xs
 abbrev pub rest_at : List InterLine → ℕ → ℤ
 rest_at lines c = unwrap_or (option_map (λ line. line.rest) (slice_get lines c)) (pos 0)
 
+-- how much of its commodity's rest a leg can draw on, in a direction
+abbrev pub leg_side : Direction → CommodityLeg → List InterLine → ℕ
+leg_side d leg lines = part_on (market_side d leg.side) (rest_at lines leg.commodity)
+
 -- what the legs of a spread can draw on, in a direction
 abbrev pub commodity_rooms : Direction → List CommodityLeg → List InterLine → List Room
-commodity_rooms d legs lines =
-    map (λ leg. record { side = part_on (market_side d leg.side) (rest_at lines leg.commodity); ratio = leg.ratio }) legs
+commodity_rooms d legs lines = map (λ leg. record { side = leg_side d leg lines; ratio = leg.ratio }) legs
 
 -- a commodity of which some units on a market side were used, at so many basis points
 abbrev pub line_after : MarketSide → ℕ → ℕ → InterLine → InterLine
@@ -35,7 +38,9 @@ line_after on used basis_points line =
 -- the commodities after each leg's use of n spreads
 abbrev pub lines_after : Direction → ℕ → ℕ → List CommodityLeg → List InterLine → List InterLine
 lines_after d n basis_points legs lines =
-    fold (λ ls leg. change_at (line_after (market_side d leg.side) (n * leg.ratio) basis_points) leg.commodity ls) lines legs
+    fold
+    (λ ls leg. change_at (line_after (market_side d leg.side) (n * leg.ratio) basis_points) leg.commodity ls)
+    lines legs
 
 -- a spread in one direction
 abbrev pub inter_one_way : Inter → Direction → List InterLine → List InterLine

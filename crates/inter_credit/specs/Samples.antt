@@ -13,7 +13,8 @@ use Rattle.inter_credit.specs.declared.state.InterLine.{InterLine}
 abbrev pub spread_of : ℕ → ℕ → ℕ → ℕ → ℕ → Inter
 spread_of basis_points first first_ratio second second_ratio = record {
   basis_points = basis_points;
-  legs = record { commodity = first; side = side.A; ratio = first_ratio } ∷ record { commodity = second; side = side.B; ratio = second_ratio } ∷ [];
+  legs = record { commodity = first; side = side.A; ratio = first_ratio }
+      ∷ record { commodity = second; side = side.B; ratio = second_ratio } ∷ [];
 }
 
 -- so much on the short side of the market

@@ -3,7 +3,7 @@ ghost use Rattle.std.specs.Prelude.{◌≡◌, ◌<◌, ◌≤◌, ◌*◌, ◌/
 ghost use Rattle.span_tables.specs.Accepted.{IsInter};
 ghost use Rattle.span_tables.specs.Sides.{market_side, part_on, spreads_formed};
 ghost use Rattle.span_tables.specs.declared.limits.TheConstants.{MAX_BASIS_POINTS};
-ghost use Rattle.inter_credit.specs.Credits.{change_at, commodity_rooms, inter_both_ways, inter_one_way, line_after, lines_after, rest_at};
+ghost use Rattle.inter_credit.specs.Credits.{change_at, commodity_rooms, inter_both_ways, inter_one_way, leg_side, line_after, lines_after};
 ghost use Rattle.inter_credit.specs.steps.Rooms.{HaveRoom};
 ghost use Rattle.inter_credit.specs.States.{IsLine};
 ghost use Rattle.inter_credit.specs.steps.Open.{AreOpen};
@@ -20,7 +20,7 @@ use std::alloc::{AllocError, Global};
 fn fit(lines: &[InterLine], leg: &CommodityLeg, direction: Direction) -> u64
     requires known { leg.now.commodity < length lines.now }
     requires ratio { 0 < leg.now.ratio }
-    ensures { result ≡ part_on (market_side direction leg.now.side) (rest_at lines.now leg.now.commodity) / leg.now.ratio }
+    ensures { result ≡ leg_side direction leg.now lines.now / leg.now.ratio }
 {
     let on = market_side(direction, leg.side);
     let side = part_on(on, lines[leg.commodity].rest);
@@ -74,9 +74,10 @@ fn use_leg(
 )
     requires known { leg.now.commodity < length lines.old }
     requires lines { All IsLine lines.old }
-    requires room { n * leg.now.ratio ≤ part_on (market_side direction leg.now.side) (rest_at lines.old leg.now.commodity) }
+    requires room { n * leg.now.ratio ≤ leg_side direction leg.now lines.old }
     requires basis_points { basis_points ≤ MAX_BASIS_POINTS }
-    ensures value { lines.new ≡ change_at (line_after (market_side direction leg.now.side) (n * leg.now.ratio) basis_points) leg.now.commodity lines.old }
+    ensures value { lines.new ≡ change_at
+        (line_after (market_side direction leg.now.side) (n * leg.now.ratio) basis_points) leg.now.commodity lines.old }
     ensures lines { All IsLine lines.new }
 {
     let on = market_side(direction, leg.side);
@@ -148,12 +149,15 @@ pub(crate) fn spread_both_ways(lines: &mut [InterLine], sides: &OpenSides, sprea
 // Whether a spread may be formed in one of the directions. `false` says that none is.
 #[tactic(auto, unfolding(crate::specs::Credits::inter_both_ways))]
 pub(crate) fn may_form_either(sides: &OpenSides, spread: &Inter) -> bool
-    ensures { (lines : List InterLine) → AreOpen sides.now lines → result ≡ false → inter_both_ways lines spread.now ≡ lines }
+    ensures { (lines : List InterLine) → AreOpen sides.now lines → result ≡ false
+        → inter_both_ways lines spread.now ≡ lines }
 {
     spread.may_form(Direction::ALong, sides) || spread.may_form(Direction::AShort, sides)
 }
 
-/// The state after a spread in both directions, with A long first: in each, as many are formed as every leg has room for.
+/// The state after a spread in both directions, with A long first.
+///
+/// In each direction as many are formed as every leg has room for.
 ///
 /// `Err` is want of memory, and `state` stays as it was.
 pub fn inter_spread(

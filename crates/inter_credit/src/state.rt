@@ -19,8 +19,8 @@ pub const MAX_PRICE2: u64 = 4 * (MAX_HELD as u64 * MAX_NET * MAX_ARRAY_VALUE as 
 
 /// A commodity in the intercommodity stage.
 ///
-/// `net` is its net delta (at most `MAX_UNITS` either way) and `rest` what spreads have left of it, `price2` is price risk
-/// doubled (in minor units, at most `MAX_PRICE2`), and `weight` is the sum of units used times basis points.
+/// `net` is its net delta (at most `MAX_UNITS` either way) and `rest` what spreads have left of it, `price2` is price
+/// risk doubled (in minor units, at most `MAX_PRICE2`), and `weight` is the sum of units used times basis points.
 #[derive(Clone, Copy, Debug, PartialEq, Eq)]
 pub struct InterLine {
     pub weight: u128,
@@ -141,7 +141,9 @@ pub fn empty(alloc: Global, commodities: usize) -> Result<InterState, AllocError
 
 /// The state with the net delta and the price risk of one more commodity, whose rest is its full net delta.
 ///
-/// Nothing was loaded for that commodity, and no spread was formed. `Err` is want of memory, and `state` stays as it was.
+/// Nothing was loaded for that commodity, and no spread was formed.
+///
+/// `Err` is want of memory, and `state` stays as it was.
 pub fn load(
     alloc: Global,
     state: &InterState,

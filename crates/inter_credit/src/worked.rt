@@ -22,7 +22,8 @@ fn one_credit()
 // Two spreads that share a commodity.
 fn two_spreads()
     ensures lines { after_inter_spreads (spread_of 5000 0 10000 1 10000 ∷ spread_of 2000 0 10000 2 10000 ∷ [])
-        (unspread_line (pos 300000000) 7200 ∷ unspread_line (short 100000000) 1800 ∷ unspread_line (short 100000000) 600 ∷ [])
+        (unspread_line (pos 300000000) 7200 ∷ unspread_line (short 100000000) 1800
+        ∷ unspread_line (short 100000000) 600 ∷ [])
         ≡ line_with (pos 300000000) (pos 100000000) 7200 700000000000
         ∷ line_with (short 100000000) (pos 0) 1800 500000000000
         ∷ line_with (short 100000000) (pos 0) 600 200000000000 ∷ [] }
@@ -79,7 +80,8 @@ fn second_direction()
 // The largest credits of an account with 256 contracts: 255 of one commodity against one of another.
 fn largest_credits_of_an_account()
     ensures { map credit_of (after_inter_spreads (spread_of 10000 0 2550000 1 10000 ∷ [])
-        (unspread_line (pos 25500000000000000) 10200000000000000 ∷ unspread_line (short 100000000000000) 40000000000000 ∷ []))
+        (unspread_line (pos 25500000000000000) 10200000000000000
+        ∷ unspread_line (short 100000000000000) 40000000000000 ∷ []))
         ≡ 5100000000000000 ∷ 20000000000000 ∷ [] }
 {}
 
