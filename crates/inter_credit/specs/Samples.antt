@@ -39,8 +39,3 @@ held_of_kind kind net = record {
   };
   net = net;
 }
-
--- a held contract in range
-pub record IsHeld (h : HeldContract) : Type 0 where
-  pub net : nat_abs h.net ≤ MAX_NET
-  pub contract : IsContract h.contract

@@ -1,7 +1,5 @@
 ghost use Rattle.std.specs.Prelude.{◌≡◌, ◌<◌, ◌≤◌, All, IfOk, length, nat_abs};
 ghost use Rattle.span_tables.specs.Accepted.{IsContract, IsInter};
-ghost use Rattle.span_tables.specs.Holdings.{AreHeld};
-ghost use Rattle.inter_credit.specs.Samples.{IsHeld};
 ghost use Rattle.inter_credit.specs.declared.requirement.TheConstants.{MAX_PART};
 
 use super::credit::credit;

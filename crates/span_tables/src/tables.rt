@@ -172,7 +172,7 @@ impl Tables {
         ensures value { result.now ≡ self.now.contracts }
         ensures limits { IsWithinLimits self.now }
     {
-        &self.contracts
+        self.contracts.as_slice()
     }
 
     // One more hold on the contracts.
