@@ -68,4 +68,5 @@ asked_by (request.Margin params positions) = a_margin params.now positions.now
 -- what holds of the answer to a request, where its files are known
 abbrev pub OfAnswer : (List ℕ → Option File) → Asked → (Answer → Type 0) → Type 0
 OfAnswer file (a_check params) P = IfSome (file params) (λ p. P (check_answer params p))
-OfAnswer file (a_margin params positions) P = IfSome (file params) (λ p. IfSome (file positions) (λ q. P (margin_answer params positions p q)))
+OfAnswer file (a_margin params positions) P =
+    IfSome (file params) (λ p. IfSome (file positions) (λ q. P (margin_answer params positions p q)))

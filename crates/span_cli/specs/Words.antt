@@ -13,11 +13,13 @@ check_app = with_rule (new_app (codes "check")) (file_rule (codes "PARAMS"))
 
 -- the command `margin PARAMS POSITIONS`
 abbrev pub margin_app : App
-margin_app = with_rule (with_rule (new_app (codes "margin")) (file_rule (codes "PARAMS"))) (file_rule (codes "POSITIONS"))
+margin_app =
+    with_rule (with_rule (new_app (codes "margin")) (file_rule (codes "PARAMS"))) (file_rule (codes "POSITIONS"))
 
 -- the program, which has a version, without its commands, of which one has to be given
 abbrev pub bare_app : App
-bare_app = let a = new_app (codes "span") in record a { top = record a.top { subcommand_required = true; has_version = true } }
+bare_app =
+    let a = new_app (codes "span") in record a { top = record a.top { subcommand_required = true; has_version = true } }
 
 -- the program
 abbrev pub span_app : App

@@ -18,7 +18,8 @@ pub fn done_is_on_the_output()
 /// Where a fault was told and no write failed, the status and the line are the fault's, and nothing went to the output.
 pub fn refused_is_on_the_error_stream()
     ensures { (fault : SpanFault) (given : ℕ) (old_out new_out old_err new_err : Stream)
-        → Tells (answer_of (Err fault)) given old_out new_out old_err new_err → new_out.failed ≡ false → new_err.failed ≡ false
+        → Tells (answer_of (Err fault)) given old_out new_out old_err new_err
+        → new_out.failed ≡ false → new_err.failed ≡ false
         → (given ≡ fault_status fault)
         × (Appends old_out.held new_out.held [] × Appends old_err.held new_err.held (fault_line fault)) }
 {}

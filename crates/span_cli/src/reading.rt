@@ -13,7 +13,7 @@ use std::marker::Model;
 // How many bytes a turn asks for.
 const PIECE: usize = 65_536;
 
-/// A reader that gives so many turns, and remembers whether one of them failed. A turn that was interrupted is none that
+/// A reader that gives so many turns, and remembers whether one of them failed. A turn that was interrupted has not
 /// failed.
 #[derive(Drop)]
 pub struct Turns<R: Read> {
@@ -68,7 +68,8 @@ impl<R: Read> Turns<R> {
         ensures end { IfOk result (λ n. n ≡ 0 → IsAtEnd self.new.bytes) }
         ensures room { length buffer.new ≡ length buffer.old }
         ensures same { OnOk result (self.new.failed ≡ self.old.failed) }
-        ensures interrupted { IfErr result (λ e. error_kind e ≡ ErrorKind.Interrupted → self.new.failed ≡ self.old.failed) }
+        ensures interrupted { IfErr result (λ e. error_kind e ≡ ErrorKind.Interrupted
+            → self.new.failed ≡ self.old.failed) }
         ensures failed { IfErr result (λ e. error_kind e ≢ ErrorKind.Interrupted → self.new.failed ≡ true) }
     {
         self.left -= 1;

@@ -49,7 +49,8 @@ fn load<'a, S: Sources>(
     sources: &mut S,
     name: &'a str,
 ) -> Result<Vec<u8>, Refusal<'a>>
-    ensures known { IfSome (S.file sources.old name.entry.now) (λ file. Loads (λ bytes. bytes.items) name.entry.now file result) }
+    ensures known { IfSome (S.file sources.old name.entry.now) (λ file.
+        Loads (λ bytes. bytes.items) name.entry.now file result) }
     ensures same { (n : List ℕ) → S.file sources.new n ≡ S.file sources.old n }
 {
     match sources.read(alloc, name) {
@@ -73,7 +74,8 @@ fn check<'a, S: Sources>(
     sources: &mut S,
     params: &'a str,
 ) -> Result<Vec<u8>, Refusal<'a>>
-    ensures { IfSome (S.file sources.old params.entry.now) (λ p. Runs (λ text. text.items) (check_answer params.entry.now p) result) }
+    ensures { IfSome (S.file sources.old params.entry.now) (λ p.
+        Runs (λ text. text.items) (check_answer params.entry.now p) result) }
 {
     let param_bytes = load(alloc, sources, params)?;
     counts(alloc, param_bytes)
@@ -108,7 +110,8 @@ fn run<'a, S: Sources>(
     request: Request<'a>,
     sources: &mut S,
 ) -> Result<Vec<u8>, Refusal<'a>>
-    ensures { OfAnswer (S.file sources.old) (asked_by request.entry) (λ answer. Runs (λ text. text.items) answer result) }
+    ensures { OfAnswer (S.file sources.old) (asked_by request.entry) (λ answer.
+        Runs (λ text. text.items) answer result) }
 {
     match request {
         Request::Check { params } => check(alloc, sources, params),
@@ -163,7 +166,8 @@ fn give<W: Write, E: Write>(text: Vec<u8>, out: &mut Told<W>, err: &mut Told<E>)
 
 /// Answers a request and gives the status. Where no write fails, just the bytes of the answer go to each stream and the
 /// status is the answer's; where a write of the output fails, the status is that of a file that failed and the line on
-/// `err` is `file: output`; where a write of the line fails, the status stands. To `out` no write may have failed before.
+/// `err` is `file: output`; where a write of the line fails, the status stands. To `out` no write may have failed
+/// before.
 pub fn serve<S: Sources, W: Write, E: Write>(
     alloc: Global,
     request: Request<'_>,

@@ -203,8 +203,8 @@ fn refuse<W: Write, E: Write>(error: Error, out: &mut Told<W>, err: &mut Told<E>
 }
 
 /// Answers a command line, of which the first word is the program's name, and gives the status. A request is answered
-/// as by `serve`; help and the version go to `out` alone and a mistake to `err` alone. To `out` no write may have failed
-/// before.
+/// as by `serve`; help and the version go to `out` alone and a mistake to `err` alone. To `out` no write may have
+/// failed before.
 pub fn run_words<T: AsStr, S: Sources, W: Write, E: Write>(
     alloc: Global,
     words: &[T],

@@ -26,8 +26,10 @@ fn margin_of_two_files()
 fn mistakes()
     ensures no_command { kinds_of (codes "span" ∷ []) ≡ kind.MissingSubcommand ∷ [] }
     ensures no_file { kinds_of (codes "span" ∷ codes "check" ∷ []) ≡ kind.MissingRequiredArgument ∷ [] }
-    ensures no_positions { kinds_of (codes "span" ∷ codes "margin" ∷ codes "p" ∷ []) ≡ kind.MissingRequiredArgument ∷ [] }
-    ensures too_many { kinds_of (codes "span" ∷ codes "check" ∷ codes "p" ∷ codes "q" ∷ []) ≡ kind.UnknownArgument ∷ [] }
+    ensures no_positions { kinds_of (codes "span" ∷ codes "margin" ∷ codes "p" ∷ [])
+        ≡ kind.MissingRequiredArgument ∷ [] }
+    ensures too_many { kinds_of (codes "span" ∷ codes "check" ∷ codes "p" ∷ codes "q" ∷ [])
+        ≡ kind.UnknownArgument ∷ [] }
 {}
 
 // Requests for help and for the version.
@@ -41,7 +43,8 @@ fn files_that_are_not_read()
     ensures failed { check_answer (codes "p") (Err read.Failed) ≡ refused 6 (codes "file: p\n") }
     ensures too_long { check_answer (codes "p") (Err read.TooLong) ≡ refused 6 (codes "file: p\n") }
     ensures memory { check_answer (codes "p") (Err read.OutOfMemory) ≡ refused 5 (codes "memory\n") }
-    ensures first { margin_answer (codes "p") (codes "q") (Err read.Failed) (Err read.TooLong) ≡ refused 6 (codes "file: p\n") }
+    ensures first { margin_answer (codes "p") (codes "q") (Err read.Failed) (Err read.TooLong)
+        ≡ refused 6 (codes "file: p\n") }
     ensures second { margin_answer (codes "p") (codes "q") (Ok []) (Err read.Failed) ≡ refused 6 (codes "file: q\n") }
 {}
 
@@ -51,7 +54,8 @@ fn files_that_are_read()
         ≡ done (codes "OK,D1,1,0,0,0,0,0\n") }
     ensures no_accounts { margin_answer (codes "p") (codes "q") (Ok (codes "SET,D1,1,USD\n")) (Ok []) ≡ done [] }
     ensures no_set { check_answer (codes "p") (Ok []) ≡ refused 3 (codes "parameters: P1 NoSet at record 0\n") }
-    ensures unknown_contract { margin_answer (codes "p") (codes "q") (Ok (codes "SET,D1,1,USD\n")) (Ok (codes "X,FA,1\n"))
+    ensures unknown_contract { margin_answer (codes "p") (codes "q")
+        (Ok (codes "SET,D1,1,USD\n")) (Ok (codes "X,FA,1\n"))
         ≡ refused 4 (codes "positions: B1 UnknownContract at record 1 account X\n") }
 {}
 
