@@ -3,6 +3,9 @@ pub mod SumLaws
 pub mod NetLaws
 pub mod OrderLaws
 pub mod SpreadLaws
+pub mod SlotLemmas
+pub mod TierLemmas
+mod LegSlots
 pub mod Places
 pub mod HeldLemmas
 pub mod StableSort

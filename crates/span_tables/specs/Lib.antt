@@ -8,6 +8,9 @@ pub mod Accepted
 pub mod Net
 pub mod Holdings
 pub mod Sides
+pub mod Slots
+pub mod Spreads
+pub mod steps
 pub mod Laws
 pub mod ByKind
 pub mod Samples

@@ -65,7 +65,7 @@ month_leg tiers commodity leg =
 
 -- a spread with its tiers' months
 abbrev pub intra_spread : List Tier → IntraRecord → Intra
-intra_spread tiers s = record { rate = s.rate; legs = record { items = map (month_leg tiers s.commodity) s.legs.items } }
+intra_spread tiers s = record { rate = s.rate; legs = map (month_leg tiers s.commodity) s.legs.items }
 
 -- the intracommodity spreads of a commodity, by rising priority
 unfoldable pub intras_of : AcceptedTables → List ℕ → List Intra
@@ -86,7 +86,7 @@ commodity_leg commodities leg = record {
 -- a spread with its commodities' numbers
 abbrev pub inter_spread : List Commodity → InterRecord → Inter
 inter_spread commodities s =
-    record { basis_points = s.basis_points; legs = record { items = map (commodity_leg commodities) s.legs.items } }
+    record { basis_points = s.basis_points; legs = map (commodity_leg commodities) s.legs.items }
 
 -- the intercommodity spreads, by rising priority
 unfoldable pub inters_of : AcceptedTables → List Inter

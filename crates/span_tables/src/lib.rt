@@ -11,8 +11,10 @@ pub mod portfolios;
 pub mod raw;
 pub mod records;
 pub mod sides;
+pub mod slots;
 mod sorting;
 mod spreads;
 pub mod tables;
 #[cfg(test)]
 mod tests;
+pub mod tiers;

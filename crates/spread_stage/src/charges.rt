@@ -74,8 +74,12 @@ fn spot_charge(months: &[MonthUnits], rests: &[MonthUnits], spot: &Spot) -> u128
     ensures value { result ≡ spot_charge months.now rests.now spot.now }
     ensures bound { result ≤ 2 * (MAX_UNITS * MAX_RATE) }
 {
+    let whole = size_at(months, spot.month);
+    if whole == 0 {
+        return 0;
+    }
     let left = size_at(rests, spot.month);
-    let used = size_at(months, spot.month) - left;
+    let used = whole - left;
     at_rate(used, spot.spread_rate) + at_rate(left, spot.outright_rate)
 }
 
