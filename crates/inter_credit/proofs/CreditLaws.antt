@@ -1,15 +1,12 @@
 -- The credit is the greatest number whose product stays below; without spreads there is none.
 use Rattle.std.proofs.Common.{◌≡◌, ℕ, ◌*◌, ◌/◌, ◌^◌, ◌<◌, ◌≤◌, Bool, true, false, cond, List, nat_abs, zero, suc, [], ◌∷◌, refl, arith}
 use Rattle.std.specs.Prelude.{◌==◌, ◌≢◌}
-use Rattle.std.proofs.Math.Nat.{div-mul-le_self, le-div_iff_mul-le, mul-zero, zero-div}
+use Rattle.std.proofs.Math.Nat.{mul-zero, zero-div}
 use Rattle.std.proofs.lemmas.Bool.Decides.{nat_tests}
+use Rattle.span_money.proofs.NumberLaws.{div_greatest}
 use Rattle.inter_credit.specs.Credits.{after_inter_spreads, credit_of}
 use Rattle.inter_credit.specs.States.{IsUnspread, credit_at}
 use Rattle.inter_credit.specs.declared.state.InterLine.{InterLine}
-
--- rounded down, x / d is the greatest g with g * d at most x
-div_greatest : (x d : ℕ) → 0 < d → ((x / d) * d ≤ x) × ((g : ℕ) → g * d ≤ x → g ≤ x / d)
-div_greatest x d h = (div-mul-le_self x d, λ g fits. (le-div_iff_mul-le h).1 fits)
 
 -- with a net delta of 0 there is no credit
 pub credit_zero : (line : InterLine) → nat_abs line.net ≡ 0 → credit_of line ≡ 0

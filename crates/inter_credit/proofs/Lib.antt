@@ -5,3 +5,5 @@ pub mod RestLaws
 pub mod Sizes
 pub mod SpreadLemmas
 pub mod LineLemmas
+mod NothingFormed
+pub mod OpenLemmas

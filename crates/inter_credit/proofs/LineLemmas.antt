@@ -8,7 +8,7 @@ use Rattle.span_tables.specs.Sides.{market_side, part_on}
 use Rattle.span_tables.specs.declared.sides.Direction.{Direction}
 use Rattle.span_tables.specs.declared.records.CommodityLeg.{CommodityLeg}
 use Rattle.inter_credit.specs.Credits.{change_at, rest_at}
-use Rattle.inter_credit.specs.Rooms.{HaveRoom}
+use Rattle.inter_credit.specs.steps.Rooms.{HaveRoom}
 use Rattle.inter_credit.specs.declared.state.InterLine.{InterLine}
 
 -- a change at a place is a write

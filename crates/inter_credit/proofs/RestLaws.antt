@@ -2,7 +2,7 @@
 use Rattle.std.proofs.Common.{◌≡◌, ◌+◌, ◌*◌, ◌-◌, ◌≤◌, ℕ, zero, suc, List, [], ◌∷◌, length, ℤ, pos, negsuc, neg_ℤ, nat_abs, refl, ◌∙◌, arith}
 use Rattle.std.proofs.lemmas.Int.{ints}
 use Rattle.span_tables.specs.Accepted.{IsInter}
-use Rattle.span_tables.specs.Sides.{less_used, market_side, part_on, spreads_formed}
+use Rattle.span_tables.specs.Sides.{IsLeftOf, less_used, market_side, part_on, spreads_formed}
 use Rattle.span_tables.specs.declared.sides.Direction.{Direction}
 use Rattle.span_tables.specs.declared.sides.Direction.TheVariants.{ALong, AShort}
 use Rattle.span_tables.specs.declared.sides.MarketSide.{MarketSide}
@@ -10,8 +10,8 @@ use Rattle.span_tables.specs.declared.sides.MarketSide.TheVariants.{Long, Short}
 use Rattle.span_tables.specs.declared.records.CommodityLeg.{CommodityLeg}
 use Rattle.span_tables.specs.declared.records.Inter.{Inter}
 use Rattle.inter_credit.specs.Credits.{change_at, commodity_rooms, inter_both_ways, inter_one_way, line_after, lines_after, rest_at}
-use Rattle.inter_credit.specs.Rooms.{HaveRoom}
-use Rattle.inter_credit.specs.States.{IsLeftOf, UsesLine, line_at}
+use Rattle.inter_credit.specs.steps.Rooms.{HaveRoom}
+use Rattle.inter_credit.specs.States.{UsesLine, line_at}
 use Rattle.inter_credit.specs.declared.state.InterLine.{InterLine}
 use Rattle.inter_credit.proofs.LineLemmas.{HaveRoom-rest, length-change_at}
 use Rattle.inter_credit.proofs.SpreadLemmas.{formed_have_room}
@@ -99,11 +99,11 @@ legs_use d n bp (leg ∷ legs) lines room k =
     (change_uses (market_side d leg.side) (n * leg.ratio) bp leg.commodity lines (room.room 0 leg (omega arith)) k)
     (legs_use d n bp legs (change_at f leg.commodity lines) (HaveRoom-rest d n leg legs lines f room) k)
 
-one_way_uses : (s : Inter) (d : Direction) (lines : List InterLine) → IsInter (length lines) s
+pub one_way_uses : (s : Inter) (d : Direction) (lines : List InterLine) → IsInter (length lines) s
     → (k : ℕ) → UsesLine s.basis_points (line_at lines k) (line_at (inter_one_way s d lines) k)
 one_way_uses s d lines inter k =
-    let n : ℕ = spreads_formed (commodity_rooms d s.legs.items lines) in
-    legs_use d n s.basis_points s.legs.items lines (formed_have_room (length lines) d s lines s.legs.items n inter refl refl refl) k
+    let n : ℕ = spreads_formed (commodity_rooms d s.legs lines) in
+    legs_use d n s.basis_points s.legs lines (formed_have_room (length lines) d s lines s.legs n inter refl refl refl) k
 
 -- a spread in both directions
 pub both_ways_use : (lines : List InterLine) (s : Inter) → IsInter (length lines) s
@@ -111,7 +111,7 @@ pub both_ways_use : (lines : List InterLine) (s : Inter) → IsInter (length lin
 unfolding inter_both_ways
 both_ways_use lines s inter k =
     let first = inter_one_way s ALong lines in
-    let long = length-lines_after ALong (spreads_formed (commodity_rooms ALong s.legs.items lines)) s.basis_points s.legs.items lines in
+    let long = length-lines_after ALong (spreads_formed (commodity_rooms ALong s.legs lines)) s.basis_points s.legs lines in
     then_line s.basis_points (line_at lines k) (line_at first k) (line_at (inter_one_way s AShort first) k)
     (one_way_uses s ALong lines inter k) (one_way_uses s AShort first (rw long inter) k)
 
@@ -120,5 +120,5 @@ pub length-inter_both_ways : (lines : List InterLine) (s : Inter) → length (in
 unfolding inter_both_ways
 length-inter_both_ways lines s =
     let first = inter_one_way s ALong lines in
-    length-lines_after AShort (spreads_formed (commodity_rooms AShort s.legs.items first)) s.basis_points s.legs.items first
-    ∙ length-lines_after ALong (spreads_formed (commodity_rooms ALong s.legs.items lines)) s.basis_points s.legs.items lines
+    length-lines_after AShort (spreads_formed (commodity_rooms AShort s.legs first)) s.basis_points s.legs first
+    ∙ length-lines_after ALong (spreads_formed (commodity_rooms ALong s.legs lines)) s.basis_points s.legs lines

@@ -1,6 +1,5 @@
 pub mod Credits
-pub mod Directions
 pub mod Requirement
-pub mod Rooms
 pub mod Samples
 pub mod States
+pub mod steps

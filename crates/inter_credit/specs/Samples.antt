@@ -1,5 +1,5 @@
 -- Spreads and contracts that worked numbers speak of.
-use Rattle.std.specs.Prelude.{ℕ, ◌≤◌, [], ◌∷◌, codes, ℤ, pos, nat_abs}
+use Rattle.std.specs.Prelude.{ℕ, ◌≤◌, [], ◌∷◌, codes, ℤ, pos, neg_ℤ, nat_abs}
 use Rattle.std.specs.List.{repeat}
 use Rattle.span_tables.specs.Accepted.{IsContract}
 use Rattle.span_tables.specs.declared.limits.TheConstants.{MAX_NET}
@@ -7,13 +7,23 @@ use Rattle.span_tables.specs.declared.held.HeldContract.{HeldContract}
 use Rattle.span_tables.specs.declared.records.Inter.{Inter}
 use Rattle.span_tables.specs.declared.records.ProductKind.{ProductKind}
 use Rattle.span_tables.specs.declared.records.Side.TheVariants as side
+use Rattle.inter_credit.specs.declared.state.InterLine.{InterLine}
 
 -- a spread of one commodity against another, with their ratios
 abbrev pub spread_of : ℕ → ℕ → ℕ → ℕ → ℕ → Inter
 spread_of basis_points first first_ratio second second_ratio = record {
   basis_points = basis_points;
-  legs = record { items = record { commodity = first; side = side.A; ratio = first_ratio } ∷ record { commodity = second; side = side.B; ratio = second_ratio } ∷ [] };
+  legs = record { commodity = first; side = side.A; ratio = first_ratio }
+      ∷ record { commodity = second; side = side.B; ratio = second_ratio } ∷ [];
 }
+
+-- so much on the short side of the market
+abbrev pub short : ℕ → ℤ
+short n = neg_ℤ (pos n)
+
+-- a commodity with this net delta, of which this is left, and with this price risk doubled and this weight
+abbrev pub line_with : ℤ → ℤ → ℕ → ℕ → InterLine
+line_with net rest price2 weight = record { net = net; rest = rest; price2 = price2; weight = weight }
 
 -- so many of a contract of a kind
 abbrev pub held_of_kind : ProductKind → ℤ → HeldContract

@@ -1,15 +1,10 @@
 -- What the lines of commodities keep.
 use Rattle.std.specs.Prelude.{◌≡◌, ℕ, ◌+◌, ◌*◌, ◌≤◌, List, slice_get, option_map, unwrap_or, IfSome, All, ℤ, pos, nat_abs}
-use Rattle.span_money.specs.Numbers.{positive_part, negative_part}
-use Rattle.span_tables.specs.declared.limits.TheConstants.{MAX_BASIS_POINTS}
-use Rattle.inter_credit.specs.Credits.{credit_of, loaded}
+use Rattle.span_tables.specs.declared.limits.TheConstants.{MAX_BASIS_POINTS, MAX_UNITS}
+use Rattle.span_tables.specs.Sides.{IsLeftOf}
+use Rattle.inter_credit.specs.Credits.{credit_of, unspread_line}
 use Rattle.inter_credit.specs.declared.state.InterLine.{InterLine}
-use Rattle.inter_credit.specs.declared.state.TheConstants.{MAX_UNITS, MAX_PRICE2}
-
--- what is left of a net delta: on neither side of the market more than there was
-pub record IsLeftOf (net rest : ℤ) : Type 0 where
-  pub long : positive_part rest ≤ positive_part net
-  pub short : negative_part rest ≤ negative_part net
+use Rattle.inter_credit.specs.declared.state.TheConstants.{MAX_PRICE2}
 
 -- a commodity's net delta and price risk lie in their ranges, its rest is left of its net delta, and its weight has no
 -- more than all basis points of what was used
@@ -29,7 +24,7 @@ pub record UsesLine (basis_points : ℕ) (before after : InterLine) : Type 0 whe
 
 -- the line of the commodity of a number
 abbrev pub line_at : List InterLine → ℕ → InterLine
-line_at lines commodity = unwrap_or (slice_get lines commodity) (loaded (pos 0) 0)
+line_at lines commodity = unwrap_or (slice_get lines commodity) (unspread_line (pos 0) 0)
 
 -- no spread was formed: the rest of a commodity is its full net delta
 pub record IsUnspreadLine (line : InterLine) : Type 0 where

@@ -8,8 +8,10 @@ use crate::state::{InterLine, InterState};
 use span_money::amounts::Money;
 use span_money::division::floor_div;
 
-// Price risk is held doubled, and 10^4 basis points are a credit of all of it.
-const DOUBLED_WHOLE: u128 = 20_000;
+// The basis points of a whole.
+const WHOLE: u128 = 10_000;
+// What a credit is divided by for each unit of net delta: price risk is held doubled, and weights are in basis points.
+const DOUBLED_WHOLE: u128 = 2 * WHOLE;
 
 // Price risk doubled times the weight.
 fn product(line: &InterLine) -> u128

@@ -37,7 +37,8 @@ pub fn spread_uses_rests()
 /// puts together, or times the larger of the two counts.
 pub fn minimum_counts_short_options()
     ensures counts { (is_kind : ProductKind → Bool) (held : List HeldContract)
-        → short_count is_kind held ≡ sum_by (λ h. nat_abs h.net) (filter (λ h. is_kind (h.contract).kind && int_lt h.net (pos 0)) held) }
+        → short_count is_kind held ≡ sum_by (λ h. nat_abs h.net)
+        (filter (λ h. is_kind (h.contract).kind && int_lt h.net (pos 0)) held) }
     ensures sum { (rate : ℕ) (held : List HeldContract)
         → minimum_of rate method.Sum held ≡ rate * (short_count is_call held + short_count is_put held) }
     ensures larger { (rate : ℕ) (held : List HeldContract)

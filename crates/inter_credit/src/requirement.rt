@@ -5,12 +5,12 @@ ghost use Rattle.span_tables.specs.declared.limits.TheConstants.{MAX_HELD, MAX_N
 ghost use Rattle.inter_credit.specs.Requirement.{is_call, is_put, minimum_of, requirement_of, short_count, short_options};
 ghost use Rattle.inter_credit.specs.declared.requirement.TheConstants.{MAX_PART};
 
-use span_money::amounts::Money;
+use span_money::amounts::{MAX_MONEY, Money};
 use span_tables::held::{Held, HeldContract};
 use span_tables::records::{MinimumMethod, ProductKind};
 
-/// The size of each part of a requirement, in minor units.
-pub const MAX_PART: u128 = 100_000_000_000_000_000_000_000_000;
+/// The size of each part of a requirement, in minor units: ten parts are an amount of money.
+pub const MAX_PART: u128 = MAX_MONEY / 10;
 
 // How many of a held contract are short.
 fn short_part(net: i64) -> u64

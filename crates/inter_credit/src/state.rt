@@ -1,49 +1,52 @@
 //! For each commodity its net delta, what spreads have left of it, its price risk, and what earns its credit.
-ghost use Rattle.std.specs.Prelude.{◌≡◌, ◌<◌, ◌≤◌, ◌==◌, length, replicate, slice_set, All, IfOk, pos, nat_abs};
-ghost use Rattle.inter_credit.specs.Credits.{inter_both_ways, loaded};
+ghost use Rattle.std.specs.Prelude.{◌≡◌, ◌<◌, ◌≤◌, ◌==◌, false, length, replicate, slice_set, All, IfOk, pos, nat_abs};
+ghost use Rattle.inter_credit.specs.Credits.{inter_both_ways, unspread_line};
 ghost use Rattle.span_tables.specs.Accepted.{IsInter};
 ghost use Rattle.inter_credit.specs.States.{IsLine, IsNotLoaded, IsUnspread};
-ghost use Rattle.inter_credit.specs.declared.state.TheConstants.{MAX_PRICE2, MAX_UNITS};
+ghost use Rattle.inter_credit.specs.declared.state.TheConstants.{MAX_PRICE2};
+ghost use Rattle.span_tables.specs.declared.limits.TheConstants.{MAX_UNITS};
 
-use crate::spreads::spread_both_ways;
+use crate::spreads::{may_form_either, spread_both_ways};
 use span_money::amounts::Units;
+use span_tables::limits::{MAX_ARRAY_VALUE, MAX_HELD, MAX_NET};
 use span_tables::records::Inter;
+use span_tables::slots::OpenSides;
 use std::alloc::{AllocError, Global};
 use std::marker::Model;
 
-/// The size of a net delta, in units of 10^-8 deltas.
-pub const MAX_UNITS: u64 = 25_600_000_000_000_000;
-/// Price risk doubled, in minor units.
-pub const MAX_PRICE2: u64 = 10_240_000_000_000_000;
+/// Price risk doubled, in minor units: four times what as many contracts as may be held lose at most.
+pub const MAX_PRICE2: u64 = 4 * (MAX_HELD as u64 * MAX_NET * MAX_ARRAY_VALUE as u64);
 
 /// A commodity in the intercommodity stage.
 ///
-/// `net` is its net delta (at most `MAX_UNITS` either way) and `rest` what spreads have left of it, `price2` is price risk
-/// doubled (in minor units, at most `MAX_PRICE2`), and `weight` is the sum of units used times basis points.
+/// `net` is its net delta (at most `MAX_UNITS` either way) and `rest` what spreads have left of it, `price2` is price
+/// risk doubled (in minor units, at most `MAX_PRICE2`), and `weight` is the sum of units used times basis points.
 #[derive(Clone, Copy, Debug, PartialEq, Eq)]
 pub struct InterLine {
+    pub weight: u128,
     pub net: Units,
     pub rest: Units,
     pub price2: u64,
-    pub weight: u128,
 }
 
 /// The commodities of a set, by their numbers. Contracts see the list of their lines.
 #[derive(Drop)]
 pub struct InterState {
     lines: Vec<InterLine>,
+    // The sides of the market on which commodities had a rest when they were loaded.
+    sides: OpenSides,
 }
 
 impl Model for InterState {
     ghost use Rattle.std.specs.Prelude.{List, All};
-    ghost use Rattle.inter_credit.specs.States.{IsLine};
+    ghost use Rattle.inter_credit.specs.steps.Open.{AreLines};
     ghost use Rattle.inter_credit.specs.declared.state.InterLine.{InterLine};
 
     ghost Value = { List InterLine };
 
     ghost view = { λ state. state.lines.items };
 
-    ghost invariant = { λ state. All IsLine state.lines.items };
+    ghost invariant = { λ state. AreLines state.lines.items state.sides };
 }
 
 impl InterState {
@@ -74,7 +77,8 @@ impl InterState {
         ensures { IfOk result (λ state. state ≡ self.now) }
     {
         let lines = Vec::from_slice(alloc, &self.lines)?;
-        Ok(InterState::of(lines))
+        let sides = self.sides;
+        Ok(InterState { lines, sides })
     }
 
     /// Gives a commodity its net delta and its price risk; its rest is its full net delta.
@@ -86,10 +90,14 @@ impl InterState {
         requires price2 { price2 ≤ MAX_PRICE2 }
         requires not_loaded { IsNotLoaded self.old commodity }
         requires unspread { IsUnspread self.old }
-        ensures value { self.new ≡ slice_set self.old commodity (loaded net price2) }
+        ensures value { self.new ≡ slice_set self.old commodity (unspread_line net price2) }
         ensures unspread { IsUnspread self.new }
     {
-        self.lines[commodity] = loaded(net, price2);
+        if net.get() == 0 && price2 == 0 {
+            return;
+        }
+        self.sides = self.sides.with(commodity, net);
+        self.lines[commodity] = unspread_line(net, price2);
     }
 
     /// Forms a spread in both directions, with A long first: in each, as many as every leg has room for.
@@ -98,21 +106,20 @@ impl InterState {
         ensures value { self.new ≡ inter_both_ways self.old spread.now }
         ensures length { length self.new ≡ length self.old }
     {
-        spread_both_ways(&mut self.lines, spread);
+        spread_both_ways(&mut self.lines, &self.sides, spread);
     }
 
-    // These lines.
-    pub(crate) fn of(lines: Vec<InterLine>) -> InterState
-        requires { All IsLine lines.items }
-        ensures { result ≡ lines.items }
+    /// Whether a spread may be formed. `false` says that none is, and that the state stays as it is.
+    pub fn may_spread(&self, spread: &Inter) -> bool
+        ensures { result ≡ false → inter_both_ways self.now spread.now ≡ self.now }
     {
-        InterState { lines }
+        may_form_either(&self.sides, spread)
     }
 }
 
 // A commodity before any spread.
-fn loaded(net: Units, price2: u64) -> InterLine
-    ensures { result ≡ loaded net price2 }
+fn unspread_line(net: Units, price2: u64) -> InterLine
+    ensures { result ≡ unspread_line net price2 }
 {
     InterLine {
         net,
@@ -124,16 +131,19 @@ fn loaded(net: Units, price2: u64) -> InterLine
 
 /// So many commodities of which nothing is known yet: net deltas and price risks of 0. `Err` is want of memory.
 pub fn empty(alloc: Global, commodities: usize) -> Result<InterState, AllocError>
-    ensures value { IfOk result (λ state. state ≡ replicate commodities (loaded (pos 0) 0)) }
+    ensures value { IfOk result (λ state. state ≡ replicate commodities (unspread_line (pos 0) 0)) }
     ensures unspread { IfOk result IsUnspread }
 {
-    let lines = vec![in alloc; loaded(Units::new(0), 0); commodities]?;
-    Ok(InterState::of(lines))
+    let lines = vec![in alloc; unspread_line(Units::new(0), 0); commodities]?;
+    let sides = OpenSides::none();
+    Ok(InterState { lines, sides })
 }
 
 /// The state with the net delta and the price risk of one more commodity, whose rest is its full net delta.
 ///
-/// Nothing was loaded for that commodity, and no spread was formed. `Err` is want of memory, and `state` stays as it was.
+/// Nothing was loaded for that commodity, and no spread was formed.
+///
+/// `Err` is want of memory, and `state` stays as it was.
 pub fn load(
     alloc: Global,
     state: &InterState,
@@ -146,7 +156,7 @@ pub fn load(
     requires price2 { price2 ≤ MAX_PRICE2 }
     requires not_loaded { IsNotLoaded state.now commodity }
     requires unspread { IsUnspread state.now }
-    ensures value { IfOk result (λ next. next ≡ slice_set state.now commodity (loaded net price2)) }
+    ensures value { IfOk result (λ next. next ≡ slice_set state.now commodity (unspread_line net price2)) }
     ensures unspread { IfOk result IsUnspread }
 {
     let mut state = state.copied(alloc)?;

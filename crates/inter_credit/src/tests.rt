@@ -7,34 +7,71 @@ ghost use Rattle.inter_credit.specs.declared.requirement.TheConstants.{MAX_PART}
 use super::credit::credit;
 use super::requirement::{MAX_PART, minimum, requirement};
 use super::spreads::inter_spread;
-use super::state::{InterLine, InterState, MAX_PRICE2, MAX_UNITS, empty, load};
+use super::state::{InterLine, InterState, MAX_PRICE2, empty, load};
 use arrayvec::ArrayVec;
 use span_money::amounts::{Delta, Money, Ratio, Scale, Units};
 use span_tables::held::{Held, HeldContract};
-use span_tables::limits::{MAX_BASIS_POINTS, MAX_NET};
+use span_tables::limits::{MAX_BASIS_POINTS, MAX_NET, MAX_UNITS};
 use span_tables::name::Name;
 use span_tables::records::{CommodityLeg, Contract, Inter, MinimumMethod, ProductKind, Side};
 use std::alloc::{AllocError, Global};
 use std::process::Abort;
 use std::test::Fail;
 
-// A state with these net deltas and price risks.
+// A commodity: its net delta and its price risk doubled, and after the spreads its rest, its weight and its credit.
+#[derive(Clone, Copy)]
+struct Worked {
+    net: i64,
+    price2: u64,
+    rest: i64,
+    weight: u128,
+    credit: i128,
+}
+
+// A worked commodity, with its figures before the spreads and those behind them.
+fn commodity(before: (i64, u64), after: (i64, u128, i128)) -> Worked {
+    Worked {
+        net: before.0,
+        price2: before.1,
+        rest: after.0,
+        weight: after.1,
+        credit: after.2,
+    }
+}
+
+// A state with the net deltas and price risks of these.
 fn loaded(
     rt: &impl Abort,
     alloc: Global,
-    commodities: &[(i64, u64)],
+    commodities: &[Worked],
 ) -> Result<InterState, AllocError> {
     let mut state = empty(alloc, commodities.len())?;
-    for (i, (net, price2)) in commodities.iter().enumerate() {
+    for (i, expected) in commodities.iter().enumerate() {
         assert!(rt; i < state.len());
-        assert!(rt; net.unsigned_abs() <= MAX_UNITS);
-        assert!(rt; *price2 <= MAX_PRICE2);
+        assert!(rt; expected.net.unsigned_abs() <= MAX_UNITS);
+        assert!(rt; expected.price2 <= MAX_PRICE2);
         let line = state.lines()[i];
         assert!(rt; line.net.get() == 0);
         assert!(rt; line.price2 == 0);
-        state = load(alloc, &state, i, Units::new(*net), *price2)?;
+        state = load(alloc, &state, i, Units::new(expected.net), expected.price2)?;
     }
     Ok(state)
+}
+
+// Compares a state after its spreads with what was worked by hand.
+fn compare(rt: &impl Abort, state: &InterState, commodities: &[Worked]) {
+    assert!(rt; state.len() == commodities.len());
+    for (i, expected) in commodities.iter().enumerate() {
+        assert!(rt; i < state.len());
+        let line = InterLine {
+            net: Units::new(expected.net),
+            rest: Units::new(expected.rest),
+            price2: expected.price2,
+            weight: expected.weight,
+        };
+        assert!(rt; state.lines()[i] == line);
+        assert!(rt; credit(state, i).get() == expected.credit);
+    }
 }
 
 // A spread of one commodity against another, with their ratios.
@@ -64,139 +101,110 @@ fn spread_of(
         side: Side::B,
         ratio: Ratio::new(second.1),
     });
-    Inter { basis_points, legs }
+    Inter::new(basis_points, legs)
 }
 
 #[test]
 fn spreads_of_two_commodities(rt: HostRuntime) -> Result<(), Fail> {
     let cases = [
         (
-            100_000_000,
             5000,
             10_000,
             10_000,
+            (100_000_000, 2400),
             (0, 500_000_000_000, 600),
             (-100_000_000, 500_000_000_000, 450),
         ),
         (
-            100_000_000,
             3333,
             10_000,
             10_000,
+            (100_000_000, 2400),
             (0, 333_300_000_000, 399),
             (-100_000_000, 333_300_000_000, 299),
         ),
         (
-            100_000_000,
             5000,
             20_000,
             30_000,
+            (100_000_000, 2400),
             (0, 500_000_000_000, 600),
             (-50_000_000, 750_000_000_000, 675),
         ),
-        (0, 5000, 10_000, 10_000, (0, 0, 0), (-200_000_000, 0, 0)),
+        (
+            5000,
+            10_000,
+            10_000,
+            (0, 2400),
+            (0, 0, 0),
+            (-200_000_000, 0, 0),
+        ),
     ];
-    for (net, basis_points, first_ratio, second_ratio, first, second) in cases {
-        let state = loaded(&rt, rt.alloc(), &[(net, 2400), (-200_000_000, 3600)])?;
-        let spread = spread_of(
-            &rt,
-            state.len(),
-            basis_points,
-            (0, first_ratio),
-            (1, second_ratio),
-        );
-        let state = inter_spread(rt.alloc(), &state, &spread)?;
-        assert_eq!(rt; state.len(), 2);
-        assert_eq!(rt;
-            state.lines()[0],
-            InterLine {
-                net: Units::new(net),
-                rest: Units::new(first.0),
-                price2: 2400,
-                weight: first.1
-            }
-        );
-        assert_eq!(rt;
-            state.lines()[1],
-            InterLine {
-                net: Units::new(-200_000_000),
-                rest: Units::new(second.0),
-                price2: 3600,
-                weight: second.1
-            }
-        );
-        assert_eq!(rt; credit(&state, 0).get(), first.2);
-        assert_eq!(rt; credit(&state, 1).get(), second.2);
+    for (basis_points, ratio, other_ratio, before, after, other_after) in cases {
+        let commodities = [
+            commodity(before, after),
+            commodity((-200_000_000, 3600), other_after),
+        ];
+        let mut state = loaded(&rt, rt.alloc(), &commodities)?;
+        let spread = spread_of(&rt, state.len(), basis_points, (0, ratio), (1, other_ratio));
+        state.spread(&spread);
+        compare(&rt, &state, &commodities);
     }
     Ok(())
 }
 
 #[test]
-fn spreads_of_three_commodities(rt: HostRuntime) -> Result<(), Fail> {
-    let cases = [
-        (
-            [
-                (300_000_000, 7200),
-                (-100_000_000, 1800),
-                (-100_000_000, 600),
-            ],
-            (5000, 0, 1),
-            (2000, 0, 2),
-            [
-                (100_000_000, 700_000_000_000, 840),
-                (0, 500_000_000_000, 450),
-                (0, 200_000_000_000, 60),
-            ],
-        ),
-        // The first spread is tried in both directions before the second is tried at all.
-        (
-            [
-                (-200_000_000, 4800),
-                (300_000_000, 5400),
-                (-300_000_000, 1800),
-            ],
-            (5000, 0, 1),
-            (9000, 1, 2),
-            [
-                (0, 1_000_000_000_000, 1200),
-                (0, 1_900_000_000_000, 1710),
-                (-200_000_000, 900_000_000_000, 270),
-            ],
-        ),
+fn spreads_that_share_a_commodity(rt: HostRuntime) -> Result<(), Fail> {
+    let commodities = [
+        commodity((300_000_000, 7200), (100_000_000, 700_000_000_000, 840)),
+        commodity((-100_000_000, 1800), (0, 500_000_000_000, 450)),
+        commodity((-100_000_000, 600), (0, 200_000_000_000, 60)),
     ];
-    for (commodities, first, second, ends) in cases {
+    let state = loaded(&rt, rt.alloc(), &commodities)?;
+    let spread = spread_of(&rt, state.len(), 5000, (0, 10_000), (1, 10_000));
+    let state = inter_spread(rt.alloc(), &state, &spread)?;
+    let spread = spread_of(&rt, state.len(), 2000, (0, 10_000), (2, 10_000));
+    let state = inter_spread(rt.alloc(), &state, &spread)?;
+    compare(&rt, &state, &commodities);
+    Ok(())
+}
+
+// The first spread is tried in both directions before the second is tried at all.
+#[test]
+fn first_spread_before_the_second(rt: HostRuntime) -> Result<(), Fail> {
+    let commodities = [
+        commodity((-200_000_000, 4800), (0, 1_000_000_000_000, 1200)),
+        commodity((300_000_000, 5400), (0, 1_900_000_000_000, 1710)),
+        commodity((-300_000_000, 1800), (-200_000_000, 900_000_000_000, 270)),
+    ];
+    let state = loaded(&rt, rt.alloc(), &commodities)?;
+    let spread = spread_of(&rt, state.len(), 5000, (0, 10_000), (1, 10_000));
+    let state = inter_spread(rt.alloc(), &state, &spread)?;
+    let spread = spread_of(&rt, state.len(), 9000, (1, 10_000), (2, 10_000));
+    let state = inter_spread(rt.alloc(), &state, &spread)?;
+    compare(&rt, &state, &commodities);
+    Ok(())
+}
+
+// Commodities of which one side of a spread has no rest are told at once; the others may form it in either direction.
+#[test]
+fn spreads_that_may_be_formed(rt: HostRuntime) -> Result<(), Fail> {
+    let cases = [
+        (1, 1, false),
+        (-1, -1, false),
+        (1, 0, false),
+        (0, -1, false),
+        (1, -1, true),
+        (-1, 1, true),
+    ];
+    for (first, second, may_be) in cases {
+        let commodities = [
+            commodity((first, 2400), (0, 0, 0)),
+            commodity((second, 3600), (0, 0, 0)),
+        ];
         let state = loaded(&rt, rt.alloc(), &commodities)?;
-        let spread = spread_of(
-            &rt,
-            state.len(),
-            first.0,
-            (first.1, 10_000),
-            (first.2, 10_000),
-        );
-        let state = inter_spread(rt.alloc(), &state, &spread)?;
-        let spread = spread_of(
-            &rt,
-            state.len(),
-            second.0,
-            (second.1, 10_000),
-            (second.2, 10_000),
-        );
-        let state = inter_spread(rt.alloc(), &state, &spread)?;
-        for i in 0..3 {
-            let (net, price2) = commodities[i];
-            let (rest, weight, earned) = ends[i];
-            assert!(rt; i < state.len());
-            assert_eq!(rt;
-                state.lines()[i],
-                InterLine {
-                    net: Units::new(net),
-                    rest: Units::new(rest),
-                    price2,
-                    weight
-                }
-            );
-            assert_eq!(rt; credit(&state, i).get(), earned);
-        }
+        let spread = spread_of(&rt, state.len(), 5000, (0, 10_000), (1, 10_000));
+        assert!(rt; state.may_spread(&spread) == may_be);
     }
     Ok(())
 }
@@ -205,20 +213,15 @@ fn spreads_of_three_commodities(rt: HostRuntime) -> Result<(), Fail> {
 #[test]
 fn largest_credits(rt: HostRuntime) -> Result<(), Fail> {
     let largest = MAX_UNITS as i64;
-    let state = loaded(
-        &rt,
-        rt.alloc(),
-        &[(largest, MAX_PRICE2), (-largest, MAX_PRICE2)],
-    )?;
+    let after = (0, 256_000_000_000_000_000_000, 5_120_000_000_000_000);
+    let commodities = [
+        commodity((largest, MAX_PRICE2), after),
+        commodity((-largest, MAX_PRICE2), after),
+    ];
+    let mut state = loaded(&rt, rt.alloc(), &commodities)?;
     let spread = spread_of(&rt, state.len(), MAX_BASIS_POINTS, (0, 10_000), (1, 10_000));
-    let state = inter_spread(rt.alloc(), &state, &spread)?;
-    assert_eq!(rt; state.len(), 2);
-    for i in 0..2 {
-        assert!(rt; i < state.len());
-        assert_eq!(rt; state.lines()[i].rest.get(), 0);
-        assert_eq!(rt; state.lines()[i].weight, 256_000_000_000_000_000_000);
-        assert_eq!(rt; credit(&state, i).get(), 5_120_000_000_000_000);
-    }
+    state.spread(&spread);
+    compare(&rt, &state, &commodities);
     Ok(())
 }
 

@@ -57,3 +57,15 @@ not_long (negsuc n) below = refl
 pub not_short : (z : ℤ) → pos 0 <ℤ z → negative_part z ≡ 0
 not_short (pos n) above = refl
 not_short (negsuc n) above = absurd (omega (arith, ints, above))
+
+-- a number of another slot is marked only where it was
+pub marked_before : (word number other : ℕ) → other % SLOTS ≢ number % SLOTS → IsMarked (with_slot word number) other → IsMarked word other
+marked_before word number other apart marked =
+    omega (arith, marked, bit_at_or word (2 ^ (number % SLOTS)) (other % SLOTS), bit_at-pow_other (number % SLOTS) (other % SLOTS) apart)
+
+-- all slots of another word are those of each of its numbers
+pub has_all_marked : (word others number : ℕ) → has_all word others ≡ true → IsMarked others number → IsMarked word number
+has_all_marked word others number all marked =
+    let same : bit_and word others ≡ others = grind (arith, nat_tests, all) in
+    let bits : bit_at (bit_and word others) (number % SLOTS) ≡ bit_at others (number % SLOTS) = ap (λ n. bit_at n (number % SLOTS)) same in
+    omega (arith, marked, bits, bit_at_and word others (number % SLOTS), bit_at-lt word (number % SLOTS))

@@ -1,15 +1,17 @@
 //! Laws of the definitions, in the methodology's words: each is the contract of a function that does nothing.
-ghost use Rattle.std.specs.Prelude.{false, ◌≡◌, ℕ, ◌≤◌, List, ◌∷◌, filter, bytes_eq, IsPermutation, ℤ, pos};
+ghost use Rattle.std.specs.Prelude.{false, true, ◌≡◌, ◌≢◌, ℕ, ◌%◌, ◌≤◌, List, ◌∷◌, filter, bytes_eq, IsPermutation, ℤ, pos};
 ghost use Rattle.span_money.specs.Numbers.{int_sum_by};
 ghost use Rattle.span_tables.specs.Laws.{Fits, HaveRatios, IsRisingBy};
 ghost use Rattle.span_tables.specs.Names.{distinct, has_repeat, is_among};
 ghost use Rattle.span_tables.specs.Net.{held_of, holdings_of, net_of};
 ghost use Rattle.span_tables.specs.Sides.{Room, spreads_formed};
+ghost use Rattle.span_tables.specs.Slots.{IsMarked, has_all, with_slot};
 ghost use Rattle.span_tables.specs.Tables.{rising_by};
 ghost use Rattle.span_tables.specs.declared.records.Contract.{Contract};
 ghost use Rattle.span_tables.specs.declared.records.InterRecord.{InterRecord};
 ghost use Rattle.span_tables.specs.declared.records.IntraRecord.{IntraRecord};
 ghost use Rattle.span_tables.specs.declared.records.PositionRecord.{PositionRecord};
+ghost use Rattle.span_tables.specs.declared.slots.TheConstants.{SLOTS};
 
 /// A sum over the held contracts of a commodity is that over all of its contracts: what is not held adds nothing.
 pub fn held_contracts_are_enough()
@@ -43,4 +45,14 @@ pub fn distinct_names_stand_once()
     ensures once { (names : List (List ℕ)) → has_repeat bytes_eq (distinct names) ≡ false }
     ensures same { (names : List (List ℕ)) (name : List ℕ)
         → is_among (distinct names) name ≡ is_among names name }
+{}
+
+/// A number in slots is in them whatever comes to them, a number of another slot is not in them for it, and slots that
+/// have all of another set have each of its numbers.
+pub fn slots_keep_their_numbers()
+    ensures added { (word number : ℕ) → IsMarked (with_slot word number) number }
+    ensures kept { (word number other : ℕ) → IsMarked word other → IsMarked (with_slot word number) other }
+    ensures alone { (word number other : ℕ) → other % SLOTS ≢ number % SLOTS
+        → IsMarked (with_slot word number) other → IsMarked word other }
+    ensures all { (word others number : ℕ) → has_all word others ≡ true → IsMarked others number → IsMarked word number }
 {}

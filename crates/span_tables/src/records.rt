@@ -262,10 +262,11 @@ pub struct CommodityLeg {
     pub ratio: Ratio,
 }
 
-/// An accepted intercommodity spread: its credit rate in basis points and its legs, with the commodities of either side.
+/// An accepted intercommodity spread: its credit rate in basis points, and its legs.
 #[derive(Drop)]
 pub struct Inter {
     legs: ArrayVec<CommodityLeg, 4>,
+    // The commodities of the legs on side A, and of those on side B.
     a: Slots,
     b: Slots,
     basis_points: u32,
@@ -319,7 +320,8 @@ impl Inter {
     ///
     /// `false` tells that one of them has none.
     pub fn may_form(&self, direction: Direction, sides: &OpenSides) -> bool
-        ensures { All (λ leg. IsMarked (numbers_on (market_side direction leg.side) sides.now) leg.commodity) self.now.legs → result ≡ true }
+        ensures { All (λ leg. IsMarked (numbers_on (market_side direction leg.side) sides.now) leg.commodity) self.now.legs
+            → result ≡ true }
     {
         sides.on(market_side(direction, Side::A)).has_all(self.a)
             && sides.on(market_side(direction, Side::B)).has_all(self.b)

@@ -6,7 +6,7 @@ use Rattle.scan_risk.specs.Scenarios.{scenario_sums, scan_of}
 use Rattle.spread_stage.specs.Deltas.{month_deltas, net_delta}
 use Rattle.spread_stage.specs.Spreads.{after_spreads}
 use Rattle.spread_stage.specs.Charges.{intra_charge, delivery_charge}
-use Rattle.inter_credit.specs.Credits.{loaded, after_inter_spreads}
+use Rattle.inter_credit.specs.Credits.{unspread_line, after_inter_spreads}
 use Rattle.inter_credit.specs.States.{credit_at}
 use Rattle.inter_credit.specs.Requirement.{minimum_of, requirement_of}
 use Rattle.span_tables.specs.declared.records.Commodity.{Commodity}
@@ -45,7 +45,7 @@ stages_of tables holdings c = stages_from tables c (held_in tables holdings c)
 
 -- a commodity's line before any intercommodity spread: its full net delta, and its price risk doubled
 abbrev pub line_of : Stages → InterLine
-line_of s = loaded s.net (s.scan).price2
+line_of s = unspread_line s.net (s.scan).price2
 
 -- the commodities after all intercommodity spreads
 unfoldable pub inter_lines : AcceptedTables → List Holding → List InterLine

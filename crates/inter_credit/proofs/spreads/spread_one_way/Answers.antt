@@ -1,9 +1,11 @@
-use Rattle.std.proofs.Common.{refl}
-use Rattle.inter_credit.specs.Directions.{direction_of}
-use Rattle.inter_credit.proofs.SpreadLemmas.{formed_have_room}
+use Rattle.std.proofs.Common.{sym}
+use Rattle.inter_credit.proofs.OpenLemmas.{closed_way, open_after}
 use Rattle.inter_credit.proofs.spreads.spread_one_way.Goals as goal
 
-pub use_legs-requires-clause-room : goal.use_legs-requires-clause-room
-use_legs-requires-clause-room c =
-    formed_have_room _ (direction_of c.args.direction) c.args.spread.now c.args.lines.now c.as_slice-legs.result.now c.spreads_formed-n.result
-    c.requires.spread refl c.as_slice-legs.ensures.value c.spreads_formed-n.ensures
+pub returns-then-may_form-clause-sides : goal.returns-then-may_form-clause-sides
+returns-then-may_form-clause-sides c =
+    rw c.form.ensures.value (open_after c.args.spread.now c.args.direction c.args.sides.now c.args.lines.now c.requires.spread c.requires.sides)
+
+pub returns-else-may_form-clause-value : goal.returns-else-may_form-clause-value
+returns-else-may_form-clause-value c =
+    sym (closed_way c.args.spread.now c.args.direction c.args.sides.now c.args.lines.now c.may_form.result c.may_form.ensures c.requires.sides c.if-may_form.false)

@@ -2,7 +2,6 @@ use Rattle.std.proofs.Common.{◌*◌, List, take, sym, ap, ◌∙◌}
 use Rattle.std.proofs.lemmas.List.Sums.{fold_more}
 use Rattle.span_tables.specs.Sides.{market_side}
 use Rattle.inter_credit.specs.Credits.{change_at, line_after, lines_after}
-use Rattle.inter_credit.specs.Directions.{direction_of}
 use Rattle.inter_credit.specs.declared.state.InterLine.{InterLine}
 use Rattle.span_tables.specs.declared.records.CommodityLeg.{CommodityLeg}
 use Rattle.inter_credit.proofs.LineLemmas.{HaveRoom-drop, HaveRoom-first}
@@ -10,13 +9,13 @@ use Rattle.inter_credit.proofs.spreads.use_legs.Goals as goal
 
 pub use_leg-requires-clause-room : goal.use_leg-requires-clause-room
 use_leg-requires-clause-room c =
-    HaveRoom-first (direction_of c.args.direction) c.args.n c.args.legs.now c.loop-leg.leg-index c.leg-item.result c.loop-leg.lines
+    HaveRoom-first c.args.direction c.args.n c.args.legs.now c.loop-leg.leg-index c.leg-item.result c.loop-leg.lines
     c.loop-leg-test.true c.leg-item.is c.loop-leg.invariant.room
 
 pub loop-leg-preserved : goal.loop-leg-preserved
 loop-leg-preserved c =
     let leg = c.leg-item.result in
-    let d = direction_of c.args.direction in
+    let d = c.args.direction in
     let legs = c.args.legs.now in
     let i = c.loop-leg.leg-index in
     let step : CommodityLeg → List InterLine → List InterLine = λ x ls. change_at (line_after (market_side d x.side) (c.args.n * x.ratio) c.args.basis_points) x.commodity ls in

@@ -1,13 +1,12 @@
 use Rattle.std.proofs.Common.{◌≡◌, take, drop, All}
 use Rattle.inter_credit.specs.Credits.{lines_after}
-use Rattle.inter_credit.specs.Directions.{direction_of}
-use Rattle.inter_credit.specs.Rooms.{HaveRoom}
+use Rattle.inter_credit.specs.steps.Rooms.{HaveRoom}
 use Rattle.inter_credit.specs.States.{IsLine}
 use Rattle.inter_credit.proofs.spreads.use_legs.Given as goal
 
 abbrev pub invariant-loop-leg : goal.invariant-loop-leg
 invariant-loop-leg l = record {
-  so_far : l.lines ≡ lines_after (direction_of l.direction) l.n l.basis_points (take l.leg-index l.legs) l.fn.lines;
+  so_far : l.lines ≡ lines_after l.direction l.n l.basis_points (take l.leg-index l.legs) l.fn.lines;
   lines : All IsLine l.lines;
-  room : HaveRoom (direction_of l.direction) l.n (drop l.leg-index l.legs) l.lines;
+  room : HaveRoom l.direction l.n (drop l.leg-index l.legs) l.lines;
 }

@@ -1,14 +1,13 @@
 -- What the legs of a spread may still use.
 use Rattle.std.specs.Prelude.{◌≡◌, ℕ, ◌*◌, ◌<◌, ◌≤◌, ◌==◌, false, List, length, All}
 use Rattle.span_tables.specs.Names.{has_repeat}
-use Rattle.span_tables.specs.Sides.{market_side, part_on}
 use Rattle.span_tables.specs.declared.sides.Direction.{Direction}
 use Rattle.span_tables.specs.declared.records.CommodityLeg.{CommodityLeg}
-use Rattle.inter_credit.specs.Credits.{rest_at}
+use Rattle.inter_credit.specs.Credits.{leg_side}
 use Rattle.inter_credit.specs.declared.state.InterLine.{InterLine}
 
 -- the commodity of each leg has room for n spreads in a direction, and no two legs are of one commodity
 pub record HaveRoom (d : Direction) (n : ℕ) (legs : List CommodityLeg) (lines : List InterLine) : Type 0 where
   pub known : All (λ leg. leg.commodity < length lines) legs
-  pub room : All (λ leg. n * leg.ratio ≤ part_on (market_side d leg.side) (rest_at lines leg.commodity)) legs
+  pub room : All (λ leg. n * leg.ratio ≤ leg_side d leg lines) legs
   pub apart : has_repeat (λ a b. a.commodity == b.commodity) legs ≡ false
