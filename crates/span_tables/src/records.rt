@@ -236,7 +236,7 @@ impl Intra {
     pub fn legs(&self) -> &[MonthLeg]
         ensures { result.now ≡ self.now.legs }
     {
-        self.legs.as_slice()
+        &self.legs
     }
 
     /// Whether the tier of each leg may have a rest on the side of the market that the leg needs in a direction.
