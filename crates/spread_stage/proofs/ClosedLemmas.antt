@@ -136,10 +136,17 @@ both_ways_none : (t : TierRests) (s : Intra) → ((d : Direction) → spreads_fo
 unfolding spread_both_ways
 both_ways_none t s none = ap (spread_one_way s AShort) (one_way_none t s ALong (none ALong)) ∙ one_way_none t s AShort (none AShort)
 
+either : (P : Direction → Type 0) → P ALong → P AShort → (d : Direction) → P d
+either P a b ALong = a
+either P a b AShort = b
+
 -- a spread of which some leg has nothing to use, in either direction, changes nothing
 pub both_ways_closed : (t : TierRests) (s : Intra) (sides : OpenSides) → HaveSides sides t.rests
-    → ((d : Direction) → All (λ leg. IsTierMarked (numbers_on (market_side d leg.side) sides) leg) s.legs → false ≡ true) → spread_both_ways t s ≡ t
-both_ways_closed t s sides have closed = both_ways_none t s (λ d. formed_closed d sides t.rests have s.legs (closed d))
+    → (All (λ leg. IsTierMarked (numbers_on (market_side ALong leg.side) sides) leg) s.legs → false ≡ true)
+    → (All (λ leg. IsTierMarked (numbers_on (market_side AShort leg.side) sides) leg) s.legs → false ≡ true) → spread_both_ways t s ≡ t
+both_ways_closed t s sides have first second =
+    both_ways_none t s (λ d. formed_closed d sides t.rests have s.legs
+    (either (λ e. All (λ leg. IsTierMarked (numbers_on (market_side e leg.side) sides) leg) s.legs → false ≡ true) first second d))
 
 -- where no month is held, spreads change nothing
 pub after_spreads_of_nothing : (spreads : List Intra) → after_spreads spreads [] ≡ unspread []

@@ -19,3 +19,7 @@ pub returns-clause-have : goal.returns-clause-have
 returns-clause-have c =
     have_rests c.args.sides.now c.args.rests.now _
     (c.spread_where_open-second.ensures.shrinks _ (c.spread_where_open-first.ensures.shrinks _ (shrinks_none c.args.rests.now))) c.requires.have
+
+pub spread_where_open-second-requires-clause-have : goal.spread_where_open-second-requires-clause-have
+spread_where_open-second-requires-clause-have c =
+    have_rests c.args.sides.now c.args.rests.now _ (c.spread_where_open-first.ensures.shrinks _ (shrinks_none c.args.rests.now)) c.requires.have
