@@ -4,6 +4,7 @@ pub mod NetLaws
 pub mod OrderLaws
 pub mod SpreadLaws
 pub mod SlotLemmas
+pub mod TierLemmas
 mod LegSlots
 pub mod Places
 pub mod HeldLemmas

@@ -32,7 +32,7 @@ same_leg tiers commodity leg = rw (find_kept (λ (t : Tier). t.number == leg.tie
 same_spread : (tiers : List Tier) (s : IntraRecord) → intra_spread (filter (λ t. bytes_eq t.commodity s.commodity) tiers) s ≡ intra_spread tiers s
 same_spread tiers s =
     let legs = map_agree (month_leg (filter (λ t. bytes_eq t.commodity s.commodity) tiers) s.commodity) (month_leg tiers s.commodity) (same_leg tiers s.commodity) s.legs.items in
-    ap (λ (ms : List MonthLeg). (let r : Intra = record { rate = s.rate; legs = record { items = ms } } in r)) legs
+    ap (λ (ms : List MonthLeg). (let r : Intra = record { rate = s.rate; legs = ms } in r)) legs
 
 -- the tiers at the place of a spread's commodity serve as all do
 pub tiers_found : {V : Type 0} (items : V → List Tier) (cs : List Commodity) (tiers : List Tier) (lists : List V) (n : ℕ) (v : V) (s : IntraRecord)

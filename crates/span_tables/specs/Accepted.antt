@@ -38,10 +38,10 @@ pub record IsContract (x : Contract) : Type 0 where
 -- an intracommodity spread has 2 to 4 legs, and its rate and ratios lie in their ranges
 pub record IsIntra (s : Intra) : Type 0 where
   pub rate : s.rate ≤ MAX_RATE
-  pub at_least_two : 2 ≤ length s.legs.items
-  pub at_most_four : length s.legs.items ≤ 4
-  pub ratios_above : All (λ leg. 0 < leg.ratio) s.legs.items
-  pub ratios_below : All (λ leg. leg.ratio ≤ MAX_RATIO) s.legs.items
+  pub at_least_two : 2 ≤ length s.legs
+  pub at_most_four : length s.legs ≤ 4
+  pub ratios_above : All (λ leg. 0 < leg.ratio) s.legs
+  pub ratios_below : All (λ leg. leg.ratio ≤ MAX_RATIO) s.legs
 
 -- the rates of a spot month lie in their range
 pub record IsSpot (s : Spot) : Type 0 where

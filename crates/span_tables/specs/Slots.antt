@@ -1,8 +1,9 @@
 -- Sets of numbers in words of slots: a number is in the slot of its remainder.
-use Rattle.std.specs.Prelude.{◌≡◌, ℕ, ◌<◌, ◌%◌, ◌^◌, ◌==◌, Bool, ℤ, bit_and}
+use Rattle.std.specs.Prelude.{◌≡◌, ℕ, ◌+◌, ◌*◌, ◌/◌, ◌%◌, ◌^◌, ◌<◌, ◌≤◌, ◌==◌, min, Bool, not, ℤ, bit_and}
 use Rattle.std.specs.Int.{bit_at}
 use Rattle.std.specs.Int.RustNames.{bit_or}
 use Rattle.span_tables.specs.Sides.{part_on}
+use Rattle.span_tables.specs.declared.records.MonthLeg.{MonthLeg}
 use Rattle.span_tables.specs.declared.sides.MarketSide.{MarketSide}
 use Rattle.span_tables.specs.declared.sides.MarketSide.TheVariants.{Long, Short}
 use Rattle.span_tables.specs.declared.slots.OpenSides.{OpenSides}
@@ -20,6 +21,10 @@ with_slot word number = bit_or word (2 ^ (number % SLOTS))
 abbrev pub has_all : ℕ → ℕ → Bool
 has_all word other = bit_and word other == other
 
+-- some slot is marked in both words
+abbrev pub meets : ℕ → ℕ → Bool
+meets word other = not (bit_and word other == 0)
+
 -- the numbers that may have a rest on a side of the market
 abbrev pub numbers_on : MarketSide → OpenSides → ℕ
 numbers_on Long sides = sides.long
@@ -28,3 +33,14 @@ numbers_on Short sides = sides.short
 -- the number of a rest may have it on the side of the market that it is on
 abbrev pub IsOpenAt : OpenSides → ℕ → ℤ → Type 0
 IsOpenAt sides number rest = (on : MarketSide) → 0 < part_on on rest → IsMarked (numbers_on on sides) number
+
+-- the place of a month (yyyymm) among all months; a number that is no month has the place of one before it
+abbrev pub month_count : ℕ → ℕ
+month_count month = month / 100 * 12 + min (month % 100) 12
+
+-- some month of the leg's tier is marked
+pub record IsTierMarked (word : ℕ) (leg : MonthLeg) : Type 0 where
+  pub month : ℕ
+  pub first : leg.first ≤ month
+  pub last : month ≤ leg.last
+  pub marked : IsMarked word (month_count month)

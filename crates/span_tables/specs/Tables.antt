@@ -65,7 +65,7 @@ month_leg tiers commodity leg =
 
 -- a spread with its tiers' months
 abbrev pub intra_spread : List Tier → IntraRecord → Intra
-intra_spread tiers s = record { rate = s.rate; legs = record { items = map (month_leg tiers s.commodity) s.legs.items } }
+intra_spread tiers s = record { rate = s.rate; legs = map (month_leg tiers s.commodity) s.legs.items }
 
 -- the intracommodity spreads of a commodity, by rising priority
 unfoldable pub intras_of : AcceptedTables → List ℕ → List Intra

@@ -18,3 +18,4 @@ mod spreads;
 pub mod tables;
 #[cfg(test)]
 mod tests;
+pub mod tiers;

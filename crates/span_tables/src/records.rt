@@ -5,6 +5,7 @@ ghost use Rattle.span_tables.specs.steps.Legs.{slots_on};
 use crate::name::Name;
 use crate::sides::{Direction, market_side};
 use crate::slots::{OpenSides, Slots};
+use crate::tiers::{may_form, months_of_legs};
 use arrayvec::ArrayVec;
 use span_money::amounts::{Delta, Ratio, Scale};
 use std::marker::Model;
@@ -192,11 +193,65 @@ pub struct MonthLeg {
     pub ratio: Ratio,
 }
 
-/// An accepted intracommodity spread, with its rate in minor units a spread.
+/// An accepted intracommodity spread: its rate in minor units a spread and its legs, with the months of each leg's tier.
 #[derive(Drop)]
 pub struct Intra {
-    pub rate: u32,
-    pub legs: ArrayVec<MonthLeg, 4>,
+    legs: ArrayVec<MonthLeg, 4>,
+    months: ArrayVec<Slots, 4>,
+    rate: u32,
+}
+
+impl Model for Intra {
+    ghost use Rattle.span_tables.specs.Spreads.{IntraSpread};
+    ghost use Rattle.span_tables.specs.steps.Tiers.{HaveMonths};
+
+    ghost Value = { IntraSpread };
+
+    ghost view = { λ s. record { rate = s.rate; legs = s.legs.items } };
+
+    ghost invariant = { λ s. HaveMonths s.months.items s.legs.items };
+}
+
+impl Intra {
+    ghost use Rattle.std.specs.Prelude.{◌≡◌, All, true};
+    ghost use Rattle.span_tables.specs.Sides.{market_side};
+    ghost use Rattle.span_tables.specs.Slots.{IsTierMarked, numbers_on};
+
+    /// A spread of this rate, in minor units a spread, and these legs.
+    pub fn new(rate: u32, legs: ArrayVec<MonthLeg, 4>) -> Intra
+        ensures { result ≡ record { rate = rate; legs = legs.items } }
+    {
+        let months = months_of_legs(&legs);
+        Intra { legs, months, rate }
+    }
+
+    /// The rate, in minor units a spread.
+    pub fn rate(&self) -> u32
+        ensures { result ≡ self.now.rate }
+    {
+        self.rate
+    }
+
+    /// The legs.
+    pub fn legs(&self) -> &[MonthLeg]
+        ensures { result.now ≡ self.now.legs }
+    {
+        &self.legs
+    }
+
+    /// Whether the tier of each leg may have a rest on the side of the market that the leg needs in a direction.
+    ///
+    /// `false` tells that one of them has none.
+    pub fn may_form(&self, direction: Direction, sides: &OpenSides) -> bool
+        ensures { All (λ leg. IsTierMarked (numbers_on (market_side direction leg.side) sides.now) leg) self.now.legs → result ≡ true }
+    {
+        may_form(
+            self.legs.as_slice(),
+            self.months.as_slice(),
+            direction,
+            sides,
+        )
+    }
 }
 
 /// A leg of an accepted intercommodity spread: its commodity's number from 0, a side and a ratio.

@@ -1,7 +1,8 @@
 //! Sets of numbers in a word each: of some numbers they tell that they are not in the set.
-ghost use Rattle.std.specs.Prelude.{◌≡◌, ℕ, ℤ};
-ghost use Rattle.span_tables.specs.Slots.{IsOpenAt, has_all, numbers_on, with_slot};
+ghost use Rattle.std.specs.Prelude.{◌≡◌, ◌^◌, ◌-◌, ℕ, ℤ};
+ghost use Rattle.span_tables.specs.Slots.{IsOpenAt, has_all, meets, numbers_on, with_slot};
 ghost use Rattle.span_tables.specs.declared.slots.OpenSides.{OpenSides};
+ghost use Rattle.span_tables.specs.declared.slots.TheConstants.{SLOTS};
 
 use crate::sides::MarketSide;
 use span_money::amounts::Units;
@@ -13,7 +14,7 @@ pub const SLOTS: usize = 64;
 /// A set of numbers, each number in the slot of its remainder by `SLOTS`.
 ///
 /// A number whose slot is not marked is not in the set. One whose slot is marked may be in it.
-#[derive(Clone, Copy, Debug, PartialEq, Eq)]
+#[derive(Clone, Copy, Debug, Default, PartialEq, Eq)]
 pub struct Slots {
     word: u64,
 }
@@ -36,6 +37,13 @@ impl Slots {
         Slots { word: 0 }
     }
 
+    /// A set that may have any number.
+    pub fn all() -> Slots
+        ensures { result ≡ 2 ^ SLOTS - 1 }
+    {
+        Slots { word: u64::MAX }
+    }
+
     /// The set with one more number.
     pub fn with(self, number: usize) -> Slots
         ensures { result ≡ with_slot self number }
@@ -50,6 +58,13 @@ impl Slots {
         ensures { result ≡ has_all self other }
     {
         self.word & other.word == other.word
+    }
+
+    /// Whether some slot is marked in this set and in another.
+    pub fn meets(self, other: Slots) -> bool
+        ensures { result ≡ meets self other }
+    {
+        self.word & other.word != 0
     }
 }
 

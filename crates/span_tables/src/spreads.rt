@@ -48,10 +48,7 @@ fn intra_of(tiers: &[Tier], spread: &IntraRecord) -> Intra
     for leg in spread.legs.as_slice() {
         legs.push(month_leg(tiers, &spread.commodity, leg));
     }
-    Intra {
-        rate: spread.rate,
-        legs,
-    }
+    Intra::new(spread.rate, legs)
 }
 
 // The spreads of each commodity in their order, each with its tiers' months.

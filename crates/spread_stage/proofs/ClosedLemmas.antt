@@ -1,13 +1,15 @@
 -- A spread of which a leg has nothing to use is not formed, and changes nothing.
-use Rattle.std.proofs.Common.{◌≡◌, ℕ, ◌+◌, ◌*◌, ◌/◌, min, Bool, true, false, cond, not, List, [], ◌∷◌, refl, sym, ap, ◌∙◌, arith, sum_by, fold}
-use Rattle.std.specs.Prelude.{ℤ, pos, negsuc, ◌==◌, ◌&&◌, ◌||◌, nat_abs}
-use Rattle.std.specs.List.{list_any}
+use Rattle.std.proofs.Common.{◌≡◌, ℕ, zero, suc, ◌+◌, ◌*◌, ◌/◌, ◌<◌, ◌≤◌, min, Bool, true, false, cond, List, [], ◌∷◌, ◌++◌, refl, sym, ap, ◌∙◌, subst, arith, sum_by, fold}
+use Rattle.std.specs.Prelude.{ℤ, pos, negsuc, All, ◌&&◌}
 use Rattle.std.specs.Int.{div_ceil}
 use Rattle.std.proofs.Math.Nat.{zero-div}
 use Rattle.std.proofs.lemmas.Bool.Decides.{nat_tests}
 use Rattle.std.proofs.lemmas.Int.{ints}
+use Rattle.std.proofs.lemmas.List.Elements.{All-head, All-tail, All-nil, All-cons}
 use Rattle.std.proofs.lemmas.List.Sums.{sum_by-cons}
 use Rattle.span_tables.specs.Sides.{market_side, part_on, spreads_formed}
+use Rattle.span_tables.specs.Slots.{IsOpenAt, IsTierMarked, month_count, numbers_on}
+use Rattle.span_tables.specs.declared.slots.OpenSides.{OpenSides}
 use Rattle.span_tables.specs.declared.sides.Direction.{Direction}
 use Rattle.span_tables.specs.declared.sides.Direction.TheVariants.{ALong, AShort}
 use Rattle.span_tables.specs.declared.sides.MarketSide.{MarketSide}
@@ -16,79 +18,142 @@ use Rattle.span_tables.specs.declared.records.Intra.{Intra}
 use Rattle.span_tables.specs.declared.records.MonthLeg.{MonthLeg}
 use Rattle.span_tables.specs.declared.records.Spot.{Spot}
 use Rattle.spread_stage.specs.Charges.{delivery_charge, spot_charge}
+use Rattle.spread_stage.specs.Months.{IsPartOf, Shrinks}
 use Rattle.spread_stage.specs.Spreads.{after_spreads, is_in_tier, rests_after, spread_both_ways, spread_one_way, TierRests, tier_rooms, tier_side, unspread}
-use Rattle.spread_stage.specs.Steps.{has_closed_leg, is_open}
+use Rattle.spread_stage.specs.steps.Sides.{HaveSides}
 use Rattle.spread_stage.specs.declared.months.MonthUnits.{MonthUnits}
 use Rattle.spread_stage.proofs.SpreadLemmas.{legs_none}
 use Rattle.spread_stage.proofs.UseLaws.{side-cons, weight}
 
-part_none : (on : MarketSide) (z : ℤ) → nat_abs z ≡ 0 → part_on on z ≡ 0
-part_none Long (pos n) e = omega (arith, ints, e)
-part_none Long (negsuc n) e = omega (arith, ints, e)
-part_none Short (pos n) e = omega (arith, ints, e)
-part_none Short (negsuc n) e = omega (arith, ints, e)
+-- ---- the sides of months
 
-weight_none : (on : MarketSide) (b : Bool) (z : ℤ) → (b && not (nat_abs z == 0)) ≡ false → cond b (part_on on z) 0 ≡ 0
-weight_none on true z e = let none : nat_abs z ≡ 0 = grind (arith, nat_tests, e) in part_none on z none
-weight_none on false z e = refl
+push_all : {X : Type 0} (P : X → Type 0) (xs : List X) (x : X) → All P xs → P x → All P (xs ++ x ∷ [])
+push_all P [] x all p = All-cons P x [] p (All-nil P)
+push_all P (y ∷ ys) x all p = All-cons P y (ys ++ x ∷ []) (All-head P y ys all) (push_all P ys x (All-tail P y ys all) p)
 
-none_of : (a b : Bool) → (a || b) ≡ false → (a ≡ false) × (b ≡ false)
-none_of true b e = cc
-none_of false b e = (refl, e)
+-- one more month
+pub have_more : (sides next : OpenSides) (months : List MonthUnits) (m : MonthUnits) → HaveSides sides months
+    → ((other : ℕ) (z : ℤ) → IsOpenAt sides other z → IsOpenAt next other z) → IsOpenAt next (month_count m.month) m.units → HaveSides next (months ++ m ∷ [])
+have_more sides next months m have kept added =
+    push_all (λ (x : MonthUnits). IsOpenAt next (month_count x.month) x.units) months m (λ k x lt. kept _ _ (have k x lt)) added
 
--- a tier that is used up has nothing on either side
-closed_side : (on : MarketSide) (leg : MonthLeg) (rests : List MonthUnits) → list_any (is_open leg) rests ≡ false → tier_side rests on leg ≡ 0
+part_less : (on : MarketSide) (a b : ℤ) → IsPartOf a b → part_on on b ≤ part_on on a
+part_less Long (pos n) (pos k) h = h
+part_less Long (pos n) (negsuc k) h = absurd h
+part_less Long (negsuc n) (pos k) h = omega (arith, h)
+part_less Long (negsuc n) (negsuc k) h = omega arith
+part_less Short (pos n) (pos k) h = omega arith
+part_less Short (pos n) (negsuc k) h = absurd h
+part_less Short (negsuc n) (pos k) h = omega arith
+part_less Short (negsuc n) (negsuc k) h = omega (arith, h)
+
+-- what spreads left of months is on the sides of the months
+pub have_rests : (sides : OpenSides) (months rests : List MonthUnits) → Shrinks months rests → HaveSides sides months → HaveSides sides rests
+have_rests sides [] [] h have = have
+have_rests sides [] (r ∷ rests) h have = absurd h
+have_rests sides (m ∷ months) [] h have = absurd h
+have_rests sides (m ∷ months) (r ∷ rests) h have =
+    let P : MonthUnits → Type 0 = λ (x : MonthUnits). IsOpenAt sides (month_count x.month) x.units in
+    let here : IsOpenAt sides (month_count m.month) m.units = All-head P m months have in
+    let less : (on : MarketSide) → part_on on r.units ≤ part_on on m.units = λ on. part_less on m.units r.units (h.1).0 in
+    let there : IsOpenAt sides (month_count m.month) r.units = λ on above. here on (omega (arith, less on, above)) in
+    All-cons P r rests (subst (λ (k : ℕ). IsOpenAt sides (month_count k) r.units) (sym h.0) there) (have_rests sides months rests (h.1).1 (All-tail P m months have))
+
+-- ---- a leg that has something to use
+
+month_marked : (on : MarketSide) (sides : OpenSides) (leg : MonthLeg) (m : MonthUnits) (b : Bool) → is_in_tier leg m ≡ b → IsOpenAt sides (month_count m.month) m.units
+    → 0 < cond b (part_on on m.units) 0 → IsTierMarked (numbers_on on sides) leg
+month_marked on sides leg m true e seen above = record {
+  month = m.month;
+  first = grind (arith, nat_tests, e);
+  last = grind (arith, nat_tests, e);
+  marked = seen on above;
+}
+month_marked on sides leg m false e seen above = absurd (omega (arith, above))
+
+tier_by : (on : MarketSide) (sides : OpenSides) (leg : MonthLeg) (m : MonthUnits) (here rest : ℕ) → (0 < here → IsTierMarked (numbers_on on sides) leg)
+    → (0 < rest → IsTierMarked (numbers_on on sides) leg) → 0 < here + rest → IsTierMarked (numbers_on on sides) leg
+tier_by on sides leg m zero rest first others above = others (omega (arith, above))
+tier_by on sides leg m (suc n) rest first others above = first (omega arith)
+
+-- a side with something on it has a month that is marked
+tier_marked : (on : MarketSide) (sides : OpenSides) (leg : MonthLeg) (rests : List MonthUnits) → HaveSides sides rests → 0 < tier_side rests on leg
+    → IsTierMarked (numbers_on on sides) leg
 unfolding weight
-closed_side on leg [] e = refl
-closed_side on leg (m ∷ ms) e =
-    let both = none_of (is_open leg m) (list_any (is_open leg) ms) e in
+tier_marked on sides leg [] have above = absurd (omega (arith, above))
+tier_marked on sides leg (m ∷ ms) have above =
+    let P : MonthUnits → Type 0 = λ (x : MonthUnits). IsOpenAt sides (month_count x.month) x.units in
     let all = side-cons on leg m ms in
-    let here = weight_none on (is_in_tier leg m) m.units both.0 in
-    let rest = closed_side on leg ms both.1 in
-    omega (arith, all, here, rest)
+    tier_by on sides leg m (cond (is_in_tier leg m) (part_on on m.units) 0) (tier_side ms on leg)
+    (month_marked on sides leg m (is_in_tier leg m) refl (All-head P m ms have))
+    (tier_marked on sides leg ms (All-tail P m ms have)) (omega (arith, all, above))
 
-module _ (d : Direction) (rests : List MonthUnits) where
-  no_room : (leg : MonthLeg) → list_any (is_open leg) rests ≡ false → tier_side rests (market_side d leg.side) leg / leg.ratio ≡ 0
-  no_room leg e = ap (λ n. n / leg.ratio) (closed_side (market_side d leg.side) leg rests e) ∙ zero-div leg.ratio
+side_above : (side ratio : ℕ) → 0 < side / ratio → 0 < side
+side_above zero ratio above = let none = zero-div ratio in absurd (omega (arith, none, above))
+side_above (suc n) ratio above = omega arith
 
-  by_first : (b : Bool) (leg : MonthLeg) (legs : List MonthLeg) → list_any (is_open leg) rests ≡ b → (not b || has_closed_leg rests legs) ≡ true
-      → (has_closed_leg rests legs ≡ true → spreads_formed (tier_rooms d legs rests) ≡ 0) → spreads_formed (tier_rooms d (leg ∷ legs) rests) ≡ 0
-  by_first true leg [] is e rest = cc
-  by_first true leg (x ∷ xs) is e rest = let none = rest e in omega (arith, none)
-  by_first false leg [] is e rest = no_room leg is
-  by_first false leg (x ∷ xs) is e rest = let none = no_room leg is in omega (arith, none)
+module _ (d : Direction) (sides : OpenSides) (rests : List MonthUnits) (have : HaveSides sides rests) where
+  IsOpen : MonthLeg → Type 0
+  IsOpen leg = IsTierMarked (numbers_on (market_side d leg.side) sides) leg
 
-  pub formed_closed : (legs : List MonthLeg) → has_closed_leg rests legs ≡ true → spreads_formed (tier_rooms d legs rests) ≡ 0
-  formed_closed [] e = refl
-  formed_closed (leg ∷ legs) e = by_first (list_any (is_open leg) rests) leg legs refl e (formed_closed legs)
+  leg_open : (leg : MonthLeg) → 0 < tier_side rests (market_side d leg.side) leg / leg.ratio → IsOpen leg
+  unfolding IsOpen
+  leg_open leg above = tier_marked (market_side d leg.side) sides leg rests have (side_above _ leg.ratio above)
+
+  -- where spreads are formed, each leg has a month that is marked
+  legs_open : (legs : List MonthLeg) → 0 < spreads_formed (tier_rooms d legs rests) → All IsOpen legs
+  legs_open [] above = absurd (omega (arith, above))
+  legs_open (leg ∷ []) above = All-cons IsOpen leg [] (leg_open leg above) (All-nil IsOpen)
+  legs_open (leg ∷ x ∷ xs) above =
+      All-cons IsOpen leg (x ∷ xs) (leg_open leg (omega (arith, above))) (legs_open (x ∷ xs) (omega (arith, above)))
+
+  by_count : (legs : List MonthLeg) (n : ℕ) → spreads_formed (tier_rooms d legs rests) ≡ n → (All (λ leg. IsTierMarked (numbers_on (market_side d leg.side) sides) leg) legs → false ≡ true)
+      → spreads_formed (tier_rooms d legs rests) ≡ 0
+  unfolding IsOpen
+  by_count legs zero e closed = e
+  by_count legs (suc n) e closed = let never : false ≡ true = closed (legs_open legs (omega (arith, e))) in cc
+
+  -- so where some leg has none, no spread is formed
+  pub formed_closed : (legs : List MonthLeg) → (All (λ leg. IsTierMarked (numbers_on (market_side d leg.side) sides) leg) legs → false ≡ true)
+      → spreads_formed (tier_rooms d legs rests) ≡ 0
+  formed_closed legs closed = by_count legs (spreads_formed (tier_rooms d legs rests)) refl closed
+
+-- ---- a spread that is not formed
 
 formed_of_nothing : (d : Direction) (legs : List MonthLeg) → spreads_formed (tier_rooms d legs []) ≡ 0
 formed_of_nothing d [] = refl
-formed_of_nothing d (leg ∷ legs) = formed_closed d [] (leg ∷ legs) refl
+formed_of_nothing d (leg ∷ []) = zero-div leg.ratio
+formed_of_nothing d (leg ∷ x ∷ xs) = let none = zero-div leg.ratio in omega (arith, none)
 
-one_way_none : (t : TierRests) (s : Intra) (d : Direction) → spreads_formed (tier_rooms d s.legs.items t.rests) ≡ 0 → spread_one_way s d t ≡ t
+one_way_none : (t : TierRests) (s : Intra) (d : Direction) → spreads_formed (tier_rooms d s.legs t.rests) ≡ 0 → spread_one_way s d t ≡ t
 one_way_none t s d e =
-    let n = spreads_formed (tier_rooms d s.legs.items t.rests) in
+    let n = spreads_formed (tier_rooms d s.legs t.rests) in
     let free : t.charge + n * s.rate ≡ t.charge = ap (λ k. t.charge + k * s.rate) e ∙ omega arith in
-    ap (λ (rs : List MonthUnits). let u : TierRests = record { rests = rs; charge = t.charge + n * s.rate } in u) (legs_none d n s.legs.items t.rests e)
+    ap (λ (rs : List MonthUnits). let u : TierRests = record { rests = rs; charge = t.charge + n * s.rate } in u) (legs_none d n s.legs t.rests e)
     ∙ ap (λ (c : ℕ). let u : TierRests = record { rests = t.rests; charge = c } in u) free
 
-both_ways_none : (t : TierRests) (s : Intra) → ((d : Direction) → spreads_formed (tier_rooms d s.legs.items t.rests) ≡ 0) → spread_both_ways t s ≡ t
+both_ways_none : (t : TierRests) (s : Intra) → ((d : Direction) → spreads_formed (tier_rooms d s.legs t.rests) ≡ 0) → spread_both_ways t s ≡ t
 unfolding spread_both_ways
 both_ways_none t s none = ap (spread_one_way s AShort) (one_way_none t s ALong (none ALong)) ∙ one_way_none t s AShort (none AShort)
 
--- a spread with a leg whose tier is used up changes nothing
-pub both_ways_closed : (t : TierRests) (s : Intra) (legs : List MonthLeg) (rests : List MonthUnits) → legs ≡ s.legs.items → rests ≡ t.rests → has_closed_leg rests legs ≡ true → spread_both_ways t s ≡ t
-both_ways_closed t s legs rests same kept e =
-    let closed : has_closed_leg t.rests s.legs.items ≡ true = cc in
-    both_ways_none t s (λ d. formed_closed d t.rests s.legs.items closed)
+either : (P : Direction → Type 0) → P ALong → P AShort → (d : Direction) → P d
+either P a b ALong = a
+either P a b AShort = b
+
+-- a spread of which some leg has nothing to use, in either direction, changes nothing
+pub both_ways_closed : (t : TierRests) (s : Intra) (sides : OpenSides) → HaveSides sides t.rests
+    → (All (λ leg. IsTierMarked (numbers_on (market_side ALong leg.side) sides) leg) s.legs → false ≡ true)
+    → (All (λ leg. IsTierMarked (numbers_on (market_side AShort leg.side) sides) leg) s.legs → false ≡ true) → spread_both_ways t s ≡ t
+both_ways_closed t s sides have first second =
+    both_ways_none t s (λ d. formed_closed d sides t.rests have s.legs
+    (either (λ e. All (λ leg. IsTierMarked (numbers_on (market_side e leg.side) sides) leg) s.legs → false ≡ true) first second d))
 
 -- where no month is held, spreads change nothing
 pub after_spreads_of_nothing : (spreads : List Intra) → after_spreads spreads [] ≡ unspread []
 unfolding after_spreads
 after_spreads_of_nothing [] = refl
 after_spreads_of_nothing (s ∷ spreads) =
-    ap (λ (t : TierRests). fold spread_both_ways t spreads) (both_ways_none (unspread []) s (λ d. formed_of_nothing d s.legs.items)) ∙ after_spreads_of_nothing spreads
+    ap (λ (t : TierRests). fold spread_both_ways t spreads) (both_ways_none (unspread []) s (λ d. formed_of_nothing d s.legs)) ∙ after_spreads_of_nothing spreads
 
 spots_of_nothing : (spots : List Spot) → sum_by (spot_charge [] []) spots ≡ 0
 spots_of_nothing [] = refl

@@ -72,8 +72,8 @@ both_shrink : (deltas : List MonthUnits) (t : TierRests) (s : Intra) → Shrinks
 unfolding spread_both_ways
 both_shrink deltas t s h =
     let once = spread_one_way s ALong t in
-    legs_shrink AShort (spreads_formed (tier_rooms AShort s.legs.items once.rests)) deltas s.legs.items once.rests
-    (legs_shrink ALong (spreads_formed (tier_rooms ALong s.legs.items t.rests)) deltas s.legs.items t.rests h)
+    legs_shrink AShort (spreads_formed (tier_rooms AShort s.legs once.rests)) deltas s.legs once.rests
+    (legs_shrink ALong (spreads_formed (tier_rooms ALong s.legs t.rests)) deltas s.legs t.rests h)
 
 all_shrink : (deltas : List MonthUnits) (spreads : List Intra) (t : TierRests) → Shrinks deltas t.rests → Shrinks deltas (fold spread_both_ways t spreads).rests
 all_shrink deltas [] t h = h

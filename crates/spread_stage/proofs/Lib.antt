@@ -10,4 +10,4 @@ pub mod SizeLemmas
 pub mod SpreadLemmas
 pub mod FallLemmas
 pub mod ClosedLemmas
-pub mod SlotLemmas
+pub mod ApartLaws

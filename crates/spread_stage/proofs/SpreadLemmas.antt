@@ -24,7 +24,7 @@ within_if true part x = omega arith
 within_if false part x = omega arith
 
 -- a leg uses no more of a month than its part
-within : (rests : List MonthUnits) (on : MarketSide) (leg : MonthLeg) (needed : ℕ) (m : MonthUnits) → used_of_month rests on leg needed m ≤ part_on on m.units
+pub within : (rests : List MonthUnits) (on : MarketSide) (leg : MonthLeg) (needed : ℕ) (m : MonthUnits) → used_of_month rests on leg needed m ≤ part_on on m.units
 within rests on leg needed m = within_if (is_in_tier leg m) (part_on on m.units) (needed - side_before rests on leg m.month)
 
 -- ---- after one leg
@@ -46,7 +46,7 @@ module _ (on : MarketSide) (needed : ℕ) (rests : List MonthUnits) (leg : Month
   leg_falls : MonthsRise rests → needed ≤ tier_side rests on leg → total_size (rests_after_leg on needed rests leg) + needed ≡ total_size rests
   leg_falls rise enough = let e = leg_size in let all = used_total on leg rests needed rise enough in omega (arith, e, all)
 
-none_used : (on : MarketSide) (z : ℤ) (u : ℕ) → u ≡ 0 → less_used on z u ≡ z
+pub none_used : (on : MarketSide) (z : ℤ) (u : ℕ) → u ≡ 0 → less_used on z u ≡ z
 none_used Long z u e = omega (arith, ints, e)
 none_used Short z u e = omega (arith, ints, e)
 
@@ -135,7 +135,7 @@ module _ (d : Direction) where
       first_falls d (spreads_formed (tier_rooms d (leg ∷ legs) rests)) leg legs rests rise (above 0 leg (omega arith)) fits.0
 
 -- both directions, one after the other
-pub both_ways : (t : TierRests) (s : Intra) (legs : List MonthLeg) (none first second : List MonthUnits) (n k charge : ℕ) → legs ≡ s.legs.items → none ≡ t.rests
+pub both_ways : (t : TierRests) (s : Intra) (legs : List MonthLeg) (none first second : List MonthUnits) (n k charge : ℕ) → legs ≡ s.legs → none ≡ t.rests
     → n ≡ spreads_formed (tier_rooms ALong legs none) → first ≡ rests_after ALong n legs none
     → k ≡ spreads_formed (tier_rooms AShort legs first) → second ≡ rests_after AShort k legs first
     → charge ≡ t.charge + n * s.rate + k * s.rate → record { rests = second; charge = charge } ≡ spread_both_ways t s

@@ -2,6 +2,6 @@ pub mod Deltas
 pub mod Spreads
 pub mod Charges
 pub mod Months
-pub mod Steps
+pub mod Laws
 pub mod Samples
-pub mod Slots
+pub mod steps

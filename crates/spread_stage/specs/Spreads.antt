@@ -48,8 +48,8 @@ pub record TierRests : Type 0 where
 -- a spread in one direction
 abbrev pub spread_one_way : Intra → Direction → TierRests → TierRests
 spread_one_way s d t =
-    let n = spreads_formed (tier_rooms d s.legs.items t.rests) in
-    record { rests = rests_after d n s.legs.items t.rests; charge = t.charge + n * s.rate }
+    let n = spreads_formed (tier_rooms d s.legs t.rests) in
+    record { rests = rests_after d n s.legs t.rests; charge = t.charge + n * s.rate }
 
 -- a spread in both directions, with A long first
 unfoldable pub spread_both_ways : TierRests → Intra → TierRests

@@ -10,13 +10,18 @@ use crate::months::{MonthUnits, Months};
 use crate::tiers::TierState;
 use span_money::amounts::{Money, Units};
 use span_money::division::ceil_div;
+use span_tables::limits::{MAX_RATE, MAX_SPOT_MONTHS, MAX_UNITS};
 use span_tables::records::Spot;
 
-/// The largest intracommodity charge, in minor units.
-pub const MAX_INTRA_CHARGE: u128 = 256_000_000_000_000_000_000;
+/// The largest intracommodity charge, in minor units: as many spreads as there are units, each at the largest rate.
+pub const MAX_INTRA_CHARGE: u128 = MAX_UNITS as u128 * MAX_RATE as u128 / 10_000;
 
-/// The largest delivery charge, in minor units.
-pub const MAX_DELIVERY_CHARGE: u128 = 819_200_000_000_000_000;
+/// The largest delivery charge, in minor units: all units in each spot month, used and left, at the largest rate.
+pub const MAX_DELIVERY_CHARGE: u128 = 2
+    * MAX_UNITS as u128
+    * MAX_RATE as u128
+    * MAX_SPOT_MONTHS as u128
+    / 100_000_000;
 
 /// The intracommodity charge of the spreads formed, in minor units, rounded up once.
 #[tactic(auto, unfolding(crate::specs::Charges::intra_charge))]
@@ -74,8 +79,12 @@ fn spot_charge(months: &[MonthUnits], rests: &[MonthUnits], spot: &Spot) -> u128
     ensures value { result ≡ spot_charge months.now rests.now spot.now }
     ensures bound { result ≤ 2 * (MAX_UNITS * MAX_RATE) }
 {
+    let whole = size_at(months, spot.month);
+    if whole == 0 {
+        return 0;
+    }
     let left = size_at(rests, spot.month);
-    let used = size_at(months, spot.month) - left;
+    let used = whole - left;
     at_rate(used, spot.spread_rate) + at_rate(left, spot.outright_rate)
 }
 

@@ -4,7 +4,7 @@ ghost use Rattle.span_tables.specs.Accepted.{IsContract};
 ghost use Rattle.span_tables.specs.declared.limits.TheConstants.{MAX_DELTA, MAX_NET, MAX_SCALE, MAX_UNITS};
 ghost use Rattle.spread_stage.specs.Deltas.{month_deltas, units_of};
 ghost use Rattle.spread_stage.specs.Months.{total_size};
-ghost use Rattle.spread_stage.specs.Steps.{with_units};
+ghost use Rattle.spread_stage.specs.steps.Uses.{with_units};
 
 use crate::months::{MonthUnits, Months};
 use span_money::amounts::Units;
@@ -61,7 +61,7 @@ fn add(months: &mut Vec<MonthUnits>, month: u32, units: i64) -> Result<(), Alloc
 pub fn month_deltas(alloc: Global, held: &Held) -> Result<Months, AllocError>
     ensures { IfOk result (λ months. months ≡ month_deltas held.now) }
 {
-    let mut months = Vec::new(alloc);
+    let mut months = Vec::with_capacity(alloc, held.len())?;
     for i in (0..held.len()).rev() {
         let contract = held.contract(i);
         add(&mut months, contract.month, units_of(contract, held.net(i)))?;

@@ -1,16 +1,19 @@
 //! Laws of the definitions, in the methodology's words: each is the contract of a function that does nothing.
 ghost use Rattle.std.specs.Prelude.{◌≡◌, ℕ, ◌+◌, ◌*◌, ◌^◌, ◌≤◌, List, ◌∷◌, ◌++◌, sum_by};
+ghost use Rattle.std.specs.List.{AllByRecursion};
 ghost use Rattle.span_money.specs.Numbers.{int_sum_by};
-ghost use Rattle.span_tables.specs.Sides.{MarketSide};
+ghost use Rattle.span_tables.specs.Sides.{market_side};
 ghost use Rattle.span_tables.specs.Net.{HeldContract};
 ghost use Rattle.span_tables.specs.declared.records.Intra.{Intra};
 ghost use Rattle.span_tables.specs.declared.records.MonthLeg.{MonthLeg};
 ghost use Rattle.span_tables.specs.declared.records.Spot.{Spot};
+ghost use Rattle.span_tables.specs.declared.sides.Direction.{Direction};
 ghost use Rattle.span_tables.specs.declared.sides.MarketSide.{MarketSide};
 ghost use Rattle.spread_stage.specs.Charges.{delivery_charge, intra_charge, spot_charge};
 ghost use Rattle.spread_stage.specs.Deltas.{month_deltas, net_delta, units_of};
+ghost use Rattle.spread_stage.specs.Laws.{DrawApart};
 ghost use Rattle.spread_stage.specs.Months.{MonthsRise, Shrinks};
-ghost use Rattle.spread_stage.specs.Spreads.{after_spreads, rests_after_leg, side_before, tier_side, used_of_month};
+ghost use Rattle.spread_stage.specs.Spreads.{after_spreads, rests_after, rests_after_leg, side_before, tier_side, used_of_month};
 ghost use Rattle.spread_stage.specs.declared.months.MonthUnits.{MonthUnits};
 
 /// The held months rise, and their deltas add up to the sum over all held contracts.
@@ -39,6 +42,16 @@ pub fn side_falls_by_what_was_used()
     ensures { (on : MarketSide) (leg : MonthLeg) (rests : List MonthUnits) (needed : ℕ)
         → MonthsRise rests → needed ≤ tier_side rests on leg
         → tier_side (rests_after_leg on needed rests leg) on leg + needed ≡ tier_side rests on leg }
+{}
+
+/// Spreads take of each leg's side just their number times the leg's ratio, where no two legs draw on the same rest and
+/// each side has that much.
+pub fn each_leg_uses_its_part()
+    ensures { (d : Direction) (n : ℕ) (legs : List MonthLeg) (rests : List MonthUnits)
+        → MonthsRise rests → DrawApart legs
+        → AllByRecursion (λ leg. n * leg.ratio ≤ tier_side rests (market_side d leg.side) leg) legs
+        → AllByRecursion (λ leg. tier_side (rests_after d n legs rests) (market_side d leg.side) leg + n * leg.ratio
+        ≡ tier_side rests (market_side d leg.side) leg) legs }
 {}
 
 /// Spreads keep the months, and no rest grows in size or changes its sign.

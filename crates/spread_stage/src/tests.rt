@@ -81,10 +81,7 @@ fn intra(rt: &impl Abort, rate: u32, legs: &[MonthLeg]) -> Intra
     assert!(rt; legs.len() >= 2 && legs.len() <= 4);
     assert!(rt; are_above(legs));
     assert!(rt; are_within(legs));
-    Intra {
-        rate,
-        legs: ArrayVec::try_from(legs).expect(rt, "few legs"),
-    }
+    Intra::new(rate, ArrayVec::try_from(legs).expect(rt, "few legs"))
 }
 
 fn spot(rt: &impl Abort, month: u32, spread_rate: u32, outright_rate: u32) -> Spot

@@ -1,19 +1,20 @@
 //! The rests of months after intracommodity spreads, and the exact charge of the spreads.
-ghost use Rattle.std.specs.Prelude.{◌≡◌, ℕ, ◌+◌, ◌*◌, ◌<◌, ◌≤◌, List, [], ◌∷◌, length, All, IfOk};
+ghost use Rattle.std.specs.Prelude.{◌≡◌, false, ℕ, ◌+◌, ◌*◌, ◌<◌, ◌≤◌, List, [], ◌∷◌, length, All, IfOk};
 ghost use Rattle.span_tables.specs.Accepted.{IsIntra};
 ghost use Rattle.span_tables.specs.Sides.{spreads_formed};
 ghost use Rattle.span_tables.specs.declared.limits.TheConstants.{MAX_RATE, MAX_UNITS};
 ghost use Rattle.spread_stage.specs.Months.{AreMonths, AreTierRests, MonthsRise, Shrinks, total_size};
-ghost use Rattle.spread_stage.specs.Slots.{HaveSlots};
 ghost use Rattle.spread_stage.specs.Spreads.{is_in_tier, rests_after, rests_after_leg, spread_both_ways, tier_rooms, tier_side, unspread};
-ghost use Rattle.spread_stage.specs.Steps.{used_now};
+ghost use Rattle.spread_stage.specs.steps.Sides.{HaveSides};
+ghost use Rattle.spread_stage.specs.steps.Uses.{used_now};
 ghost use Rattle.spread_stage.specs.declared.months.MonthUnits.{MonthUnits};
 
 use crate::months::{MonthUnits, Months};
-use crate::slots::{has_clear_leg, slots_of};
+use crate::slots::open_sides;
 use span_money::division::greatest_fit;
 use span_tables::records::{Intra, MonthLeg};
 use span_tables::sides::{Direction, MarketSide, less_used, market_side, part_on};
+use span_tables::slots::OpenSides;
 use std::alloc::{AllocError, Global};
 use std::marker::Model;
 
@@ -24,18 +25,18 @@ use std::marker::Model;
 pub struct TierState {
     rests: Vec<MonthUnits>,
     charge: u128,
-    slots: [bool; 64],
+    sides: OpenSides,
 }
 
 impl Model for TierState {
-    ghost use Rattle.spread_stage.specs.Slots.{AreTiers};
     ghost use Rattle.spread_stage.specs.Spreads.{TierRests};
+    ghost use Rattle.spread_stage.specs.steps.Sides.{AreTiers};
 
     ghost Value = { TierRests };
 
     ghost view = { λ t. record { rests = t.rests.items; charge = t.charge } };
 
-    ghost invariant = { λ t. AreTiers (record { rests = t.rests.items; charge = t.charge }) t.slots };
+    ghost invariant = { λ t. AreTiers (record { rests = t.rests.items; charge = t.charge }) t.sides };
 }
 
 impl TierState {
@@ -63,8 +64,16 @@ impl TierState {
         Ok(TierState {
             rests,
             charge: self.charge,
-            slots: self.slots,
+            sides: self.sides,
         })
+    }
+
+    /// Whether a spread may be formed. `false` tells that it changes nothing.
+    pub fn may_spread(&self, intra: &Intra) -> bool
+        ensures { result ≡ false → spread_both_ways self.now intra.now ≡ self.now }
+    {
+        intra.may_form(Direction::ALong, &self.sides)
+            || intra.may_form(Direction::AShort, &self.sides)
     }
 
     /// Forms one more spread in both directions, with side A long first.
@@ -73,7 +82,9 @@ impl TierState {
         ensures value { self.new ≡ spread_both_ways self.old intra.now }
         ensures shrinks { (months : List MonthUnits) → Shrinks months self.old.rests → Shrinks months self.new.rests }
     {
-        self.charge += spread_rests(&mut self.rests, &self.slots, intra);
+        if self.may_spread(intra) {
+            self.charge += spread_rests(&mut self.rests, &self.sides, intra);
+        }
     }
 }
 
@@ -187,6 +198,29 @@ fn spread_one_way(rests: &mut [MonthUnits], direction: Direction, legs: &[MonthL
     formed
 }
 
+// The same, where each leg may have something to use on its side.
+fn spread_where_open(
+    rests: &mut [MonthUnits],
+    sides: &OpenSides,
+    direction: Direction,
+    intra: &Intra,
+) -> u64
+    requires have { HaveSides sides.now rests.old }
+    requires intra { IsIntra intra.now }
+    requires rise { MonthsRise rests.old }
+    requires small { total_size rests.old ≤ MAX_UNITS }
+    ensures formed { result ≡ spreads_formed (tier_rooms direction intra.now.legs rests.old) }
+    ensures rests { rests.new ≡ rests_after direction result intra.now.legs rests.old }
+    ensures rise { MonthsRise rests.new }
+    ensures less { result + total_size rests.new ≤ total_size rests.old }
+    ensures shrinks { (months : List MonthUnits) → Shrinks months rests.old → Shrinks months rests.new }
+{
+    if !intra.may_form(direction, sides) {
+        return 0;
+    }
+    spread_one_way(rests, direction, intra.legs())
+}
+
 // The charge of so many spreads, in 10^-4 minor units.
 fn charge_of(formed: u64, rate: u32) -> u128
     requires formed { formed ≤ MAX_UNITS }
@@ -203,34 +237,30 @@ pub fn start(alloc: Global, months: &Months) -> Result<TierState, AllocError>
     ensures shrinks { IfOk result (λ tiers. Shrinks months.now tiers.rests) }
 {
     let rests = Vec::from_slice(alloc, months.as_slice())?;
-    let slots = slots_of(&rests);
+    let sides = open_sides(&rests);
     Ok(TierState {
         rests,
         charge: 0,
-        slots,
+        sides,
     })
 }
 
 // Forms a spread in both directions, with side A long first, and gives its charge, in 10^-4 minor units.
-fn spread_rests(rests: &mut [MonthUnits], slots: &[bool; 64], intra: &Intra) -> u128
-    requires have { HaveSlots slots.now rests.old }
+fn spread_rests(rests: &mut [MonthUnits], sides: &OpenSides, intra: &Intra) -> u128
+    requires have { HaveSides sides.now rests.old }
     requires intra { IsIntra intra.now }
     requires rise { MonthsRise rests.old }
     requires small { total_size rests.old ≤ MAX_UNITS }
     ensures value { (charge : ℕ) → record { rests = rests.new; charge = charge + result }
         ≡ spread_both_ways (record { rests = rests.old; charge = charge }) intra.now }
     ensures rise { MonthsRise rests.new }
-    ensures have { HaveSlots slots.now rests.new }
+    ensures have { HaveSides sides.now rests.new }
     ensures bound { result + MAX_RATE * total_size rests.new ≤ MAX_RATE * total_size rests.old }
     ensures shrinks { (months : List MonthUnits) → Shrinks months rests.old → Shrinks months rests.new }
 {
-    let legs = intra.legs.as_slice();
-    if has_clear_leg(slots, legs) {
-        return 0;
-    }
-    let first = spread_one_way(rests, Direction::ALong, legs);
-    let second = spread_one_way(rests, Direction::AShort, legs);
-    charge_of(first, intra.rate) + charge_of(second, intra.rate)
+    let first = spread_where_open(rests, sides, Direction::ALong, intra);
+    let second = spread_where_open(rests, sides, Direction::AShort, intra);
+    charge_of(first, intra.rate()) + charge_of(second, intra.rate())
 }
 
 /// The state after one more spread, formed in both directions, with side A long first.

@@ -1,6 +1,5 @@
--- The steps of the code, in the words of the definitions.
-use Rattle.std.specs.Prelude.{ℕ, ◌-◌, ◌==◌, min, Bool, not, ◌&&◌, nat_lt, if◌then◌else◌, List, [], ◌∷◌, ℤ, ◌+ℤ◌, nat_abs}
-use Rattle.std.specs.List.{list_any}
+-- How months gather their units, and what a leg uses of them in turn.
+use Rattle.std.specs.Prelude.{ℕ, ◌-◌, ◌==◌, min, nat_lt, if◌then◌else◌, List, [], ◌∷◌, ℤ, ◌+ℤ◌}
 use Rattle.span_tables.specs.Sides.{part_on, less_used}
 use Rattle.span_tables.specs.declared.sides.MarketSide.{MarketSide}
 use Rattle.span_tables.specs.declared.records.MonthLeg.{MonthLeg}
@@ -25,11 +24,3 @@ used_in_turn on leg needed [] = []
 used_in_turn on leg needed (m ∷ ms) =
     record { month = m.month; units = less_used on m.units (used_now on leg needed m) }
     ∷ used_in_turn on leg (needed - used_now on leg needed m) ms
-
--- the month is one of the leg's tier, and has units
-abbrev pub is_open : MonthLeg → MonthUnits → Bool
-is_open leg m = is_in_tier leg m && not (nat_abs m.units == 0)
-
--- some leg's tier has no month with units
-abbrev pub has_closed_leg : List MonthUnits → List MonthLeg → Bool
-has_closed_leg rests legs = list_any (λ leg. not (list_any (is_open leg) rests)) legs

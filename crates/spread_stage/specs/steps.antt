@@ -1,0 +1,3 @@
+-- Forms near to the code, which only clauses of private functions and invariants cite.
+pub mod Sides
+pub mod Uses
