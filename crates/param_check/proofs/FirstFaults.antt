@@ -8,12 +8,12 @@ use Rattle.span_tables.specs.Rules.{first_breaking}
 use Rattle.span_tables.specs.declared.records.Record.{Record}
 
 -- the fault of one record, under a name
-abbrev pub named : {F : Type 0} → (ℕ → F) → (List Record → Record → Bool) → List Record → Record → Option (ℕ → F)
-named fault breaks earlier r = if breaks earlier r then Some fault else None
+abbrev pub rule_fault : {F : Type 0} → (ℕ → F) → (List Record → Record → Bool) → List Record → Record → Option (ℕ → F)
+rule_fault fault breaks earlier r = if breaks earlier r then Some fault else None
 
 -- the number of the first record from here on that breaks the rule, behind those that were read
 abbrev pub breaking_from : (List Record → Record → Bool) → List Record → ℕ → Option ℕ
-breaking_from breaks all i = first_fault_after (named (λ at. at) breaks) (take i all) (drop i all)
+breaking_from breaks all i = first_fault_after (rule_fault (λ at. at) breaks) (take i all) (drop i all)
 
 -- the answer, where the record at hand breaks the rule or not
 abbrev answer_by : Bool → ℕ → Option ℕ → Option ℕ
@@ -40,7 +40,7 @@ module _ (breaks : List Record → Record → Bool) (all : List Record) where
 
 -- rules that say the same of each record are broken first by the same
 pub same_from : {F : Type 0} (fault : ℕ → F) (these those : List Record → Record → Bool) → ((earlier : List Record) (r : Record) → these earlier r ≡ those earlier r)
-    → (before xs : List Record) → first_fault_after (named fault these) before xs ≡ first_fault_after (named fault those) before xs
+    → (before xs : List Record) → first_fault_after (rule_fault fault these) before xs ≡ first_fault_after (rule_fault fault those) before xs
 same_from fault these those same before [] = refl
 same_from fault these those same before (x ∷ xs) = rw (same before x) (rw (same_from fault these those same (before ++ x ∷ []) xs) refl)
 
@@ -55,10 +55,10 @@ under fault false n found = refl
 
 -- under a name, the fault is the name at the number
 pub fault_from : {F : Type 0} (fault : ℕ → F) (breaks : List Record → Record → Bool) (before xs : List Record)
-    → first_fault_after (named fault breaks) before xs ≡ option_map fault (first_fault_after (named (λ at. at) breaks) before xs)
+    → first_fault_after (rule_fault fault breaks) before xs ≡ option_map fault (first_fault_after (rule_fault (λ at. at) breaks) before xs)
 fault_from fault breaks before [] = refl
 fault_from fault breaks before (x ∷ xs) =
-    rw (fault_from fault breaks (before ++ x ∷ []) xs) (under fault (breaks before x) (length before + 1) (first_fault_after (named (λ at. at) breaks) (before ++ x ∷ []) xs))
+    rw (fault_from fault breaks (before ++ x ∷ []) xs) (under fault (breaks before x) (length before + 1) (first_fault_after (rule_fault (λ at. at) breaks) (before ++ x ∷ []) xs))
 
 pub first_breaking-named : {F : Type 0} (fault : ℕ → F) (breaks : List Record → Record → Bool) (all : List Record)
     → first_breaking fault breaks all ≡ option_map fault (first_breaking (λ at. at) breaks all)

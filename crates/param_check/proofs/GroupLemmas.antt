@@ -7,7 +7,7 @@ use Rattle.span_tables.specs.Tables.{tables_of}
 use Rattle.span_tables.specs.Rules.{first_breaking, repeats_commodity, names_no_commodity, repeats_contract, repeats_tier, is_backwards, overlaps_tier, names_no_tier, repeats_leg, is_one_sided, repeats_priority, repeats_spot}
 use Rattle.span_tables.specs.declared.records.Record.{Record}
 use Rattle.param_check.specs.CheckFaults.{check_fault, checked, is_memory}
-use Rattle.param_check.specs.steps.Groups.{broken, name_fault, tier_fault, spread_fault}
+use Rattle.param_check.specs.steps.Groups.{rule_outcome, name_fault, tier_fault, spread_fault}
 use Rattle.param_check.specs.declared.faults.CheckFault.{CheckFault}
 use Rattle.param_check.specs.declared.faults.CheckFault.TheVariants as fault
 use Rattle.param_check.proofs.FirstFaults.{first_breaking-named}
@@ -29,8 +29,8 @@ grouped None None None None None None (Some x) h i j k = refl
 grouped None None None None None None None h i j k = refl
 
 one : (name : ℕ → CheckFault) (breaks : List Record → Record → Bool) (all : List Record) {x y : Option CheckFault} → x ≡ y
-    → option_or (first_breaking name breaks all) x ≡ option_or (broken name breaks all) y
-one name breaks all {x = x} e = ap (λ o. option_or o x) (first_breaking-named name breaks all) ∙ or_more (broken name breaks all) e
+    → option_or (first_breaking name breaks all) x ≡ option_or (rule_outcome name breaks all) y
+one name breaks all {x = x} e = ap (λ o. option_or o x) (first_breaking-named name breaks all) ∙ or_more (rule_outcome name breaks all) e
 
 pub check_fault_in_groups : (all : List Record) → check_fault all ≡ option_or (name_fault all) (option_or (tier_fault all) (spread_fault all))
 unfolding check_fault name_fault tier_fault spread_fault
@@ -47,17 +47,17 @@ check_fault_in_groups all =
     (one fault.DuplicatePriority repeats_priority all
     (one fault.DuplicateSpot repeats_spot all refl)))))))))))
     ∙ grouped
-    (broken fault.DuplicateCommodity repeats_commodity all)
-    (broken fault.UnknownCommodity (λ earlier r. names_no_commodity all r) all)
-    (broken fault.DuplicateContract repeats_contract all)
-    (broken fault.DuplicateTier repeats_tier all)
-    (broken fault.TierBackwards (λ earlier r. is_backwards r) all)
-    (broken fault.TierOverlap overlaps_tier all)
-    (broken fault.UnknownTier (λ earlier r. names_no_tier all r) all)
-    (broken fault.RepeatedLeg (λ earlier r. repeats_leg r) all)
-    (broken fault.OneSided (λ earlier r. is_one_sided r) all)
-    (broken fault.DuplicatePriority repeats_priority all)
-    (broken fault.DuplicateSpot repeats_spot all)
+    (rule_outcome fault.DuplicateCommodity repeats_commodity all)
+    (rule_outcome fault.UnknownCommodity (λ earlier r. names_no_commodity all r) all)
+    (rule_outcome fault.DuplicateContract repeats_contract all)
+    (rule_outcome fault.DuplicateTier repeats_tier all)
+    (rule_outcome fault.TierBackwards (λ earlier r. is_backwards r) all)
+    (rule_outcome fault.TierOverlap overlaps_tier all)
+    (rule_outcome fault.UnknownTier (λ earlier r. names_no_tier all r) all)
+    (rule_outcome fault.RepeatedLeg (λ earlier r. repeats_leg r) all)
+    (rule_outcome fault.OneSided (λ earlier r. is_one_sided r) all)
+    (rule_outcome fault.DuplicatePriority repeats_priority all)
+    (rule_outcome fault.DuplicateSpot repeats_spot all)
 
 unless : (b : Bool) {P : Type 0} → P → MatchBool b ⊤ P
 unless true p = tt

@@ -16,42 +16,42 @@ use Rattle.param_check.specs.Binding.{first_unfit, bound}
 use Rattle.param_check.specs.Holdings.{ids_of, is_over, is_over_at, over_at, net_exceeds, are_many, many_at, held_exceeds, net_fault, held_fault, paired, settled}
 use Rattle.param_check.specs.Ledger.{IsLedger}
 use Rattle.param_check.specs.Nets.{entry_holdings}
-use Rattle.param_check.specs.steps.Sums.{kept, kept_net, kept_holdings}
+use Rattle.param_check.specs.steps.Sums.{kept_holding, kept_net, kept_holdings}
 use Rattle.param_check.specs.declared.faults.BindFault.{BindFault}
 use Rattle.param_check.specs.declared.faults.BindFault.TheVariants as fault
 use Rattle.param_check.specs.declared.nets.Entry.{Entry}
 use Rattle.param_check.proofs.BindLaws.{bound_settled, nets_hold}
 
 -- the contracts are the same
-kept_contracts : (hs : List Holding) → map (λ h. h.contract) (map kept hs) ≡ map (λ h. h.contract) hs
+kept_contracts : (hs : List Holding) → map (λ h. h.contract) (map kept_holding hs) ≡ map (λ h. h.contract) hs
 kept_contracts [] = refl
 kept_contracts (h ∷ hs) = ap (λ cs. h.contract ∷ cs) (kept_contracts hs)
 
-pub kept_rise : (hs : List Holding) → IsStrictlyIncreasing (map (λ h. h.contract) hs) → IsStrictlyIncreasing (map (λ h. h.contract) (map kept hs))
+pub kept_rise : (hs : List Holding) → IsStrictlyIncreasing (map (λ h. h.contract) hs) → IsStrictlyIncreasing (map (λ h. h.contract) (map kept_holding hs))
 kept_rise hs rise = subst IsStrictlyIncreasing (sym (kept_contracts hs)) rise
 
 -- a net is over the limit as it is kept just where it is
-over_kept : (h : Holding) → is_over (kept h) ≡ is_over h
+over_kept : (h : Holding) → is_over (kept_holding h) ≡ is_over h
 over_kept h = by (is_over h) refl
   where
     by : (b : Bool) → is_over h ≡ b → nat_lt MAX_NET (nat_abs (cond b (pos (MAX_NET + 1)) h.net)) ≡ b
     by true e = refl
     by false e = e
 
-over_at_kept : (c : ℕ) (hs : List Holding) → is_over_at c (map kept hs) ≡ is_over_at c hs
+over_at_kept : (c : ℕ) (hs : List Holding) → is_over_at c (map kept_holding hs) ≡ is_over_at c hs
 over_at_kept c [] = refl
 over_at_kept c (h ∷ hs) =
     let here = over_kept h in
     let rest = over_at_kept c hs in
     λ i. ((h.contract == c) && here i) || rest i
 
-many_kept : (hs : List Holding) → are_many (map kept hs) ≡ are_many hs
-many_kept hs = ap (nat_lt MAX_HELD) (length-map hs kept)
+many_kept : (hs : List Holding) → are_many (map kept_holding hs) ≡ are_many hs
+many_kept hs = ap (nat_lt MAX_HELD) (length-map hs kept_holding)
 
 all_kept : List (List Holding) → List (List Holding)
-all_kept nets = map (map kept) nets
+all_kept nets = map (map kept_holding) nets
 
-kept_at : (nets : List (List Holding)) (a : ℕ) → get_or (all_kept nets) a [] ≡ map kept (get_or nets a [])
+kept_at : (nets : List (List Holding)) (a : ℕ) → get_or (all_kept nets) a [] ≡ map kept_holding (get_or nets a [])
 unfolding all_kept
 kept_at [] a = refl
 kept_at (hs ∷ nets) zero = refl
@@ -83,12 +83,12 @@ module _ (ids accounts : List (List ℕ)) (nets : List (List Holding)) (position
   held_fault_kept = λ i. first_unfit fault.TooManyHeld (λ earlier p. too_many_all p i) positions
 
 -- nets within the limit are kept as they are
-kept_same : (h : Holding) → nat_abs h.net ≤ MAX_NET → kept h ≡ h
+kept_same : (h : Holding) → nat_abs h.net ≤ MAX_NET → kept_holding h ≡ h
 kept_same h within =
     let e : nat_lt MAX_NET (nat_abs h.net) ≡ false = le-ltb MAX_NET (nat_abs h.net) (omega (arith, within)) in
     ap (λ b. (let it : Holding = record { contract = h.contract; net = cond b (pos (MAX_NET + 1)) h.net } in it)) e
 
-each_same : (hs : List Holding) → All (λ h. nat_abs h.net ≤ MAX_NET) hs → map kept hs ≡ hs
+each_same : (hs : List Holding) → All (λ h. nat_abs h.net ≤ MAX_NET) hs → map kept_holding hs ≡ hs
 each_same [] all = refl
 each_same (h ∷ hs) all =
     let here = kept_same h (all 0 h (omega arith)) in
@@ -113,7 +113,7 @@ module _ (contracts : List Contract) (positions : List PositionRecord) (ids acco
   unfolding exact all_kept
   are_kept = nets_are ∙ each books
     where
-      each : (bs : List (List Entry)) → map (kept_holdings (length contracts)) bs ≡ map (map kept) (map (entry_holdings (length contracts)) bs)
+      each : (bs : List (List Entry)) → map (kept_holdings (length contracts)) bs ≡ map (map kept_holding) (map (entry_holdings (length contracts)) bs)
       each [] = refl
       each (b ∷ bs) = ap (λ ns. kept_holdings (length contracts) b ∷ ns) (each bs)
 

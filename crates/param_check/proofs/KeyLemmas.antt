@@ -7,7 +7,7 @@ use Rattle.std.proofs.lemmas.Bool.Decides.{nat_tests}
 use Rattle.span_tables.specs.Rules.{is_and, first_breaking, as_commodity, as_contract, as_tier, as_intra, as_inter, as_spot, repeats_commodity, repeats_contract, repeats_tier, repeats_priority, repeats_spot}
 use Rattle.span_tables.specs.declared.records.Record.{Record}
 use Rattle.span_tables.specs.declared.records.Record.TheVariants as record_of
-use Rattle.param_check.specs.steps.Keys.{named, key_of, is_same_key, repeats_key, first_repeat}
+use Rattle.param_check.specs.steps.Keys.{name_key, key_of, is_same_key, repeats_key, first_repeat}
 use Rattle.param_check.specs.declared.keys.Key.{Key}
 use Rattle.param_check.specs.declared.keys.Identity.{Identity}
 use Rattle.param_check.specs.declared.keys.Identity.TheVariants as identity
@@ -18,11 +18,11 @@ use Rattle.param_check.proofs.FirstFaults.{first_breaking-same}
 eqb-swap : (m n : ℕ) → eqb m n ≡ eqb n m
 eqb-swap m n = grind (arith, nat_tests)
 
-key_swap : (x y : List ℕ) (m n : ℕ) → is_same_key (named x m) (named y n) ≡ (bytes_eq y x && eqb n m)
+key_swap : (x y : List ℕ) (m n : ℕ) → is_same_key (name_key x m) (name_key y n) ≡ (bytes_eq y x && eqb n m)
 key_swap x y m n = rw (eqb-swap m n) (rw (bytes_eq-flip x y) refl)
 
 -- a number of 0 says nothing
-name_swap : (x y : List ℕ) → is_same_key (named x 0) (named y 0) ≡ bytes_eq y x
+name_swap : (x y : List ℕ) → is_same_key (name_key x 0) (name_key y 0) ≡ bytes_eq y x
 name_swap x y = and-true (bytes_eq x y) ∙ bytes_eq-flip x y
 
 -- keys and what they are made of are found alike
@@ -34,7 +34,7 @@ among i h key q same earlier =
     ∙ list_any-same _ _ same earlier
     ∙ sym (list_any-filter_map h q earlier)
 
-commodity_alike : (id : List ℕ) (r : Record) → is_and (key_of identity.Commodity r) (is_same_key (named id 0)) ≡ is_and (as_commodity r) (λ d. bytes_eq d.id id)
+commodity_alike : (id : List ℕ) (r : Record) → is_and (key_of identity.Commodity r) (is_same_key (name_key id 0)) ≡ is_and (as_commodity r) (λ d. bytes_eq d.id id)
 commodity_alike id (record_of.Set x) = refl
 commodity_alike id (record_of.Commodity x) = name_swap id x.id
 commodity_alike id (record_of.Contract x) = refl
@@ -43,7 +43,7 @@ commodity_alike id (record_of.Intra x) = refl
 commodity_alike id (record_of.Spot x) = refl
 commodity_alike id (record_of.Inter x) = refl
 
-contract_alike : (id : List ℕ) (r : Record) → is_and (key_of identity.Contract r) (is_same_key (named id 0)) ≡ is_and (as_contract r) (λ y. bytes_eq y.id id)
+contract_alike : (id : List ℕ) (r : Record) → is_and (key_of identity.Contract r) (is_same_key (name_key id 0)) ≡ is_and (as_contract r) (λ y. bytes_eq y.id id)
 contract_alike id (record_of.Set x) = refl
 contract_alike id (record_of.Commodity x) = refl
 contract_alike id (record_of.Contract x) = name_swap id x.id
@@ -52,7 +52,7 @@ contract_alike id (record_of.Intra x) = refl
 contract_alike id (record_of.Spot x) = refl
 contract_alike id (record_of.Inter x) = refl
 
-tier_alike : (c : List ℕ) (n : ℕ) (r : Record) → is_and (key_of identity.Tier r) (is_same_key (named c n)) ≡ is_and (as_tier r) (λ u. bytes_eq u.commodity c && eqb u.number n)
+tier_alike : (c : List ℕ) (n : ℕ) (r : Record) → is_and (key_of identity.Tier r) (is_same_key (name_key c n)) ≡ is_and (as_tier r) (λ u. bytes_eq u.commodity c && eqb u.number n)
 tier_alike c n (record_of.Set x) = refl
 tier_alike c n (record_of.Commodity x) = refl
 tier_alike c n (record_of.Contract x) = refl
@@ -61,7 +61,7 @@ tier_alike c n (record_of.Intra x) = refl
 tier_alike c n (record_of.Spot x) = refl
 tier_alike c n (record_of.Inter x) = refl
 
-intra_alike : (c : List ℕ) (n : ℕ) (r : Record) → is_and (key_of identity.Priority r) (is_same_key (named c n)) ≡ is_and (as_intra r) (λ s. bytes_eq s.commodity c && eqb s.priority n)
+intra_alike : (c : List ℕ) (n : ℕ) (r : Record) → is_and (key_of identity.Priority r) (is_same_key (name_key c n)) ≡ is_and (as_intra r) (λ s. bytes_eq s.commodity c && eqb s.priority n)
 intra_alike c n (record_of.Set x) = refl
 intra_alike c n (record_of.Commodity x) = refl
 intra_alike c n (record_of.Contract x) = refl
@@ -79,7 +79,7 @@ inter_alike n (record_of.Intra x) = refl
 inter_alike n (record_of.Spot x) = refl
 inter_alike n (record_of.Inter x) = eqb-swap n x.priority
 
-spot_alike : (c : List ℕ) (n : ℕ) (r : Record) → is_and (key_of identity.SpotMonth r) (is_same_key (named c n)) ≡ is_and (as_spot r) (λ s. bytes_eq s.commodity c && eqb s.month n)
+spot_alike : (c : List ℕ) (n : ℕ) (r : Record) → is_and (key_of identity.SpotMonth r) (is_same_key (name_key c n)) ≡ is_and (as_spot r) (λ s. bytes_eq s.commodity c && eqb s.month n)
 spot_alike c n (record_of.Set x) = refl
 spot_alike c n (record_of.Commodity x) = refl
 spot_alike c n (record_of.Contract x) = refl
@@ -90,7 +90,7 @@ spot_alike c n (record_of.Inter x) = refl
 
 repeats_commodity-key : (earlier : List Record) (r : Record) → repeats_key identity.Commodity earlier r ≡ repeats_commodity earlier r
 repeats_commodity-key earlier (record_of.Set x) = refl
-repeats_commodity-key earlier (record_of.Commodity x) = among identity.Commodity as_commodity (named x.id 0) (λ d. bytes_eq d.id x.id) (commodity_alike x.id) earlier
+repeats_commodity-key earlier (record_of.Commodity x) = among identity.Commodity as_commodity (name_key x.id 0) (λ d. bytes_eq d.id x.id) (commodity_alike x.id) earlier
 repeats_commodity-key earlier (record_of.Contract x) = refl
 repeats_commodity-key earlier (record_of.Tier x) = refl
 repeats_commodity-key earlier (record_of.Intra x) = refl
@@ -103,7 +103,7 @@ first_repeated_commodity all = first_breaking-same (λ at. at) (repeats_key iden
 repeats_contract-key : (earlier : List Record) (r : Record) → repeats_key identity.Contract earlier r ≡ repeats_contract earlier r
 repeats_contract-key earlier (record_of.Set x) = refl
 repeats_contract-key earlier (record_of.Commodity x) = refl
-repeats_contract-key earlier (record_of.Contract x) = among identity.Contract as_contract (named x.id 0) (λ d. bytes_eq d.id x.id) (contract_alike x.id) earlier
+repeats_contract-key earlier (record_of.Contract x) = among identity.Contract as_contract (name_key x.id 0) (λ d. bytes_eq d.id x.id) (contract_alike x.id) earlier
 repeats_contract-key earlier (record_of.Tier x) = refl
 repeats_contract-key earlier (record_of.Intra x) = refl
 repeats_contract-key earlier (record_of.Spot x) = refl
@@ -116,7 +116,7 @@ repeats_tier-key : (earlier : List Record) (r : Record) → repeats_key identity
 repeats_tier-key earlier (record_of.Set x) = refl
 repeats_tier-key earlier (record_of.Commodity x) = refl
 repeats_tier-key earlier (record_of.Contract x) = refl
-repeats_tier-key earlier (record_of.Tier x) = among identity.Tier as_tier (named x.commodity x.number) (λ u. bytes_eq u.commodity x.commodity && eqb u.number x.number) (tier_alike x.commodity x.number) earlier
+repeats_tier-key earlier (record_of.Tier x) = among identity.Tier as_tier (name_key x.commodity x.number) (λ u. bytes_eq u.commodity x.commodity && eqb u.number x.number) (tier_alike x.commodity x.number) earlier
 repeats_tier-key earlier (record_of.Intra x) = refl
 repeats_tier-key earlier (record_of.Spot x) = refl
 repeats_tier-key earlier (record_of.Inter x) = refl
@@ -129,7 +129,7 @@ repeats_priority-key earlier (record_of.Set x) = refl
 repeats_priority-key earlier (record_of.Commodity x) = refl
 repeats_priority-key earlier (record_of.Contract x) = refl
 repeats_priority-key earlier (record_of.Tier x) = refl
-repeats_priority-key earlier (record_of.Intra x) = among identity.Priority as_intra (named x.commodity x.priority) (λ u. bytes_eq u.commodity x.commodity && eqb u.priority x.priority) (intra_alike x.commodity x.priority) earlier ∙ sym (or-false _)
+repeats_priority-key earlier (record_of.Intra x) = among identity.Priority as_intra (name_key x.commodity x.priority) (λ u. bytes_eq u.commodity x.commodity && eqb u.priority x.priority) (intra_alike x.commodity x.priority) earlier ∙ sym (or-false _)
 repeats_priority-key earlier (record_of.Spot x) = refl
 repeats_priority-key earlier (record_of.Inter x) = among identity.Priority as_inter (record { name = None; number = x.priority }) (λ u. eqb u.priority x.priority) (inter_alike x.priority) earlier
 
@@ -142,7 +142,7 @@ repeats_spot-key earlier (record_of.Commodity x) = refl
 repeats_spot-key earlier (record_of.Contract x) = refl
 repeats_spot-key earlier (record_of.Tier x) = refl
 repeats_spot-key earlier (record_of.Intra x) = refl
-repeats_spot-key earlier (record_of.Spot x) = among identity.SpotMonth as_spot (named x.commodity x.month) (λ u. bytes_eq u.commodity x.commodity && eqb u.month x.month) (spot_alike x.commodity x.month) earlier
+repeats_spot-key earlier (record_of.Spot x) = among identity.SpotMonth as_spot (name_key x.commodity x.month) (λ u. bytes_eq u.commodity x.commodity && eqb u.month x.month) (spot_alike x.commodity x.month) earlier
 repeats_spot-key earlier (record_of.Inter x) = refl
 
 pub first_repeated_spot : (all : List Record) → first_repeat identity.SpotMonth all ≡ first_breaking (λ at. at) repeats_spot all

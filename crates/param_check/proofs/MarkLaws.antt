@@ -11,7 +11,7 @@ use Rattle.std.proofs.lemmas.List.FromFn.{get_or-map-range_with_len, length-map-
 use Rattle.std.proofs.lemmas.Nat.Bits.{bit_at-zero, bit_at_set_same, bit_at_set_other, bit_at_clear_same, bit_at_clear_other, bit_at-trailing_zeros}
 use Rattle.span_tables.specs.Net.{is_held}
 use Rattle.param_check.specs.Nets.{holding_at, holdings_in, held_part}
-use Rattle.param_check.specs.steps.Sums.{is_marked, sum_at, sums_of, AreMarks, held_below, kept}
+use Rattle.param_check.specs.steps.Sums.{is_marked, sum_at, sums_of, AreMarks, held_below, kept_holding}
 use Rattle.span_tables.specs.declared.portfolios.Holding.{Holding}
 use Rattle.param_check.proofs.NetLaws.{is_held-eq}
 
@@ -268,24 +268,24 @@ module _ (marks : List ℕ) (places : List ℤ) where
   pub word_begun : (w u : ℕ) → u ≤ 64 → ((i : ℕ) → i < u → bit_at (get_or marks w 0) i ≡ 0) → held_below marks places (64 * w + u) ≡ held_below marks places (64 * w)
   word_begun w u short none =
       let same : 64 * w + 0 ≡ 64 * w = omega arith in
-      ap (map kept) (skip w 0 u (omega arith) short (λ i x y. none i y) ∙ ap (holdings_in (sums_of marks places)) same)
+      ap (map kept_holding) (skip w 0 u (omega arith) short (λ i x y. none i y) ∙ ap (holdings_in (sums_of marks places)) same)
 
   -- from a mark to the next
   pub word_step : (w t u : ℕ) → t < u → u ≤ 64 → AreMarks marks (length places) → bit_at (get_or marks w 0) t ≡ 1
       → ((i : ℕ) → t < i → i < u → bit_at (get_or marks w 0) i ≡ 0)
-      → held_below marks places (64 * w + u) ≡ held_below marks places (64 * w + t) ++ map kept (held_part (64 * w + t) (get_or places (64 * w + t) (pos 0)))
+      → held_below marks places (64 * w + u) ≡ held_below marks places (64 * w + t) ++ map kept_holding (held_part (64 * w + t) (get_or places (64 * w + t) (pos 0)))
   word_step w t u lt short are is none =
       let h : t < 64 = omega (arith, lt, short) in
       let within : 64 * w + t < length places = marked_within w t h are is in
       let up : 64 * w + (t + 1) ≡ 64 * w + t + 1 = omega arith in
       let net : get_or (sums_of marks places) (64 * w + t) (pos 0) ≡ get_or places (64 * w + t) (pos 0) =
       marked (64 * w + t) within (mark_at w t h ∙ ap (λ b. b == 1) is) in
-      ap (map kept)
+      ap (map kept_holding)
       (skip w (t + 1) u (omega (arith, lt)) short (λ i x y. none i (omega (arith, x)) y)
       ∙ ap (holdings_in (sums_of marks places)) up
       ∙ filter_of_map_range_with_len_more is_held (holding_at (sums_of marks places)) 0 (64 * w + t) (64 * w + t) (omega arith)
       ∙ ap (λ z. holdings_in (sums_of marks places) (64 * w + t) ++ held_part (64 * w + t) z) net)
-      ∙ map-append kept (holdings_in (sums_of marks places) (64 * w + t)) (held_part (64 * w + t) (get_or places (64 * w + t) (pos 0)))
+      ∙ map-append kept_holding (holdings_in (sums_of marks places) (64 * w + t)) (held_part (64 * w + t) (get_or places (64 * w + t) (pos 0)))
 
   module _ (w n : ℕ) (are : AreMarks marks (length places)) (fits : n < 2 ^ 64) (some : 0 < n)
       (same : (i : ℕ) → trailing_zeros w64 n ≤ i → i < 64 → bit_at n i ≡ bit_at (get_or marks w 0) i) where
@@ -318,11 +318,11 @@ module _ (marks : List ℕ) (places : List ℤ) where
       marks_left i x y = stays i (omega (arith, up, x)) y
 
       pub held_more : (held next : List Holding) → held ≡ held_below marks places (64 * w + trailing_zeros w64 n)
-          → next ≡ held ++ map kept (held_part (64 * w + trailing_zeros w64 n) (get_or places (64 * w + trailing_zeros w64 n) (pos 0)))
+          → next ≡ held ++ map kept_holding (held_part (64 * w + trailing_zeros w64 n) (get_or places (64 * w + trailing_zeros w64 n) (pos 0)))
           → next ≡ held_below marks places (64 * w + trailing_zeros w64 m)
       unfolding t
       held_more held next before pushed =
-          pushed ∙ ap (λ hs. hs ++ map kept (held_part (64 * w + t) (get_or places (64 * w + t) (pos 0)))) before
+          pushed ∙ ap (λ hs. hs ++ map kept_holding (held_part (64 * w + t) (get_or places (64 * w + t) (pos 0)))) before
           ∙ sym (word_step w t (trailing_zeros w64 m) up (lowest_le m small) are mark_is
           (λ i x y. let h : i < 64 = (let z = lowest_le m small in omega (arith, y, z)) in sym (stays i x h) ∙ below_lowest m small i y))
 
@@ -339,9 +339,9 @@ module _ (marks : List ℕ) (places : List ℤ) where
   sum_unmarked k word is e = sym (unmarked k (ap (λ w. bit_at w (k % 64) == 1) (sym is) ∙ e))
 
   -- all numbers
-  pub all_below : (n : ℕ) → length places ≤ n → held_below marks places n ≡ map kept (holdings_in (sums_of marks places) (length (sums_of marks places)))
+  pub all_below : (n : ℕ) → length places ≤ n → held_below marks places n ≡ map kept_holding (holdings_in (sums_of marks places) (length (sums_of marks places)))
   all_below n h =
       let long = sums_long marks places in
       let up : n ≡ length (sums_of marks places) + (n - length (sums_of marks places)) = omega (arith, h, long) in
-      ap (λ m. map kept (holdings_in (sums_of marks places) m)) up
-      ∙ ap (map kept) (holdings_skip (sums_of marks places) (length (sums_of marks places)) (n - length (sums_of marks places)) (λ k x y. get_or_past (sums_of marks places) k (pos 0) x))
+      ap (λ m. map kept_holding (holdings_in (sums_of marks places) m)) up
+      ∙ ap (map kept_holding) (holdings_skip (sums_of marks places) (length (sums_of marks places)) (n - length (sums_of marks places)) (λ k x y. get_or_past (sums_of marks places) k (pos 0) x))

@@ -8,7 +8,7 @@ use Rattle.span_tables.specs.Rules.{rules, first_breaking, keeps_rules}
 use Rattle.param_check.specs.CheckFaults.{rule_names, check_fault}
 use Rattle.span_tables.specs.declared.records.Record.{Record}
 use Rattle.param_check.specs.declared.faults.CheckFault.{CheckFault}
-use Rattle.param_check.proofs.FirstFaults.{named}
+use Rattle.param_check.proofs.FirstFaults.{rule_fault}
 
 head_free : {F : Type 0} (b : Bool) (fault : ℕ → F) (n : ℕ) (rest : Option F) → option_or (option_map (λ f. f n) (if b then Some fault else None)) rest ≡ None → (b ≡ false) × (rest ≡ None)
 head_free true fault n rest e = cc
@@ -16,10 +16,10 @@ head_free false fault n rest e = (refl, e)
 
 -- whether a rule is broken does not depend on its name
 same_under : {F : Type 0} (fault : ℕ → F) (breaks : List Record → Record → Bool) (before xs : List Record)
-    → first_fault_after (named fault breaks) before xs ≡ None → first_fault_after (named (λ at. at) breaks) before xs ≡ None
+    → first_fault_after (rule_fault fault breaks) before xs ≡ None → first_fault_after (rule_fault (λ at. at) breaks) before xs ≡ None
 same_under fault breaks before [] e = refl
 same_under fault breaks before (x ∷ xs) e =
-    let h = head_free (breaks before x) fault (length before + 1) (first_fault_after (named fault breaks) (before ++ x ∷ []) xs) e in
+    let h = head_free (breaks before x) fault (length before + 1) (first_fault_after (rule_fault fault breaks) (before ++ x ∷ []) xs) e in
     rw h.0 (same_under fault breaks (before ++ x ∷ []) xs h.1)
 
 or_none : {F : Type 0} (x rest : Option F) → option_or x rest ≡ None → (x ≡ None) × (rest ≡ None)

@@ -34,23 +34,23 @@ pub(crate) fn key_of(identity: Identity, item: &Record) -> Option<Key>
     ensures { result ≡ key_of identity item.now }
 {
     match (identity, item) {
-        (Identity::Commodity, Record::Commodity(commodity)) => Some(named(&commodity.id, 0)),
-        (Identity::Contract, Record::Contract(contract)) => Some(named(&contract.id, 0)),
-        (Identity::Tier, Record::Tier(tier)) => Some(named(&tier.commodity, tier.number)),
+        (Identity::Commodity, Record::Commodity(commodity)) => Some(name_key(&commodity.id, 0)),
+        (Identity::Contract, Record::Contract(contract)) => Some(name_key(&contract.id, 0)),
+        (Identity::Tier, Record::Tier(tier)) => Some(name_key(&tier.commodity, tier.number)),
         (Identity::Priority, Record::Intra(spread)) => {
-            Some(named(&spread.commodity, spread.priority))
+            Some(name_key(&spread.commodity, spread.priority))
         }
         (Identity::Priority, Record::Inter(spread)) => Some(Key {
             name: None,
             number: spread.priority,
         }),
-        (Identity::SpotMonth, Record::Spot(spot)) => Some(named(&spot.commodity, spot.month)),
+        (Identity::SpotMonth, Record::Spot(spot)) => Some(name_key(&spot.commodity, spot.month)),
         _ => None,
     }
 }
 
 /// The key of a name and a number.
-pub(crate) fn named(name: &Name, number: u32) -> Key
+pub(crate) fn name_key(name: &Name, number: u32) -> Key
     ensures { result ≡ record { name = Some name.now; number = number } }
 {
     Key {

@@ -6,7 +6,7 @@ ghost use Rattle.span_tables.specs.Rules.{are_one_sided, first_breaking, is_back
 ghost use Rattle.param_check.specs.steps.Keys.{is_unknown, is_unknown_tier, names_unknown, names_unknown_tier};
 ghost use Rattle.param_check.specs.steps.RecordRules.{breaks};
 
-use crate::keys::{Identity, Key, all_keys, first_repeat, named};
+use crate::keys::{Identity, Key, all_keys, first_repeat, name_key};
 use indexmap::IndexSet;
 use span_tables::name::Name;
 use span_tables::records::{InterLeg, IntraLeg, Record, Side};
@@ -71,7 +71,7 @@ pub(crate) fn first_repeated_commodity(
 fn is_unknown(commodities: &IndexSet<Key>, id: &Name) -> bool
     ensures { result ≡ is_unknown commodities.now.keys id.now }
 {
-    !commodities.contains(&named(id, 0))
+    !commodities.contains(&name_key(id, 0))
 }
 
 // Whether a leg is of an unknown commodity.
@@ -161,7 +161,7 @@ pub(crate) fn first_backwards(records: &[Record]) -> Option<usize>
 fn is_unknown_tier(tiers: &IndexSet<Key>, commodity: &Name, number: u32) -> bool
     ensures { result ≡ is_unknown_tier tiers.now.keys commodity.now number }
 {
-    !tiers.contains(&named(commodity, number))
+    !tiers.contains(&name_key(commodity, number))
 }
 
 // Whether a leg is of an unknown tier.

@@ -2,7 +2,7 @@
 ghost use Rattle.std.specs.Prelude.{◌≡◌, ◌==◌, ◌<◌, ◌+◌, ◌*◌, ◌^◌, ◌++◌, ◌+ℤ◌, length, map, nat_abs, replicate, pos, slice_index_or, slice_set, IfOk, OnOk};
 ghost use Rattle.std.specs.Int.{bit_at};
 ghost use Rattle.param_check.specs.Nets.{held_part, holdings_in};
-ghost use Rattle.param_check.specs.steps.Sums.{held_below, kept, kept_net, AreMarks};
+ghost use Rattle.param_check.specs.steps.Sums.{held_below, kept_holding, kept_net, AreMarks};
 
 use span_tables::limits::MAX_NET;
 use span_tables::portfolios::Holding;
@@ -60,7 +60,7 @@ fn kept_net(net: i128) -> i64
 fn push_held(held: &mut Vec<Holding>, places: &[i128], contract: usize) -> Result<(), AllocError>
     requires { contract < length places.now }
     ensures { OnOk result (held.new.items
-        ≡ held.old.items ++ map kept (held_part contract (slice_index_or places.now contract (pos 0)))) }
+        ≡ held.old.items ++ map kept_holding (held_part contract (slice_index_or places.now contract (pos 0)))) }
 {
     let net = kept_net(places[contract]);
     if net != 0 {
@@ -142,7 +142,7 @@ impl Sums {
 
     /// The sums that are not 0, as what is held of each number; there is room for so many at first.
     pub(crate) fn holdings(&self, alloc: Global, room: usize) -> Result<Vec<Holding>, AllocError>
-        ensures { IfOk result (λ held. held.items ≡ map kept (holdings_in self.now (length self.now))) }
+        ensures { IfOk result (λ held. held.items ≡ map kept_holding (holdings_in self.now (length self.now))) }
     {
         let mut held = Vec::with_capacity(alloc, room)?;
         for word in 0..self.marks.len() {

@@ -9,17 +9,17 @@ use Rattle.param_check.specs.declared.keys.Identity.TheVariants as identity
 use Rattle.param_check.specs.declared.keys.Key.{Key}
 
 -- the key of a name and a number
-abbrev pub named : List ℕ → ℕ → Key
-named name number = record { name = Some name; number = number }
+abbrev pub name_key : List ℕ → ℕ → Key
+name_key name number = record { name = Some name; number = number }
 
 -- the key of a record, where it is of the kind
 abbrev pub key_of : Identity → Record → Option Key
-key_of identity.Commodity (record_of.Commodity c) = Some (named c.id 0)
-key_of identity.Contract (record_of.Contract x) = Some (named x.id 0)
-key_of identity.Tier (record_of.Tier t) = Some (named t.commodity t.number)
-key_of identity.Priority (record_of.Intra s) = Some (named s.commodity s.priority)
+key_of identity.Commodity (record_of.Commodity c) = Some (name_key c.id 0)
+key_of identity.Contract (record_of.Contract x) = Some (name_key x.id 0)
+key_of identity.Tier (record_of.Tier t) = Some (name_key t.commodity t.number)
+key_of identity.Priority (record_of.Intra s) = Some (name_key s.commodity s.priority)
 key_of identity.Priority (record_of.Inter s) = Some (record { name = None; number = s.priority })
-key_of identity.SpotMonth (record_of.Spot s) = Some (named s.commodity s.month)
+key_of identity.SpotMonth (record_of.Spot s) = Some (name_key s.commodity s.month)
 key_of _ _ = None
 
 -- two keys have the same name, or both have none
@@ -54,7 +54,7 @@ first_repeat identity all = first_breaking (λ at. at) (repeats_key identity) al
 
 -- no COMMODITY record has this id, where these are the keys of all
 abbrev pub is_unknown : List Key → List ℕ → Bool
-is_unknown commodities id = not (is_among commodities (Some (named id 0)))
+is_unknown commodities id = not (is_among commodities (Some (name_key id 0)))
 
 -- it names a commodity that no COMMODITY record has
 abbrev pub names_unknown : List Key → Record → Bool
@@ -68,7 +68,7 @@ names_unknown commodities (record_of.Inter x) = list_any (λ leg. is_unknown com
 
 -- no TIER record has this commodity and number, where these are the keys of all
 abbrev pub is_unknown_tier : List Key → List ℕ → ℕ → Bool
-is_unknown_tier tiers commodity number = not (is_among tiers (Some (named commodity number)))
+is_unknown_tier tiers commodity number = not (is_among tiers (Some (name_key commodity number)))
 
 -- it is an INTRA with a leg whose tier no TIER record of its commodity has
 abbrev pub names_unknown_tier : List Key → Record → Bool

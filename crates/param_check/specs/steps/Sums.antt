@@ -28,13 +28,13 @@ pub record AreMarks (marks : List ℕ) (n : ℕ) : Type 0 where
 abbrev pub kept_net : ℤ → ℤ
 kept_net net = if nat_lt MAX_NET (nat_abs net) then pos (MAX_NET + 1) else net
 
-abbrev pub kept : Holding → Holding
-kept h = record { contract = h.contract; net = kept_net h.net }
+abbrev pub kept_holding : Holding → Holding
+kept_holding h = record { contract = h.contract; net = kept_net h.net }
 
 -- what an account of these entries holds, of so many contracts, as it is kept
 abbrev pub kept_holdings : ℕ → List Entry → List Holding
-kept_holdings n entries = map kept (entry_holdings n entries)
+kept_holdings n entries = map kept_holding (entry_holdings n entries)
 
 -- what is held of the numbers below n, as it is kept
 abbrev pub held_below : List ℕ → List ℤ → ℕ → List Holding
-held_below marks places n = map kept (holdings_in (sums_of marks places) n)
+held_below marks places n = map kept_holding (holdings_in (sums_of marks places) n)

@@ -1,6 +1,6 @@
 use Rattle.std.proofs.Common.{◌≡◌, ◌≤◌, ◌*◌, ◌∙◌, ap, length, map, arith}
 use Rattle.param_check.specs.Nets.{holdings_in}
-use Rattle.param_check.specs.steps.Sums.{kept}
+use Rattle.param_check.specs.steps.Sums.{kept_holding}
 use Rattle.param_check.proofs.MarkLaws.{all_below}
 use Rattle.param_check.proofs.sums.Sums.holdings.Goals as goal
 
@@ -9,4 +9,4 @@ returns c =
     let marks = c.self.inside.marks.items in
     let places = c.self.inside.places.items in
     let all : length places ≤ 64 * c.loop-word.word = omega (arith, c.self.invariant.room, c.loop-word-test.false, c.len-word-end.ensures, c.self.inside.marks.ok.0) in
-    c.loop-word.invariant ∙ all_below marks places (64 * c.loop-word.word) all ∙ ap (λ ss. map kept (holdings_in ss (length ss))) c.self.view_is
+    c.loop-word.invariant ∙ all_below marks places (64 * c.loop-word.word) all ∙ ap (λ ss. map kept_holding (holdings_in ss (length ss))) c.self.view_is
