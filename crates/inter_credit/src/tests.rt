@@ -250,20 +250,20 @@ fn contract(kind: ProductKind) -> Contract
 #[test]
 fn minimums(rt: HostRuntime) -> Result<(), Fail> {
     let kinds = [
-        (ProductKind::Call, -2),
+        (ProductKind::Call, -2_i64),
         (ProductKind::Put, -3),
         (ProductKind::Put, 4),
         (ProductKind::Future, -5),
     ];
     let mut contracts = Vec::new(rt.alloc());
     let mut holdings = Vec::new(rt.alloc());
-    for (number, (kind, net)) in kinds.into_iter().enumerate() {
+    for (kind, net) in kinds {
         assert!(rt; net.unsigned_abs() <= MAX_NET);
-        contracts.push(contract(kind))?;
         holdings.push(Holding {
-            contract: number,
+            contract: contracts.len(),
             net,
         })?;
+        contracts.push(contract(kind))?;
     }
     let held = Held::new(Arc::new(rt.alloc(), contracts)?, holdings);
     assert_eq!(rt; minimum(&held, 500, MinimumMethod::Sum).get(), 2500);

@@ -7,8 +7,8 @@ ghost use Rattle.span_tables.specs.Net.{held_of};
 ghost use Rattle.span_tables.specs.declared.limits.TheConstants.{MAX_HELD, MAX_NET};
 ghost use Rattle.span_tables.specs.steps.Gathered.{AreHoldings, held_contracts, holdings_in};
 
-use crate::limits::MAX_COMMODITIES;
 use crate::groups::{lists_with_room, push_at};
+use crate::limits::MAX_COMMODITIES;
 use crate::portfolios::{Holding, Portfolio};
 use crate::records::Contract;
 use crate::tables::Tables;
