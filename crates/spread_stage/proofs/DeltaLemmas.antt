@@ -11,7 +11,7 @@ use Rattle.spread_stage.specs.Months.{total_size}
 use Rattle.spread_stage.specs.steps.Uses.{with_units}
 use Rattle.span_tables.specs.Net.{HeldContract}
 use Rattle.spread_stage.specs.declared.months.MonthUnits.{MonthUnits}
-use Rattle.spread_stage.proofs.SumLaws.{int_sum_by-if}
+use Rattle.span_tables.proofs.SumLaws.{int_sum_by-if}
 use Rattle.spread_stage.proofs.MonthLaws.{Rise, Has, months_rise_up, months_have, later_than, all_above}
 
 -- months with what a function gives them

@@ -1,7 +1,5 @@
-pub mod SumLaws
 pub mod MonthLaws
 pub mod UseLaws
-pub mod NumberLaws
 pub mod ProductLemmas
 pub mod DeltaLemmas
 pub mod PlaceLemmas

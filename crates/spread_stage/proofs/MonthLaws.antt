@@ -9,7 +9,7 @@ use Rattle.spread_stage.specs.Deltas.{units_of, with_month, months_of, month_del
 use Rattle.spread_stage.specs.Months.{MonthsRise}
 use Rattle.span_tables.specs.Net.{HeldContract}
 use Rattle.spread_stage.specs.declared.months.MonthUnits.{MonthUnits}
-use Rattle.spread_stage.proofs.SumLaws.{int_sum_by-cons, int_sum_by-if}
+use Rattle.span_tables.proofs.SumLaws.{int_sum_by-cons, int_sum_by-if}
 
 -- the numbers rise
 abbrev pub Rise : List ℕ → Type 0

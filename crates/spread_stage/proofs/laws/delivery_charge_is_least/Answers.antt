@@ -1,6 +1,6 @@
 use Rattle.std.proofs.Common.{lit<, sum_by}
 use Rattle.spread_stage.specs.Charges.{delivery_charge, spot_charge}
-use Rattle.spread_stage.proofs.NumberLaws.{div_ceil_least}
+use Rattle.span_money.proofs.NumberLaws.{div_ceil_least}
 use Rattle.spread_stage.proofs.laws.delivery_charge_is_least.Goals as goal
 
 pub returns : goal.returns
