@@ -9,7 +9,7 @@ use Rattle.span_tables.specs.Faults.{ok_unless}
 use Rattle.span_tables.specs.Gives.{Gives}
 use Rattle.span_tables.specs.Holdings.{ArePortfolio}
 use Rattle.span_tables.specs.Names.{has_repeat}
-use Rattle.span_tables.specs.Net.{AccountHoldings, holdings_of, portfolios_of}
+use Rattle.span_tables.specs.Net.{AccountHoldings, accounts_of, holdings_of, portfolios_of}
 use Rattle.span_tables.specs.declared.portfolios.Holding.{Holding}
 use Rattle.span_tables.specs.declared.records.Contract.{Contract}
 use Rattle.span_tables.specs.declared.records.PositionRecord.{PositionRecord}
@@ -61,8 +61,8 @@ module _ (contracts : List Contract) (positions : List PositionRecord) where
       by true h = tt
       by false h = bound_unknown e (ap (λ k. foreign_fault k positions) (sym are) ∙ h)
 
-  module _ (ids accounts : List (List ℕ)) (books : List (List Entry)) (nets : List (List Holding)) (apart : has_repeat (λ x y. bytes_eq x.id y.id) contracts ≡ false)
-      (ids_are : ids ≡ ids_of contracts) (ledger : IsLedger ids positions accounts books) (nets_are : nets ≡ map (entry_holdings (length contracts)) books) where
+  module _ (ids : List (List ℕ)) (books : List (List Entry)) (nets : List (List Holding)) (apart : has_repeat (λ x y. bytes_eq x.id y.id) contracts ≡ false)
+      (ids_are : ids ≡ ids_of contracts) (ledger : IsLedger ids positions books) (nets_are : nets ≡ map (entry_holdings (length contracts)) books) where
     known : list_any (is_foreign (ids_of contracts)) positions ≡ false
     known = ap (λ k. list_any (is_foreign k) positions) (sym ids_are) ∙ ledger.all_known
 
@@ -70,41 +70,41 @@ module _ (contracts : List Contract) (positions : List PositionRecord) where
     unfolding unknown foreign_fault
     no_unknown = sym (foreign_fault_is contracts positions) ∙ unfit_none fault.UnknownContract (is_foreign (ids_of contracts)) positions known
 
-    holdings : nets ≡ map (holdings_of contracts positions) accounts
+    holdings : nets ≡ map (holdings_of contracts positions) (accounts_of positions)
     holdings =
-        nets_are ∙ all_holdings_are contracts positions accounts books apart
-        (ledger.books_are ∙ ap (λ k. map (entries_of k positions) accounts) ids_are)
+        nets_are ∙ all_holdings_are contracts positions (accounts_of positions) books apart
+        (ledger.books_are ∙ ap (λ k. map (entries_of k positions) (accounts_of positions)) ids_are)
 
-    range_is : net_fault ids accounts nets positions ≡ out_of_range
+    range_is : net_fault ids (accounts_of positions) nets positions ≡ out_of_range
     unfolding out_of_range
-    range_is = ap (λ k. net_fault k accounts nets positions) ids_are ∙ net_fault_is contracts positions accounts nets ledger.accounts_are holdings known
+    range_is = ap (λ k. net_fault k (accounts_of positions) nets positions) ids_are ∙ net_fault_is contracts positions (accounts_of positions) nets refl holdings known
 
-    many_is : held_fault accounts nets positions ≡ too_many
+    many_is : held_fault (accounts_of positions) nets positions ≡ too_many
     unfolding too_many
-    many_is = held_fault_is contracts positions accounts nets ledger.accounts_are holdings known
+    many_is = held_fault_is contracts positions (accounts_of positions) nets refl holdings known
 
     -- what the nets are settled to is what the records are bound to
-    settled_by : (b2 b3 : Option BindFault) → net_fault ids accounts nets positions ≡ b2 → held_fault accounts nets positions ≡ b3
-        → bound contracts positions ≡ ok_unless (option_or b2 b3) (paired accounts nets)
+    settled_by : (b2 b3 : Option BindFault) → net_fault ids (accounts_of positions) nets positions ≡ b2 → held_fault (accounts_of positions) nets positions ≡ b3
+        → bound contracts positions ≡ ok_unless (option_or b2 b3) (paired (accounts_of positions) nets)
     settled_by b2 b3 x y =
         bound_is None b2 b3 no_unknown (sym range_is ∙ x) (sym many_is ∙ y)
         ∙ ap (λ o. ok_unless (option_or b2 o) (portfolios_of contracts positions)) (option_or-None b3)
-        ∙ ap (ok_unless (option_or b2 b3)) (sym (paired_is contracts positions accounts nets ledger.accounts_are holdings))
+        ∙ ap (ok_unless (option_or b2 b3)) (sym (paired_is contracts positions (accounts_of positions) nets refl holdings))
 
-    pub bound_settled : settled ids accounts nets positions ≡ bound contracts positions
+    pub bound_settled : settled ids (accounts_of positions) nets positions ≡ bound contracts positions
     unfolding settled
-    bound_settled = sym (settled_by (net_fault ids accounts nets positions) (held_fault accounts nets positions) refl refl)
+    bound_settled = sym (settled_by (net_fault ids (accounts_of positions) nets positions) (held_fault (accounts_of positions) nets positions) refl refl)
 
-    pub nets_hold : net_fault ids accounts nets positions ≡ None → held_fault accounts nets positions ≡ None → All ArePortfolio nets
+    pub nets_hold : net_fault ids (accounts_of positions) nets positions ≡ None → held_fault (accounts_of positions) nets positions ≡ None → All ArePortfolio nets
     nets_hold none few =
-        portfolios_hold contracts positions accounts nets ledger.accounts_are holdings
+        portfolios_hold contracts positions (accounts_of positions) nets refl holdings
         (fit_from_none fault.NetOutOfRange (exceeds_net positions) positions
-        (sym (net_fault_any contracts positions accounts nets ledger.accounts_are holdings known) ∙ ap (λ k. net_fault k accounts nets positions) (sym ids_are) ∙ none))
+        (sym (net_fault_any contracts positions (accounts_of positions) nets refl holdings known) ∙ ap (λ k. net_fault k (accounts_of positions) nets positions) (sym ids_are) ∙ none))
         (fit_from_none fault.TooManyHeld (exceeds_held contracts positions) positions
-        (sym (held_fault_any contracts positions accounts nets ledger.accounts_are holdings known) ∙ few))
+        (sym (held_fault_any contracts positions (accounts_of positions) nets refl holdings known) ∙ few))
 
-    pub as_many : length nets ≡ length accounts
-    as_many = ap length holdings ∙ length-map accounts (holdings_of contracts positions)
+    pub as_many : length nets ≡ length (accounts_of positions)
+    as_many = ap length holdings ∙ length-map (accounts_of positions) (holdings_of contracts positions)
 
 -- what settling answers
 module _ (ids accounts : List (List ℕ)) (nets : List (List Holding)) (positions : List PositionRecord) where

@@ -14,9 +14,10 @@ use Rattle.span_tables.specs.declared.limits.TheConstants.{MAX_NET, MAX_HELD}
 use Rattle.span_tables.specs.declared.portfolios.Holding.{Holding}
 use Rattle.span_tables.specs.declared.records.Contract.{Contract}
 use Rattle.span_tables.specs.declared.records.PositionRecord.{PositionRecord}
+use Rattle.span_tables.proofs.NameLaws.{distinct_same}
 use Rattle.param_check.specs.Binding.{exceeds_net, exceeds_held}
 use Rattle.param_check.specs.Holdings.{paired}
-use Rattle.param_check.proofs.AccountLaws.{same_bytes, bytes_eq-refl, among_distinct}
+use Rattle.param_check.proofs.AccountLaws.{same_bytes, bytes_eq-refl}
 use Rattle.param_check.proofs.OrderLaws.{held_rise}
 
 module _ (positions : List PositionRecord) (account name : List ℕ) where
@@ -103,7 +104,7 @@ module _ (contracts : List Contract) (positions : List PositionRecord) (accounts
       (λ k d lt.
       let name = get_or accounts k d in
       let among : list_any (bytes_eq name) (map (λ p. p.account) positions) ≡ true =
-      sym (among_distinct (map (λ (p : PositionRecord). p.account) positions) name) ∙ ap (list_any (bytes_eq name)) (sym are) ∙ list_any_at (bytes_eq name) accounts k d lt (bytes_eq-refl name) in
+      sym (distinct_same (map (λ (p : PositionRecord). p.account) positions) name) ∙ ap (list_any (bytes_eq name)) (sym are) ∙ list_any_at (bytes_eq name) accounts k d lt (bytes_eq-refl name) in
       portfolio_holds contracts positions name within (few_from contracts positions name positions among few)))
 
   paired_map : (ks : List (List ℕ)) → paired ks (map (holdings_of contracts positions) ks)
