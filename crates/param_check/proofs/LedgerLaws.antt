@@ -2,7 +2,7 @@
 use Rattle.std.proofs.Common.{◌≡◌, ℕ, ◌+◌, ◌<◌, Bool, true, false, cond, ◌||◌, List, [], ◌∷◌, ◌++◌, length, get_or, map, replicate, set, take, Some, None, slice_get, refl, sym, ap, subst, ◌∙◌, arith}
 use Rattle.std.specs.Prelude.{All, bytes_eq}
 use Rattle.std.specs.List.{list_any}
-use Rattle.std.proofs.lemmas.List.{get_or-map, length-map, take_more}
+use Rattle.std.proofs.lemmas.List.{get_or-map, get_or_default, length-map, take_more}
 use Rattle.std.proofs.lemmas.List.Folds.{list_any-append}
 use Rattle.std.proofs.lemmas.Option.{slice_get-get_or}
 use Rattle.span_tables.specs.Names.{has_repeat}
@@ -57,10 +57,18 @@ module _ (positions : List PositionRecord) (records : List NumberedPosition) (na
       ap f at ∙ sym (get_or-map f records i r (f r) lt) ∙ ap (λ ps. get_or ps i (f r)) named
 
   -- and its account at that of the number
+  pub number_within : (i : ℕ) (r : NumberedPosition) → i < length records → r ≡ get_or records i r → r.account < length (accounts_of positions)
+  number_within i r lt at = subst (λ (p : NumberedPosition). p.account < length (accounts_of positions)) (sym at) (known i r lt)
+
   pub account_at : (i : ℕ) (r : NumberedPosition) → i < length records → r ≡ get_or records i r
       → slice_get (accounts_of positions) r.account ≡ Some (get_or (accounts_of positions) r.account [])
-  account_at i r lt at =
-      slice_get-get_or (accounts_of positions) r.account [] (subst (λ (p : NumberedPosition). p.account < length (accounts_of positions)) (sym at) (known i r lt))
+  account_at i r lt at = slice_get-get_or (accounts_of positions) r.account [] (number_within i r lt at)
+
+  -- whatever is read there is its name
+  pub account_is : (i : ℕ) (r : NumberedPosition) (names : List (List ℕ)) (name : List ℕ) → i < length records → r ≡ get_or records i r
+      → names ≡ accounts_of positions → name ≡ get_or names r.account name → name ≡ get_or (accounts_of positions) r.account []
+  account_is i r names name lt at are is =
+      is ∙ ap (λ ns. get_or ns r.account name) are ∙ get_or_default (accounts_of positions) r.account name [] (number_within i r lt at)
 
   -- accounts stand apart
   pub apart : has_repeat bytes_eq (accounts_of positions) ≡ false
@@ -81,17 +89,16 @@ module _ (positions : List PositionRecord) (records : List NumberedPosition) (na
           (accounts_of positions) r.account apart (account_at i r lt at)
       ∙ ap (λ ps. map (entries_of ids ps) (accounts_of positions)) (sym next)
 
-  -- and no contract so far is unknown
-  pub known_step : (ids : List (List ℕ)) (i : ℕ) (r : NumberedPosition) → i < length records → r ≡ get_or records i r
-      → list_any (is_foreign ids) (take i positions) ≡ false → is_foreign ids (named_position (accounts_of positions) r) ≡ false
-      → list_any (is_foreign ids) (take (i + 1) positions) ≡ false
-  known_step ids i r lt at was one =
+  -- and a test that no record so far passes
+  pub none_step : (test : PositionRecord → Bool) (i : ℕ) (r : NumberedPosition) → i < length records → r ≡ get_or records i r
+      → list_any test (take i positions) ≡ false → test (named_position (accounts_of positions) r) ≡ false → list_any test (take (i + 1) positions) ≡ false
+  none_step test i r lt at was one =
       let p = named_position (accounts_of positions) r in
       let lt' : i < length positions = omega (arith, lt, as_many) in
       let next : take (i + 1) positions ≡ take i positions ++ p ∷ [] = take_more positions i p lt' ∙ ap (λ z. take i positions ++ z ∷ []) (sym (record_at i r lt at)) in
-      ap (list_any (is_foreign ids)) next
-      ∙ list_any-append (is_foreign ids) (take i positions) (p ∷ [])
-      ∙ ap (λ b. b || (is_foreign ids p || false)) was
+      ap (list_any test) next
+      ∙ list_any-append test (take i positions) (p ∷ [])
+      ∙ ap (λ b. b || (test p || false)) was
       ∙ ap (λ b. b || false) one
 
 -- no entry at first

@@ -9,6 +9,7 @@ pub mod KeyLemmas
 pub mod LedgerLaws
 pub mod LimitLaws
 pub mod NetLaws
+pub mod NumberedUnfit
 pub mod OrderLaws
 pub mod OverlapLemmas
 pub mod PlaceLaws

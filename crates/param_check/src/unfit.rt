@@ -61,23 +61,24 @@ fn any_many(nets: &[AccountNets]) -> bool
 }
 
 // Whether a record's net is over the limit.
-fn exceeds_net(numbers: &IndexSet<Name>, nets: &[AccountNets], position: &NumberedPosition) -> bool
-    ensures { result ≡ over_at (Some position.now.account) (position (bytes_eq position.now.contract) numbers.now.keys) nets.now }
+fn exceeds_net(numbers: &IndexSet<Name>, nets: &[AccountNets], numbered: &NumberedPosition) -> bool
+    ensures { result
+        ≡ over_at (Some numbered.now.account) (position (bytes_eq numbered.now.contract) numbers.now.keys) nets.now }
 {
-    let Some(contract) = numbers.get_index_of(&position.contract) else {
+    let Some(contract) = numbers.get_index_of(&numbered.contract) else {
         return false;
     };
-    match nets.get(position.account as usize) {
+    match nets.get(numbered.account as usize) {
         Some(holdings) => is_over_at(holdings.as_slice(), contract),
         None => false,
     }
 }
 
 // Whether a record's account holds too many contracts.
-fn exceeds_held(nets: &[AccountNets], position: &NumberedPosition) -> bool
-    ensures { result ≡ many_at (Some position.now.account) nets.now }
+fn exceeds_held(nets: &[AccountNets], numbered: &NumberedPosition) -> bool
+    ensures { result ≡ many_at (Some numbered.now.account) nets.now }
 {
-    match nets.get(position.account as usize) {
+    match nets.get(numbered.account as usize) {
         Some(holdings) => is_many(holdings),
         None => false,
     }
