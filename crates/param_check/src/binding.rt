@@ -1,7 +1,7 @@
 //! The binding of positions to tables.
 ghost use Rattle.std.specs.Prelude.{◌≡◌, false, None, length, bytes_eq, All, IfOk};
-ghost use Rattle.param_check.specs.Binding.{bound, is_memory};
-ghost use Rattle.param_check.specs.Holdings.{held_fault, net_fault, paired, settled};
+ghost use Rattle.param_check.specs.Binding.{bindings_of, is_memory};
+ghost use Rattle.param_check.specs.Holdings.{held_fault, net_fault, portfolios_from, portfolios_or_fault};
 ghost use Rattle.span_tables.specs.Gives.{Gives};
 ghost use Rattle.span_tables.specs.Holdings.{ArePortfolio};
 ghost use Rattle.span_tables.specs.Names.{has_repeat};
@@ -28,7 +28,7 @@ fn portfolios(
 ) -> Result<Portfolios, AllocError>
     requires as_many { length nets.items ≡ length accounts.now }
     requires fit { All ArePortfolio nets.items }
-    ensures { IfOk result (λ all. all ≡ paired accounts.now nets.items) }
+    ensures { IfOk result (λ all. all ≡ portfolios_from accounts.now nets.items) }
 {
     let mut all = Vec::with_capacity(alloc, accounts.len())?;
     for held in nets {
@@ -48,7 +48,8 @@ fn settle(
     requires as_many { length nets.items ≡ length (accounts_of positions.now) }
     requires fit { net_fault numbers.now.keys (accounts_of positions.now) nets.items positions.now ≡ None
         → held_fault (accounts_of positions.now) nets.items positions.now ≡ None → All ArePortfolio nets.items }
-    ensures { Gives is_memory result (settled numbers.now.keys (accounts_of positions.now) nets.items positions.now) }
+    ensures { Gives is_memory result
+        (portfolios_or_fault numbers.now.keys (accounts_of positions.now) nets.items positions.now) }
 {
     if let Some(fault) = net_fault(numbers, &nets, positions) {
         return Err(fault);
@@ -67,7 +68,7 @@ pub(crate) fn bind_positions(
     positions: &RawPositions,
 ) -> Result<Portfolios, BindFault>
     requires { has_repeat (λ x y. bytes_eq x.id y.id) contracts.now ≡ false }
-    ensures { Gives is_memory result (bound contracts.now positions.now) }
+    ensures { Gives is_memory result (bindings_of contracts.now positions.now) }
 {
     let numbers = contract_numbers(alloc, contracts)?;
     let books = gather(alloc, &numbers, positions)?;
@@ -81,7 +82,7 @@ pub fn bind(
     tables: &Tables,
     positions: &RawPositions,
 ) -> Result<Portfolios, BindFault>
-    ensures { Gives is_memory result (bound tables.now.contracts positions.now) }
+    ensures { Gives is_memory result (bindings_of tables.now.contracts positions.now) }
 {
     bind_positions(alloc, tables.contracts(), positions)
 }

@@ -91,17 +91,14 @@ fn record(account: &[u8], contract: u32, quantity: i32) -> PositionRecord {
     }
 }
 
-// The positions of these records.
-fn positions(
-    rt: &impl Abort,
-    alloc: Global,
-    records: &[PositionRecord],
-) -> Result<RawPositions, AllocError> {
+// The positions of these records, which are within the limits.
+fn positions(alloc: Global, records: &[PositionRecord]) -> Result<RawPositions, AllocError> {
     let mut accounts = IndexSet::new(alloc);
     let mut all: Vec<NumberedPosition> = Vec::new(alloc);
     for record in records {
-        assert!(rt; is_in_range(record.quantity));
-        assert!(rt; accounts.len() < MAX_ACCOUNTS);
+        if accounts.len() >= MAX_ACCOUNTS || !is_in_range(record.quantity) {
+            return Err(AllocError);
+        }
         let (place, _) = accounts.insert_full(record.account.copied())?;
         all.push(NumberedPosition {
             contract: record.contract.copied(),
@@ -129,7 +126,7 @@ fn fault_of(
 ) -> Result<Option<BindFault>, AllocError> {
     let contracts = contracts(alloc, count)?;
     assert!(rt; is_apart(&contracts));
-    match bind_positions(alloc, &contracts, &positions(rt, alloc, records)?) {
+    match bind_positions(alloc, &contracts, &positions(alloc, records)?) {
         Ok(_) => Ok(None),
         Err(BindFault::OutOfMemory) => Err(AllocError),
         Err(fault) => Ok(Some(fault)),
@@ -152,7 +149,7 @@ fn portfolios_in_order_of_appearance(rt: HostRuntime) -> Result<(), Fail> {
         record(b"X", 0, -7),
         record(b"Z", 1, 0),
     ]?;
-    let all = bind_positions(alloc, &contracts, &positions(&rt, alloc, &records)?)?.into_vec();
+    let all = bind_positions(alloc, &contracts, &positions(alloc, &records)?)?.into_vec();
     assert_eq!(rt; all.len(), 3);
     assert!(rt; is_holding(&all[0], b"Y", &[(0, -4), (2, 15)]));
     assert!(rt; is_holding(&all[1], b"X", &[(1, 99_999)]));
@@ -266,7 +263,7 @@ fn binds_to_tables(rt: HostRuntime) -> Result<(), Fail> {
     let alloc = rt.alloc();
     let tables = check(alloc, two_contracts(alloc)?)?;
     let records = vec![in alloc; record(b"Y", 1, -3), record(b"X", 0, 4), record(b"Y", 1, 5)]?;
-    let all = bind(alloc, &tables, &positions(&rt, alloc, &records)?)?.into_vec();
+    let all = bind(alloc, &tables, &positions(alloc, &records)?)?.into_vec();
     assert_eq!(rt; all.len(), 2);
     assert!(rt; is_holding(&all[0], b"Y", &[(1, 2)]));
     assert!(rt; is_holding(&all[1], b"X", &[(0, 4)]));

@@ -1,6 +1,6 @@
 use Rattle.std.proofs.Common.{◌∙◌, ap}
 use Rattle.span_tables.specs.Net.{accounts_of}
-use Rattle.param_check.specs.Holdings.{net_fault, held_fault, paired}
+use Rattle.param_check.specs.Holdings.{net_fault, held_fault, portfolios_from}
 use Rattle.param_check.proofs.BindLaws.{settled_net, settled_held, settled_all}
 use Rattle.param_check.proofs.binding.settle.Goals as goal
 
@@ -20,4 +20,4 @@ returns c =
     settled_all c.args.numbers.now.keys (accounts_of c.args.positions.now) c.args.nets.items c.args.positions.now c.in_ok-all.all
     (c.in_default.ensures ∙ ap (λ ns. net_fault c.args.numbers.now.keys (accounts_of c.args.positions.now) ns c.args.positions.now) c.deref.ensures.value)
     (c.in_default-held_fault.ensures ∙ ap (λ ns. held_fault (accounts_of c.args.positions.now) ns c.args.positions.now) c.deref-2.ensures.value)
-    (c.in_ok-all.ensures ∙ ap (λ ks. paired ks c.args.nets.items) c.accounts.ensures.value)
+    (c.in_ok-all.ensures ∙ ap (λ ks. portfolios_from ks c.args.nets.items) c.accounts.ensures.value)
