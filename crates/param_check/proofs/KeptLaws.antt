@@ -8,12 +8,13 @@ use Rattle.std.proofs.lemmas.List.{length-map}
 use Rattle.span_tables.specs.Faults.{ok_unless}
 use Rattle.span_tables.specs.Holdings.{ArePortfolio}
 use Rattle.span_tables.specs.Names.{has_repeat}
+use Rattle.span_tables.specs.Net.{accounts_of}
 use Rattle.span_tables.specs.declared.limits.TheConstants.{MAX_NET, MAX_HELD}
 use Rattle.span_tables.specs.declared.portfolios.Holding.{Holding}
 use Rattle.span_tables.specs.declared.records.Contract.{Contract}
 use Rattle.span_tables.specs.declared.records.PositionRecord.{PositionRecord}
-use Rattle.param_check.specs.Binding.{first_unfit, bound}
-use Rattle.param_check.specs.Holdings.{ids_of, is_over, is_over_at, over_at, net_exceeds, are_many, many_at, held_exceeds, net_fault, held_fault, paired, settled}
+use Rattle.param_check.specs.Binding.{first_unfit, bindings_of}
+use Rattle.param_check.specs.Holdings.{ids_of, is_over, is_over_at, over_at, net_exceeds, are_many, many_at, held_exceeds, net_fault, held_fault, portfolios_from, portfolios_or_fault}
 use Rattle.param_check.specs.Ledger.{IsLedger}
 use Rattle.param_check.specs.Nets.{entry_holdings}
 use Rattle.param_check.specs.steps.Sums.{kept_holding, kept_net, kept_holdings}
@@ -103,8 +104,8 @@ all_same (hs ∷ nets) all =
     let rest = all_same nets (λ k d lt. all (suc k) d (omega (arith, lt))) in
     λ i. here i ∷ rest i
 
-module _ (contracts : List Contract) (positions : List PositionRecord) (ids accounts : List (List ℕ)) (books : List (List Entry)) (nets : List (List Holding))
-    (apart : has_repeat (λ x y. bytes_eq x.id y.id) contracts ≡ false) (ids_are : ids ≡ ids_of contracts) (ledger : IsLedger ids positions accounts books)
+module _ (contracts : List Contract) (positions : List PositionRecord) (ids : List (List ℕ)) (books : List (List Entry)) (nets : List (List Holding))
+    (apart : has_repeat (λ x y. bytes_eq x.id y.id) contracts ≡ false) (ids_are : ids ≡ ids_of contracts) (ledger : IsLedger ids positions books)
     (nets_are : nets ≡ map (kept_holdings (length contracts)) books) where
   exact : List (List Holding)
   exact = map (entry_holdings (length contracts)) books
@@ -117,37 +118,37 @@ module _ (contracts : List Contract) (positions : List PositionRecord) (ids acco
       each [] = refl
       each (b ∷ bs) = ap (λ ns. kept_holdings (length contracts) b ∷ ns) (each bs)
 
-  exact_hold : net_fault ids accounts exact positions ≡ None → held_fault accounts exact positions ≡ None → All ArePortfolio exact
+  exact_hold : net_fault ids (accounts_of positions) exact positions ≡ None → held_fault (accounts_of positions) exact positions ≡ None → All ArePortfolio exact
   unfolding exact
-  exact_hold = nets_hold contracts positions ids accounts books exact apart ids_are ledger refl
+  exact_hold = nets_hold contracts positions ids books exact apart ids_are ledger refl
 
-  net_fault_is : net_fault ids accounts nets positions ≡ net_fault ids accounts exact positions
-  net_fault_is = ap (λ ns. net_fault ids accounts ns positions) are_kept ∙ net_fault_kept ids accounts exact positions
+  net_fault_is : net_fault ids (accounts_of positions) nets positions ≡ net_fault ids (accounts_of positions) exact positions
+  net_fault_is = ap (λ ns. net_fault ids (accounts_of positions) ns positions) are_kept ∙ net_fault_kept ids (accounts_of positions) exact positions
 
-  held_fault_is : held_fault accounts nets positions ≡ held_fault accounts exact positions
-  held_fault_is = ap (λ ns. held_fault accounts ns positions) are_kept ∙ held_fault_kept ids accounts exact positions
+  held_fault_is : held_fault (accounts_of positions) nets positions ≡ held_fault (accounts_of positions) exact positions
+  held_fault_is = ap (λ ns. held_fault (accounts_of positions) ns positions) are_kept ∙ held_fault_kept ids (accounts_of positions) exact positions
 
   -- what the kept nets are settled to is what the records are bound to
-  pub kept_settled : settled ids accounts nets positions ≡ bound contracts positions
-  unfolding settled exact
-  kept_settled = by (net_fault ids accounts exact positions) (held_fault accounts exact positions) refl refl ∙ exact_settled
+  pub kept_settled : portfolios_or_fault ids (accounts_of positions) nets positions ≡ bindings_of contracts positions
+  unfolding portfolios_or_fault exact
+  kept_settled = by (net_fault ids (accounts_of positions) exact positions) (held_fault (accounts_of positions) exact positions) refl refl ∙ exact_settled
     where
-      exact_settled : settled ids accounts exact positions ≡ bound contracts positions
-      exact_settled = bound_settled contracts positions ids accounts books exact apart ids_are ledger refl
+      exact_settled : portfolios_or_fault ids (accounts_of positions) exact positions ≡ bindings_of contracts positions
+      exact_settled = bound_settled contracts positions ids books exact apart ids_are ledger refl
 
-      settles : (ns : List (List Holding)) (b2 b3 : Option BindFault) → net_fault ids accounts ns positions ≡ b2 → held_fault accounts ns positions ≡ b3
-          → settled ids accounts ns positions ≡ ok_unless (option_or b2 b3) (paired accounts ns)
+      settles : (ns : List (List Holding)) (b2 b3 : Option BindFault) → net_fault ids (accounts_of positions) ns positions ≡ b2 → held_fault (accounts_of positions) ns positions ≡ b3
+          → portfolios_or_fault ids (accounts_of positions) ns positions ≡ ok_unless (option_or b2 b3) (portfolios_from (accounts_of positions) ns)
       settles ns b2 b3 x y =
-          ap (λ o. ok_unless (option_or o (held_fault accounts ns positions)) (paired accounts ns)) x ∙ ap (λ o. ok_unless (option_or b2 o) (paired accounts ns)) y
+          ap (λ o. ok_unless (option_or o (held_fault (accounts_of positions) ns positions)) (portfolios_from (accounts_of positions) ns)) x ∙ ap (λ o. ok_unless (option_or b2 o) (portfolios_from (accounts_of positions) ns)) y
 
-      by : (b2 b3 : Option BindFault) → net_fault ids accounts exact positions ≡ b2 → held_fault accounts exact positions ≡ b3
-          → settled ids accounts nets positions ≡ settled ids accounts exact positions
+      by : (b2 b3 : Option BindFault) → net_fault ids (accounts_of positions) exact positions ≡ b2 → held_fault (accounts_of positions) exact positions ≡ b3
+          → portfolios_or_fault ids (accounts_of positions) nets positions ≡ portfolios_or_fault ids (accounts_of positions) exact positions
       by (Some e) b3 x y = settles nets (Some e) b3 (net_fault_is ∙ x) (held_fault_is ∙ y) ∙ sym (settles exact (Some e) b3 x y)
       by None (Some e) x y = settles nets None (Some e) (net_fault_is ∙ x) (held_fault_is ∙ y) ∙ sym (settles exact None (Some e) x y)
-      by None None x y = ap (λ ns. settled ids accounts ns positions) (are_kept ∙ all_same exact (exact_hold x y))
+      by None None x y = ap (λ ns. portfolios_or_fault ids (accounts_of positions) ns positions) (are_kept ∙ all_same exact (exact_hold x y))
 
   -- and they are portfolios where there is no fault
-  pub kept_hold : net_fault ids accounts nets positions ≡ None → held_fault accounts nets positions ≡ None → All ArePortfolio nets
+  pub kept_hold : net_fault ids (accounts_of positions) nets positions ≡ None → held_fault (accounts_of positions) nets positions ≡ None → All ArePortfolio nets
   kept_hold none few =
       let holds = exact_hold (sym net_fault_is ∙ none) (sym held_fault_is ∙ few) in
       subst (All ArePortfolio) (sym (are_kept ∙ all_same exact holds)) holds

@@ -1,19 +1,25 @@
 -- Laws of the ledger, record by record.
-use Rattle.std.proofs.Common.{◌≡◌, ℕ, ◌+◌, ◌<◌, Bool, true, false, cond, List, [], ◌∷◌, ◌++◌, length, get_or, take, Some, None, slice_get, refl, sym, ap, subst, ◌∙◌}
-use Rattle.std.specs.Prelude.{bytes_eq}
-use Rattle.std.specs.List.{list_any, IsDistinct}
-use Rattle.std.proofs.lemmas.List.{take_more}
-use Rattle.indexmap.specs.IndexSet.{insert_key}
+use Rattle.std.proofs.Common.{◌≡◌, ℕ, ◌+◌, ◌<◌, Bool, true, false, cond, ◌||◌, List, [], ◌∷◌, ◌++◌, length, get_or, map, replicate, set, take, Some, None, slice_get, refl, sym, ap, subst, ◌∙◌, arith}
+use Rattle.std.specs.Prelude.{All, bytes_eq}
+use Rattle.std.specs.List.{list_any}
+use Rattle.std.proofs.lemmas.List.{get_or-map, get_or_default, length-map, take_more}
+use Rattle.std.proofs.lemmas.List.Folds.{list_any-append}
+use Rattle.std.proofs.lemmas.Option.{slice_get-get_or}
+use Rattle.span_tables.specs.Names.{has_repeat}
+use Rattle.span_tables.specs.Net.{accounts_of}
+use Rattle.span_tables.specs.Positions.{named_position, named_positions}
+use Rattle.span_tables.specs.declared.records.NumberedPosition.{NumberedPosition}
 use Rattle.span_tables.specs.declared.records.PositionRecord.{PositionRecord}
-use Rattle.param_check.specs.Ledger.{is_foreign, known_entry, foreign_fault, entered, IsLedger}
-use Rattle.param_check.specs.Nets.{entry_of}
+use Rattle.span_tables.proofs.NameLaws.{distinct_once}
+use Rattle.param_check.specs.Ledger.{is_foreign, known_entry, foreign_fault}
+use Rattle.param_check.specs.Nets.{entry_of, entries_of}
 use Rattle.param_check.specs.declared.faults.BindFault.TheVariants as fault
 use Rattle.param_check.specs.declared.nets.Entry.{Entry}
-use Rattle.param_check.proofs.AccountLaws.{ledger_more}
+use Rattle.param_check.proofs.AccountLaws.{entered_known, entries_push}
 use Rattle.param_check.proofs.UnfitLaws.{unfit_found}
 
 -- what the entry of a record says of its contract
-pub foreign_from_none : (ids : List (List ℕ)) (p : PositionRecord) → None ≡ known_entry ids p → is_foreign ids p ≡ true
+pub foreign_from_none : (ids : List (List ℕ)) (p : PositionRecord) → None ≡ known_entry ids p.contract p.quantity → is_foreign ids p ≡ true
 unfolding known_entry
 foreign_from_none ids p h = by (is_foreign ids p) h
   where
@@ -21,7 +27,7 @@ foreign_from_none ids p h = by (is_foreign ids p) h
     by true e = refl
     by false e = cc
 
-pub known_from_some : (ids : List (List ℕ)) (p : PositionRecord) (e : Entry) → Some e ≡ known_entry ids p → (is_foreign ids p ≡ false) × (e ≡ entry_of ids p)
+pub known_from_some : (ids : List (List ℕ)) (p : PositionRecord) (e : Entry) → Some e ≡ known_entry ids p.contract p.quantity → (is_foreign ids p ≡ false) × (e ≡ entry_of ids p)
 unfolding known_entry
 known_from_some ids p e h = by (is_foreign ids p) h
   where
@@ -36,14 +42,66 @@ pub foreign_found : (ids : List (List ℕ)) (positions : List PositionRecord) (i
 unfolding foreign_fault
 foreign_found ids positions i p lt at h e = unfit_found fault.UnknownContract (is_foreign ids) positions i p lt (sym at) h e
 
--- the ledger after the record at a place
-pub ledger_step : (ids : List (List ℕ)) (positions : List PositionRecord) (i : ℕ) (p : PositionRecord) (keys keys' : List (List ℕ)) (books books' : List (List Entry)) (a : ℕ) (e : Entry)
-    → i < length positions → p ≡ get_or positions i p → IsLedger ids (take i positions) keys books → Some e ≡ known_entry ids p
-    → keys' ≡ insert_key bytes_eq keys p.account → IsDistinct bytes_eq keys' → slice_get keys' a ≡ Some p.account → books' ≡ entered books a e
-    → IsLedger ids (take (i + 1) positions) keys' books'
-ledger_step ids positions i p keys keys' books books' a e lt at was some are apart stands more =
-    let known = known_from_some ids p e some in
-    let next : take (i + 1) positions ≡ take i positions ++ p ∷ [] = take_more positions i p lt ∙ ap (λ z. take i positions ++ z ∷ []) (sym at) in
-    let same : entered books a (entry_of ids p) ≡ books' = sym (more ∙ ap (entered books a) known.1) in
-    subst (λ ps. IsLedger ids ps keys' books') (sym next)
-    (subst (IsLedger ids (take i positions ++ p ∷ []) keys') same (ledger_more ids (take i positions) p keys books keys' a was known.0 are apart stands))
+-- ---- records by the numbers of their accounts
+
+module _ (positions : List PositionRecord) (records : List NumberedPosition) (named : named_positions (accounts_of positions) records ≡ positions)
+    (known : All (λ (p : NumberedPosition). p.account < length (accounts_of positions)) records) where
+  pub as_many : length records ≡ length positions
+  as_many = sym (length-map records (named_position (accounts_of positions))) ∙ ap length named
+
+  -- the record that a numbered one stands for is at its place
+  pub record_at : (i : ℕ) (r : NumberedPosition) → i < length records → r ≡ get_or records i r
+      → named_position (accounts_of positions) r ≡ get_or positions i (named_position (accounts_of positions) r)
+  record_at i r lt at =
+      let f = named_position (accounts_of positions) in
+      ap f at ∙ sym (get_or-map f records i r (f r) lt) ∙ ap (λ ps. get_or ps i (f r)) named
+
+  -- and its account at that of the number
+  pub number_within : (i : ℕ) (r : NumberedPosition) → i < length records → r ≡ get_or records i r → r.account < length (accounts_of positions)
+  number_within i r lt at = subst (λ (p : NumberedPosition). p.account < length (accounts_of positions)) (sym at) (known i r lt)
+
+  pub account_at : (i : ℕ) (r : NumberedPosition) → i < length records → r ≡ get_or records i r
+      → slice_get (accounts_of positions) r.account ≡ Some (get_or (accounts_of positions) r.account [])
+  account_at i r lt at = slice_get-get_or (accounts_of positions) r.account [] (number_within i r lt at)
+
+  -- whatever is read there is its name
+  pub account_is : (i : ℕ) (r : NumberedPosition) (names : List (List ℕ)) (name : List ℕ) → i < length records → r ≡ get_or records i r
+      → names ≡ accounts_of positions → name ≡ get_or names r.account name → name ≡ get_or (accounts_of positions) r.account []
+  account_is i r names name lt at are is =
+      is ∙ ap (λ ns. get_or ns r.account name) are ∙ get_or_default (accounts_of positions) r.account name [] (number_within i r lt at)
+
+  -- accounts stand apart
+  pub apart : has_repeat bytes_eq (accounts_of positions) ≡ false
+  apart = distinct_once (map (λ (p : PositionRecord). p.account) positions)
+
+  -- the books after the record at a place
+  pub books_step : (ids : List (List ℕ)) (i : ℕ) (r : NumberedPosition) (books books' : List (List Entry)) (e : Entry)
+      → i < length records → r ≡ get_or records i r → books ≡ map (entries_of ids (take i positions)) (accounts_of positions) → e ≡ entry_of ids (named_position (accounts_of positions) r)
+      → books' ≡ set books r.account (get_or books r.account [] ++ e ∷ []) → books' ≡ map (entries_of ids (take (i + 1) positions)) (accounts_of positions)
+  books_step ids i r books books' e lt at was is more =
+      let p = named_position (accounts_of positions) r in
+      let lt' : i < length positions = omega (arith, lt, as_many) in
+      let next : take (i + 1) positions ≡ take i positions ++ p ∷ [] = take_more positions i p lt' ∙ ap (λ z. take i positions ++ z ∷ []) (sym (record_at i r lt at)) in
+      more
+      ∙ ap (λ bs. set bs r.account (get_or bs r.account [] ++ e ∷ [])) was
+      ∙ ap (λ x. set (map (entries_of ids (take i positions)) (accounts_of positions)) r.account (get_or (map (entries_of ids (take i positions)) (accounts_of positions)) r.account [] ++ x ∷ [])) is
+      ∙ entered_known (entries_of ids (take i positions)) (entries_of ids (take i positions ++ p ∷ [])) p.account (entry_of ids p) (entries_push ids (take i positions) p)
+          (accounts_of positions) r.account apart (account_at i r lt at)
+      ∙ ap (λ ps. map (entries_of ids ps) (accounts_of positions)) (sym next)
+
+  -- and a test that no record so far passes
+  pub none_step : (test : PositionRecord → Bool) (i : ℕ) (r : NumberedPosition) → i < length records → r ≡ get_or records i r
+      → list_any test (take i positions) ≡ false → test (named_position (accounts_of positions) r) ≡ false → list_any test (take (i + 1) positions) ≡ false
+  none_step test i r lt at was one =
+      let p = named_position (accounts_of positions) r in
+      let lt' : i < length positions = omega (arith, lt, as_many) in
+      let next : take (i + 1) positions ≡ take i positions ++ p ∷ [] = take_more positions i p lt' ∙ ap (λ z. take i positions ++ z ∷ []) (sym (record_at i r lt at)) in
+      ap (list_any test) next
+      ∙ list_any-append test (take i positions) (p ∷ [])
+      ∙ ap (λ b. b || (test p || false)) was
+      ∙ ap (λ b. b || false) one
+
+-- no entry at first
+pub no_entries : (ids : List (List ℕ)) (accounts : List (List ℕ)) → replicate (length accounts) [] ≡ map (entries_of ids []) accounts
+no_entries ids [] = refl
+no_entries ids (a ∷ accounts) = ap (λ books. [] ∷ books) (no_entries ids accounts)

@@ -13,6 +13,7 @@ pub mod LedgerLaws
 pub mod LimitLaws
 pub mod MarkLaws
 pub mod NetLaws
+pub mod NumberedUnfit
 pub mod OrderLaws
 pub mod OverlapLemmas
 pub mod PlaceLaws

@@ -10,11 +10,12 @@ use Rattle.span_tables.specs.declared.limits.TheConstants.{MAX_NET, MAX_HELD}
 use Rattle.span_tables.specs.declared.portfolios.Holding.{Holding}
 use Rattle.span_tables.specs.declared.records.Contract.{Contract}
 use Rattle.span_tables.specs.declared.records.PositionRecord.{PositionRecord}
+use Rattle.span_tables.proofs.NameLaws.{distinct_same}
 use Rattle.param_check.specs.Binding.{first_unfit, is_unknown, is_first_of_contract, is_first_of_account, exceeds_net, exceeds_held}
 use Rattle.param_check.specs.Holdings.{ids_of, is_over, is_over_at, over_at, net_exceeds, are_many, many_at, held_exceeds, net_fault, held_fault}
 use Rattle.param_check.specs.Ledger.{is_foreign, foreign_fault}
 use Rattle.param_check.specs.declared.faults.BindFault.TheVariants as fault
-use Rattle.param_check.proofs.AccountLaws.{same_bytes, bytes_eq-refl, bytes_eq-flip, among_distinct}
+use Rattle.param_check.proofs.AccountLaws.{same_bytes, bytes_eq-refl, bytes_eq-flip}
 use Rattle.param_check.proofs.KindLaws.{net_of_kind, held_of_kind}
 use Rattle.param_check.proofs.UnfitLaws.{unfit_same}
 
@@ -116,7 +117,7 @@ module _ (contracts : List Contract) (positions : List PositionRecord) (accounts
   account_among : (k : ℕ) (d : PositionRecord) → k < length positions → list_any (bytes_eq (get_or positions k d).account) accounts ≡ true
   account_among k d lt =
       let name = (get_or positions k d).account in
-      ap (list_any (bytes_eq name)) accounts_are ∙ among_distinct (map (λ p. p.account) positions) name
+      ap (list_any (bytes_eq name)) accounts_are ∙ distinct_same (map (λ p. p.account) positions) name
       ∙ list_any_at (bytes_eq name) (map (λ (p : PositionRecord). p.account) positions) k [] (omega (arith, lt, length-map positions (λ (p : PositionRecord). p.account)))
       (ap (bytes_eq name) (get_or-map (λ (p : PositionRecord). p.account) positions k d [] lt) ∙ bytes_eq-refl name)
 

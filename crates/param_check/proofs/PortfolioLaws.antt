@@ -14,9 +14,10 @@ use Rattle.span_tables.specs.declared.limits.TheConstants.{MAX_NET, MAX_HELD}
 use Rattle.span_tables.specs.declared.portfolios.Holding.{Holding}
 use Rattle.span_tables.specs.declared.records.Contract.{Contract}
 use Rattle.span_tables.specs.declared.records.PositionRecord.{PositionRecord}
+use Rattle.span_tables.proofs.NameLaws.{distinct_same}
 use Rattle.param_check.specs.Binding.{exceeds_net, exceeds_held}
-use Rattle.param_check.specs.Holdings.{paired}
-use Rattle.param_check.proofs.AccountLaws.{same_bytes, bytes_eq-refl, among_distinct}
+use Rattle.param_check.specs.Holdings.{portfolios_from}
+use Rattle.param_check.proofs.AccountLaws.{same_bytes, bytes_eq-refl}
 use Rattle.param_check.proofs.OrderLaws.{held_rise}
 
 module _ (positions : List PositionRecord) (account name : List ℕ) where
@@ -103,33 +104,33 @@ module _ (contracts : List Contract) (positions : List PositionRecord) (accounts
       (λ k d lt.
       let name = get_or accounts k d in
       let among : list_any (bytes_eq name) (map (λ p. p.account) positions) ≡ true =
-      sym (among_distinct (map (λ (p : PositionRecord). p.account) positions) name) ∙ ap (list_any (bytes_eq name)) (sym are) ∙ list_any_at (bytes_eq name) accounts k d lt (bytes_eq-refl name) in
+      sym (distinct_same (map (λ (p : PositionRecord). p.account) positions) name) ∙ ap (list_any (bytes_eq name)) (sym are) ∙ list_any_at (bytes_eq name) accounts k d lt (bytes_eq-refl name) in
       portfolio_holds contracts positions name within (few_from contracts positions name positions among few)))
 
-  paired_map : (ks : List (List ℕ)) → paired ks (map (holdings_of contracts positions) ks)
+  paired_map : (ks : List (List ℕ)) → portfolios_from ks (map (holdings_of contracts positions) ks)
       ≡ map (λ account. record { account = account; holdings = holdings_of contracts positions account }) ks
   paired_map [] = refl
   paired_map (k ∷ ks) = let rest = paired_map ks in λ i. (let it : AccountHoldings = record { account = k; holdings = holdings_of contracts positions k } in it) ∷ rest i
 
   -- the portfolios are those of the definition
-  pub paired_is : (nets : List (List Holding)) → accounts ≡ accounts_of positions → nets ≡ map (holdings_of contracts positions) accounts → paired accounts nets ≡ portfolios_of contracts positions
+  pub paired_is : (nets : List (List Holding)) → accounts ≡ accounts_of positions → nets ≡ map (holdings_of contracts positions) accounts → portfolios_from accounts nets ≡ portfolios_of contracts positions
   unfolding portfolios_of
   paired_is nets are nets_are =
-      ap (paired accounts) nets_are ∙ paired_map accounts
+      ap (portfolios_from accounts) nets_are ∙ paired_map accounts
       ∙ ap (map (λ account. (let it : AccountHoldings = record { account = account; holdings = holdings_of contracts positions account } in it))) are
 
 -- one more account with its nets
 pub paired_more : (accounts : List (List ℕ)) (nets : List (List Holding)) (i : ℕ) (name : List ℕ) (held : List Holding) → i < length accounts → i ≡ length nets
-    → name ≡ get_or accounts i name → (all : List AccountHoldings) → all ≡ paired (take (length nets) accounts) nets
-    → all ++ record { account = name; holdings = held } ∷ [] ≡ paired (take (length (nets ++ held ∷ [])) accounts) (nets ++ held ∷ [])
+    → name ≡ get_or accounts i name → (all : List AccountHoldings) → all ≡ portfolios_from (take (length nets) accounts) nets
+    → all ++ record { account = name; holdings = held } ∷ [] ≡ portfolios_from (take (length (nets ++ held ∷ [])) accounts) (nets ++ held ∷ [])
 paired_more accounts nets i name held lt many at all are =
-    ap (λ xs. xs ++ (let it : AccountHoldings = record { account = name; holdings = held } in it) ∷ []) (are ∙ ap (λ n. paired (take n accounts) nets) (sym many))
+    ap (λ xs. xs ++ (let it : AccountHoldings = record { account = name; holdings = held } in it) ∷ []) (are ∙ ap (λ n. portfolios_from (take n accounts) nets) (sym many))
     ∙ sym (pairs_push (take i accounts) nets name held (length-take-le i accounts (omega (arith, lt)) ∙ many))
-    ∙ ap (λ xs. paired xs (nets ++ held ∷ [])) (sym (take_more accounts i name lt ∙ ap (λ z. take i accounts ++ z ∷ []) (sym at)))
-    ∙ ap (λ n. paired (take n accounts) (nets ++ held ∷ [])) (ap (λ n. n + 1) many ∙ sym (length-append nets (held ∷ [])))
+    ∙ ap (λ xs. portfolios_from xs (nets ++ held ∷ [])) (sym (take_more accounts i name lt ∙ ap (λ z. take i accounts ++ z ∷ []) (sym at)))
+    ∙ ap (λ n. portfolios_from (take n accounts) (nets ++ held ∷ [])) (ap (λ n. n + 1) many ∙ sym (length-append nets (held ∷ [])))
   where
     pairs_push : (ks : List (List ℕ)) (vs : List (List Holding)) (k : List ℕ) (v : List Holding) → length ks ≡ length vs
-        → paired (ks ++ k ∷ []) (vs ++ v ∷ []) ≡ paired ks vs ++ record { account = k; holdings = v } ∷ []
+        → portfolios_from (ks ++ k ∷ []) (vs ++ v ∷ []) ≡ portfolios_from ks vs ++ record { account = k; holdings = v } ∷ []
     pairs_push [] [] k v e = refl
     pairs_push [] (w ∷ vs) k v e = absurd (let f : zero ≡ suc (length vs) = e in omega (arith, f))
     pairs_push (j ∷ ks) [] k v e = absurd (let f : suc (length ks) ≡ zero = e in omega (arith, f))

@@ -45,8 +45,8 @@ bind_fault contracts all = first_some
     ∷ [])
 
 -- the portfolios of positions, or their fault
-unfoldable pub bound : List Contract → List PositionRecord → Result (List AccountHoldings) BindFault
-bound contracts all = ok_unless (bind_fault contracts all) (portfolios_of contracts all)
+unfoldable pub bindings_of : List Contract → List PositionRecord → Result (List AccountHoldings) BindFault
+bindings_of contracts all = ok_unless (bind_fault contracts all) (portfolios_of contracts all)
 
 -- the fault is want of memory, of which the definition does not speak
 abbrev pub is_memory : BindFault → Bool

@@ -53,10 +53,10 @@ unfoldable pub held_fault : List (List ℕ) → List (List Holding) → List Pos
 held_fault accounts nets positions = first_unfit fault.TooManyHeld (λ earlier p. held_exceeds accounts nets p) positions
 
 -- each account with its nets
-abbrev pub paired : List (List ℕ) → List (List Holding) → List AccountHoldings
-paired accounts nets = map (λ n. record { account = n.0; holdings = n.1 }) (zip accounts nets)
+abbrev pub portfolios_from : List (List ℕ) → List (List Holding) → List AccountHoldings
+portfolios_from accounts nets = map (λ n. record { account = n.0; holdings = n.1 }) (zip accounts nets)
 
 -- the portfolios of accounts with their nets, or the fault in them
-unfoldable pub settled : List (List ℕ) → List (List ℕ) → List (List Holding) → List PositionRecord → Result (List AccountHoldings) BindFault
-settled ids accounts nets positions =
-    ok_unless (option_or (net_fault ids accounts nets positions) (held_fault accounts nets positions)) (paired accounts nets)
+unfoldable pub portfolios_or_fault : List (List ℕ) → List (List ℕ) → List (List Holding) → List PositionRecord → Result (List AccountHoldings) BindFault
+portfolios_or_fault ids accounts nets positions =
+    ok_unless (option_or (net_fault ids accounts nets positions) (held_fault accounts nets positions)) (portfolios_from accounts nets)

@@ -1,11 +1,11 @@
 //! The binding of positions to tables.
-ghost use Rattle.std.specs.Prelude.{◌≡◌, ◌≤◌, false, None, length, bytes_eq, nat_abs, All, IfOk};
-ghost use Rattle.param_check.specs.Binding.{bound, is_memory};
-ghost use Rattle.param_check.specs.Holdings.{held_fault, net_fault, paired, settled};
+ghost use Rattle.std.specs.Prelude.{◌≡◌, false, None, length, bytes_eq, All, IfOk};
+ghost use Rattle.param_check.specs.Binding.{bindings_of, is_memory};
+ghost use Rattle.param_check.specs.Holdings.{held_fault, net_fault, portfolios_from, portfolios_or_fault};
 ghost use Rattle.span_tables.specs.Gives.{Gives};
 ghost use Rattle.span_tables.specs.Holdings.{ArePortfolio};
 ghost use Rattle.span_tables.specs.Names.{has_repeat};
-ghost use Rattle.span_tables.specs.declared.limits.TheConstants.{MAX_QUANTITY};
+ghost use Rattle.span_tables.specs.Net.{accounts_of};
 
 use crate::faults::BindFault;
 use crate::ledger::gather;
@@ -16,7 +16,7 @@ use indexmap::IndexSet;
 use span_tables::name::Name;
 use span_tables::portfolios::{Portfolio, Portfolios};
 use span_tables::raw::RawPositions;
-use span_tables::records::{Contract, PositionRecord};
+use span_tables::records::Contract;
 use span_tables::tables::Tables;
 use std::alloc::{AllocError, Global};
 
@@ -28,7 +28,7 @@ fn portfolios(
 ) -> Result<Portfolios, AllocError>
     requires as_many { length nets.items ≡ length accounts.now }
     requires fit { All ArePortfolio nets.items }
-    ensures { IfOk result (λ all. all ≡ paired accounts.now nets.items) }
+    ensures { IfOk result (λ all. all ≡ portfolios_from accounts.now nets.items) }
 {
     let mut all = Vec::with_capacity(alloc, accounts.len())?;
     for held in nets {
@@ -42,39 +42,38 @@ fn portfolios(
 fn settle(
     alloc: Global,
     numbers: &IndexSet<Name>,
-    accounts: &IndexSet<Name>,
     nets: Vec<AccountNets>,
-    records: &[PositionRecord],
+    positions: &RawPositions,
 ) -> Result<Portfolios, BindFault>
-    requires as_many { length nets.items ≡ length accounts.now.keys }
-    requires fit { net_fault numbers.now.keys accounts.now.keys nets.items records.now ≡ None
-        → held_fault accounts.now.keys nets.items records.now ≡ None → All ArePortfolio nets.items }
-    ensures { Gives is_memory result (settled numbers.now.keys accounts.now.keys nets.items records.now) }
+    requires as_many { length nets.items ≡ length (accounts_of positions.now) }
+    requires fit { net_fault numbers.now.keys (accounts_of positions.now) nets.items positions.now ≡ None
+        → held_fault (accounts_of positions.now) nets.items positions.now ≡ None → All ArePortfolio nets.items }
+    ensures { Gives is_memory result
+        (portfolios_or_fault numbers.now.keys (accounts_of positions.now) nets.items positions.now) }
 {
-    if let Some(fault) = net_fault(numbers, accounts, &nets, records) {
+    if let Some(fault) = net_fault(numbers, &nets, positions) {
         return Err(fault);
     }
-    if let Some(fault) = held_fault(accounts, &nets, records) {
+    if let Some(fault) = held_fault(&nets, positions) {
         return Err(fault);
     }
-    let all = portfolios(alloc, accounts.as_slice(), nets)?;
+    let all = portfolios(alloc, positions.accounts(), nets)?;
     Ok(all)
 }
 
 // What each account holds of these contracts, or the fault of the records.
-pub(crate) fn bind_records(
+pub(crate) fn bind_positions(
     alloc: Global,
     contracts: &[Contract],
-    records: &[PositionRecord],
+    positions: &RawPositions,
 ) -> Result<Portfolios, BindFault>
-    requires apart { has_repeat (λ x y. bytes_eq x.id y.id) contracts.now ≡ false }
-    requires quantities { All (λ p. nat_abs p.quantity ≤ MAX_QUANTITY) records.now }
-    ensures { Gives is_memory result (bound contracts.now records.now) }
+    requires { has_repeat (λ x y. bytes_eq x.id y.id) contracts.now ≡ false }
+    ensures { Gives is_memory result (bindings_of contracts.now positions.now) }
 {
     let numbers = contract_numbers(alloc, contracts)?;
-    let ledger = gather(alloc, &numbers, records)?;
-    let nets = all_nets(alloc, contracts.len(), ledger.books)?;
-    settle(alloc, &numbers, &ledger.accounts, nets, records)
+    let books = gather(alloc, &numbers, positions)?;
+    let nets = all_nets(alloc, contracts.len(), books)?;
+    settle(alloc, &numbers, nets, positions)
 }
 
 /// What each account holds, or the fault of the positions.
@@ -83,7 +82,7 @@ pub fn bind(
     tables: &Tables,
     positions: &RawPositions,
 ) -> Result<Portfolios, BindFault>
-    ensures { Gives is_memory result (bound tables.now.contracts positions.now) }
+    ensures { Gives is_memory result (bindings_of tables.now.contracts positions.now) }
 {
-    bind_records(alloc, tables.contracts(), positions.records())
+    bind_positions(alloc, tables.contracts(), positions)
 }

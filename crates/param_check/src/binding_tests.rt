@@ -1,19 +1,21 @@
-ghost use Rattle.std.specs.Prelude.{◌≡◌, ◌≤◌, All, not, bytes_eq, nat_abs, true};
+ghost use Rattle.std.specs.Prelude.{◌≡◌, ◌≤◌, not, bytes_eq, nat_abs, true};
 ghost use Rattle.span_tables.specs.declared.limits.TheConstants.{MAX_QUANTITY};
 ghost use Rattle.span_tables.specs.Limits.{contract_in_range};
 ghost use Rattle.span_tables.specs.Names.{has_repeat};
 ghost use Rattle.std.specs.List.{list_any};
 
-use crate::binding::{bind, bind_records};
+use crate::binding::{bind, bind_positions};
 use crate::check::check;
 use crate::faults::BindFault;
+use indexmap::IndexSet;
 use span_money::amounts::{Delta, Scale};
-use span_tables::limits::MAX_QUANTITY;
+use span_tables::limits::{MAX_ACCOUNTS, MAX_QUANTITY};
 use span_tables::name::Name;
 use span_tables::portfolios::Portfolio;
 use span_tables::raw::{RawPositions, RawTables};
 use span_tables::records::{
-    Commodity, Contract, MinimumMethod, PositionRecord, ProductKind, Record, SetRecord,
+    Commodity, Contract, MinimumMethod, NumberedPosition, PositionRecord, ProductKind, Record,
+    SetRecord,
 };
 use std::alloc::{AllocError, Global};
 use std::process::Abort;
@@ -74,18 +76,37 @@ fn is_apart(contracts: &[Contract]) -> bool
     }
 }
 
-fn are_in_range(records: &[PositionRecord]) -> bool
-    ensures { result ≡ true → All (λ p. nat_abs p.quantity ≤ MAX_QUANTITY) records.now }
+// Whether a quantity is in its range.
+fn is_in_range(quantity: i32) -> bool
+    ensures { result ≡ true → nat_abs quantity ≤ MAX_QUANTITY }
 {
-    records.iter().all(|record| record.quantity.unsigned_abs() <= u64::from(MAX_QUANTITY))
+    quantity.unsigned_abs() <= MAX_QUANTITY
 }
 
-fn record(account: &[u8], contract: u32, quantity: i64) -> PositionRecord {
+fn record(account: &[u8], contract: u32, quantity: i32) -> PositionRecord {
     PositionRecord {
         account: name(account),
         contract: numbered(b'C', contract),
         quantity,
     }
+}
+
+// The positions of these records, which are within the limits.
+fn positions(alloc: Global, records: &[PositionRecord]) -> Result<RawPositions, AllocError> {
+    let mut accounts = IndexSet::new(alloc);
+    let mut all: Vec<NumberedPosition> = Vec::new(alloc);
+    for record in records {
+        if accounts.len() >= MAX_ACCOUNTS || !is_in_range(record.quantity) {
+            return Err(AllocError);
+        }
+        let (place, _) = accounts.insert_full(record.account.copied())?;
+        all.push(NumberedPosition {
+            contract: record.contract.copied(),
+            account: place as u32,
+            quantity: record.quantity,
+        })?;
+    }
+    Ok(RawPositions::new(accounts, all))
 }
 
 // What an account holds: contract numbers and nets.
@@ -105,8 +126,7 @@ fn fault_of(
 ) -> Result<Option<BindFault>, AllocError> {
     let contracts = contracts(alloc, count)?;
     assert!(rt; is_apart(&contracts));
-    assert!(rt; are_in_range(records));
-    match bind_records(alloc, &contracts, records) {
+    match bind_positions(alloc, &contracts, &positions(alloc, records)?) {
         Ok(_) => Ok(None),
         Err(BindFault::OutOfMemory) => Err(AllocError),
         Err(fault) => Ok(Some(fault)),
@@ -129,8 +149,7 @@ fn portfolios_in_order_of_appearance(rt: HostRuntime) -> Result<(), Fail> {
         record(b"X", 0, -7),
         record(b"Z", 1, 0),
     ]?;
-    assert!(rt; are_in_range(&records));
-    let all = bind_records(alloc, &contracts, &records)?.into_vec();
+    let all = bind_positions(alloc, &contracts, &positions(alloc, &records)?)?.into_vec();
     assert_eq!(rt; all.len(), 3);
     assert!(rt; is_holding(&all[0], b"Y", &[(0, -4), (2, 15)]));
     assert!(rt; is_holding(&all[1], b"X", &[(1, 99_999)]));
@@ -244,9 +263,7 @@ fn binds_to_tables(rt: HostRuntime) -> Result<(), Fail> {
     let alloc = rt.alloc();
     let tables = check(alloc, two_contracts(alloc)?)?;
     let records = vec![in alloc; record(b"Y", 1, -3), record(b"X", 0, 4), record(b"Y", 1, 5)]?;
-    assert!(rt; are_in_range(&records));
-    let positions = RawPositions::new(records);
-    let all = bind(alloc, &tables, &positions)?.into_vec();
+    let all = bind(alloc, &tables, &positions(alloc, &records)?)?.into_vec();
     assert_eq!(rt; all.len(), 2);
     assert!(rt; is_holding(&all[0], b"Y", &[(1, 2)]));
     assert!(rt; is_holding(&all[1], b"X", &[(0, 4)]));

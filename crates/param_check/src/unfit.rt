@@ -1,8 +1,9 @@
 //! The records whose nets or whose accounts are over a limit.
-ghost use Rattle.std.specs.Prelude.{◌≡◌, map};
+ghost use Rattle.std.specs.Prelude.{◌≡◌, Some, bytes_eq, map, position};
 ghost use Rattle.std.specs.List.Sorted.{IsStrictlyIncreasing};
 ghost use Rattle.std.specs.List.{list_any};
-ghost use Rattle.param_check.specs.Holdings.{are_many, held_exceeds, held_fault, is_over, is_over_at, net_exceeds, net_fault};
+ghost use Rattle.param_check.specs.Holdings.{are_many, held_fault, is_over, is_over_at, many_at, net_fault, over_at};
+ghost use Rattle.span_tables.specs.Net.{accounts_of};
 
 use crate::faults::BindFault;
 use crate::nets::AccountNets;
@@ -10,7 +11,8 @@ use indexmap::IndexSet;
 use span_tables::limits::{MAX_HELD, MAX_NET};
 use span_tables::name::Name;
 use span_tables::portfolios::Holding;
-use span_tables::records::PositionRecord;
+use span_tables::raw::RawPositions;
+use span_tables::records::NumberedPosition;
 
 // Whether a net is over the limit either way.
 fn is_over(holding: &Holding) -> bool
@@ -59,34 +61,24 @@ fn any_many(nets: &[AccountNets]) -> bool
 }
 
 // Whether a record's net is over the limit.
-fn exceeds_net(
-    numbers: &IndexSet<Name>,
-    accounts: &IndexSet<Name>,
-    nets: &[AccountNets],
-    position: &PositionRecord,
-) -> bool
-    ensures { result ≡ net_exceeds numbers.now.keys accounts.now.keys nets.now position.now }
+fn exceeds_net(numbers: &IndexSet<Name>, nets: &[AccountNets], numbered: &NumberedPosition) -> bool
+    ensures { result
+        ≡ over_at (Some numbered.now.account) (position (bytes_eq numbered.now.contract) numbers.now.keys) nets.now }
 {
-    let Some(account) = accounts.get_index_of(&position.account) else {
+    let Some(contract) = numbers.get_index_of(&numbered.contract) else {
         return false;
     };
-    let Some(contract) = numbers.get_index_of(&position.contract) else {
-        return false;
-    };
-    match nets.get(account) {
+    match nets.get(numbered.account as usize) {
         Some(holdings) => is_over_at(holdings.as_slice(), contract),
         None => false,
     }
 }
 
 // Whether a record's account holds too many contracts.
-fn exceeds_held(accounts: &IndexSet<Name>, nets: &[AccountNets], position: &PositionRecord) -> bool
-    ensures { result ≡ held_exceeds accounts.now.keys nets.now position.now }
+fn exceeds_held(nets: &[AccountNets], numbered: &NumberedPosition) -> bool
+    ensures { result ≡ many_at (Some numbered.now.account) nets.now }
 {
-    let Some(account) = accounts.get_index_of(&position.account) else {
-        return false;
-    };
-    match nets.get(account) {
+    match nets.get(numbered.account as usize) {
         Some(holdings) => is_many(holdings),
         None => false,
     }
@@ -95,20 +87,20 @@ fn exceeds_held(accounts: &IndexSet<Name>, nets: &[AccountNets], position: &Posi
 /// The first record whose net is over the limit.
 pub(crate) fn net_fault(
     numbers: &IndexSet<Name>,
-    accounts: &IndexSet<Name>,
     nets: &[AccountNets],
-    positions: &[PositionRecord],
+    positions: &RawPositions,
 ) -> Option<BindFault>
-    ensures { result ≡ net_fault numbers.now.keys accounts.now.keys nets.now positions.now }
+    ensures { result ≡ net_fault numbers.now.keys (accounts_of positions.now) nets.now positions.now }
 {
     if !any_over(nets) {
         return None;
     }
-    for (number, position) in positions.iter().enumerate() {
-        if exceeds_net(numbers, accounts, nets, position) {
+    let accounts = positions.accounts();
+    for (number, position) in positions.records().iter().enumerate() {
+        if exceeds_net(numbers, nets, position) {
             return Some(BindFault::NetOutOfRange {
                 at: number + 1,
-                account: position.account.copied(),
+                account: accounts[position.account as usize].copied(),
             });
         }
     }
@@ -116,21 +108,18 @@ pub(crate) fn net_fault(
 }
 
 /// The first record whose account holds too many contracts.
-pub(crate) fn held_fault(
-    accounts: &IndexSet<Name>,
-    nets: &[AccountNets],
-    positions: &[PositionRecord],
-) -> Option<BindFault>
-    ensures { result ≡ held_fault accounts.now.keys nets.now positions.now }
+pub(crate) fn held_fault(nets: &[AccountNets], positions: &RawPositions) -> Option<BindFault>
+    ensures { result ≡ held_fault (accounts_of positions.now) nets.now positions.now }
 {
     if !any_many(nets) {
         return None;
     }
-    for (number, position) in positions.iter().enumerate() {
-        if exceeds_held(accounts, nets, position) {
+    let accounts = positions.accounts();
+    for (number, position) in positions.records().iter().enumerate() {
+        if exceeds_held(nets, position) {
             return Some(BindFault::TooManyHeld {
                 at: number + 1,
-                account: position.account.copied(),
+                account: accounts[position.account as usize].copied(),
             });
         }
     }

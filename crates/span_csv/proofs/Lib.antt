@@ -4,6 +4,7 @@ mod FieldLemmas
 mod FormLemmas
 mod LegLemmas
 mod NumberLemmas
+mod NumberedLemmas
 mod PositionLemmas
 mod RangeLemmas
 mod ReadLemmas

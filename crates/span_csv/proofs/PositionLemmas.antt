@@ -7,51 +7,15 @@ use Rattle.std.proofs.lemmas.List.{append-nil, map-append, length-map}
 use Rattle.span_tables.specs.Faults.{first_fault_after, first_that_holds, ok_unless}
 use Rattle.span_tables.specs.Gives.{Gives}
 use Rattle.span_tables.specs.Names.{is_among, is_name, distinct}
+use Rattle.span_tables.specs.Net.{accounts_of}
 use Rattle.span_tables.proofs.NameLemmas.{same_name, is_among-distinct, distinct-push}
 use Rattle.span_tables.specs.declared.records.PositionRecord.{PositionRecord}
 use Rattle.span_money.specs.Numbers.{whole_number}
 use Rattle.span_csv.specs.Records.{Fields, records_of, text_at, position_record}
 use Rattle.span_csv.specs.PositionFaults.{position_fault, position_faults, positions_of, exceeds_accounts, is_memory}
-use Rattle.span_csv.specs.PositionReading.{accounts_of, is_quantity, next_position, placed, position_alone, positions_after, with_account}
+use Rattle.span_csv.specs.steps.PositionReading.{is_quantity, next_position, position_behind, positions_after, quantity_alone, with_account}
 use Rattle.span_csv.specs.declared.faults.PositionFault.{PositionFault}
 use Rattle.span_csv.specs.declared.faults.PositionFault.TheVariants as fault
-
--- ---- accounts
-
-or_true : (b : Bool) → (b || true) ≡ true
-or_true true = refl
-or_true false = refl
-
-any_account : (positions : List PositionRecord) (i : ℕ) (p : PositionRecord) → slice_get positions i ≡ Some p
-    → is_among (map (λ (q : PositionRecord). q.account) positions) p.account ≡ true
-any_account [] i p is = cc
-any_account (q ∷ positions) zero p is =
-    let first : q ≡ p = cc in
-    let same : bytes_eq p.account p.account ≡ true = (bytes_eq-Decides p.account p.account).1 refl in
-    rw (first, same) refl
-any_account (q ∷ positions) (suc i) p is = rw (any_account positions i p is) (or_true (bytes_eq p.account q.account))
-
--- the account of a position is among those of all
-pub account_among : (positions : List PositionRecord) (i : ℕ) (p : PositionRecord) (account : List ℕ) → Some p ≡ slice_get positions i
-    → bytes_eq p.account account ≡ true → is_among (accounts_of positions) account ≡ true
-account_among positions i p account is same =
-    rw (is_among-distinct (map (λ (q : PositionRecord). q.account) positions) account, ← same_name p.account account same)
-    (any_account positions i p (sym is))
-
--- the accounts behind one more position
-pub accounts_of-push : (positions : List PositionRecord) (p : PositionRecord)
-    → accounts_of (positions ++ p ∷ []) ≡ with_account (accounts_of positions) p.account
-accounts_of-push positions p =
-    rw (
-      map-append (λ (q : PositionRecord). q.account) positions (p ∷ []),
-      distinct-push (map (λ (q : PositionRecord). q.account) positions) p.account,
-      is_among-distinct (map (λ (q : PositionRecord). q.account) positions) p.account,
-    ) refl
-
--- which are the same where the account is among them
-pub accounts_of-among : (positions : List PositionRecord) (p : PositionRecord) → is_among (accounts_of positions) p.account ≡ true
-    → accounts_of (positions ++ p ∷ []) ≡ accounts_of positions
-accounts_of-among positions p old = rw (accounts_of-push positions p, old) refl
 
 -- ---- one record
 
@@ -70,8 +34,8 @@ names_of before = map (λ r. text_at r 0) before
 
 -- three fields
 three_counted : (at : ℕ) (before : List Fields) (a c q : List ℕ) (z : ℤ) → is_name a ≡ true → is_name c ≡ true → whole_number q ≡ Some z
-    → placed at (distinct (names_of before)) (position_alone at (a ∷ c ∷ q ∷ [])) ≡ judged at before (a ∷ c ∷ q ∷ [])
-unfolding position_alone position_record
+    → position_behind at (distinct (names_of before)) (a ∷ c ∷ q ∷ []) (quantity_alone at (a ∷ c ∷ q ∷ [])) ≡ judged at before (a ∷ c ∷ q ∷ [])
+unfolding quantity_alone position_record
 three_counted at before a c q z named_a named_c whole =
     elim (cases_Bool (is_quantity z)) [
       | inl within ↦
@@ -83,14 +47,14 @@ three_counted at before a c q z named_a named_c whole =
     ]
 
 three_named : (at : ℕ) (before : List Fields) (a c q : List ℕ) (o : Option ℤ) → is_name a ≡ true → is_name c ≡ true → whole_number q ≡ o
-    → placed at (distinct (names_of before)) (position_alone at (a ∷ c ∷ q ∷ [])) ≡ judged at before (a ∷ c ∷ q ∷ [])
-unfolding position_alone position_record
+    → position_behind at (distinct (names_of before)) (a ∷ c ∷ q ∷ []) (quantity_alone at (a ∷ c ∷ q ∷ [])) ≡ judged at before (a ∷ c ∷ q ∷ [])
+unfolding quantity_alone position_record
 three_named at before a c q None named_a named_c whole = rw (named_a, named_c, whole) refl
 three_named at before a c q (Some z) named_a named_c whole = three_counted at before a c q z named_a named_c whole
 
 three : (at : ℕ) (before : List Fields) (a c q : List ℕ)
-    → placed at (distinct (names_of before)) (position_alone at (a ∷ c ∷ q ∷ [])) ≡ judged at before (a ∷ c ∷ q ∷ [])
-unfolding position_alone position_record
+    → position_behind at (distinct (names_of before)) (a ∷ c ∷ q ∷ []) (quantity_alone at (a ∷ c ∷ q ∷ [])) ≡ judged at before (a ∷ c ∷ q ∷ [])
+unfolding quantity_alone position_record
 three at before a c q =
     elim (cases_Bool (is_name a)) [
       | inl named_a ↦
@@ -102,8 +66,8 @@ three at before a c q =
     ]
 
 one_record : (at : ℕ) (before : List Fields) (r : Fields)
-    → placed at (distinct (names_of before)) (position_alone at r) ≡ judged at before r
-unfolding position_alone
+    → position_behind at (distinct (names_of before)) r (quantity_alone at r) ≡ judged at before r
+unfolding quantity_alone
 one_record at before [] = refl
 one_record at before (a ∷ []) = refl
 one_record at before (a ∷ c ∷ []) = refl

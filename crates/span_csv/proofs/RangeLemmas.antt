@@ -1,5 +1,5 @@
 -- A record whose fields have their forms is in its ranges.
-use Rattle.std.proofs.Common.{◌≡◌, ◌∙◌, refl, sym, subst, arith, inl, inr, ℕ, suc, zero, ◌+◌, ◌*◌, ◌≤◌, Bool, true, false, ◌&&◌, ◌==◌, if◌then◌else◌, pos, neg_ℤ, List, [], ◌∷◌, ◌++◌, length, drop, map, Some, None}
+use Rattle.std.proofs.Common.{◌≡◌, ◌∙◌, refl, sym, subst, arith, inl, inr, ℕ, suc, zero, ◌+◌, ◌-◌, ◌*◌, ◌≤◌, Bool, true, false, ◌&&◌, ◌==◌, if◌then◌else◌, pos, neg_ℤ, List, [], ◌∷◌, ◌++◌, length, drop, map, Some, None}
 use Rattle.std.specs.Prelude.{nat_le, nat_abs, unwrap_or}
 use Rattle.std.specs.List.{list_all, repeat}
 use Rattle.std.proofs.lemmas.Bool.{and_parts, and_from, le-leb, eq-eqb, eqb-true, cases_Bool}
@@ -7,10 +7,10 @@ use Rattle.std.proofs.lemmas.List.{length-map, length-drop}
 use Rattle.span_money.specs.Numbers.{whole_number, decimal_number}
 use Rattle.span_tables.specs.Names.{is_name}
 use Rattle.span_tables.specs.Limits.{lies_within, in_range, is_tier_number, is_ratio}
-use Rattle.span_tables.specs.declared.limits.TheConstants.{MAX_ARRAY_VALUE}
+use Rattle.span_tables.specs.declared.limits.TheConstants.{MAX_ARRAY_VALUE, MAX_BASIS_POINTS, MAX_DELTA, MAX_PRIORITY, MAX_RATE, MAX_RATIO, MAX_SCALE, MAX_TIER_NUMBER}
 use Rattle.span_tables.specs.declared.records.IntraLeg.{IntraLeg}
 use Rattle.span_tables.specs.declared.records.InterLeg.{InterLeg}
-use Rattle.span_csv.specs.Records.{Form, Fields, a_name, a_currency, a_method, a_product, a_side, a_whole, a_decimal, a_month, a_rate, RecordKind, a_set, a_commodity, a_contract, a_tier, an_intra, a_spot, an_inter, all_have, has_word_form, is_in_range, exactly, with_legs, forms_of, text_at, intra_leg, inter_leg, legs_of, record_of_kind}
+use Rattle.span_csv.specs.Records.{Form, Fields, a_name, a_currency, a_method, a_product, a_side, a_whole, a_decimal, a_month, a_rate, RecordKind, a_set, a_commodity, a_contract, a_tier, an_intra, a_spot, an_inter, all_have, has_word_form, is_in_range, exactly, with_legs, forms_of, set_forms, commodity_forms, contract_front, an_array_value, tier_forms, intra_front, intra_leg_forms, spot_forms, inter_front, inter_leg_forms, text_at, intra_leg, inter_leg, legs_of, record_of_kind}
 use Rattle.span_csv.proofs.FormLemmas.{count_within, count_below, size_within, month_within, passes_at, all_behind, all_of_form}
 
 -- the fields have these forms
@@ -28,27 +28,6 @@ exact forms found n e =
     let parts = if_some (n == length forms) forms found e in
     (eqb-true n (length forms) parts.0, parts.1)
 
-abbrev set_forms : List Form
-set_forms = a_name ∷ a_whole (pos 1) (pos 1) ∷ a_currency ∷ []
-
-abbrev commodity_forms : List Form
-commodity_forms = a_name ∷ a_rate ∷ a_method ∷ []
-
-abbrev tier_forms : List Form
-tier_forms = a_name ∷ a_whole (pos 1) (pos 32) ∷ a_month ∷ a_month ∷ []
-
-abbrev spot_forms : List Form
-spot_forms = a_name ∷ a_month ∷ a_rate ∷ a_rate ∷ []
-
-abbrev contract_front : List Form
-contract_front = a_name ∷ a_name ∷ a_product ∷ a_month ∷ a_decimal (neg_ℤ (pos 10000)) (pos 10000) ∷ a_decimal (pos 1) (pos 100000) ∷ []
-
-abbrev a_value : Form
-a_value = a_whole (neg_ℤ (pos 100000000)) (pos 100000000)
-
-abbrev a_name_at : List Form → Fields → ℕ → Type 0
-a_name_at forms fields i = is_name (text_at fields i) ≡ true
-
 set_in_range : (word : List ℕ) (fields : Fields) → length fields ≡ 3 → HaveForms set_forms fields → in_range (record_of_kind a_set (word ∷ fields)) ≡ true
 set_in_range word fields len h = passes_at has_word_form set_forms fields 0 a_name h.words (omega (arith, len)) refl
 
@@ -56,7 +35,7 @@ commodity_in_range : (word : List ℕ) (fields : Fields) → length fields ≡ 3
     → in_range (record_of_kind a_commodity (word ∷ fields)) ≡ true
 commodity_in_range word fields len h =
     and_from _ _ (passes_at has_word_form commodity_forms fields 0 a_name h.words (omega (arith, len)) refl)
-    (count_below 100000000 (whole_number (text_at fields 1)) (passes_at is_in_range commodity_forms fields 1 a_rate h.ranges (omega (arith, len)) refl))
+    (count_below MAX_RATE (whole_number (text_at fields 1)) (passes_at is_in_range commodity_forms fields 1 a_rate h.ranges (omega (arith, len)) refl))
 
 tier_in_range : (word : List ℕ) (fields : Fields) → length fields ≡ 4 → HaveForms tier_forms fields
     → in_range (record_of_kind a_tier (word ∷ fields)) ≡ true
@@ -64,7 +43,7 @@ tier_in_range word fields len h =
     and_from _ _
     (and_from _ _
     (and_from _ _ (passes_at has_word_form tier_forms fields 0 a_name h.words (omega (arith, len)) refl)
-    (count_within 1 32 (whole_number (text_at fields 1)) (passes_at is_in_range tier_forms fields 1 (a_whole (pos 1) (pos 32)) h.ranges (omega (arith, len)) refl)))
+    (count_within 1 MAX_TIER_NUMBER (whole_number (text_at fields 1)) (passes_at is_in_range tier_forms fields 1 (a_whole (pos 1) (pos MAX_TIER_NUMBER)) h.ranges (omega (arith, len)) refl)))
     (month_within (text_at fields 2) (passes_at is_in_range tier_forms fields 2 a_month h.ranges (omega (arith, len)) refl)))
     (month_within (text_at fields 3) (passes_at is_in_range tier_forms fields 3 a_month h.ranges (omega (arith, len)) refl))
 
@@ -75,25 +54,25 @@ spot_in_range word fields len h =
     (and_from _ _
     (and_from _ _ (passes_at has_word_form spot_forms fields 0 a_name h.words (omega (arith, len)) refl)
     (month_within (text_at fields 1) (passes_at is_in_range spot_forms fields 1 a_month h.ranges (omega (arith, len)) refl)))
-    (count_below 100000000 (whole_number (text_at fields 2)) (passes_at is_in_range spot_forms fields 2 a_rate h.ranges (omega (arith, len)) refl)))
-    (count_below 100000000 (whole_number (text_at fields 3)) (passes_at is_in_range spot_forms fields 3 a_rate h.ranges (omega (arith, len)) refl))
+    (count_below MAX_RATE (whole_number (text_at fields 2)) (passes_at is_in_range spot_forms fields 2 a_rate h.ranges (omega (arith, len)) refl)))
+    (count_below MAX_RATE (whole_number (text_at fields 3)) (passes_at is_in_range spot_forms fields 3 a_rate h.ranges (omega (arith, len)) refl))
 
 -- ---- a contract
 
-values_in_range : (texts : Fields) → list_all (is_in_range a_value) texts ≡ true
+values_in_range : (texts : Fields) → list_all (is_in_range an_array_value) texts ≡ true
     → list_all (λ v. nat_le (nat_abs v) MAX_ARRAY_VALUE) (map (λ text. unwrap_or (whole_number text) (pos 0)) texts) ≡ true
 values_in_range [] all = refl
 values_in_range (text ∷ texts) all =
-    let parts = and_parts (is_in_range a_value text) (list_all (is_in_range a_value) texts) all in
-    and_from _ _ (size_within 99999999 (whole_number text) parts.0) (values_in_range texts parts.1)
+    let parts = and_parts (is_in_range an_array_value text) (list_all (is_in_range an_array_value) texts) all in
+    and_from _ _ (size_within (MAX_ARRAY_VALUE - 1) (whole_number text) parts.0) (values_in_range texts parts.1)
 
-contract_in_range : (word : List ℕ) (fields : Fields) → length fields ≡ 22 → HaveForms (contract_front ++ repeat 16 (a_value ∷ [])) fields
+contract_in_range : (word : List ℕ) (fields : Fields) → length fields ≡ 22 → HaveForms (contract_front ++ repeat 16 (an_array_value ∷ [])) fields
     → in_range (record_of_kind a_contract (word ∷ fields)) ≡ true
 contract_in_range word fields len h =
     let few : length contract_front ≤ length fields = omega (arith, len) in
-    let behind = all_behind is_in_range contract_front (repeat 16 (a_value ∷ [])) fields h.ranges few in
+    let behind = all_behind is_in_range contract_front (repeat 16 (an_array_value ∷ [])) fields h.ranges few in
     let sixteen : length (drop 6 fields) ≡ 16 = omega (arith, len, length-drop 6 fields) in
-    let each = all_of_form is_in_range a_value 16 (drop 6 fields) sixteen behind in
+    let each = all_of_form is_in_range an_array_value 16 (drop 6 fields) sixteen behind in
     let count : length (map (λ text. unwrap_or (whole_number text) (pos 0)) (drop 6 fields)) ≡ 16 =
     length-map (drop 6 fields) (λ text. unwrap_or (whole_number text) (pos 0)) ∙ sixteen in
     and_from _ _
@@ -102,14 +81,14 @@ contract_in_range word fields len h =
     (and_from _ _
     (and_from _ _
     (and_from _ _
-    (passes_at has_word_form (contract_front ++ repeat 16 (a_value ∷ [])) fields 0 a_name h.words (omega (arith, len)) refl)
-    (passes_at has_word_form (contract_front ++ repeat 16 (a_value ∷ [])) fields 1 a_name h.words (omega (arith, len)) refl))
+    (passes_at has_word_form (contract_front ++ repeat 16 (an_array_value ∷ [])) fields 0 a_name h.words (omega (arith, len)) refl)
+    (passes_at has_word_form (contract_front ++ repeat 16 (an_array_value ∷ [])) fields 1 a_name h.words (omega (arith, len)) refl))
     (month_within (text_at fields 3)
-    (passes_at is_in_range (contract_front ++ repeat 16 (a_value ∷ [])) fields 3 a_month h.ranges (omega (arith, len)) refl)))
-    (size_within 9999 (decimal_number (text_at fields 4))
-    (passes_at is_in_range (contract_front ++ repeat 16 (a_value ∷ [])) fields 4 (a_decimal (neg_ℤ (pos 10000)) (pos 10000)) h.ranges (omega (arith, len)) refl)))
-    (count_within 1 100000 (decimal_number (text_at fields 5))
-    (passes_at is_in_range (contract_front ++ repeat 16 (a_value ∷ [])) fields 5 (a_decimal (pos 1) (pos 100000)) h.ranges (omega (arith, len)) refl)))
+    (passes_at is_in_range (contract_front ++ repeat 16 (an_array_value ∷ [])) fields 3 a_month h.ranges (omega (arith, len)) refl)))
+    (size_within (MAX_DELTA - 1) (decimal_number (text_at fields 4))
+    (passes_at is_in_range (contract_front ++ repeat 16 (an_array_value ∷ [])) fields 4 (a_decimal (neg_ℤ (pos MAX_DELTA)) (pos MAX_DELTA)) h.ranges (omega (arith, len)) refl)))
+    (count_within 1 MAX_SCALE (decimal_number (text_at fields 5))
+    (passes_at is_in_range (contract_front ++ repeat 16 (an_array_value ∷ [])) fields 5 (a_decimal (pos 1) (pos MAX_SCALE)) h.ranges (omega (arith, len)) refl)))
     (eq-eqb _ 16 count))
     (values_in_range (drop 6 fields) each)
 
@@ -146,18 +125,6 @@ with_legs-forms front leg forms n e =
           ]
     ]
 
-abbrev intra_front : List Form
-intra_front = a_name ∷ a_whole (pos 1) (pos 9999) ∷ a_rate ∷ []
-
-abbrev intra_leg_forms : List Form
-intra_leg_forms = a_whole (pos 1) (pos 32) ∷ a_side ∷ a_decimal (pos 1) (pos 10000000) ∷ []
-
-abbrev inter_front : List Form
-inter_front = a_whole (pos 1) (pos 9999) ∷ a_whole (pos 0) (pos 10000) ∷ []
-
-abbrev inter_leg_forms : List Form
-inter_leg_forms = a_name ∷ a_side ∷ a_decimal (pos 1) (pos 10000000) ∷ []
-
 intra_legs_in_range : (k : ℕ) (xs : Fields) → length xs ≡ k * 3 → all_have is_in_range (repeat k intra_leg_forms) xs ≡ true
     → list_all (λ (leg : IntraLeg). is_tier_number leg.tier && is_ratio leg.ratio) (map intra_leg (legs_of xs)) ≡ true
 intra_legs_in_range zero [] len all = refl
@@ -166,10 +133,10 @@ intra_legs_in_range (suc k) [] len all = absurd (omega (arith, len))
 intra_legs_in_range (suc k) (x ∷ []) len all = absurd (omega (arith, len))
 intra_legs_in_range (suc k) (x ∷ y ∷ []) len all = absurd (omega (arith, len))
 intra_legs_in_range (suc k) (x ∷ y ∷ z ∷ xs) len all =
-    let first = and_parts (is_in_range (a_whole (pos 1) (pos 32)) x) _ all in
-    let third = and_parts (is_in_range (a_decimal (pos 1) (pos 10000000)) z) (all_have is_in_range (repeat k intra_leg_forms) xs) first.1 in
+    let first = and_parts (is_in_range (a_whole (pos 1) (pos MAX_TIER_NUMBER)) x) _ all in
+    let third = and_parts (is_in_range (a_decimal (pos 1) (pos MAX_RATIO)) z) (all_have is_in_range (repeat k intra_leg_forms) xs) first.1 in
     and_from _ _
-    (and_from _ _ (count_within 1 32 (whole_number x) first.0) (count_within 1 10000000 (decimal_number z) third.0))
+    (and_from _ _ (count_within 1 MAX_TIER_NUMBER (whole_number x) first.0) (count_within 1 MAX_RATIO (decimal_number z) third.0))
     (intra_legs_in_range k xs (omega (arith, len)) third.1)
 
 inter_legs_in_range : (k : ℕ) (xs : Fields) → length xs ≡ k * 3 → all_have has_word_form (repeat k inter_leg_forms) xs ≡ true
@@ -183,9 +150,9 @@ inter_legs_in_range (suc k) (x ∷ y ∷ []) len words all = absurd (omega (arit
 inter_legs_in_range (suc k) (x ∷ y ∷ z ∷ xs) len words all =
     let named = and_parts (is_name x) (has_word_form a_side y && all_have has_word_form (repeat k inter_leg_forms) xs) words in
     let sided = and_parts (has_word_form a_side y) (all_have has_word_form (repeat k inter_leg_forms) xs) named.1 in
-    let third = and_parts (is_in_range (a_decimal (pos 1) (pos 10000000)) z) (all_have is_in_range (repeat k inter_leg_forms) xs) all in
+    let third = and_parts (is_in_range (a_decimal (pos 1) (pos MAX_RATIO)) z) (all_have is_in_range (repeat k inter_leg_forms) xs) all in
     and_from _ _
-    (and_from _ _ named.0 (count_within 1 10000000 (decimal_number z) third.0))
+    (and_from _ _ named.0 (count_within 1 MAX_RATIO (decimal_number z) third.0))
     (inter_legs_in_range k xs (omega (arith, len)) sided.1 third.1)
 
 two_to_four : (n k : ℕ) → n ≡ k → 2 ≤ k → k ≤ 4 → lies_within 2 4 n ≡ true
@@ -200,9 +167,9 @@ intra_in_range word fields k low high len h =
     (and_from _ _
     (and_from _ _
     (and_from _ _ (passes_at has_word_form (intra_front ++ repeat k intra_leg_forms) fields 0 a_name h.words (omega (arith, len)) refl)
-    (count_within 1 9999 (whole_number (text_at fields 1))
-    (passes_at is_in_range (intra_front ++ repeat k intra_leg_forms) fields 1 (a_whole (pos 1) (pos 9999)) h.ranges (omega (arith, len)) refl)))
-    (count_below 100000000 (whole_number (text_at fields 2))
+    (count_within 1 MAX_PRIORITY (whole_number (text_at fields 1))
+    (passes_at is_in_range (intra_front ++ repeat k intra_leg_forms) fields 1 (a_whole (pos 1) (pos MAX_PRIORITY)) h.ranges (omega (arith, len)) refl)))
+    (count_below MAX_RATE (whole_number (text_at fields 2))
     (passes_at is_in_range (intra_front ++ repeat k intra_leg_forms) fields 2 a_rate h.ranges (omega (arith, len)) refl)))
     (two_to_four _ k (length-map (legs_of (drop 3 fields)) intra_leg ∙ length-legs_of k (drop 3 fields) threes) low high))
     (intra_legs_in_range k (drop 3 fields) threes behind)
@@ -216,10 +183,10 @@ inter_in_range word fields k low high len h =
     and_from _ _
     (and_from _ _
     (and_from _ _
-    (count_within 1 9999 (whole_number (text_at fields 0))
-    (passes_at is_in_range (inter_front ++ repeat k inter_leg_forms) fields 0 (a_whole (pos 1) (pos 9999)) h.ranges (omega (arith, len)) refl))
-    (count_below 10000 (whole_number (text_at fields 1))
-    (passes_at is_in_range (inter_front ++ repeat k inter_leg_forms) fields 1 (a_whole (pos 0) (pos 10000)) h.ranges (omega (arith, len)) refl)))
+    (count_within 1 MAX_PRIORITY (whole_number (text_at fields 0))
+    (passes_at is_in_range (inter_front ++ repeat k inter_leg_forms) fields 0 (a_whole (pos 1) (pos MAX_PRIORITY)) h.ranges (omega (arith, len)) refl))
+    (count_below MAX_BASIS_POINTS (whole_number (text_at fields 1))
+    (passes_at is_in_range (inter_front ++ repeat k inter_leg_forms) fields 1 (a_whole (pos 0) (pos MAX_BASIS_POINTS)) h.ranges (omega (arith, len)) refl)))
     (two_to_four _ k (length-map (legs_of (drop 2 fields)) inter_leg ∙ length-legs_of k (drop 2 fields) threes) low high))
     (inter_legs_in_range k (drop 2 fields) threes words ranges)
 
@@ -250,7 +217,7 @@ inter_ranged word fields forms e h =
 pub record_in_range : (kind : RecordKind) → IsRanged kind
 record_in_range a_set = exactly_ranged a_set set_forms (λ n. refl) set_in_range
 record_in_range a_commodity = exactly_ranged a_commodity commodity_forms (λ n. refl) commodity_in_range
-record_in_range a_contract = exactly_ranged a_contract (contract_front ++ repeat 16 (a_value ∷ [])) (λ n. refl) contract_in_range
+record_in_range a_contract = exactly_ranged a_contract (contract_front ++ repeat 16 (an_array_value ∷ [])) (λ n. refl) contract_in_range
 record_in_range a_tier = exactly_ranged a_tier tier_forms (λ n. refl) tier_in_range
 record_in_range an_intra = intra_ranged
 record_in_range a_spot = exactly_ranged a_spot spot_forms (λ n. refl) spot_in_range

@@ -5,4 +5,4 @@ pub mod ParamFaults
 pub mod PositionFaults
 pub mod Checks
 pub mod Rows
-pub mod PositionReading
+pub mod steps

@@ -129,19 +129,49 @@ with_legs front leg fields =
     else if fields == length front + 4 * length leg then Some (front ++ repeat 4 leg)
     else None
 
+-- the forms of each kind's fields behind the first
+abbrev pub set_forms : List Form
+set_forms = a_name ∷ a_whole (pos 1) (pos 1) ∷ a_currency ∷ []
+
+abbrev pub commodity_forms : List Form
+commodity_forms = a_name ∷ a_rate ∷ a_method ∷ []
+
+-- of a CONTRACT those in front of its risk array, and that of a value
+abbrev pub contract_front : List Form
+contract_front =
+    a_name ∷ a_name ∷ a_product ∷ a_month ∷ a_decimal (neg_ℤ (pos MAX_DELTA)) (pos MAX_DELTA) ∷ a_decimal (pos 1) (pos MAX_SCALE) ∷ []
+
+abbrev pub an_array_value : Form
+an_array_value = a_whole (neg_ℤ (pos MAX_ARRAY_VALUE)) (pos MAX_ARRAY_VALUE)
+
+abbrev pub tier_forms : List Form
+tier_forms = a_name ∷ a_whole (pos 1) (pos MAX_TIER_NUMBER) ∷ a_month ∷ a_month ∷ []
+
+-- of a spread those in front of its legs, and those of a leg
+abbrev pub intra_front : List Form
+intra_front = a_name ∷ a_whole (pos 1) (pos MAX_PRIORITY) ∷ a_rate ∷ []
+
+abbrev pub intra_leg_forms : List Form
+intra_leg_forms = a_whole (pos 1) (pos MAX_TIER_NUMBER) ∷ a_side ∷ a_decimal (pos 1) (pos MAX_RATIO) ∷ []
+
+abbrev pub spot_forms : List Form
+spot_forms = a_name ∷ a_month ∷ a_rate ∷ a_rate ∷ []
+
+abbrev pub inter_front : List Form
+inter_front = a_whole (pos 1) (pos MAX_PRIORITY) ∷ a_whole (pos 0) (pos MAX_BASIS_POINTS) ∷ []
+
+abbrev pub inter_leg_forms : List Form
+inter_leg_forms = a_name ∷ a_side ∷ a_decimal (pos 1) (pos MAX_RATIO) ∷ []
+
 -- the forms of a kind's fields behind the first, if it may have so many of them
 abbrev pub forms_of : RecordKind → ℕ → Option (List Form)
-forms_of a_set = exactly (a_name ∷ a_whole (pos 1) (pos 1) ∷ a_currency ∷ [])
-forms_of a_commodity = exactly (a_name ∷ a_rate ∷ a_method ∷ [])
-forms_of a_contract = exactly
-    ((a_name ∷ a_name ∷ a_product ∷ a_month ∷ a_decimal (neg_ℤ (pos MAX_DELTA)) (pos MAX_DELTA) ∷ a_decimal (pos 1) (pos MAX_SCALE) ∷ [])
-    ++ repeat 16 (a_whole (neg_ℤ (pos MAX_ARRAY_VALUE)) (pos MAX_ARRAY_VALUE) ∷ []))
-forms_of a_tier = exactly (a_name ∷ a_whole (pos 1) (pos MAX_TIER_NUMBER) ∷ a_month ∷ a_month ∷ [])
-forms_of an_intra = with_legs (a_name ∷ a_whole (pos 1) (pos MAX_PRIORITY) ∷ a_rate ∷ [])
-    (a_whole (pos 1) (pos MAX_TIER_NUMBER) ∷ a_side ∷ a_decimal (pos 1) (pos MAX_RATIO) ∷ [])
-forms_of a_spot = exactly (a_name ∷ a_month ∷ a_rate ∷ a_rate ∷ [])
-forms_of an_inter = with_legs (a_whole (pos 1) (pos MAX_PRIORITY) ∷ a_whole (pos 0) (pos MAX_BASIS_POINTS) ∷ [])
-    (a_name ∷ a_side ∷ a_decimal (pos 1) (pos MAX_RATIO) ∷ [])
+forms_of a_set = exactly set_forms
+forms_of a_commodity = exactly commodity_forms
+forms_of a_contract = exactly (contract_front ++ repeat 16 (an_array_value ∷ []))
+forms_of a_tier = exactly tier_forms
+forms_of an_intra = with_legs intra_front intra_leg_forms
+forms_of a_spot = exactly spot_forms
+forms_of an_inter = with_legs inter_front inter_leg_forms
 
 -- the forms of a position record's fields
 abbrev pub position_forms : List Form

@@ -17,3 +17,4 @@ mod tally;
 mod tests_params;
 #[cfg(test)]
 mod tests_positions;
+mod worked;

@@ -1,13 +1,15 @@
 //! The reader of position files.
-ghost use Rattle.std.specs.Prelude.{◌≡◌, ◌++◌, ◌∷◌, [], ◌≤◌, All, IfOk, OnOk, Ok, Err, nat_abs, true, if◌then◌else◌};
+ghost use Rattle.std.specs.Prelude.{◌≡◌, ◌++◌, ◌∷◌, [], ◌≤◌, ⊤, IfOk, MatchBool, MatchResult, OnOk, Ok, Err, Some, false, length, nat_abs, slice_get, true};
 ghost use Rattle.csv.specs.Records.{fields_of};
 ghost use Rattle.span_money.specs.Numbers.{whole_number};
 ghost use Rattle.span_csv.specs.PositionFaults.{is_memory, positions_of};
-ghost use Rattle.span_csv.specs.PositionReading.{accounts_of, counted, is_one_too_many, is_quantity, next_position, position_alone, with_account};
+ghost use Rattle.span_csv.specs.Records.{text_at};
 ghost use Rattle.span_csv.specs.declared.faults.PositionFault.TheVariants as fault;
+ghost use Rattle.span_csv.specs.steps.PositionReading.{is_one_too_many, is_quantity, next_position, quantity_alone, quantity_from, with_account};
 ghost use Rattle.span_tables.specs.Gives.{Gives};
-ghost use Rattle.span_tables.specs.Names.{is_among};
-ghost use Rattle.span_tables.specs.declared.limits.TheConstants.{MAX_QUANTITY};
+ghost use Rattle.span_tables.specs.Names.{is_among, is_name};
+ghost use Rattle.span_tables.specs.Positions.{named_position, named_positions, AreNumbered};
+ghost use Rattle.span_tables.specs.declared.limits.TheConstants.{MAX_ACCOUNTS, MAX_QUANTITY};
 
 use crate::faults::PositionFault;
 use crate::rows::{Rows, field};
@@ -15,10 +17,13 @@ use csv::ByteRecord;
 use indexmap::IndexSet;
 use span_money::texts::parse_whole;
 use span_tables::limits::{MAX_ACCOUNTS, MAX_QUANTITY};
-use span_tables::name::Name;
+use span_tables::name::{Name, is_name};
 use span_tables::raw::RawPositions;
-use span_tables::records::PositionRecord;
+use span_tables::records::NumberedPosition;
 use std::alloc::Global;
+
+// The fields of a record: an account, a contract and a quantity.
+const POSITION_FIELDS: usize = 3;
 
 // Whether a quantity is in its range.
 fn is_quantity(quantity: i64) -> bool
@@ -28,90 +33,110 @@ fn is_quantity(quantity: i64) -> bool
     quantity.unsigned_abs() <= u64::from(MAX_QUANTITY)
 }
 
-// The position of two names and a quantity.
-fn counted(
-    at: usize,
-    account: Name,
-    contract: Name,
-    quantity: &[u8],
-) -> Result<PositionRecord, PositionFault>
-    ensures value { result ≡ counted at account contract (whole_number quantity.now) }
-    ensures size { IfOk result (λ position. nat_abs position.quantity ≤ MAX_QUANTITY) }
+// The quantity that a text is.
+fn quantity_from(at: usize, text: &[u8]) -> Result<i32, PositionFault>
+    ensures value { result ≡ quantity_from at (whole_number text.now) }
+    ensures size { IfOk result (λ quantity. nat_abs quantity ≤ MAX_QUANTITY) }
 {
-    let Some(quantity) = parse_whole(quantity) else {
+    let Some(quantity) = parse_whole(text) else {
         return Err(PositionFault::BadNumber { at });
     };
     if !is_quantity(quantity) {
         return Err(PositionFault::OutOfRange { at });
     }
-    Ok(PositionRecord {
-        account,
-        contract,
-        quantity,
-    })
+    Ok(quantity as i32)
 }
 
-// The position that a record is.
-#[tactic(auto, unfolding(crate::specs::PositionReading::position_alone))]
-fn position(at: usize, row: &ByteRecord) -> Result<PositionRecord, PositionFault>
-    ensures value { result ≡ position_alone at (fields_of row.now) }
-    ensures size { IfOk result (λ position. nat_abs position.quantity ≤ MAX_QUANTITY) }
+// The quantity of a record of two names.
+#[tactic(auto, unfolding(crate::specs::steps::PositionReading::quantity_alone))]
+fn quantity(at: usize, row: &ByteRecord) -> Result<i32, PositionFault>
+    ensures value { result ≡ quantity_alone at (fields_of row.now) }
+    ensures fields { OnOk result (length (fields_of row.now) ≡ POSITION_FIELDS) }
+    ensures account { OnOk result (is_name (text_at (fields_of row.now) 0) ≡ true) }
+    ensures contract { OnOk result (is_name (text_at (fields_of row.now) 1) ≡ true) }
+    ensures size { IfOk result (λ quantity. nat_abs quantity ≤ MAX_QUANTITY) }
 {
-    if row.len() != 3 {
+    if row.len() != POSITION_FIELDS {
         return Err(PositionFault::FieldCount { at });
     }
-    let Some(account) = Name::new(field(row, 0)) else {
+    if !is_name(field(row, 0)) || !is_name(field(row, 1)) {
         return Err(PositionFault::BadName { at });
-    };
-    let Some(contract) = Name::new(field(row, 1)) else {
-        return Err(PositionFault::BadName { at });
-    };
-    counted(at, account, contract, field(row, 2))
+    }
+    quantity_from(at, field(row, 2))
 }
 
-// Whether the last record is of this account, as it is where a file is grouped by account.
-fn is_last_account(earlier: &[PositionRecord], account: &Name) -> bool
-    ensures { result ≡ true → is_among (accounts_of earlier.now) account.now ≡ true }
+// Whether an account stands at a place.
+fn stands_at(accounts: &IndexSet<Name>, place: u32, account: &[u8]) -> bool
+    ensures { result ≡ true → slice_get accounts.now.keys place ≡ Some account.now }
 {
-    match earlier.last() {
-        Some(last) => last.account == *account,
+    match accounts.as_slice().get(place as usize) {
+        Some(known) => known.as_bytes() == account,
         None => false,
     }
 }
 
-// Takes the account among those so far.
-fn admit(at: usize, accounts: &mut IndexSet<Name>, account: &Name) -> Result<(), PositionFault>
-    ensures room { Gives is_memory result (if is_one_too_many accounts.old.keys account.now then Err (fault.TooManyAccounts at) else Ok tt) }
-    ensures taken { OnOk result (accounts.new.keys ≡ with_account accounts.old.keys account.now) }
+// Whether an account is one more than there may be.
+fn is_one_too_many(accounts: &IndexSet<Name>, account: &Name) -> bool
+    ensures { result ≡ is_one_too_many accounts.now.keys account.now }
 {
-    if accounts.contains(account) {
-        return Ok(());
-    }
-    if accounts.len() == MAX_ACCOUNTS {
-        return Err(PositionFault::TooManyAccounts { at });
-    }
-    accounts.insert(account.copied())?;
-    Ok(())
+    !accounts.contains(account) && accounts.len() == MAX_ACCOUNTS
 }
 
-// The position of the record behind the earlier ones.
-#[tactic(auto, unfolding(crate::specs::PositionReading::next_position))]
+// The place of an account, which is put last where it is new. The place of the last record's account is tried first.
+fn place(
+    at: usize,
+    accounts: &mut IndexSet<Name>,
+    last: u32,
+    account: &[u8],
+) -> Result<u32, PositionFault>
+    requires name { is_name account.now ≡ true }
+    requires few { length accounts.old.keys ≤ MAX_ACCOUNTS }
+    ensures room { MatchResult result
+        (λ place. is_one_too_many accounts.old.keys account.now ≡ false)
+        (λ e. MatchBool (is_memory e) ⊤ ((e ≡ fault.TooManyAccounts at) × (is_one_too_many accounts.old.keys account.now ≡ true))) }
+    ensures taken { OnOk result (accounts.new.keys ≡ with_account accounts.old.keys account.now) }
+    ensures at { IfOk result (λ place. slice_get accounts.new.keys place ≡ Some account.now) }
+{
+    if stands_at(accounts, last, account) {
+        return Ok(last);
+    }
+    let account = Name::of(account);
+    if is_one_too_many(accounts, &account) {
+        return Err(PositionFault::TooManyAccounts { at });
+    }
+    let (place, _) = accounts.insert_full(account)?;
+    Ok(place as u32)
+}
+
+// The account of the last record, or the first one where there is none.
+fn last_account(earlier: &[NumberedPosition]) -> u32 {
+    earlier.last().map_or(0, |position| position.account)
+}
+
+// The position of the record behind the earlier ones, whose accounts are numbered by these.
 fn next_position(
-    earlier: &[PositionRecord],
+    earlier: &[NumberedPosition],
     accounts: &mut IndexSet<Name>,
     row: &ByteRecord,
-) -> Result<PositionRecord, PositionFault>
-    requires { accounts.old.keys ≡ accounts_of earlier.now }
-    ensures found { Gives is_memory result (next_position earlier.now (fields_of row.now)) }
-    ensures accounts { IfOk result (λ position. accounts.new.keys ≡ accounts_of (earlier.now ++ position ∷ [])) }
-    ensures size { IfOk result (λ position. nat_abs position.quantity ≤ MAX_QUANTITY) }
+) -> Result<NumberedPosition, PositionFault>
+    requires { AreNumbered accounts.old.keys earlier.now }
+    ensures found { MatchResult result
+        (λ p. next_position (named_positions accounts.old.keys earlier.now) (fields_of row.now)
+            ≡ Ok (named_position accounts.new.keys p))
+        (λ e. MatchBool (is_memory e) ⊤
+            (next_position (named_positions accounts.old.keys earlier.now) (fields_of row.now) ≡ Err e)) }
+    ensures named { IfOk result (λ p. named_positions accounts.new.keys (earlier.now ++ p ∷ [])
+        ≡ named_positions accounts.old.keys earlier.now ++ named_position accounts.new.keys p ∷ []) }
+    ensures numbered { IfOk result (λ p. AreNumbered accounts.new.keys (earlier.now ++ p ∷ [])) }
 {
     let at = earlier.len() + 1;
-    let position = position(at, row)?;
-    if !is_last_account(earlier, &position.account) {
-        admit(at, accounts, &position.account)?;
-    }
-    Ok(position)
+    let quantity = quantity(at, row)?;
+    let account = place(at, accounts, last_account(earlier), field(row, 0))?;
+    Ok(NumberedPosition {
+        contract: Name::of(field(row, 1)),
+        account,
+        quantity,
+    })
 }
 
 /// The records of a position file, or the first record with a fault and its lowest-numbered fault.
@@ -121,10 +146,10 @@ pub fn read_positions(alloc: Global, bytes: &[u8]) -> Result<RawPositions, Posit
     let mut rows = Rows::new(alloc, bytes);
     let mut row = ByteRecord::new(alloc);
     let mut accounts = IndexSet::new(alloc);
-    let mut records: Vec<PositionRecord> = Vec::new(alloc);
+    let mut records: Vec<NumberedPosition> = Vec::new(alloc);
     while rows.next(&mut row)? {
         let position = next_position(&records, &mut accounts, &row)?;
         records.push(position)?;
     }
-    Ok(RawPositions::new(records))
+    Ok(RawPositions::new(accounts, records))
 }

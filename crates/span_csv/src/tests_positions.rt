@@ -43,8 +43,12 @@ fn keeps_the_order(rt: HostRuntime) -> Result<(), Fail> {
     };
     let records = positions.records();
     assert_eq!(rt; records.len(), 2);
-    assert!(rt; records[0].account.as_bytes() == b"B".as_slice());
-    assert!(rt; records[1].account.as_bytes() == b"A".as_slice());
+    let accounts = positions.accounts();
+    assert_eq!(rt; accounts.len(), 2);
+    assert!(rt; accounts[0].as_bytes() == b"B".as_slice());
+    assert!(rt; accounts[1].as_bytes() == b"A".as_slice());
+    assert_eq!(rt; records[0].account, 0);
+    assert_eq!(rt; records[1].account, 1);
     assert!(rt; records[1].contract.as_bytes() == b"FB".as_slice());
     assert_eq!(rt; records[1].quantity, -1_000_000);
     Ok(())

@@ -21,4 +21,5 @@ pub mod TablesMade
 pub mod NameLaws
 pub mod SampleLaws
 pub mod NameLemmas
+pub mod NumberedLaws
 pub mod GatherLemmas

@@ -6,6 +6,7 @@ pub mod Limits
 pub mod Tables
 pub mod Accepted
 pub mod Net
+pub mod Positions
 pub mod Holdings
 pub mod Sides
 pub mod Slots

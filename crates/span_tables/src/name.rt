@@ -25,10 +25,21 @@ impl Model for Name {
     ghost inverse = { λ text. record { text = record { items = text } } };
 }
 
+// Each byte of a name stands at its own place, and a point at every other one.
+static NAME_BYTES: [u8; 256] = *b"\
+    ................................\
+    .............-..0123456789......\
+    .ABCDEFGHIJKLMNOPQRSTUVWXYZ...._\
+    ................................\
+    ................................\
+    ................................\
+    ................................\
+    ................................";
+
 fn is_name_byte(byte: u8) -> bool
     ensures { result ≡ is_name_byte byte }
 {
-    byte.is_ascii_uppercase() || byte.is_ascii_digit() || byte == b'_' || byte == b'-'
+    NAME_BYTES[usize::from(byte)] != b'.'
 }
 
 fn has_name_bytes(text: &[u8]) -> bool
@@ -53,9 +64,16 @@ impl Name {
         if !is_name(text) {
             return None;
         }
-        match ArrayVec::try_from(text) {
-            Ok(text) => Some(Name { text }),
-            Err(_) => None,
+        Some(Name::of(text))
+    }
+
+    /// The name that a text is which was tested by [`is_name`].
+    pub fn of(text: &[u8]) -> Name
+        requires { is_name text.now ≡ true }
+        ensures { result ≡ text.now }
+    {
+        Name {
+            text: ArrayVec::try_from(text).unwrap(),
         }
     }
 
@@ -71,9 +89,7 @@ impl Name {
     pub fn copied(&self) -> Name
         ensures { result ≡ self.now }
     {
-        Name {
-            text: ArrayVec::try_from(self.text.as_slice()).unwrap(),
-        }
+        Name::of(self.as_bytes())
     }
 }
 

@@ -1,9 +1,13 @@
 //! The records of a file, as its reader gives them.
-ghost use Rattle.std.specs.Prelude.{◌≡◌, ◌≤◌, All, nat_abs, true};
+ghost use Rattle.std.specs.Prelude.{◌≡◌, ◌<◌, ◌≤◌, All, length, nat_abs, true};
 ghost use Rattle.span_tables.specs.Limits.{is_readable};
-ghost use Rattle.span_tables.specs.declared.limits.TheConstants.{MAX_QUANTITY};
+ghost use Rattle.span_tables.specs.Net.{accounts_of};
+ghost use Rattle.span_tables.specs.Positions.{named_positions, AreNumbered};
+ghost use Rattle.span_tables.specs.declared.limits.TheConstants.{MAX_ACCOUNTS, MAX_QUANTITY};
 
-use crate::records::{PositionRecord, Record};
+use crate::name::Name;
+use crate::records::{NumberedPosition, Record};
+use indexmap::IndexSet;
 use std::marker::Model;
 
 /// The records of a parameter file without a fault, in file order. Contracts see the list.
@@ -52,39 +56,50 @@ impl RawTables {
     }
 }
 
-/// The records of a position file without a fault, in file order. Contracts see the list.
+/// The records of a position file without a fault, in file order. Contracts see the list of records, each with the
+/// name of its account.
 ///
 /// A record's number, from 1, is its place in the file.
 #[derive(Drop)]
 pub struct RawPositions {
-    records: Vec<PositionRecord>,
+    accounts: IndexSet<Name>,
+    records: Vec<NumberedPosition>,
 }
 
 impl Model for RawPositions {
-    ghost use Rattle.std.specs.Prelude.{◌≤◌, List, All, nat_abs};
-    ghost use Rattle.span_tables.specs.declared.limits.TheConstants.{MAX_QUANTITY};
+    ghost use Rattle.std.specs.Prelude.{List};
+    ghost use Rattle.span_tables.specs.Positions.{named_positions, AreNumbered};
     ghost use Rattle.span_tables.specs.declared.records.PositionRecord.{PositionRecord};
 
     ghost Value = { List PositionRecord };
 
-    ghost view = { λ raw. raw.records.items };
+    ghost view = { λ raw. named_positions raw.accounts.keys raw.records.items };
 
-    ghost invariant = { λ raw. All (λ p. nat_abs p.quantity ≤ MAX_QUANTITY) raw.records.items };
+    ghost invariant = { λ raw. AreNumbered raw.accounts.keys raw.records.items };
 }
 
 impl RawPositions {
-    /// The records of a file, each with its quantity in range.
-    pub fn new(records: Vec<PositionRecord>) -> RawPositions
-        requires { All (λ p. nat_abs p.quantity ≤ MAX_QUANTITY) records.items }
-        ensures { result ≡ records.items }
+    /// The records of a file, numbered by these accounts.
+    pub fn new(accounts: IndexSet<Name>, records: Vec<NumberedPosition>) -> RawPositions
+        requires { AreNumbered accounts.keys records.items }
+        ensures { result ≡ named_positions accounts.keys records.items }
     {
-        RawPositions { records }
+        RawPositions { accounts, records }
     }
 
-    /// The records in file order.
-    pub fn records(&self) -> &[PositionRecord]
-        ensures value { result.now ≡ self.now }
-        ensures quantities { All (λ p. nat_abs p.quantity ≤ MAX_QUANTITY) self.now }
+    /// The accounts in the order of first appearance: a record has its account's place here.
+    pub fn accounts(&self) -> &[Name]
+        ensures value { result.now ≡ accounts_of self.now }
+        ensures few { length result.now ≤ MAX_ACCOUNTS }
+    {
+        self.accounts.as_slice()
+    }
+
+    /// The records in file order, with the numbers of their accounts.
+    pub fn records(&self) -> &[NumberedPosition]
+        ensures value { named_positions (accounts_of self.now) result.now ≡ self.now }
+        ensures known { All (λ p. p.account < length (accounts_of self.now)) result.now }
+        ensures small { All (λ p. nat_abs p.quantity ≤ MAX_QUANTITY) result.now }
     {
         &self.records
     }

@@ -176,12 +176,20 @@ pub enum Record {
     Inter(InterRecord),
 }
 
-/// A record of a position file.
+/// A record of a position file, as contracts see it. The quantity is in contracts; a short one is negative.
 #[derive(Drop)]
 pub struct PositionRecord {
     pub account: Name,
     pub contract: Name,
-    pub quantity: i64,
+    pub quantity: i32,
+}
+
+/// A record of a position file, with the number of its account from 0, in the order of first appearance.
+#[derive(Drop)]
+pub struct NumberedPosition {
+    pub contract: Name,
+    pub account: u32,
+    pub quantity: i32,
 }
 
 /// A leg of an accepted intracommodity spread: the months of its tier, a side and a ratio.

@@ -5,7 +5,7 @@ use Rattle.std.specs.List.{enumerate_from, list_all}
 use Rattle.std.proofs.lemmas.Bool.Decides.{nat_tests}
 use Rattle.std.proofs.lemmas.List.Elements.{All-map}
 use Rattle.std.specs.Prelude.{slice_index_or}
-use Rattle.param_check.specs.Binding.{bind_fault, bound}
+use Rattle.param_check.specs.Binding.{bind_fault, bindings_of}
 use Rattle.span_tables.specs.Faults.{ok_unless}
 use Rattle.span_tables.specs.Holdings.{fits}
 use Rattle.span_tables.specs.Net.{AccountHoldings, accounts_of, holding_of, holdings_of, is_held, portfolios_of}
@@ -26,8 +26,8 @@ numbered_fit n k positions account (x ∷ xs) le =
     (numbered_fit n (k + 1) positions account xs (omega (arith, le)))
 
 pub bound_fits : (contracts : List Contract) (positions : List PositionRecord) (portfolios : List AccountHoldings)
-    → bound contracts positions ≡ Ok portfolios → All (λ p. fits (length contracts) p.holdings ≡ true) portfolios
-unfolding bound portfolios_of
+    → bindings_of contracts positions ≡ Ok portfolios → All (λ p. fits (length contracts) p.holdings ≡ true) portfolios
+unfolding bindings_of portfolios_of
 bound_fits contracts positions portfolios e = by_fault (bind_fault contracts positions) e where
   by_fault : (o : Option BindFault) → ok_unless o (portfolios_of contracts positions) ≡ Ok portfolios → All (λ p. fits (length contracts) p.holdings ≡ true) portfolios
   by_fault (Some f) e = cc

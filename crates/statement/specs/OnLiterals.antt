@@ -7,7 +7,7 @@ use Rattle.param_check.specs.CheckFaults.{check_fault, checked}
 use Rattle.span_tables.specs.Limits.{is_readable}
 use Rattle.span_tables.specs.Tables.{tables_of, intras_of, spots_of, inters_of}
 use Rattle.span_tables.specs.Net.{portfolios_of, held_of}
-use Rattle.param_check.specs.Binding.{bind_fault, bound}
+use Rattle.param_check.specs.Binding.{bind_fault, bindings_of}
 use Rattle.scan_risk.specs.Scenarios.{scenario_sums, scan_of}
 use Rattle.spread_stage.specs.Deltas.{month_deltas}
 use Rattle.spread_stage.specs.Spreads.{spread_both_ways, after_spreads}
@@ -20,5 +20,5 @@ use Rattle.statement.specs.Statement.{figures_line, total_line, row_text, total_
 
 -- all words that computing on literals unfolds
 unfoldable pub on_literals : ⊤
-unfolding digits reading_on_literals keeps_rules is_readable check_fault checked tables_of intras_of spots_of inters_of portfolios_of held_of bind_fault bound scenario_sums scan_of month_deltas spread_both_ways after_spreads intra_charge delivery_charge inter_both_ways after_inter_spreads credit_of minimum_of requirement_of stages_from inter_lines figures_of figures_line total_line row_text total_of held_figures statement_text statement_under statement_of counts_line counts_of
+unfolding digits reading_on_literals keeps_rules is_readable check_fault checked tables_of intras_of spots_of inters_of portfolios_of held_of bind_fault bindings_of scenario_sums scan_of month_deltas spread_both_ways after_spreads intra_charge delivery_charge inter_both_ways after_inter_spreads credit_of minimum_of requirement_of stages_from inter_lines figures_of figures_line total_line row_text total_of held_figures statement_text statement_under statement_of counts_line counts_of
 on_literals = tt

@@ -8,7 +8,7 @@ use Rattle.span_csv.specs.PositionFaults.{positions_of}
 use Rattle.param_check.specs.CheckFaults.{checked}
 use Rattle.span_tables.specs.Tables.{AcceptedTables}
 use Rattle.span_tables.specs.Net.{AccountHoldings}
-use Rattle.param_check.specs.Binding.{bound}
+use Rattle.param_check.specs.Binding.{bindings_of}
 use Rattle.statement.specs.Figures.{is_held_in, figures_of}
 use Rattle.statement.specs.Rows.{RowView}
 use Rattle.span_tables.specs.declared.portfolios.Holding.{Holding}
@@ -75,7 +75,7 @@ and_then named (Err fault) next = Err (named fault)
 unfoldable pub statement_under : AcceptedTables → List ℕ → Result (List ℕ) SpanFault
 statement_under tables positions =
     and_then fault.Positions (positions_of positions) (λ records.
-    and_then fault.Bind (bound tables.contracts records) (λ portfolios.
+    and_then fault.Bind (bindings_of tables.contracts records) (λ portfolios.
     Ok (statement_text tables portfolios)))
 
 -- The statement of two files, or the first fault: in reading the parameters, in checking them, in reading the

@@ -1,7 +1,7 @@
 //! Laws of the definitions, in the formats' own words: each is the contract of a function that does nothing.
 #![tactic(auto, unfolding(crate::specs::OnLiterals::on_literals))]
 
-ghost use Rattle.param_check.specs.Binding.{bound};
+ghost use Rattle.param_check.specs.Binding.{bindings_of};
 ghost use Rattle.param_check.specs.CheckFaults.{checked};
 ghost use Rattle.param_check.specs.declared.faults.BindFault.{BindFault};
 ghost use Rattle.param_check.specs.declared.faults.CheckFault.{CheckFault};
@@ -53,11 +53,11 @@ pub fn faults_come_in_order()
     ensures bind { (params positions : List ℕ) (records : List Record) (tables : AcceptedTables)
         (held : List PositionRecord) (e : BindFault)
         → params_of params ≡ Ok records → checked records ≡ Ok tables → positions_of positions ≡ Ok held
-        → bound tables.contracts held ≡ Err e → statement_of params positions ≡ Err (fault.Bind e) }
+        → bindings_of tables.contracts held ≡ Err e → statement_of params positions ≡ Err (fault.Bind e) }
     ensures statement { (params positions : List ℕ) (records : List Record) (tables : AcceptedTables)
         (held : List PositionRecord) (accounts : List AccountHoldings)
         → params_of params ≡ Ok records → checked records ≡ Ok tables → positions_of positions ≡ Ok held
-        → bound tables.contracts held ≡ Ok accounts
+        → bindings_of tables.contracts held ≡ Ok accounts
         → statement_of params positions ≡ Ok (statement_text tables accounts) }
 {}
 

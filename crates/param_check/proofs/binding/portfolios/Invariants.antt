@@ -1,11 +1,11 @@
 use Rattle.std.proofs.Common.{◌≡◌, ◌+◌, take}
 use Rattle.std.specs.Prelude.{length}
-use Rattle.param_check.specs.Holdings.{paired}
+use Rattle.param_check.specs.Holdings.{portfolios_from}
 use Rattle.param_check.proofs.binding.portfolios.Given as goal
 
 abbrev pub invariant-loop-held : goal.invariant-loop-held
 invariant-loop-held l = record {
-  are : l.all.items ≡ paired (take (length l.yielded) l.accounts) l.yielded;
+  are : l.all.items ≡ portfolios_from (take (length l.yielded) l.accounts) l.yielded;
   many : length l.all.items ≡ length l.yielded;
   left : length l.all.items + length l.held-iterator.rest.items ≡ length l.accounts;
 }

@@ -1,21 +1,59 @@
-use Rattle.std.proofs.Common.{◌∙◌, ◌+◌, ap, sym}
+use Rattle.std.proofs.Common.{◌≡◌, ◌<◌, ◌++◌, ◌∷◌, [], ◌∙◌, ◌+◌, ap, arith, get_or, length, refl, replicate, set, sym, take}
 use Rattle.std.specs.Prelude.{Some}
+use Rattle.std.proofs.lemmas.List.{get_or_default, length-map}
+use Rattle.span_tables.specs.Net.{accounts_of}
+use Rattle.span_tables.specs.Positions.{named_position}
+use Rattle.param_check.specs.Ledger.{is_foreign}
+use Rattle.param_check.specs.Nets.{entries_of}
 use Rattle.param_check.specs.declared.faults.BindFault.TheVariants as fault
-use Rattle.param_check.proofs.LedgerLaws.{foreign_from_none, foreign_found, ledger_step}
+use Rattle.param_check.proofs.LedgerLaws.{account_is, as_many, books_step, foreign_from_none, foreign_found, known_from_some, no_entries, none_step, number_within, record_at}
 use Rattle.param_check.proofs.ledger.gather.Goals as goal
+
+pub loop-number-init : goal.loop-number-init
+loop-number-init c = record {
+  books_are = c.in_ok-books.ensures ∙ ap (λ ks. replicate (length ks) []) c.accounts-accounts.ensures.value ∙ no_entries c.args.numbers.now.keys (accounts_of c.args.positions.now);
+  all_known = refl;
+}
 
 pub returns-in_default : goal.returns-in_default
 returns-in_default c =
     let ids = c.args.numbers.now.keys in
+    let positions = c.args.positions.now in
+    let records = c.records-position-items.result.now in
+    let named = c.records-position-items.ensures.value in
+    let known = c.records-position-items.ensures.known in
     let i = c.loop-number.number in
-    let p = c.index-positions-number.result in
-    foreign_found ids c.args.positions.now i p c.loop-number-test.true c.index-positions-number.is c.loop-number.invariant.all_known (foreign_from_none ids p c.in_default.ensures.entry)
-    ∙ ap (λ name. Some (fault.UnknownContract (i + 1) name)) (sym c.copied.ensures)
+    let r = c.position-item.result in
+    let lt : i < length records = c.loop-number-test.true in
+    let at = c.position-item.is in
+    let p = named_position (accounts_of positions) r in
+    let many = as_many positions records named known in
+    let within : i < length positions = omega (arith, lt, many) in
+    let name = account_is positions records named known i r c.accounts-accounts.result.now c.index-accounts-account.result lt at c.accounts-accounts.ensures.value c.index-accounts-account.is in
+    foreign_found ids positions i p within (record_at positions records named known i r lt at) c.loop-number.invariant.all_known (foreign_from_none ids p c.in_default.ensures.entry)
+    ∙ ap (λ name. Some (fault.UnknownContract (i + 1) name)) (sym (c.copied.ensures ∙ name))
 
 pub loop-number-preserved : goal.loop-number-preserved
 loop-number-preserved c =
     let ids = c.args.numbers.now.keys in
-    let p = c.index-positions-number.result in
-    ledger_step ids c.args.positions.now c.loop-number.number p c.loop-number.accounts.keys c.place.new.accounts.keys c.loop-number.books.items c.enter.new.books.items
-    c.in_ok-last.last c.in-Some.entry c.loop-number-test.true c.index-positions-number.is c.loop-number.invariant c.in-Some.ensures.entry
-    c.in_ok-last.ensures.keys c.in_ok-last.ensures.apart c.in_ok-last.ensures.at c.in_ok-enter.ensures
+    let positions = c.args.positions.now in
+    let records = c.records-position-items.result.now in
+    let named = c.records-position-items.ensures.value in
+    let known = c.records-position-items.ensures.known in
+    let i = c.loop-number.number in
+    let r = c.position-item.result in
+    let lt : i < length records = c.loop-number-test.true in
+    let at = c.position-item.is in
+    let books = c.loop-number.books.items in
+    let e = c.in-Some.entry in
+    let a = r.account in
+    let number = number_within positions records named known i r lt at in
+    let many = ap length c.loop-number.invariant.books_are ∙ length-map (accounts_of positions) (entries_of ids (take i positions)) in
+    let within : a < length books = omega (arith, number, many) in
+    let read = c.index_mut.ensures.value ∙ get_or_default books a c.index_mut.result.now [] within in
+    let some = known_from_some ids (named_position (accounts_of positions) r) e c.in-Some.ensures.entry in
+    record {
+      books_are = books_step positions records named known ids i r books _ e lt at c.loop-number.invariant.books_are some.1
+          (ap (set books a) (c.in_ok-push.ensures ∙ ap (λ b. b ++ e ∷ []) read));
+      all_known = none_step positions records named known (is_foreign ids) i r lt at c.loop-number.invariant.all_known some.0;
+    }

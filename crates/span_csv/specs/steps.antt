@@ -1,0 +1,2 @@
+-- Forms near to the code, which private clauses cite. What has to be trusted is beside this folder.
+pub mod PositionReading

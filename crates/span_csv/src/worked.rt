@@ -1,0 +1,62 @@
+//! What small files read as, computed by the definitions.
+#![tactic(auto, unfolding(crate::specs::OnLiterals::reading_on_literals))]
+
+ghost use Rattle.std.specs.Prelude.{◌≡◌, [], ◌∷◌, Err, Ok, codes, neg_ℤ, pos};
+ghost use Rattle.span_csv.specs.ParamFaults.{params_of};
+ghost use Rattle.span_csv.specs.PositionFaults.{positions_of};
+ghost use Rattle.span_csv.specs.Records.{records_of};
+ghost use Rattle.span_csv.specs.declared.faults.ParamFault.TheVariants as param;
+ghost use Rattle.span_csv.specs.declared.faults.PositionFault.TheVariants as position;
+
+// A comma between quotes belongs to the field.
+fn quoted_comma()
+    ensures { records_of (codes "\"A,B\",1\n") ≡ (codes "A,B" ∷ codes "1" ∷ []) ∷ [] }
+{}
+
+// Two quotes are an empty field, and between quotes they are one quote.
+fn quotes_in_pairs()
+    ensures empty { records_of (codes "\"\",1\n") ≡ ([] ∷ codes "1" ∷ []) ∷ [] }
+    ensures one { records_of (codes "\"A\"\"B\"\n") ≡ (codes "A\"B" ∷ []) ∷ [] }
+{}
+
+// A carriage return ends a record by itself.
+fn lone_carriage_return()
+    ensures { records_of (codes "X,1\rY,2\r\n") ≡ (codes "X" ∷ codes "1" ∷ []) ∷ (codes "Y" ∷ codes "2" ∷ []) ∷ [] }
+{}
+
+// A quote that never closes takes the rest of the file into its field.
+fn unclosed_quote()
+    ensures { records_of (codes "X,\"FA,1\nY") ≡ (codes "X" ∷ codes "FA,1\nY" ∷ []) ∷ [] }
+{}
+
+// A byte order mark is no part of the first field.
+fn byte_order_mark()
+    ensures { records_of (239 ∷ 187 ∷ 191 ∷ codes "X\n") ≡ (codes "X" ∷ []) ∷ [] }
+{}
+
+// A first record that is no SET.
+fn first_record_is_no_set()
+    ensures { params_of (codes "COMMODITY,AA,0,SUM\n") ≡ Err (param.NoSet 1) }
+{}
+
+// A name in small letters, and a method that is none; the version that is out of range in the same record counts later.
+fn malformed_names()
+    ensures name { params_of (codes "SET,d1,2,USD\n") ≡ Err (param.BadName 1) }
+    ensures method { params_of (codes "SET,D1,1,USD\nCOMMODITY,AA,0,AVG\n") ≡ Err (param.BadName 2) }
+    ensures version { params_of (codes "SET,D1,2,USD\n") ≡ Err (param.OutOfRange 1) }
+{}
+
+// The lowest-numbered fault of the first record with one.
+fn lowest_fault_of_a_position()
+    ensures fields { positions_of (codes "x,FA,?,\n") ≡ Err (position.FieldCount 1) }
+    ensures name { positions_of (codes "X,FA,1\nx,FA,?\n") ≡ Err (position.BadName 2) }
+    ensures number { positions_of (codes "X,FA,+1\n") ≡ Err (position.BadNumber 1) }
+    ensures range { positions_of (codes "X,FA,-1000001\nx\n") ≡ Err (position.OutOfRange 1) }
+{}
+
+// Accounts and contracts as they stand in their fields, and a negative quantity.
+fn two_positions()
+    ensures { positions_of (codes "Y,FA,-3\nX,FB,1000000\n") ≡ Ok
+        (record { account = codes "Y"; contract = codes "FA"; quantity = neg_ℤ (pos 3) }
+        ∷ record { account = codes "X"; contract = codes "FB"; quantity = pos 1000000 } ∷ []) }
+{}
