@@ -1,5 +1,6 @@
-ghost use Rattle.std.specs.Prelude.{◌≡◌, ◌≤◌, not, bytes_eq, nat_abs, true};
-ghost use Rattle.span_tables.specs.declared.limits.TheConstants.{MAX_QUANTITY};
+ghost use Rattle.std.specs.Prelude.{◌≡◌, ◌<◌, ◌≤◌, not, bytes_eq, length, nat_abs, slice_get, true, IfOk, OnOk, Some};
+ghost use Rattle.indexmap.specs.IndexSet.{insert_key};
+ghost use Rattle.span_tables.specs.declared.limits.TheConstants.{MAX_ACCOUNTS, MAX_QUANTITY};
 ghost use Rattle.span_tables.specs.Limits.{contract_in_range};
 ghost use Rattle.span_tables.specs.Names.{has_repeat};
 ghost use Rattle.std.specs.List.{list_any};
@@ -91,18 +92,32 @@ fn record(account: &[u8], contract: u32, quantity: i32) -> PositionRecord {
     }
 }
 
+// The number of an account, which is put last where it is new.
+fn place(accounts: &mut IndexSet<Name>, account: &Name) -> Result<u32, AllocError>
+    requires { length accounts.old.keys < MAX_ACCOUNTS }
+    ensures taken { OnOk result (accounts.new.keys ≡ insert_key bytes_eq accounts.old.keys account.now) }
+    ensures at { IfOk result (λ place. slice_get accounts.new.keys place ≡ Some account.now) }
+    ensures few { OnOk result (length accounts.new.keys ≤ MAX_ACCOUNTS) }
+{
+    let (place, _) = accounts.insert_full(account.copied())?;
+    Ok(place as u32)
+}
+
 // The positions of these records, which are within the limits.
 fn positions(alloc: Global, records: &[PositionRecord]) -> Result<RawPositions, AllocError> {
     let mut accounts = IndexSet::new(alloc);
     let mut all: Vec<NumberedPosition> = Vec::new(alloc);
     for record in records {
-        if accounts.len() >= MAX_ACCOUNTS || !is_in_range(record.quantity) {
+        if accounts.len() >= MAX_ACCOUNTS {
             return Err(AllocError);
         }
-        let (place, _) = accounts.insert_full(record.account.copied())?;
+        if !is_in_range(record.quantity) {
+            return Err(AllocError);
+        }
+        let account = place(&mut accounts, &record.account)?;
         all.push(NumberedPosition {
             contract: record.contract.copied(),
-            account: place as u32,
+            account,
             quantity: record.quantity,
         })?;
     }
