@@ -15,4 +15,3 @@ pub mod steps
 pub mod Laws
 pub mod ByKind
 pub mod Samples
-pub mod steps
