@@ -10,8 +10,8 @@ use Rattle.span_tables.specs.declared.portfolios.Holding.{Holding}
 use Rattle.span_tables.specs.declared.records.Contract.{Contract}
 use Rattle.span_tables.specs.declared.records.PositionRecord.{PositionRecord}
 use Rattle.span_tables.proofs.SumLaws.{int_sum_by-if}
-use Rattle.param_check.specs.Nets.{entry_of, entries_of, entry_net, entry_holdings}
-use Rattle.param_check.specs.Holdings.{ids_of}
+use Rattle.param_check.specs.steps.Nets.{entry_of, entries_of, entry_net, entry_holdings}
+use Rattle.param_check.specs.steps.Holdings.{ids_of}
 use Rattle.param_check.specs.declared.nets.Entry.{Entry}
 use Rattle.param_check.proofs.AccountLaws.{same_bytes}
 

@@ -16,7 +16,7 @@ use Rattle.span_tables.specs.declared.records.Contract.{Contract}
 use Rattle.span_tables.specs.declared.records.PositionRecord.{PositionRecord}
 use Rattle.span_tables.proofs.NameLaws.{distinct_same}
 use Rattle.param_check.specs.Binding.{exceeds_net, exceeds_held}
-use Rattle.param_check.specs.Holdings.{portfolios_from}
+use Rattle.param_check.specs.steps.Holdings.{portfolios_from}
 use Rattle.param_check.proofs.AccountLaws.{same_bytes, bytes_eq-refl}
 use Rattle.param_check.proofs.OrderLaws.{held_rise}
 

@@ -4,3 +4,6 @@ pub mod Keys
 pub mod Overlaps
 pub mod RecordRules
 pub mod Sums
+pub mod Ledger
+pub mod Nets
+pub mod Holdings

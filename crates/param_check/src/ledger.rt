@@ -2,7 +2,7 @@
 ghost use Rattle.std.specs.Prelude.{◌≡◌, ◌≤◌, ◌++◌, ◌∷◌, [], ⊤, Some, bytes_eq, nat_abs, replicate, All, IfOk, IfSome, OnOk, MatchBool, MatchResult};
 ghost use Rattle.span_tables.specs.declared.limits.TheConstants.{MAX_QUANTITY};
 ghost use Rattle.param_check.specs.Binding.{is_memory};
-ghost use Rattle.param_check.specs.Ledger.{foreign_fault, known_entry, IsLedger};
+ghost use Rattle.param_check.specs.steps.Ledger.{foreign_fault, known_entry, IsLedger};
 
 use crate::faults::BindFault;
 use crate::nets::Entry;
@@ -58,7 +58,7 @@ impl Book {
 }
 
 // The entry of a record, or `None` where its contract is not known.
-#[tactic(auto, unfolding(crate::specs::Ledger::known_entry))]
+#[tactic(auto, unfolding(crate::specs::steps::Ledger::known_entry))]
 fn entry(numbers: &IndexSet<Name>, position: &NumberedPosition) -> Option<Entry>
     ensures entry { result ≡ known_entry numbers.now.keys position.now.contract position.now.quantity }
     ensures quantity { IfSome result (λ entry. entry.quantity ≡ position.now.quantity) }
@@ -82,7 +82,7 @@ fn empty_books(alloc: Global, count: usize) -> Result<Vec<Book>, AllocError>
 }
 
 /// The books of the accounts of positions, or the first record whose contract is not among these.
-#[tactic(auto, unfolding(crate::specs::Ledger::known_entry))]
+#[tactic(auto, unfolding(crate::specs::steps::Ledger::known_entry))]
 pub(crate) fn gather(
     alloc: Global,
     numbers: &IndexSet<Name>,

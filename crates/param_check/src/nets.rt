@@ -1,7 +1,7 @@
 //! The net quantities of one account.
 ghost use Rattle.std.specs.Prelude.{◌≡◌, ◌<◌, ◌≤◌, ◌+◌, ◌^◌, ◌+ℤ◌, All, length, map, nat_abs, replicate, pos, slice_index_or, slice_set, IfOk};
 ghost use Rattle.std.specs.List.{range_with_len};
-ghost use Rattle.param_check.specs.Nets.{entry_net};
+ghost use Rattle.param_check.specs.steps.Nets.{entry_net};
 ghost use Rattle.param_check.specs.steps.Sums.{kept_holdings};
 ghost use Rattle.span_tables.specs.declared.limits.TheConstants.{MAX_QUANTITY};
 

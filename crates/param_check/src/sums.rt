@@ -1,7 +1,7 @@
 //! Sums by contract number, which cost nothing where nothing was added.
 ghost use Rattle.std.specs.Prelude.{◌≡◌, ◌==◌, ◌<◌, ◌+◌, ◌*◌, ◌^◌, ◌++◌, ◌+ℤ◌, length, map, nat_abs, replicate, pos, slice_index_or, slice_set, IfOk, OnOk};
 ghost use Rattle.std.specs.Int.{bit_at};
-ghost use Rattle.param_check.specs.Nets.{held_part, holdings_in};
+ghost use Rattle.param_check.specs.steps.Nets.{held_part, holdings_in};
 ghost use Rattle.param_check.specs.steps.Sums.{held_below, kept_holding, kept_net, AreMarks};
 
 use span_tables::limits::MAX_NET;

@@ -7,7 +7,7 @@ use Rattle.std.proofs.lemmas.Bool.{false≢true, leb-true}
 use Rattle.std.proofs.lemmas.Bool.Decides.{nat_tests}
 use Rattle.span_money.specs.Numbers.{positive_part, whole_number, decimal_number, are_digits, digits_value, has_minus, without_minus, is_month}
 use Rattle.span_tables.specs.Names.{is_name}
-use Rattle.span_csv.specs.Grammar.{HasForms, form_at}
+use Rattle.span_csv.specs.steps.Grammar.{HasForms, form_at}
 use Rattle.span_csv.specs.Records.{Fields, RecordKind, a_name, a_whole, a_decimal, a_month, is_within, is_in_range, has_word_form, text_at, count_at, ratio_at, decimal_at}
 
 pub and_left : (a b : Bool) → (a && b) ≡ true → a ≡ true

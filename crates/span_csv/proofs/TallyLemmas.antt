@@ -6,7 +6,7 @@ use Rattle.std.proofs.lemmas.List.Sums.{sum_by_push, count_by-le-length}
 use Rattle.std.proofs.lemmas.Bool.Decides.{nat_tests}
 use Rattle.std.proofs.lemmas.Slice.Eq.{bytes_eq-Decides}
 use Rattle.span_tables.specs.declared.limits.TheConstants.{MAX_COMMODITIES, MAX_CONTRACTS, MAX_TIERS, MAX_INTRA_SPREADS, MAX_SPOT_MONTHS, MAX_INTER_SPREADS}
-use Rattle.span_csv.specs.Checks.{Adds, Tallies, count_for, count_in, count_word, count_words, limit_of}
+use Rattle.span_csv.specs.steps.Checks.{Adds, Tallies, count_for, count_in, count_word, count_words, limit_of}
 use Rattle.span_csv.specs.ParamFaults.{exceeds_limit}
 use Rattle.span_csv.specs.Records.{Fields, RecordKind, a_set, a_commodity, a_contract, a_tier, an_intra, a_spot, an_inter, kind_of, text_at}
 use Rattle.span_csv.specs.declared.tally.Tally.{Tally}

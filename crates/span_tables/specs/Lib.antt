@@ -13,5 +13,4 @@ pub mod Slots
 pub mod Spreads
 pub mod steps
 pub mod Laws
-pub mod ByKind
 pub mod Samples

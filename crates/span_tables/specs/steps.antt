@@ -2,3 +2,4 @@
 pub mod Gathered
 pub mod Legs
 pub mod Tiers
+pub mod ByKind

@@ -4,7 +4,7 @@ use Rattle.std.specs.Int.{bit_at}
 use Rattle.std.specs.List.{range_with_len}
 use Rattle.span_tables.specs.declared.limits.TheConstants.{MAX_NET}
 use Rattle.span_tables.specs.declared.portfolios.Holding.{Holding}
-use Rattle.param_check.specs.Nets.{entry_holdings, holdings_in}
+use Rattle.param_check.specs.steps.Nets.{entry_holdings, holdings_in}
 use Rattle.param_check.specs.declared.nets.Entry.{Entry}
 
 -- the bit of a number is set

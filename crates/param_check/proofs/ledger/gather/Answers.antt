@@ -3,8 +3,8 @@ use Rattle.std.specs.Prelude.{Some}
 use Rattle.std.proofs.lemmas.List.{get_or_default, length-map}
 use Rattle.span_tables.specs.Net.{accounts_of}
 use Rattle.span_tables.specs.Positions.{named_position}
-use Rattle.param_check.specs.Ledger.{is_foreign}
-use Rattle.param_check.specs.Nets.{entries_of}
+use Rattle.param_check.specs.steps.Ledger.{is_foreign}
+use Rattle.param_check.specs.steps.Nets.{entries_of}
 use Rattle.param_check.specs.declared.faults.BindFault.TheVariants as fault
 use Rattle.param_check.proofs.LedgerLaws.{account_is, as_many, books_step, foreign_from_none, foreign_found, known_from_some, no_entries, none_step, number_within, record_at}
 use Rattle.param_check.proofs.ledger.gather.Goals as goal

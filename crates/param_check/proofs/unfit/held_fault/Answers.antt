@@ -1,7 +1,7 @@
 use Rattle.std.proofs.Common.{◌≡◌, ◌<◌, ◌≤◌, ◌∙◌, arith, length, sym}
 use Rattle.span_tables.specs.Net.{accounts_of}
 use Rattle.span_tables.specs.Positions.{named_position}
-use Rattle.param_check.specs.Holdings.{held_exceeds}
+use Rattle.param_check.specs.steps.Holdings.{held_exceeds}
 use Rattle.param_check.proofs.LedgerLaws.{account_is, as_many, none_step, record_at}
 use Rattle.param_check.proofs.LimitLaws.{held_fault-none, held_fault-all, held_fault-found}
 use Rattle.param_check.proofs.NumberedUnfit.{many_held_at}

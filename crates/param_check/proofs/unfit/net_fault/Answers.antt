@@ -1,7 +1,7 @@
 use Rattle.std.proofs.Common.{◌≡◌, ◌<◌, ◌≤◌, ◌∙◌, arith, length, sym}
 use Rattle.span_tables.specs.Net.{accounts_of}
 use Rattle.span_tables.specs.Positions.{named_position}
-use Rattle.param_check.specs.Holdings.{net_exceeds}
+use Rattle.param_check.specs.steps.Holdings.{net_exceeds}
 use Rattle.param_check.proofs.LedgerLaws.{account_is, as_many, none_step, record_at}
 use Rattle.param_check.proofs.LimitLaws.{net_fault-none, net_fault-all, net_fault-found}
 use Rattle.param_check.proofs.NumberedUnfit.{net_at}

@@ -19,7 +19,7 @@ module _ (a b s : ℤ) (x : nat_abs a ≤ 100000) (y : nat_abs b ≤ 10000) (z :
   whole : to_z w64 (of_z w64 (to_z w64 (of_z w64 (to_z w64 (of_z w64 a) *ℤ to_z w64 (of_z w64 b))) *ℤ to_z w64 (of_z w64 s))) ≡ a *ℤ b *ℤ s
   whole = rw (first, same_64 s 100000 z (lit< tt)) (same_64 (a *ℤ b *ℤ s) 100000000000000 size (lit< tt))
 
-module _ (c : goal.After-result-1) where
+module _ (c : goal.After-from-scale) where
   delta : c.from-delta.result ≡ (c.args.contract.now).delta
   delta = c.from-delta.ensures ∙ ap (λ z. to_z w32 (of_z w32 z)) c.get.ensures ∙ same_32 (c.args.contract.now).delta c.requires.contract.delta
 
