@@ -89,7 +89,7 @@ fn writes_decimals(rt: HostRuntime) {
 
 #[test]
 fn divides(rt: HostRuntime) {
-    let fits: [(u128, u32, u128); 6] = [
+    let fits: [(u64, u32, u64); 6] = [
         (100_000_000, 30_000, 3333),
         (300_000_000, 40_000, 7500),
         (200_000_000, 40_000, 5000),

@@ -159,9 +159,9 @@ fn tables_of_a_small_file(rt: HostRuntime) -> Result<(), Fail> {
     // The spread of priority 1 first, with the months of its tiers.
     let spreads = tables.intras(0);
     assert_eq!(rt; spreads.len(), 2);
-    assert_eq!(rt; spreads[0].rate, 100);
-    assert_eq!(rt; spreads[1].rate, 250);
-    let legs = spreads[0].legs.as_slice();
+    assert_eq!(rt; spreads[0].rate(), 100);
+    assert_eq!(rt; spreads[1].rate(), 250);
+    let legs = spreads[0].legs();
     assert_eq!(rt; legs.len(), 2);
     assert_eq!(rt; (legs[0].first, legs[0].last), (202_504, 202_512));
     assert_eq!(rt; (legs[1].first, legs[1].last), (202_501, 202_503));
@@ -174,7 +174,7 @@ fn tables_of_a_small_file(rt: HostRuntime) -> Result<(), Fail> {
 
     let spreads = tables.inters();
     assert_eq!(rt; spreads.len(), 1);
-    let legs = spreads[0].legs.as_slice();
+    let legs = spreads[0].legs();
     assert_eq!(rt; legs.len(), 2);
     assert_eq!(rt; (legs[0].commodity, legs[1].commodity), (1, 0));
     Ok(())
