@@ -86,7 +86,7 @@ module _ (positions : List PositionRecord) (records : List NumberedPosition) (na
       ∙ ap (λ bs. set bs r.account (get_or bs r.account [] ++ e ∷ [])) was
       ∙ ap (λ x. set (map (entries_of ids (take i positions)) (accounts_of positions)) r.account (get_or (map (entries_of ids (take i positions)) (accounts_of positions)) r.account [] ++ x ∷ [])) is
       ∙ entered_known (entries_of ids (take i positions)) (entries_of ids (take i positions ++ p ∷ [])) p.account (entry_of ids p) (entries_push ids (take i positions) p)
-          (accounts_of positions) r.account apart (account_at i r lt at)
+      (accounts_of positions) r.account apart (account_at i r lt at)
       ∙ ap (λ ps. map (entries_of ids ps) (accounts_of positions)) (sym next)
 
   -- and a test that no record so far passes

@@ -35,7 +35,7 @@ pub fn accounts_are_limited()
         → is_among (map (λ x. text_at x 0) earlier) account ≡ false
         → length (distinct (map (λ x. text_at x 0) earlier)) ≡ MAX_ACCOUNTS
         → first_that_holds (position_faults earlier (account ∷ contract ∷ codes "1" ∷ []))
-            ≡ Some fault.TooManyAccounts }
+        ≡ Some fault.TooManyAccounts }
     ensures taken { (earlier : List Fields) (account contract : List ℕ)
         → is_name account ≡ true → is_name contract ≡ true
         → exceeds_accounts earlier (account ∷ contract ∷ codes "1" ∷ []) ≡ false

@@ -122,9 +122,9 @@ fn next_position(
     requires { AreNumbered accounts.old.keys earlier.now }
     ensures found { MatchResult result
         (λ p. next_position (named_positions accounts.old.keys earlier.now) (fields_of row.now)
-            ≡ Ok (named_position accounts.new.keys p))
+        ≡ Ok (named_position accounts.new.keys p))
         (λ e. MatchBool (is_memory e) ⊤
-            (next_position (named_positions accounts.old.keys earlier.now) (fields_of row.now) ≡ Err e)) }
+        (next_position (named_positions accounts.old.keys earlier.now) (fields_of row.now) ≡ Err e)) }
     ensures named { IfOk result (λ p. named_positions accounts.new.keys (earlier.now ++ p ∷ [])
         ≡ named_positions accounts.old.keys earlier.now ++ named_position accounts.new.keys p ∷ []) }
     ensures numbered { IfOk result (λ p. AreNumbered accounts.new.keys (earlier.now ++ p ∷ [])) }
