@@ -3,7 +3,6 @@ use Rattle.std.proofs.Common.{◌≡◌, ◌/◌, ◌<◌, ◌≤◌, ℕ, ℤ, 
 use Rattle.std.specs.List.{All, AllByRecursion}
 use Rattle.std.proofs.Math.Nat.{zero-div}
 use Rattle.std.proofs.lemmas.List.Elements.{All-from_recursion}
-use Rattle.span_money.specs.Numbers.{positive_part, negative_part}
 use Rattle.span_tables.specs.Accepted.{IsInter}
 use Rattle.span_tables.specs.Sides.{IsLeftOf, market_side, part_on, spreads_formed}
 use Rattle.span_tables.specs.Slots.{IsMarked, IsOpenAt, numbers_on}

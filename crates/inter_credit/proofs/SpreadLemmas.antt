@@ -1,9 +1,8 @@
 -- The spreads that are formed fit each leg.
-use Rattle.std.proofs.Common.{◌≡◌, ◌+◌, ◌/◌, ◌*◌, ◌<◌, ◌≤◌, ℕ, min, List, [], ◌∷◌, ◌++◌, map, length, take, get_or, drop, ◌-◌, refl, sym, ap, ◌∙◌, arith, add-one}
+use Rattle.std.proofs.Common.{◌≡◌, ◌/◌, ◌*◌, ◌<◌, ◌≤◌, ℕ, min, List, [], ◌∷◌, map, length, ◌-◌, arith}
 use Rattle.std.specs.List.{All, AllByRecursion}
 use Rattle.std.proofs.Math.Nat.{div-mul-le_self, mul-le-mul_right, min-le_left, min-le_right}
 use Rattle.std.proofs.lemmas.List.Elements.{All-from_recursion, All-same}
-use Rattle.std.proofs.lemmas.List.{take_more, map-append, length-take, length-drop, get_or-take, get_or-drop}
 use Rattle.span_tables.specs.Accepted.{IsInter}
 use Rattle.span_tables.specs.Sides.{Room, market_side, part_on, spreads_formed}
 use Rattle.span_tables.specs.declared.sides.Direction.{Direction}

@@ -1,8 +1,6 @@
 -- Spreads and contracts that worked numbers speak of.
-use Rattle.std.specs.Prelude.{ℕ, ◌≤◌, [], ◌∷◌, codes, ℤ, pos, neg_ℤ, nat_abs}
+use Rattle.std.specs.Prelude.{ℕ, [], ◌∷◌, codes, ℤ, pos, neg_ℤ}
 use Rattle.std.specs.List.{repeat}
-use Rattle.span_tables.specs.Accepted.{IsContract}
-use Rattle.span_tables.specs.declared.limits.TheConstants.{MAX_NET}
 use Rattle.span_tables.specs.Net.{HeldContract}
 use Rattle.span_tables.specs.declared.records.Inter.{Inter}
 use Rattle.span_tables.specs.declared.records.ProductKind.{ProductKind}

@@ -1,5 +1,5 @@
 -- What the nets as they are kept say of the nets.
-use Rattle.std.proofs.Common.{◌≡◌, ℕ, zero, suc, ◌+◌, ◌<◌, ◌≤◌, Bool, true, false, cond, ◌||◌, ◌&&◌, List, [], ◌∷◌, length, get_or, map, Option, Some, None, position, refl, sym, ap, subst, ◌∙◌, arith}
+use Rattle.std.proofs.Common.{◌≡◌, ℕ, zero, suc, ◌+◌, ◌≤◌, Bool, true, false, cond, ◌||◌, ◌&&◌, List, [], ◌∷◌, length, get_or, map, Option, Some, None, position, refl, sym, ap, subst, ◌∙◌, arith}
 use Rattle.std.specs.Prelude.{All, bytes_eq, nat_abs, nat_lt, pos, ◌==◌}
 use Rattle.std.specs.List.Sorted.{IsStrictlyIncreasing}
 use Rattle.std.specs.Option.{option_or}
@@ -17,7 +17,7 @@ use Rattle.param_check.specs.Binding.{first_unfit, bindings_of}
 use Rattle.param_check.specs.steps.Holdings.{ids_of, is_over, is_over_at, over_at, net_exceeds, are_many, many_at, held_exceeds, net_fault, held_fault, portfolios_from, portfolios_or_fault}
 use Rattle.param_check.specs.steps.Ledger.{IsLedger}
 use Rattle.param_check.specs.steps.Nets.{entry_holdings}
-use Rattle.param_check.specs.steps.Sums.{kept_holding, kept_net, kept_holdings}
+use Rattle.param_check.specs.steps.Sums.{kept_holding, kept_holdings}
 use Rattle.param_check.specs.declared.faults.BindFault.{BindFault}
 use Rattle.param_check.specs.declared.faults.BindFault.TheVariants as fault
 use Rattle.param_check.specs.declared.nets.Entry.{Entry}

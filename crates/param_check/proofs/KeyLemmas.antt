@@ -1,5 +1,5 @@
 -- Each rule on repeated records, as a rule on repeated keys.
-use Rattle.std.proofs.Common.{◌≡◌, ℕ, Bool, List, [], ◌∷◌, Option, None, refl, sym, ◌∙◌, ◌&&◌, eqb, bytes_eq, arith}
+use Rattle.std.proofs.Common.{◌≡◌, ℕ, Bool, List, Option, None, refl, sym, ◌∙◌, ◌&&◌, eqb, bytes_eq, arith}
 use Rattle.std.specs.Prelude.{filter_map}
 use Rattle.std.specs.List.{list_any}
 use Rattle.std.proofs.Math.Bool.{or-false, and-true}

@@ -1,5 +1,5 @@
 -- The first record with a fault is the first of its kind: of its account and contract, or of its account.
-use Rattle.std.proofs.Common.{◌≡◌, Bool, true, ◌&&◌, List, length, ap, ◌∙◌}
+use Rattle.std.proofs.Common.{◌≡◌, true, ◌&&◌, List, length, ap, ◌∙◌}
 use Rattle.std.specs.Prelude.{bytes_eq, nat_abs, nat_lt}
 use Rattle.std.proofs.lemmas.Bool.{and_parts}
 use Rattle.span_tables.specs.Net.{net_of, holdings_of}

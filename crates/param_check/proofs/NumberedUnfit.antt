@@ -1,5 +1,5 @@
 -- The faults of nets, where each record tells its account by number.
-use Rattle.std.proofs.Common.{◌≡◌, ℕ, ◌<◌, List, [], length, get_or, Some, position, refl, sym, ap}
+use Rattle.std.proofs.Common.{◌≡◌, ℕ, ◌<◌, List, [], length, get_or, Some, position, sym, ap}
 use Rattle.std.specs.Prelude.{All, bytes_eq}
 use Rattle.span_tables.specs.Net.{accounts_of}
 use Rattle.span_tables.specs.Positions.{named_position, named_positions}

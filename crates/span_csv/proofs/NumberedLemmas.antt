@@ -1,5 +1,5 @@
 -- What the record behind numbered ones is, and what is answered for it.
-use Rattle.std.proofs.Common.{◌≡◌, ◌∙◌, refl, sym, ap, inl, inr, arith, ℕ, ◌+◌, ◌≤◌, true, false, ◌==◌, ℤ, List, [], ◌∷◌, ◌++◌, length, get_or, Some, Ok, Err, slice_get}
+use Rattle.std.proofs.Common.{◌≡◌, refl, sym, ap, inl, inr, arith, ℕ, ◌+◌, ◌≤◌, true, false, ◌==◌, ℤ, List, [], ◌∷◌, length, get_or, Some, Ok, Err, slice_get}
 use Rattle.std.specs.Prelude.{Bool, MatchBool, Result, ⊤}
 use Rattle.std.proofs.lemmas.Bool.{cases_Bool, eqb-false}
 use Rattle.std.proofs.lemmas.List.{length-map, length-append}

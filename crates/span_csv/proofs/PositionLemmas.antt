@@ -1,19 +1,17 @@
 -- Records read one after another give what the definition says of all.
-use Rattle.std.proofs.Common.{◌≡◌, ◌∙◌, refl, sym, ap, inl, inr, arith, ℕ, suc, zero, ◌+◌, Bool, true, false, ◌==◌, ◌||◌, ℤ, List, [], ◌∷◌, ◌++◌, length, map, Option, Some, None, Result, Ok, Err, append_assoc}
-use Rattle.std.specs.Prelude.{slice_get, bytes_eq, option_map}
+use Rattle.std.proofs.Common.{◌≡◌, ◌∙◌, refl, sym, ap, inl, inr, arith, ℕ, ◌+◌, true, false, ◌==◌, ℤ, List, [], ◌∷◌, ◌++◌, length, map, Option, Some, None, Result, Ok, Err, append_assoc}
+use Rattle.std.specs.Prelude.{option_map}
 use Rattle.std.proofs.lemmas.Bool.{cases_Bool, ne_eqb}
-use Rattle.std.proofs.lemmas.Slice.Eq.{bytes_eq-Decides}
 use Rattle.std.proofs.lemmas.List.{append-nil, map-append, length-map}
 use Rattle.span_tables.specs.Faults.{first_fault_after, first_that_holds, ok_unless}
 use Rattle.span_tables.specs.Gives.{Gives}
-use Rattle.span_tables.specs.Names.{is_among, is_name, distinct}
-use Rattle.span_tables.specs.Net.{accounts_of}
-use Rattle.span_tables.proofs.NameLemmas.{same_name, is_among-distinct, distinct-push}
+use Rattle.span_tables.specs.Names.{is_name, distinct}
+use Rattle.span_tables.proofs.NameLemmas.{is_among-distinct}
 use Rattle.span_tables.specs.declared.records.PositionRecord.{PositionRecord}
 use Rattle.span_money.specs.Numbers.{whole_number}
 use Rattle.span_csv.specs.Records.{Fields, records_of, text_at, position_record}
 use Rattle.span_csv.specs.PositionFaults.{position_fault, position_faults, positions_of, exceeds_accounts, is_memory}
-use Rattle.span_csv.specs.steps.PositionReading.{is_quantity, next_position, position_behind, positions_after, quantity_alone, with_account}
+use Rattle.span_csv.specs.steps.PositionReading.{is_quantity, next_position, position_behind, positions_after, quantity_alone}
 use Rattle.span_csv.specs.declared.faults.PositionFault.{PositionFault}
 use Rattle.span_csv.specs.declared.faults.PositionFault.TheVariants as fault
 

@@ -10,7 +10,7 @@ use Rattle.span_tables.specs.Limits.{lies_within, in_range, is_tier_number, is_r
 use Rattle.span_tables.specs.declared.limits.TheConstants.{MAX_ARRAY_VALUE, MAX_BASIS_POINTS, MAX_DELTA, MAX_PRIORITY, MAX_RATE, MAX_RATIO, MAX_SCALE, MAX_TIER_NUMBER}
 use Rattle.span_tables.specs.declared.records.IntraLeg.{IntraLeg}
 use Rattle.span_tables.specs.declared.records.InterLeg.{InterLeg}
-use Rattle.span_csv.specs.Records.{Form, Fields, a_name, a_currency, a_method, a_product, a_side, a_whole, a_decimal, a_month, a_rate, RecordKind, a_set, a_commodity, a_contract, a_tier, an_intra, a_spot, an_inter, all_have, has_word_form, is_in_range, exactly, with_legs, forms_of, set_forms, commodity_forms, contract_front, an_array_value, tier_forms, intra_front, intra_leg_forms, spot_forms, inter_front, inter_leg_forms, text_at, intra_leg, inter_leg, legs_of, record_of_kind}
+use Rattle.span_csv.specs.Records.{Form, Fields, a_name, a_side, a_whole, a_decimal, a_month, a_rate, RecordKind, a_set, a_commodity, a_contract, a_tier, an_intra, a_spot, an_inter, all_have, has_word_form, is_in_range, exactly, with_legs, forms_of, set_forms, commodity_forms, contract_front, an_array_value, tier_forms, intra_front, intra_leg_forms, spot_forms, inter_front, inter_leg_forms, text_at, intra_leg, inter_leg, legs_of, record_of_kind}
 use Rattle.span_csv.proofs.FormLemmas.{count_within, count_below, size_within, month_within, passes_at, all_behind, all_of_form}
 
 -- the fields have these forms

@@ -1,12 +1,12 @@
 -- What an account holds of a commodity: holdings of contracts that there are, with their whole records, and within the limits.
 use Rattle.std.proofs.Common.{◌≡◌, ℕ, ℤ, suc, zero, ◌+◌, ◌<◌, ◌≤◌, Bool, true, false, cond, eqb, ltb, List, [], ◌∷◌, ◌++◌, length, length-append, map, filter, get_or, Option, Some, None, refl, sym, ap, ◌∙◌, subst, arith}
-use Rattle.std.specs.Prelude.{◌&&◌, All, IfSome, bytes_eq, filter_map, nat_abs, nat_lt, option_map, slice_get, unwrap_or}
+use Rattle.std.specs.Prelude.{◌&&◌, All, IfSome, bytes_eq, nat_abs, nat_lt, option_map, slice_get, unwrap_or}
 use Rattle.std.specs.List.{cons_option, list_all}
 use Rattle.std.proofs.lemmas.Bool.Decides.{nat_tests}
 use Rattle.std.proofs.lemmas.List.Elements.{All-nil, All-cons, All-head, All-tail, All-filter, All-push}
 use Rattle.span_tables.specs.Accepted.{IsContract, IsWithinLimits, commodity_id, commodity_number}
 use Rattle.span_tables.specs.Holdings.{AreHeld, ArePortfolio}
-use Rattle.span_tables.specs.Net.{HeldContract, held_contract, held_of}
+use Rattle.span_tables.specs.Net.{HeldContract, held_of}
 use Rattle.span_tables.specs.Tables.{AcceptedTables}
 use Rattle.span_tables.specs.declared.limits.TheConstants.{MAX_HELD, MAX_NET}
 use Rattle.span_tables.specs.declared.portfolios.Holding.{Holding}

@@ -1,5 +1,5 @@
 -- Where the commodity of each leg is marked for the leg's side, all slots of the legs are marked.
-use Rattle.std.proofs.Common.{◌≡◌, ℕ, zero, suc, cond, true, fold, List, [], ◌∷◌, arith}
+use Rattle.std.proofs.Common.{◌≡◌, ℕ, suc, cond, true, fold, List, [], ◌∷◌, arith}
 use Rattle.std.specs.List.{All}
 use Rattle.span_tables.specs.Rules.{same_side}
 use Rattle.span_tables.specs.Slots.{IsMarked, has_all, with_slot}

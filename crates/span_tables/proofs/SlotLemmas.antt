@@ -1,7 +1,6 @@
 -- What marking the slot of a number does to a word, and when a word has all slots of another.
-use Rattle.std.proofs.Common.{◌≡◌, ◌≢◌, ◌≤◌, ◌%◌, ◌^◌, ◌==◌, ℕ, ℤ, pos, negsuc, ◌<ℤ◌, Bool, true, false, bit_and, min, max, refl, sym, ap, ◌∙◌, arith}
+use Rattle.std.proofs.Common.{◌≡◌, ◌≢◌, ◌≤◌, ◌%◌, ◌^◌, ◌==◌, ℕ, ℤ, pos, negsuc, ◌<ℤ◌, Bool, true, false, bit_and, refl, ap, arith}
 use Rattle.std.specs.Int.{bit_at}
-use Rattle.std.specs.Int.RustNames.{bit_or}
 use Rattle.std.proofs.lemmas.Bool.Decides.{nat_tests}
 use Rattle.std.proofs.lemmas.Nat.Bits.{bit_at-lt, bit_at-pow_other, bit_at-pow_same, bit_at-zero, bit_at_and, bit_at_or, same_from_bits}
 use Rattle.std.proofs.lemmas.Int.{ints}

@@ -1,10 +1,9 @@
 -- A spread of which a leg has nothing to use is not formed, and changes nothing.
-use Rattle.std.proofs.Common.{◌≡◌, ℕ, zero, suc, ◌+◌, ◌*◌, ◌/◌, ◌<◌, ◌≤◌, min, Bool, true, false, cond, List, [], ◌∷◌, ◌++◌, refl, sym, ap, ◌∙◌, subst, arith, sum_by, fold}
-use Rattle.std.specs.Prelude.{ℤ, pos, negsuc, All, ◌&&◌}
+use Rattle.std.proofs.Common.{◌≡◌, ℕ, zero, suc, ◌+◌, ◌*◌, ◌/◌, ◌<◌, ◌≤◌, Bool, true, false, cond, List, [], ◌∷◌, ◌++◌, refl, sym, ap, ◌∙◌, subst, arith, sum_by, fold}
+use Rattle.std.specs.Prelude.{ℤ, pos, negsuc, All}
 use Rattle.std.specs.Int.{div_ceil}
 use Rattle.std.proofs.Math.Nat.{zero-div}
 use Rattle.std.proofs.lemmas.Bool.Decides.{nat_tests}
-use Rattle.std.proofs.lemmas.Int.{ints}
 use Rattle.std.proofs.lemmas.List.Elements.{All-head, All-tail, All-nil, All-cons}
 use Rattle.std.proofs.lemmas.List.Sums.{sum_by-cons}
 use Rattle.span_tables.specs.Sides.{market_side, part_on, spreads_formed}
@@ -19,7 +18,7 @@ use Rattle.span_tables.specs.declared.records.MonthLeg.{MonthLeg}
 use Rattle.span_tables.specs.declared.records.Spot.{Spot}
 use Rattle.spread_stage.specs.Charges.{delivery_charge, spot_charge}
 use Rattle.spread_stage.specs.Months.{IsPartOf, Shrinks}
-use Rattle.spread_stage.specs.Spreads.{after_spreads, is_in_tier, rests_after, spread_both_ways, spread_one_way, TierRests, tier_rooms, tier_side, unspread}
+use Rattle.spread_stage.specs.Spreads.{after_spreads, is_in_tier, spread_both_ways, spread_one_way, TierRests, tier_rooms, tier_side, unspread}
 use Rattle.spread_stage.specs.steps.Sides.{HaveSides}
 use Rattle.spread_stage.specs.declared.months.MonthUnits.{MonthUnits}
 use Rattle.spread_stage.proofs.SpreadLemmas.{legs_none}

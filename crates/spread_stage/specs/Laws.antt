@@ -1,5 +1,5 @@
 -- What the laws of the definitions speak of.
-use Rattle.std.specs.Prelude.{◌≡◌, ℕ, ◌*◌, ◌+◌, ◌≤◌, Bool, true, not, ◌||◌, nat_lt, List, [], ◌∷◌, ⊤}
+use Rattle.std.specs.Prelude.{◌≡◌, Bool, true, not, ◌||◌, nat_lt, List, [], ◌∷◌, ⊤}
 use Rattle.std.specs.List.{AllByRecursion}
 use Rattle.span_tables.specs.Rules.{same_side}
 use Rattle.span_tables.specs.declared.records.MonthLeg.{MonthLeg}

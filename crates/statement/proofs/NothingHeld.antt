@@ -1,18 +1,16 @@
 -- The stages of a commodity of which nothing is held.
-use Rattle.std.proofs.Common.{◌≡◌, ℕ, false, List, [], refl, ap, ◌∙◌, pos}
+use Rattle.std.proofs.Common.{◌≡◌, ℕ, false, [], refl, pos}
 use Rattle.std.proofs.Math.Nat.{mul-zero}
 use Rattle.span_tables.specs.Tables.{AcceptedTables, intras_of, spots_of}
 use Rattle.span_tables.specs.declared.records.Commodity.{Commodity}
 use Rattle.span_tables.specs.declared.records.MinimumMethod.{MinimumMethod}
 use Rattle.span_tables.specs.declared.records.MinimumMethod.TheVariants as method
 use Rattle.scan_risk.specs.Scenarios.{scan_of, scenario_sums}
-use Rattle.spread_stage.specs.Charges.{delivery_charge, intra_charge}
+use Rattle.spread_stage.specs.Charges.{intra_charge}
 use Rattle.spread_stage.specs.Deltas.{month_deltas}
-use Rattle.spread_stage.specs.Spreads.{after_spreads, TierRests, unspread}
 use Rattle.spread_stage.proofs.ClosedLemmas.{after_spreads_of_nothing, delivery_of_nothing}
 use Rattle.inter_credit.specs.Requirement.{minimum_of}
 use Rattle.statement.specs.Figures.{stages_from}
-use Rattle.statement.specs.declared.stages.Stages.{Stages}
 
 minimum_of_nothing : (rate : ℕ) (m : MinimumMethod) → minimum_of rate m [] ≡ 0
 unfolding minimum_of

@@ -1,5 +1,5 @@
 -- How large the figures of a commodity may be.
-use Rattle.std.specs.Prelude.{ℕ, ◌*◌, ◌≤◌, nat_abs}
+use Rattle.std.specs.Prelude.{◌*◌, ◌≤◌, nat_abs}
 use Rattle.span_tables.specs.declared.limits.TheConstants.{MAX_HELD, MAX_NET, MAX_RATE, MAX_UNITS}
 use Rattle.scan_risk.specs.declared.TheConstants.{MAX_PRICE2, MAX_SUM}
 use Rattle.spread_stage.specs.declared.charges.TheConstants.{MAX_DELIVERY_CHARGE, MAX_INTRA_CHARGE}

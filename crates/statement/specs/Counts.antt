@@ -1,5 +1,5 @@
 -- What is said of a parameter file by itself: the counts of its tables.
-use Rattle.std.specs.Prelude.{ℕ, List, [], ◌∷◌, codes, decimal, length, Result, Ok, Err}
+use Rattle.std.specs.Prelude.{ℕ, List, [], ◌∷◌, codes, decimal, length, Result, Ok}
 use Rattle.span_csv.specs.ParamFaults.{params_of}
 use Rattle.param_check.specs.CheckFaults.{checked}
 use Rattle.span_tables.specs.Tables.{AcceptedTables}

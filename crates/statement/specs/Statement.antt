@@ -12,7 +12,6 @@ use Rattle.param_check.specs.Binding.{bindings_of}
 use Rattle.statement.specs.Figures.{is_held_in, figures_of}
 use Rattle.statement.specs.Rows.{RowView}
 use Rattle.span_tables.specs.declared.portfolios.Holding.{Holding}
-use Rattle.statement.specs.declared.figures.Figures.{Figures}
 use Rattle.statement.specs.declared.rows.CommodityRow.{CommodityRow}
 use Rattle.statement.specs.declared.faults.SpanFault.{SpanFault}
 use Rattle.statement.specs.declared.faults.SpanFault.TheVariants as fault

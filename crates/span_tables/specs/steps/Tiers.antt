@@ -1,5 +1,5 @@
 -- The months of legs' tiers, in a word for each leg.
-use Rattle.std.specs.Prelude.{◌≡◌, ℕ, ◌≤◌, List, [], ◌∷◌, ⊤}
+use Rattle.std.specs.Prelude.{ℕ, ◌≤◌, List, [], ◌∷◌, ⊤}
 use Rattle.span_tables.specs.Slots.{IsMarked, month_count}
 use Rattle.span_tables.specs.declared.records.MonthLeg.{MonthLeg}
 

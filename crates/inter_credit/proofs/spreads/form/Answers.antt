@@ -1,6 +1,4 @@
-use Rattle.std.proofs.Common.{◌≡◌, ◌<◌, refl, sym, ◌∙◌, arith}
-use Rattle.inter_credit.specs.Credits.{commodity_rooms}
-use Rattle.span_tables.specs.Sides.{spreads_formed}
+use Rattle.std.proofs.Common.{◌≡◌, refl, sym, ◌∙◌, arith}
 use Rattle.inter_credit.proofs.NothingFormed.{nothing_formed}
 use Rattle.inter_credit.proofs.SpreadLemmas.{formed_have_room}
 use Rattle.inter_credit.proofs.spreads.form.Goals as goal

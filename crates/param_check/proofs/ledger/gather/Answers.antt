@@ -1,4 +1,4 @@
-use Rattle.std.proofs.Common.{◌≡◌, ◌<◌, ◌++◌, ◌∷◌, [], ◌∙◌, ◌+◌, ap, arith, get_or, length, refl, replicate, set, sym, take}
+use Rattle.std.proofs.Common.{◌<◌, ◌++◌, ◌∷◌, [], ◌∙◌, ◌+◌, ap, arith, length, refl, replicate, set, sym, take}
 use Rattle.std.specs.Prelude.{Some}
 use Rattle.std.proofs.lemmas.List.{get_or_default, length-map}
 use Rattle.span_tables.specs.Net.{accounts_of}

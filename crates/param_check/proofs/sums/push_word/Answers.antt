@@ -1,8 +1,6 @@
-use Rattle.std.proofs.Common.{◌≡◌, ◌<◌, ◌≤◌, ◌+◌, ◌*◌, ◌^◌, ◌%◌, ◌-◌, ◌∙◌, ◌++◌, ℕ, ap, refl, sym, get_or, length, arith, rules, map, pos, bit_and}
-use Rattle.std.specs.Int.{w64, bit_at, bit_not, trailing_zeros}
+use Rattle.std.proofs.Common.{◌<◌, ◌*◌, ◌^◌, ◌%◌, ◌-◌, ◌∙◌, ℕ, refl, sym, get_or, length, arith, rules, bit_and}
+use Rattle.std.specs.Int.{w64, bit_not, trailing_zeros}
 use Rattle.std.proofs.lemmas.Nat.Bits.{bit_at-trailing_zeros}
-use Rattle.param_check.specs.steps.Nets.{held_part}
-use Rattle.param_check.specs.steps.Sums.{held_below, kept_holding}
 use Rattle.param_check.proofs.MarkLaws.{below_lowest, lowest_le, next_lowest, word_begun, word_done, lowest_marked, held_more, marks_left}
 use Rattle.param_check.proofs.sums.push_word.Goals as goal
 

@@ -1,4 +1,4 @@
-use Rattle.std.proofs.Common.{◌≡◌, ◌<◌, ◌≤◌, ◌∙◌, arith, length, sym}
+use Rattle.std.proofs.Common.{◌<◌, ◌≤◌, ◌∙◌, arith, length, sym}
 use Rattle.span_tables.specs.Net.{accounts_of}
 use Rattle.span_tables.specs.Positions.{named_position}
 use Rattle.param_check.specs.steps.Holdings.{net_exceeds}

@@ -1,7 +1,6 @@
-use Rattle.std.proofs.Common.{rules, ◌+◌, ◌<◌, ◌≡◌, ◌≤◌, ◌++◌, ◌∙◌, ap, sym, refl, [], ◌∷◌, length, take, ℕ, List}
+use Rattle.std.proofs.Common.{rules, ◌+◌, ◌≡◌, ◌++◌, ◌∙◌, ap, sym, refl, [], ◌∷◌, take, ℕ, List}
 use Rattle.std.proofs.KnownBytes.{Consumes-kept, Consumes-trans, Consumes-whole}
 use Rattle.std.proofs.lemmas.List.{append-nil}
-use Rattle.std.specs.Io.KnownBytes.{Consumes, IsAtEnd}
 use Rattle.span_cli.proofs.reading.read_pieces.Goals as goal
 use Rattle.span_cli.proofs.reading.read_pieces.Goals.{in-Ok+else-is_err+else-len-cap, in-Err+else-ne}
 

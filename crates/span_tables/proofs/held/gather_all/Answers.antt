@@ -1,6 +1,5 @@
-use Rattle.std.proofs.Common.{◌≡◌, ◌∙◌, List, IfOk, map, subst}
-use Rattle.span_tables.specs.Net.{HeldContract, held_of}
-use Rattle.span_tables.specs.declared.records.Commodity.{Commodity}
+use Rattle.std.proofs.Common.{◌≡◌, List, IfOk, subst}
+use Rattle.span_tables.specs.Net.{HeldContract}
 use Rattle.span_tables.proofs.GatherLemmas.{all_held_in}
 use Rattle.span_tables.proofs.held.gather_all.Goals as goal
 

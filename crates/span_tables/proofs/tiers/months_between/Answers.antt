@@ -1,4 +1,4 @@
-use Rattle.std.proofs.Common.{◌≡◌, ◌≤◌, ◌<◌, ◌+◌, ◌==◌, ℕ, refl, arith}
+use Rattle.std.proofs.Common.{◌==◌, refl, arith}
 use Rattle.span_tables.specs.Slots.{month_count}
 use Rattle.span_tables.proofs.TierLemmas.{count_rises, marked_all, marked_more}
 use Rattle.span_tables.proofs.tiers.months_between.Goals as goal

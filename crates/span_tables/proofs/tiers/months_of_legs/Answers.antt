@@ -1,8 +1,6 @@
-use Rattle.std.proofs.Common.{◌≡◌, ◌++◌, ◌∷◌, [], ◌∙◌, ap, sym, subst, arith, length, take}
-use Rattle.std.proofs.Math.Seq.{take-length}
+use Rattle.std.proofs.Common.{◌++◌, ◌∷◌, [], ◌∙◌, ap, sym, arith, take}
 use Rattle.std.proofs.lemmas.List.{take_more, length-take-le}
 use Rattle.span_tables.specs.declared.records.MonthLeg.{MonthLeg}
-use Rattle.span_tables.specs.steps.Tiers.{HaveMonths}
 use Rattle.span_tables.proofs.TierLemmas.{have_as_many, have_push}
 use Rattle.span_tables.proofs.tiers.months_of_legs.Goals as goal
 

@@ -1,4 +1,4 @@
-use Rattle.std.proofs.Common.{◌≡◌, ◌≤◌, ◌<◌, ◌+◌, ◌-◌, ◌*◌, nat_abs, sym, ap, ◌∙◌, subst, arith, length, drop, suc, get_or, drop-cons, ◌∷◌, lit<, ℤ, FitsSigned, to_z, of_z, w64, rules}
+use Rattle.std.proofs.Common.{◌≡◌, ◌≤◌, ◌<◌, ◌+◌, ◌-◌, ◌*◌, nat_abs, sym, ap, ◌∙◌, subst, arith, length, drop, suc, drop-cons, ◌∷◌, lit<, ℤ, FitsSigned, to_z, of_z, w64, rules}
 use Rattle.std.proofs.lemmas.Int.{to_z-of_z}
 use Rattle.spread_stage.proofs.ProductLemmas.{same_64}
 use Rattle.span_tables.specs.Net.{HeldContract}

@@ -1,7 +1,6 @@
-use Rattle.std.proofs.Common.{◌≡◌, ◌∙◌, ap, arith, length, sym, subst, take, List, [], ◌∷◌, ◌++◌}
+use Rattle.std.proofs.Common.{◌≡◌, ◌∙◌, ap, arith, length, sym, subst, take, [], ◌∷◌, ◌++◌}
 use Rattle.std.proofs.Math.Seq.{take-length}
 use Rattle.std.proofs.lemmas.List.{take_more}
-use Rattle.span_tables.specs.Slots.{IsOpenAt}
 use Rattle.spread_stage.specs.declared.months.MonthUnits.{MonthUnits}
 use Rattle.spread_stage.specs.steps.Sides.{HaveSides}
 use Rattle.spread_stage.proofs.ClosedLemmas.{have_more}

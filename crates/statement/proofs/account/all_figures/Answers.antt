@@ -1,6 +1,6 @@
-use Rattle.std.proofs.Common.{rules, arith, ◌++◌, ◌∷◌, [], ◌≡◌, ◌≤◌, ◌∙◌, ap, sym, map, take, length}
+use Rattle.std.proofs.Common.{arith, ◌++◌, ◌∷◌, [], ◌≤◌, ◌∙◌, ap, sym, map, take}
 use Rattle.std.specs.List.{enumerate_from}
-use Rattle.std.specs.Prelude.{All, nat_abs}
+use Rattle.std.specs.Prelude.{nat_abs}
 use Rattle.statement.specs.Figures.{credited}
 use Rattle.statement.specs.declared.figures.Figures.{Figures}
 use Rattle.statement.specs.declared.figures.TheConstants.{MAX_REQUIREMENT}

@@ -1,4 +1,4 @@
-use Rattle.std.proofs.Common.{◌∷◌, [], ◌++◌, ◌∙◌, ◌<◌, ap, arith, sym, pos, length, slice_index_or}
+use Rattle.std.proofs.Common.{◌∷◌, [], ◌++◌, ◌∙◌, ◌<◌, ap, arith, pos, length, slice_index_or}
 use Rattle.std.proofs.lemmas.List.{get_or_default}
 use Rattle.statement.specs.Figures.{held_of_all, with_credit}
 use Rattle.statement.proofs.RowLemmas.{step_of, step_over}

@@ -1,4 +1,4 @@
-use Rattle.std.proofs.Common.{◌++◌, ◌-◌, ◌+◌, ◌∙◌, ap, sym, pos, length, map, take, replicate, slice_set, arith}
+use Rattle.std.proofs.Common.{◌++◌, ◌-◌, ◌+◌, ◌∙◌, ap, pos, length, map, take, replicate, slice_set, arith}
 use Rattle.inter_credit.specs.Credits.{unspread_line}
 use Rattle.statement.specs.Figures.{line_of}
 use Rattle.statement.proofs.LoadLemmas.{set_next}

@@ -1,4 +1,4 @@
-use Rattle.std.proofs.Common.{◌≡◌, ◌≤◌, ◌*◌, ◌∙◌, ap, length, map, arith}
+use Rattle.std.proofs.Common.{◌≤◌, ◌*◌, ◌∙◌, ap, length, map, arith}
 use Rattle.param_check.specs.steps.Nets.{holdings_in}
 use Rattle.param_check.specs.steps.Sums.{kept_holding}
 use Rattle.param_check.proofs.MarkLaws.{all_below}

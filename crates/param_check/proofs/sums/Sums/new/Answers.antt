@@ -1,7 +1,7 @@
-use Rattle.std.proofs.Common.{◌≡◌, ◌+◌, ◌/◌, ◌∙◌, ap, sym, length, arith}
+use Rattle.std.proofs.Common.{◌≡◌, ◌+◌, ◌/◌, ◌∙◌, ap, length, arith}
 use Rattle.std.specs.Prelude.{pos, replicate}
-use Rattle.param_check.specs.steps.Sums.{sums_of, AreMarks}
-use Rattle.param_check.proofs.MarkLaws.{sums_clear, no_marks}
+use Rattle.param_check.specs.steps.Sums.{sums_of}
+use Rattle.param_check.proofs.MarkLaws.{sums_clear}
 use Rattle.param_check.proofs.sums.Sums.new.Goals as goal
 
 pub returns : goal.returns

@@ -1,4 +1,4 @@
-use Rattle.std.proofs.Common.{arith, ap, ◌∙◌}
+use Rattle.std.proofs.Common.{arith}
 use Rattle.std.specs.Arc.{arc_value}
 use Rattle.span_tables.proofs.HeldLemmas.{contract_kept, contract_told, held_len, place_known}
 use Rattle.span_tables.proofs.held.Held.contract.Goals as goal

@@ -1,9 +1,8 @@
-use Rattle.std.proofs.Common.{◌≡◌, ap, sym, ◌∙◌, subst, List}
+use Rattle.std.proofs.Common.{◌≡◌, ap, sym, ◌∙◌, subst}
 use Rattle.std.specs.Prelude.{All}
 use Rattle.span_tables.specs.Sides.{market_side}
 use Rattle.span_tables.specs.Slots.{IsTierMarked, numbers_on}
 use Rattle.span_tables.specs.Spreads.{IntraSpread}
-use Rattle.span_tables.specs.declared.records.MonthLeg.{MonthLeg}
 use Rattle.span_tables.proofs.records.Intra.may_form.Goals as goal
 
 pub returns : goal.returns
