@@ -1,10 +1,9 @@
 -- What the lines of commodities keep.
 use Rattle.std.specs.Prelude.{◌≡◌, ℕ, ◌+◌, ◌*◌, ◌≤◌, List, slice_get, option_map, unwrap_or, IfSome, All, pos, nat_abs}
-use Rattle.span_tables.specs.declared.limits.TheConstants.{MAX_BASIS_POINTS, MAX_UNITS}
+use Rattle.span_tables.specs.declared.limits.TheConstants.{MAX_BASIS_POINTS, MAX_PRICE2, MAX_UNITS}
 use Rattle.span_tables.specs.Sides.{IsLeftOf}
 use Rattle.inter_credit.specs.Credits.{credit_of, unspread_line}
 use Rattle.inter_credit.specs.declared.state.InterLine.{InterLine}
-use Rattle.inter_credit.specs.declared.state.TheConstants.{MAX_PRICE2}
 
 -- a commodity's net delta and price risk lie in their ranges, its rest is left of its net delta, and its weight has no
 -- more than all basis points of what was used

@@ -2,7 +2,7 @@
 ghost use Rattle.std.specs.Prelude.{◌≡◌, ◌<◌, ◌≤◌, ◌*◌, ◌^◌, length, pos, nat_abs};
 ghost use Rattle.inter_credit.specs.Credits.{credit_of};
 ghost use Rattle.inter_credit.specs.States.{IsLine, credit_at};
-ghost use Rattle.inter_credit.specs.declared.state.TheConstants.{MAX_PRICE2};
+ghost use Rattle.span_tables.specs.declared.limits.TheConstants.{MAX_PRICE2};
 
 use crate::state::{InterLine, InterState};
 use span_money::amounts::Money;

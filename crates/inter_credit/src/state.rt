@@ -3,19 +3,14 @@ ghost use Rattle.std.specs.Prelude.{◌≡◌, ◌<◌, ◌≤◌, ◌==◌, fal
 ghost use Rattle.inter_credit.specs.Credits.{inter_both_ways, unspread_line};
 ghost use Rattle.span_tables.specs.Accepted.{IsInter};
 ghost use Rattle.inter_credit.specs.States.{IsLine, IsNotLoaded, IsUnspread};
-ghost use Rattle.inter_credit.specs.declared.state.TheConstants.{MAX_PRICE2};
-ghost use Rattle.span_tables.specs.declared.limits.TheConstants.{MAX_UNITS};
+ghost use Rattle.span_tables.specs.declared.limits.TheConstants.{MAX_PRICE2, MAX_UNITS};
 
 use crate::spreads::{may_form_either, spread_both_ways};
 use span_money::amounts::Units;
-use span_tables::limits::{MAX_ARRAY_VALUE, MAX_HELD, MAX_NET};
 use span_tables::records::Inter;
 use span_tables::slots::OpenSides;
 use std::alloc::{AllocError, Global};
 use std::marker::Model;
-
-/// Price risk doubled, in minor units: four times what as many contracts as may be held lose at most.
-pub const MAX_PRICE2: u64 = 4 * (MAX_HELD as u64 * MAX_NET * MAX_ARRAY_VALUE as u64);
 
 /// A commodity in the intercommodity stage.
 ///

@@ -5,11 +5,11 @@ ghost use Rattle.inter_credit.specs.declared.requirement.TheConstants.{MAX_PART}
 use super::credit::credit;
 use super::requirement::{MAX_PART, minimum, requirement};
 use super::spreads::inter_spread;
-use super::state::{InterLine, InterState, MAX_PRICE2, empty, load};
+use super::state::{InterLine, InterState, empty, load};
 use arrayvec::ArrayVec;
 use span_money::amounts::{Delta, Money, Ratio, Scale, Units};
 use span_tables::held::Held;
-use span_tables::limits::{MAX_BASIS_POINTS, MAX_NET, MAX_UNITS};
+use span_tables::limits::{MAX_BASIS_POINTS, MAX_NET, MAX_PRICE2, MAX_UNITS};
 use span_tables::name::Name;
 use span_tables::portfolios::Holding;
 use span_tables::records::{CommodityLeg, Contract, Inter, MinimumMethod, ProductKind, Side};

@@ -8,8 +8,7 @@ use Rattle.std.proofs.lemmas.List.Sums.{fold_more}
 use Rattle.span_tables.specs.Net.{HeldContract}
 use Rattle.std.proofs.lemmas.List.Edits.{fill_by_more}
 use Rattle.std.proofs.lemmas.List.{get_or_default}
-use Rattle.span_tables.specs.declared.limits.TheConstants.{MAX_ARRAY_VALUE, MAX_NET}
-use Rattle.scan_risk.specs.declared.TheConstants.{MAX_TERM, MAX_SUM}
+use Rattle.span_tables.specs.declared.limits.TheConstants.{MAX_ARRAY_VALUE, MAX_NET, MAX_SUM, MAX_TERM}
 use Rattle.scan_risk.specs.Scenarios.{at_scenario, scenario_sum}
 
 -- a sum with what a contract of a net quantity adds to it

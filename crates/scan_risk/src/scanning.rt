@@ -2,7 +2,7 @@
 ghost use Rattle.std.specs.Prelude.{◌≡◌, ◌*◌, ◌≤◌, ◌≤ℤ◌, ◌+ℤ◌, ◌-ℤ◌, pos, All, nat_abs};
 ghost use Rattle.span_money.specs.Numbers.{positive_part};
 ghost use Rattle.scan_risk.specs.Scenarios.{active_scenario, at_scenario, paired_scenario, price2, scan_of, scan_risk};
-ghost use Rattle.scan_risk.specs.declared.TheConstants.{MAX_PRICE2, MAX_SUM};
+ghost use Rattle.span_tables.specs.declared.limits.TheConstants.{MAX_PRICE2, MAX_SUM};
 
 use crate::Scan;
 use span_money::amounts::Money;

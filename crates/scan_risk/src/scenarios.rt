@@ -1,9 +1,8 @@
 //! The sums of the sixteen scenarios over the held contracts of a commodity.
 ghost use Rattle.std.specs.Prelude.{◌≡◌, ℕ, ◌+◌, ◌≤◌, ◌<◌, pos, ◌+ℤ◌, ◌*ℤ◌, slice_index_or, All, nat_abs};
-ghost use Rattle.span_tables.specs.declared.limits.TheConstants.{MAX_ARRAY_VALUE, MAX_NET};
+ghost use Rattle.span_tables.specs.declared.limits.TheConstants.{MAX_ARRAY_VALUE, MAX_NET, MAX_SUM, MAX_TERM};
 ghost use Rattle.span_tables.specs.Accepted.{IsContract};
 ghost use Rattle.scan_risk.specs.Scenarios.{at_scenario, scenario_sums};
-ghost use Rattle.scan_risk.specs.declared.TheConstants.{MAX_SUM, MAX_TERM};
 
 use span_tables::held::Held;
 use span_tables::records::Contract;

@@ -47,3 +47,9 @@ pub const MAX_QUANTITY: u32 = 1_000_000;
 /// The sizes of an account's month deltas in a commodity together, in units of 10^-8: as many contracts as may be held,
 /// each with the largest net quantity, delta and scale.
 pub const MAX_UNITS: u64 = MAX_HELD as u64 * MAX_NET * MAX_DELTA as u64 * MAX_SCALE as u64;
+/// What a held contract adds to a scenario sum, in minor units: the largest net quantity at the largest array value.
+pub const MAX_TERM: u64 = MAX_NET * MAX_ARRAY_VALUE as u64;
+/// A scenario sum, in minor units: as many terms as contracts may be held.
+pub const MAX_SUM: u64 = MAX_HELD as u64 * MAX_TERM;
+/// Price risk doubled, in minor units: four scenario sums.
+pub const MAX_PRICE2: u64 = 4 * MAX_SUM;

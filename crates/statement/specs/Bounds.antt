@@ -1,7 +1,6 @@
 -- How large the figures of a commodity may be.
 use Rattle.std.specs.Prelude.{◌*◌, ◌≤◌, nat_abs}
-use Rattle.span_tables.specs.declared.limits.TheConstants.{MAX_HELD, MAX_NET, MAX_RATE, MAX_UNITS}
-use Rattle.scan_risk.specs.declared.TheConstants.{MAX_PRICE2, MAX_SUM}
+use Rattle.span_tables.specs.declared.limits.TheConstants.{MAX_HELD, MAX_NET, MAX_PRICE2, MAX_RATE, MAX_SUM, MAX_UNITS}
 use Rattle.spread_stage.specs.declared.charges.TheConstants.{MAX_DELIVERY_CHARGE, MAX_INTRA_CHARGE}
 use Rattle.statement.specs.declared.stages.Stages.{Stages}
 

@@ -1,6 +1,6 @@
 use Rattle.std.proofs.Common.{◌≡◌, ◌≤◌, ◌≤ℤ◌, take, pos, fold, nat_abs}
 use Rattle.std.specs.Int.{int_max}
-use Rattle.scan_risk.specs.declared.TheConstants.{MAX_SUM}
+use Rattle.span_tables.specs.declared.limits.TheConstants.{MAX_SUM}
 use Rattle.scan_risk.proofs.scanning.risk.Given as goal
 
 abbrev pub invariant-loop-sum : goal.invariant-loop-sum

@@ -1,9 +1,8 @@
 use Rattle.std.proofs.Common.{◌≡◌, ◌≤◌, ◌+◌, ◌-◌, ◌+ℤ◌, ◌*ℤ◌, ◌∙◌, ap, sym, arith, pos, ℤ, get_or, nat_abs, FitsSigned, to_z, of_z, w64, rules, subst}
 use Rattle.std.proofs.Math.ListN.{length-set}
 use Rattle.std.proofs.lemmas.Int.{to_z-of_z}
-use Rattle.span_tables.specs.declared.limits.TheConstants.{MAX_NET}
+use Rattle.span_tables.specs.declared.limits.TheConstants.{MAX_NET, MAX_SUM, MAX_TERM}
 use Rattle.scan_risk.proofs.SumLemmas.{added_more, left_more, bound_more, added_value}
-use Rattle.scan_risk.specs.declared.TheConstants.{MAX_TERM, MAX_SUM}
 use Rattle.scan_risk.proofs.scenarios.add_contract.Goals as goal
 
 pub loop-scenario-preserved : goal.loop-scenario-preserved

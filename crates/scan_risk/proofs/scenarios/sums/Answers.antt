@@ -6,7 +6,7 @@ use Rattle.span_tables.specs.Net.{HeldContract}
 use Rattle.span_tables.proofs.HeldLemmas.{held_here}
 use Rattle.scan_risk.specs.Scenarios.{at_scenario, scenario_sum, scenario_sums}
 use Rattle.scan_risk.proofs.SumLemmas.{sum_more}
-use Rattle.scan_risk.specs.declared.TheConstants.{MAX_TERM}
+use Rattle.span_tables.specs.declared.limits.TheConstants.{MAX_TERM}
 use Rattle.scan_risk.proofs.scenarios.sums.Goals as goal
 
 pub loop-place-preserved : goal.loop-place-preserved

@@ -1,6 +1,6 @@
 use Rattle.std.proofs.Common.{◌≡◌, ◌<◌, ◌≤◌, ◌*◌, ◌+◌, ℕ, get_or, pos, take, length, All, nat_abs}
 use Rattle.scan_risk.specs.Scenarios.{scenario_sum}
-use Rattle.scan_risk.specs.declared.TheConstants.{MAX_TERM}
+use Rattle.span_tables.specs.declared.limits.TheConstants.{MAX_TERM}
 use Rattle.scan_risk.proofs.scenarios.sums.Given as goal
 
 abbrev pub invariant-loop-place : goal.invariant-loop-place

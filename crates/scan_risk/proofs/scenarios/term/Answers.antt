@@ -1,7 +1,6 @@
 use Rattle.std.proofs.Common.{◌≡◌, ◌≤◌, ◌<◌, ◌^◌, w64, to_z, of_z, nat_abs, lit<, arith, ℤ, ◌*ℤ◌, ℕ}
 use Rattle.std.proofs.lemmas.Int.{fits_signed_from_abs, to_z-of_z}
-use Rattle.span_tables.specs.declared.limits.TheConstants.{MAX_ARRAY_VALUE, MAX_NET}
-use Rattle.scan_risk.specs.declared.TheConstants.{MAX_TERM}
+use Rattle.span_tables.specs.declared.limits.TheConstants.{MAX_ARRAY_VALUE, MAX_NET, MAX_TERM}
 use Rattle.scan_risk.proofs.SumLemmas.{term_size}
 use Rattle.scan_risk.proofs.scenarios.term.Goals as goal
 
