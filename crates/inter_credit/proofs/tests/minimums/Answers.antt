@@ -11,5 +11,5 @@ loop-kind-preserved g c =
     rw (c.in_ok-push-2.ensures.items, c.in_ok-push.ensures.items) (record {
       contracts = omega (arith, length-append c.loop-kind.contracts.items (c.contract.result ∷ []), before.contracts);
       holdings = length-append c.loop-kind.holdings.items _ ∙ omega (arith, before.holdings);
-      held = AreHoldings-push _ _ _ _ before.held few (search rules) (sym before.contracts) c.contract.ensures;
+      held = AreHoldings-push _ _ _ _ before.held few (search rules) (search rules) c.contract.ensures;
     })
