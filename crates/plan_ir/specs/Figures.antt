@@ -1,0 +1,102 @@
+-- The seven figures of a commodity and the total, of accepted tables and what an account holds.
+use Rattle.std.specs.Prelude.{ℕ, List, [], length, map, slice_index_or, ℤ, pos}
+use Rattle.std.specs.List.{range_with_len}
+use Rattle.span_money.specs.Numbers.{int_sum_by}
+use Rattle.span_tables.specs.Accepted.{commodity_id}
+use Rattle.span_tables.specs.Net.{HeldContract, held_of}
+use Rattle.span_tables.specs.Tables.{AcceptedTables, intras_of, spots_of, inters_of}
+use Rattle.scan_risk.specs.Scenarios.{scenario_sums, scan_of}
+use Rattle.spread_stage.specs.Charges.{intra_charge, delivery_charge}
+use Rattle.spread_stage.specs.Deltas.{month_deltas, net_delta}
+use Rattle.spread_stage.specs.Spreads.{TierRests, after_spreads}
+use Rattle.inter_credit.specs.Credits.{unspread_line, after_inter_spreads}
+use Rattle.inter_credit.specs.Requirement.{minimum_of, requirement_of}
+use Rattle.inter_credit.specs.States.{credit_at}
+use Rattle.span_tables.specs.declared.records.Commodity.{Commodity}
+use Rattle.span_tables.specs.declared.records.Intra.{Intra}
+use Rattle.span_tables.specs.declared.records.MinimumMethod.TheVariants as method
+use Rattle.span_tables.specs.declared.records.Spot.{Spot}
+use Rattle.span_tables.specs.declared.portfolios.Holding.{Holding}
+use Rattle.scan_risk.specs.declared.Scan.{Scan}
+use Rattle.spread_stage.specs.declared.months.MonthUnits.{MonthUnits}
+use Rattle.inter_credit.specs.declared.state.InterLine.{InterLine}
+use Rattle.plan_ir.specs.declared.figures.Figures.{Figures}
+
+-- ---- what the tables have for the commodity of a number
+
+-- its record
+abbrev pub commodity_at : AcceptedTables → ℕ → Commodity
+commodity_at t c = slice_index_or t.commodities c (record { id = []; minimum_rate = 0; method = method.Sum })
+
+-- its spreads, by rising priority
+abbrev pub intras_at : AcceptedTables → ℕ → List Intra
+intras_at t c = intras_of t (commodity_id t c)
+
+-- its spot months
+abbrev pub spots_at : AcceptedTables → ℕ → List Spot
+spots_at t c = spots_of t (commodity_id t c)
+
+-- ---- what an account has of it
+
+-- the held contracts
+abbrev pub held_at : AcceptedTables → List Holding → ℕ → List HeldContract
+held_at t holdings c = held_of t.contracts holdings (commodity_id t c)
+
+-- the scan of the scenario sums
+abbrev pub scan_at : AcceptedTables → List Holding → ℕ → Scan
+scan_at t holdings c = scan_of (scenario_sums (held_at t holdings c))
+
+-- the held months with their deltas
+abbrev pub deltas_at : AcceptedTables → List Holding → ℕ → List MonthUnits
+deltas_at t holdings c = month_deltas (held_at t holdings c)
+
+-- the months after all of its spreads
+abbrev pub tiers_at : AcceptedTables → List Holding → ℕ → TierRests
+tiers_at t holdings c = after_spreads (intras_at t c) (deltas_at t holdings c)
+
+-- the delivery charge
+abbrev pub delivery_at : AcceptedTables → List Holding → ℕ → ℕ
+delivery_at t holdings c = delivery_charge (deltas_at t holdings c) (tiers_at t holdings c).rests (spots_at t c)
+
+-- the short option minimum
+abbrev pub minimum_at : AcceptedTables → List Holding → ℕ → ℕ
+minimum_at t holdings c =
+    minimum_of (commodity_at t c).minimum_rate (commodity_at t c).method (held_at t holdings c)
+
+-- its line before any intercommodity spread
+abbrev pub line_of : AcceptedTables → List Holding → ℕ → InterLine
+line_of t holdings c = unspread_line (net_delta (deltas_at t holdings c)) (scan_at t holdings c).price2
+
+-- ---- what an account has of all commodities
+
+-- the commodities before any intercommodity spread
+abbrev pub loaded_lines : AcceptedTables → List Holding → List InterLine
+loaded_lines t holdings = map (line_of t holdings) (range_with_len 0 (length t.commodities))
+
+-- the commodities after all intercommodity spreads
+unfoldable pub inter_lines : AcceptedTables → List Holding → List InterLine
+inter_lines t holdings = after_inter_spreads (inters_of t) (loaded_lines t holdings)
+
+-- the figures of a commodity, from its scan, its months after all spreads, and its amounts
+abbrev pub figures_from : Scan → TierRests → ℤ → ℤ → ℤ → Figures
+figures_from scan tiers delivery credit minimum =
+    let intra = pos (intra_charge tiers.charge) in
+    record {
+      scan = scan.risk;
+      active = scan.active;
+      intra = intra;
+      delivery = delivery;
+      credit = credit;
+      minimum = minimum;
+      requirement = requirement_of scan.risk intra delivery credit minimum;
+    }
+
+-- the seven figures of the commodity of a number
+unfoldable pub figures_of : AcceptedTables → List Holding → ℕ → Figures
+figures_of t holdings c =
+    figures_from (scan_at t holdings c) (tiers_at t holdings c)
+    (pos (delivery_at t holdings c)) (pos (credit_at (inter_lines t holdings) c)) (pos (minimum_at t holdings c))
+
+-- the sum of the requirements of the first commodities
+unfoldable pub total_to : AcceptedTables → List Holding → ℕ → ℤ
+total_to t holdings n = int_sum_by (λ c. (figures_of t holdings c).requirement) (range_with_len 0 n)

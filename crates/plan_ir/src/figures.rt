@@ -1,0 +1,55 @@
+//! The figures of a commodity.
+ghost use Rattle.std.specs.Prelude.{◌≡◌, ◌≤◌, nat_abs, pos};
+ghost use Rattle.inter_credit.specs.declared.requirement.TheConstants.{MAX_PART};
+ghost use Rattle.plan_ir.specs.Figures.{figures_from};
+
+use inter_credit::requirement::requirement;
+use scan_risk::Scan;
+use span_money::amounts::Money;
+use spread_stage::charges::intra_charge;
+use spread_stage::tiers::TierState;
+
+/// The seven figures of a commodity of an account, the amounts in minor units.
+#[derive(Clone, Copy, Debug, PartialEq, Eq)]
+pub struct Figures {
+    /// Scan risk.
+    pub scan: Money,
+    /// The active scenario, from 1 to 16.
+    pub active: u8,
+    /// The intracommodity charge.
+    pub intra: Money,
+    /// The delivery charge.
+    pub delivery: Money,
+    /// The intercommodity credit.
+    pub credit: Money,
+    /// The short option minimum.
+    pub minimum: Money,
+    /// The requirement.
+    pub requirement: Money,
+}
+
+// The figures of a commodity, from its scan, its months after all spreads, and its amounts.
+pub(crate) fn figures_from(
+    scan: &Scan,
+    tiers: &TierState,
+    delivery: Money,
+    credit: Money,
+    minimum: Money,
+) -> Figures
+    requires risk { nat_abs (scan.now).risk ≤ MAX_PART }
+    requires delivery { nat_abs delivery ≤ MAX_PART }
+    requires credit { nat_abs credit ≤ MAX_PART }
+    requires minimum { nat_abs minimum ≤ MAX_PART }
+    ensures { result ≡ figures_from scan.now tiers.now delivery credit minimum }
+{
+    let intra = intra_charge(tiers);
+    Figures {
+        scan: scan.risk,
+        active: scan.active,
+        intra,
+        delivery,
+        credit,
+        minimum,
+        requirement: requirement(scan.risk, intra, delivery, credit, minimum),
+    }
+}

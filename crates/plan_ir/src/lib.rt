@@ -1,0 +1,7 @@
+//! The steps of a compiled plan: their operations, the values that they have, and what an operation makes of its inputs.
+#![tactic(auto)]
+
+pub mod evaluation;
+pub mod figures;
+pub mod ops;
+pub mod values;

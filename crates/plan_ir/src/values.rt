@@ -1,0 +1,136 @@
+//! The values of a plan's steps.
+ghost use Rattle.std.specs.Prelude.{◌≡◌};
+ghost use Rattle.plan_ir.specs.Values.{IsHeld, IsSums, IsScan, IsMonths, IsTiers, IsAmount, IsFigures, IsInter, IsTotal};
+ghost use Rattle.plan_ir.specs.Values.{held_in, sums_in, scan_in, months_in, tiers_in, amount_in, figures_in, lines_in, total_in};
+
+use crate::figures::Figures;
+use inter_credit::state::InterState;
+use scan_risk::Scan;
+use span_money::amounts::Money;
+use span_tables::held::Held;
+use spread_stage::months::Months;
+use spread_stage::tiers::TierState;
+
+/// The value of a step, of one of the kinds in the plan's table.
+#[derive(Drop)]
+pub enum Value {
+    /// The held contracts of a commodity.
+    Held(Held),
+    /// The sums of the scenarios 1 to 16, in minor units.
+    Sums([i64; 16]),
+    /// The scan of a commodity's sums.
+    Scan(Scan),
+    /// The held months of a commodity with their deltas.
+    Months(Months),
+    /// What intracommodity spreads left of them, and the exact charge so far.
+    Tiers(TierState),
+    /// An amount of a commodity, in minor units.
+    Amount(Money),
+    /// The seven figures of a commodity.
+    Figures(Figures),
+    /// The commodities in the intercommodity stage.
+    Inter(InterState),
+    /// The sum of the requirements of some commodities, in minor units.
+    Total(Money),
+}
+
+impl Value {
+    /// The held contracts. The value is of that kind.
+    pub fn held(&self) -> &Held
+        requires { IsHeld self.now }
+        ensures { result.now ≡ held_in self.now }
+    {
+        match self {
+            Value::Held(held) => held,
+            _ => unreachable!(),
+        }
+    }
+
+    /// The scenario sums. The value is of that kind.
+    pub fn sums(&self) -> &[i64; 16]
+        requires { IsSums self.now }
+        ensures { result.now ≡ sums_in self.now }
+    {
+        match self {
+            Value::Sums(sums) => sums,
+            _ => unreachable!(),
+        }
+    }
+
+    /// The scan. The value is of that kind.
+    pub fn scan(&self) -> &Scan
+        requires { IsScan self.now }
+        ensures { result.now ≡ scan_in self.now }
+    {
+        match self {
+            Value::Scan(scan) => scan,
+            _ => unreachable!(),
+        }
+    }
+
+    /// The months. The value is of that kind.
+    pub fn months(&self) -> &Months
+        requires { IsMonths self.now }
+        ensures { result.now ≡ months_in self.now }
+    {
+        match self {
+            Value::Months(months) => months,
+            _ => unreachable!(),
+        }
+    }
+
+    /// The months after spreads. The value is of that kind.
+    pub fn tiers(&self) -> &TierState
+        requires { IsTiers self.now }
+        ensures { result.now ≡ tiers_in self.now }
+    {
+        match self {
+            Value::Tiers(tiers) => tiers,
+            _ => unreachable!(),
+        }
+    }
+
+    /// The amount. The value is of that kind.
+    pub fn amount(&self) -> Money
+        requires { IsAmount self.now }
+        ensures { result ≡ amount_in self.now }
+    {
+        match self {
+            Value::Amount(amount) => *amount,
+            _ => unreachable!(),
+        }
+    }
+
+    /// The figures. The value is of that kind.
+    pub fn figures(&self) -> &Figures
+        requires { IsFigures self.now }
+        ensures { result.now ≡ figures_in self.now }
+    {
+        match self {
+            Value::Figures(figures) => figures,
+            _ => unreachable!(),
+        }
+    }
+
+    /// The commodities in the intercommodity stage. The value is of that kind.
+    pub fn inter(&self) -> &InterState
+        requires { IsInter self.now }
+        ensures { result.now ≡ lines_in self.now }
+    {
+        match self {
+            Value::Inter(inter) => inter,
+            _ => unreachable!(),
+        }
+    }
+
+    /// The total. The value is of that kind.
+    pub fn total(&self) -> Money
+        requires { IsTotal self.now }
+        ensures { result ≡ total_in self.now }
+    {
+        match self {
+            Value::Total(total) => *total,
+            _ => unreachable!(),
+        }
+    }
+}
