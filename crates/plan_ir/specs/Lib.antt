@@ -1,3 +1,5 @@
 pub mod Figures
 pub mod Values
 pub mod Apply
+pub mod Plans
+pub mod steps

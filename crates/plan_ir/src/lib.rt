@@ -3,5 +3,8 @@
 
 pub mod evaluation;
 pub mod figures;
+pub mod lists;
 pub mod ops;
+pub mod plans;
+mod users;
 pub mod values;

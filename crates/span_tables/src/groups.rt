@@ -37,8 +37,8 @@ pub(crate) fn numbers_of(
     Ok(numbers)
 }
 
-// As many empty lists.
-pub(crate) fn empty_lists<T: Drop>(alloc: Global, count: usize) -> Result<Vec<Vec<T>>, AllocError>
+/// As many empty lists. `Err` is want of memory.
+pub fn empty_lists<T: Drop>(alloc: Global, count: usize) -> Result<Vec<Vec<T>>, AllocError>
     ensures { IfOk result (λ lists. map (λ v. v.items) lists.items ≡ replicate count []) }
 {
     let mut lists = Vec::new(alloc);
@@ -62,8 +62,8 @@ pub(crate) fn lists_with_room<T: Drop>(
     Ok(lists)
 }
 
-// Appends a value to the list at a place.
-pub(crate) fn push_at<T: Drop>(
+/// Appends a value to the list at a place. `Err` is want of memory.
+pub fn push_at<T: Drop>(
     lists: &mut Vec<Vec<T>>,
     place: usize,
     value: T,

@@ -1,7 +1,7 @@
 //! The records of parameter and position files, accepted tables, portfolios, and what an account holds of a commodity.
 #![tactic(auto)]
 
-mod groups;
+pub mod groups;
 pub mod held;
 mod kinds;
 pub mod laws;
