@@ -1,2 +1,3 @@
 pub mod PackingLemmas
 pub mod UserLemmas
+pub mod PlaceLemmas

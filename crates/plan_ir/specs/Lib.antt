@@ -3,3 +3,4 @@ pub mod Values
 pub mod Apply
 pub mod Plans
 pub mod steps
+pub mod Listing

@@ -11,9 +11,13 @@ pub record StepView : Type 0 where
   pub op : Op
   pub inputs : List ℕ
 
+-- a step for a number past the end
+abbrev pub no_step : StepView
+no_step = record { op = op.TotalStart; inputs = [] }
+
 -- the step of a number
 abbrev pub step_at : List StepView → ℕ → StepView
-step_at plan k = slice_index_or plan k (record { op = op.TotalStart; inputs = [] })
+step_at plan k = slice_index_or plan k no_step
 
 -- the operation of step k
 abbrev pub op_at : List StepView → ℕ → Op

@@ -3,6 +3,7 @@
 
 pub mod evaluation;
 pub mod figures;
+pub mod listing;
 pub mod lists;
 pub mod ops;
 pub mod plans;

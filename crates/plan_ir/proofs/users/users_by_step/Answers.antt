@@ -1,4 +1,4 @@
-use Rattle.std.proofs.Common.{◌≡◌, ◌∙◌, ◌<◌, arith, ap, sym, length, replicate, slice_index_or, take, []}
+use Rattle.std.proofs.Common.{◌∙◌, ◌<◌, arith, ap, sym, length, replicate, take, []}
 use Rattle.std.proofs.lemmas.List.{length-map, length-replicate}
 use Rattle.plan_ir.proofs.UserLemmas.{next_places, no_places}
 use Rattle.plan_ir.specs.steps.Noting.{noted, places_of_all}

@@ -1,4 +1,4 @@
-use Rattle.std.proofs.Common.{◌∙◌, ap, sym, length, arith}
+use Rattle.std.proofs.Common.{◌∙◌, ap, length, arith}
 use Rattle.plan_ir.proofs.UserLemmas.{as_many_steps, inputs_are}
 use Rattle.plan_ir.specs.Plans.{inputs_at}
 use Rattle.plan_ir.proofs.plans.Plan.inputs.Goals as goal

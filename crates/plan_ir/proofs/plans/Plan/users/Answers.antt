@@ -1,4 +1,4 @@
-use Rattle.std.proofs.Common.{◌≡◌, ◌∙◌, ◌<◌, ap, sym, length, slice_index_or, arith, []}
+use Rattle.std.proofs.Common.{◌∙◌, ◌<◌, ap, sym, length, slice_index_or, arith, []}
 use Rattle.plan_ir.proofs.UserLemmas.{all_inputs, as_many_steps, length_places, places_at}
 use Rattle.plan_ir.specs.Plans.{inputs_in, places_from}
 use Rattle.plan_ir.proofs.plans.Plan.users.Goals as goal

@@ -1,0 +1,34 @@
+-- Elements that are gone through with their places.
+use Rattle.std.proofs.Common.{◌≡◌, ℕ, ◌+◌, ◌<◌, List, [], ◌∷◌, ◌++◌, length, flat_map, map, take, slice_index_or, sym, ap, ◌∙◌, arith}
+use Rattle.std.specs.List.{enumerate_from}
+use Rattle.std.proofs.lemmas.Grind.{flat_map-append, take_at_read}
+use Rattle.std.proofs.lemmas.List.{append-nil, map-append}
+use Rattle.std.proofs.lemmas.List.Concat.{flat_map-cons}
+use Rattle.std.proofs.lemmas.List.FromFn.{get_or-enumerate_from, length-enumerate_from}
+use Rattle.std.proofs.Math.Seq.{take-length}
+
+-- one more element with its place
+pub take_next : {A : Type 0} (xs : List A) (i : ℕ) (d : A) → i < length xs
+    → take (i + 1) (enumerate_from 0 xs) ≡ take i (enumerate_from 0 xs) ++ (i, slice_index_or xs i d) ∷ []
+take_next xs i d lt =
+    let long = length-enumerate_from 0 xs in
+    let inside : i < length (enumerate_from 0 xs) = omega (arith, long, lt) in
+    let zero_more : 0 + i ≡ i = omega arith in
+    (take_at_read (enumerate_from 0 xs) i (0, d) inside).1
+    ∙ ap (λ x. take i (enumerate_from 0 xs) ++ x ∷ []) (get_or-enumerate_from 0 xs i (0, d) lt ∙ ap (λ n. (n, slice_index_or xs i d)) zero_more)
+
+pub map_next : {A B : Type 0} (f : ℕ × A → B) (xs : List A) (i : ℕ) (d : A) → i < length xs
+    → map f (take (i + 1) (enumerate_from 0 xs)) ≡ map f (take i (enumerate_from 0 xs)) ++ f (i, slice_index_or xs i d) ∷ []
+map_next f xs i d lt = ap (map f) (take_next xs i d lt) ∙ map-append f (take i (enumerate_from 0 xs)) ((i, slice_index_or xs i d) ∷ [])
+
+pub flat_map_next : {A B : Type 0} (f : ℕ × A → List B) (xs : List A) (i : ℕ) (d : A) → i < length xs
+    → flat_map f (take (i + 1) (enumerate_from 0 xs)) ≡ flat_map f (take i (enumerate_from 0 xs)) ++ f (i, slice_index_or xs i d)
+flat_map_next {A} {B} f xs i d lt =
+    let front = take i (enumerate_from 0 xs) in
+    let x : ℕ × A = (i, slice_index_or xs i d) in
+    ap (flat_map f) (take_next xs i d lt) ∙ flat_map-append f front (x ∷ [])
+    ∙ ap (λ t. flat_map f front ++ t) (flat_map-cons f x [] ∙ append-nil (f x))
+
+-- all of them
+pub take_all : {A : Type 0} (xs : List A) (i : ℕ) → i ≡ length xs → take i (enumerate_from 0 xs) ≡ enumerate_from 0 xs
+take_all xs i e = ap (λ n. take n (enumerate_from 0 xs)) (e ∙ sym (length-enumerate_from 0 xs)) ∙ take-length (enumerate_from 0 xs)
