@@ -28,13 +28,20 @@ use Rattle.plan_ir.specs.declared.values.Value.TheVariants as value
 abbrev pub input : List Value → ℕ → Value
 input inputs place = slice_index_or inputs place (value.Total (pos 0))
 
+-- spreads without legs, for places past the end
+abbrev pub no_intra : Intra
+no_intra = record { rate = 0; legs = [] }
+
+abbrev pub no_inter : Inter
+no_inter = record { basis_points = 0; legs = [] }
+
 -- the spread of a commodity at a place
 abbrev pub intra_at : AcceptedTables → ℕ → ℕ → Intra
-intra_at t c j = slice_index_or (intras_at t c) j (record { rate = 0; legs = [] })
+intra_at t c j = slice_index_or (intras_at t c) j no_intra
 
 -- the intercommodity spread at a place
 abbrev pub inter_at : AcceptedTables → ℕ → Inter
-inter_at t j = slice_index_or (inters_of t) j (record { basis_points = 0; legs = [] })
+inter_at t j = slice_index_or (inters_of t) j no_inter
 
 -- ---- what operations take
 

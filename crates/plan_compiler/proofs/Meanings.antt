@@ -1,0 +1,114 @@
+-- On the meanings of the wanted operations each operation has its own meaning.
+use Rattle.std.proofs.Common.{◌≡◌, ℕ, zero, suc, ◌+◌, ◌-◌, ◌<◌, ◌≤◌, List, [], ◌∷◌, ◌++◌, length, map, take, fold, slice_index_or, slice_set, refl, sym, ap, ◌∙◌, arith, pos, ℤ, ◌+ℤ◌, add-one}
+use Rattle.std.specs.Prelude.{replicate}
+use Rattle.std.specs.List.{range_with_len}
+use Rattle.std.proofs.lemmas.List.{append-nil, append_assoc, map-id, take_all}
+use Rattle.std.proofs.lemmas.List.FromFn.{length-map-range_with_len, map-range_with_len_more}
+use Rattle.std.proofs.lemmas.List.Sums.{fold-append, fold_more}
+use Rattle.std.proofs.Math.Nat.{sub-zero}
+use Rattle.std.proofs.Math.Seq.{set-append_seam}
+use Rattle.span_money.specs.Numbers.{int_sum_by}
+use Rattle.span_tables.specs.Tables.{AcceptedTables, inters_of}
+use Rattle.span_tables.specs.declared.portfolios.Holding.{Holding}
+use Rattle.spread_stage.specs.Spreads.{after_spreads, spread_both_ways, unspread}
+use Rattle.inter_credit.specs.Credits.{after_inter_spreads, inter_both_ways, unspread_line}
+use Rattle.plan_ir.specs.Apply.{IsOp, inter_at, intra_at, no_inter, no_intra, value_on}
+use Rattle.plan_ir.specs.Figures.{deltas_at, figures_of, inter_lines, intras_at, line_of, loaded_lines, scan_at, tiers_at, total_to}
+use Rattle.plan_ir.specs.declared.ops.Op.{Op}
+use Rattle.plan_ir.specs.declared.ops.Op.TheVariants as op
+use Rattle.plan_ir.specs.declared.values.Value.{Value}
+use Rattle.plan_ir.specs.declared.values.Value.TheVariants as value
+use Rattle.plan_compiler.specs.Meaning.{before_inter, before_load, before_spread, before_total, last_inter, last_tiers, lines_after, lines_loaded, meaning, tiers_after, wanted}
+
+module _ (t : AcceptedTables) (holdings : List Holding) where
+  -- ---- what stands before an operation means the state before it
+
+  pub meaning-before_spread : (c j : ℕ) → meaning t holdings (before_spread c j) ≡ value.Tiers (tiers_after t holdings c j)
+  unfolding after_spreads
+  meaning-before_spread c zero = refl
+  meaning-before_spread c (suc j) = rw add-one refl
+
+  pub meaning-before_load : (c : ℕ) → meaning t holdings (before_load c) ≡ value.Inter (lines_loaded t holdings c)
+  meaning-before_load zero = refl
+  meaning-before_load (suc c) = rw add-one refl
+
+  loaded_all : lines_loaded t holdings (length t.commodities) ≡ lines_after t holdings 0
+  unfolding after_inter_spreads
+  loaded_all =
+      let gone : length t.commodities - length t.commodities ≡ 0 = omega arith in
+      rw gone (append-nil (loaded_lines t holdings))
+
+  pub meaning-before_inter : (j : ℕ) → meaning t holdings (before_inter t j) ≡ value.Inter (lines_after t holdings j)
+  meaning-before_inter zero = meaning-before_load (length t.commodities) ∙ ap value.Inter loaded_all
+  meaning-before_inter (suc j) = rw add-one refl
+
+  pub meaning-before_total : (c : ℕ) → meaning t holdings (before_total c) ≡ value.Total (total_to t holdings c)
+  unfolding total_to
+  meaning-before_total zero = refl
+  meaning-before_total (suc c) = rw add-one refl
+
+  -- ---- one step more
+
+  spread_more : (c j : ℕ) → j < length (intras_at t c) → spread_both_ways (tiers_after t holdings c j) (intra_at t c j) ≡ tiers_after t holdings c (j + 1)
+  unfolding after_spreads
+  spread_more c j lt = sym (fold_more spread_both_ways (unspread (deltas_at t holdings c)) (intras_at t c) j no_intra lt)
+
+  inter_more : (j : ℕ) → j < length (inters_of t) → inter_both_ways (lines_after t holdings j) (inter_at t j) ≡ lines_after t holdings (j + 1)
+  unfolding after_inter_spreads
+  inter_more j lt = sym (fold_more inter_both_ways (loaded_lines t holdings) (inters_of t) j no_inter lt)
+
+  load_more : (c : ℕ) → c < length t.commodities → slice_set (lines_loaded t holdings c) c (line_of t holdings c) ≡ lines_loaded t holdings (c + 1)
+  load_more c lt =
+      let front = map (line_of t holdings) (range_with_len 0 c) in
+      let none = unspread_line (pos 0) 0 in
+      let rest = replicate (length t.commodities - (c + 1)) none in
+      let one_more : length t.commodities - c ≡ suc (length t.commodities - (c + 1)) = omega arith in
+      let long : length front ≡ c = length-map-range_with_len (line_of t holdings) 0 c in
+      let zero_more : 0 + c ≡ c = omega arith in
+      ap (λ n. slice_set (front ++ replicate n none) c (line_of t holdings c)) one_more
+      ∙ ap (λ n. slice_set (front ++ none ∷ rest) n (line_of t holdings c)) (sym long)
+      ∙ set-append_seam front none rest (line_of t holdings c)
+      ∙ sym (append_assoc front (line_of t holdings c ∷ []) rest)
+      ∙ ap (λ xs. xs ++ rest) (sym (map-range_with_len_more (line_of t holdings) 0 c c zero_more))
+
+  pub total_more : (c : ℕ) → total_to t holdings c +ℤ (figures_of t holdings c).requirement ≡ total_to t holdings (c + 1)
+  unfolding total_to
+  total_more c =
+      let zero_more : 0 + c ≡ c = omega arith in
+      let requirements : ℤ → ℕ → ℤ = λ z n. z +ℤ (figures_of t holdings n).requirement in
+      let more : range_with_len 0 (c + 1) ≡ range_with_len 0 c ++ c ∷ [] =
+      sym (map-id (range_with_len 0 (c + 1))) ∙ map-range_with_len_more (λ n. n) 0 c c zero_more
+      ∙ ap (λ ns. ns ++ c ∷ []) (map-id (range_with_len 0 c)) in
+      sym (ap (int_sum_by (λ n. (figures_of t holdings n).requirement)) more ∙ fold-append requirements (pos 0) (range_with_len 0 c) (c ∷ []))
+
+  all_tiers : (c : ℕ) → tiers_after t holdings c (length (intras_at t c)) ≡ tiers_at t holdings c
+  all_tiers c = ap (λ spreads. after_spreads spreads (deltas_at t holdings c)) (take_all (length (intras_at t c)) (intras_at t c) (omega arith))
+
+  pub all_lines : lines_after t holdings (length (inters_of t)) ≡ inter_lines t holdings
+  unfolding inter_lines
+  all_lines = ap (λ spreads. after_inter_spreads spreads (loaded_lines t holdings)) (take_all (length (inters_of t)) (inters_of t) (omega arith))
+
+  pub meaning-last_tiers : (c : ℕ) → meaning t holdings (last_tiers t c) ≡ value.Tiers (tiers_at t holdings c)
+  meaning-last_tiers c = meaning-before_spread c (length (intras_at t c)) ∙ ap value.Tiers (all_tiers c)
+
+  pub meaning-last_inter : meaning t holdings (last_inter t) ≡ value.Inter (inter_lines t holdings)
+  meaning-last_inter = meaning-before_inter (length (inters_of t)) ∙ ap value.Inter all_lines
+
+  -- ---- each operation
+
+  pub gives_meaning : (o : Op) → IsOp t o → value_on t holdings o (map (meaning t holdings) (wanted t o)) ≡ meaning t holdings o
+  unfolding figures_of
+  gives_meaning (op.Gather c) known = refl
+  gives_meaning (op.Sums c) known = refl
+  gives_meaning (op.ScanMax c) known = refl
+  gives_meaning (op.Months c) known = refl
+  gives_meaning (op.TierStart c) known = refl
+  gives_meaning (op.Spread c j) known = rw (meaning-before_spread c j) (ap value.Tiers (spread_more c j known.1))
+  gives_meaning (op.Delivery c) known = rw (meaning-last_tiers c) refl
+  gives_meaning (op.Minimum c) known = refl
+  gives_meaning (op.Final c) known = rw (meaning-last_tiers c, meaning-last_inter) refl
+  gives_meaning op.InterStart known = rw sub-zero refl
+  gives_meaning (op.InterLoad c) known = rw (meaning-before_load c) (ap value.Inter (load_more c known))
+  gives_meaning (op.InterSpread j) known = rw (meaning-before_inter j) (ap value.Inter (inter_more j known))
+  gives_meaning op.TotalStart known = refl
+  gives_meaning (op.TotalAdd c) known = rw (meaning-before_total c) (ap value.Total (total_more c))

@@ -1,0 +1,141 @@
+-- The meanings of the wanted operations are what each operation takes.
+use Rattle.std.proofs.Common.{◌≡◌, ℕ, zero, suc, ◌+◌, ◌-◌, ◌*◌, ◌<◌, ◌≤◌, true, List, [], ◌∷◌, ◌++◌, length, map, take, slice_index_or, refl, sym, ap, ◌∙◌, arith, pos, ℤ, ◌+ℤ◌, nat_abs}
+use Rattle.std.specs.Prelude.{All, IfSome, Some, replicate, slice_get}
+use Rattle.std.specs.List.{range_with_len}
+use Rattle.span_money.specs.declared.amounts.TheConstants.{MAX_MONEY}
+use Rattle.span_tables.specs.Accepted.{IsInter, IsWithinLimits, commodity_id}
+use Rattle.span_tables.specs.Holdings.{AreHeld, ArePortfolio, fits}
+use Rattle.span_tables.specs.Tables.{AcceptedTables, inters_of}
+use Rattle.span_tables.specs.declared.limits.TheConstants.{MAX_PRICE2, MAX_SUM}
+use Rattle.span_tables.specs.declared.portfolios.Holding.{Holding}
+use Rattle.scan_risk.specs.Scenarios.{scan_of, scenario_sums}
+use Rattle.spread_stage.proofs.FallLemmas.{spreads_shrink}
+use Rattle.inter_credit.proofs.RestLaws.{length-inter_both_ways}
+use Rattle.inter_credit.specs.Credits.{after_inter_spreads, inter_both_ways, unspread_line}
+use Rattle.inter_credit.specs.declared.state.InterLine.{InterLine}
+use Rattle.span_tables.specs.declared.records.Inter.{Inter}
+use Rattle.std.proofs.lemmas.List.{length-append, length-replicate}
+use Rattle.std.proofs.lemmas.List.Elements.{All-append, All-map, All-replicate}
+use Rattle.std.proofs.lemmas.List.FromFn.{length-map-range_with_len}
+use Rattle.inter_credit.specs.States.{IsNotLoaded, IsUnspread, IsUnspreadLine}
+use Rattle.inter_credit.specs.declared.requirement.TheConstants.{MAX_PART}
+use Rattle.plan_ir.specs.Apply.{IsOp, Takes}
+use Rattle.plan_ir.specs.Figures.{deltas_at, delivery_at, figures_of, held_at, inter_lines, intras_at, line_of, loaded_lines, minimum_at, scan_at, total_to}
+use Rattle.plan_ir.specs.declared.ops.Op.{Op}
+use Rattle.plan_ir.specs.declared.ops.Op.TheVariants as op
+use Rattle.plan_compiler.specs.Meaning.{lines_after, lines_loaded, meaning, wanted}
+use Rattle.plan_compiler.proofs.Meanings.{all_lines, meaning-before_inter, meaning-before_load, meaning-before_spread, meaning-before_total, meaning-last_inter, meaning-last_tiers, total_more}
+
+-- as many commodities after spreads as before
+length_after : (spreads : List Inter) (lines : List InterLine) → length (after_inter_spreads spreads lines) ≡ length lines
+unfolding after_inter_spreads
+length_after [] lines = refl
+length_after (s ∷ spreads) lines = length_after spreads (inter_both_ways lines s) ∙ length-inter_both_ways lines s
+
+-- the element behind a front
+at_seam : {A : Type 0} (xs : List A) (x : A) (ys : List A) → slice_get (xs ++ x ∷ ys) (length xs) ≡ Some x
+at_seam [] x ys = refl
+at_seam (y ∷ xs) x ys = at_seam xs x ys
+
+module _ (t : AcceptedTables) (holdings : List Holding) (limits : IsWithinLimits t) (portfolio : ArePortfolio holdings)
+    (known : fits (length t.contracts) holdings ≡ true) where
+  sums_small : (c : ℕ) → All (λ s. nat_abs s ≤ MAX_SUM) (scenario_sums (held_at t holdings c))
+  sums_small c = ?
+
+  risk_small : (c : ℕ) → nat_abs (scan_at t holdings c).risk ≤ MAX_PART
+  risk_small c = ?
+
+  price2_small : (c : ℕ) → (scan_at t holdings c).price2 ≤ MAX_PRICE2
+  price2_small c = ?
+
+  delivery_small : (c : ℕ) → nat_abs (pos (delivery_at t holdings c)) ≤ MAX_PART
+  delivery_small c = ?
+
+  minimum_small : (c : ℕ) → c < length t.commodities → nat_abs (pos (minimum_at t holdings c)) ≤ MAX_PART
+  minimum_small c lt = ?
+
+  total_small : (c : ℕ) → c < length t.commodities → nat_abs (total_to t holdings (c + 1)) ≤ MAX_MONEY
+  total_small c lt = ?
+
+  -- ---- the commodities
+
+  length_loaded : length (loaded_lines t holdings) ≡ length t.commodities
+  length_loaded = length-map-range_with_len (line_of t holdings) 0 (length t.commodities)
+
+  length_lines : (j : ℕ) → length (lines_after t holdings j) ≡ length t.commodities
+  length_lines j = length_after (take j (inters_of t)) (loaded_lines t holdings) ∙ length_loaded
+
+  length_partly : (c : ℕ) → c ≤ length t.commodities → length (lines_loaded t holdings c) ≡ length t.commodities
+  length_partly c le =
+      let front = map (line_of t holdings) (range_with_len 0 c) in
+      let rest = replicate (length t.commodities - c) (unspread_line (pos 0) 0) in
+      omega (arith, le, length-append front rest, length-map-range_with_len (line_of t holdings) 0 c,
+      length-replicate (length t.commodities - c) (unspread_line (pos 0) 0))
+
+  not_loaded : (c : ℕ) → c < length t.commodities → IsNotLoaded (lines_loaded t holdings c) c
+  not_loaded c lt =
+      let front = map (line_of t holdings) (range_with_len 0 c) in
+      let none = unspread_line (pos 0) 0 in
+      let one_more : length t.commodities - c ≡ suc (length t.commodities - (c + 1)) = omega arith in
+      let long : length front ≡ c = length-map-range_with_len (line_of t holdings) 0 c in
+      let here : slice_get (lines_loaded t holdings c) c ≡ Some none =
+      ap (λ n. slice_get (front ++ replicate n none) c) one_more
+      ∙ ap (slice_get (front ++ none ∷ replicate (length t.commodities - (c + 1)) none)) (sym long)
+      ∙ at_seam front none (replicate (length t.commodities - (c + 1)) none) in
+      rw here (refl, refl)
+
+  unspread : (c : ℕ) → IsUnspread (lines_loaded t holdings c)
+  unspread c =
+      All-append IsUnspreadLine (map (line_of t holdings) (range_with_len 0 c)) _
+      (All-map IsUnspreadLine (line_of t holdings) (range_with_len 0 c) (λ i d lt. record { rest = refl; weight = refl }))
+      (All-replicate IsUnspreadLine (length t.commodities - c) (unspread_line (pos 0) 0) (record { rest = refl; weight = refl }))
+
+  -- ---- each operation
+
+  pub takes_meanings : (o : Op) → IsOp t o → Takes t o (map (meaning t holdings) (wanted t o))
+  takes_meanings (op.Gather c) is = record { known = is; taken = record { count = refl } }
+  takes_meanings (op.Sums c) is = record { known = is; taken = record { count = refl; held = tt } }
+  takes_meanings (op.ScanMax c) is = record { known = is; taken = record { count = refl; sums = tt; small = sums_small c } }
+  takes_meanings (op.Months c) is = record { known = is; taken = record { count = refl; held = tt } }
+  takes_meanings (op.TierStart c) is = record { known = is; taken = record { count = refl; months = tt } }
+  takes_meanings (op.Spread c j) is = rw (meaning-before_spread t holdings c j) (record { known = is; taken = record { count = refl; tiers = tt } })
+  takes_meanings (op.Delivery c) is = rw (meaning-last_tiers t holdings c) (record {
+    known = is;
+    taken = record { count = refl; months = tt; tiers = tt; shrinks = spreads_shrink (intras_at t c) (deltas_at t holdings c) };
+  })
+  takes_meanings (op.Minimum c) is = record { known = is; taken = record { count = refl; held = tt } }
+  takes_meanings (op.Final c) is = rw (meaning-last_tiers t holdings c, meaning-last_inter t holdings) (record {
+    known = is;
+    taken = record {
+      count = refl;
+      scan = tt;
+      tiers = tt;
+      delivery = tt;
+      minimum = tt;
+      lines = tt;
+      risk_small = risk_small c;
+      delivery_small = delivery_small c;
+      minimum_small = minimum_small c is;
+      among = let long = length_lines (length (inters_of t)) in omega (arith, is, long, ap length (all_lines t holdings));
+    };
+  })
+  takes_meanings op.InterStart is = record { known = tt; taken = record { count = refl } }
+  takes_meanings (op.InterLoad c) is = rw (meaning-before_load t holdings c) (record {
+    known = is;
+    taken = record {
+      count = refl;
+      lines = tt;
+      months = tt;
+      scan = tt;
+      among = let long = length_partly c (omega (arith, is)) in omega (arith, long, is);
+      not_loaded = not_loaded c is;
+      unspread = unspread c;
+      price2_small = price2_small c;
+    };
+  })
+  takes_meanings (op.InterSpread j) is = rw (meaning-before_inter t holdings j) (record { known = is; taken = record { count = refl; lines = tt; many = length_lines j } })
+  takes_meanings op.TotalStart is = record { known = tt; taken = record { count = refl } }
+  takes_meanings (op.TotalAdd c) is = rw (meaning-before_total t holdings c) (record {
+    known = is;
+    taken = record { count = refl; total = tt; figures = tt; small = rw (total_more t holdings c) (total_small c is) };
+  })

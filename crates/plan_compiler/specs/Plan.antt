@@ -1,0 +1,54 @@
+-- The plan of accepted tables.
+use Rattle.std.specs.Prelude.{◌≡◌, ℕ, zero, suc, ◌<◌, List, [], ◌∷◌, ◌++◌, length, map, Some, slice_get}
+use Rattle.span_tables.specs.Tables.{AcceptedTables, inters_of}
+use Rattle.plan_ir.specs.Figures.{intras_at}
+use Rattle.plan_ir.specs.Plans.{StepView, inputs_at, op_at, ops_in}
+use Rattle.plan_ir.specs.declared.ops.Op.{Op}
+use Rattle.plan_ir.specs.declared.ops.Op.TheVariants as op
+use Rattle.plan_compiler.specs.Meaning.{wanted}
+
+-- f of 0, then f of 1, up to f of n - 1
+abbrev pub each : (ℕ → List Op) → ℕ → List Op
+each f zero = []
+each f (suc n) = each f n ++ f n
+
+-- the steps of a commodity before its spreads
+abbrev pub first_ops : ℕ → List Op
+first_ops c = op.Gather c ∷ op.Sums c ∷ op.ScanMax c ∷ op.Months c ∷ op.TierStart c ∷ []
+
+-- the steps of its spreads
+abbrev pub spread_ops : ℕ → ℕ → List Op
+spread_ops c spreads = each (λ j. op.Spread c j ∷ []) spreads
+
+-- the steps behind its spreads
+abbrev pub final_ops : ℕ → List Op
+final_ops c = op.Delivery c ∷ op.Minimum c ∷ op.Final c ∷ []
+
+-- the steps of a commodity
+abbrev pub commodity_ops : AcceptedTables → ℕ → List Op
+commodity_ops t c = first_ops c ++ spread_ops c (length (intras_at t c)) ++ final_ops c
+
+-- the steps between commodities: the loads of commodities, and then spreads
+abbrev pub inter_ops : ℕ → ℕ → List Op
+inter_ops commodities spreads =
+    op.InterStart ∷ [] ++ each (λ c. op.InterLoad c ∷ []) commodities ++ each (λ j. op.InterSpread j ∷ []) spreads
+
+-- the steps of the total
+abbrev pub total_ops : ℕ → List Op
+total_ops commodities = op.TotalStart ∷ [] ++ each (λ c. op.TotalAdd c ∷ []) commodities
+
+-- the operations of the plan, in order
+abbrev pub ops_of : AcceptedTables → List Op
+ops_of t =
+    each (commodity_ops t) (length t.commodities)
+    ++ inter_ops (length t.commodities) (length (inters_of t))
+    ++ total_ops (length t.commodities)
+
+-- the numbers are those of the named operations, in order
+abbrev pub Names : List Op → List ℕ → List Op → Type 0
+Names ops numbers named = map (slice_get ops) numbers ≡ map (λ o. Some o) named
+
+-- the steps are those of the tables, and each input number is that of a step with the wanted operation
+pub record IsPlanOf (t : AcceptedTables) (plan : List StepView) : Type 0 where
+  pub ops : ops_in plan ≡ ops_of t
+  pub wired : (k : ℕ) → k < length plan → Names (ops_in plan) (inputs_at plan k) (wanted t (op_at plan k))

@@ -1,0 +1,2 @@
+//! Compiled sets: accepted tables with the plan of their steps.
+#![tactic(auto)]
