@@ -1,2 +1,4 @@
 pub mod Meaning
 pub mod Plan
+pub mod Compiled
+pub mod steps

@@ -1,2 +1,7 @@
 //! Compiled sets: accepted tables with the plan of their steps.
 #![tactic(auto)]
+
+pub mod layout;
+pub mod nothing;
+mod operations;
+pub mod set;

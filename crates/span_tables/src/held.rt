@@ -1,5 +1,5 @@
 //! The contracts of one commodity that an account holds.
-ghost use Rattle.std.specs.Prelude.{◌≡◌, ◌==◌, ◌<◌, ◌≤◌, true, length, map, nat_abs, slice_get, All, IfOk, IfSome};
+ghost use Rattle.std.specs.Prelude.{◌≡◌, ◌==◌, [], ◌<◌, ◌≤◌, true, length, map, nat_abs, slice_get, All, IfOk, IfSome};
 ghost use Rattle.std.specs.Arc.{arc_value};
 ghost use Rattle.span_tables.specs.Accepted.{IsContract, IsWithinLimits, commodity_id};
 ghost use Rattle.span_tables.specs.Holdings.{AreHeld, fits};
@@ -49,6 +49,13 @@ impl Held {
             contracts,
             holdings,
         }
+    }
+
+    /// No held contracts, under these tables. `Err` is want of memory.
+    pub fn none(alloc: Global, tables: &Tables) -> Result<Held, AllocError>
+        ensures { IfOk result (λ held. held ≡ []) }
+    {
+        Ok(Held::new(tables.share_contracts()?, Vec::new(alloc)))
     }
 
     /// How many contracts are held.

@@ -1,0 +1,175 @@
+-- Where the steps of a plan stand.
+use Rattle.std.proofs.Common.{◌≡◌, ℕ, zero, suc, ◌+◌, ◌-◌, ◌*◌, ◌<◌, ◌≤◌, List, [], ◌∷◌, ◌++◌, length, map, Some, slice_get, refl, sym, ap, ◌∙◌, arith, add-one, inl, inr}
+use Rattle.std.specs.Prelude.{⊤}
+use Rattle.std.proofs.lemmas.Bool.{cases_eq}
+use Rattle.std.proofs.lemmas.List.{append_assoc, length-append}
+use Rattle.span_tables.specs.Accepted.{IsWithinLimits, commodity_id}
+use Rattle.span_tables.specs.Tables.{AcceptedTables, inters_of}
+use Rattle.span_tables.specs.declared.limits.TheConstants.{MAX_COMMODITIES, MAX_INTRA_SPREADS}
+use Rattle.plan_ir.specs.Apply.{IsOp}
+use Rattle.plan_ir.specs.Figures.{intras_at}
+use Rattle.plan_ir.specs.declared.ops.Op.{Op}
+use Rattle.plan_ir.specs.declared.ops.Op.TheVariants as op
+use Rattle.plan_compiler.specs.Plan.{commodity_ops, each, final_ops, first_ops, inter_ops, ops_of, spread_ops, total_ops}
+use Rattle.plan_compiler.specs.declared.layout.TheConstants.{COMMODITY_STEPS}
+use Rattle.plan_compiler.specs.steps.Layout.{first_step, inter_step, load_step, place_of, tiers_step, total_step}
+
+-- one more of each
+pub each_more : (f : ℕ → List Op) (n : ℕ) → each f (n + 1) ≡ each f n ++ f n
+each_more f n = rw add-one refl
+
+-- one more of each, behind others
+pub each_appended : (f : ℕ → List Op) (n : ℕ) (old now new : List Op) → now ≡ old ++ each f n → new ≡ now ++ f n → new ≡ old ++ each f (n + 1)
+each_appended f n old now new e more =
+    more ∙ ap (λ xs. xs ++ f n) e ∙ append_assoc old (each f n) (f n) ∙ ap (λ xs. old ++ xs) (sym (each_more f n))
+
+-- ---- lengths
+
+pub length_singles : (f : ℕ → List Op) → ((c : ℕ) → length (f c) ≡ 1) → (n : ℕ) → length (each f n) ≡ n
+length_singles f one zero = refl
+length_singles f one (suc n) = let rest = length_singles f one n in let last = one n in omega (arith, length-append (each f n) (f n), rest, last)
+
+pub length_spreads : (c n : ℕ) → length (spread_ops c n) ≡ n
+length_spreads c n = length_singles (λ j. op.Spread c j ∷ []) (λ j. refl) n
+
+length_commodity : (t : AcceptedTables) (c : ℕ) → length (commodity_ops t c) ≡ COMMODITY_STEPS + length (intras_at t c)
+length_commodity t c =
+    let n = length (intras_at t c) in
+    let spreads = length_spreads c n in
+    let front = length-append (first_ops c) (spread_ops c n) in
+    let all = length-append (first_ops c ++ spread_ops c n) (final_ops c) in
+    omega (arith, spreads, front, all)
+
+-- a commodity's steps stand before those of the next
+pub first_more : (t : AcceptedTables) (c : ℕ) → first_step t (c + 1) ≡ first_step t c + (COMMODITY_STEPS + length (intras_at t c))
+first_more t c = ap length (each_more (commodity_ops t) c) ∙ length-append (each (commodity_ops t) c) (commodity_ops t c) ∙ ap (λ n. first_step t c + n) (length_commodity t c)
+
+-- not too many stand before it
+pub first_small : (t : AcceptedTables) → IsWithinLimits t → (c : ℕ) → first_step t c ≤ c * (COMMODITY_STEPS + MAX_INTRA_SPREADS)
+first_small t limits zero = omega arith
+first_small t limits (suc c) =
+    let before = first_small t limits c in
+    let here = length_commodity t c in
+    let few = limits.few_intras (commodity_id t c) in
+    omega (arith, before, here, few, length-append (each (commodity_ops t) c) (commodity_ops t c))
+
+-- ---- the step at a place
+
+at_front : (xs ys : List Op) (i : ℕ) (o : Op) → slice_get xs i ≡ Some o → slice_get (xs ++ ys) i ≡ Some o
+at_front [] ys i o e = absurd cc
+at_front (x ∷ xs) ys zero o e = e
+at_front (x ∷ xs) ys (suc i) o e = at_front xs ys i o e
+
+at_back : (xs ys : List Op) (i k : ℕ) (o : Op) → slice_get ys i ≡ Some o → k ≡ length xs + i → slice_get (xs ++ ys) k ≡ Some o
+at_back xs ys i k o e at = ap (slice_get (xs ++ ys)) at ∙ behind xs ∙ e where
+  behind : (zs : List Op) → slice_get (zs ++ ys) (length zs + i) ≡ slice_get ys i
+  behind [] = let none : 0 + i ≡ i = omega arith in ap (slice_get ys) none
+  behind (z ∷ zs) = let next : suc (length zs) + i ≡ suc (length zs + i) = omega arith in ap (slice_get (z ∷ (zs ++ ys))) next ∙ behind zs
+
+-- the steps of one of each stand behind those before it
+at_each : (f : ℕ → List Op) (n c i k : ℕ) (o : Op) → c < n → slice_get (f c) i ≡ Some o → k ≡ length (each f c) + i → slice_get (each f n) k ≡ Some o
+at_each f zero c i k o lt e at = elim lt [ ]
+at_each f (suc n) c i k o lt e at = elim (cases_eq c n) [
+      | inl same ↦ at_back (each f n) (f n) i k o (rw (← same) e) (rw (← same) at)
+      | inr other ↦ at_front (each f n) (f n) k o (at_each f n c i k o (omega (arith, lt, other)) e at)
+    ]
+
+at_single : (f : ℕ → List Op) → ((c : ℕ) → length (f c) ≡ 1) → (n c k : ℕ) (o : Op) → c < n → slice_get (f c) 0 ≡ Some o → k ≡ c → slice_get (each f n) k ≡ Some o
+at_single f one n c k o lt e at = at_each f n c 0 k o lt e (omega (arith, at, length_singles f one c))
+
+module _ (t : AcceptedTables) where
+  in_commodity : (c i k : ℕ) (o : Op) → c < length t.commodities → slice_get (commodity_ops t c) i ≡ Some o → k ≡ first_step t c + i
+      → slice_get (ops_of t) k ≡ Some o
+  in_commodity c i k o lt e at =
+      let n = length t.commodities in
+      at_front (each (commodity_ops t) n ++ inter_ops n (length (inters_of t))) (total_ops n) k o
+      (at_front (each (commodity_ops t) n) (inter_ops n (length (inters_of t))) k o
+      (at_each (commodity_ops t) n c i k o lt e at))
+
+  in_first : (c i k : ℕ) (o : Op) → c < length t.commodities → slice_get (first_ops c) i ≡ Some o → k ≡ first_step t c + i
+      → slice_get (ops_of t) k ≡ Some o
+  in_first c i k o lt e at =
+      let between = spread_ops c (length (intras_at t c)) in
+      in_commodity c i k o lt (at_front (first_ops c ++ between) (final_ops c) i o (at_front (first_ops c) between i o e)) at
+
+  in_spreads : (c j k : ℕ) → c < length t.commodities → j < length (intras_at t c) → k ≡ first_step t c + (5 + j)
+      → slice_get (ops_of t) k ≡ Some (op.Spread c j)
+  in_spreads c j k lt below at =
+      let between = spread_ops c (length (intras_at t c)) in
+      in_commodity c (5 + j) k (op.Spread c j) lt
+      (at_front (first_ops c ++ between) (final_ops c) (5 + j) (op.Spread c j)
+      (at_back (first_ops c) between j (5 + j) (op.Spread c j)
+      (at_single (λ i. op.Spread c i ∷ []) (λ i. refl) (length (intras_at t c)) j j (op.Spread c j) below refl refl) refl)) at
+
+  in_final : (c i k : ℕ) (o : Op) → c < length t.commodities → slice_get (final_ops c) i ≡ Some o
+      → k ≡ first_step t c + (5 + length (intras_at t c) + i) → slice_get (ops_of t) k ≡ Some o
+  in_final c i k o lt e at =
+      let n = length (intras_at t c) in
+      let between = spread_ops c n in
+      let long = length-append (first_ops c) between in
+      in_commodity c (5 + n + i) k o lt
+      (at_back (first_ops c ++ between) (final_ops c) i (5 + n + i) o e (omega (arith, long, length_spreads c n))) at
+
+  in_inter : (i k : ℕ) (o : Op) → slice_get (inter_ops (length t.commodities) (length (inters_of t))) i ≡ Some o
+      → k ≡ first_step t (length t.commodities) + i → slice_get (ops_of t) k ≡ Some o
+  in_inter i k o e at =
+      let n = length t.commodities in
+      let front = each (commodity_ops t) n in
+      let between = inter_ops n (length (inters_of t)) in
+      at_front (front ++ between) (total_ops n) k o (at_back front between i k o e at)
+
+  length_loads : length (op.InterStart ∷ [] ++ each (λ c. op.InterLoad c ∷ []) (length t.commodities)) ≡ 1 + length t.commodities
+  length_loads =
+      let n = length t.commodities in
+      let many = length_singles (λ c. op.InterLoad c ∷ []) (λ c. refl) n in
+      omega (arith, many, length-append (op.InterStart ∷ []) (each (λ c. op.InterLoad c ∷ []) n))
+
+  pub length_inter : length (inter_ops (length t.commodities) (length (inters_of t))) ≡ 1 + length t.commodities + length (inters_of t)
+  length_inter =
+      let m = length (inters_of t) in
+      let many = length_singles (λ j. op.InterSpread j ∷ []) (λ j. refl) m in
+      omega (arith, many, length_loads, length-append (op.InterStart ∷ [] ++ each (λ c. op.InterLoad c ∷ []) (length t.commodities)) (each (λ j. op.InterSpread j ∷ []) m))
+
+  in_loads : (i : ℕ) (o : Op) → slice_get (op.InterStart ∷ [] ++ each (λ c. op.InterLoad c ∷ []) (length t.commodities)) i ≡ Some o
+      → slice_get (inter_ops (length t.commodities) (length (inters_of t))) i ≡ Some o
+  in_loads i o e =
+      at_front (op.InterStart ∷ [] ++ each (λ c. op.InterLoad c ∷ []) (length t.commodities)) (each (λ j. op.InterSpread j ∷ []) (length (inters_of t))) i o e
+
+  in_total : (i k : ℕ) (o : Op) → slice_get (total_ops (length t.commodities)) i ≡ Some o
+      → k ≡ total_step t 0 + i → slice_get (ops_of t) k ≡ Some o
+  in_total i k o e at =
+      let n = length t.commodities in
+      let front = each (commodity_ops t) n in
+      let between = inter_ops n (length (inters_of t)) in
+      at_back (front ++ between) (total_ops n) i k o e (omega (arith, at, length_inter, length-append front between))
+
+  -- each operation of the tables stands at its place
+  pub place_stands : (o : Op) → IsOp t o → slice_get (ops_of t) (place_of t o) ≡ Some o
+  place_stands (op.Gather c) known = in_first c 0 _ (op.Gather c) known refl (omega arith)
+  place_stands (op.Sums c) known = in_first c 1 _ (op.Sums c) known refl refl
+  place_stands (op.ScanMax c) known = in_first c 2 _ (op.ScanMax c) known refl refl
+  place_stands (op.Months c) known = in_first c 3 _ (op.Months c) known refl refl
+  place_stands (op.TierStart c) known = in_first c 4 _ (op.TierStart c) known refl (omega arith)
+  place_stands (op.Spread c j) known = in_spreads c j _ known.0 known.1 (omega arith)
+  place_stands (op.Delivery c) known = in_final c 0 _ (op.Delivery c) known refl (omega arith)
+  place_stands (op.Minimum c) known = in_final c 1 _ (op.Minimum c) known refl (omega arith)
+  place_stands (op.Final c) known = in_final c 2 _ (op.Final c) known refl (omega arith)
+  place_stands op.InterStart known = in_inter 0 _ op.InterStart (in_loads 0 op.InterStart refl) refl
+  place_stands (op.InterLoad c) known =
+      in_inter (1 + c) _ (op.InterLoad c)
+      (in_loads (1 + c) (op.InterLoad c)
+      (at_back (op.InterStart ∷ []) (each (λ n. op.InterLoad n ∷ []) (length t.commodities)) c (1 + c) (op.InterLoad c)
+      (at_single (λ n. op.InterLoad n ∷ []) (λ n. refl) (length t.commodities) c c (op.InterLoad c) known refl refl) refl))
+      (omega arith)
+  place_stands (op.InterSpread j) known =
+      let n = length t.commodities in
+      in_inter (1 + n + j) _ (op.InterSpread j)
+      (at_back (op.InterStart ∷ [] ++ each (λ c. op.InterLoad c ∷ []) n) (each (λ i. op.InterSpread i ∷ []) (length (inters_of t))) j (1 + n + j) (op.InterSpread j)
+      (at_single (λ i. op.InterSpread i ∷ []) (λ i. refl) (length (inters_of t)) j j (op.InterSpread j) known refl refl) (omega (arith, length_loads)))
+      (omega arith)
+  place_stands op.TotalStart known = in_total 0 _ op.TotalStart refl (omega arith)
+  place_stands (op.TotalAdd c) known =
+      in_total (1 + c) _ (op.TotalAdd c)
+      (at_back (op.TotalStart ∷ []) (each (λ n. op.TotalAdd n ∷ []) (length t.commodities)) c (1 + c) (op.TotalAdd c)
+      (at_single (λ n. op.TotalAdd n ∷ []) (λ n. refl) (length t.commodities) c c (op.TotalAdd c) known refl refl) refl)
+      (omega arith)

@@ -1,0 +1,186 @@
+//! Where the steps of a plan stand, and which steps are the inputs of each.
+ghost use Rattle.std.specs.Prelude.{◌≡◌, ◌+◌, ◌*◌, ◌<◌, ◌≤◌, ◌++◌, [], ◌∷◌, All, IfOk, OnOk, length, map};
+ghost use Rattle.span_tables.specs.Tables.{inters_of};
+ghost use Rattle.span_tables.specs.declared.limits.TheConstants.{MAX_COMMODITIES, MAX_INTER_SPREADS, MAX_INTRA_SPREADS};
+ghost use Rattle.plan_ir.specs.Apply.{IsOp};
+ghost use Rattle.plan_ir.specs.Figures.{intras_at};
+ghost use Rattle.plan_ir.specs.declared.ops.Op.TheVariants.{Final};
+ghost use Rattle.plan_compiler.specs.declared.layout.TheConstants.{MAX_FIRST};
+ghost use Rattle.plan_compiler.specs.steps.Layout.{AreFirsts, first_step, inputs_of, inter_step, load_step, tiers_step, total_step};
+
+use plan_ir::lists::NumberLists;
+use plan_ir::ops::Op;
+use span_tables::limits::{MAX_COMMODITIES, MAX_INTRA_SPREADS};
+use span_tables::tables::Tables;
+use std::alloc::{AllocError, Global};
+
+/// The steps of a commodity beside its spreads.
+pub const COMMODITY_STEPS: usize = 8;
+/// The number of the first step between commodities, at most.
+pub const MAX_FIRST: usize = MAX_COMMODITIES * (COMMODITY_STEPS + MAX_INTRA_SPREADS);
+
+// The number of the first step of each commodity, and behind them that of the first step between commodities.
+pub(crate) fn first_steps(alloc: Global, tables: &Tables) -> Result<Vec<u32>, AllocError>
+    ensures { IfOk result (λ firsts. AreFirsts tables.now firsts.items) }
+{
+    let mut firsts = Vec::new(alloc);
+    let mut first = 0;
+    for c in 0..tables.commodities().len() {
+        firsts.push(first as u32)?;
+        first += COMMODITY_STEPS + tables.intras(c).len();
+    }
+    firsts.push(first as u32)?;
+    Ok(firsts)
+}
+
+// The number of a commodity's first step.
+fn first_step(tables: &Tables, firsts: &[u32], c: u32) -> u32
+    requires firsts { AreFirsts tables.now firsts.now }
+    requires among { c ≤ length tables.now.commodities }
+    ensures value { result ≡ first_step tables.now c }
+    ensures bound { result ≤ MAX_FIRST }
+{
+    let _limits = tables.commodities();
+    firsts[c as usize]
+}
+
+// The number of the step of a commodity's state behind its first spreads.
+fn tiers_step(tables: &Tables, firsts: &[u32], c: u32, spreads: u32) -> u32
+    requires firsts { AreFirsts tables.now firsts.now }
+    requires among { c < length tables.now.commodities }
+    requires few { spreads ≤ length (intras_at tables.now c) }
+    ensures value { result ≡ tiers_step tables.now c spreads }
+    ensures bound { result ≤ MAX_FIRST + 4 + MAX_INTRA_SPREADS }
+{
+    let _few = tables.intras(c as usize);
+    first_step(tables, firsts, c) + 4 + spreads
+}
+
+// The number of the step of a commodity's state behind all of its spreads.
+pub(crate) fn last_tiers_step(tables: &Tables, firsts: &[u32], c: u32) -> u32
+    requires firsts { AreFirsts tables.now firsts.now }
+    requires among { c < length tables.now.commodities }
+    ensures value { result ≡ tiers_step tables.now c (length (intras_at tables.now c)) }
+    ensures bound { result ≤ MAX_FIRST + 4 + MAX_INTRA_SPREADS }
+{
+    let spreads = tables.intras(c as usize).len();
+    tiers_step(tables, firsts, c, spreads as u32)
+}
+
+// The number of the step of the state between commodities with the first of them loaded.
+fn load_step(tables: &Tables, firsts: &[u32], commodities: u32) -> u32
+    requires firsts { AreFirsts tables.now firsts.now }
+    requires among { commodities ≤ length tables.now.commodities }
+    ensures value { result ≡ load_step tables.now commodities }
+    ensures bound { result ≤ MAX_FIRST + MAX_COMMODITIES }
+{
+    let all = tables.commodities().len();
+    first_step(tables, firsts, all as u32) + commodities
+}
+
+// The number of the step of the state between commodities behind the first spreads.
+fn inter_step(tables: &Tables, firsts: &[u32], spreads: u32) -> u32
+    requires firsts { AreFirsts tables.now firsts.now }
+    requires among { spreads ≤ length (inters_of tables.now) }
+    ensures value { result ≡ inter_step tables.now spreads }
+    ensures bound { result ≤ MAX_FIRST + MAX_COMMODITIES + MAX_INTER_SPREADS }
+{
+    let all = tables.commodities().len();
+    let _few = tables.inters();
+    load_step(tables, firsts, all as u32) + spreads
+}
+
+// The number of the step of the state between commodities behind all spreads.
+fn last_inter_step(tables: &Tables, firsts: &[u32]) -> u32
+    requires { AreFirsts tables.now firsts.now }
+    ensures value { result ≡ inter_step tables.now (length (inters_of tables.now)) }
+    ensures bound { result ≤ MAX_FIRST + MAX_COMMODITIES + MAX_INTER_SPREADS }
+{
+    inter_step(tables, firsts, tables.inters().len() as u32)
+}
+
+// The number of the step of the total of the first commodities.
+pub(crate) fn total_step(tables: &Tables, firsts: &[u32], commodities: u32) -> u32
+    requires firsts { AreFirsts tables.now firsts.now }
+    requires among { commodities ≤ length tables.now.commodities }
+    ensures { result ≡ total_step tables.now commodities }
+{
+    let _limits = tables.commodities();
+    last_inter_step(tables, firsts) + 1 + commodities
+}
+
+// Appends the inputs of an operation's step.
+fn push_inputs(
+    lists: &mut NumberLists,
+    tables: &Tables,
+    firsts: &[u32],
+    op: &Op,
+) -> Result<(), AllocError>
+    requires firsts { AreFirsts tables.now firsts.now }
+    requires known { IsOp tables.now op.now }
+    ensures { OnOk result (lists.new ≡ lists.old ++ inputs_of tables.now op.now ∷ []) }
+{
+    match *op {
+        Op::Gather(_) | Op::InterStart | Op::TotalStart => lists.push(&[]),
+        Op::Sums(c) | Op::Months(c) | Op::Minimum(c) => {
+            lists.push(&[first_step(tables, firsts, c)])
+        }
+        Op::ScanMax(c) => lists.push(&[first_step(tables, firsts, c) + 1]),
+        Op::TierStart(c) => lists.push(&[first_step(tables, firsts, c) + 3]),
+        Op::Spread(c, j) => lists.push(&[tiers_step(tables, firsts, c, j)]),
+        Op::Delivery(c) => lists.push(&[
+            first_step(tables, firsts, c) + 3,
+            last_tiers_step(tables, firsts, c),
+        ]),
+        Op::Final(c) => push_final(lists, tables, firsts, c),
+        Op::InterLoad(c) => lists.push(&[
+            load_step(tables, firsts, c),
+            first_step(tables, firsts, c) + 3,
+            first_step(tables, firsts, c) + 2,
+        ]),
+        Op::InterSpread(j) => lists.push(&[inter_step(tables, firsts, j)]),
+        Op::TotalAdd(c) => lists.push(&[
+            total_step(tables, firsts, c),
+            last_tiers_step(tables, firsts, c) + 3,
+        ]),
+    }
+}
+
+// Appends the inputs of a commodity's Final step, of which the last stands behind it.
+fn push_final(
+    lists: &mut NumberLists,
+    tables: &Tables,
+    firsts: &[u32],
+    c: u32,
+) -> Result<(), AllocError>
+    requires firsts { AreFirsts tables.now firsts.now }
+    requires among { c < length tables.now.commodities }
+    ensures { OnOk result (lists.new ≡ lists.old ++ inputs_of tables.now (Final c) ∷ []) }
+{
+    let tiers = last_tiers_step(tables, firsts, c);
+    lists.push(&[
+        first_step(tables, firsts, c) + 2,
+        tiers,
+        tiers + 1,
+        tiers + 2,
+        last_inter_step(tables, firsts),
+    ])
+}
+
+// The inputs of the step of each of these operations.
+pub(crate) fn inputs_of_all(
+    alloc: Global,
+    tables: &Tables,
+    firsts: &[u32],
+    ops: &[Op],
+) -> Result<NumberLists, AllocError>
+    requires firsts { AreFirsts tables.now firsts.now }
+    requires known { All (IsOp tables.now) ops.now }
+    ensures { IfOk result (λ lists. lists ≡ map (inputs_of tables.now) ops.now) }
+{
+    let mut lists = NumberLists::new(alloc);
+    for op in ops {
+        push_inputs(&mut lists, tables, firsts, op)?;
+    }
+    Ok(lists)
+}

@@ -1,0 +1,91 @@
+//! The operations of a plan, in their order.
+ghost use Rattle.std.specs.Prelude.{◌≡◌, ◌++◌, ◌<◌, [], ◌∷◌, IfOk, OnOk, length};
+ghost use Rattle.plan_compiler.specs.Plan.{commodity_ops, each, ops_of, spread_ops};
+ghost use Rattle.plan_ir.specs.declared.ops.Op.TheVariants.{InterLoad, InterSpread, TotalAdd};
+
+use plan_ir::ops::Op;
+use span_tables::tables::Tables;
+use std::alloc::{AllocError, Global};
+
+// The steps of a commodity's spreads.
+fn push_spreads(ops: &mut Vec<Op>, c: u32, spreads: u32) -> Result<(), AllocError>
+    ensures { OnOk result (ops.new.items ≡ ops.old.items ++ spread_ops c spreads) }
+{
+    for j in 0..spreads {
+        ops.push(Op::Spread(c, j))?;
+    }
+    Ok(())
+}
+
+// The steps of a commodity.
+fn push_commodity(ops: &mut Vec<Op>, tables: &Tables, c: u32) -> Result<(), AllocError>
+    requires { c < length tables.now.commodities }
+    ensures { OnOk result (ops.new.items ≡ ops.old.items ++ commodity_ops tables.now c) }
+{
+    let spreads = tables.intras(c as usize).len();
+    ops.extend_from_slice(&[
+        Op::Gather(c),
+        Op::Sums(c),
+        Op::ScanMax(c),
+        Op::Months(c),
+        Op::TierStart(c),
+    ])?;
+    push_spreads(ops, c, spreads as u32)?;
+    ops.extend_from_slice(&[Op::Delivery(c), Op::Minimum(c), Op::Final(c)])
+}
+
+// The steps of all commodities.
+fn push_commodities(ops: &mut Vec<Op>, tables: &Tables) -> Result<(), AllocError>
+    ensures { OnOk result (ops.new.items ≡ ops.old.items ++ each (commodity_ops tables.now) (length tables.now.commodities)) }
+{
+    let commodities = tables.commodities().len();
+    for c in 0..commodities as u32 {
+        push_commodity(ops, tables, c)?;
+    }
+    Ok(())
+}
+
+// The steps that load commodities.
+fn push_loads(ops: &mut Vec<Op>, commodities: u32) -> Result<(), AllocError>
+    ensures { OnOk result (ops.new.items ≡ ops.old.items ++ each (λ c. InterLoad c ∷ []) commodities) }
+{
+    for c in 0..commodities {
+        ops.push(Op::InterLoad(c))?;
+    }
+    Ok(())
+}
+
+// The steps of intercommodity spreads.
+fn push_inter_spreads(ops: &mut Vec<Op>, spreads: u32) -> Result<(), AllocError>
+    ensures { OnOk result (ops.new.items ≡ ops.old.items ++ each (λ j. InterSpread j ∷ []) spreads) }
+{
+    for j in 0..spreads {
+        ops.push(Op::InterSpread(j))?;
+    }
+    Ok(())
+}
+
+// The steps of the total.
+fn push_adds(ops: &mut Vec<Op>, commodities: u32) -> Result<(), AllocError>
+    ensures { OnOk result (ops.new.items ≡ ops.old.items ++ each (λ c. TotalAdd c ∷ []) commodities) }
+{
+    for c in 0..commodities {
+        ops.push(Op::TotalAdd(c))?;
+    }
+    Ok(())
+}
+
+// The operations of the plan of accepted tables.
+pub(crate) fn ops_of(alloc: Global, tables: &Tables) -> Result<Vec<Op>, AllocError>
+    ensures { IfOk result (λ ops. ops.items ≡ ops_of tables.now) }
+{
+    let commodities = tables.commodities().len() as u32;
+    let mut ops = Vec::new(alloc);
+    push_commodities(&mut ops, tables)?;
+    ops.push(Op::InterStart)?;
+    push_loads(&mut ops, commodities)?;
+    push_inter_spreads(&mut ops, tables.inters().len() as u32)?;
+    ops.push(Op::TotalStart)?;
+    push_adds(&mut ops, commodities)?;
+    Ok(ops)
+}

@@ -1,0 +1,102 @@
+//! Compiled sets.
+ghost use Rattle.std.specs.Prelude.{◌≡◌, ◌<◌, ℕ, List, IfOk, length};
+ghost use Rattle.plan_ir.specs.Figures.{total_to};
+ghost use Rattle.plan_ir.specs.Plans.{op_at};
+ghost use Rattle.plan_ir.specs.declared.ops.Op.TheVariants as operation;
+ghost use Rattle.plan_compiler.specs.Compiled.{IsCompiled, IsFirstInput};
+ghost use Rattle.plan_compiler.specs.Meaning.{last_total};
+ghost use Rattle.plan_compiler.specs.Plan.{IsPlanOf};
+ghost use Rattle.plan_compiler.specs.steps.Layout.{AreFirsts};
+
+use crate::layout::{first_steps, inputs_of_all, last_tiers_step, total_step};
+use crate::nothing::NothingHeld;
+use crate::operations::ops_of;
+use plan_ir::plans::Plan;
+use span_tables::tables::Tables;
+use std::alloc::{AllocError, Global};
+use std::marker::Model;
+
+/// Accepted tables with the plan of their steps.
+///
+/// Beside the plan stand the numbers of each commodity's first step and the values of what is not held.
+#[derive(Drop)]
+pub struct CompiledSet {
+    tables: Tables,
+    plan: Plan,
+    firsts: Vec<u32>,
+    nothing: NothingHeld,
+}
+
+impl Model for CompiledSet {
+    ghost use Rattle.plan_compiler.specs.Compiled.{SetView};
+    ghost use Rattle.plan_compiler.specs.steps.Sets.{IsSet};
+
+    ghost Value = { SetView };
+
+    ghost view = { λ set. record { tables = set.tables; plan = set.plan } };
+
+    ghost invariant = { λ set. IsSet set.tables set.plan set.firsts.items };
+}
+
+impl CompiledSet {
+    /// The accepted tables.
+    pub fn tables(&self) -> &Tables
+        ensures tables { result.now ≡ self.now.tables }
+        ensures compiled { IsCompiled self.now }
+    {
+        &self.tables
+    }
+
+    /// The plan of their steps, which keeps the plan law.
+    pub fn plan(&self) -> &Plan
+        ensures plan { result.now ≡ self.now.plan }
+        ensures is_plan { IsPlanOf self.now.tables self.now.plan }
+        ensures compiled { IsCompiled self.now }
+    {
+        &self.plan
+    }
+
+    /// The values of what is not held.
+    pub fn nothing_held(&self) -> &NothingHeld {
+        &self.nothing
+    }
+
+    /// The number of the step that has the figures of a commodity. It is no step's first input.
+    pub fn final_step(&self, commodity: u32) -> u32
+        requires { commodity < length self.now.tables.commodities }
+        ensures in_range { result < length self.now.plan }
+        ensures op { op_at self.now.plan result ≡ operation.Final commodity }
+        ensures stays { IsFirstInput self.now.plan result → ⊥ }
+    {
+        last_tiers_step(&self.tables, &self.firsts, commodity) + 3
+    }
+
+    /// The number of the step that has the total. It is no step's first input.
+    pub fn total_step(&self) -> u32
+        ensures in_range { result < length self.now.plan }
+        ensures op { op_at self.now.plan result ≡ last_total self.now.tables }
+        ensures stays { IsFirstInput self.now.plan result → ⊥ }
+    {
+        let commodities = self.tables.commodities().len();
+        total_step(&self.tables, &self.firsts, commodities as u32)
+    }
+}
+
+/// The tables with the plan of their steps. `Err` is want of memory.
+pub fn compile(alloc: Global, tables: Tables) -> Result<CompiledSet, AllocError>
+    ensures tables { IfOk result (λ set. set.tables ≡ tables) }
+    ensures plan { IfOk result (λ set. IsPlanOf tables set.plan) }
+{
+    let _limits = tables.commodities();
+    let ops = ops_of(alloc, &tables)?;
+    let firsts = first_steps(alloc, &tables)?;
+    let inputs = inputs_of_all(alloc, &tables, &firsts, &ops)?;
+    let plan = Plan::new(alloc, ops, inputs)?;
+    let nothing = NothingHeld::new(alloc, &tables)?;
+    Ok(CompiledSet {
+        tables,
+        plan,
+        firsts,
+        nothing,
+    })
+}
