@@ -27,14 +27,15 @@ contract_of id = record {
 abbrev pub position_of : List ℕ → List ℕ → ℤ → PositionRecord
 position_of account contract quantity = record { account = account; contract = contract; quantity = quantity }
 
--- so many contracts of two letters each: AA, AB and on, up to 676
+-- the two letters of a number below 676: AA, AB and on
 abbrev pub letters_of : ℕ → List ℕ
 letters_of n = (65 + n / 26) ∷ (65 + n % 26) ∷ []
 
+-- so many contracts, each of two letters
 abbrev pub many_contracts : ℕ → List Contract
 many_contracts n = map (λ k. contract_of (letters_of k)) (range_with_len 0 n)
 
--- one of each of them bought by an account
+-- an account that is long one of each of so many contracts
 abbrev pub one_of_each : List ℕ → ℕ → List PositionRecord
 one_of_each account n = map (λ k. position_of account (letters_of k) (pos 1)) (range_with_len 0 n)
 
