@@ -173,3 +173,25 @@ module _ (t : AcceptedTables) where
       (at_back (op.TotalStart ∷ []) (each (λ n. op.TotalAdd n ∷ []) (length t.commodities)) c (1 + c) (op.TotalAdd c)
       (at_single (λ n. op.TotalAdd n ∷ []) (λ n. refl) (length t.commodities) c c (op.TotalAdd c) known refl refl) refl)
       (omega arith)
+
+  -- a commodity's steps stand before all steps between commodities
+  pub first_before : (c n : ℕ) → c < n → first_step t c + (COMMODITY_STEPS + length (intras_at t c)) ≤ first_step t n
+  first_before c zero lt = elim lt [ ]
+  first_before c (suc n) lt = elim (cases_eq c n) [
+        | inl same ↦ let here = first_more t c in let more : first_step t (c + 1) ≡ first_step t (suc n) = rw same (rw add-one refl) in omega (arith, here, more)
+        | inr other ↦
+            let before = first_before c n (omega (arith, lt, other)) in
+            let more = length-append (each (commodity_ops t) n) (commodity_ops t n) in
+            omega (arith, before, more)
+      ]
+
+  -- how many steps there are
+  pub length_ops : length (ops_of t) ≡ first_step t (length t.commodities) + (2 + 2 * length t.commodities + length (inters_of t))
+  length_ops =
+      let n = length t.commodities in
+      let m = length (inters_of t) in
+      let adds = length_singles (λ c. op.TotalAdd c ∷ []) (λ c. refl) n in
+      let total = length-append (op.TotalStart ∷ []) (each (λ c. op.TotalAdd c ∷ []) n) in
+      let front = length-append (each (commodity_ops t) n) (inter_ops n m) in
+      let all = length-append (each (commodity_ops t) n ++ inter_ops n m) (total_ops n) in
+      omega (arith, adds, total, front, all, length_inter)

@@ -1,3 +1,5 @@
 pub mod Meanings
 pub mod Taken
 pub mod LayoutLemmas
+pub mod FromPlan
+pub mod Wiring

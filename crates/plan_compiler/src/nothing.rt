@@ -30,7 +30,6 @@ pub struct NothingHeld {
 }
 
 impl Model for NothingHeld {
-    ghost use Rattle.std.specs.Prelude.{Unit};
     ghost use Rattle.std.specs.Arc.{arc_value};
     ghost use Rattle.plan_compiler.specs.steps.Nothing.{AreNothing};
 

@@ -1,0 +1,130 @@
+-- The plan of accepted tables keeps the plan law.
+use Rattle.std.proofs.Common.{◌≡◌, ℕ, zero, suc, ◌+◌, ◌*◌, ◌<◌, ◌≤◌, Bool, true, false, List, [], ◌∷◌, ◌++◌, length, map, Some, slice_get, slice_index, slice_index_or, get_or, refl, sym, ap, subst, ◌∙◌, arith, add-one}
+use Rattle.std.specs.Prelude.{All, ◌==◌}
+use Rattle.std.specs.List.{AllByRecursion}
+use Rattle.std.proofs.lemmas.Bool.{ne_eqb}
+use Rattle.std.proofs.lemmas.List.{get_or-map, length-append, length-map}
+use Rattle.std.proofs.lemmas.List.Elements.{All-append, All-cons, All-from_get_or, All-from_recursion, All-map, All-nil}
+use Rattle.std.proofs.lemmas.Option.{get_or_from_slice_get, slice_get_within}
+use Rattle.span_tables.specs.Accepted.{IsWithinLimits, commodity_id}
+use Rattle.span_tables.specs.Names.{has_repeat}
+use Rattle.span_tables.specs.Tables.{AcceptedTables, inters_of}
+use Rattle.span_tables.specs.declared.portfolios.Holding.{Holding}
+use Rattle.plan_ir.specs.Apply.{IsOp}
+use Rattle.plan_ir.specs.Figures.{intras_at}
+use Rattle.plan_ir.specs.Plans.{AreInputs, StepView, inputs_at, no_step, op_at, ops_in, steps_with}
+use Rattle.plan_ir.specs.declared.ops.Op.{Op}
+use Rattle.plan_ir.specs.declared.ops.Op.TheVariants as op
+use Rattle.plan_ir.specs.declared.plans.TheConstants.{MAX_INPUTS, MAX_STEPS}
+use Rattle.plan_ir.proofs.UserLemmas.{as_many_steps, inputs_are, op_is}
+use Rattle.plan_compiler.specs.Compiled.{Fits, IsCompiled, IsFirstInput, step_meaning}
+use Rattle.plan_compiler.specs.Meaning.{before_inter, before_load, before_spread, before_total, last_inter, last_tiers, last_total, meaning, rank_of, wanted}
+use Rattle.plan_compiler.specs.Plan.{IsPlanOf, Names, commodity_ops, each, final_ops, first_ops, inter_ops, ops_of, spread_ops, total_ops}
+use Rattle.plan_compiler.specs.steps.Layout.{first_step, inputs_of, inter_step, load_step, place_of, tiers_step, total_step}
+use Rattle.plan_compiler.proofs.LayoutLemmas.{first_small, length_inter, length_singles, place_stands}
+use Rattle.plan_compiler.proofs.Meanings.{gives_meaning}
+use Rattle.plan_compiler.proofs.Taken.{takes_meanings}
+
+-- ---- every operation of the plan is one of the tables, and so is each that it wants
+
+each_all : (P : Op → Type 0) (f : ℕ → List Op) (n : ℕ) → ((c : ℕ) → c < n → All P (f c)) → All P (each f n)
+each_all P f zero h = All-nil P
+each_all P f (suc n) h = All-append P (each f n) (f n) (each_all P f n (λ c lt. h c (omega (arith, lt)))) (h n (omega arith))
+
+one : (P : Op → Type 0) (o : Op) → P o → All P (o ∷ [])
+one P o h = All-cons P o [] h (All-nil P)
+
+module _ (t : AcceptedTables) where
+  known_commodity : (c : ℕ) → c < length t.commodities → All (IsOp t) (commodity_ops t c)
+  known_commodity c lt =
+      let n = length (intras_at t c) in
+      All-append (IsOp t) (first_ops c ++ spread_ops c n) (final_ops c)
+      (All-append (IsOp t) (first_ops c) (spread_ops c n)
+      (All-from_recursion (IsOp t) (first_ops c) (lt, (lt, (lt, (lt, (lt, tt))))))
+      (each_all (IsOp t) (λ j. op.Spread c j ∷ []) n (λ j below. one (IsOp t) (op.Spread c j) (lt, below))))
+      (All-from_recursion (IsOp t) (final_ops c) (lt, (lt, (lt, tt))))
+
+  pub known_ops : All (IsOp t) (ops_of t)
+  known_ops =
+      let n = length t.commodities in
+      let m = length (inters_of t) in
+      All-append (IsOp t) (each (commodity_ops t) n ++ inter_ops n m) (total_ops n)
+      (All-append (IsOp t) (each (commodity_ops t) n) (inter_ops n m)
+      (each_all (IsOp t) (commodity_ops t) n known_commodity)
+      (All-append (IsOp t) (op.InterStart ∷ [] ++ each (λ c. op.InterLoad c ∷ []) n) (each (λ j. op.InterSpread j ∷ []) m)
+      (All-append (IsOp t) (op.InterStart ∷ []) (each (λ c. op.InterLoad c ∷ []) n) (one (IsOp t) op.InterStart tt)
+      (each_all (IsOp t) (λ c. op.InterLoad c ∷ []) n (λ c lt. one (IsOp t) (op.InterLoad c) lt)))
+      (each_all (IsOp t) (λ j. op.InterSpread j ∷ []) m (λ j lt. one (IsOp t) (op.InterSpread j) lt))))
+      (All-append (IsOp t) (op.TotalStart ∷ []) (each (λ c. op.TotalAdd c ∷ []) n) (one (IsOp t) op.TotalStart tt)
+      (each_all (IsOp t) (λ c. op.TotalAdd c ∷ []) n (λ c lt. one (IsOp t) (op.TotalAdd c) lt)))
+
+  known_before_spread : (c j : ℕ) → c < length t.commodities → j ≤ length (intras_at t c) → IsOp t (before_spread c j)
+  known_before_spread c zero lt le = lt
+  known_before_spread c (suc j) lt le = (lt, omega (arith, le))
+
+  known_before_load : (c : ℕ) → c ≤ length t.commodities → IsOp t (before_load c)
+  known_before_load zero le = tt
+  known_before_load (suc c) le = omega (arith, le)
+
+  known_before_inter : (j : ℕ) → j ≤ length (inters_of t) → IsOp t (before_inter t j)
+  known_before_inter zero le = known_before_load (length t.commodities) (omega arith)
+  known_before_inter (suc j) le = omega (arith, le)
+
+  known_before_total : (c : ℕ) → c ≤ length t.commodities → IsOp t (before_total c)
+  known_before_total zero le = tt
+  known_before_total (suc c) le = omega (arith, le)
+
+  known_wanted : (o : Op) → IsOp t o → AllByRecursion (IsOp t) (wanted t o)
+  known_wanted (op.Gather c) known = tt
+  known_wanted (op.Sums c) known = (known, tt)
+  known_wanted (op.ScanMax c) known = (known, tt)
+  known_wanted (op.Months c) known = (known, tt)
+  known_wanted (op.TierStart c) known = (known, tt)
+  known_wanted (op.Spread c j) known = (known_before_spread c j known.0 (omega (arith, known.1)), tt)
+  known_wanted (op.Delivery c) known = (known, (known_before_spread c (length (intras_at t c)) known (omega arith), tt))
+  known_wanted (op.Minimum c) known = (known, tt)
+  known_wanted (op.Final c) known =
+      (known, (known_before_spread c (length (intras_at t c)) known (omega arith), (known, (known, (known_before_inter (length (inters_of t)) (omega arith), tt)))))
+  known_wanted op.InterStart known = tt
+  known_wanted (op.InterLoad c) known = (known_before_load c (omega (arith, known)), (known, (known, tt)))
+  known_wanted (op.InterSpread j) known = (known_before_inter j (omega (arith, known)), tt)
+  known_wanted op.TotalStart known = tt
+  known_wanted (op.TotalAdd c) known = (known_before_total c (omega (arith, known)), (known, tt))
+
+  -- ---- the inputs of a step are the places of what its operation wants
+
+  named : (os : List Op) → AllByRecursion (IsOp t) os → Names (ops_of t) (map (place_of t) os) os
+  named [] known = refl
+  named (o ∷ os) (here, rest) =
+      ap (λ x. x ∷ map (slice_get (ops_of t)) (map (place_of t) os)) (place_stands t o here)
+      ∙ ap (λ xs. Some o ∷ xs) (named os rest)
+
+  pub wired : (o : Op) → IsOp t o → Names (ops_of t) (inputs_of t o) (wanted t o)
+  wired o known = named (wanted t o) (known_wanted o known)
+
+  places_within : (os : List Op) → AllByRecursion (IsOp t) os → All (λ i. i < length (ops_of t)) (map (place_of t) os)
+  places_within [] known = All-nil (λ i. i < length (ops_of t))
+  places_within (o ∷ os) (here, rest) =
+      All-cons (λ i. i < length (ops_of t)) (place_of t o) (map (place_of t) os)
+      (slice_get_within (ops_of t) (place_of t o) o (place_stands t o here)) (places_within os rest)
+
+  pub inputs_within : (o : Op) → IsOp t o → All (λ i. i < length (ops_of t)) (inputs_of t o)
+  inputs_within o known = places_within (wanted t o) (known_wanted o known)
+
+  -- ---- where the states before operations stand
+
+  pub place-before_spread : (c j : ℕ) → place_of t (before_spread c j) ≡ tiers_step t c j
+  place-before_spread c zero = refl
+  place-before_spread c (suc j) = rw add-one refl
+
+  pub place-before_load : (c : ℕ) → place_of t (before_load c) ≡ load_step t c
+  place-before_load zero = refl
+  place-before_load (suc c) = rw add-one refl
+
+  pub place-before_inter : (j : ℕ) → place_of t (before_inter t j) ≡ inter_step t j
+  place-before_inter zero = place-before_load (length t.commodities) ∙ (let same : load_step t (length t.commodities) ≡ inter_step t 0 = omega arith in same)
+  place-before_inter (suc j) = rw add-one refl
+
+  pub place-before_total : (c : ℕ) → place_of t (before_total c) ≡ total_step t c
+  place-before_total zero = refl
+  place-before_total (suc c) = let same : total_step t (c + 1) ≡ total_step t (suc c) = omega arith in same
