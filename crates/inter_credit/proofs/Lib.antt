@@ -7,3 +7,4 @@ pub mod SpreadLemmas
 pub mod LineLemmas
 mod NothingFormed
 pub mod OpenLemmas
+pub mod BoundLaws

@@ -1,2 +1,3 @@
 pub mod ScanLaws
 pub mod SumLemmas
+pub mod BoundLaws

@@ -23,3 +23,4 @@ pub mod SampleLaws
 pub mod NameLemmas
 pub mod NumberedLaws
 pub mod GatherLemmas
+pub mod BoundLaws

@@ -9,3 +9,4 @@ pub mod SpreadLemmas
 pub mod FallLemmas
 pub mod ClosedLemmas
 pub mod ApartLaws
+pub mod BoundLaws

@@ -1,0 +1,202 @@
+-- The sizes of minimums, of credits and of requirements, and that lines stay within their ranges.
+use Rattle.std.proofs.Common.{◌≡◌, ◌≢◌, ℕ, zero, suc, ◌+◌, ◌-◌, ◌*◌, ◌^◌, ◌<◌, ◌≤◌, ◌==◌}
+use Rattle.std.proofs.Common.{Bool, true, false, cond, List, [], ◌∷◌, length, filter, fold, sum_by, nat_abs}
+use Rattle.std.proofs.Common.{ℤ, pos, negsuc, ◌+ℤ◌, ◌-ℤ◌, refl, ap, ◌∙◌, arith}
+use Rattle.std.specs.Prelude.{All}
+use Rattle.std.proofs.Math.Nat.{lt_of_mul-lt-mul_right, mul-le-mul, mul-le-mul_right}
+use Rattle.std.proofs.lemmas.Bool.Decides.{nat_tests}
+use Rattle.std.proofs.lemmas.List.Elements.{All-head, All-tail}
+use Rattle.std.proofs.lemmas.List.Sums.{sum_by-cons}
+use Rattle.span_money.specs.Numbers.{negative_part, positive_part}
+use Rattle.span_tables.specs.Accepted.{IsInter}
+use Rattle.span_tables.specs.Holdings.{AreHeld}
+use Rattle.span_tables.specs.Net.{HeldContract}
+use Rattle.span_tables.specs.Sides.{IsLeftOf}
+use Rattle.span_tables.specs.declared.limits.TheConstants.{MAX_BASIS_POINTS, MAX_HELD, MAX_NET, MAX_PRICE2, MAX_RATE, MAX_UNITS}
+use Rattle.span_tables.specs.declared.records.Inter.{Inter}
+use Rattle.span_tables.specs.declared.records.MinimumMethod.{MinimumMethod}
+use Rattle.span_tables.specs.declared.records.MinimumMethod.TheVariants as method
+use Rattle.span_tables.specs.declared.records.ProductKind.{ProductKind}
+use Rattle.span_tables.specs.declared.records.ProductKind.TheVariants as product
+use Rattle.inter_credit.specs.Credits.{after_inter_spreads, credit_of, inter_both_ways, unspread_line}
+use Rattle.inter_credit.specs.Requirement.{is_call, is_put, minimum_of, requirement_of, short_count, short_options}
+use Rattle.inter_credit.specs.States.{IsLine, UsesLine, credit_at, line_at}
+use Rattle.inter_credit.specs.declared.state.InterLine.{InterLine}
+use Rattle.inter_credit.proofs.CreditLaws.{credit_greatest, credit_zero}
+use Rattle.inter_credit.proofs.OpenLemmas.{loaded_line}
+use Rattle.inter_credit.proofs.RestLaws.{both_ways_use, length-inter_both_ways}
+use Rattle.inter_credit.proofs.Sizes.{size-add, size-int_max, size-sub}
+
+-- ---- the short option minimum
+
+short_if : (b : Bool) (h : HeldContract) (hs : List HeldContract)
+    → sum_by (λ x. negative_part x.net) (cond b (h ∷ hs) hs)
+    ≡ cond b (negative_part h.net) 0 + sum_by (λ x. negative_part x.net) hs
+short_if true h hs = sum_by-cons (λ (x : HeldContract). negative_part x.net) h hs
+short_if false h hs = omega arith
+
+-- a contract is a call, a put or neither
+short_part : (kind : ProductKind) (n : ℕ) → cond (is_call kind) n 0 + cond (is_put kind) n 0 ≤ n
+short_part product.Future n = omega arith
+short_part product.Call n = omega arith
+short_part product.Put n = omega arith
+
+negative_part-le : (z : ℤ) → negative_part z ≤ nat_abs z
+negative_part-le (pos n) = omega arith
+negative_part-le (negsuc n) = omega arith
+
+-- short calls and short puts together
+shorts_small : (held : List HeldContract) (m : ℕ) → All (λ h. nat_abs h.net ≤ m) held
+    → short_count is_call held + short_count is_put held ≤ length held * m
+shorts_small [] m all = omega arith
+shorts_small (h ∷ hs) m all =
+    let calls = short_if (is_call h.contract.kind) h (filter (λ x. is_call x.contract.kind) hs) in
+    let puts = short_if (is_put h.contract.kind) h (filter (λ x. is_put x.contract.kind) hs) in
+    let part = short_part h.contract.kind (negative_part h.net) in
+    let size = negative_part-le h.net in
+    let first : nat_abs h.net ≤ m = All-head (λ x. nat_abs x.net ≤ m) h hs all in
+    let rest = shorts_small hs m (All-tail (λ x. nat_abs x.net ≤ m) h hs all) in
+    omega (arith, calls, puts, part, size, first, rest)
+
+options_small : (m : MinimumMethod) (held : List HeldContract) → AreHeld held → short_options m held ≤ MAX_HELD * MAX_NET
+options_small method.Sum held are =
+    let all = shorts_small held MAX_NET are.nets in
+    let few : length held * MAX_NET ≤ MAX_HELD * MAX_NET = mul-le-mul_right MAX_NET are.few in
+    omega (arith, all, few)
+options_small method.Max held are =
+    let all = shorts_small held MAX_NET are.nets in
+    let few : length held * MAX_NET ≤ MAX_HELD * MAX_NET = mul-le-mul_right MAX_NET are.few in
+    omega (arith, all, few)
+
+pub minimum_small : (rate : ℕ) (m : MinimumMethod) (held : List HeldContract) → rate ≤ MAX_RATE → AreHeld held
+    → minimum_of rate m held ≤ MAX_RATE * (MAX_HELD * MAX_NET)
+unfolding minimum_of
+minimum_small rate m held small are = mul-le-mul small (options_small m held are)
+
+-- ---- the requirement
+
+pub requirement_small : (scan intra delivery credit minimum : ℤ) → nat_abs (requirement_of scan intra delivery credit minimum)
+    ≤ nat_abs scan + nat_abs intra + nat_abs delivery + nat_abs credit + nat_abs minimum
+unfolding requirement_of
+requirement_small scan intra delivery credit minimum =
+    let one = size-add scan intra in
+    let two = size-add (scan +ℤ intra) delivery in
+    let three = size-sub ((scan +ℤ intra) +ℤ delivery) credit in
+    let larger = size-int_max (((scan +ℤ intra) +ℤ delivery) -ℤ credit) minimum in
+    omega (arith, one, two, three, larger)
+
+-- ---- lines
+
+-- the line of a commodity before any spread
+pub unspread_is_line : (net : ℤ) (price2 : ℕ) → nat_abs net ≤ MAX_UNITS → price2 ≤ MAX_PRICE2
+    → IsLine (unspread_line net price2)
+unspread_is_line = loaded_line
+
+parts_size : (z : ℤ) → nat_abs z ≡ positive_part z + negative_part z
+parts_size (pos n) = omega arith
+parts_size (negsuc n) = omega arith
+
+-- what is left is not larger
+left_size : (a b : ℤ) → IsLeftOf a b → nat_abs b ≤ nat_abs a
+left_size a b left = omega (arith, parts_size a, parts_size b, left.long, left.short)
+
+split : (b d n : ℕ) → (b + d) * n ≡ b * n + d * n
+split b d n = omega arith
+
+-- a use at fewer basis points than a whole keeps the weight below what was used
+weight_stays : (bp whole before after weight weight_after most : ℕ) → bp ≤ whole → after ≤ before
+    → weight_after + bp * after ≡ weight + bp * before → weight + whole * before ≤ most → weight_after + whole * after ≤ most
+weight_stays bp whole before after weight weight_after most le less same small =
+    let all : bp + (whole - bp) ≡ whole = omega (arith, le) in
+    let was : (bp + (whole - bp)) * before ≡ whole * before = ap (λ n. n * before) all in
+    let is : (bp + (whole - bp)) * after ≡ whole * after = ap (λ n. n * after) all in
+    let fewer : (whole - bp) * after ≤ (whole - bp) * before = mul-le-mul (omega arith) less in
+    let s = split bp (whole - bp) before in
+    let t = split bp (whole - bp) after in
+    omega (arith, was, is, fewer, s, t, same, small)
+
+-- a line of which units were used is one
+line_stays : (basis_points : ℕ) (before after : InterLine) → basis_points ≤ MAX_BASIS_POINTS → UsesLine basis_points before after
+    → IsLine before → IsLine after
+line_stays bp before after small uses is = record {
+  net = rw uses.net is.net;
+  price2 = rw uses.price2 is.price2;
+  rest = record {
+    long = rw uses.net (omega (arith, uses.rest.long, is.rest.long));
+    short = rw uses.net (omega (arith, uses.rest.short, is.rest.short));
+  };
+  weight = rw uses.net (weight_stays bp MAX_BASIS_POINTS (nat_abs before.rest) (nat_abs after.rest) before.weight after.weight
+      (MAX_BASIS_POINTS * nat_abs before.net) small (left_size before.rest after.rest uses.rest) uses.weight is.weight);
+}
+
+-- each commodity's line is one, also of a number that no commodity has
+each_line : (lines : List InterLine) → All IsLine lines → (k : ℕ) → IsLine (line_at lines k)
+each_line [] all k = loaded_line (pos 0) 0 (omega arith) (omega arith)
+each_line (line ∷ lines) all zero = All-head IsLine line lines all
+each_line (line ∷ lines) all (suc k) = each_line lines (All-tail IsLine line lines all) k
+
+all_lines : (lines : List InterLine) → ((k : ℕ) → IsLine (line_at lines k)) → All IsLine lines
+all_lines [] each k d lt = absurd (omega (arith, lt))
+all_lines (line ∷ lines) each zero d lt = each zero
+all_lines (line ∷ lines) each (suc k) d lt = all_lines lines (λ i. each (suc i)) k d (omega (arith, lt))
+
+-- after a spread in both directions
+pub both_ways_lines : (s : Inter) (lines : List InterLine) → All IsLine lines → IsInter (length lines) s
+    → All IsLine (inter_both_ways lines s)
+both_ways_lines s lines all is =
+    all_lines (inter_both_ways lines s)
+    (λ k. line_stays s.basis_points (line_at lines k) (line_at (inter_both_ways lines s) k) is.basis_points
+    (both_ways_use lines s is k) (each_line lines all k))
+
+fold_stays : (spreads : List Inter) (n : ℕ) (lines : List InterLine) → length lines ≡ n → All IsLine lines
+    → All (IsInter n) spreads → All IsLine (fold inter_both_ways lines spreads)
+fold_stays [] n lines long all are = all
+fold_stays (s ∷ spreads) n lines long all are =
+    let is : IsInter n s = All-head (IsInter n) s spreads are in
+    fold_stays spreads n (inter_both_ways lines s) (length-inter_both_ways lines s ∙ long)
+    (both_ways_lines s lines all (rw long is)) (All-tail (IsInter n) s spreads are)
+
+-- after all spreads
+pub lines_stay : (spreads : List Inter) (lines : List InterLine) → All IsLine lines → All (IsInter (length lines)) spreads
+    → All IsLine (after_inter_spreads spreads lines)
+unfolding after_inter_spreads
+lines_stay spreads lines all are = fold_stays spreads (length lines) lines refl all are
+
+-- and there are as many commodities as before
+pub length-after_inter_spreads : (spreads : List Inter) (lines : List InterLine)
+    → length (after_inter_spreads spreads lines) ≡ length lines
+unfolding after_inter_spreads
+length-after_inter_spreads [] lines = refl
+length-after_inter_spreads (s ∷ spreads) lines =
+    length-after_inter_spreads spreads (inter_both_ways lines s) ∙ length-inter_both_ways lines s
+
+-- ---- the credit
+
+-- twice a quotient by twice the divisor
+half : (g n price2 weight : ℕ) → n ≢ 0 → g * (2 * 10 ^ 4 * n) ≤ price2 * weight → weight ≤ 10 ^ 4 * n → 2 * g ≤ price2
+half g n price2 weight some below small =
+    let unit = 10 ^ 4 * n in
+    let more : price2 * weight ≤ price2 * unit = mul-le-mul (omega arith) small in
+    let twice : 2 * g * unit ≡ g * (2 * 10 ^ 4 * n) = omega arith in
+    let next : (price2 + 1) * unit ≡ price2 * unit + unit = omega arith in
+    let above : 0 < unit = omega (arith, some) in
+    let lt : 2 * g * unit < (price2 + 1) * unit = omega (arith, below, more, twice, next, above) in
+    let less : 2 * g < price2 + 1 = lt_of_mul-lt-mul_right unit lt in
+    omega (arith, less)
+
+credit_if : (b : Bool) (line : InterLine) → (nat_abs line.net == 0) ≡ b → IsLine line → 2 * credit_of line ≤ line.price2
+credit_if true line e is =
+    let none = credit_zero line (grind (arith, nat_tests, e)) in
+    omega (arith, none)
+credit_if false line e is =
+    let some : nat_abs line.net ≢ 0 = grind (arith, nat_tests, e) in
+    let weight : line.weight ≤ 10 ^ 4 * nat_abs line.net = omega (arith, is.weight) in
+    half (credit_of line) (nat_abs line.net) line.price2 line.weight some (credit_greatest line some).0 weight
+
+-- the credit of a commodity
+pub credit_small : (lines : List InterLine) (c : ℕ) → All IsLine lines → 2 * credit_at lines c ≤ MAX_PRICE2
+credit_small [] c all = omega arith
+credit_small (line ∷ lines) zero all =
+    let is : IsLine line = All-head IsLine line lines all in
+    omega (arith, credit_if (nat_abs line.net == 0) line refl is, is.price2)
+credit_small (line ∷ lines) (suc c) all = credit_small lines c (All-tail IsLine line lines all)
