@@ -70,11 +70,11 @@ module _ (t : AcceptedTables) where
   known_before_inter zero le = known_before_load (length t.commodities) (omega arith)
   known_before_inter (suc j) le = omega (arith, le)
 
-  known_before_total : (c : ℕ) → c ≤ length t.commodities → IsOp t (before_total c)
+  pub known_before_total : (c : ℕ) → c ≤ length t.commodities → IsOp t (before_total c)
   known_before_total zero le = tt
   known_before_total (suc c) le = omega (arith, le)
 
-  known_wanted : (o : Op) → IsOp t o → AllByRecursion (IsOp t) (wanted t o)
+  pub known_wanted : (o : Op) → IsOp t o → AllByRecursion (IsOp t) (wanted t o)
   known_wanted (op.Gather c) known = tt
   known_wanted (op.Sums c) known = (known, tt)
   known_wanted (op.ScanMax c) known = (known, tt)

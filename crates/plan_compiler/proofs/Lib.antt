@@ -3,3 +3,4 @@ pub mod Taken
 pub mod LayoutLemmas
 pub mod FromPlan
 pub mod Wiring
+pub mod PlanLaw

@@ -10,7 +10,11 @@ use Rattle.span_tables.specs.declared.limits.TheConstants.{MAX_PRICE2, MAX_SUM}
 use Rattle.span_tables.specs.declared.portfolios.Holding.{Holding}
 use Rattle.scan_risk.specs.Scenarios.{scan_of, scenario_sums}
 use Rattle.spread_stage.proofs.FallLemmas.{spreads_shrink}
-use Rattle.inter_credit.proofs.RestLaws.{length-inter_both_ways}
+use Rattle.inter_credit.proofs.BoundLaws.{length-after_inter_spreads}
+use Rattle.inter_credit.proofs.BoundLaws as credit
+use Rattle.scan_risk.proofs.BoundLaws as scan
+use Rattle.span_tables.proofs.BoundLaws.{are_held_of}
+use Rattle.spread_stage.proofs.BoundLaws as spread
 use Rattle.inter_credit.specs.Credits.{after_inter_spreads, inter_both_ways, unspread_line}
 use Rattle.inter_credit.specs.declared.state.InterLine.{InterLine}
 use Rattle.span_tables.specs.declared.records.Inter.{Inter}
@@ -20,17 +24,11 @@ use Rattle.std.proofs.lemmas.List.FromFn.{length-map-range_with_len}
 use Rattle.inter_credit.specs.States.{IsNotLoaded, IsUnspread, IsUnspreadLine}
 use Rattle.inter_credit.specs.declared.requirement.TheConstants.{MAX_PART}
 use Rattle.plan_ir.specs.Apply.{IsOp, Takes}
-use Rattle.plan_ir.specs.Figures.{deltas_at, delivery_at, figures_of, held_at, inter_lines, intras_at, line_of, loaded_lines, minimum_at, scan_at, total_to}
+use Rattle.plan_ir.specs.Figures.{commodity_at, no_commodity, spots_at, tiers_at, deltas_at, delivery_at, figures_of, held_at, inter_lines, intras_at, line_of, loaded_lines, minimum_at, scan_at, total_to}
 use Rattle.plan_ir.specs.declared.ops.Op.{Op}
 use Rattle.plan_ir.specs.declared.ops.Op.TheVariants as op
 use Rattle.plan_compiler.specs.Meaning.{lines_after, lines_loaded, meaning, wanted}
 use Rattle.plan_compiler.proofs.Meanings.{all_lines, meaning-before_inter, meaning-before_load, meaning-before_spread, meaning-before_total, meaning-last_inter, meaning-last_tiers, total_more}
-
--- as many commodities after spreads as before
-length_after : (spreads : List Inter) (lines : List InterLine) → length (after_inter_spreads spreads lines) ≡ length lines
-unfolding after_inter_spreads
-length_after [] lines = refl
-length_after (s ∷ spreads) lines = length_after spreads (inter_both_ways lines s) ∙ length-inter_both_ways lines s
 
 -- the element behind a front
 at_seam : {A : Type 0} (xs : List A) (x : A) (ys : List A) → slice_get (xs ++ x ∷ ys) (length xs) ≡ Some x
@@ -39,20 +37,31 @@ at_seam (y ∷ xs) x ys = at_seam xs x ys
 
 module _ (t : AcceptedTables) (holdings : List Holding) (limits : IsWithinLimits t) (portfolio : ArePortfolio holdings)
     (known : fits (length t.contracts) holdings ≡ true) where
+  held : (c : ℕ) → AreHeld (held_at t holdings c)
+  held c = are_held_of t holdings (commodity_id t c) limits portfolio known
+
   sums_small : (c : ℕ) → All (λ s. nat_abs s ≤ MAX_SUM) (scenario_sums (held_at t holdings c))
-  sums_small c = ?
+  sums_small c = scan.sums_small (held_at t holdings c) (held c)
 
   risk_small : (c : ℕ) → nat_abs (scan_at t holdings c).risk ≤ MAX_PART
-  risk_small c = ?
+  risk_small c = let small = scan.risk_small (scenario_sums (held_at t holdings c)) (sums_small c) in omega (arith, small)
 
   price2_small : (c : ℕ) → (scan_at t holdings c).price2 ≤ MAX_PRICE2
-  price2_small c = ?
+  price2_small c = scan.price2_small (scenario_sums (held_at t holdings c)) (sums_small c)
 
   delivery_small : (c : ℕ) → nat_abs (pos (delivery_at t holdings c)) ≤ MAX_PART
-  delivery_small c = ?
+  delivery_small c =
+      let spots = limits.few_spots (commodity_id t c) in
+      let small = spread.delivery_small (deltas_at t holdings c) (tiers_at t holdings c).rests (spots_at t c)
+      (spread.months_are (held_at t holdings c) (held c)) (spreads_shrink (intras_at t c) (deltas_at t holdings c))
+      spots (limits.spots_in_range (commodity_id t c)) in
+      omega (arith, small)
 
   minimum_small : (c : ℕ) → c < length t.commodities → nat_abs (pos (minimum_at t holdings c)) ≤ MAX_PART
-  minimum_small c lt = ?
+  minimum_small c lt =
+      let small = credit.minimum_small (commodity_at t c).minimum_rate (commodity_at t c).method (held_at t holdings c)
+      (limits.minimum_rates c no_commodity lt) (held c) in
+      omega (arith, small)
 
   total_small : (c : ℕ) → c < length t.commodities → nat_abs (total_to t holdings (c + 1)) ≤ MAX_MONEY
   total_small c lt = ?
@@ -63,7 +72,7 @@ module _ (t : AcceptedTables) (holdings : List Holding) (limits : IsWithinLimits
   length_loaded = length-map-range_with_len (line_of t holdings) 0 (length t.commodities)
 
   length_lines : (j : ℕ) → length (lines_after t holdings j) ≡ length t.commodities
-  length_lines j = length_after (take j (inters_of t)) (loaded_lines t holdings) ∙ length_loaded
+  length_lines j = length-after_inter_spreads (take j (inters_of t)) (loaded_lines t holdings) ∙ length_loaded
 
   length_partly : (c : ℕ) → c ≤ length t.commodities → length (lines_loaded t holdings c) ≡ length t.commodities
   length_partly c le =

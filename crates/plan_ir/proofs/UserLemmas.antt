@@ -8,7 +8,7 @@ use Rattle.std.proofs.lemmas.List.FromFn.{get_or-map-range_with_len, length-rang
 use Rattle.std.proofs.lemmas.List.Elements.{All-tail}
 use Rattle.std.proofs.lemmas.Bool.{cases_eq, eq-eqb, ne_eqb, or_parts}
 use Rattle.span_tables.specs.Names.{has_repeat}
-use Rattle.plan_ir.specs.Plans.{is_among, places_from, steps_with, step_at, inputs_in, op_at, inputs_at}
+use Rattle.plan_ir.specs.Plans.{is_among, places_from, steps_with, step_at, inputs_in, op_at, inputs_at, ops_in}
 use Rattle.plan_ir.specs.declared.ops.Op.{Op}
 use Rattle.plan_ir.specs.steps.Noting.{noted, places_of_all}
 
@@ -32,6 +32,11 @@ all_inputs [] [] e = refl
 all_inputs [] (x ∷ lists) e = let no : ⊥ = omega (arith, e) in elim no [ ]
 all_inputs (o ∷ ops) [] e = let no : ⊥ = omega (arith, e) in elim no [ ]
 all_inputs (o ∷ ops) (x ∷ lists) e = ap (λ xs. x ∷ xs) (all_inputs ops lists (omega (arith, e)))
+
+pub all_ops : (ops : List Op) (lists : List (List ℕ)) → length lists ≡ length ops → ops_in (steps_with ops lists) ≡ ops
+all_ops [] lists e = refl
+all_ops (o ∷ ops) [] e = let no : ⊥ = omega (arith, e) in elim no [ ]
+all_ops (o ∷ ops) (x ∷ lists) e = ap (λ os. o ∷ os) (all_ops ops lists (omega (arith, e)))
 
 pub as_many_steps : (ops : List Op) (lists : List (List ℕ)) → length lists ≡ length ops → length (steps_with ops lists) ≡ length ops
 as_many_steps [] lists e = refl

@@ -24,9 +24,13 @@ use Rattle.plan_ir.specs.declared.figures.Figures.{Figures}
 
 -- ---- what the tables have for the commodity of a number
 
+-- a commodity for a number past the end
+abbrev pub no_commodity : Commodity
+no_commodity = record { id = []; minimum_rate = 0; method = method.Sum }
+
 -- its record
 abbrev pub commodity_at : AcceptedTables → ℕ → Commodity
-commodity_at t c = slice_index_or t.commodities c (record { id = []; minimum_rate = 0; method = method.Sum })
+commodity_at t c = slice_index_or t.commodities c no_commodity
 
 -- its spreads, by rising priority
 abbrev pub intras_at : AcceptedTables → ℕ → List Intra

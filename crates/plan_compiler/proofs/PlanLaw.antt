@@ -1,0 +1,167 @@
+-- A plan of a set's operations, each with the places of what it wants, keeps the plan law.
+use Rattle.std.proofs.Common.{◌≡◌, ℕ, ◌+◌, ◌<◌, ◌≤◌, true, false, List, [], ◌∷◌, length, map, Some, slice_get, slice_index, slice_index_or, refl, sym, ap, subst, ◌∙◌, arith}
+use Rattle.std.specs.Prelude.{All, ◌==◌}
+use Rattle.std.specs.List.{AllByRecursion}
+use Rattle.std.proofs.lemmas.List.{get_or-map, length-map}
+use Rattle.std.proofs.lemmas.List.Elements.{All-cons, All-map, All-nil, recursion_from_All}
+use Rattle.std.proofs.lemmas.Option.{get_or_from_slice_get, slice_get_within}
+use Rattle.span_tables.specs.Accepted.{IsWithinLimits}
+use Rattle.span_tables.specs.Names.{has_repeat}
+use Rattle.span_tables.specs.Tables.{AcceptedTables, inters_of}
+use Rattle.span_tables.specs.declared.portfolios.Holding.{Holding}
+use Rattle.plan_ir.specs.Apply.{IsOp, Takes, value_on}
+use Rattle.plan_ir.specs.Figures.{intras_at}
+use Rattle.plan_ir.specs.Plans.{AreInputs, StepView, inputs_at, no_step, op_at, ops_in, steps_with}
+use Rattle.plan_ir.specs.declared.ops.Op.{Op}
+use Rattle.plan_ir.specs.declared.ops.Op.TheVariants as op
+use Rattle.plan_ir.specs.declared.plans.TheConstants.{MAX_INPUTS}
+use Rattle.plan_ir.specs.declared.values.Value.{Value}
+use Rattle.plan_ir.proofs.UserLemmas.{all_ops, as_many_steps, inputs_are, op_is}
+use Rattle.plan_compiler.specs.Compiled.{Fits, IsCompiled, IsFirstInput, SetView, input_meanings, step_meaning}
+use Rattle.plan_compiler.specs.Meaning.{before_total, last_total, meaning, rank_of, wanted}
+use Rattle.plan_compiler.specs.Plan.{IsPlanOf, Names, ops_of}
+use Rattle.plan_compiler.specs.steps.Layout.{AreFirsts, inputs_of, place_of, tiers_step, total_step}
+use Rattle.plan_compiler.specs.steps.Sets.{IsSet}
+use Rattle.plan_compiler.proofs.FromPlan.{inputs_within, known_before_total, known_ops, known_wanted, place-before_total, wired}
+use Rattle.plan_compiler.proofs.LayoutLemmas.{place_stands}
+use Rattle.plan_compiler.proofs.Meanings.{gives_meaning}
+use Rattle.plan_compiler.proofs.Taken.{takes_meanings}
+use Rattle.plan_compiler.proofs.Wiring.{apart, few_inputs, few_steps, first_not_final, first_not_total, wanted_lower}
+
+-- the operation at a place
+op_named : (plan : List StepView) (i : ℕ) (o : Op) → slice_get (ops_in plan) i ≡ Some o → op_at plan i ≡ o
+op_named plan i o e =
+    let within : i < length plan = omega (arith, slice_get_within (ops_in plan) i o e, length-map plan (λ (s : StepView). s.op)) in
+    sym (get_or-map (λ (s : StepView). s.op) plan i no_step op.TotalStart within) ∙ get_or_from_slice_get (ops_in plan) i o op.TotalStart e
+
+map_of_map : {A B C : Type 0} (f : B → C) (g : A → B) (xs : List A) → map f (map g xs) ≡ map (λ x. f (g x)) xs
+map_of_map f g [] = refl
+map_of_map f g (x ∷ xs) = ap (λ ys. f (g x) ∷ ys) (map_of_map f g xs)
+
+module _ (t : AcceptedTables) (plan : List StepView) (ops : ops_in plan ≡ ops_of t)
+    (wires : (k : ℕ) → k < length plan → inputs_at plan k ≡ inputs_of t (op_at plan k)) where
+  long : length plan ≡ length (ops_of t)
+  long = sym (length-map plan (λ (s : StepView). s.op)) ∙ ap length ops
+
+  op_known : (k : ℕ) → k < length plan → IsOp t (op_at plan k)
+  op_known k lt =
+      let at : slice_index_or (ops_in plan) k op.TotalStart ≡ op_at plan k = get_or-map (λ (s : StepView). s.op) plan k no_step op.TotalStart lt in
+      subst (IsOp t) (sym (ap (λ os. slice_index_or os k op.TotalStart) ops) ∙ at) (known_ops t k op.TotalStart (omega (arith, lt, long)))
+
+  stands : (o : Op) → IsOp t o → op_at plan (place_of t o) ≡ o
+  stands o known = op_named plan (place_of t o) o (ap (λ os. slice_get os (place_of t o)) ops ∙ place_stands t o known)
+
+  ops_at_places : (os : List Op) → AllByRecursion (IsOp t) os → map (op_at plan) (map (place_of t) os) ≡ os
+  ops_at_places [] known = refl
+  ops_at_places (o ∷ os) (here, rest) =
+      ap (λ x. x ∷ map (op_at plan) (map (place_of t) os)) (stands o here) ∙ ap (λ xs. o ∷ xs) (ops_at_places os rest)
+
+  -- the operations of a step's inputs are what its operation wants
+  input_ops : (k : ℕ) → k < length plan → map (op_at plan) (inputs_at plan k) ≡ wanted t (op_at plan k)
+  input_ops k lt =
+      ap (map (op_at plan)) (wires k lt) ∙ ops_at_places (wanted t (op_at plan k)) (known_wanted t (op_at plan k) (op_known k lt))
+
+  inputs_mean : (holdings : List Holding) (k : ℕ) → k < length plan
+      → map (λ i. meaning t holdings (op_at plan i)) (inputs_at plan k) ≡ map (meaning t holdings) (wanted t (op_at plan k))
+  inputs_mean holdings k lt = sym (map_of_map (meaning t holdings) (op_at plan) (inputs_at plan k)) ∙ ap (map (meaning t holdings)) (input_ops k lt)
+
+  pub is_plan : IsPlanOf t plan
+  is_plan = record {
+    ops = ops;
+    wired = λ k lt. rw (wires k lt, ops) (wired t (op_at plan k) (op_known k lt));
+  }
+
+  lower_inputs : (R : ℕ) (os : List Op) → AllByRecursion (IsOp t) os → AllByRecursion (λ w. rank_of t w < R) os
+      → All (λ i. rank_of t (op_at plan i) < R) (map (place_of t) os)
+  lower_inputs R [] known lower = All-nil (λ i. rank_of t (op_at plan i) < R)
+  lower_inputs R (o ∷ os) (here, rest) (low, lows) =
+      All-cons (λ i. rank_of t (op_at plan i) < R) (place_of t o) (map (place_of t) os)
+      (subst (λ w. rank_of t w < R) (sym (stands o here)) low) (lower_inputs R os rest lows)
+
+  pub compiled : IsWithinLimits t → IsCompiled (record { tables = t; plan = plan })
+  compiled limits = record {
+    few_steps = let few = few_steps t limits in omega (arith, few, long);
+    in_range = λ k lt. rw (wires k lt, long) (inputs_within t (op_at plan k) (op_known k lt));
+    few_inputs = λ k lt. let few = few_inputs t limits (op_at plan k) in
+        omega (arith, few, ap length (wires k lt), length-map (wanted t (op_at plan k)) (place_of t));
+    distinct = λ k lt. rw (wires k lt) (apart t limits (op_at plan k) (op_known k lt));
+    rank = λ k. rank_of t (op_at plan k);
+    lower = λ k lt. rw (wires k lt) (lower_inputs (rank_of t (op_at plan k)) (wanted t (op_at plan k))
+        (known_wanted t (op_at plan k) (op_known k lt))
+        (recursion_from_All (λ w. rank_of t w < rank_of t (op_at plan k)) (wanted t (op_at plan k)) (wanted_lower t limits (op_at plan k))));
+    taken = λ holdings fits k lt. rw (inputs_mean holdings k lt)
+        (takes_meanings t holdings limits fits.portfolio fits.known (op_at plan k) (op_known k lt));
+    gives = λ holdings fits k lt. rw (inputs_mean holdings k lt) (gives_meaning t holdings (op_at plan k) (op_known k lt));
+  }
+
+  -- ---- the places of figures and total
+
+  pub place_within : (o : Op) → IsOp t o → place_of t o < length plan
+  place_within o known = let within = slice_get_within (ops_of t) (place_of t o) o (place_stands t o known) in omega (arith, within, long)
+
+  pub op_at_place : (o : Op) → IsOp t o → op_at plan (place_of t o) ≡ o
+  op_at_place o known = stands o known
+
+  -- what a first input is the first of
+  first_op : (j : ℕ) (f : IsFirstInput plan j) → (0 < length (wanted t (op_at plan f.user))) × (slice_index_or (wanted t (op_at plan f.user)) 0 op.TotalStart ≡ op_at plan j)
+  first_op j f =
+      let os = input_ops f.user f.in_range in
+      let numbers = inputs_at plan f.user in
+      let some : 0 < length numbers = f.some in
+      let at : op_at plan (slice_index_or numbers 0 0) ≡ slice_index_or (wanted t (op_at plan f.user)) 0 op.TotalStart =
+      sym (get_or-map (op_at plan) numbers 0 0 op.TotalStart some) ∙ ap (λ xs. slice_index_or xs 0 op.TotalStart) os in
+      (omega (arith, ap length os, length-map numbers (op_at plan), some), sym at ∙ ap (op_at plan) f.is)
+
+  pub final_stays : (c : ℕ) → c < length t.commodities → IsFirstInput plan (place_of t (op.Final c)) → ⊥
+  final_stays c lt f =
+      let first = first_op (place_of t (op.Final c)) f in
+      first_not_final t (op_at plan f.user) c (first.1 ∙ stands (op.Final c) lt)
+
+  pub total_stays : IsFirstInput plan (place_of t (last_total t)) → ⊥
+  total_stays f =
+      let first = first_op (place_of t (last_total t)) f in
+      first_not_total t (op_at plan f.user) (op_known f.user f.in_range) first.0
+      (first.1 ∙ stands (last_total t) (known_before_total t (length t.commodities) (omega arith)))
+
+-- ---- the plan that is made
+
+module _ (t : AcceptedTables) (limits : IsWithinLimits t) where
+  lists_long : length (map (inputs_of t) (ops_of t)) ≡ length (ops_of t)
+  lists_long = length-map (ops_of t) (inputs_of t)
+
+  pub are_inputs : AreInputs (ops_of t) (map (inputs_of t) (ops_of t))
+  are_inputs = record {
+    few = few_steps t limits;
+    as_many = lists_long;
+    in_range = All-map (λ inputs. All (λ i. i < length (ops_of t)) inputs) (inputs_of t) (ops_of t)
+        (λ k d lt. inputs_within t (slice_index_or (ops_of t) k d) (known_ops t k d lt));
+    distinct = All-map (λ inputs. has_repeat (λ a b. a == b) inputs ≡ false) (inputs_of t) (ops_of t)
+        (λ k d lt. apart t limits (slice_index_or (ops_of t) k d) (known_ops t k d lt));
+  }
+
+  pub made_ops : ops_in (steps_with (ops_of t) (map (inputs_of t) (ops_of t))) ≡ ops_of t
+  made_ops = all_ops (ops_of t) (map (inputs_of t) (ops_of t)) lists_long
+
+  pub made_wires : (k : ℕ) → k < length (steps_with (ops_of t) (map (inputs_of t) (ops_of t)))
+      → inputs_at (steps_with (ops_of t) (map (inputs_of t) (ops_of t))) k ≡ inputs_of t (op_at (steps_with (ops_of t) (map (inputs_of t) (ops_of t))) k)
+  made_wires k lt =
+      let lists = map (inputs_of t) (ops_of t) in
+      let below : k < length (ops_of t) = omega (arith, lt, as_many_steps (ops_of t) lists lists_long) in
+      sym (inputs_are (ops_of t) lists k lists_long below)
+      ∙ get_or-map (inputs_of t) (ops_of t) k op.TotalStart [] below
+      ∙ ap (inputs_of t) (op_is (ops_of t) lists k op.TotalStart lists_long below)
+
+  -- what is made is a set's plan
+  pub made_set : (plan : List StepView) (items seen : List Op) (lists : List (List ℕ)) (firsts : List ℕ)
+      → plan ≡ steps_with items lists → lists ≡ map (inputs_of t) seen → seen ≡ items → items ≡ ops_of t → AreFirsts t firsts → IsSet t plan firsts
+  made_set plan items seen lists firsts plan_is lists_are same items_are firsts_are =
+      let made = steps_with (ops_of t) (map (inputs_of t) (ops_of t)) in
+      let is : plan ≡ made =
+      plan_is ∙ ap (steps_with items) (lists_are ∙ ap (map (inputs_of t)) (same ∙ items_are)) ∙ ap (λ os. steps_with os (map (inputs_of t) (ops_of t))) items_are in
+      rw is (record {
+        limits = limits;
+        is_plan = is_plan t made made_ops made_wires;
+        compiled = compiled t made made_ops made_wires limits;
+        wires = made_wires;
+        firsts_are = firsts_are;
+      })
