@@ -1,3 +1,4 @@
 pub mod PackingLemmas
 pub mod UserLemmas
 pub mod PlaceLemmas
+pub mod BoundLaws

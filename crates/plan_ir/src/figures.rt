@@ -6,8 +6,17 @@ ghost use Rattle.plan_ir.specs.Figures.{figures_from};
 use inter_credit::requirement::requirement;
 use scan_risk::Scan;
 use span_money::amounts::Money;
-use spread_stage::charges::intra_charge;
+use span_tables::limits::{MAX_HELD, MAX_NET, MAX_PRICE2, MAX_RATE, MAX_SUM};
+use spread_stage::charges::{MAX_DELIVERY_CHARGE, MAX_INTRA_CHARGE, intra_charge};
 use spread_stage::tiers::TierState;
+
+/// The size of the requirement of a commodity, in minor units: scan risk, the charges, the credit and the minimum, each
+/// at its largest. (The credit is at most half of price risk doubled.)
+pub const MAX_REQUIREMENT: u128 = MAX_SUM as u128
+    + MAX_INTRA_CHARGE
+    + MAX_DELIVERY_CHARGE
+    + MAX_PRICE2 as u128
+    + MAX_RATE as u128 * MAX_HELD as u128 * MAX_NET as u128;
 
 /// The seven figures of a commodity of an account, the amounts in minor units.
 #[derive(Clone, Copy, Debug, PartialEq, Eq)]

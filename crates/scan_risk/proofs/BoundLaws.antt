@@ -1,5 +1,5 @@
 -- The sizes of scenario sums, and of their scan.
-use Rattle.std.proofs.Common.{◌≡◌, ℕ, ◌+◌, ◌*◌, ◌≤◌, List, [], ◌∷◌, length, get_or, refl, ap, arith, inl, inr}
+use Rattle.std.proofs.Common.{ℕ, ◌*◌, ◌≤◌, List, length, get_or, refl, ap, arith, inl, inr}
 use Rattle.std.specs.Prelude.{ℤ, pos, negsuc, ◌+ℤ◌, ◌-ℤ◌, ◌*ℤ◌, All, nat_abs}
 use Rattle.std.proofs.Math.Nat.{mul-le-mul_right}
 use Rattle.std.proofs.lemmas.Int.{ints, fold-int_max_reached}

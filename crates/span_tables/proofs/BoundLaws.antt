@@ -1,6 +1,6 @@
 -- What is held of a commodity lies within the limits; and the size of a sum.
-use Rattle.std.proofs.Common.{◌≡◌, ℕ, ◌+◌, ◌*◌, ◌≤◌, true, List, [], ◌∷◌, length, subst, arith}
-use Rattle.std.specs.Prelude.{ℤ, ◌+ℤ◌, All, nat_abs}
+use Rattle.std.proofs.Common.{◌≡◌, ℕ, ◌*◌, ◌≤◌, true, List, [], ◌∷◌, length, subst, arith}
+use Rattle.std.specs.Prelude.{ℤ, All, nat_abs}
 use Rattle.std.proofs.lemmas.Int.{ints}
 use Rattle.std.proofs.lemmas.List.Elements.{All-head, All-tail}
 use Rattle.span_money.specs.Numbers.{int_sum_by}

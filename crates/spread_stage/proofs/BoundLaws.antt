@@ -1,7 +1,7 @@
 -- The sizes of month deltas, of charges, and of what spreads leave.
-use Rattle.std.proofs.Common.{ℕ, ◌+◌, ◌*◌, ◌<◌, ◌≤◌, List, [], ◌∷◌, length, get_or, fold, sum_by}
+use Rattle.std.proofs.Common.{ℕ, ◌*◌, ◌<◌, ◌≤◌, List, [], ◌∷◌, length, get_or, fold, sum_by}
 use Rattle.std.proofs.Common.{ap, arith, lit<}
-use Rattle.std.specs.Prelude.{ℤ, pos, ◌+ℤ◌, ◌*ℤ◌, All, nat_abs}
+use Rattle.std.specs.Prelude.{pos, ◌*ℤ◌, All, nat_abs}
 use Rattle.std.proofs.Math.Nat.{mul-le-mul, mul-le-mul_right}
 use Rattle.std.proofs.lemmas.Int.{ints}
 use Rattle.std.proofs.lemmas.List.Elements.{All-head, All-tail}
@@ -19,9 +19,9 @@ use Rattle.span_tables.specs.declared.sides.Direction.{Direction}
 use Rattle.span_tables.specs.declared.sides.Direction.TheVariants.{ALong, AShort}
 use Rattle.span_tables.proofs.SumLaws.{int_sum_by-cons}
 use Rattle.spread_stage.specs.Charges.{delivery_charge, intra_charge, left_of, spot_charge, used_of}
-use Rattle.spread_stage.specs.Deltas.{month_deltas, net_delta, units_at, units_of}
+use Rattle.spread_stage.specs.Deltas.{month_deltas, net_delta, units_of}
 use Rattle.spread_stage.specs.Months.{AreMonths, AreTierRests, Shrinks, total_size}
-use Rattle.spread_stage.specs.Spreads.{TierRests, after_spreads, rests_after, spread_both_ways, spread_one_way, tier_rooms, unspread}
+use Rattle.spread_stage.specs.Spreads.{TierRests, after_spreads, spread_both_ways, spread_one_way, tier_rooms, unspread}
 use Rattle.spread_stage.specs.declared.charges.TheConstants.{MAX_DELIVERY_CHARGE, MAX_INTRA_CHARGE}
 use Rattle.spread_stage.specs.declared.months.MonthUnits.{MonthUnits}
 use Rattle.spread_stage.proofs.DeltaLemmas.{month_deltas-cons, size-with_units}

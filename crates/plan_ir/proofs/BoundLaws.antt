@@ -1,0 +1,149 @@
+-- The sizes of what an account has under tables within their limits: of each figure, and of the total.
+use Rattle.std.proofs.Common.{◌≡◌, ℕ, ◌+◌, ◌*◌, ◌<◌, ◌≤◌, true, List, length, get_or, subst, sym, ◌∙◌}
+use Rattle.std.proofs.Common.{arith}
+use Rattle.std.specs.Prelude.{pos, ◌+ℤ◌, All, nat_abs}
+use Rattle.std.specs.List.{range_with_len}
+use Rattle.std.proofs.Math.Nat.{mul-le-mul_right}
+use Rattle.std.proofs.lemmas.List.Elements.{All-map}
+use Rattle.std.proofs.lemmas.List.FromFn.{get_or-range_with_len, length-map-range_with_len, length-range_with_len}
+use Rattle.span_money.specs.declared.amounts.TheConstants.{MAX_MONEY}
+use Rattle.span_tables.specs.Accepted.{IsInter, IsWithinLimits, commodity_id}
+use Rattle.span_tables.specs.Holdings.{AreHeld, ArePortfolio, fits}
+use Rattle.span_tables.specs.Tables.{AcceptedTables, inters_of}
+use Rattle.span_tables.specs.declared.limits.TheConstants.{MAX_COMMODITIES, MAX_HELD, MAX_NET, MAX_PRICE2, MAX_RATE, MAX_SUM}
+use Rattle.span_tables.specs.declared.portfolios.Holding.{Holding}
+use Rattle.span_tables.proofs.BoundLaws.{are_held_of, int_sum_size}
+use Rattle.scan_risk.specs.Scenarios.{scenario_sums}
+use Rattle.scan_risk.proofs.BoundLaws.{price2_small, risk_small, sums_small}
+use Rattle.spread_stage.specs.Charges.{intra_charge}
+use Rattle.spread_stage.specs.Months.{AreMonths, AreTierRests}
+use Rattle.spread_stage.specs.declared.charges.TheConstants.{MAX_DELIVERY_CHARGE}
+use Rattle.spread_stage.proofs.BoundLaws.{delivery_small, intra_small, months_are, net_small, tiers_are}
+use Rattle.spread_stage.proofs.FallLemmas.{spreads_shrink}
+use Rattle.inter_credit.specs.States.{IsLine, credit_at}
+use Rattle.inter_credit.proofs.BoundLaws.{credit_small, length-after_inter_spreads, lines_stay, minimum_small}
+use Rattle.inter_credit.proofs.BoundLaws.{requirement_small, unspread_is_line}
+use Rattle.inter_credit.proofs.Sizes.{size-add}
+use Rattle.plan_ir.specs.Figures.{commodity_at, delivery_at, deltas_at, figures_of, held_at, inter_lines, intras_at, line_of}
+use Rattle.plan_ir.specs.Figures.{loaded_lines, minimum_at, scan_at, spots_at, tiers_at, total_to}
+use Rattle.plan_ir.specs.declared.figures.TheConstants.{MAX_REQUIREMENT}
+
+-- an account with holdings, under tables within their limits
+module _ (t : AcceptedTables) (holdings : List Holding) (limits : IsWithinLimits t) (portfolio : ArePortfolio holdings)
+    (known : fits (length t.contracts) holdings ≡ true) where
+  -- ---- a commodity
+
+  -- what is held of it
+  pub held_at_are : (c : ℕ) → AreHeld (held_at t holdings c)
+  held_at_are c = are_held_of t holdings (commodity_id t c) limits portfolio known
+
+  -- its scan
+  pub risk_at_small : (c : ℕ) → nat_abs (scan_at t holdings c).risk ≤ MAX_SUM
+  risk_at_small c = risk_small (scenario_sums (held_at t holdings c)) (sums_small (held_at t holdings c) (held_at_are c))
+
+  pub price2_at_small : (c : ℕ) → (scan_at t holdings c).price2 ≤ MAX_PRICE2
+  price2_at_small c = price2_small (scenario_sums (held_at t holdings c)) (sums_small (held_at t holdings c) (held_at_are c))
+
+  -- its months, before and after its spreads
+  pub deltas_at_are : (c : ℕ) → AreMonths (deltas_at t holdings c)
+  deltas_at_are c = months_are (held_at t holdings c) (held_at_are c)
+
+  pub tiers_at_are : (c : ℕ) → AreTierRests (tiers_at t holdings c)
+  tiers_at_are c = tiers_are (intras_at t c) (deltas_at t holdings c) (deltas_at_are c) (limits.intras_in_range (commodity_id t c))
+
+  -- its delivery charge
+  pub delivery_at_small : (c : ℕ) → delivery_at t holdings c ≤ MAX_DELIVERY_CHARGE
+  delivery_at_small c =
+      delivery_small (deltas_at t holdings c) (tiers_at t holdings c).rests (spots_at t c) (deltas_at_are c)
+      (spreads_shrink (intras_at t c) (deltas_at t holdings c)) (limits.few_spots (commodity_id t c))
+      (limits.spots_in_range (commodity_id t c))
+
+  -- its minimum
+  pub minimum_at_small : (c : ℕ) → c < length t.commodities → minimum_at t holdings c ≤ MAX_RATE * (MAX_HELD * MAX_NET)
+  minimum_at_small c lt =
+      minimum_small (commodity_at t c).minimum_rate (commodity_at t c).method (held_at t holdings c)
+      (limits.minimum_rates c _ lt) (held_at_are c)
+
+  -- its line before any intercommodity spread
+  pub line_of_is : (c : ℕ) → IsLine (line_of t holdings c)
+  line_of_is c = unspread_is_line _ _ (net_small (deltas_at t holdings c) (deltas_at_are c)) (price2_at_small c)
+
+  -- ---- all commodities
+
+  pub loaded_are : All IsLine (loaded_lines t holdings)
+  loaded_are =
+      All-map IsLine (line_of t holdings) (range_with_len 0 (length t.commodities))
+      (λ k d lt. line_of_is (get_or (range_with_len 0 (length t.commodities)) k d))
+
+  pub length-loaded_lines : length (loaded_lines t holdings) ≡ length t.commodities
+  length-loaded_lines = length-map-range_with_len (line_of t holdings) 0 (length t.commodities)
+
+  pub lines_are : All IsLine (inter_lines t holdings)
+  unfolding inter_lines
+  lines_are =
+      lines_stay (inters_of t) (loaded_lines t holdings) loaded_are
+      (subst (λ n. All (IsInter n) (inters_of t)) (sym length-loaded_lines) limits.inters_in_range)
+
+  pub length-inter_lines : length (inter_lines t holdings) ≡ length t.commodities
+  unfolding inter_lines
+  length-inter_lines = length-after_inter_spreads (inters_of t) (loaded_lines t holdings) ∙ length-loaded_lines
+
+  -- the credit of a commodity
+  pub credit_at_small : (c : ℕ) → 2 * credit_at (inter_lines t holdings) c ≤ MAX_PRICE2
+  credit_at_small c = credit_small (inter_lines t holdings) c lines_are
+
+  -- the requirement of a commodity
+  requirement_at_small : (c : ℕ) → c < length t.commodities → nat_abs (figures_of t holdings c).requirement ≤ MAX_REQUIREMENT
+  unfolding figures_of
+  requirement_at_small c lt =
+      let intra = intra_small (tiers_at t holdings c) (tiers_at_are c) in
+      let parts = requirement_small (scan_at t holdings c).risk (pos (intra_charge (tiers_at t holdings c).charge))
+      (pos (delivery_at t holdings c)) (pos (credit_at (inter_lines t holdings) c)) (pos (minimum_at t holdings c)) in
+      omega (arith, parts, intra, risk_at_small c, delivery_at_small c, credit_at_small c, minimum_at_small c lt)
+
+  -- the sum of the requirements of the first commodities
+  sum_to_small : (n : ℕ) → n ≤ length t.commodities → nat_abs (total_to t holdings n) ≤ n * MAX_REQUIREMENT
+  unfolding total_to
+  sum_to_small n le =
+      let long = length-range_with_len 0 n in
+      let all = int_sum_size (λ c. (figures_of t holdings c).requirement) MAX_REQUIREMENT (range_with_len 0 n)
+      (λ k d lt. let at = get_or-range_with_len 0 n k d (omega (arith, lt, long)) in
+      requirement_at_small (get_or (range_with_len 0 n) k d) (omega (arith, at, lt, long, le))) in
+      omega (arith, all, long)
+
+-- the requirement of a commodity
+pub figures_small : (t : AcceptedTables) (holdings : List Holding) (c : ℕ) → IsWithinLimits t → ArePortfolio holdings
+    → fits (length t.contracts) holdings ≡ true → c < length t.commodities
+    → nat_abs (figures_of t holdings c).requirement ≤ MAX_REQUIREMENT
+figures_small t holdings c limits portfolio known lt = requirement_at_small t holdings limits portfolio known c lt
+
+-- the total of the first commodities
+pub total_small : (t : AcceptedTables) (holdings : List Holding) (n : ℕ) → IsWithinLimits t → ArePortfolio holdings
+    → fits (length t.contracts) holdings ≡ true → n ≤ length t.commodities
+    → nat_abs (total_to t holdings n) ≤ n * MAX_REQUIREMENT
+total_small t holdings n limits portfolio known le = sum_to_small t holdings limits portfolio known n le
+
+-- as many requirements as there may be commodities are an amount of money
+pub totals_are_money : MAX_COMMODITIES * MAX_REQUIREMENT ≤ MAX_MONEY
+totals_are_money = omega arith
+
+-- so the total of the first commodities is an amount of money
+pub total_is_money : (t : AcceptedTables) (holdings : List Holding) (n : ℕ) → IsWithinLimits t → ArePortfolio holdings
+    → fits (length t.contracts) holdings ≡ true → n ≤ length t.commodities → nat_abs (total_to t holdings n) ≤ MAX_MONEY
+total_is_money t holdings n limits portfolio known le =
+    let all = total_small t holdings n limits portfolio known le in
+    let fewer : n ≤ MAX_COMMODITIES = omega (arith, le, limits.commodities) in
+    let few : n * MAX_REQUIREMENT ≤ MAX_COMMODITIES * MAX_REQUIREMENT = mul-le-mul_right MAX_REQUIREMENT fewer in
+    omega (arith, all, few, totals_are_money)
+
+-- and so is that total with the requirement of the next commodity
+pub next_total_is_money : (t : AcceptedTables) (holdings : List Holding) (c : ℕ) → IsWithinLimits t → ArePortfolio holdings
+    → fits (length t.contracts) holdings ≡ true → c < length t.commodities
+    → nat_abs (total_to t holdings c +ℤ (figures_of t holdings c).requirement) ≤ MAX_MONEY
+next_total_is_money t holdings c limits portfolio known lt =
+    let before = total_small t holdings c limits portfolio known (omega (arith, lt)) in
+    let next = figures_small t holdings c limits portfolio known lt in
+    let larger = size-add (total_to t holdings c) (figures_of t holdings c).requirement in
+    let fewer : c + 1 ≤ MAX_COMMODITIES = omega (arith, lt, limits.commodities) in
+    let few : (c + 1) * MAX_REQUIREMENT ≤ MAX_COMMODITIES * MAX_REQUIREMENT = mul-le-mul_right MAX_REQUIREMENT fewer in
+    omega (arith, before, next, larger, few, totals_are_money)
