@@ -70,9 +70,9 @@ at_back xs ys i k o e at = ap (slice_get (xs ++ ys)) at ∙ behind xs ∙ e wher
 at_each : (f : ℕ → List Op) (n c i k : ℕ) (o : Op) → c < n → slice_get (f c) i ≡ Some o → k ≡ length (each f c) + i → slice_get (each f n) k ≡ Some o
 at_each f zero c i k o lt e at = elim lt [ ]
 at_each f (suc n) c i k o lt e at = elim (cases_eq c n) [
-      | inl same ↦ at_back (each f n) (f n) i k o (rw (← same) e) (rw (← same) at)
-      | inr other ↦ at_front (each f n) (f n) k o (at_each f n c i k o (omega (arith, lt, other)) e at)
-    ]
+  | inl same ↦ at_back (each f n) (f n) i k o (rw (← same) e) (rw (← same) at)
+  | inr other ↦ at_front (each f n) (f n) k o (at_each f n c i k o (omega (arith, lt, other)) e at)
+]
 
 at_single : (f : ℕ → List Op) → ((c : ℕ) → length (f c) ≡ 1) → (n c k : ℕ) (o : Op) → c < n → slice_get (f c) 0 ≡ Some o → k ≡ c → slice_get (each f n) k ≡ Some o
 at_single f one n c k o lt e at = at_each f n c 0 k o lt e (omega (arith, at, length_singles f one c))
@@ -178,12 +178,12 @@ module _ (t : AcceptedTables) where
   pub first_before : (c n : ℕ) → c < n → first_step t c + (COMMODITY_STEPS + length (intras_at t c)) ≤ first_step t n
   first_before c zero lt = elim lt [ ]
   first_before c (suc n) lt = elim (cases_eq c n) [
-        | inl same ↦ let here = first_more t c in let more : first_step t (c + 1) ≡ first_step t (suc n) = rw same (rw add-one refl) in omega (arith, here, more)
-        | inr other ↦
-            let before = first_before c n (omega (arith, lt, other)) in
-            let more = length-append (each (commodity_ops t) n) (commodity_ops t n) in
-            omega (arith, before, more)
-      ]
+    | inl same ↦ let here = first_more t c in let more : first_step t (c + 1) ≡ first_step t (suc n) = rw same (rw add-one refl) in omega (arith, here, more)
+    | inr other ↦
+        let before = first_before c n (omega (arith, lt, other)) in
+        let more = length-append (each (commodity_ops t) n) (commodity_ops t n) in
+        omega (arith, before, more)
+  ]
 
   -- how many steps there are
   pub length_ops : length (ops_of t) ≡ first_step t (length t.commodities) + (2 + 2 * length t.commodities + length (inters_of t))

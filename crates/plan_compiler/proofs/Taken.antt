@@ -11,10 +11,9 @@ use Rattle.span_tables.specs.declared.portfolios.Holding.{Holding}
 use Rattle.scan_risk.specs.Scenarios.{scan_of, scenario_sums}
 use Rattle.spread_stage.proofs.FallLemmas.{spreads_shrink}
 use Rattle.inter_credit.proofs.BoundLaws.{length-after_inter_spreads}
-use Rattle.inter_credit.proofs.BoundLaws as credit
 use Rattle.scan_risk.proofs.BoundLaws as scan
-use Rattle.span_tables.proofs.BoundLaws.{are_held_of}
-use Rattle.spread_stage.proofs.BoundLaws as spread
+use Rattle.plan_ir.proofs.BoundLaws.{delivery_at_small, held_at_are, length-inter_lines, length-loaded_lines}
+use Rattle.plan_ir.proofs.BoundLaws.{minimum_at_small, next_total_is_money, price2_at_small, risk_at_small}
 use Rattle.inter_credit.specs.Credits.{after_inter_spreads, inter_both_ways, unspread_line}
 use Rattle.inter_credit.specs.declared.state.InterLine.{InterLine}
 use Rattle.span_tables.specs.declared.records.Inter.{Inter}
@@ -28,7 +27,7 @@ use Rattle.plan_ir.specs.Figures.{commodity_at, no_commodity, spots_at, tiers_at
 use Rattle.plan_ir.specs.declared.ops.Op.{Op}
 use Rattle.plan_ir.specs.declared.ops.Op.TheVariants as op
 use Rattle.plan_compiler.specs.Meaning.{lines_after, lines_loaded, meaning, wanted}
-use Rattle.plan_compiler.proofs.Meanings.{all_lines, meaning-before_inter, meaning-before_load, meaning-before_spread, meaning-before_total, meaning-last_inter, meaning-last_tiers, total_more}
+use Rattle.plan_compiler.proofs.Meanings.{meaning-before_inter, meaning-before_load, meaning-before_spread, meaning-before_total, meaning-last_inter, meaning-last_tiers, total_more}
 
 -- the element behind a front
 at_seam : {A : Type 0} (xs : List A) (x : A) (ys : List A) → slice_get (xs ++ x ∷ ys) (length xs) ≡ Some x
@@ -37,49 +36,34 @@ at_seam (y ∷ xs) x ys = at_seam xs x ys
 
 module _ (t : AcceptedTables) (holdings : List Holding) (limits : IsWithinLimits t) (portfolio : ArePortfolio holdings)
     (known : fits (length t.contracts) holdings ≡ true) where
-  held : (c : ℕ) → AreHeld (held_at t holdings c)
-  held c = are_held_of t holdings (commodity_id t c) limits portfolio known
-
   sums_small : (c : ℕ) → All (λ s. nat_abs s ≤ MAX_SUM) (scenario_sums (held_at t holdings c))
-  sums_small c = scan.sums_small (held_at t holdings c) (held c)
+  sums_small c = scan.sums_small (held_at t holdings c) (held_at_are t holdings limits portfolio known c)
 
   risk_small : (c : ℕ) → nat_abs (scan_at t holdings c).risk ≤ MAX_PART
-  risk_small c = let small = scan.risk_small (scenario_sums (held_at t holdings c)) (sums_small c) in omega (arith, small)
-
-  price2_small : (c : ℕ) → (scan_at t holdings c).price2 ≤ MAX_PRICE2
-  price2_small c = scan.price2_small (scenario_sums (held_at t holdings c)) (sums_small c)
+  risk_small c = let small = risk_at_small t holdings limits portfolio known c in omega (arith, small)
 
   delivery_small : (c : ℕ) → nat_abs (pos (delivery_at t holdings c)) ≤ MAX_PART
-  delivery_small c =
-      let spots = limits.few_spots (commodity_id t c) in
-      let small = spread.delivery_small (deltas_at t holdings c) (tiers_at t holdings c).rests (spots_at t c)
-      (spread.months_are (held_at t holdings c) (held c)) (spreads_shrink (intras_at t c) (deltas_at t holdings c))
-      spots (limits.spots_in_range (commodity_id t c)) in
-      omega (arith, small)
+  delivery_small c = let small = delivery_at_small t holdings limits portfolio known c in omega (arith, small)
 
   minimum_small : (c : ℕ) → c < length t.commodities → nat_abs (pos (minimum_at t holdings c)) ≤ MAX_PART
-  minimum_small c lt =
-      let small = credit.minimum_small (commodity_at t c).minimum_rate (commodity_at t c).method (held_at t holdings c)
-      (limits.minimum_rates c no_commodity lt) (held c) in
-      omega (arith, small)
-
-  total_small : (c : ℕ) → c < length t.commodities → nat_abs (total_to t holdings (c + 1)) ≤ MAX_MONEY
-  total_small c lt = ?
+  minimum_small c lt = let small = minimum_at_small t holdings limits portfolio known c lt in omega (arith, small)
 
   -- ---- the commodities
 
-  length_loaded : length (loaded_lines t holdings) ≡ length t.commodities
-  length_loaded = length-map-range_with_len (line_of t holdings) 0 (length t.commodities)
-
   length_lines : (j : ℕ) → length (lines_after t holdings j) ≡ length t.commodities
-  length_lines j = length-after_inter_spreads (take j (inters_of t)) (loaded_lines t holdings) ∙ length_loaded
+  length_lines j = length-after_inter_spreads (take j (inters_of t)) (loaded_lines t holdings) ∙ length-loaded_lines t holdings limits portfolio known
 
   length_partly : (c : ℕ) → c ≤ length t.commodities → length (lines_loaded t holdings c) ≡ length t.commodities
   length_partly c le =
       let front = map (line_of t holdings) (range_with_len 0 c) in
       let rest = replicate (length t.commodities - c) (unspread_line (pos 0) 0) in
-      omega (arith, le, length-append front rest, length-map-range_with_len (line_of t holdings) 0 c,
-      length-replicate (length t.commodities - c) (unspread_line (pos 0) 0))
+      omega (
+        arith,
+        le,
+        length-append front rest,
+        length-map-range_with_len (line_of t holdings) 0 c,
+        length-replicate (length t.commodities - c) (unspread_line (pos 0) 0),
+      )
 
   not_loaded : (c : ℕ) → c < length t.commodities → IsNotLoaded (lines_loaded t holdings c) c
   not_loaded c lt =
@@ -125,7 +109,7 @@ module _ (t : AcceptedTables) (holdings : List Holding) (limits : IsWithinLimits
       risk_small = risk_small c;
       delivery_small = delivery_small c;
       minimum_small = minimum_small c is;
-      among = let long = length_lines (length (inters_of t)) in omega (arith, is, long, ap length (all_lines t holdings));
+      among = let long = length-inter_lines t holdings limits portfolio known in omega (arith, is, long);
     };
   })
   takes_meanings op.InterStart is = record { known = tt; taken = record { count = refl } }
@@ -139,12 +123,12 @@ module _ (t : AcceptedTables) (holdings : List Holding) (limits : IsWithinLimits
       among = let long = length_partly c (omega (arith, is)) in omega (arith, long, is);
       not_loaded = not_loaded c is;
       unspread = unspread c;
-      price2_small = price2_small c;
+      price2_small = price2_at_small t holdings limits portfolio known c;
     };
   })
   takes_meanings (op.InterSpread j) is = rw (meaning-before_inter t holdings j) (record { known = is; taken = record { count = refl; lines = tt; many = length_lines j } })
   takes_meanings op.TotalStart is = record { known = tt; taken = record { count = refl } }
   takes_meanings (op.TotalAdd c) is = rw (meaning-before_total t holdings c) (record {
     known = is;
-    taken = record { count = refl; total = tt; figures = tt; small = rw (total_more t holdings c) (total_small c is) };
+    taken = record { count = refl; total = tt; figures = tt; small = next_total_is_money t holdings c limits portfolio known is };
   })

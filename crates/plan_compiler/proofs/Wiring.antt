@@ -31,9 +31,18 @@ below : (a b : ℕ) → a < b → a ≡ b → ⊥
 below a b lt e = omega (arith, lt, e)
 
 five_rising : (a b d e f : ℕ) → a < b → b < d → d < e → e < f → has_repeat (λ x y. x == y) (a ∷ b ∷ d ∷ e ∷ f ∷ []) ≡ false
-five_rising a b d e f ab bd de ef = rw (ne_eqb a b (below a b ab), ne_eqb a d (below a d (omega (arith, ab, bd))), ne_eqb a e (below a e (omega (arith, ab, bd, de))),
-    ne_eqb a f (below a f (omega (arith, ab, bd, de, ef))), ne_eqb b d (below b d bd), ne_eqb b e (below b e (omega (arith, bd, de))),
-    ne_eqb b f (below b f (omega (arith, bd, de, ef))), ne_eqb d e (below d e de), ne_eqb d f (below d f (omega (arith, de, ef))), ne_eqb e f (below e f ef)) refl
+five_rising a b d e f ab bd de ef = rw (
+  ne_eqb a b (below a b ab),
+  ne_eqb a d (below a d (omega (arith, ab, bd))),
+  ne_eqb a e (below a e (omega (arith, ab, bd, de))),
+  ne_eqb a f (below a f (omega (arith, ab, bd, de, ef))),
+  ne_eqb b d (below b d bd),
+  ne_eqb b e (below b e (omega (arith, bd, de))),
+  ne_eqb b f (below b f (omega (arith, bd, de, ef))),
+  ne_eqb d e (below d e de),
+  ne_eqb d f (below d f (omega (arith, de, ef))),
+  ne_eqb e f (below e f ef),
+) refl
 
 module _ (t : AcceptedTables) (limits : IsWithinLimits t) where
   -- ---- how many steps and inputs

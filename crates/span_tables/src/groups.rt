@@ -64,11 +64,7 @@ pub(crate) fn lists_with_room<T: Drop>(
 }
 
 /// Appends a value to the list at a place. `Err` is want of memory.
-pub fn push_at<T: Drop>(
-    lists: &mut Vec<Vec<T>>,
-    place: usize,
-    value: T,
-) -> Result<(), AllocError>
+pub fn push_at<T: Drop>(lists: &mut Vec<Vec<T>>, place: usize, value: T) -> Result<(), AllocError>
     requires { place < length lists.old.items }
     ensures items { OnOk result (map (λ v. v.items) lists.new.items
         ≡ slice_set (map (λ v. v.items) lists.old.items) place

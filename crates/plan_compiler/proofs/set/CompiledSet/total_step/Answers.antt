@@ -1,18 +1,29 @@
-use Rattle.std.proofs.Common.{◌≡◌, ◌<◌, ◌+◌, ◌∙◌, ap, sym, length, ℕ, subst, arith}
-use Rattle.plan_ir.specs.Apply.{IsOp}
-use Rattle.plan_compiler.specs.Compiled.{IsFirstInput}
-use Rattle.plan_compiler.specs.Meaning.{before_total, last_total}
-use Rattle.plan_compiler.specs.steps.Layout.{place_of, total_step}
-use Rattle.plan_ir.specs.Plans.{op_at}
+use Rattle.std.proofs.Common.{◌≡◌, ◌≤◌, ◌∙◌, ap, sym, length, arith}
+use Rattle.plan_compiler.specs.Meaning.{last_total}
+use Rattle.plan_compiler.specs.steps.Layout.{total_step}
 use Rattle.plan_compiler.proofs.FromPlan.{known_before_total, place-before_total}
 use Rattle.plan_compiler.proofs.PlanLaw.{op_at_place, place_within, total_stays}
 use Rattle.plan_compiler.proofs.set.CompiledSet.total_step.Goals as goal
 
 pub returns-clause-in_range : goal.returns-clause-in_range
-returns-clause-in_range c = ?
+returns-clause-in_range c =
+    let set = c.self.invariant in
+    let t = c.self.inside.tables in
+    let known = known_before_total t (length t.commodities) (omega arith) in
+    rw (← c.self.view_is, c.total_step.ensures, c.commodities-commodities.ensures.value, ← place-before_total t (length t.commodities))
+    (place_within t c.self.inside.plan set.is_plan.ops set.wires (last_total t) known)
 
 pub returns-clause-op : goal.returns-clause-op
-returns-clause-op c = ?
+returns-clause-op c =
+    let set = c.self.invariant in
+    let t = c.self.inside.tables in
+    let known = known_before_total t (length t.commodities) (omega arith) in
+    rw (← c.self.view_is, c.total_step.ensures, c.commodities-commodities.ensures.value, ← place-before_total t (length t.commodities))
+    (op_at_place t c.self.inside.plan set.is_plan.ops set.wires (last_total t) known)
 
 pub returns-clause-stays : goal.returns-clause-stays
-returns-clause-stays c = ?
+returns-clause-stays c =
+    let set = c.self.invariant in
+    let t = c.self.inside.tables in
+    rw (← c.self.view_is, c.total_step.ensures, c.commodities-commodities.ensures.value, ← place-before_total t (length t.commodities))
+    (total_stays t c.self.inside.plan set.is_plan.ops set.wires)
