@@ -20,7 +20,7 @@ use Rattle.plan_ir.proofs.UserLemmas.{as_many_steps, inputs_are, op_is}
 use Rattle.plan_compiler.specs.Compiled.{Fits, IsCompiled, IsFirstInput, step_meaning}
 use Rattle.plan_compiler.specs.Meaning.{before_inter, before_load, before_spread, before_total, last_inter, last_tiers, last_total, meaning, rank_of, wanted}
 use Rattle.plan_compiler.specs.Plan.{IsPlanOf, Names, commodity_ops, each, final_ops, first_ops, inter_ops, ops_of, spread_ops, total_ops}
-use Rattle.plan_compiler.specs.steps.Layout.{first_step, inputs_of, inter_step, load_step, place_of, tiers_step, total_step}
+use Rattle.plan_compiler.specs.Places.{first_step, inputs_of, inter_step, load_step, place_of, tiers_step, total_step}
 use Rattle.plan_compiler.proofs.LayoutLemmas.{first_small, length_inter, length_singles, place_stands}
 use Rattle.plan_compiler.proofs.Meanings.{gives_meaning}
 use Rattle.plan_compiler.proofs.Taken.{takes_meanings}

@@ -12,7 +12,7 @@ use Rattle.plan_ir.specs.declared.ops.Op.{Op}
 use Rattle.plan_ir.specs.declared.ops.Op.TheVariants as op
 use Rattle.plan_compiler.specs.Plan.{commodity_ops, each, final_ops, first_ops, inter_ops, ops_of, spread_ops, total_ops}
 use Rattle.plan_compiler.specs.declared.layout.TheConstants.{COMMODITY_STEPS}
-use Rattle.plan_compiler.specs.steps.Layout.{first_step, inter_step, load_step, place_of, tiers_step, total_step}
+use Rattle.plan_compiler.specs.Places.{first_step, inter_step, load_step, place_of, tiers_step, total_step}
 
 -- one more of each
 pub each_more : (f : ℕ → List Op) (n : ℕ) → each f (n + 1) ≡ each f n ++ f n

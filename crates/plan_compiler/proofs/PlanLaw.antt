@@ -20,7 +20,9 @@ use Rattle.plan_ir.proofs.UserLemmas.{all_ops, as_many_steps, inputs_are, op_is}
 use Rattle.plan_compiler.specs.Compiled.{Fits, IsCompiled, IsFirstInput, SetView, input_meanings, step_meaning}
 use Rattle.plan_compiler.specs.Meaning.{before_total, last_total, meaning, rank_of, wanted}
 use Rattle.plan_compiler.specs.Plan.{IsPlanOf, Names, ops_of}
-use Rattle.plan_compiler.specs.steps.Layout.{AreFirsts, inputs_of, place_of, tiers_step, total_step}
+use Rattle.plan_compiler.specs.Places.{inputs_of, place_of, plan_of}
+use Rattle.plan_compiler.specs.steps.Layout.{AreFirsts}
+use Rattle.plan_compiler.specs.steps.Layout.{AreFirsts}
 use Rattle.plan_compiler.specs.steps.Sets.{IsSet}
 use Rattle.plan_compiler.proofs.FromPlan.{inputs_within, known_before_total, known_ops, known_wanted, place-before_total, wired}
 use Rattle.plan_compiler.proofs.LayoutLemmas.{place_stands}
@@ -123,14 +125,35 @@ module _ (t : AcceptedTables) (plan : List StepView) (ops : ops_in plan ≡ ops_
       first_not_total t (op_at plan f.user) (op_known f.user f.in_range) first.0
       (first.1 ∙ stands (last_total t) (known_before_total t (length t.commodities) (omega arith)))
 
--- ---- the plan that is made
+-- ---- the plan of accepted tables
 
-module _ (t : AcceptedTables) (limits : IsWithinLimits t) where
+module _ (t : AcceptedTables) where
   lists_long : length (map (inputs_of t) (ops_of t)) ≡ length (ops_of t)
   lists_long = length-map (ops_of t) (inputs_of t)
 
-  pub are_inputs : AreInputs (ops_of t) (map (inputs_of t) (ops_of t))
-  are_inputs = record {
+  plan_ops : ops_in (plan_of t) ≡ ops_of t
+  unfolding plan_of
+  plan_ops = all_ops (ops_of t) (map (inputs_of t) (ops_of t)) lists_long
+
+  plan_wires : (k : ℕ) → k < length (plan_of t) → inputs_at (plan_of t) k ≡ inputs_of t (op_at (plan_of t) k)
+  unfolding plan_of
+  plan_wires k lt =
+      let lists = map (inputs_of t) (ops_of t) in
+      let below : k < length (ops_of t) = omega (arith, lt, as_many_steps (ops_of t) lists lists_long) in
+      sym (inputs_are (ops_of t) lists k lists_long below)
+      ∙ get_or-map (inputs_of t) (ops_of t) k op.TotalStart [] below
+      ∙ ap (inputs_of t) (op_is (ops_of t) lists k op.TotalStart lists_long below)
+
+  -- each input of a step is the step of the wanted operation
+  pub plan_is_wired : IsPlanOf t (plan_of t)
+  plan_is_wired = is_plan t (plan_of t) plan_ops plan_wires
+
+  -- and the plan keeps the plan law
+  pub plan_keeps_law : IsWithinLimits t → IsCompiled (record { tables = t; plan = plan_of t })
+  plan_keeps_law limits = compiled t (plan_of t) plan_ops plan_wires limits
+
+  pub are_inputs : IsWithinLimits t → AreInputs (ops_of t) (map (inputs_of t) (ops_of t))
+  are_inputs limits = record {
     few = few_steps t limits;
     as_many = lists_long;
     in_range = All-map (λ inputs. All (λ i. i < length (ops_of t)) inputs) (inputs_of t) (ops_of t)
@@ -139,29 +162,19 @@ module _ (t : AcceptedTables) (limits : IsWithinLimits t) where
         (λ k d lt. apart t limits (slice_index_or (ops_of t) k d) (known_ops t k d lt));
   }
 
-  pub made_ops : ops_in (steps_with (ops_of t) (map (inputs_of t) (ops_of t))) ≡ ops_of t
-  made_ops = all_ops (ops_of t) (map (inputs_of t) (ops_of t)) lists_long
+  -- what is made of the operations and their inputs is the plan of the tables
+  pub made_plan : (plan : List StepView) (items seen : List Op) (lists : List (List ℕ))
+      → plan ≡ steps_with items lists → lists ≡ map (inputs_of t) seen → seen ≡ items → items ≡ ops_of t → plan ≡ plan_of t
+  unfolding plan_of
+  made_plan plan items seen lists plan_is lists_are same items_are =
+      plan_is ∙ ap (steps_with items) (lists_are ∙ ap (map (inputs_of t)) (same ∙ items_are))
+      ∙ ap (λ os. steps_with os (map (inputs_of t) (ops_of t))) items_are
 
-  pub made_wires : (k : ℕ) → k < length (steps_with (ops_of t) (map (inputs_of t) (ops_of t)))
-      → inputs_at (steps_with (ops_of t) (map (inputs_of t) (ops_of t))) k ≡ inputs_of t (op_at (steps_with (ops_of t) (map (inputs_of t) (ops_of t))) k)
-  made_wires k lt =
-      let lists = map (inputs_of t) (ops_of t) in
-      let below : k < length (ops_of t) = omega (arith, lt, as_many_steps (ops_of t) lists lists_long) in
-      sym (inputs_are (ops_of t) lists k lists_long below)
-      ∙ get_or-map (inputs_of t) (ops_of t) k op.TotalStart [] below
-      ∙ ap (inputs_of t) (op_is (ops_of t) lists k op.TotalStart lists_long below)
-
-  -- what is made is a set's plan
-  pub made_set : (plan : List StepView) (items seen : List Op) (lists : List (List ℕ)) (firsts : List ℕ)
-      → plan ≡ steps_with items lists → lists ≡ map (inputs_of t) seen → seen ≡ items → items ≡ ops_of t → AreFirsts t firsts → IsSet t plan firsts
-  made_set plan items seen lists firsts plan_is lists_are same items_are firsts_are =
-      let made = steps_with (ops_of t) (map (inputs_of t) (ops_of t)) in
-      let is : plan ≡ made =
-      plan_is ∙ ap (steps_with items) (lists_are ∙ ap (map (inputs_of t)) (same ∙ items_are)) ∙ ap (λ os. steps_with os (map (inputs_of t) (ops_of t))) items_are in
-      rw is (record {
-        limits = limits;
-        is_plan = is_plan t made made_ops made_wires;
-        compiled = compiled t made made_ops made_wires limits;
-        wires = made_wires;
-        firsts_are = firsts_are;
-      })
+  pub made_set : IsWithinLimits t → (plan : List StepView) (firsts : List ℕ) → plan ≡ plan_of t → AreFirsts t firsts → IsSet t plan firsts
+  made_set limits plan firsts is firsts_are = rw is (record {
+    limits = limits;
+    is_plan = plan_is_wired;
+    compiled = plan_keeps_law limits;
+    wires = plan_wires;
+    firsts_are = firsts_are;
+  })

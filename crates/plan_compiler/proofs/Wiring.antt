@@ -15,7 +15,7 @@ use Rattle.plan_ir.specs.declared.ops.Op.TheVariants as op
 use Rattle.plan_ir.specs.declared.plans.TheConstants.{MAX_INPUTS, MAX_STEPS}
 use Rattle.plan_compiler.specs.Meaning.{before_inter, before_load, before_spread, before_total, last_inter, last_tiers, last_total, rank_of, rank_of_last_spread, wanted}
 use Rattle.plan_compiler.specs.Plan.{ops_of}
-use Rattle.plan_compiler.specs.steps.Layout.{first_step, inputs_of, inter_step, load_step, place_of, tiers_step, total_step}
+use Rattle.plan_compiler.specs.Places.{first_step, inputs_of, inter_step, load_step, place_of, tiers_step, total_step}
 use Rattle.plan_compiler.proofs.LayoutLemmas.{first_before, first_small, length_ops}
 use Rattle.plan_compiler.proofs.FromPlan.{place-before_inter, place-before_load, place-before_spread, place-before_total}
 

@@ -1,4 +1,5 @@
 pub mod Meaning
 pub mod Plan
+pub mod Places
 pub mod Compiled
 pub mod steps

@@ -5,6 +5,7 @@ ghost use Rattle.plan_ir.specs.Plans.{op_at};
 ghost use Rattle.plan_ir.specs.declared.ops.Op.TheVariants as operation;
 ghost use Rattle.plan_compiler.specs.Compiled.{IsCompiled, IsFirstInput};
 ghost use Rattle.plan_compiler.specs.Meaning.{last_total};
+ghost use Rattle.plan_compiler.specs.Places.{plan_of};
 ghost use Rattle.plan_compiler.specs.Plan.{IsPlanOf};
 ghost use Rattle.plan_compiler.specs.steps.Layout.{AreFirsts};
 
@@ -85,7 +86,7 @@ impl CompiledSet {
 /// The tables with the plan of their steps. `Err` is want of memory.
 pub fn compile(alloc: Global, tables: Tables) -> Result<CompiledSet, AllocError>
     ensures tables { IfOk result (λ set. set.tables ≡ tables) }
-    ensures plan { IfOk result (λ set. IsPlanOf tables set.plan) }
+    ensures plan { IfOk result (λ set. set.plan ≡ plan_of tables) }
 {
     let _limits = tables.commodities();
     let ops = ops_of(alloc, &tables)?;

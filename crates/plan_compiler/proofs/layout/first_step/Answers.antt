@@ -1,7 +1,6 @@
-use Rattle.std.proofs.Common.{◌≡◌, ◌∙◌, ◌+◌, ◌<◌, ◌≤◌, ap, sym, length, slice_index_or, arith}
-use Rattle.std.specs.List.{range_with_len}
+use Rattle.std.proofs.Common.{◌≡◌, ◌∙◌, ◌+◌, ap, length, slice_index_or, arith}
 use Rattle.std.proofs.lemmas.List.FromFn.{get_or-map-range_with_len, length-map-range_with_len}
-use Rattle.plan_compiler.specs.steps.Layout.{first_step}
+use Rattle.plan_compiler.specs.Places.{first_step}
 use Rattle.plan_compiler.proofs.LayoutLemmas.{first_small}
 use Rattle.plan_compiler.proofs.layout.first_step.Goals as goal
 

@@ -2,7 +2,7 @@ use Rattle.std.proofs.Common.{◌≡◌, ◌∙◌, ◌++◌, ◌∷◌, [], ◌
 use Rattle.std.specs.List.{range_with_len}
 use Rattle.std.proofs.lemmas.List.FromFn.{map-range_with_len_more}
 use Rattle.plan_ir.specs.Figures.{intras_at}
-use Rattle.plan_compiler.specs.steps.Layout.{first_step}
+use Rattle.plan_compiler.specs.Places.{first_step}
 use Rattle.plan_compiler.proofs.LayoutLemmas.{first_more}
 use Rattle.plan_compiler.proofs.layout.first_steps.Goals as goal
 

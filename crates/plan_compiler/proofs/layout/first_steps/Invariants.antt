@@ -2,7 +2,7 @@ use Rattle.std.proofs.Common.{◌≡◌, ◌≤◌, ◌*◌, ◌+◌, map}
 use Rattle.std.specs.List.{range_with_len}
 use Rattle.span_tables.specs.declared.limits.TheConstants.{MAX_INTRA_SPREADS}
 use Rattle.plan_compiler.specs.declared.layout.TheConstants.{COMMODITY_STEPS}
-use Rattle.plan_compiler.specs.steps.Layout.{first_step}
+use Rattle.plan_compiler.specs.Places.{first_step}
 use Rattle.plan_compiler.proofs.layout.first_steps.Given as goal
 
 abbrev pub invariant-loop-c : goal.invariant-loop-c

@@ -1,5 +1,5 @@
 use Rattle.std.proofs.Common.{◌≡◌, map, take}
-use Rattle.plan_compiler.specs.steps.Layout.{inputs_of}
+use Rattle.plan_compiler.specs.Places.{inputs_of}
 use Rattle.plan_compiler.proofs.layout.inputs_of_all.Given as goal
 
 abbrev pub invariant-loop-op : goal.invariant-loop-op

@@ -1,5 +1,5 @@
 use Rattle.plan_compiler.proofs.FromPlan.{known_ops}
-use Rattle.plan_compiler.proofs.PlanLaw.{are_inputs, made_set}
+use Rattle.plan_compiler.proofs.PlanLaw.{are_inputs, made_plan, made_set}
 use Rattle.plan_compiler.proofs.set.compile.Goals as goal
 
 pub inputs_of_all-requires-clause-known : goal.inputs_of_all-requires-clause-known
@@ -11,12 +11,11 @@ new-requires c =
 
 pub invariant_of-result : goal.invariant_of-result
 invariant_of-result c =
-    made_set c.args.tables c.commodities-limits.ensures.limits c.in_ok-plan.plan c.in_ok-ops.ops.items c.deref-2.result.now
-    c.in_ok-inputs.inputs c.in_ok-firsts.firsts.items c.in_ok-plan.ensures c.in_ok-inputs.ensures c.deref-2.ensures.value
-    c.in_ok-ops.ensures c.in_ok-firsts.ensures
+    let is = made_plan c.args.tables c.in_ok-plan.plan c.in_ok-ops.ops.items c.deref-2.result.now c.in_ok-inputs.inputs c.in_ok-plan.ensures
+    c.in_ok-inputs.ensures c.deref-2.ensures.value c.in_ok-ops.ensures in
+    made_set c.args.tables c.commodities-limits.ensures.limits c.in_ok-plan.plan c.in_ok-firsts.firsts.items is c.in_ok-firsts.ensures
 
 pub returns-clause-plan : goal.returns-clause-plan
 returns-clause-plan c =
-    (made_set c.args.tables c.commodities-limits.ensures.limits c.in_ok-plan.plan c.in_ok-ops.ops.items c.deref-2.result.now
-    c.in_ok-inputs.inputs c.in_ok-firsts.firsts.items c.in_ok-plan.ensures c.in_ok-inputs.ensures c.deref-2.ensures.value
-    c.in_ok-ops.ensures c.in_ok-firsts.ensures).is_plan
+    made_plan c.args.tables c.in_ok-plan.plan c.in_ok-ops.ops.items c.deref-2.result.now c.in_ok-inputs.inputs c.in_ok-plan.ensures
+    c.in_ok-inputs.ensures c.deref-2.ensures.value c.in_ok-ops.ensures

@@ -1,7 +1,4 @@
-use Rattle.std.proofs.Common.{◌≡◌, ◌<◌, ◌+◌, ◌∙◌, ap, length, ℕ, subst, arith}
-use Rattle.plan_compiler.specs.Compiled.{IsFirstInput}
-use Rattle.plan_compiler.specs.steps.Layout.{place_of}
-use Rattle.plan_ir.specs.Plans.{op_at}
+use Rattle.std.proofs.Common.{◌<◌, length}
 use Rattle.plan_ir.specs.declared.ops.Op.TheVariants as op
 use Rattle.plan_compiler.proofs.PlanLaw.{final_stays, op_at_place, place_within}
 use Rattle.plan_compiler.proofs.set.CompiledSet.final_step.Goals as goal

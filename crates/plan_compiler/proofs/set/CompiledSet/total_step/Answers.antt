@@ -1,6 +1,5 @@
-use Rattle.std.proofs.Common.{◌≡◌, ◌≤◌, ◌∙◌, ap, sym, length, arith}
+use Rattle.std.proofs.Common.{length, arith}
 use Rattle.plan_compiler.specs.Meaning.{last_total}
-use Rattle.plan_compiler.specs.steps.Layout.{total_step}
 use Rattle.plan_compiler.proofs.FromPlan.{known_before_total, place-before_total}
 use Rattle.plan_compiler.proofs.PlanLaw.{op_at_place, place_within, total_stays}
 use Rattle.plan_compiler.proofs.set.CompiledSet.total_step.Goals as goal
