@@ -1,5 +1,5 @@
 -- A spread of which a leg has nothing to use is not formed, and changes nothing.
-use Rattle.std.proofs.Common.{◌≡◌, ℕ, zero, suc, ◌+◌, ◌*◌, ◌/◌, ◌<◌, ◌≤◌, Bool, true, false, cond, List, [], ◌∷◌, ◌++◌, refl, sym, ap, ◌∙◌, subst, arith, sum_by, fold}
+use Rattle.std.proofs.Common.{◌≡◌, ℕ, zero, suc, ◌+◌, ◌*◌, ◌/◌, ◌^◌, ◌<◌, ◌≤◌, Bool, true, false, cond, List, [], ◌∷◌, ◌++◌, refl, sym, ap, ◌∙◌, subst, arith, sum_by, fold}
 use Rattle.std.specs.Prelude.{ℤ, pos, negsuc, All}
 use Rattle.std.specs.Int.{div_ceil}
 use Rattle.std.proofs.Math.Nat.{zero-div}
@@ -162,4 +162,4 @@ spots_of_nothing (s ∷ spots) =
 -- nor is anything delivered
 pub delivery_of_nothing : (spots : List Spot) → delivery_charge [] [] spots ≡ 0
 unfolding delivery_charge
-delivery_of_nothing spots = ap (λ n. div_ceil n 100000000) (spots_of_nothing spots)
+delivery_of_nothing spots = ap (λ n. div_ceil n (10 ^ 8)) (spots_of_nothing spots)
