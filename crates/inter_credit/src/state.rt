@@ -1,4 +1,5 @@
-//! For each commodity its net delta, what spreads have left of it, its price risk, and what earns its credit.
+//! For each commodity its net delta, what spreads have left of it, its price risk, and what earns its credit
+//! (docs/METHOD.md, Intercommodity spreads).
 ghost use Rattle.std.specs.Prelude.{◌≡◌, ◌<◌, ◌≤◌, ◌==◌, false, length, replicate, slice_set, All, IfOk, pos, nat_abs};
 ghost use Rattle.inter_credit.specs.Credits.{inter_both_ways, unspread_line};
 ghost use Rattle.span_tables.specs.Accepted.{IsInter};
@@ -14,8 +15,8 @@ use std::marker::Model;
 
 /// A commodity in the intercommodity stage.
 ///
-/// `net` is its net delta (at most `MAX_UNITS` either way) and `rest` what spreads have left of it, `price2` is price
-/// risk doubled (in minor units, at most `MAX_PRICE2`), and `weight` is the sum of units used times basis points.
+/// `net` is its net delta (in 10^-8 deltas, at most `MAX_UNITS` either way) and `rest` what spreads have left of it, `price2`
+/// is price risk doubled (in minor units, at most `MAX_PRICE2`), and `weight` is the sum of units used times basis points.
 #[derive(Clone, Copy, Debug, PartialEq, Eq)]
 pub struct InterLine {
     pub weight: u128,
@@ -76,7 +77,7 @@ impl InterState {
         Ok(InterState { lines, sides })
     }
 
-    /// Gives a commodity its net delta and its price risk; its rest is its full net delta.
+    /// Gives a commodity its net delta, and its price risk doubled in minor units; its rest is its full net delta.
     ///
     /// Nothing was loaded for that commodity, and no spread was formed.
     pub fn load(&mut self, commodity: usize, net: Units, price2: u64)
@@ -134,7 +135,8 @@ pub fn empty(alloc: Global, commodities: usize) -> Result<InterState, AllocError
     Ok(InterState { lines, sides })
 }
 
-/// The state with the net delta and the price risk of one more commodity, whose rest is its full net delta.
+/// The state with the net delta of one more commodity, and its price risk doubled in minor units; its rest is its full
+/// net delta.
 ///
 /// Nothing was loaded for that commodity, and no spread was formed.
 ///
