@@ -69,7 +69,8 @@ impl TierState {
         })
     }
 
-    /// Whether a spread may be formed. `false` tells that it changes nothing.
+    /// Whether a spread may be formed. `false` tells that it changes nothing; `true` tells nothing, since a side that spreads
+    /// used up still counts.
     pub fn may_spread(&self, intra: &Intra) -> bool
         ensures { result ≡ false → spread_both_ways self.now intra.now ≡ self.now }
     {

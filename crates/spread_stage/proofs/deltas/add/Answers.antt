@@ -1,4 +1,5 @@
-use Rattle.std.proofs.Common.{◌≡◌, ◌≤◌, ◌+◌, nat_abs, sym, ap, ◌∙◌, arith, get_or, ◌+ℤ◌, ℤ, Some, None, ◌++◌, ◌∷◌, []}
+use Rattle.std.proofs.Common.{◌≡◌, ◌≤◌, ◌+◌, nat_abs, sym, ap, ◌∙◌, arith, get_or, ◌+ℤ◌, ℤ, Some, None}
+use Rattle.std.proofs.Common.{◌++◌, ◌∷◌, []}
 use Rattle.std.specs.List.{insert}
 use Rattle.std.specs.Prelude.{position, nat_le}
 use Rattle.std.proofs.lemmas.Int.{ints}
@@ -39,7 +40,8 @@ returns-in_ok-insert-in-Some-2 c =
     let here : d ≡ get_or ms i d = c.index.ensures in
     let units : c.new-in-Some-2.result ≡ c.args.units = omega (arith, ints, c.new-in-Some-2.ensures) in
     c.in_ok-insert-in-Some-2.ensures.items ∙ ap (λ (u : ℤ). insert ms i (record { month = c.args.month; units = u })) units
-    ∙ with_units-insert c.args.month c.args.units ms i d found (λ same. c.if-index-month.false (ap (λ (m : MonthUnits). m.month) here ∙ same))
+    ∙ with_units-insert c.args.month c.args.units ms i d found
+    (λ same. c.if-index-month.false (ap (λ (m : MonthUnits). m.month) here ∙ same))
 
 pub returns-in_ok-push-in-None : goal.returns-in_ok-push-in-None
 returns-in_ok-push-in-None c =
