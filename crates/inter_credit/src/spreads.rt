@@ -147,7 +147,7 @@ pub(crate) fn spread_both_ways(lines: &mut [InterLine], sides: &OpenSides, sprea
     spread_one_way(lines, sides, spread, Direction::AShort);
 }
 
-// Whether a spread may be formed in one of the directions. `false` says that none is.
+// Whether a spread may be formed in one of the directions. `false` says that none is, `true` nothing.
 #[tactic(auto, unfolding(crate::specs::Credits::inter_both_ways))]
 pub(crate) fn may_form_either(sides: &OpenSides, spread: &Inter) -> bool
     ensures { (lines : List InterLine) → AreOpen sides.now lines → result ≡ false

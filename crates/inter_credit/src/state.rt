@@ -105,7 +105,8 @@ impl InterState {
         spread_both_ways(&mut self.lines, &self.sides, spread);
     }
 
-    /// Whether a spread may be formed. `false` says that none is, and that the state stays as it is.
+    /// Whether a spread may be formed. `false` says that none is, and that the state stays as it is; `true` says nothing, since
+    /// a side that spreads used up still counts.
     pub fn may_spread(&self, spread: &Inter) -> bool
         ensures { result ≡ false → inter_both_ways self.now spread.now ≡ self.now }
     {

@@ -105,55 +105,6 @@ fn spread_of(
     Inter::new(basis_points, legs)
 }
 
-#[test]
-fn spreads_of_two_commodities(rt: HostRuntime) -> Result<(), Fail> {
-    let cases = [
-        (
-            5000,
-            10_000,
-            10_000,
-            (100_000_000, 2400),
-            (0, 500_000_000_000, 600),
-            (-100_000_000, 500_000_000_000, 450),
-        ),
-        (
-            3333,
-            10_000,
-            10_000,
-            (100_000_000, 2400),
-            (0, 333_300_000_000, 399),
-            (-100_000_000, 333_300_000_000, 299),
-        ),
-        (
-            5000,
-            20_000,
-            30_000,
-            (100_000_000, 2400),
-            (0, 500_000_000_000, 600),
-            (-50_000_000, 750_000_000_000, 675),
-        ),
-        (
-            5000,
-            10_000,
-            10_000,
-            (0, 2400),
-            (0, 0, 0),
-            (-200_000_000, 0, 0),
-        ),
-    ];
-    for (basis_points, ratio, other_ratio, before, after, other_after) in cases {
-        let commodities = [
-            commodity(before, after),
-            commodity((-200_000_000, 3600), other_after),
-        ];
-        let mut state = loaded(&rt, rt.alloc(), &commodities)?;
-        let spread = spread_of(&rt, state.len(), basis_points, (0, ratio), (1, other_ratio));
-        state.spread(&spread);
-        compare(&rt, &state, &commodities);
-    }
-    Ok(())
-}
-
 // Forms spreads one after the other, each of its basis points and two legs, and compares what they leave.
 fn expect_spreads(
     rt: &impl Abort,
@@ -167,6 +118,38 @@ fn expect_spreads(
         state = inter_spread(alloc, &state, &spread)?;
     }
     compare(rt, &state, commodities);
+    Ok(())
+}
+
+// Each against 2 short deltas with a price risk doubled of 3600.
+#[test]
+fn spreads_of_two_commodities(rt: HostRuntime) -> Result<(), Fail> {
+    let cases = [
+        (
+            (5000, (0, 10_000), (1, 10_000)),
+            commodity((100_000_000, 2400), (0, 500_000_000_000, 600)),
+            (-100_000_000, 500_000_000_000, 450),
+        ),
+        (
+            (3333, (0, 10_000), (1, 10_000)),
+            commodity((100_000_000, 2400), (0, 333_300_000_000, 399)),
+            (-100_000_000, 333_300_000_000, 299),
+        ),
+        (
+            (5000, (0, 20_000), (1, 30_000)),
+            commodity((100_000_000, 2400), (0, 500_000_000_000, 600)),
+            (-50_000_000, 750_000_000_000, 675),
+        ),
+        (
+            (5000, (0, 10_000), (1, 10_000)),
+            commodity((0, 2400), (0, 0, 0)),
+            (-200_000_000, 0, 0),
+        ),
+    ];
+    for (spread, first, after) in cases {
+        let second = commodity((-200_000_000, 3600), after);
+        expect_spreads(&rt, rt.alloc(), &[spread], &[first, second])?;
+    }
     Ok(())
 }
 
