@@ -1,4 +1,4 @@
-use Rattle.std.proofs.Common.{rules, ◌+◌, ◌≡◌, ◌++◌, ◌∙◌, ap, sym, refl, [], ◌∷◌, take, ℕ, List}
+use Rattle.std.proofs.Common.{rules, ◌≡◌, ◌++◌, ◌∙◌, ap, sym, refl, [], ◌∷◌, take, ℕ, List}
 use Rattle.std.proofs.KnownBytes.{Consumes-kept, Consumes-trans, Consumes-whole}
 use Rattle.std.proofs.lemmas.List.{append-nil}
 use Rattle.span_cli.proofs.reading.read_pieces.Goals as goal
