@@ -1,5 +1,6 @@
 -- What positions are bound to, fault by fault.
-use Rattle.std.proofs.Common.{◌≡◌, ℕ, Bool, true, false, ◌&&◌, List, length, map, Option, Some, None, Ok, Err, refl, sym, ap, subst, ◌∙◌}
+use Rattle.std.proofs.Common.{◌≡◌, ℕ, Bool, true, false, ◌&&◌, List, length, map}
+use Rattle.std.proofs.Common.{Option, Some, None, Ok, Err, refl, sym, ap, subst, ◌∙◌}
 use Rattle.std.specs.Prelude.{All, bytes_eq, MatchBool, ⊤, Result}
 use Rattle.std.specs.Option.{option_or}
 use Rattle.std.specs.List.{list_any}
@@ -13,7 +14,8 @@ use Rattle.span_tables.specs.Net.{AccountHoldings, accounts_of, holdings_of, por
 use Rattle.span_tables.specs.declared.portfolios.Holding.{Holding}
 use Rattle.span_tables.specs.declared.records.Contract.{Contract}
 use Rattle.span_tables.specs.declared.records.PositionRecord.{PositionRecord}
-use Rattle.param_check.specs.Binding.{first_unfit, is_unknown, is_first_of_contract, is_first_of_account, exceeds_net, exceeds_held, bind_fault, bindings_of, is_memory}
+use Rattle.param_check.specs.Binding.{first_unfit, is_unknown, is_first_of_contract, is_first_of_account}
+use Rattle.param_check.specs.Binding.{exceeds_net, exceeds_held, bind_fault, bindings_of, is_memory}
 use Rattle.param_check.specs.steps.Holdings.{ids_of, net_fault, held_fault, portfolios_from, portfolios_or_fault}
 use Rattle.param_check.specs.steps.Ledger.{IsLedger, is_foreign, foreign_fault}
 use Rattle.param_check.specs.steps.Nets.{entry_holdings, entries_of}
@@ -40,7 +42,8 @@ module _ (contracts : List Contract) (positions : List PositionRecord) where
   too_many = first_unfit fault.TooManyHeld (λ earlier p. is_first_of_account earlier p && exceeds_held contracts positions p) positions
 
   bound_is : (b1 b2 b3 : Option BindFault) → unknown ≡ b1 → out_of_range ≡ b2 → too_many ≡ b3
-      → bindings_of contracts positions ≡ ok_unless (option_or b1 (option_or b2 (option_or b3 None))) (portfolios_of contracts positions)
+      → bindings_of contracts positions ≡ ok_unless (option_or b1 (option_or b2 (option_or b3 None)))
+      (portfolios_of contracts positions)
   unfolding bindings_of bind_fault unknown out_of_range too_many
   bound_is b1 b2 b3 x y z =
       ap (λ o. ok_unless (option_or o (option_or out_of_range (option_or too_many None))) (portfolios_of contracts positions)) x
@@ -48,27 +51,33 @@ module _ (contracts : List Contract) (positions : List PositionRecord) where
       ∙ ap (λ o. ok_unless (option_or b1 (option_or b2 (option_or o None))) (portfolios_of contracts positions)) z
 
   -- a record of an unknown contract
-  pub bound_unknown : (e : BindFault) → foreign_fault (ids_of contracts) positions ≡ Some e → bindings_of contracts positions ≡ Err e
+  pub bound_unknown : (e : BindFault) → foreign_fault (ids_of contracts) positions ≡ Some e
+      → bindings_of contracts positions ≡ Err e
   unfolding unknown
   bound_unknown e h = bound_is (Some e) out_of_range too_many (sym (foreign_fault_is contracts positions) ∙ h) refl refl
 
   -- a record of an unknown contract, as it is answered
   pub unknown_given : (r : Result (List AccountHoldings) BindFault) (ids : List (List ℕ)) (e : BindFault) → ids ≡ ids_of contracts
-      → MatchBool (is_memory e) ⊤ (foreign_fault ids positions ≡ Some e) → r ≡ Err e → Gives is_memory r (bindings_of contracts positions)
+      → MatchBool (is_memory e) ⊤ (foreign_fault ids positions ≡ Some e) → r ≡ Err e
+      → Gives is_memory r (bindings_of contracts positions)
   unknown_given r ids e are h is = subst (λ x. Gives is_memory x (bindings_of contracts positions)) (sym is) (by (is_memory e) h)
     where
-      by : (b : Bool) → MatchBool b ⊤ (foreign_fault ids positions ≡ Some e) → MatchBool b ⊤ (bindings_of contracts positions ≡ Err e)
+      by : (b : Bool) → MatchBool b ⊤ (foreign_fault ids positions ≡ Some e)
+          → MatchBool b ⊤ (bindings_of contracts positions ≡ Err e)
       by true h = tt
       by false h = bound_unknown e (ap (λ k. foreign_fault k positions) (sym are) ∙ h)
 
-  module _ (ids : List (List ℕ)) (books : List (List Entry)) (nets : List (List Holding)) (apart : has_repeat (λ x y. bytes_eq x.id y.id) contracts ≡ false)
-      (ids_are : ids ≡ ids_of contracts) (ledger : IsLedger ids positions books) (nets_are : nets ≡ map (entry_holdings (length contracts)) books) where
+  module _ (ids : List (List ℕ)) (books : List (List Entry)) (nets : List (List Holding))
+      (apart : has_repeat (λ x y. bytes_eq x.id y.id) contracts ≡ false)
+      (ids_are : ids ≡ ids_of contracts) (ledger : IsLedger ids positions books)
+      (nets_are : nets ≡ map (entry_holdings (length contracts)) books) where
     known : list_any (is_foreign (ids_of contracts)) positions ≡ false
     known = ap (λ k. list_any (is_foreign k) positions) (sym ids_are) ∙ ledger.all_known
 
     no_unknown : unknown ≡ None
     unfolding unknown foreign_fault
-    no_unknown = sym (foreign_fault_is contracts positions) ∙ unfit_none fault.UnknownContract (is_foreign (ids_of contracts)) positions known
+    no_unknown =
+        sym (foreign_fault_is contracts positions) ∙ unfit_none fault.UnknownContract (is_foreign (ids_of contracts)) positions known
 
     holdings : nets ≡ map (holdings_of contracts positions) (accounts_of positions)
     holdings =
@@ -77,14 +86,17 @@ module _ (contracts : List Contract) (positions : List PositionRecord) where
 
     range_is : net_fault ids (accounts_of positions) nets positions ≡ out_of_range
     unfolding out_of_range
-    range_is = ap (λ k. net_fault k (accounts_of positions) nets positions) ids_are ∙ net_fault_is contracts positions (accounts_of positions) nets refl holdings known
+    range_is =
+        ap (λ k. net_fault k (accounts_of positions) nets positions) ids_are
+        ∙ net_fault_is contracts positions (accounts_of positions) nets refl holdings known
 
     many_is : held_fault (accounts_of positions) nets positions ≡ too_many
     unfolding too_many
     many_is = held_fault_is contracts positions (accounts_of positions) nets refl holdings known
 
     -- what the nets are settled to is what the records are bound to
-    settled_by : (b2 b3 : Option BindFault) → net_fault ids (accounts_of positions) nets positions ≡ b2 → held_fault (accounts_of positions) nets positions ≡ b3
+    settled_by : (b2 b3 : Option BindFault) → net_fault ids (accounts_of positions) nets positions ≡ b2
+        → held_fault (accounts_of positions) nets positions ≡ b3
         → bindings_of contracts positions ≡ ok_unless (option_or b2 b3) (portfolios_from (accounts_of positions) nets)
     settled_by b2 b3 x y =
         bound_is None b2 b3 no_unknown (sym range_is ∙ x) (sym many_is ∙ y)
@@ -93,13 +105,17 @@ module _ (contracts : List Contract) (positions : List PositionRecord) where
 
     pub bound_settled : portfolios_or_fault ids (accounts_of positions) nets positions ≡ bindings_of contracts positions
     unfolding portfolios_or_fault
-    bound_settled = sym (settled_by (net_fault ids (accounts_of positions) nets positions) (held_fault (accounts_of positions) nets positions) refl refl)
+    bound_settled =
+        sym (settled_by (net_fault ids (accounts_of positions) nets positions)
+        (held_fault (accounts_of positions) nets positions) refl refl)
 
-    pub nets_hold : net_fault ids (accounts_of positions) nets positions ≡ None → held_fault (accounts_of positions) nets positions ≡ None → All ArePortfolio nets
+    pub nets_hold : net_fault ids (accounts_of positions) nets positions ≡ None
+        → held_fault (accounts_of positions) nets positions ≡ None → All ArePortfolio nets
     nets_hold none few =
         portfolios_hold contracts positions (accounts_of positions) nets refl holdings
         (fit_from_none fault.NetOutOfRange (exceeds_net positions) positions
-        (sym (net_fault_any contracts positions (accounts_of positions) nets refl holdings known) ∙ ap (λ k. net_fault k (accounts_of positions) nets positions) (sym ids_are) ∙ none))
+        (sym (net_fault_any contracts positions (accounts_of positions) nets refl holdings known)
+        ∙ ap (λ k. net_fault k (accounts_of positions) nets positions) (sym ids_are) ∙ none))
         (fit_from_none fault.TooManyHeld (exceeds_held contracts positions) positions
         (sym (held_fault_any contracts positions (accounts_of positions) nets refl holdings known) ∙ few))
 
@@ -115,21 +131,24 @@ module _ (ids accounts : List (List ℕ)) (nets : List (List Holding)) (position
       ap (λ o. ok_unless (option_or o (held_fault accounts nets positions)) (portfolios_from accounts nets)) (sym x)
       ∙ ap (λ o. ok_unless (option_or b2 o) (portfolios_from accounts nets)) (sym y)
 
-  fault_given : (e : BindFault) → portfolios_or_fault ids accounts nets positions ≡ Err e → MatchBool (is_memory e) ⊤ (portfolios_or_fault ids accounts nets positions ≡ Err e)
+  fault_given : (e : BindFault) → portfolios_or_fault ids accounts nets positions ≡ Err e
+      → MatchBool (is_memory e) ⊤ (portfolios_or_fault ids accounts nets positions ≡ Err e)
   fault_given e h = by (is_memory e)
     where
       by : (b : Bool) → MatchBool b ⊤ (portfolios_or_fault ids accounts nets positions ≡ Err e)
       by true = tt
       by false = h
 
-  pub settled_net : (e : BindFault) → Some e ≡ net_fault ids accounts nets positions → MatchBool (is_memory e) ⊤ (portfolios_or_fault ids accounts nets positions ≡ Err e)
+  pub settled_net : (e : BindFault) → Some e ≡ net_fault ids accounts nets positions
+      → MatchBool (is_memory e) ⊤ (portfolios_or_fault ids accounts nets positions ≡ Err e)
   settled_net e h = fault_given e (settled_is (Some e) (held_fault accounts nets positions) h refl)
 
   pub settled_held : (e : BindFault) → None ≡ net_fault ids accounts nets positions → Some e ≡ held_fault accounts nets positions
       → MatchBool (is_memory e) ⊤ (portfolios_or_fault ids accounts nets positions ≡ Err e)
   settled_held e none h = fault_given e (settled_is None (Some e) none h)
 
-  pub settled_all : (all : List AccountHoldings) → None ≡ net_fault ids accounts nets positions → None ≡ held_fault accounts nets positions → all ≡ portfolios_from accounts nets
+  pub settled_all : (all : List AccountHoldings) → None ≡ net_fault ids accounts nets positions
+      → None ≡ held_fault accounts nets positions → all ≡ portfolios_from accounts nets
       → portfolios_or_fault ids accounts nets positions ≡ Ok all
   settled_all all none few is = settled_is None None none few ∙ ap Ok (sym is)
 

@@ -1,5 +1,6 @@
 -- A filter of a list by what its elements are.
-use Rattle.std.proofs.Common.{◌≡◌, ℕ, ◌+◌, ◌<◌, Bool, List, [], ◌∷◌, ◌++◌, Option, Some, None, refl, length, take, get_or, ap, ◌∙◌}
+use Rattle.std.proofs.Common.{◌≡◌, ℕ, ◌+◌, ◌<◌, Bool, List, [], ◌∷◌, ◌++◌}
+use Rattle.std.proofs.Common.{Option, Some, None, refl, length, take, get_or, ap, ◌∙◌}
 use Rattle.std.specs.Prelude.{filter_map, map, option_to_list}
 use Rattle.std.specs.List.{list_any}
 use Rattle.std.proofs.lemmas.List.{take_more}
@@ -12,11 +13,14 @@ module _ {X A : Type 0} (h : X → Option A) where
   alone x (Some a) e = rw e refl
 
   -- one more element
-  pub filter_map_more : (xs : List X) (i : ℕ) (d : X) → i < length xs → filter_map h (take (i + 1) xs) ≡ filter_map h (take i xs) ++ option_to_list (h (get_or xs i d))
+  pub filter_map_more : (xs : List X) (i : ℕ) (d : X) → i < length xs
+      → filter_map h (take (i + 1) xs) ≡ filter_map h (take i xs) ++ option_to_list (h (get_or xs i d))
   filter_map_more xs i d l =
-      rw (take_more xs i d l) (filter_map-append h (take i xs) (get_or xs i d ∷ []) ∙ ap (λ zs. filter_map h (take i xs) ++ zs) (alone (get_or xs i d) (h (get_or xs i d)) refl))
+      rw (take_more xs i d l) (filter_map-append h (take i xs) (get_or xs i d ∷ [])
+      ∙ ap (λ zs. filter_map h (take i xs) ++ zs) (alone (get_or xs i d) (h (get_or xs i d)) refl))
 
-  any_by : (p : A → Bool) (x : X) (xs : List X) (o : Option A) → h x ≡ o → list_any p (filter_map h xs) ≡ list_any (λ y. is_and (h y) p) xs
+  any_by : (p : A → Bool) (x : X) (xs : List X) (o : Option A) → h x ≡ o
+      → list_any p (filter_map h xs) ≡ list_any (λ y. is_and (h y) p) xs
       → list_any p (filter_map h (x ∷ xs)) ≡ list_any (λ y. is_and (h y) p) (x ∷ xs)
   any_by p x xs None e more = rw e more
   any_by p x xs (Some a) e more = rw (e, more) refl

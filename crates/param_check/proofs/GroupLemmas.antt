@@ -4,7 +4,8 @@ use Rattle.std.specs.Option.{option_or}
 use Rattle.std.specs.Bool.{MatchBool, ⊤}
 use Rattle.span_tables.specs.Faults.{ok_unless}
 use Rattle.span_tables.specs.Tables.{tables_of}
-use Rattle.span_tables.specs.Rules.{first_breaking, repeats_commodity, names_no_commodity, repeats_contract, repeats_tier, is_backwards, overlaps_tier, names_no_tier, repeats_leg, is_one_sided, repeats_priority, repeats_spot}
+use Rattle.span_tables.specs.Rules.{first_breaking, repeats_commodity, names_no_commodity, repeats_contract, repeats_tier, is_backwards}
+use Rattle.span_tables.specs.Rules.{overlaps_tier, names_no_tier, repeats_leg, is_one_sided, repeats_priority, repeats_spot}
 use Rattle.span_tables.specs.declared.records.Record.{Record}
 use Rattle.param_check.specs.CheckFaults.{check_fault, checked, is_memory}
 use Rattle.param_check.specs.steps.Groups.{rule_outcome, name_fault, tier_fault, spread_fault}
@@ -17,8 +18,11 @@ or_more x e = ap (option_or x) e
 
 -- eleven outcomes, in groups of three, four and four
 grouped : {F : Type 0} (a b c d e f g h i j k : Option F)
-    → option_or a (option_or b (option_or c (option_or d (option_or e (option_or f (option_or g (option_or h (option_or i (option_or j (option_or k None))))))))))
-    ≡ option_or (option_or a (option_or b (option_or c None))) (option_or (option_or d (option_or e (option_or f (option_or g None)))) (option_or h (option_or i (option_or j (option_or k None)))))
+    → option_or a (option_or b (option_or c
+    (option_or d (option_or e (option_or f (option_or g (option_or h (option_or i (option_or j (option_or k None))))))))))
+    ≡ option_or (option_or a (option_or b (option_or c None)))
+    (option_or (option_or d (option_or e (option_or f (option_or g None))))
+    (option_or h (option_or i (option_or j (option_or k None)))))
 grouped (Some x) b c d e f g h i j k = refl
 grouped None (Some x) c d e f g h i j k = refl
 grouped None None (Some x) d e f g h i j k = refl
@@ -32,7 +36,8 @@ one : (name : ℕ → CheckFault) (breaks : List Record → Record → Bool) (al
     → option_or (first_breaking name breaks all) x ≡ option_or (rule_outcome name breaks all) y
 one name breaks all {x = x} e = ap (λ o. option_or o x) (first_breaking-named name breaks all) ∙ or_more (rule_outcome name breaks all) e
 
-pub check_fault_in_groups : (all : List Record) → check_fault all ≡ option_or (name_fault all) (option_or (tier_fault all) (spread_fault all))
+pub check_fault_in_groups : (all : List Record)
+    → check_fault all ≡ option_or (name_fault all) (option_or (tier_fault all) (spread_fault all))
 unfolding check_fault name_fault tier_fault spread_fault
 check_fault_in_groups all =
     (one fault.DuplicateCommodity repeats_commodity all
@@ -64,11 +69,12 @@ unless true p = tt
 unless false p = p
 
 -- a fault of the check is the answer
-pub checked_fault : (all : List Record) (fault : CheckFault) → check_fault all ≡ Some fault → MatchBool (is_memory fault) ⊤ (checked all ≡ Err fault)
+pub refused : (all : List Record) (fault : CheckFault) → check_fault all ≡ Some fault
+    → MatchBool (is_memory fault) ⊤ (checked all ≡ Err fault)
 unfolding checked
-checked_fault all fault e = unless (is_memory fault) (ap (λ o. ok_unless o (tables_of all)) e)
+refused all fault e = unless (is_memory fault) (ap (λ o. ok_unless o (tables_of all)) e)
 
 -- with no fault, the tables are
-pub checked_tables : (all : List Record) → check_fault all ≡ None → checked all ≡ Ok (tables_of all)
+pub accepted : (all : List Record) → check_fault all ≡ None → checked all ≡ Ok (tables_of all)
 unfolding checked
-checked_tables all e = ap (λ o. ok_unless o (tables_of all)) e
+accepted all e = ap (λ o. ok_unless o (tables_of all)) e

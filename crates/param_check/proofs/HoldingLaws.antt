@@ -1,5 +1,6 @@
 -- Laws that tie what the binding computes to the definitions.
-use Rattle.std.proofs.Common.{◌≡◌, ℕ, zero, suc, ◌+◌, ◌⊎◌, Bool, true, false, cond, not, ◌&&◌, List, [], ◌∷◌, length, filter, map, Some, slice_get, refl, sym, ap, subst, ◌∙◌, inl, inr, arith}
+use Rattle.std.proofs.Common.{◌≡◌, ℕ, zero, suc, ◌+◌, ◌⊎◌, Bool, true, false, cond, not, ◌&&◌, List, []}
+use Rattle.std.proofs.Common.{◌∷◌, length, filter, map, Some, slice_get, refl, sym, ap, subst, ◌∙◌, inl, inr, arith}
 use Rattle.std.specs.Prelude.{ℤ, pos, ◌+ℤ◌, bytes_eq, ◌==◌}
 use Rattle.std.specs.List.{list_any, enumerate_from, range_with_len, position_or_len}
 use Rattle.std.proofs.lemmas.Bool.{cases_eq, or_parts, eq-eqb, ne_eqb}
@@ -10,16 +11,19 @@ use Rattle.span_tables.specs.declared.portfolios.Holding.{Holding}
 use Rattle.span_tables.specs.declared.records.Contract.{Contract}
 use Rattle.span_tables.specs.declared.records.PositionRecord.{PositionRecord}
 use Rattle.span_tables.proofs.SumLaws.{int_sum_by-if}
+use Rattle.span_tables.proofs.NameLemmas.{same_name}
 use Rattle.param_check.specs.steps.Nets.{entry_of, entries_of, entry_net, entry_holdings}
 use Rattle.param_check.specs.steps.Holdings.{ids_of}
 use Rattle.param_check.specs.declared.nets.Entry.{Entry}
-use Rattle.param_check.proofs.AccountLaws.{same_bytes}
 
 -- ---- contracts by number
 
-apart_head : (x : Contract) (xs : List Contract) (k : ℕ) (y : Contract) → list_any (λ z. bytes_eq x.id z.id) xs ≡ false → slice_get xs k ≡ Some y → bytes_eq x.id y.id ≡ false
+apart_head : (x : Contract) (xs : List Contract) (k : ℕ) (y : Contract) → list_any (λ z. bytes_eq x.id z.id) xs ≡ false
+    → slice_get xs k ≡ Some y → bytes_eq x.id y.id ≡ false
 apart_head x [] k y h e = cc
-apart_head x (z ∷ xs) zero y h e = let same : z ≡ y = cc in subst (λ w. bytes_eq x.id w.id ≡ false) same (or_parts (bytes_eq x.id z.id) (list_any (λ w. bytes_eq x.id w.id) xs) h).0
+apart_head x (z ∷ xs) zero y h e =
+    let same : z ≡ y = cc in subst (λ w. bytes_eq x.id w.id ≡ false) same
+    (or_parts (bytes_eq x.id z.id) (list_any (λ w. bytes_eq x.id w.id) xs) h).0
 apart_head x (z ∷ xs) (suc k) y h e = apart_head x xs k y (or_parts (bytes_eq x.id z.id) (list_any (λ w. bytes_eq x.id w.id) xs) h).1 e
 
 eqb_up : (a b : ℕ) → (1 + a == suc b) ≡ (a == b)
@@ -30,7 +34,8 @@ eqb_up a b = by (cases_eq a b)
     by (inr n) = ne_eqb (1 + a) (suc b) (λ e. n (omega (arith, e))) ∙ sym (ne_eqb a b n)
 
 -- a name has a number just where it is the id of the contract of that number
-number_is : (contracts : List Contract) (name : List ℕ) (k : ℕ) (x : Contract) → has_repeat (λ y z. bytes_eq y.id z.id) contracts ≡ false → slice_get contracts k ≡ Some x
+number_is : (contracts : List Contract) (name : List ℕ) (k : ℕ) (x : Contract)
+    → has_repeat (λ y z. bytes_eq y.id z.id) contracts ≡ false → slice_get contracts k ≡ Some x
     → (position_or_len (bytes_eq name) (ids_of contracts) == k) ≡ bytes_eq name x.id
 number_is [] name k x h e = cc
 number_is (y ∷ contracts) name zero x h e = let same : y ≡ x = cc in by (bytes_eq name y.id) refl ∙ ap (λ z. bytes_eq name z.id) same
@@ -46,15 +51,19 @@ number_is (y ∷ contracts) name (suc k) x h e = by (bytes_eq name y.id) refl (n
     rest : ℕ
     rest = position_or_len (bytes_eq name) (ids_of contracts)
 
-    by : (b : Bool) → bytes_eq name y.id ≡ b → (rest == k) ≡ bytes_eq name x.id → (cond (not b) (1 + rest) 0 == suc k) ≡ bytes_eq name x.id
+    by : (b : Bool) → bytes_eq name y.id ≡ b → (rest == k) ≡ bytes_eq name x.id
+        → (cond (not b) (1 + rest) 0 == suc k) ≡ bytes_eq name x.id
     by true t more =
-        let other : bytes_eq name x.id ≡ false = subst (λ z. bytes_eq z x.id ≡ false) (sym (same_bytes name y.id t)) (apart_head y contracts k x parts.0 e) in
+        let other : bytes_eq name x.id ≡ false =
+        subst (λ z. bytes_eq z x.id ≡ false) (sym (same_name name y.id t)) (apart_head y contracts k x parts.0 e) in
         ne_eqb 0 (suc k) (λ z. omega (arith, z)) ∙ sym other
     by false t more = eqb_up rest k ∙ more
 
 -- the net of an account's entries in the contract of a number
-net_is : (contracts : List Contract) (account : List ℕ) (k : ℕ) (x : Contract) → has_repeat (λ y z. bytes_eq y.id z.id) contracts ≡ false → slice_get contracts k ≡ Some x
-    → (positions : List PositionRecord) → net_of positions account x.id ≡ entry_net (entries_of (ids_of contracts) positions account) k
+net_is : (contracts : List Contract) (account : List ℕ) (k : ℕ) (x : Contract)
+    → has_repeat (λ y z. bytes_eq y.id z.id) contracts ≡ false → slice_get contracts k ≡ Some x
+    → (positions : List PositionRecord) → net_of positions account x.id
+    ≡ entry_net (entries_of (ids_of contracts) positions account) k
 net_is contracts account k x h e [] = refl
 net_is contracts account k x h e (p ∷ positions) = by (bytes_eq p.account account) (net_is contracts account k x h e positions)
   where
@@ -68,12 +77,14 @@ net_is contracts account k x h e (p ∷ positions) = by (bytes_eq p.account acco
     chosen = filter (λ q. bytes_eq q.account account && bytes_eq q.contract x.id) positions
 
     by : (b : Bool) → net_of positions account x.id ≡ entry_net (entries_of ids positions account) k
-        → int_sum_by (λ q. q.quantity) (cond (b && bytes_eq p.contract x.id) (p ∷ chosen) chosen) ≡ entry_net (map (entry_of ids) (cond b (p ∷ rest) rest)) k
+        → int_sum_by (λ q. q.quantity) (cond (b && bytes_eq p.contract x.id) (p ∷ chosen) chosen)
+        ≡ entry_net (map (entry_of ids) (cond b (p ∷ rest) rest)) k
     by true more =
         int_sum_by-if (λ (q : PositionRecord). q.quantity) (bytes_eq p.contract x.id) p chosen
         ∙ ap (λ z. cond (bytes_eq p.contract x.id) p.quantity (pos 0) +ℤ z) more
         ∙ ap (λ t. cond t p.quantity (pos 0) +ℤ entry_net (map (entry_of ids) rest) k) (sym (number_is contracts p.contract k x h e))
-        ∙ sym (int_sum_by-if (λ (q : Entry). q.quantity) (position_or_len (bytes_eq p.contract) ids == k) (entry_of ids p) (filter (λ (q : Entry). q.contract == k) (map (entry_of ids) rest)))
+        ∙ sym (int_sum_by-if (λ (q : Entry). q.quantity) (position_or_len (bytes_eq p.contract) ids == k) (entry_of ids p)
+        (filter (λ (q : Entry). q.contract == k) (map (entry_of ids) rest)))
     by false more = more
 
 holding_with : ℕ → ℤ → Holding
@@ -81,26 +92,34 @@ holding_with k z = record { contract = k; net = z }
 
 same_holdings : (positions : List PositionRecord) (account : List ℕ) (es : List Entry) (a : ℕ) (xs : List Contract)
     → ((k : ℕ) (x : Contract) → slice_get xs k ≡ Some x → net_of positions account x.id ≡ entry_net es (a + k))
-    → map (holding_of positions account) (enumerate_from a xs) ≡ map (λ c. record { contract = c; net = entry_net es c }) (range_with_len a (length xs))
+    → map (holding_of positions account) (enumerate_from a xs)
+    ≡ map (λ c. record { contract = c; net = entry_net es c }) (range_with_len a (length xs))
 unfolding holding_with
 same_holdings positions account es a [] h = refl
 same_holdings positions account es a (x ∷ xs) h =
-    let here : net_of positions account x.id ≡ entry_net es a = h 0 x refl ∙ (let z : a + 0 ≡ a = omega arith in ap (entry_net es) z) in
-    let rest = same_holdings positions account es (a + 1) xs (λ k y e. h (suc k) y e ∙ (let z : a + suc k ≡ a + 1 + k = omega arith in ap (entry_net es) z)) in
+    let here : net_of positions account x.id ≡ entry_net es a = h 0 x refl
+    ∙ (let z : a + 0 ≡ a = omega arith in ap (entry_net es) z) in
+    let rest = same_holdings positions account es (a + 1) xs
+    (λ k y e. h (suc k) y e ∙ (let z : a + suc k ≡ a + 1 + k = omega arith in ap (entry_net es) z)) in
     λ i. holding_with a (here i) ∷ rest i
 
 -- what an account holds is what its entries hold
-pub holdings_are : (contracts : List Contract) (positions : List PositionRecord) (account : List ℕ) → has_repeat (λ y z. bytes_eq y.id z.id) contracts ≡ false
+pub holdings_are : (contracts : List Contract) (positions : List PositionRecord) (account : List ℕ)
+    → has_repeat (λ y z. bytes_eq y.id z.id) contracts ≡ false
     → holdings_of contracts positions account ≡ entry_holdings (length contracts) (entries_of (ids_of contracts) positions account)
 unfolding entry_holdings
 holdings_are contracts positions account h =
     ap (filter is_held) (same_holdings positions account (entries_of (ids_of contracts) positions account) 0 contracts
-    (λ k x e. net_is contracts account k x h e positions ∙ (let z : k ≡ 0 + k = omega arith in ap (entry_net (entries_of (ids_of contracts) positions account)) z)))
+    (λ k x e. net_is contracts account k x h e positions
+    ∙ (let z : k ≡ 0 + k = omega arith in ap (entry_net (entries_of (ids_of contracts) positions account)) z)))
 
-pub all_holdings_are : (contracts : List Contract) (positions : List PositionRecord) (accounts : List (List ℕ)) (books : List (List Entry)) → has_repeat (λ y z. bytes_eq y.id z.id) contracts ≡ false
-    → books ≡ map (entries_of (ids_of contracts) positions) accounts → map (entry_holdings (length contracts)) books ≡ map (holdings_of contracts positions) accounts
+pub all_holdings_are : (contracts : List Contract) (positions : List PositionRecord) (accounts : List (List ℕ))
+    (books : List (List Entry)) → has_repeat (λ y z. bytes_eq y.id z.id) contracts ≡ false
+    → books ≡ map (entries_of (ids_of contracts) positions) accounts
+    → map (entry_holdings (length contracts)) books ≡ map (holdings_of contracts positions) accounts
 all_holdings_are contracts positions accounts books h e = ap (map (entry_holdings (length contracts))) e ∙ each accounts
   where
-    each : (ks : List (List ℕ)) → map (entry_holdings (length contracts)) (map (entries_of (ids_of contracts) positions) ks) ≡ map (holdings_of contracts positions) ks
+    each : (ks : List (List ℕ)) → map (entry_holdings (length contracts)) (map (entries_of (ids_of contracts) positions) ks)
+        ≡ map (holdings_of contracts positions) ks
     each [] = refl
     each (k ∷ ks) = let here = holdings_are contracts positions k h in let rest = each ks in λ i. sym here i ∷ rest i

@@ -1,5 +1,6 @@
 -- Laws of the ids of contracts that stand apart.
-use Rattle.std.proofs.Common.{◌≡◌, ℕ, zero, suc, ◌+◌, ◌<◌, false, cond, List, [], ◌∷◌, ◌++◌, length, get_or, take, refl, sym, ap, ◌∙◌, arith}
+use Rattle.std.proofs.Common.{◌≡◌, ℕ, zero, suc, ◌+◌, ◌<◌, false, cond, List, []}
+use Rattle.std.proofs.Common.{◌∷◌, ◌++◌, length, get_or, take, refl, sym, ap, ◌∙◌, arith}
 use Rattle.std.specs.Prelude.{bytes_eq}
 use Rattle.std.specs.List.{list_any}
 use Rattle.std.proofs.lemmas.Bool.{or_parts, or_from, true≢false, false_from_ne_true}
@@ -12,7 +13,8 @@ use Rattle.param_check.specs.steps.Holdings.{ids_of}
 use Rattle.param_check.proofs.AccountLaws.{bytes_eq-flip}
 
 -- no id before a contract is that contract's
-new_id : (contracts : List Contract) (i : ℕ) (d : Contract) → has_repeat (λ x y. bytes_eq x.id y.id) contracts ≡ false → i < length contracts
+new_id : (contracts : List Contract) (i : ℕ) (d : Contract) → has_repeat (λ x y. bytes_eq x.id y.id) contracts ≡ false
+    → i < length contracts
     → list_any (bytes_eq (get_or contracts i d).id) (ids_of (take i contracts)) ≡ false
 new_id [] i d h lt = absurd (omega (arith, lt))
 new_id (x ∷ contracts) zero d h lt = refl
@@ -20,13 +22,18 @@ new_id (x ∷ contracts) (suc i) d h lt =
     let parts = or_parts (list_any (λ y. bytes_eq x.id y.id) contracts) (has_repeat (λ y z. bytes_eq y.id z.id) contracts) h in
     let within : i < length contracts = omega (arith, lt) in
     let y = get_or contracts i d in
-    let other : bytes_eq x.id y.id ≡ false = false_from_ne_true (bytes_eq x.id y.id) (λ t. true≢false (sym (list_any_at (λ (z : Contract). bytes_eq x.id z.id) contracts i d within t) ∙ parts.0)) in
-    or_from (bytes_eq y.id x.id) (list_any (bytes_eq y.id) (ids_of (take i contracts))) (bytes_eq-flip y.id x.id ∙ other) (new_id contracts i d parts.1 within)
+    let other : bytes_eq x.id y.id ≡ false =
+    false_from_ne_true (bytes_eq x.id y.id)
+    (λ t. true≢false (sym (list_any_at (λ (z : Contract). bytes_eq x.id z.id) contracts i d within t) ∙ parts.0)) in
+    or_from (bytes_eq y.id x.id) (list_any (bytes_eq y.id) (ids_of (take i contracts))) (bytes_eq-flip y.id x.id ∙ other)
+    (new_id contracts i d parts.1 within)
 
 -- the next id goes last
-pub next_id : (contracts : List Contract) (i : ℕ) (d : Contract) (keys : List (List ℕ)) → has_repeat (λ x y. bytes_eq x.id y.id) contracts ≡ false → i < length contracts
+pub next_id : (contracts : List Contract) (i : ℕ) (d : Contract) (keys : List (List ℕ))
+    → has_repeat (λ x y. bytes_eq x.id y.id) contracts ≡ false → i < length contracts
     → keys ≡ ids_of (take i contracts) → insert_key bytes_eq keys (get_or contracts i d).id ≡ ids_of (take (i + 1) contracts)
 next_id contracts i d keys h lt are =
     ap (λ ks. insert_key bytes_eq ks (get_or contracts i d).id) are
-    ∙ ap (λ b. cond b (ids_of (take i contracts)) (ids_of (take i contracts) ++ (get_or contracts i d).id ∷ [])) (new_id contracts i d h lt)
+    ∙ ap (λ b. cond b (ids_of (take i contracts)) (ids_of (take i contracts) ++ (get_or contracts i d).id ∷ []))
+    (new_id contracts i d h lt)
     ∙ sym (map_more (λ (x : Contract). x.id) contracts i d lt)

@@ -1,5 +1,6 @@
 -- What the nets as they are kept say of the nets.
-use Rattle.std.proofs.Common.{◌≡◌, ℕ, zero, suc, ◌+◌, ◌≤◌, Bool, true, false, cond, ◌||◌, ◌&&◌, List, [], ◌∷◌, length, get_or, map, Option, Some, None, position, refl, sym, ap, subst, ◌∙◌, arith}
+use Rattle.std.proofs.Common.{◌≡◌, ℕ, zero, suc, ◌+◌, ◌≤◌, Bool, true, false, cond, ◌||◌, ◌&&◌, List, []}
+use Rattle.std.proofs.Common.{◌∷◌, length, get_or, map, Option, Some, None, position, refl, sym, ap, subst, ◌∙◌, arith}
 use Rattle.std.specs.Prelude.{All, bytes_eq, nat_abs, nat_lt, pos, ◌==◌}
 use Rattle.std.specs.List.Sorted.{IsStrictlyIncreasing}
 use Rattle.std.specs.Option.{option_or}
@@ -14,7 +15,8 @@ use Rattle.span_tables.specs.declared.portfolios.Holding.{Holding}
 use Rattle.span_tables.specs.declared.records.Contract.{Contract}
 use Rattle.span_tables.specs.declared.records.PositionRecord.{PositionRecord}
 use Rattle.param_check.specs.Binding.{first_unfit, bindings_of}
-use Rattle.param_check.specs.steps.Holdings.{ids_of, is_over, is_over_at, over_at, net_exceeds, are_many, many_at, held_exceeds, net_fault, held_fault, portfolios_from, portfolios_or_fault}
+use Rattle.param_check.specs.steps.Holdings.{ids_of, is_over, is_over_at, over_at, net_exceeds, are_many, many_at}
+use Rattle.param_check.specs.steps.Holdings.{held_exceeds, net_fault, held_fault, portfolios_from, portfolios_or_fault}
 use Rattle.param_check.specs.steps.Ledger.{IsLedger}
 use Rattle.param_check.specs.steps.Nets.{entry_holdings}
 use Rattle.param_check.specs.steps.Sums.{kept_holding, kept_holdings}
@@ -28,7 +30,8 @@ kept_contracts : (hs : List Holding) → map (λ h. h.contract) (map kept_holdin
 kept_contracts [] = refl
 kept_contracts (h ∷ hs) = ap (λ cs. h.contract ∷ cs) (kept_contracts hs)
 
-pub kept_rise : (hs : List Holding) → IsStrictlyIncreasing (map (λ h. h.contract) hs) → IsStrictlyIncreasing (map (λ h. h.contract) (map kept_holding hs))
+pub kept_rise : (hs : List Holding) → IsStrictlyIncreasing (map (λ h. h.contract) hs)
+    → IsStrictlyIncreasing (map (λ h. h.contract) (map kept_holding hs))
 kept_rise hs rise = subst IsStrictlyIncreasing (sym (kept_contracts hs)) rise
 
 -- a net is over the limit as it is kept just where it is
@@ -104,8 +107,10 @@ all_same (hs ∷ nets) all =
     let rest = all_same nets (λ k d lt. all (suc k) d (omega (arith, lt))) in
     λ i. here i ∷ rest i
 
-module _ (contracts : List Contract) (positions : List PositionRecord) (ids : List (List ℕ)) (books : List (List Entry)) (nets : List (List Holding))
-    (apart : has_repeat (λ x y. bytes_eq x.id y.id) contracts ≡ false) (ids_are : ids ≡ ids_of contracts) (ledger : IsLedger ids positions books)
+module _ (contracts : List Contract) (positions : List PositionRecord) (ids : List (List ℕ)) (books : List (List Entry))
+    (nets : List (List Holding))
+    (apart : has_repeat (λ x y. bytes_eq x.id y.id) contracts ≡ false) (ids_are : ids ≡ ids_of contracts)
+    (ledger : IsLedger ids positions books)
     (nets_are : nets ≡ map (kept_holdings (length contracts)) books) where
   exact : List (List Holding)
   exact = map (entry_holdings (length contracts)) books
@@ -114,41 +119,54 @@ module _ (contracts : List Contract) (positions : List PositionRecord) (ids : Li
   unfolding exact all_kept
   are_kept = nets_are ∙ each books
     where
-      each : (bs : List (List Entry)) → map (kept_holdings (length contracts)) bs ≡ map (map kept_holding) (map (entry_holdings (length contracts)) bs)
+      each : (bs : List (List Entry)) → map (kept_holdings (length contracts)) bs
+          ≡ map (map kept_holding) (map (entry_holdings (length contracts)) bs)
       each [] = refl
       each (b ∷ bs) = ap (λ ns. kept_holdings (length contracts) b ∷ ns) (each bs)
 
-  exact_hold : net_fault ids (accounts_of positions) exact positions ≡ None → held_fault (accounts_of positions) exact positions ≡ None → All ArePortfolio exact
+  exact_hold : net_fault ids (accounts_of positions) exact positions ≡ None
+      → held_fault (accounts_of positions) exact positions ≡ None → All ArePortfolio exact
   unfolding exact
   exact_hold = nets_hold contracts positions ids books exact apart ids_are ledger refl
 
   net_fault_is : net_fault ids (accounts_of positions) nets positions ≡ net_fault ids (accounts_of positions) exact positions
-  net_fault_is = ap (λ ns. net_fault ids (accounts_of positions) ns positions) are_kept ∙ net_fault_kept ids (accounts_of positions) exact positions
+  net_fault_is =
+      ap (λ ns. net_fault ids (accounts_of positions) ns positions) are_kept ∙ net_fault_kept ids (accounts_of positions) exact positions
 
   held_fault_is : held_fault (accounts_of positions) nets positions ≡ held_fault (accounts_of positions) exact positions
-  held_fault_is = ap (λ ns. held_fault (accounts_of positions) ns positions) are_kept ∙ held_fault_kept ids (accounts_of positions) exact positions
+  held_fault_is =
+      ap (λ ns. held_fault (accounts_of positions) ns positions) are_kept ∙ held_fault_kept ids (accounts_of positions) exact positions
 
   -- what the kept nets are settled to is what the records are bound to
   pub kept_settled : portfolios_or_fault ids (accounts_of positions) nets positions ≡ bindings_of contracts positions
   unfolding portfolios_or_fault exact
-  kept_settled = by (net_fault ids (accounts_of positions) exact positions) (held_fault (accounts_of positions) exact positions) refl refl ∙ exact_settled
+  kept_settled =
+      by (net_fault ids (accounts_of positions) exact positions) (held_fault (accounts_of positions) exact positions) refl refl
+      ∙ exact_settled
     where
       exact_settled : portfolios_or_fault ids (accounts_of positions) exact positions ≡ bindings_of contracts positions
       exact_settled = bound_settled contracts positions ids books exact apart ids_are ledger refl
 
-      settles : (ns : List (List Holding)) (b2 b3 : Option BindFault) → net_fault ids (accounts_of positions) ns positions ≡ b2 → held_fault (accounts_of positions) ns positions ≡ b3
-          → portfolios_or_fault ids (accounts_of positions) ns positions ≡ ok_unless (option_or b2 b3) (portfolios_from (accounts_of positions) ns)
+      settles : (ns : List (List Holding)) (b2 b3 : Option BindFault) → net_fault ids (accounts_of positions) ns positions ≡ b2
+          → held_fault (accounts_of positions) ns positions ≡ b3
+          → portfolios_or_fault ids (accounts_of positions) ns positions
+          ≡ ok_unless (option_or b2 b3) (portfolios_from (accounts_of positions) ns)
       settles ns b2 b3 x y =
-          ap (λ o. ok_unless (option_or o (held_fault (accounts_of positions) ns positions)) (portfolios_from (accounts_of positions) ns)) x ∙ ap (λ o. ok_unless (option_or b2 o) (portfolios_from (accounts_of positions) ns)) y
+          ap (λ o. ok_unless (option_or o (held_fault (accounts_of positions) ns positions)) (portfolios_from (accounts_of positions) ns))
+          x ∙ ap (λ o. ok_unless (option_or b2 o) (portfolios_from (accounts_of positions) ns)) y
 
-      by : (b2 b3 : Option BindFault) → net_fault ids (accounts_of positions) exact positions ≡ b2 → held_fault (accounts_of positions) exact positions ≡ b3
-          → portfolios_or_fault ids (accounts_of positions) nets positions ≡ portfolios_or_fault ids (accounts_of positions) exact positions
+      by : (b2 b3 : Option BindFault) → net_fault ids (accounts_of positions) exact positions ≡ b2
+          → held_fault (accounts_of positions) exact positions ≡ b3
+          → portfolios_or_fault ids (accounts_of positions) nets positions
+          ≡ portfolios_or_fault ids (accounts_of positions) exact positions
       by (Some e) b3 x y = settles nets (Some e) b3 (net_fault_is ∙ x) (held_fault_is ∙ y) ∙ sym (settles exact (Some e) b3 x y)
       by None (Some e) x y = settles nets None (Some e) (net_fault_is ∙ x) (held_fault_is ∙ y) ∙ sym (settles exact None (Some e) x y)
-      by None None x y = ap (λ ns. portfolios_or_fault ids (accounts_of positions) ns positions) (are_kept ∙ all_same exact (exact_hold x y))
+      by None None x y =
+          ap (λ ns. portfolios_or_fault ids (accounts_of positions) ns positions) (are_kept ∙ all_same exact (exact_hold x y))
 
   -- and they are portfolios where there is no fault
-  pub kept_hold : net_fault ids (accounts_of positions) nets positions ≡ None → held_fault (accounts_of positions) nets positions ≡ None → All ArePortfolio nets
+  pub kept_hold : net_fault ids (accounts_of positions) nets positions ≡ None
+      → held_fault (accounts_of positions) nets positions ≡ None → All ArePortfolio nets
   kept_hold none few =
       let holds = exact_hold (sym net_fault_is ∙ none) (sym held_fault_is ∙ few) in
       subst (All ArePortfolio) (sym (are_kept ∙ all_same exact holds)) holds

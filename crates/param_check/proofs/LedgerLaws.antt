@@ -1,5 +1,6 @@
 -- Laws of the ledger, record by record.
-use Rattle.std.proofs.Common.{◌≡◌, ℕ, ◌+◌, ◌<◌, Bool, true, false, cond, ◌||◌, List, [], ◌∷◌, ◌++◌, length, get_or, map, replicate, set, take, Some, None, slice_get, refl, sym, ap, subst, ◌∙◌, arith}
+use Rattle.std.proofs.Common.{◌≡◌, ℕ, ◌+◌, ◌<◌, ◌≤◌, Bool, true, false, cond, ◌||◌, List, [], ◌∷◌, ◌++◌}
+use Rattle.std.proofs.Common.{length, get_or, map, replicate, set, take, Some, None, slice_get, refl, sym, ap, subst, ◌∙◌, arith}
 use Rattle.std.specs.Prelude.{All, bytes_eq}
 use Rattle.std.specs.List.{list_any}
 use Rattle.std.proofs.lemmas.List.{get_or-map, get_or_default, length-map, take_more}
@@ -19,7 +20,8 @@ use Rattle.param_check.proofs.AccountLaws.{entered_known, entries_push}
 use Rattle.param_check.proofs.UnfitLaws.{unfit_found}
 
 -- what the entry of a record says of its contract
-pub foreign_from_none : (ids : List (List ℕ)) (p : PositionRecord) → None ≡ known_entry ids p.contract p.quantity → is_foreign ids p ≡ true
+pub foreign_from_none : (ids : List (List ℕ)) (p : PositionRecord) → None ≡ known_entry ids p.contract p.quantity
+    → is_foreign ids p ≡ true
 unfolding known_entry
 foreign_from_none ids p h = by (is_foreign ids p) h
   where
@@ -27,7 +29,8 @@ foreign_from_none ids p h = by (is_foreign ids p) h
     by true e = refl
     by false e = cc
 
-pub known_from_some : (ids : List (List ℕ)) (p : PositionRecord) (e : Entry) → Some e ≡ known_entry ids p.contract p.quantity → (is_foreign ids p ≡ false) × (e ≡ entry_of ids p)
+pub known_from_some : (ids : List (List ℕ)) (p : PositionRecord) (e : Entry) → Some e ≡ known_entry ids p.contract p.quantity
+    → (is_foreign ids p ≡ false) × (e ≡ entry_of ids p)
 unfolding known_entry
 known_from_some ids p e h = by (is_foreign ids p) h
   where
@@ -35,16 +38,25 @@ known_from_some ids p e h = by (is_foreign ids p) h
     by true h = cc
     by false h = (refl, cc)
 
+-- what is seen at a place of the positions: the record there, and its account's name
+pub record IsSeen (positions : List PositionRecord) (i : ℕ) (p : PositionRecord) (name : List ℕ) : Type 0 where
+  pub within : i < length positions
+  pub at : p ≡ get_or positions i p
+  pub named : name ≡ p.account
+
 -- the first record of an unknown contract
-pub foreign_found : (ids : List (List ℕ)) (positions : List PositionRecord) (i : ℕ) (p : PositionRecord) → i < length positions → p ≡ get_or positions i p
-    → list_any (is_foreign ids) (take i positions) ≡ false → is_foreign ids p ≡ true
-    → foreign_fault ids positions ≡ Some (fault.UnknownContract (i + 1) p.account)
+pub foreign_found : (ids : List (List ℕ)) (positions : List PositionRecord) (i : ℕ) (p : PositionRecord) (name : List ℕ)
+    → IsSeen positions i p name → list_any (is_foreign ids) (take i positions) ≡ false → is_foreign ids p ≡ true
+    → foreign_fault ids positions ≡ Some (fault.UnknownContract (i + 1) name)
 unfolding foreign_fault
-foreign_found ids positions i p lt at h e = unfit_found fault.UnknownContract (is_foreign ids) positions i p lt (sym at) h e
+foreign_found ids positions i p name seen h e =
+    unfit_found fault.UnknownContract (is_foreign ids) positions i p seen.within (sym seen.at) h e
+    ∙ ap (λ z. Some (fault.UnknownContract (i + 1) z)) (sym seen.named)
 
 -- ---- records by the numbers of their accounts
 
-module _ (positions : List PositionRecord) (records : List NumberedPosition) (named : named_positions (accounts_of positions) records ≡ positions)
+module _ (positions : List PositionRecord) (records : List NumberedPosition)
+    (named : named_positions (accounts_of positions) records ≡ positions)
     (known : All (λ (p : NumberedPosition). p.account < length (accounts_of positions)) records) where
   pub as_many : length records ≡ length positions
   as_many = sym (length-map records (named_position (accounts_of positions))) ∙ ap length named
@@ -57,7 +69,8 @@ module _ (positions : List PositionRecord) (records : List NumberedPosition) (na
       ap f at ∙ sym (get_or-map f records i r (f r) lt) ∙ ap (λ ps. get_or ps i (f r)) named
 
   -- and its account at that of the number
-  pub number_within : (i : ℕ) (r : NumberedPosition) → i < length records → r ≡ get_or records i r → r.account < length (accounts_of positions)
+  pub number_within : (i : ℕ) (r : NumberedPosition) → i < length records → r ≡ get_or records i r
+      → r.account < length (accounts_of positions)
   number_within i r lt at = subst (λ (p : NumberedPosition). p.account < length (accounts_of positions)) (sym at) (known i r lt)
 
   pub account_at : (i : ℕ) (r : NumberedPosition) → i < length records → r ≡ get_or records i r
@@ -65,10 +78,25 @@ module _ (positions : List PositionRecord) (records : List NumberedPosition) (na
   account_at i r lt at = slice_get-get_or (accounts_of positions) r.account [] (number_within i r lt at)
 
   -- whatever is read there is its name
-  pub account_is : (i : ℕ) (r : NumberedPosition) (names : List (List ℕ)) (name : List ℕ) → i < length records → r ≡ get_or records i r
+  pub account_is : (i : ℕ) (r : NumberedPosition) (names : List (List ℕ)) (name : List ℕ) → i < length records
+      → r ≡ get_or records i r
       → names ≡ accounts_of positions → name ≡ get_or names r.account name → name ≡ get_or (accounts_of positions) r.account []
   account_is i r names name lt at are is =
       is ∙ ap (λ ns. get_or ns r.account name) are ∙ get_or_default (accounts_of positions) r.account name [] (number_within i r lt at)
+
+  -- so its name, copied, is seen at its place
+  pub seen : (i : ℕ) (r : NumberedPosition) (names : List (List ℕ)) (name copied : List ℕ) → i < length records
+      → r ≡ get_or records i r → names ≡ accounts_of positions → name ≡ get_or names r.account name → copied ≡ name
+      → IsSeen positions i (named_position (accounts_of positions) r) copied
+  seen i r names name copied lt at are is same = record {
+    within = omega (arith, lt, as_many);
+    at = record_at i r lt at;
+    named = same ∙ account_is i r names name lt at are is;
+  }
+
+  -- behind all records there is no position
+  pub all_seen : (i : ℕ) → length records ≤ i → length positions ≤ i
+  all_seen i past = omega (arith, past, as_many)
 
   -- accounts stand apart
   pub apart : has_repeat bytes_eq (accounts_of positions) ≡ false
@@ -76,32 +104,40 @@ module _ (positions : List PositionRecord) (records : List NumberedPosition) (na
 
   -- the books after the record at a place
   pub books_step : (ids : List (List ℕ)) (i : ℕ) (r : NumberedPosition) (books books' : List (List Entry)) (e : Entry)
-      → i < length records → r ≡ get_or records i r → books ≡ map (entries_of ids (take i positions)) (accounts_of positions) → e ≡ entry_of ids (named_position (accounts_of positions) r)
-      → books' ≡ set books r.account (get_or books r.account [] ++ e ∷ []) → books' ≡ map (entries_of ids (take (i + 1) positions)) (accounts_of positions)
+      → i < length records → r ≡ get_or records i r → books ≡ map (entries_of ids (take i positions)) (accounts_of positions)
+      → e ≡ entry_of ids (named_position (accounts_of positions) r)
+      → books' ≡ set books r.account (get_or books r.account [] ++ e ∷ [])
+      → books' ≡ map (entries_of ids (take (i + 1) positions)) (accounts_of positions)
   books_step ids i r books books' e lt at was is more =
       let p = named_position (accounts_of positions) r in
       let lt' : i < length positions = omega (arith, lt, as_many) in
-      let next : take (i + 1) positions ≡ take i positions ++ p ∷ [] = take_more positions i p lt' ∙ ap (λ z. take i positions ++ z ∷ []) (sym (record_at i r lt at)) in
+      let next : take (i + 1) positions ≡ take i positions ++ p ∷ [] = take_more positions i p lt'
+      ∙ ap (λ z. take i positions ++ z ∷ []) (sym (record_at i r lt at)) in
       more
       ∙ ap (λ bs. set bs r.account (get_or bs r.account [] ++ e ∷ [])) was
-      ∙ ap (λ x. set (map (entries_of ids (take i positions)) (accounts_of positions)) r.account (get_or (map (entries_of ids (take i positions)) (accounts_of positions)) r.account [] ++ x ∷ [])) is
-      ∙ entered_known (entries_of ids (take i positions)) (entries_of ids (take i positions ++ p ∷ [])) p.account (entry_of ids p) (entries_push ids (take i positions) p)
+      ∙ ap (λ x. set (map (entries_of ids (take i positions)) (accounts_of positions)) r.account
+      (get_or (map (entries_of ids (take i positions)) (accounts_of positions)) r.account [] ++ x ∷ [])) is
+      ∙ entered_known (entries_of ids (take i positions)) (entries_of ids (take i positions ++ p ∷ [])) p.account (entry_of ids p)
+      (entries_push ids (take i positions) p)
       (accounts_of positions) r.account apart (account_at i r lt at)
       ∙ ap (λ ps. map (entries_of ids ps) (accounts_of positions)) (sym next)
 
   -- and a test that no record so far passes
   pub none_step : (test : PositionRecord → Bool) (i : ℕ) (r : NumberedPosition) → i < length records → r ≡ get_or records i r
-      → list_any test (take i positions) ≡ false → test (named_position (accounts_of positions) r) ≡ false → list_any test (take (i + 1) positions) ≡ false
+      → list_any test (take i positions) ≡ false → test (named_position (accounts_of positions) r) ≡ false
+      → list_any test (take (i + 1) positions) ≡ false
   none_step test i r lt at was one =
       let p = named_position (accounts_of positions) r in
       let lt' : i < length positions = omega (arith, lt, as_many) in
-      let next : take (i + 1) positions ≡ take i positions ++ p ∷ [] = take_more positions i p lt' ∙ ap (λ z. take i positions ++ z ∷ []) (sym (record_at i r lt at)) in
+      let next : take (i + 1) positions ≡ take i positions ++ p ∷ [] = take_more positions i p lt'
+      ∙ ap (λ z. take i positions ++ z ∷ []) (sym (record_at i r lt at)) in
       ap (list_any test) next
       ∙ list_any-append test (take i positions) (p ∷ [])
       ∙ ap (λ b. b || (test p || false)) was
       ∙ ap (λ b. b || false) one
 
 -- no entry at first
-pub no_entries : (ids : List (List ℕ)) (accounts : List (List ℕ)) → replicate (length accounts) [] ≡ map (entries_of ids []) accounts
+pub no_entries : (ids : List (List ℕ)) (accounts : List (List ℕ))
+    → replicate (length accounts) [] ≡ map (entries_of ids []) accounts
 no_entries ids [] = refl
 no_entries ids (a ∷ accounts) = ap (λ books. [] ∷ books) (no_entries ids accounts)

@@ -1,5 +1,7 @@
 -- Laws of sums by contract number, of which a mark says whether anything was added.
-use Rattle.std.proofs.Common.{◌≡◌, ℕ, zero, suc, ◌+◌, ◌-◌, ◌*◌, ◌/◌, ◌%◌, ◌^◌, ◌<◌, ◌≤◌, ◌⊎◌, Bool, true, false, cond, ◌||◌, ◌==◌, List, [], ◌∷◌, ◌++◌, length, get_or, set, map, bit_and, bit_or, refl, sym, ap, ◌∙◌, inl, inr, arith}
+use Rattle.std.proofs.Common.{◌≡◌, ℕ, zero, suc, ◌+◌, ◌-◌, ◌*◌, ◌/◌, ◌%◌, ◌^◌, ◌<◌}
+use Rattle.std.proofs.Common.{◌≤◌, ◌⊎◌, Bool, true, false, cond, ◌||◌, ◌==◌, List, [], ◌∷◌}
+use Rattle.std.proofs.Common.{◌++◌, length, get_or, set, map, bit_and, bit_or, refl, sym, ap, ◌∙◌, inl, inr, arith}
 use Rattle.std.specs.Prelude.{ℤ, pos, replicate}
 use Rattle.std.specs.Int.{w64, bit_at, bit_not, trailing_zeros}
 use lib.Count.{count_trailing_zeros}
@@ -7,7 +9,8 @@ use Rattle.std.specs.List.{range_with_len}
 use Rattle.std.proofs.lemmas.Bool.{cases_eq, cases_lt, eq-eqb, ne_eqb}
 use Rattle.std.proofs.lemmas.List.{append-nil, map-append, length-set, get_or_past, get_or-set_same, get_or-set_other, same_lists}
 use Rattle.std.proofs.lemmas.List.FromFn.{get_or-map-range_with_len, length-map-range_with_len, filter_of_map_range_with_len_more}
-use Rattle.std.proofs.lemmas.Nat.Bits.{bit_at-zero, bit_at_set_same, bit_at_set_other, bit_at_clear_same, bit_at_clear_other, bit_at-trailing_zeros}
+use Rattle.std.proofs.lemmas.Nat.Bits.{bit_at-zero, bit_at_set_same, bit_at_set_other}
+use Rattle.std.proofs.lemmas.Nat.Bits.{bit_at_clear_same, bit_at_clear_other, bit_at-trailing_zeros}
 use Rattle.span_tables.specs.Net.{is_held}
 use Rattle.param_check.specs.steps.Nets.{holding_at, holdings_in, held_part}
 use Rattle.param_check.specs.steps.Sums.{is_marked, sum_at, sums_of, AreMarks, held_below, kept_holding}
@@ -62,7 +65,8 @@ sums_clear m places = by (length places) 0
         λ i. here i ∷ rest i
 
 -- a sum that is written, with its mark
-pub sums_set : (marks next : List ℕ) (places : List ℤ) (c : ℕ) (z : ℤ) → c < length places → ((k : ℕ) → is_marked next k ≡ (is_marked marks k || (k == c)))
+pub sums_set : (marks next : List ℕ) (places : List ℤ) (c : ℕ) (z : ℤ) → c < length places
+    → ((k : ℕ) → is_marked next k ≡ (is_marked marks k || (k == c)))
     → sums_of next (set places c z) ≡ set (sums_of marks places) c z
 sums_set marks next places c z lt marked = same_lists _ _ size (λ k d h. by k d (omega (arith, h, long)) (cases_eq k c))
   where
@@ -72,7 +76,8 @@ sums_set marks next places c z lt marked = same_lists _ _ size (λ k d h. by k d
     size : length (sums_of next (set places c z)) ≡ length (set (sums_of marks places) c z)
     size = long ∙ sym (length-set (sums_of marks places) c z ∙ sums_long marks places)
 
-    with_mark : (k : ℕ) (b : Bool) → is_marked next k ≡ b → sum_at next (set places c z) k ≡ cond b (get_or (set places c z) k (pos 0)) (pos 0)
+    with_mark : (k : ℕ) (b : Bool) → is_marked next k ≡ b
+        → sum_at next (set places c z) k ≡ cond b (get_or (set places c z) k (pos 0)) (pos 0)
     with_mark k b e = ap (λ t. cond t (get_or (set places c z) k (pos 0)) (pos 0)) e
 
     or_true : (b : Bool) → (b || true) ≡ true
@@ -83,7 +88,8 @@ sums_set marks next places c z lt marked = same_lists _ _ size (λ k d h. by k d
     or_false true = refl
     or_false false = refl
 
-    by : (k : ℕ) (d : ℤ) → k < length places → (k ≡ c) ⊎ (k ≡ c → ⊥) → get_or (sums_of next (set places c z)) k d ≡ get_or (set (sums_of marks places) c z) k d
+    by : (k : ℕ) (d : ℤ) → k < length places → (k ≡ c) ⊎ (k ≡ c → ⊥)
+        → get_or (sums_of next (set places c z)) k d ≡ get_or (set (sums_of marks places) c z) k d
     by k d h (inl same) =
         let at_new : k < length (set places c z) = omega (arith, h, length-set places c z) in
         let at_old : c < length (sums_of marks places) = omega (arith, lt, sums_long marks places) in
@@ -96,7 +102,8 @@ sums_set marks next places c z lt marked = same_lists _ _ size (λ k d h. by k d
     by k d h (inr other) =
         let at_new : k < length (set places c z) = omega (arith, h, length-set places c z) in
         sums_at next (set places c z) k d at_new
-        ∙ with_mark k (is_marked marks k) (marked k ∙ ap (λ b. is_marked marks k || b) (ne_eqb k c other) ∙ or_false (is_marked marks k))
+        ∙ with_mark k (is_marked marks k) (marked k ∙ ap (λ b. is_marked marks k || b) (ne_eqb k c other)
+        ∙ or_false (is_marked marks k))
         ∙ ap (λ x. cond (is_marked marks k) x (pos 0)) (get_or-set_other places c k z (pos 0) other)
         ∙ sym (sums_at marks places k d h)
         ∙ sym (get_or-set_other (sums_of marks places) c k z d other)
@@ -116,9 +123,11 @@ mark_set marks c w lt is k = by (cases_eq (k / 64) (c / 64)) (cases_eq (k % 64) 
     or_false true = refl
     or_false false = refl
 
-    by : (k / 64 ≡ c / 64) ⊎ (k / 64 ≡ c / 64 → ⊥) → (k % 64 ≡ c % 64) ⊎ (k % 64 ≡ c % 64 → ⊥) → is_marked (set marks (c / 64) new) k ≡ (is_marked marks k || (k == c))
+    by : (k / 64 ≡ c / 64) ⊎ (k / 64 ≡ c / 64 → ⊥) → (k % 64 ≡ c % 64) ⊎ (k % 64 ≡ c % 64 → ⊥)
+        → is_marked (set marks (c / 64) new) k ≡ (is_marked marks k || (k == c))
     by (inl x) (inl y) =
-        let here : get_or (set marks (c / 64) new) (k / 64) 0 ≡ new = ap (λ j. get_or (set marks (c / 64) new) j 0) x ∙ get_or-set_same marks (c / 64) new 0 lt in
+        let here : get_or (set marks (c / 64) new) (k / 64) 0 ≡ new = ap (λ j. get_or (set marks (c / 64) new) j 0) x
+        ∙ get_or-set_same marks (c / 64) new 0 lt in
         let is_set : bit_at new (k % 64) ≡ 1 = ap (bit_at new) y ∙ bit_at_set_same w64 w (c % 64) (omega arith) in
         ap (λ n. bit_at n (k % 64) == 1) here ∙ ap (λ b. b == 1) is_set
         ∙ sym (ap (λ b. is_marked marks k || b) (eq-eqb k c (same_number x y)) ∙ or_true (is_marked marks k))
@@ -127,7 +136,8 @@ mark_set marks c w lt is k = by (cases_eq (k / 64) (c / 64)) (cases_eq (k % 64) 
         or_true true = refl
         or_true false = refl
     by (inl x) (inr n) =
-        let here : get_or (set marks (c / 64) new) (k / 64) 0 ≡ new = ap (λ j. get_or (set marks (c / 64) new) j 0) x ∙ get_or-set_same marks (c / 64) new 0 lt in
+        let here : get_or (set marks (c / 64) new) (k / 64) 0 ≡ new = ap (λ j. get_or (set marks (c / 64) new) j 0) x
+        ∙ get_or-set_same marks (c / 64) new 0 lt in
         let other : bit_at new (k % 64) ≡ bit_at w (k % 64) = bit_at_set_other w64 w (c % 64) (omega arith) (k % 64) n in
         ap (λ m. bit_at m (k % 64) == 1) here ∙ ap (λ b. b == 1) other
         ∙ ap (λ m. bit_at m (k % 64) == 1) (is ∙ ap (λ j. get_or marks j 0) (sym x))
@@ -155,7 +165,8 @@ marks_more marks c w n lt word is are = record {
     by k (inr other) e = are.within k (or_false (is_marked marks k) ∙ ap (λ b. is_marked marks k || b) (sym (ne_eqb k c other)) ∙ e)
 
 -- sums of 0 hold nothing
-pub holdings_skip : (sums : List ℤ) (a d : ℕ) → ((k : ℕ) → a ≤ k → k < a + d → get_or sums k (pos 0) ≡ pos 0) → holdings_in sums (a + d) ≡ holdings_in sums a
+pub holdings_skip : (sums : List ℤ) (a d : ℕ) → ((k : ℕ) → a ≤ k → k < a + d → get_or sums k (pos 0) ≡ pos 0)
+    → holdings_in sums (a + d) ≡ holdings_in sums a
 holdings_skip sums a zero h = let same : a + 0 ≡ a = omega arith in ap (holdings_in sums) same
 holdings_skip sums a (suc d) h =
     let here : is_held (holding_at sums (a + d)) ≡ false = is_held-eq (holding_at sums (a + d)) (h (a + d) (omega arith) (omega arith)) in
@@ -192,7 +203,8 @@ lowest_le n fits = by (cases_eq n 0)
     by (inr ne) = let z = (bit_at-trailing_zeros w64 n (omega (arith, ne)) fits).0 in omega (arith, z)
 
 -- without its lowest mark, a word's lowest is a higher one
-pub next_lowest : (n m : ℕ) → 0 < n → n < 2 ^ 64 → m < 2 ^ 64 → m ≡ bit_and n (bit_not w64 (1 * 2 ^ trailing_zeros w64 n % 2 ^ 64)) → trailing_zeros w64 n < trailing_zeros w64 m
+pub next_lowest : (n m : ℕ) → 0 < n → n < 2 ^ 64 → m < 2 ^ 64
+    → m ≡ bit_and n (bit_not w64 (1 * 2 ^ trailing_zeros w64 n % 2 ^ 64)) → trailing_zeros w64 n < trailing_zeros w64 m
 unfolding nothing
 next_lowest n m some fits small is = by (cases_eq m 0)
   where
@@ -212,7 +224,8 @@ next_lowest n m some fits small is = by (cases_eq m 0)
     by (inl e) = let z : trailing_zeros w64 m ≡ 64 = ap (trailing_zeros w64) e ∙ tz_zero in let lt = low.0 in omega (arith, z, lt)
     by (inr ne) = or_less (cases_lt t (trailing_zeros w64 m))
       where
-        high : (trailing_zeros w64 m < 64) × (bit_at m (trailing_zeros w64 m) ≡ 1) × ((i : ℕ) → i < trailing_zeros w64 m → bit_at m i ≡ 0)
+        high : (trailing_zeros w64 m < 64) × (bit_at m (trailing_zeros w64 m) ≡ 1)
+            × ((i : ℕ) → i < trailing_zeros w64 m → bit_at m i ≡ 0)
         high = bit_at-trailing_zeros w64 m (omega (arith, ne)) small
 
         at : (u : ℕ) → u ≡ trailing_zeros w64 m → u ≤ t → (u ≡ t) ⊎ (u ≡ t → ⊥) → ⊥
@@ -227,8 +240,10 @@ next_lowest n m some fits small is = by (cases_eq m 0)
         or_less (inr h) = absurd (at (trailing_zeros w64 m) refl h (cases_eq (trailing_zeros w64 m) t))
 
 -- the other marks stay
-pub cleared_same : (n m t i : ℕ) → t < 64 → m ≡ bit_and n (bit_not w64 (1 * 2 ^ t % 2 ^ 64)) → i < 64 → t < i → bit_at m i ≡ bit_at n i
-cleared_same n m t i within is h lt = ap (λ x. bit_at x i) is ∙ bit_at_clear_other w64 n t within i h (λ e. let z : t < t = omega (arith, lt, e) in omega (arith, z))
+pub cleared_same : (n m t i : ℕ) → t < 64 → m ≡ bit_and n (bit_not w64 (1 * 2 ^ t % 2 ^ 64)) → i < 64 → t < i
+    → bit_at m i ≡ bit_at n i
+cleared_same n m t i within is h lt =
+    ap (λ x. bit_at x i) is ∙ bit_at_clear_other w64 n t within i h (λ e. let z : t < t = omega (arith, lt, e) in omega (arith, z))
 
 module _ (marks : List ℕ) (places : List ℤ) where
   mark_at : (w i : ℕ) → i < 64 → is_marked marks (64 * w + i) ≡ (bit_at (get_or marks w 0) i == 1)
@@ -237,7 +252,8 @@ module _ (marks : List ℕ) (places : List ℤ) where
       let place : (64 * w + i) % 64 ≡ i = omega (arith, h) in
       ap (λ j. bit_at (get_or marks j 0) ((64 * w + i) % 64) == 1) word ∙ ap (λ j. bit_at (get_or marks w 0) j == 1) place
 
-  pub marked_within : (w i : ℕ) → i < 64 → AreMarks marks (length places) → bit_at (get_or marks w 0) i ≡ 1 → 64 * w + i < length places
+  pub marked_within : (w i : ℕ) → i < 64 → AreMarks marks (length places) → bit_at (get_or marks w 0) i ≡ 1
+      → 64 * w + i < length places
   marked_within w i h are e = are.within (64 * w + i) (mark_at w i h ∙ ap (λ b. b == 1) e)
 
   unmarked : (k : ℕ) → is_marked marks k ≡ false → get_or (sums_of marks places) k (pos 0) ≡ pos 0
@@ -247,7 +263,8 @@ module _ (marks : List ℕ) (places : List ℤ) where
       by (inl h) = sums_at marks places k (pos 0) h ∙ ap (λ b. cond b (get_or places k (pos 0)) (pos 0)) e
       by (inr h) = get_or_past (sums_of marks places) k (pos 0) (omega (arith, h, sums_long marks places))
 
-  marked : (k : ℕ) → k < length places → is_marked marks k ≡ true → get_or (sums_of marks places) k (pos 0) ≡ get_or places k (pos 0)
+  marked : (k : ℕ) → k < length places → is_marked marks k ≡ true
+      → get_or (sums_of marks places) k (pos 0) ≡ get_or places k (pos 0)
   marked k h e = sums_at marks places k (pos 0) h ∙ ap (λ b. cond b (get_or places k (pos 0)) (pos 0)) e
 
   -- places of a word without a mark hold nothing
@@ -256,7 +273,8 @@ module _ (marks : List ℕ) (places : List ℤ) where
   skip w a u le short none =
       let up : 64 * w + u ≡ 64 * w + a + (u - a) = omega (arith, le) in
       ap (holdings_in (sums_of marks places)) up
-      ∙ holdings_skip (sums_of marks places) (64 * w + a) (u - a) (λ k x y. zero_at k (k - 64 * w) (omega (arith, x)) (omega (arith, x)) (omega (arith, x, y, le)))
+      ∙ holdings_skip (sums_of marks places) (64 * w + a) (u - a)
+      (λ k x y. zero_at k (k - 64 * w) (omega (arith, x)) (omega (arith, x)) (omega (arith, x, y, le)))
     where
       zero_at : (k i : ℕ) → k ≡ 64 * w + i → a ≤ i → i < u → get_or (sums_of marks places) k (pos 0) ≡ pos 0
       zero_at k i is x y =
@@ -264,7 +282,8 @@ module _ (marks : List ℕ) (places : List ℤ) where
           unmarked k (ap (is_marked marks) is ∙ mark_at w i h ∙ ap (λ b. b == 1) (none i x y))
 
   -- up to the lowest mark of a word nothing is held
-  pub word_begun : (w u : ℕ) → u ≤ 64 → ((i : ℕ) → i < u → bit_at (get_or marks w 0) i ≡ 0) → held_below marks places (64 * w + u) ≡ held_below marks places (64 * w)
+  pub word_begun : (w u : ℕ) → u ≤ 64 → ((i : ℕ) → i < u → bit_at (get_or marks w 0) i ≡ 0)
+      → held_below marks places (64 * w + u) ≡ held_below marks places (64 * w)
   word_begun w u short none =
       let same : 64 * w + 0 ≡ 64 * w = omega arith in
       ap (map kept_holding) (skip w 0 u (omega arith) short (λ i x y. none i y) ∙ ap (holdings_in (sums_of marks places)) same)
@@ -272,7 +291,8 @@ module _ (marks : List ℕ) (places : List ℤ) where
   -- from a mark to the next
   pub word_step : (w t u : ℕ) → t < u → u ≤ 64 → AreMarks marks (length places) → bit_at (get_or marks w 0) t ≡ 1
       → ((i : ℕ) → t < i → i < u → bit_at (get_or marks w 0) i ≡ 0)
-      → held_below marks places (64 * w + u) ≡ held_below marks places (64 * w + t) ++ map kept_holding (held_part (64 * w + t) (get_or places (64 * w + t) (pos 0)))
+      → held_below marks places (64 * w + u) ≡ held_below marks places (64 * w + t)
+      ++ map kept_holding (held_part (64 * w + t) (get_or places (64 * w + t) (pos 0)))
   word_step w t u lt short are is none =
       let h : t < 64 = omega (arith, lt, short) in
       let within : 64 * w + t < length places = marked_within w t h are is in
@@ -284,7 +304,8 @@ module _ (marks : List ℕ) (places : List ℤ) where
       ∙ ap (holdings_in (sums_of marks places)) up
       ∙ filter_of_map_range_with_len_more is_held (holding_at (sums_of marks places)) 0 (64 * w + t) (64 * w + t) (omega arith)
       ∙ ap (λ z. holdings_in (sums_of marks places) (64 * w + t) ++ held_part (64 * w + t) z) net)
-      ∙ map-append kept_holding (holdings_in (sums_of marks places) (64 * w + t)) (held_part (64 * w + t) (get_or places (64 * w + t) (pos 0)))
+      ∙ map-append kept_holding (holdings_in (sums_of marks places) (64 * w + t))
+      (held_part (64 * w + t) (get_or places (64 * w + t) (pos 0)))
 
   module _ (w n : ℕ) (are : AreMarks marks (length places)) (fits : n < 2 ^ 64) (some : 0 < n)
       (same : (i : ℕ) → trailing_zeros w64 n ≤ i → i < 64 → bit_at n i ≡ bit_at (get_or marks w 0) i) where
@@ -317,7 +338,8 @@ module _ (marks : List ℕ) (places : List ℤ) where
       marks_left i x y = stays i (omega (arith, up, x)) y
 
       pub held_more : (held next : List Holding) → held ≡ held_below marks places (64 * w + trailing_zeros w64 n)
-          → next ≡ held ++ map kept_holding (held_part (64 * w + trailing_zeros w64 n) (get_or places (64 * w + trailing_zeros w64 n) (pos 0)))
+          → next ≡ held ++ map kept_holding
+          (held_part (64 * w + trailing_zeros w64 n) (get_or places (64 * w + trailing_zeros w64 n) (pos 0)))
           → next ≡ held_below marks places (64 * w + trailing_zeros w64 m)
       unfolding t
       held_more held next before pushed =
@@ -326,21 +348,26 @@ module _ (marks : List ℕ) (places : List ℤ) where
           (λ i x y. let h : i < 64 = (let z = lowest_le m small in omega (arith, y, z)) in sym (stays i x h) ∙ below_lowest m small i y))
 
   -- no mark is left
-  pub word_done : (w n : ℕ) (held : List Holding) → n ≡ 0 → held ≡ held_below marks places (64 * w + trailing_zeros w64 n) → held ≡ held_below marks places (64 * w + 64)
+  pub word_done : (w n : ℕ) (held : List Holding) → n ≡ 0 → held ≡ held_below marks places (64 * w + trailing_zeros w64 n)
+      → held ≡ held_below marks places (64 * w + 64)
   word_done w n held none is = is ∙ ap (λ j. held_below marks places (64 * w + j)) (ap (trailing_zeros w64) none ∙ tz_zero)
 
   -- the sum of a number that is marked, and of one that is not, by the word of its mark
-  pub sum_marked : (k word : ℕ) (n : ℤ) → k < length places → word ≡ get_or marks (k / 64) 0 → (bit_at word (k % 64) == 1) ≡ true → n ≡ get_or places k (pos 0)
+  pub sum_marked : (k word : ℕ) (n : ℤ) → k < length places → word ≡ get_or marks (k / 64) 0
+      → (bit_at word (k % 64) == 1) ≡ true → n ≡ get_or places k (pos 0)
       → n ≡ get_or (sums_of marks places) k (pos 0)
   sum_marked k word n h is e at = at ∙ sym (marked k h (ap (λ w. bit_at w (k % 64) == 1) (sym is) ∙ e))
 
-  pub sum_unmarked : (k word : ℕ) → word ≡ get_or marks (k / 64) 0 → (bit_at word (k % 64) == 1) ≡ false → pos 0 ≡ get_or (sums_of marks places) k (pos 0)
+  pub sum_unmarked : (k word : ℕ) → word ≡ get_or marks (k / 64) 0 → (bit_at word (k % 64) == 1) ≡ false
+      → pos 0 ≡ get_or (sums_of marks places) k (pos 0)
   sum_unmarked k word is e = sym (unmarked k (ap (λ w. bit_at w (k % 64) == 1) (sym is) ∙ e))
 
   -- all numbers
-  pub all_below : (n : ℕ) → length places ≤ n → held_below marks places n ≡ map kept_holding (holdings_in (sums_of marks places) (length (sums_of marks places)))
+  pub all_below : (n : ℕ) → length places ≤ n
+      → held_below marks places n ≡ map kept_holding (holdings_in (sums_of marks places) (length (sums_of marks places)))
   all_below n h =
       let long = sums_long marks places in
       let up : n ≡ length (sums_of marks places) + (n - length (sums_of marks places)) = omega (arith, h, long) in
       ap (λ m. map kept_holding (holdings_in (sums_of marks places) m)) up
-      ∙ ap (map kept_holding) (holdings_skip (sums_of marks places) (length (sums_of marks places)) (n - length (sums_of marks places)) (λ k x y. get_or_past (sums_of marks places) k (pos 0) x))
+      ∙ ap (map kept_holding) (holdings_skip (sums_of marks places) (length (sums_of marks places)) (n - length (sums_of marks places))
+      (λ k x y. get_or_past (sums_of marks places) k (pos 0) x))

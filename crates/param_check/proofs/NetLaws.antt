@@ -1,9 +1,12 @@
 -- Laws of nets by contract number.
-use Rattle.std.proofs.Common.{◌≡◌, ℕ, zero, suc, ◌+◌, ◌*◌, ◌<◌, ◌≤◌, ◌⊎◌, Bool, true, false, cond, ◌==◌, List, [], ◌∷◌, ◌++◌, length, get_or, set, take, filter, map, refl, sym, ap, ◌∙◌, inl, inr, arith}
+use Rattle.std.proofs.Common.{◌≡◌, ℕ, zero, suc, ◌+◌, ◌*◌, ◌<◌, ◌≤◌, ◌⊎◌}
+use Rattle.std.proofs.Common.{Bool, true, false, cond, ◌==◌, List, [], ◌∷◌, ◌++◌, length}
+use Rattle.std.proofs.Common.{get_or, set, take, filter, map, refl, sym, ap, ◌∙◌, inl, inr, arith}
 use Rattle.std.specs.Prelude.{ℤ, pos, ◌+ℤ◌, nat_abs, replicate}
 use Rattle.std.specs.List.{range_with_len}
 use Rattle.std.proofs.lemmas.Int.{ints}
-use Rattle.std.proofs.lemmas.List.{append-nil, length-replicate, take_more, length-set, get_or-set_same, get_or-set_other, same_lists, set_past}
+use Rattle.std.proofs.lemmas.List.{append-nil, length-replicate, take_more, length-set}
+use Rattle.std.proofs.lemmas.List.{get_or-set_same, get_or-set_other, same_lists, set_past}
 use Rattle.std.proofs.lemmas.List.Elements.{filter-append}
 use Rattle.std.proofs.lemmas.List.FromFn.{get_or-map-range_with_len, length-map-range_with_len}
 use Rattle.std.proofs.lemmas.List.Sums.{fold_push}
@@ -20,7 +23,8 @@ pub int_sum_by-filter_push : {X : Type 0} (f : X → ℤ) (p : X → Bool) (xs :
     → int_sum_by f (filter p (xs ++ x ∷ [])) ≡ cond (p x) (int_sum_by f (filter p xs) +ℤ f x) (int_sum_by f (filter p xs))
 int_sum_by-filter_push {X} f p xs x = ap (int_sum_by f) (filter-append p xs (x ∷ [])) ∙ by (p x)
   where
-    by : (b : Bool) → int_sum_by f (filter p xs ++ cond b (x ∷ []) []) ≡ cond b (int_sum_by f (filter p xs) +ℤ f x) (int_sum_by f (filter p xs))
+    by : (b : Bool) → int_sum_by f (filter p xs ++ cond b (x ∷ []) [])
+        ≡ cond b (int_sum_by f (filter p xs) +ℤ f x) (int_sum_by f (filter p xs))
     by true = fold_push (λ a (y : X). a +ℤ f y) (pos 0) (filter p xs) x
     by false = ap (int_sum_by f) (append-nil (filter p xs))
 
@@ -40,7 +44,8 @@ module _ (n i : ℕ) (entries : List Entry) (d : Entry) where
   at es k d h = get_or-map-range_with_len (entry_net es) 0 n k k d h (omega arith)
 
   step : i < length entries → (k : ℕ)
-      → entry_net (take (i + 1) entries) k ≡ cond (e.contract == k) (entry_net (take i entries) k +ℤ e.quantity) (entry_net (take i entries) k)
+      → entry_net (take (i + 1) entries) k ≡ cond (e.contract == k) (entry_net (take i entries) k +ℤ e.quantity)
+      (entry_net (take i entries) k)
   unfolding e
   step lt k =
       ap (λ es. entry_net es k) (take_more entries i d lt)
@@ -51,7 +56,9 @@ module _ (n i : ℕ) (entries : List Entry) (d : Entry) where
       → set nets (get_or entries i d).contract (get_or nets (get_or entries i d).contract (pos 0) +ℤ (get_or entries i d).quantity)
       ≡ map (entry_net (take (i + 1) entries)) (range_with_len 0 n)
   unfolding table e
-  table_more nets are lt = ap (λ t. set t e.contract (get_or t e.contract (pos 0) +ℤ e.quantity)) are ∙ same_lists _ _ (size ∙ sym (long next)) (λ k z h. let h' : k < n = omega (arith, h, size) in by k z h' (cases_eq k e.contract))
+  table_more nets are lt =
+      ap (λ t. set t e.contract (get_or t e.contract (pos 0) +ℤ e.quantity)) are
+      ∙ same_lists _ _ (size ∙ sym (long next)) (λ k z h. let h' : k < n = omega (arith, h, size) in by k z h' (cases_eq k e.contract))
     where
       before : List ℤ
       before = table (take i entries)
@@ -65,18 +72,21 @@ module _ (n i : ℕ) (entries : List Entry) (d : Entry) where
       size : length (set before e.contract q) ≡ n
       size = length-set before e.contract q ∙ long (take i entries)
 
-      by : (k : ℕ) (d : ℤ) → k < n → (k ≡ e.contract) ⊎ (k ≡ e.contract → ⊥) → get_or (set before e.contract q) k d ≡ get_or (table next) k d
+      by : (k : ℕ) (d : ℤ) → k < n → (k ≡ e.contract) ⊎ (k ≡ e.contract → ⊥)
+          → get_or (set before e.contract q) k d ≡ get_or (table next) k d
       by k d h (inl same) =
           let h' : e.contract < length before = omega (arith, h, same, long (take i entries)) in
           ap (λ j. get_or (set before e.contract q) j d) same ∙ get_or-set_same before e.contract q d h'
           ∙ ap (λ j. get_or before j (pos 0) +ℤ e.quantity) (sym same)
           ∙ ap (λ z. z +ℤ e.quantity) (at (take i entries) k (pos 0) h)
-          ∙ sym (step lt k ∙ ap (λ b. cond b (entry_net (take i entries) k +ℤ e.quantity) (entry_net (take i entries) k)) (eq-eqb e.contract k (sym same)))
+          ∙ sym (step lt k ∙ ap (λ b. cond b (entry_net (take i entries) k +ℤ e.quantity) (entry_net (take i entries) k))
+          (eq-eqb e.contract k (sym same)))
           ∙ sym (at next k d h)
       by k d h (inr other) =
           get_or-set_other before e.contract k q d other
           ∙ at (take i entries) k d h
-          ∙ sym (step lt k ∙ ap (λ b. cond b (entry_net (take i entries) k +ℤ e.quantity) (entry_net (take i entries) k)) (ne_eqb e.contract k (λ s. other (sym s))))
+          ∙ sym (step lt k ∙ ap (λ b. cond b (entry_net (take i entries) k +ℤ e.quantity) (entry_net (take i entries) k))
+          (ne_eqb e.contract k (λ s. other (sym s))))
           ∙ sym (at next k d h)
 
 -- the table of no entries
@@ -88,7 +98,8 @@ table_none n = replicate-map n 0
     replicate-map (suc m) a = ap (λ xs. pos 0 ∷ xs) (replicate-map m (a + 1))
 
 -- a net grows by no more than the quantity
-pub small_more : (nets : List ℤ) (c i : ℕ) (q : ℤ) → nat_abs q ≤ MAX_QUANTITY → ((k : ℕ) → nat_abs (get_or nets k (pos 0)) ≤ i * MAX_QUANTITY)
+pub small_more : (nets : List ℤ) (c i : ℕ) (q : ℤ) → nat_abs q ≤ MAX_QUANTITY
+    → ((k : ℕ) → nat_abs (get_or nets k (pos 0)) ≤ i * MAX_QUANTITY)
     → (k : ℕ) → nat_abs (get_or (set nets c (get_or nets c (pos 0) +ℤ q)) k (pos 0)) ≤ (i + 1) * MAX_QUANTITY
 small_more nets c i q small all k = by (cases_eq k c) (cases_lt c (length nets))
   where
@@ -101,7 +112,8 @@ small_more nets c i q small all k = by (cases_eq k c) (cases_lt c (length nets))
     same : (a : ℤ) → nat_abs a ≤ i * MAX_QUANTITY → nat_abs a ≤ (i + 1) * MAX_QUANTITY
     same a x = omega (arith, ints)
 
-    by : (k ≡ c) ⊎ (k ≡ c → ⊥) → (c < length nets) ⊎ (length nets ≤ c) → nat_abs (get_or (set nets c sum) k (pos 0)) ≤ (i + 1) * MAX_QUANTITY
+    by : (k ≡ c) ⊎ (k ≡ c → ⊥) → (c < length nets) ⊎ (length nets ≤ c)
+        → nat_abs (get_or (set nets c sum) k (pos 0)) ≤ (i + 1) * MAX_QUANTITY
     by (inl e) (inl lt) = rw (e, get_or-set_same nets c sum (pos 0) lt) (grown (get_or nets c (pos 0)) q (all c) small)
     by (inl e) (inr le) = rw (set_past nets c sum le) (same (get_or nets k (pos 0)) (all k))
     by (inr ne) z = rw (get_or-set_other nets c k sum (pos 0) ne) (same (get_or nets k (pos 0)) (all k))
@@ -120,21 +132,25 @@ nets_of_zero (suc n) zero = refl
 nets_of_zero (suc n) (suc k) = nets_of_zero n k
 
 pub small_none : (nets : List ℤ) → nets ≡ replicate (length nets) (pos 0) → (k : ℕ) → nat_abs (get_or nets k (pos 0)) ≤ 0
-small_none nets e k = let z : get_or nets k (pos 0) ≡ pos 0 = ap (λ xs. get_or xs k (pos 0)) e ∙ nets_of_zero (length nets) k in rw z (omega arith)
+small_none nets e k =
+    let z : get_or nets k (pos 0) ≡ pos 0 = ap (λ xs. get_or xs k (pos 0)) e ∙ nets_of_zero (length nets) k in rw z (omega arith)
 
 -- the holdings of a table
-same_on_range : {A : Type 0} (f g : ℕ → A) (a n : ℕ) → ((k : ℕ) → a ≤ k → k < a + n → f k ≡ g k) → map f (range_with_len a n) ≡ map g (range_with_len a n)
+same_on_range : {A : Type 0} (f g : ℕ → A) (a n : ℕ) → ((k : ℕ) → a ≤ k → k < a + n → f k ≡ g k)
+    → map f (range_with_len a n) ≡ map g (range_with_len a n)
 same_on_range f g a zero h = refl
 same_on_range f g a (suc n) h =
     let here : f a ≡ g a = h a (omega arith) (omega arith) in
     let rest = same_on_range f g (a + 1) n (λ k x y. h k (omega (arith, x)) (omega (arith, y))) in
     λ i. here i ∷ rest i
 
-pub holdings_in_table : (n : ℕ) (entries : List Entry) (nets : List ℤ) → nets ≡ map (entry_net entries) (range_with_len 0 n) → holdings_in nets (length nets) ≡ entry_holdings n entries
+pub holdings_in_table : (n : ℕ) (entries : List Entry) (nets : List ℤ) → nets ≡ map (entry_net entries) (range_with_len 0 n)
+    → holdings_in nets (length nets) ≡ entry_holdings n entries
 unfolding entry_holdings
 holdings_in_table n entries nets e =
     let size : length nets ≡ n = ap length e ∙ length-map-range_with_len (entry_net entries) 0 n in
-    let at : (k : ℕ) → k < n → get_or nets k (pos 0) ≡ entry_net entries k = λ k h. ap (λ xs. get_or xs k (pos 0)) e ∙ get_or-map-range_with_len (entry_net entries) 0 n k k (pos 0) h (omega arith) in
+    let at : (k : ℕ) → k < n → get_or nets k (pos 0) ≡ entry_net entries k = λ k h. ap (λ xs. get_or xs k (pos 0)) e
+    ∙ get_or-map-range_with_len (entry_net entries) 0 n k k (pos 0) h (omega arith) in
     ap (λ m. holdings_in nets m) size
     ∙ ap (filter is_held) (same_on_range (holding_at nets) (λ c. record { contract = c; net = entry_net entries c }) 0 n
     (λ k x y. let h : k < n = omega (arith, y) in ap (holding_with k) (at k h)))

@@ -10,16 +10,19 @@ use Rattle.param_check.specs.steps.Holdings.{held_exceeds, many_at, net_exceeds,
 use Rattle.param_check.proofs.AccountLaws.{place_is}
 use Rattle.param_check.proofs.LedgerLaws.{account_at, apart}
 
-module _ (positions : List PositionRecord) (records : List NumberedPosition) (named : named_positions (accounts_of positions) records ≡ positions)
+module _ (positions : List PositionRecord) (records : List NumberedPosition)
+    (named : named_positions (accounts_of positions) records ≡ positions)
     (known : All (λ (p : NumberedPosition). p.account < length (accounts_of positions)) records) (nets : List (List Holding)) where
   place : (i : ℕ) (r : NumberedPosition) → i < length records → r ≡ get_or records i r
       → position (bytes_eq (get_or (accounts_of positions) r.account [])) (accounts_of positions) ≡ Some r.account
   place i r lt at =
-      place_is (accounts_of positions) r.account (get_or (accounts_of positions) r.account []) (apart positions records named known) (account_at positions records named known i r lt at)
+      place_is (accounts_of positions) r.account (get_or (accounts_of positions) r.account []) (apart positions records named known)
+      (account_at positions records named known i r lt at)
 
   -- a record's net is over the limit
   pub net_at : (ids : List (List ℕ)) (i : ℕ) (r : NumberedPosition) → i < length records → r ≡ get_or records i r
-      → over_at (Some r.account) (position (bytes_eq r.contract) ids) nets ≡ net_exceeds ids (accounts_of positions) nets (named_position (accounts_of positions) r)
+      → over_at (Some r.account) (position (bytes_eq r.contract) ids) nets
+      ≡ net_exceeds ids (accounts_of positions) nets (named_position (accounts_of positions) r)
   net_at ids i r lt at = ap (λ o. over_at o (position (bytes_eq r.contract) ids) nets) (sym (place i r lt at))
 
   -- its account holds too many contracts

@@ -1,5 +1,6 @@
 -- Laws of holdings by rising contract number, and of a search among them.
-use Rattle.std.proofs.Common.{◌≡◌, ℕ, zero, suc, ◌+◌, ◌<◌, ◌≤◌, Bool, true, false, ◌||◌, ◌&&◌, List, [], ◌∷◌, length, get_or, filter, map, Ok, Err, refl, sym, ap, subst, ◌∙◌, arith}
+use Rattle.std.proofs.Common.{◌≡◌, ℕ, zero, suc, ◌+◌, ◌<◌, ◌≤◌, Bool, true, false, ◌||◌, ◌&&◌}
+use Rattle.std.proofs.Common.{List, [], ◌∷◌, length, get_or, filter, map, Ok, Err, refl, sym, ap, subst, ◌∙◌, arith}
 use Rattle.std.specs.Prelude.{pos, ◌==◌}
 use Rattle.std.specs.List.{range_with_len, AllPairs}
 use Rattle.std.specs.List.Sorted.{IsStrictlyIncreasing, IsBinarySearchResult, IsNonDecreasingBy}
@@ -44,15 +45,18 @@ pairs_rise all rise i j d l m =
     omega (arith, less, first, second)
 
 -- what is held of holdings by contract number rises
-pub held_rise : (all : List Holding) (n : ℕ) → map (λ h. h.contract) all ≡ range_with_len 0 n → IsStrictlyIncreasing (map (λ h. h.contract) (filter is_held all))
+pub held_rise : (all : List Holding) (n : ℕ) → map (λ h. h.contract) all ≡ range_with_len 0 n
+    → IsStrictlyIncreasing (map (λ h. h.contract) (filter is_held all))
 unfolding Rise
 held_rise all n numbers k lt =
-    let rise : IsStrictlyIncreasing (map (λ (h : Holding). h.contract) all) = subst IsStrictlyIncreasing (sym numbers) (numbers_rise 0 n) in
+    let rise : IsStrictlyIncreasing (map (λ (h : Holding). h.contract) all) =
+    subst IsStrictlyIncreasing (sym numbers) (numbers_rise 0 n) in
     let held = filter is_held all in
     let size = length-map held (λ (h : Holding). h.contract) in
     let m : k + 1 < length held = omega (arith, lt, size) in
     let l : k < length held = omega (arith, m) in
-    let kept = AllPairs-filter (λ (x y : Holding). x.contract < y.contract) is_held all (pairs_rise all rise) k (k + 1) none (omega arith) m in
+    let kept = AllPairs-filter (λ (x y : Holding). x.contract < y.contract) is_held all (pairs_rise all rise) k (k + 1) none
+    (omega arith) m in
     let first = get_or-map (λ (h : Holding). h.contract) held k none 0 l in
     let second = get_or-map (λ (h : Holding). h.contract) held (k + 1) none 0 m in
     omega (arith, kept, first, second)
@@ -60,16 +64,21 @@ held_rise all n numbers k lt =
 -- the holdings of an account rise
 pub entry_holdings_rise : (n : ℕ) (entries : List Entry) → IsStrictlyIncreasing (map (λ h. h.contract) (entry_holdings n entries))
 unfolding entry_holdings
-entry_holdings_rise n entries = held_rise (map (λ c. (let it : Holding = record { contract = c; net = entry_net entries c } in it)) (range_with_len 0 n)) n (numbers 0 n)
+entry_holdings_rise n entries =
+    held_rise (map (λ c. (let it : Holding = record { contract = c; net = entry_net entries c } in it)) (range_with_len 0 n)) n
+    (numbers 0 n)
   where
-    numbers : (a m : ℕ) → map (λ h. h.contract) (map (λ c. (let it : Holding = record { contract = c; net = entry_net entries c } in it)) (range_with_len a m)) ≡ range_with_len a m
+    numbers : (a m : ℕ) → map (λ h. h.contract)
+        (map (λ c. (let it : Holding = record { contract = c; net = entry_net entries c } in it)) (range_with_len a m))
+        ≡ range_with_len a m
     numbers a zero = refl
     numbers a (suc m) = ap (λ ns. a ∷ ns) (numbers (a + 1) m)
 
 -- ---- a search by contract number
 
 -- no holding of the number
-absent_in : (c : ℕ) (holdings : List Holding) → ((k : ℕ) → k < length holdings → (get_or holdings k none).contract ≡ c → ⊥) → is_over_at c holdings ≡ false
+absent_in : (c : ℕ) (holdings : List Holding) → ((k : ℕ) → k < length holdings → (get_or holdings k none).contract ≡ c → ⊥)
+    → is_over_at c holdings ≡ false
 absent_in c [] h = refl
 absent_in c (x ∷ holdings) h =
     or_from ((x.contract == c) && is_over x) (is_over_at c holdings)
@@ -77,12 +86,14 @@ absent_in c (x ∷ holdings) h =
     (absent_in c holdings (λ k lt. h (suc k) (omega (arith, lt))))
 
 -- the holding of the number stands at a place
-over_in : (c : ℕ) (holdings : List Holding) (k : ℕ) → Rise holdings → k < length holdings → (get_or holdings k none).contract ≡ c → is_over_at c holdings ≡ is_over (get_or holdings k none)
+over_in : (c : ℕ) (holdings : List Holding) (k : ℕ) → Rise holdings → k < length holdings
+    → (get_or holdings k none).contract ≡ c → is_over_at c holdings ≡ is_over (get_or holdings k none)
 unfolding Rise
 over_in c [] k rise lt at = absurd (omega (arith, lt))
 over_in c (x ∷ holdings) zero rise lt at =
     ap (λ b. (b && is_over x) || is_over_at c holdings) (eq-eqb x.contract c at)
-    ∙ ap (λ b. is_over x || b) (absent_in c holdings (λ k l same. let less = rise 0 (suc k) none (omega arith) (omega (arith, l)) in omega (arith, less, at, same)))
+    ∙ ap (λ b. is_over x || b) (absent_in c holdings (λ k l same. let less = rise 0 (suc k) none (omega arith) (omega (arith, l)) in
+    omega (arith, less, at, same)))
     ∙ alone (is_over x)
   where
     alone : (b : Bool) → (b || false) ≡ b
@@ -104,12 +115,15 @@ module _ (holdings : List Holding) (rising : IsStrictlyIncreasing (map (λ h. h.
       let less = rise i j none in
       grind (arith, nat_tests, less, λ (same : i ≡ j). ap (λ k. (get_or holdings k none).contract) same))
 
-  pub over_found : (place : ℕ) (d : Holding) → place < length holdings → IsBinarySearchResult (λ h. nat_cmp h.contract c) holdings (Ok place) → is_over (get_or holdings place d) ≡ is_over_at c holdings
+  pub over_found : (place : ℕ) (d : Holding) → place < length holdings
+      → IsBinarySearchResult (λ h. nat_cmp h.contract c) holdings (Ok place)
+      → is_over (get_or holdings place d) ≡ is_over_at c holdings
   over_found place d lt equal =
       ap is_over (get_or_default holdings place d none lt)
       ∙ sym (over_in c holdings place rise lt (ranked _ c _ (sym (equal none))))
 
-  pub over_absent : (place : ℕ) → place ≤ length holdings → IsBinarySearchResult (λ h. nat_cmp h.contract c) holdings (Err place) → false ≡ is_over_at c holdings
+  pub over_absent : (place : ℕ) → place ≤ length holdings → IsBinarySearchResult (λ h. nat_cmp h.contract c) holdings (Err place)
+      → false ≡ is_over_at c holdings
   over_absent place le parted = sym (absent_in c holdings (λ k lt same.
       let before = λ (l : k < place). ranked _ c _ (sym ((parted comparisons_rise).0 k none (omega (arith, le)) l)) in
       let after = λ (l : place ≤ k). ranked _ c _ (sym ((parted comparisons_rise).1 k none l lt)) in

@@ -1,5 +1,6 @@
 -- Tiers by their commodity, and the rule that they share no month.
-use Rattle.std.proofs.Common.{◌≡◌, ℕ, ◌++◌, ◌∷◌, [], List, false, true, Bool, cond, bytes_eq, Option, None, Some, refl, sym, ap, ◌∙◌, ◌&&◌}
+use Rattle.std.proofs.Common.{◌≡◌, ℕ, ◌++◌, ◌∷◌, [], List, false, true, Bool, cond}
+use Rattle.std.proofs.Common.{bytes_eq, Option, None, Some, refl, sym, ap, ◌∙◌, ◌&&◌}
 use Rattle.std.specs.Prelude.{if◌then◌else◌, filter_map}
 use Rattle.std.specs.List.{list_any}
 use Rattle.std.specs.Option.{option_map_or}
@@ -7,15 +8,16 @@ use Rattle.std.proofs.lemmas.List.{append-nil}
 use Rattle.span_tables.specs.Rules.{is_and, as_tier, share_month, overlaps_tier}
 use Rattle.span_tables.specs.declared.records.Record.{Record}
 use Rattle.span_tables.specs.declared.records.Record.TheVariants as record_of
+use Rattle.span_tables.proofs.NameLemmas.{same_name}
 use Rattle.param_check.specs.steps.Overlaps.{meet, meets_earlier, months_of, months_under}
 use Rattle.param_check.specs.declared.overlaps.Months.{Months}
-use Rattle.param_check.proofs.AccountLaws.{same_bytes}
 use Rattle.param_check.proofs.FilterMaps.{list_any-filter_map, list_any-same}
 
 -- a new group under k, where there was none
-pub begun : {V M : Type 0} (items : V → List M) (found : List ℕ → Option V) (k q : List ℕ) (group : V) (m : M) → items group ≡ m ∷ [] → found k ≡ None → (b : Bool) → bytes_eq k q ≡ b
+pub begun : {V M : Type 0} (items : V → List M) (found : List ℕ → Option V) (k q : List ℕ) (group : V) (m : M)
+    → items group ≡ m ∷ [] → found k ≡ None → (b : Bool) → bytes_eq k q ≡ b
     → option_map_or items (cond b (Some group) (found q)) [] ≡ option_map_or items (found q) [] ++ (if b then m ∷ [] else [])
-begun items found k q group m one none true e = rw (← same_bytes k q e) (rw none one)
+begun items found k q group m one none true e = rw (← same_name k q e) (rw none one)
 begun items found k q group m one none false e = sym (append-nil _)
 
 under : (b : Bool) (m : Months) (test : Months → Bool) → is_and (if b then Some m else None) test ≡ (b && test m)
@@ -33,7 +35,8 @@ alike commodity m (record_of.Spot x) = refl
 alike commodity m (record_of.Inter x) = refl
 
 -- a tier overlaps the earlier ones just where it meets those of its commodity
-pub overlaps_tier-meets : (earlier : List Record) (r : Record) → meets_earlier (λ commodity. filter_map (months_under commodity) earlier) r ≡ overlaps_tier earlier r
+pub overlaps_tier-meets : (earlier : List Record) (r : Record)
+    → meets_earlier (λ commodity. filter_map (months_under commodity) earlier) r ≡ overlaps_tier earlier r
 overlaps_tier-meets earlier (record_of.Set x) = refl
 overlaps_tier-meets earlier (record_of.Commodity x) = refl
 overlaps_tier-meets earlier (record_of.Contract x) = refl
@@ -45,7 +48,8 @@ overlaps_tier-meets earlier (record_of.Intra x) = refl
 overlaps_tier-meets earlier (record_of.Spot x) = refl
 overlaps_tier-meets earlier (record_of.Inter x) = refl
 
-meets_earlier-same : (these those : List ℕ → List Months) → ((c : List ℕ) → these c ≡ those c) → (r : Record) → meets_earlier these r ≡ meets_earlier those r
+meets_earlier-same : (these those : List ℕ → List Months) → ((c : List ℕ) → these c ≡ those c) → (r : Record)
+    → meets_earlier these r ≡ meets_earlier those r
 meets_earlier-same these those same (record_of.Set x) = refl
 meets_earlier-same these those same (record_of.Commodity x) = refl
 meets_earlier-same these those same (record_of.Contract x) = refl
@@ -55,6 +59,8 @@ meets_earlier-same these those same (record_of.Spot x) = refl
 meets_earlier-same these those same (record_of.Inter x) = refl
 
 -- groups of the earlier tiers by their commodity give the answer
-pub overlaps_tier-grouped : (groups : List ℕ → List Months) (earlier : List Record) → ((c : List ℕ) → groups c ≡ filter_map (months_under c) earlier)
+pub overlaps_tier-grouped : (groups : List ℕ → List Months) (earlier : List Record)
+    → ((c : List ℕ) → groups c ≡ filter_map (months_under c) earlier)
     → (r : Record) → meets_earlier groups r ≡ overlaps_tier earlier r
-overlaps_tier-grouped groups earlier are r = meets_earlier-same groups (λ c. filter_map (months_under c) earlier) are r ∙ overlaps_tier-meets earlier r
+overlaps_tier-grouped groups earlier are r =
+    meets_earlier-same groups (λ c. filter_map (months_under c) earlier) are r ∙ overlaps_tier-meets earlier r

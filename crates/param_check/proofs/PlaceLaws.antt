@@ -1,5 +1,6 @@
 -- Laws of a record's net by the places of its account and its contract.
-use Rattle.std.proofs.Common.{◌≡◌, ℕ, suc, ◌+◌, ◌<◌, Bool, true, false, cond, not, ◌||◌, ◌&&◌, List, [], ◌∷◌, length, get_or, filter, map, Some, None, position, refl, sym, ap, ◌∙◌, arith}
+use Rattle.std.proofs.Common.{◌≡◌, ℕ, suc, ◌+◌, ◌<◌, Bool, true, false, cond, not, ◌||◌, ◌&&◌, List, []}
+use Rattle.std.proofs.Common.{◌∷◌, length, get_or, filter, map, Some, None, position, refl, sym, ap, ◌∙◌, arith}
 use Rattle.std.specs.Prelude.{ℤ, nat_abs, bytes_eq, ◌==◌, nat_lt}
 use Rattle.std.specs.List.{list_any, enumerate_from, position_or_len}
 use Rattle.std.proofs.lemmas.Bool.{true≢false, false≢true, eq-eqb, ne_eqb, eqb-true, lt-ltb, le-ltb, not-false, false_from_ne_true}
@@ -11,37 +12,47 @@ use Rattle.span_tables.specs.declared.portfolios.Holding.{Holding}
 use Rattle.span_tables.specs.declared.records.Contract.{Contract}
 use Rattle.span_tables.specs.declared.records.PositionRecord.{PositionRecord}
 use Rattle.span_tables.proofs.NameLaws.{distinct_same}
+use Rattle.span_tables.proofs.NameLemmas.{same_name}
 use Rattle.param_check.specs.Binding.{first_unfit, is_unknown, is_first_of_contract, is_first_of_account, exceeds_net, exceeds_held}
-use Rattle.param_check.specs.steps.Holdings.{ids_of, is_over, is_over_at, over_at, net_exceeds, are_many, many_at, held_exceeds, net_fault, held_fault}
+use Rattle.param_check.specs.steps.Holdings.{ids_of, is_over, is_over_at, over_at, net_exceeds}
+use Rattle.param_check.specs.steps.Holdings.{are_many, many_at, held_exceeds, net_fault, held_fault}
 use Rattle.param_check.specs.steps.Ledger.{is_foreign, foreign_fault}
 use Rattle.param_check.specs.declared.faults.BindFault.TheVariants as fault
-use Rattle.param_check.proofs.AccountLaws.{same_bytes, bytes_eq-refl, bytes_eq-flip}
+use Rattle.param_check.proofs.AccountLaws.{bytes_eq-refl, bytes_eq-flip}
 use Rattle.param_check.proofs.KindLaws.{net_of_kind, held_of_kind}
 use Rattle.param_check.proofs.UnfitLaws.{unfit_same}
 
 -- ---- the place of a name
 
-within : (ks : List (List ℕ)) (name : List ℕ) → list_any (bytes_eq name) ks ≡ true → position_or_len (bytes_eq name) ks < length ks
+within : (ks : List (List ℕ)) (name : List ℕ) → list_any (bytes_eq name) ks ≡ true
+    → position_or_len (bytes_eq name) ks < length ks
 within [] name h = absurd (false≢true h)
 within (k ∷ ks) name h = by (bytes_eq name k) h (within ks name)
   where
-    by : (b : Bool) → (b || list_any (bytes_eq name) ks) ≡ true → (list_any (bytes_eq name) ks ≡ true → position_or_len (bytes_eq name) ks < length ks)
+    by : (b : Bool) → (b || list_any (bytes_eq name) ks) ≡ true
+        → (list_any (bytes_eq name) ks ≡ true → position_or_len (bytes_eq name) ks < length ks)
         → cond (not b) (1 + position_or_len (bytes_eq name) ks) 0 < suc (length ks)
     by true h more = omega arith
     by false h more = let lt = more h in omega (arith, lt)
 
-position_is : (ks : List (List ℕ)) (name : List ℕ) → list_any (bytes_eq name) ks ≡ true → position (bytes_eq name) ks ≡ Some (position_or_len (bytes_eq name) ks)
-position_is ks name h = ap (λ b. cond b (Some (position_or_len (bytes_eq name) ks)) None) (lt-ltb (position_or_len (bytes_eq name) ks) (length ks) (within ks name h))
+position_is : (ks : List (List ℕ)) (name : List ℕ) → list_any (bytes_eq name) ks ≡ true
+    → position (bytes_eq name) ks ≡ Some (position_or_len (bytes_eq name) ks)
+position_is ks name h =
+    ap (λ b. cond b (Some (position_or_len (bytes_eq name) ks)) None)
+    (lt-ltb (position_or_len (bytes_eq name) ks) (length ks) (within ks name h))
 
-at_place : {H : Type 0} (f : List ℕ → H) (ks : List (List ℕ)) (name : List ℕ) (d : H) → list_any (bytes_eq name) ks ≡ true → get_or (map f ks) (position_or_len (bytes_eq name) ks) d ≡ f name
+at_place : {H : Type 0} (f : List ℕ → H) (ks : List (List ℕ)) (name : List ℕ) (d : H) → list_any (bytes_eq name) ks ≡ true
+    → get_or (map f ks) (position_or_len (bytes_eq name) ks) d ≡ f name
 at_place f [] name d h = absurd (false≢true h)
 at_place {H} f (k ∷ ks) name d h = by (bytes_eq name k) refl h (at_place f ks name d)
   where
     by : (b : Bool) → bytes_eq name k ≡ b → (b || list_any (bytes_eq name) ks) ≡ true
         → (list_any (bytes_eq name) ks ≡ true → get_or (map f ks) (position_or_len (bytes_eq name) ks) d ≡ f name)
         → get_or (f k ∷ map f ks) (cond (not b) (1 + position_or_len (bytes_eq name) ks) 0) d ≡ f name
-    by true e h more = ap f (sym (same_bytes name k e))
-    by false e h more = (let up : 1 + position_or_len (bytes_eq name) ks ≡ suc (position_or_len (bytes_eq name) ks) = omega arith in ap (λ n. get_or (f k ∷ map f ks) n d) up) ∙ more h
+    by true e h more = ap f (sym (same_name name k e))
+    by false e h more =
+        (let up : 1 + position_or_len (bytes_eq name) ks ≡ suc (position_or_len (bytes_eq name) ks) = omega arith in
+        ap (λ n. get_or (f k ∷ map f ks) n d) up) ∙ more h
 
 -- ---- a net over the limit
 
@@ -64,7 +75,8 @@ module _ (positions : List PositionRecord) (account : List ℕ) where
       other : (b == c) ≡ false
       other = ne_eqb b c (λ e. omega (arith, e, lt))
 
-      by : (t : Bool) → is_over_at c (held_from (b + 1) xs) ≡ false → is_over_at c (cond t (first ∷ held_from (b + 1) xs) (held_from (b + 1) xs)) ≡ false
+      by : (t : Bool) → is_over_at c (held_from (b + 1) xs) ≡ false
+          → is_over_at c (cond t (first ∷ held_from (b + 1) xs) (held_from (b + 1) xs)) ≡ false
       by true more = ap (λ t. (t && is_over first) || is_over_at c (held_from (b + 1) xs)) other ∙ more
       by false more = more
 
@@ -73,7 +85,8 @@ module _ (positions : List PositionRecord) (account : List ℕ) where
       let none : nat_abs z ≡ 0 = eqb-true (nat_abs z) 0 (not-false (nat_abs z == 0) e) in
       le-ltb MAX_NET (nat_abs z) (omega (arith, none))
 
-  over_here : (a c : ℕ) (xs : List Contract) (name : List ℕ) → list_any (bytes_eq name) (ids_of xs) ≡ true → c ≡ a + position_or_len (bytes_eq name) (ids_of xs)
+  over_here : (a c : ℕ) (xs : List Contract) (name : List ℕ) → list_any (bytes_eq name) (ids_of xs) ≡ true
+      → c ≡ a + position_or_len (bytes_eq name) (ids_of xs)
       → is_over_at c (held_from a xs) ≡ nat_lt MAX_NET (nat_abs (net_of positions account name))
   unfolding held_from
   over_here a c [] name h e = absurd (false≢true h)
@@ -93,19 +106,23 @@ module _ (positions : List PositionRecord) (account : List ℕ) where
 
       mine : (t : Bool) → is_held first ≡ t → (a == c) ≡ true → is_over_at c rest ≡ false → is_over first ≡ over
           → is_over_at c (cond t (first ∷ rest) rest) ≡ over
-      mine true held at none same = ap (λ b. (b && is_over first) || is_over_at c rest) at ∙ ap (λ b. is_over first || b) none ∙ or-false (is_over first) ∙ same
+      mine true held at none same =
+          ap (λ b. (b && is_over first) || is_over_at c rest) at ∙ ap (λ b. is_over first || b) none ∙ or-false (is_over first)
+          ∙ same
       mine false held at none same = none ∙ sym (not_over first.net held) ∙ same
 
       others : (t : Bool) → (a == c) ≡ false → is_over_at c rest ≡ over → is_over_at c (cond t (first ∷ rest) rest) ≡ over
       others true at more = ap (λ b. (b && is_over first) || is_over_at c rest) at ∙ more
       others false at more = more
 
-      by : (b : Bool) → bytes_eq name x.id ≡ b → (b || list_any (bytes_eq name) (ids_of xs)) ≡ true → c ≡ a + cond (not b) (1 + p) 0
+      by : (b : Bool) → bytes_eq name x.id ≡ b → (b || list_any (bytes_eq name) (ids_of xs)) ≡ true
+          → c ≡ a + cond (not b) (1 + p) 0
           → (list_any (bytes_eq name) (ids_of xs) ≡ true → c ≡ a + 1 + p → is_over_at c rest ≡ over)
           → is_over_at c (cond (is_held first) (first ∷ rest) rest) ≡ over
       by true same h e more =
           let at : a ≡ c = omega (arith, e) in
-          mine (is_held first) refl (eq-eqb a c at) (later c (a + 1) xs (omega (arith, at))) (ap (λ n. nat_lt MAX_NET (nat_abs (net_of positions account n))) (sym (same_bytes name x.id same)))
+          mine (is_held first) refl (eq-eqb a c at) (later c (a + 1) xs (omega (arith, at)))
+          (ap (λ n. nat_lt MAX_NET (nat_abs (net_of positions account n))) (sym (same_name name x.id same)))
       by false same h e more = others (is_held first) (ne_eqb a c (λ z. omega (arith, e, z))) (more h (omega (arith, e)))
 
 -- ---- each record's faults
@@ -114,23 +131,31 @@ module _ (contracts : List Contract) (positions : List PositionRecord) (accounts
     (accounts_are : accounts ≡ accounts_of positions) (nets_are : nets ≡ map (holdings_of contracts positions) accounts)
     (known : list_any (is_foreign (ids_of contracts)) positions ≡ false) where
   -- the account of a record is among the accounts
-  account_among : (k : ℕ) (d : PositionRecord) → k < length positions → list_any (bytes_eq (get_or positions k d).account) accounts ≡ true
+  account_among : (k : ℕ) (d : PositionRecord) → k < length positions
+      → list_any (bytes_eq (get_or positions k d).account) accounts ≡ true
   account_among k d lt =
       let name = (get_or positions k d).account in
       ap (list_any (bytes_eq name)) accounts_are ∙ distinct_same (map (λ p. p.account) positions) name
-      ∙ list_any_at (bytes_eq name) (map (λ (p : PositionRecord). p.account) positions) k [] (omega (arith, lt, length-map positions (λ (p : PositionRecord). p.account)))
+      ∙ list_any_at (bytes_eq name) (map (λ (p : PositionRecord). p.account) positions) k []
+      (omega (arith, lt, length-map positions (λ (p : PositionRecord). p.account)))
       (ap (bytes_eq name) (get_or-map (λ (p : PositionRecord). p.account) positions k d [] lt) ∙ bytes_eq-refl name)
 
   -- its contract is among the ids
-  contract_among : (k : ℕ) (d : PositionRecord) → k < length positions → list_any (bytes_eq (get_or positions k d).contract) (ids_of contracts) ≡ true
+  contract_among : (k : ℕ) (d : PositionRecord) → k < length positions
+      → list_any (bytes_eq (get_or positions k d).contract) (ids_of contracts) ≡ true
   contract_among k d lt =
       not-false (list_any (bytes_eq (get_or positions k d).contract) (ids_of contracts))
-      (false_from_ne_true (is_foreign (ids_of contracts) (get_or positions k d)) (λ e. true≢false (sym (list_any_at (is_foreign (ids_of contracts)) positions k d lt e) ∙ known)))
+      (false_from_ne_true (is_foreign (ids_of contracts) (get_or positions k d))
+      (λ e. true≢false (sym (list_any_at (is_foreign (ids_of contracts)) positions k d lt e) ∙ known)))
 
-  nets_at : (name : List ℕ) → list_any (bytes_eq name) accounts ≡ true → get_or nets (position_or_len (bytes_eq name) accounts) [] ≡ holdings_of contracts positions name
-  nets_at name h = ap (λ n. get_or n (position_or_len (bytes_eq name) accounts) []) nets_are ∙ at_place (holdings_of contracts positions) accounts name [] h
+  nets_at : (name : List ℕ) → list_any (bytes_eq name) accounts ≡ true
+      → get_or nets (position_or_len (bytes_eq name) accounts) [] ≡ holdings_of contracts positions name
+  nets_at name h =
+      ap (λ n. get_or n (position_or_len (bytes_eq name) accounts) []) nets_are
+      ∙ at_place (holdings_of contracts positions) accounts name [] h
 
-  net_exceeds_is : (p : PositionRecord) → list_any (bytes_eq p.account) accounts ≡ true → list_any (bytes_eq p.contract) (ids_of contracts) ≡ true
+  net_exceeds_is : (p : PositionRecord) → list_any (bytes_eq p.account) accounts ≡ true
+      → list_any (bytes_eq p.contract) (ids_of contracts) ≡ true
       → net_exceeds (ids_of contracts) accounts nets p ≡ exceeds_net positions p
   unfolding held_from
   net_exceeds_is p a c =
@@ -139,18 +164,21 @@ module _ (contracts : List Contract) (positions : List PositionRecord) (accounts
       ∙ ap (is_over_at (position_or_len (bytes_eq p.contract) (ids_of contracts))) (nets_at p.account a)
       ∙ over_here positions p.account 0 (position_or_len (bytes_eq p.contract) (ids_of contracts)) contracts p.contract c (omega arith)
 
-  held_exceeds_is : (p : PositionRecord) → list_any (bytes_eq p.account) accounts ≡ true → held_exceeds accounts nets p ≡ exceeds_held contracts positions p
+  held_exceeds_is : (p : PositionRecord) → list_any (bytes_eq p.account) accounts ≡ true
+      → held_exceeds accounts nets p ≡ exceeds_held contracts positions p
   held_exceeds_is p a =
       ap (λ o. many_at o nets) (position_is accounts p.account a) ∙ ap are_many (nets_at p.account a)
 
   -- a fault of a net is that of a record, the first of its account and contract or not
-  pub net_fault_any : net_fault (ids_of contracts) accounts nets positions ≡ first_unfit fault.NetOutOfRange (λ earlier p. exceeds_net positions p) positions
+  pub net_fault_any : net_fault (ids_of contracts) accounts nets positions
+      ≡ first_unfit fault.NetOutOfRange (λ earlier p. exceeds_net positions p) positions
   unfolding net_fault
   net_fault_any =
       unfit_same fault.NetOutOfRange (net_exceeds (ids_of contracts) accounts nets) (exceeds_net positions) positions
       (λ k d lt. net_exceeds_is (get_or positions k d) (account_among k d lt) (contract_among k d lt))
 
-  pub held_fault_any : held_fault accounts nets positions ≡ first_unfit fault.TooManyHeld (λ earlier p. exceeds_held contracts positions p) positions
+  pub held_fault_any : held_fault accounts nets positions
+      ≡ first_unfit fault.TooManyHeld (λ earlier p. exceeds_held contracts positions p) positions
   unfolding held_fault
   held_fault_any =
       unfit_same fault.TooManyHeld (held_exceeds accounts nets) (exceeds_held contracts positions) positions
@@ -173,8 +201,11 @@ pub foreign_fault_is : (contracts : List Contract) (positions : List PositionRec
     → foreign_fault (ids_of contracts) positions ≡ first_unfit fault.UnknownContract (λ earlier p. is_unknown contracts p) positions
 unfolding foreign_fault
 foreign_fault_is contracts positions =
-    unfit_same fault.UnknownContract (is_foreign (ids_of contracts)) (is_unknown contracts) positions (λ k d lt. ap not (among (get_or positions k d).contract contracts))
+    unfit_same fault.UnknownContract (is_foreign (ids_of contracts)) (is_unknown contracts) positions
+    (λ k d lt. ap not (among (get_or positions k d).contract contracts))
   where
     among : (name : List ℕ) (xs : List Contract) → list_any (bytes_eq name) (ids_of xs) ≡ list_any (λ x. bytes_eq x.id name) xs
     among name [] = refl
-    among name (x ∷ xs) = ap (λ b. b || list_any (bytes_eq name) (ids_of xs)) (bytes_eq-flip name x.id) ∙ ap (λ b. bytes_eq x.id name || b) (among name xs)
+    among name (x ∷ xs) =
+        ap (λ b. b || list_any (bytes_eq name) (ids_of xs)) (bytes_eq-flip name x.id)
+        ∙ ap (λ b. bytes_eq x.id name || b) (among name xs)

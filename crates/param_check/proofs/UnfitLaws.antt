@@ -1,5 +1,6 @@
 -- Laws of the first record with a fault, where the fault is one of the record alone.
-use Rattle.std.proofs.Common.{◌≡◌, ℕ, suc, ◌+◌, ◌<◌, Bool, true, false, cond, not, ◌||◌, ◌&&◌, List, [], ◌∷◌, ◌++◌, length, get_or, take, drop, Option, Some, None, refl, sym, ap, ◌∙◌, arith}
+use Rattle.std.proofs.Common.{◌≡◌, ℕ, suc, ◌+◌, ◌<◌, Bool, true, false, cond, not, ◌||◌, ◌&&◌, List, []}
+use Rattle.std.proofs.Common.{◌∷◌, ◌++◌, length, get_or, take, drop, Option, Some, None, refl, sym, ap, ◌∙◌, arith}
 use Rattle.std.specs.Prelude.{option_map}
 use Rattle.std.specs.Option.{option_or}
 use Rattle.std.specs.List.{list_any}
@@ -18,10 +19,13 @@ module _ (fault : ℕ → List ℕ → BindFault) where
   after : (unfit : PositionRecord → Bool) → List PositionRecord → List PositionRecord → Option BindFault
   after unfit earlier xs = first_fault_after (λ e p. cond (unfit p) (Some (λ at. fault at p.account)) None) earlier xs
 
-  one : (unfit : PositionRecord → Bool) (b : Bool) (earlier : List PositionRecord) (p : PositionRecord) (xs : List PositionRecord) → unfit p ≡ b
-      → after unfit earlier (p ∷ xs) ≡ option_or (option_map (λ f. f (length earlier + 1)) (fault_if b p)) (after unfit (earlier ++ p ∷ []) xs)
+  one : (unfit : PositionRecord → Bool) (b : Bool) (earlier : List PositionRecord) (p : PositionRecord) (xs : List PositionRecord)
+      → unfit p ≡ b
+      → after unfit earlier (p ∷ xs) ≡ option_or (option_map (λ f. f (length earlier + 1)) (fault_if b p))
+      (after unfit (earlier ++ p ∷ []) xs)
   unfolding after fault_if
-  one unfit b earlier p xs e = ap (λ t. option_or (option_map (λ f. f (length earlier + 1)) (fault_if t p)) (after unfit (earlier ++ p ∷ []) xs)) e
+  one unfit b earlier p xs e =
+      ap (λ t. option_or (option_map (λ f. f (length earlier + 1)) (fault_if t p)) (after unfit (earlier ++ p ∷ []) xs)) e
 
   module _ (unfit : PositionRecord → Bool) where
     none_after : (earlier xs : List PositionRecord) → list_any unfit xs ≡ false → after unfit earlier xs ≡ None
@@ -31,11 +35,13 @@ module _ (fault : ℕ → List ℕ → BindFault) where
         let parts = or_parts (unfit p) (list_any unfit xs) h in
         one unfit false earlier p xs parts.0 ∙ none_after (earlier ++ p ∷ []) xs parts.1
 
-    found_after : (earlier front : List PositionRecord) (p : PositionRecord) (rest : List PositionRecord) (n : ℕ) → list_any unfit front ≡ false → unfit p ≡ true
+    found_after : (earlier front : List PositionRecord) (p : PositionRecord) (rest : List PositionRecord) (n : ℕ)
+        → list_any unfit front ≡ false → unfit p ≡ true
         → n ≡ length earlier + length front → after unfit earlier (front ++ p ∷ rest) ≡ Some (fault (n + 1) p.account)
     unfolding after fault_if
     found_after earlier [] p rest n h e k =
-        one unfit true earlier p rest e ∙ (let same : length earlier ≡ n = omega (arith, k) in ap (λ m. Some (fault (m + 1) p.account)) same)
+        one unfit true earlier p rest e ∙ (let same : length earlier ≡ n = omega (arith, k) in
+        ap (λ m. Some (fault (m + 1) p.account)) same)
     found_after earlier (q ∷ front) p rest n h e k =
         let parts = or_parts (unfit q) (list_any unfit front) h in
         one unfit false earlier q (front ++ p ∷ rest) parts.0
@@ -47,7 +53,8 @@ module _ (fault : ℕ → List ℕ → BindFault) where
     unfit_none xs h = none_after [] xs h
 
     -- the record at a place is, and none before it
-    pub unfit_found : (xs : List PositionRecord) (i : ℕ) (p : PositionRecord) → i < length xs → get_or xs i p ≡ p → list_any unfit (take i xs) ≡ false → unfit p ≡ true
+    pub unfit_found : (xs : List PositionRecord) (i : ℕ) (p : PositionRecord) → i < length xs → get_or xs i p ≡ p
+        → list_any unfit (take i xs) ≡ false → unfit p ≡ true
         → first_unfit fault (λ earlier p. unfit p) xs ≡ Some (fault (i + 1) p.account)
     unfolding after
     unfit_found xs i p lt at h e =
@@ -61,7 +68,8 @@ module _ (fault : ℕ → List ℕ → BindFault) where
     none_back earlier [] h = refl
     none_back earlier (p ∷ xs) h = by (unfit p) refl (none_back (earlier ++ p ∷ []) xs)
       where
-        by : (b : Bool) → unfit p ≡ b → (after unfit (earlier ++ p ∷ []) xs ≡ None → list_any unfit xs ≡ false) → list_any unfit (p ∷ xs) ≡ false
+        by : (b : Bool) → unfit p ≡ b → (after unfit (earlier ++ p ∷ []) xs ≡ None → list_any unfit xs ≡ false)
+            → list_any unfit (p ∷ xs) ≡ false
         by true e more = let f : Some (fault (length earlier + 1) p.account) ≡ None = sym (one unfit true earlier p xs e) ∙ h in cc
         by false e more = ap (λ b. b || list_any unfit xs) e ∙ more (sym (one unfit false earlier p xs e) ∙ h)
 
@@ -71,15 +79,19 @@ module _ (fault : ℕ → List ℕ → BindFault) where
     fit_from_none xs h = none_back [] xs h
 
   module _ (f g : PositionRecord → Bool) where
-    same_after : (earlier xs : List PositionRecord) → ((k : ℕ) (d : PositionRecord) → k < length xs → f (get_or xs k d) ≡ g (get_or xs k d)) → after f earlier xs ≡ after g earlier xs
+    same_after : (earlier xs : List PositionRecord)
+        → ((k : ℕ) (d : PositionRecord) → k < length xs → f (get_or xs k d) ≡ g (get_or xs k d))
+        → after f earlier xs ≡ after g earlier xs
     unfolding after fault_if
     same_after earlier [] h = refl
     same_after earlier (p ∷ xs) h =
         one f (g p) earlier p xs (h 0 p (omega arith))
-        ∙ ap (option_or (option_map (λ w. w (length earlier + 1)) (fault_if (g p) p))) (same_after (earlier ++ p ∷ []) xs (λ k d lt. h (suc k) d (omega (arith, lt))))
+        ∙ ap (option_or (option_map (λ w. w (length earlier + 1)) (fault_if (g p) p)))
+        (same_after (earlier ++ p ∷ []) xs (λ k d lt. h (suc k) d (omega (arith, lt))))
 
     -- two tests that agree on the records find the same fault
-    pub unfit_same : (xs : List PositionRecord) → ((k : ℕ) (d : PositionRecord) → k < length xs → f (get_or xs k d) ≡ g (get_or xs k d))
+    pub unfit_same : (xs : List PositionRecord)
+        → ((k : ℕ) (d : PositionRecord) → k < length xs → f (get_or xs k d) ≡ g (get_or xs k d))
         → first_unfit fault (λ earlier p. f p) xs ≡ first_unfit fault (λ earlier p. g p) xs
     unfolding after
     unfit_same xs h = same_after [] xs h
@@ -87,9 +99,11 @@ module _ (fault : ℕ → List ℕ → BindFault) where
   module _ (same : PositionRecord → PositionRecord → Bool) (unfit : PositionRecord → Bool)
       (alike : (x p : PositionRecord) → same x p ≡ true → unfit p ≡ true → unfit x ≡ true) where
     firsts : List PositionRecord → List PositionRecord → Option BindFault
-    firsts earlier xs = first_fault_after (λ e p. cond (not (list_any (λ x. same x p) e) && unfit p) (Some (λ at. fault at p.account)) None) earlier xs
+    firsts earlier xs =
+        first_fault_after (λ e p. cond (not (list_any (λ x. same x p) e) && unfit p) (Some (λ at. fault at p.account)) None) earlier xs
 
-    none_alike : (earlier : List PositionRecord) (p : PositionRecord) → list_any unfit earlier ≡ false → unfit p ≡ true → list_any (λ x. same x p) earlier ≡ false
+    none_alike : (earlier : List PositionRecord) (p : PositionRecord) → list_any unfit earlier ≡ false → unfit p ≡ true
+        → list_any (λ x. same x p) earlier ≡ false
     none_alike [] p h e = refl
     none_alike (x ∷ earlier) p h e =
         let parts = or_parts (unfit x) (list_any unfit earlier) h in
@@ -104,18 +118,25 @@ module _ (fault : ℕ → List ℕ → BindFault) where
     firsts_after : (earlier xs : List PositionRecord) → list_any unfit earlier ≡ false → firsts earlier xs ≡ after unfit earlier xs
     unfolding firsts after fault_if
     firsts_after earlier [] h = refl
-    firsts_after earlier (p ∷ xs) h = by (unfit p) refl (λ e. firsts_after (earlier ++ p ∷ []) xs (list_any-append unfit earlier (p ∷ []) ∙ ap (λ b. b || (unfit p || false)) h ∙ ap (λ b. b || false) e))
+    firsts_after earlier (p ∷ xs) h =
+        by (unfit p) refl (λ e. firsts_after (earlier ++ p ∷ []) xs
+        (list_any-append unfit earlier (p ∷ []) ∙ ap (λ b. b || (unfit p || false)) h ∙ ap (λ b. b || false) e))
       where
-        by : (b : Bool) → unfit p ≡ b → (unfit p ≡ false → firsts (earlier ++ p ∷ []) xs ≡ after unfit (earlier ++ p ∷ []) xs) → firsts earlier (p ∷ xs) ≡ after unfit earlier (p ∷ xs)
+        by : (b : Bool) → unfit p ≡ b → (unfit p ≡ false
+            → firsts (earlier ++ p ∷ []) xs ≡ after unfit (earlier ++ p ∷ []) xs)
+            → firsts earlier (p ∷ xs) ≡ after unfit earlier (p ∷ xs)
         by true e more =
-            ap (λ t. option_or (option_map (λ f. f (length earlier + 1)) (fault_if t p)) (firsts (earlier ++ p ∷ []) xs)) (test_is earlier p h true e)
+            ap (λ t. option_or (option_map (λ f. f (length earlier + 1)) (fault_if t p)) (firsts (earlier ++ p ∷ []) xs))
+            (test_is earlier p h true e)
             ∙ sym (one unfit true earlier p xs e)
         by false e more =
-            ap (λ t. option_or (option_map (λ f. f (length earlier + 1)) (fault_if t p)) (firsts (earlier ++ p ∷ []) xs)) (test_is earlier p h false e)
+            ap (λ t. option_or (option_map (λ f. f (length earlier + 1)) (fault_if t p)) (firsts (earlier ++ p ∷ []) xs))
+            (test_is earlier p h false e)
             ∙ more e ∙ sym (one unfit false earlier p xs e)
 
     -- the first unfit record is the first of its kind, so that need not be asked
     pub first_of_kind : (xs : List PositionRecord)
-        → first_unfit fault (λ earlier p. not (list_any (λ x. same x p) earlier) && unfit p) xs ≡ first_unfit fault (λ earlier p. unfit p) xs
+        → first_unfit fault (λ earlier p. not (list_any (λ x. same x p) earlier) && unfit p) xs
+        ≡ first_unfit fault (λ earlier p. unfit p) xs
     unfolding firsts after
     first_of_kind xs = firsts_after [] xs refl

@@ -2,10 +2,12 @@
 use Rattle.std.proofs.Common.{◌≡◌, ℕ, not, List, [], ◌∷◌, Some, refl, sym, ap, ◌∙◌, ◌&&◌, eqb, bytes_eq}
 use Rattle.std.specs.List.{list_any}
 use Rattle.std.proofs.Math.Bool.{and-true, or-false}
-use Rattle.span_tables.specs.Rules.{is_and, first_breaking, as_commodity, as_tier, commodities_in, has_tier, names_no_commodity, names_no_tier}
+use Rattle.span_tables.specs.Rules.{is_and, first_breaking, as_commodity, as_tier}
+use Rattle.span_tables.specs.Rules.{commodities_in, has_tier, names_no_commodity, names_no_tier}
 use Rattle.span_tables.specs.declared.records.Record.{Record}
 use Rattle.span_tables.specs.declared.records.Record.TheVariants as record_of
-use Rattle.param_check.specs.steps.Keys.{name_key, key_of, is_same, is_among, has_key, is_unknown, names_unknown, is_unknown_tier, names_unknown_tier}
+use Rattle.param_check.specs.steps.Keys.{name_key, key_of, is_same, is_among, has_key, is_unknown}
+use Rattle.param_check.specs.steps.Keys.{names_unknown, is_unknown_tier, names_unknown_tier}
 use Rattle.param_check.specs.declared.keys.Key.{Key}
 use Rattle.param_check.specs.declared.keys.Identity.TheVariants as identity
 use Rattle.param_check.proofs.FilterMaps.{list_any-filter_map, list_any-map, list_any-same}
@@ -13,7 +15,8 @@ use Rattle.param_check.proofs.FirstFaults.{first_breaking-same}
 
 -- ---- commodities
 
-commodity_alike : (id : List ℕ) (r : Record) → is_same (key_of identity.Commodity r) (name_key id 0) ≡ is_and (as_commodity r) (λ c. bytes_eq c.id id)
+commodity_alike : (id : List ℕ) (r : Record)
+    → is_same (key_of identity.Commodity r) (name_key id 0) ≡ is_and (as_commodity r) (λ c. bytes_eq c.id id)
 commodity_alike id (record_of.Set x) = refl
 commodity_alike id (record_of.Commodity x) = and-true (bytes_eq x.id id)
 commodity_alike id (record_of.Contract x) = refl
@@ -22,14 +25,16 @@ commodity_alike id (record_of.Intra x) = refl
 commodity_alike id (record_of.Spot x) = refl
 commodity_alike id (record_of.Inter x) = refl
 
-has_commodity : (all : List Record) (id : List ℕ) → has_key identity.Commodity all (name_key id 0) ≡ list_any (λ c. bytes_eq c.id id) (commodities_in all)
+has_commodity : (all : List Record) (id : List ℕ)
+    → has_key identity.Commodity all (name_key id 0) ≡ list_any (λ c. bytes_eq c.id id) (commodities_in all)
 has_commodity all id = list_any-same _ _ (commodity_alike id) all ∙ sym (list_any-filter_map as_commodity (λ c. bytes_eq c.id id) all)
 
 module _ (keys : List Key) (all : List Record) (are : (key : Key) → is_among keys (Some key) ≡ has_key identity.Commodity all key) where
   unknown : (id : List ℕ) → is_unknown keys id ≡ not (list_any (λ c. bytes_eq c.id id) (commodities_in all))
   unknown id = ap not (are (name_key id 0) ∙ has_commodity all id)
 
-  alone : (id : List ℕ) → is_unknown keys id ≡ list_any (λ name. not (list_any (λ c. bytes_eq c.id name) (commodities_in all))) (id ∷ [])
+  alone : (id : List ℕ) → is_unknown keys id
+      ≡ list_any (λ name. not (list_any (λ c. bytes_eq c.id name) (commodities_in all))) (id ∷ [])
   alone id = unknown id ∙ sym (or-false _)
 
   names_unknown-alike : (earlier : List Record) (r : Record) → names_unknown keys r ≡ names_no_commodity all r
@@ -43,12 +48,15 @@ module _ (keys : List Key) (all : List Record) (are : (key : Key) → is_among k
       list_any-same _ _ (λ leg. unknown leg.commodity) x.legs.items
       ∙ sym (list_any-map (λ name. not (list_any (λ c. bytes_eq c.id name) (commodities_in all))) (λ leg. leg.commodity) x.legs.items)
 
-  pub names_unknown-first : first_breaking (λ at. at) (λ earlier r. names_unknown keys r) all ≡ first_breaking (λ at. at) (λ earlier r. names_no_commodity all r) all
-  names_unknown-first = first_breaking-same (λ at. at) (λ earlier r. names_unknown keys r) (λ earlier r. names_no_commodity all r) names_unknown-alike all
+  pub names_unknown-first : first_breaking (λ at. at) (λ earlier r. names_unknown keys r) all
+      ≡ first_breaking (λ at. at) (λ earlier r. names_no_commodity all r) all
+  names_unknown-first =
+      first_breaking-same (λ at. at) (λ earlier r. names_unknown keys r) (λ earlier r. names_no_commodity all r) names_unknown-alike all
 
 -- ---- tiers
 
-tier_alike : (c : List ℕ) (n : ℕ) (r : Record) → is_same (key_of identity.Tier r) (name_key c n) ≡ is_and (as_tier r) (λ t. bytes_eq t.commodity c && eqb t.number n)
+tier_alike : (c : List ℕ) (n : ℕ) (r : Record)
+    → is_same (key_of identity.Tier r) (name_key c n) ≡ is_and (as_tier r) (λ t. bytes_eq t.commodity c && eqb t.number n)
 tier_alike c n (record_of.Set x) = refl
 tier_alike c n (record_of.Commodity x) = refl
 tier_alike c n (record_of.Contract x) = refl
@@ -58,7 +66,8 @@ tier_alike c n (record_of.Spot x) = refl
 tier_alike c n (record_of.Inter x) = refl
 
 has_tier-key : (all : List Record) (c : List ℕ) (n : ℕ) → has_key identity.Tier all (name_key c n) ≡ has_tier all c n
-has_tier-key all c n = list_any-same _ _ (tier_alike c n) all ∙ sym (list_any-filter_map as_tier (λ t. bytes_eq t.commodity c && eqb t.number n) all)
+has_tier-key all c n =
+    list_any-same _ _ (tier_alike c n) all ∙ sym (list_any-filter_map as_tier (λ t. bytes_eq t.commodity c && eqb t.number n) all)
 
 module _ (keys : List Key) (all : List Record) (are : (key : Key) → is_among keys (Some key) ≡ has_key identity.Tier all key) where
   unknown_tier : (c : List ℕ) (n : ℕ) → is_unknown_tier keys c n ≡ not (has_tier all c n)
@@ -73,5 +82,8 @@ module _ (keys : List Key) (all : List Record) (are : (key : Key) → is_among k
   names_unknown_tier-alike earlier (record_of.Spot x) = refl
   names_unknown_tier-alike earlier (record_of.Inter x) = refl
 
-  pub names_unknown_tier-first : first_breaking (λ at. at) (λ earlier r. names_unknown_tier keys r) all ≡ first_breaking (λ at. at) (λ earlier r. names_no_tier all r) all
-  names_unknown_tier-first = first_breaking-same (λ at. at) (λ earlier r. names_unknown_tier keys r) (λ earlier r. names_no_tier all r) names_unknown_tier-alike all
+  pub names_unknown_tier-first : first_breaking (λ at. at) (λ earlier r. names_unknown_tier keys r) all
+      ≡ first_breaking (λ at. at) (λ earlier r. names_no_tier all r) all
+  names_unknown_tier-first =
+      first_breaking-same (λ at. at) (λ earlier r. names_unknown_tier keys r)
+      (λ earlier r. names_no_tier all r) names_unknown_tier-alike all

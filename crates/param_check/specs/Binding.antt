@@ -1,5 +1,6 @@
 -- Which positions fit the accepted tables.
-use Rattle.std.specs.Prelude.{ℕ, Bool, not, ◌&&◌, nat_lt, if◌then◌else◌, List, [], ◌∷◌, length, Option, Some, None, bytes_eq, nat_abs, Result, true, false}
+use Rattle.std.specs.Prelude.{ℕ, Bool, not, ◌&&◌, nat_lt, if◌then◌else◌, List, [], ◌∷◌}
+use Rattle.std.specs.Prelude.{length, Option, Some, None, bytes_eq, nat_abs, Result, true, false}
 use Rattle.std.specs.List.{list_any}
 use Rattle.span_tables.specs.Faults.{first_some, first_fault, ok_unless}
 use Rattle.span_tables.specs.Net.{AccountHoldings, net_of, holdings_of, portfolios_of}

@@ -76,7 +76,8 @@ pub(crate) fn bind_positions(
     settle(alloc, &numbers, nets, positions)
 }
 
-/// What each account holds, or the fault of the positions.
+/// What each account holds, by the accounts' first appearance (docs/METHOD.md, "Positions"), or the fault of the
+/// positions, of B1 to B3 (docs/FORMATS.md, "Faults"). Nets are in contracts; a short one is negative.
 pub fn bind(
     alloc: Global,
     tables: &Tables,

@@ -90,9 +90,9 @@ pub(crate) fn check_fault(
     spread_fault(alloc, records)
 }
 
-/// The tables of the records of a file, or the lowest-numbered rule that they break with the first record that breaks
-/// it.
-#[tactic(auto, using(crate::proofs::GroupLemmas::checked_fault, crate::proofs::GroupLemmas::checked_tables, crate::proofs::RuleLaws::check_keeps_rules))]
+/// The tables of the records of a file, or the lowest-numbered rule that they break, of C1 to C11, with the first record
+/// that breaks it (docs/FORMATS.md, "Faults").
+#[tactic(auto, using(crate::proofs::GroupLemmas::refused, crate::proofs::GroupLemmas::accepted, crate::proofs::RuleLaws::rules_kept))]
 pub fn check(alloc: Global, raw: RawTables) -> Result<Tables, CheckFault>
     ensures { Gives is_memory result (checked raw) }
 {

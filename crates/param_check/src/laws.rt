@@ -1,7 +1,9 @@
 //! Laws of the rules, in the methodology's words: each is the contract of a function that does nothing.
-ghost use Rattle.std.specs.Prelude.{◌≡◌, ◌≤◌, ◌&&◌, ℕ, false, true, length, map, nat_abs, Bool, List, [], Option, Some, None, if◌then◌else◌};
+ghost use Rattle.std.specs.Prelude.{◌≡◌, ◌≤◌, ◌&&◌, ℕ, false, true, length, map};
+ghost use Rattle.std.specs.Prelude.{nat_abs, Bool, List, [], Option, Some, None, if◌then◌else◌};
 ghost use Rattle.std.specs.List.{list_any};
-ghost use Rattle.param_check.specs.Binding.{bind_fault, exceeds_held, exceeds_net, first_unfit, is_first_of_account, is_first_of_contract, is_unknown};
+ghost use Rattle.param_check.specs.Binding.{bind_fault, exceeds_held, exceeds_net, first_unfit};
+ghost use Rattle.param_check.specs.Binding.{is_first_of_account, is_first_of_contract, is_unknown};
 ghost use Rattle.param_check.specs.CheckFaults.{check_fault};
 ghost use Rattle.param_check.specs.declared.faults.BindFault.TheVariants as bind;
 ghost use Rattle.param_check.specs.declared.faults.BindFault.{BindFault};

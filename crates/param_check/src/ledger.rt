@@ -1,5 +1,6 @@
 //! The entries of each account, gathered from the records of a position file.
-ghost use Rattle.std.specs.Prelude.{◌≡◌, ◌≤◌, ◌++◌, ◌∷◌, [], ⊤, Some, bytes_eq, nat_abs, replicate, All, IfOk, IfSome, OnOk, MatchBool, MatchResult};
+ghost use Rattle.std.specs.Prelude.{◌≡◌, ◌≤◌, ◌++◌, ◌∷◌, [], ⊤, Some, bytes_eq};
+ghost use Rattle.std.specs.Prelude.{nat_abs, replicate, All, IfOk, IfSome, OnOk, MatchBool, MatchResult};
 ghost use Rattle.span_tables.specs.declared.limits.TheConstants.{MAX_QUANTITY};
 ghost use Rattle.param_check.specs.Binding.{is_memory};
 ghost use Rattle.param_check.specs.steps.Ledger.{foreign_fault, known_entry, IsLedger};

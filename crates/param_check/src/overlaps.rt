@@ -1,5 +1,6 @@
 //! The first tier that shares a month with an earlier one of its commodity.
-ghost use Rattle.std.specs.Prelude.{◌≡◌, ℕ, ◌++◌, ◌∷◌, [], List, false, bytes_eq, if◌then◌else◌, option_to_list, IfOk};
+ghost use Rattle.std.specs.Prelude.{◌≡◌, ℕ, ◌++◌, ◌∷◌, [], List, false};
+ghost use Rattle.std.specs.Prelude.{bytes_eq, if◌then◌else◌, option_to_list, IfOk};
 ghost use Rattle.std.specs.List.{list_any};
 ghost use Rattle.std.specs.Option.{option_map_or};
 ghost use Rattle.indexmap.specs.IndexMap.{get};

@@ -1,8 +1,10 @@
 //! What each rule forbids of one record, and the first record that breaks it, rule by rule.
-ghost use Rattle.std.specs.Prelude.{◌≡◌, ◌&&◌, ◌==◌, bytes_eq, map, not, IfOk};
+ghost use Rattle.std.specs.Prelude.{◌≡◌, ◌&&◌, ◌==◌, bytes_eq, map, IfOk};
 ghost use Rattle.std.specs.List.{list_all, list_any};
 ghost use Rattle.span_tables.specs.Names.{has_repeat};
-ghost use Rattle.span_tables.specs.Rules.{are_one_sided, first_breaking, is_backwards, is_one_sided, is_side_a, names_no_commodity, names_no_tier, repeats_commodity, repeats_contract, repeats_leg, repeats_priority, repeats_spot, repeats_tier, same_side};
+ghost use Rattle.span_tables.specs.Rules.{are_one_sided, first_breaking, is_backwards, is_one_sided, is_side_a};
+ghost use Rattle.span_tables.specs.Rules.{names_no_commodity, names_no_tier, repeats_commodity, repeats_contract};
+ghost use Rattle.span_tables.specs.Rules.{repeats_leg, repeats_priority, repeats_spot, repeats_tier, same_side};
 ghost use Rattle.param_check.specs.steps.Keys.{is_unknown, is_unknown_tier, names_unknown, names_unknown_tier};
 ghost use Rattle.param_check.specs.steps.RecordRules.{breaks};
 
@@ -274,46 +276,36 @@ pub(crate) fn first_repeated_leg(records: &[Record]) -> Option<usize>
 
 // ---- C9
 
-// Whether the legs are all on A.
-fn tier_legs_on_a(legs: &[IntraLeg]) -> bool
-    ensures { result ≡ list_all is_side_a (map (λ leg. leg.side) legs.now) }
+// Whether the legs are all on a side.
+fn tier_legs_on(legs: &[IntraLeg], side: Side) -> bool
+    ensures { result ≡ list_all (same_side side) (map (λ leg. leg.side) legs.now) }
 {
-    legs.iter().map(|leg| leg.side).all(|side| is_side_a(side))
-}
-
-// Whether the legs are all on B.
-fn tier_legs_on_b(legs: &[IntraLeg]) -> bool
-    ensures { result ≡ list_all (λ side. not (is_side_a side)) (map (λ leg. leg.side) legs.now) }
-{
-    legs.iter().map(|leg| leg.side).all(|side| !is_side_a(side))
+    legs.iter()
+        .map(|leg| leg.side)
+        .all(|other| same_side(side, other))
 }
 
 // Whether no leg is on A, or none on B.
 fn tier_legs_one_sided(legs: &[IntraLeg]) -> bool
     ensures { result ≡ are_one_sided (map (λ leg. leg.side) legs.now) }
 {
-    tier_legs_on_a(legs) || tier_legs_on_b(legs)
+    tier_legs_on(legs, Side::A) || tier_legs_on(legs, Side::B)
 }
 
-// Whether the legs are all on A.
-fn commodity_legs_on_a(legs: &[InterLeg]) -> bool
-    ensures { result ≡ list_all is_side_a (map (λ leg. leg.side) legs.now) }
+// Whether the legs are all on a side.
+fn commodity_legs_on(legs: &[InterLeg], side: Side) -> bool
+    ensures { result ≡ list_all (same_side side) (map (λ leg. leg.side) legs.now) }
 {
-    legs.iter().map(|leg| leg.side).all(|side| is_side_a(side))
-}
-
-// Whether the legs are all on B.
-fn commodity_legs_on_b(legs: &[InterLeg]) -> bool
-    ensures { result ≡ list_all (λ side. not (is_side_a side)) (map (λ leg. leg.side) legs.now) }
-{
-    legs.iter().map(|leg| leg.side).all(|side| !is_side_a(side))
+    legs.iter()
+        .map(|leg| leg.side)
+        .all(|other| same_side(side, other))
 }
 
 // Whether no leg is on A, or none on B.
 fn commodity_legs_one_sided(legs: &[InterLeg]) -> bool
     ensures { result ≡ are_one_sided (map (λ leg. leg.side) legs.now) }
 {
-    commodity_legs_on_a(legs) || commodity_legs_on_b(legs)
+    commodity_legs_on(legs, Side::A) || commodity_legs_on(legs, Side::B)
 }
 
 // Whether it is a spread with no leg on A or none on B.

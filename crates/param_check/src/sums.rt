@@ -1,6 +1,8 @@
 //! Sums by contract number, which cost nothing where nothing was added.
-ghost use Rattle.std.specs.Prelude.{◌≡◌, ◌==◌, ◌<◌, ◌+◌, ◌*◌, ◌^◌, ◌++◌, ◌+ℤ◌, length, map, nat_abs, replicate, pos, slice_index_or, slice_set, IfOk, OnOk};
+ghost use Rattle.std.specs.Prelude.{◌≡◌, ◌==◌, ◌<◌, ◌+◌, ◌*◌, ◌^◌, ◌++◌, ◌+ℤ◌};
+ghost use Rattle.std.specs.Prelude.{length, map, nat_abs, replicate, pos, slice_index_or, slice_set, IfOk, OnOk};
 ghost use Rattle.std.specs.Int.{bit_at};
+ghost use Rattle.param_check.specs.declared.sums.TheConstants.{MARKS};
 ghost use Rattle.param_check.specs.steps.Nets.{held_part, holdings_in};
 ghost use Rattle.param_check.specs.steps.Sums.{held_below, kept_holding, kept_net, AreMarks};
 
@@ -8,6 +10,9 @@ use span_tables::limits::MAX_NET;
 use span_tables::portfolios::Holding;
 use std::alloc::{AllocError, Global};
 use std::marker::Model;
+
+/// How many marks a word has.
+const MARKS: usize = u64::BITS as usize;
 
 /// A sum for each contract number. Contracts see the list of them.
 ///
@@ -32,7 +37,7 @@ impl Model for Sums {
 
 // Whether the bit of a place is set.
 fn is_set(word: u64, place: usize) -> bool
-    requires { place < 64 }
+    requires { place < MARKS }
     ensures { result ≡ (bit_at word place == 1) }
 {
     word >> place & 1 == 1
@@ -78,13 +83,13 @@ fn push_word(
 ) -> Result<(), AllocError>
     requires marks { AreMarks marks.now (length places.now) }
     requires word { word < length marks.now }
-    requires so_far { held.old.items ≡ held_below marks.now places.now (64 * word) }
-    ensures { OnOk result (held.new.items ≡ held_below marks.now places.now (64 * word + 64)) }
+    requires so_far { held.old.items ≡ held_below marks.now places.now (MARKS * word) }
+    ensures { OnOk result (held.new.items ≡ held_below marks.now places.now (MARKS * word + MARKS)) }
 {
     let mut left = marks[word];
     while left != 0 {
         let place = left.trailing_zeros();
-        let number = 64 * word + place as usize;
+        let number = MARKS * word + place as usize;
         push_held(held, places, number)?;
         left &= !(1 << place);
     }
@@ -97,7 +102,7 @@ impl Sums {
         ensures { IfOk result (λ sums. sums ≡ replicate count (pos 0)) }
     {
         let places = vec![in alloc; 0i128; count]?;
-        let marks = vec![in alloc; 0u64; count / 64 + 1]?;
+        let marks = vec![in alloc; 0u64; count / MARKS + 1]?;
         Ok(Sums { places, marks })
     }
 
@@ -113,7 +118,7 @@ impl Sums {
         requires { number < length self.now }
         ensures { result ≡ slice_index_or self.now number (pos 0) }
     {
-        if is_set(self.marks[number / 64], number % 64) {
+        if is_set(self.marks[number / MARKS], number % MARKS) {
             self.places[number]
         } else {
             0
@@ -136,7 +141,7 @@ impl Sums {
             return;
         }
         let sum = plus(self.at(number), quantity);
-        self.marks[number / 64] |= 1 << (number % 64);
+        self.marks[number / MARKS] |= 1 << (number % MARKS);
         self.places[number] = sum;
     }
 

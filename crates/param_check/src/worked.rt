@@ -4,7 +4,8 @@
 ghost use Rattle.std.specs.Prelude.{◌≡◌, [], ◌∷◌, None, Some, codes, neg_ℤ, pos};
 ghost use Rattle.param_check.specs.Binding.{bind_fault};
 ghost use Rattle.param_check.specs.CheckFaults.{check_fault};
-ghost use Rattle.param_check.specs.Samples.{commodity_record, contract_of, inter_record, intra_record, position_of, tier_record};
+ghost use Rattle.param_check.specs.Samples.{commodity_record, contract_of, inter_record, intra_record};
+ghost use Rattle.param_check.specs.Samples.{many_contracts, one_of_each, position_of, tier_record};
 ghost use Rattle.param_check.specs.declared.faults.BindFault.TheVariants as bind;
 ghost use Rattle.param_check.specs.declared.faults.CheckFault.TheVariants as check;
 ghost use Rattle.span_tables.specs.declared.records.Side.TheVariants as side;
@@ -39,6 +40,13 @@ fn unknown_contract_first()
     ensures { bind_fault (contract_of (codes "FA") ∷ [])
         (position_of (codes "X") (codes "FA") (pos 100001) ∷ position_of (codes "Y") (codes "ZZ") (pos 1) ∷ [])
         ≡ Some (bind.UnknownContract 2 (codes "Y")) }
+{}
+
+// B3: an account of 256 contracts is within the limit, and one of 257 is named with its first record.
+fn one_contract_too_many()
+    ensures within { bind_fault (many_contracts 257) (one_of_each (codes "X") 256) ≡ None }
+    ensures over { bind_fault (many_contracts 257) (position_of (codes "Y") (codes "AA") (pos 1) ∷ one_of_each (codes "X") 257)
+        ≡ Some (bind.TooManyHeld 2 (codes "X")) }
 {}
 
 // ---- spreads between commodities

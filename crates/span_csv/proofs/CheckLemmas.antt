@@ -1,5 +1,7 @@
 -- What the tests of a record's fields say of it.
-use Rattle.std.proofs.Common.{◌≡◌, ◌⊎◌, ◌<◌, ◌≤◌, ◌+◌, ◌-◌, ◌∙◌, sym, ap, subst, refl, arith, zero, suc, ℕ, Bool, true, false, if◌then◌else◌, List, [], ◌∷◌, ◌++◌, length, get_or, take, drop, Option, Some, None, inl, inr}
+use Rattle.std.proofs.Common.{◌≡◌, ◌⊎◌, ◌<◌, ◌≤◌, ◌+◌, ◌-◌, ◌∙◌, sym, ap}
+use Rattle.std.proofs.Common.{subst, refl, arith, zero, suc, ℕ, Bool, true, false, if◌then◌else◌, List}
+use Rattle.std.proofs.Common.{[], ◌∷◌, ◌++◌, length, get_or, take, drop, Option, Some, None, inl, inr}
 use Rattle.std.specs.Prelude.{◌==◌, ℤ, is_some, option_map}
 use Rattle.std.specs.Option.{option_map_or}
 use Rattle.std.proofs.lemmas.Bool.{cases_Bool, eqb-true}
@@ -8,28 +10,34 @@ use Rattle.span_money.specs.Numbers.{whole_number, decimal_number, month_number}
 use Rattle.span_tables.specs.Faults.{first_that_holds}
 use Rattle.span_csv.specs.steps.Checks.{IsFree, IsFaultOf, field_faults}
 use Rattle.span_csv.specs.steps.Grammar.{HasForms, HasCount, form_at, longest}
-use Rattle.span_csv.specs.Records.{Fields, Form, a_name, a_currency, a_method, a_product, a_side, a_whole, a_decimal, a_month, RecordKind, a_set, a_commodity, a_contract, a_tier, an_intra, a_spot, an_inter, exactly, forms_of, kind_of, layout_of, text_at, is_within, is_in_range, has_number_form, has_word_form, all_have}
+use Rattle.span_csv.specs.Records.{Fields, Form, a_name, a_currency, a_method, a_product, a_side, a_whole, a_decimal, a_month}
+use Rattle.span_csv.specs.Records.{RecordKind, a_set, a_commodity, a_contract, a_tier, an_intra, a_spot, an_inter, exactly, forms_of}
+use Rattle.span_csv.specs.Records.{kind_of, layout_of, text_at, is_within, is_in_range, has_number_form, has_word_form, all_have}
 use Rattle.span_csv.specs.declared.faults.ParamFault.{ParamFault}
 use Rattle.span_csv.proofs.NumberLemmas.{and_left, and_right, both}
 
 -- ---- the first of some faults
 
-chosen : {F : Type 0} (b : Bool) (x : F) (o p : Option F) → (if b then Some x else o) ≡ None → (o ≡ None → p ≡ p) → (b ≡ false) × (o ≡ None)
+chosen : {F : Type 0} (b : Bool) (x : F) (o p : Option F) → (if b then Some x else o) ≡ None → (o ≡ None → p ≡ p)
+    → (b ≡ false) × (o ≡ None)
 chosen true x o p e same = cc
 chosen false x o p e same = (refl, e)
 
 -- behind faults that do not hold stand the others
-pub first_append : {F : Type 0} (xs ys : List (Bool × F)) → first_that_holds xs ≡ None → first_that_holds (xs ++ ys) ≡ first_that_holds ys
+pub first_append : {F : Type 0} (xs ys : List (Bool × F)) → first_that_holds xs ≡ None
+    → first_that_holds (xs ++ ys) ≡ first_that_holds ys
 first_append [] ys e = refl
 first_append (x ∷ xs) ys e =
     let h = chosen x.0 x.1 (first_that_holds xs) None e (λ _. refl) in
     rw h.0 (first_append xs ys h.1)
 
-pub fault_behind : (xs ys : List (Bool × (ℕ → ParamFault))) (at : ℕ) (answer : ParamFault) → IsFree xs → IsFaultOf ys at answer → IsFaultOf (xs ++ ys) at answer
+pub fault_behind : (xs ys : List (Bool × (ℕ → ParamFault))) (at : ℕ) (answer : ParamFault) → IsFree xs → IsFaultOf ys at answer
+    → IsFaultOf (xs ++ ys) at answer
 fault_behind xs ys at answer free e = ap (option_map (λ f. f at)) (first_append xs ys free) ∙ e
 
 -- a fault that holds stays the first
-pub first_front : {F : Type 0} (xs ys : List (Bool × F)) (f : F) → first_that_holds xs ≡ Some f → first_that_holds (xs ++ ys) ≡ Some f
+pub first_front : {F : Type 0} (xs ys : List (Bool × F)) (f : F) → first_that_holds xs ≡ Some f
+    → first_that_holds (xs ++ ys) ≡ Some f
 first_front [] ys f e = cc
 first_front (x ∷ xs) ys f e =
     elim (cases_Bool x.0) [
@@ -40,7 +48,8 @@ first_front (x ∷ xs) ys f e =
 -- ---- all fields pass a test
 
 -- each of them does
-pub all_have_at : (test : Form → List ℕ → Bool) (forms : List Form) (fields : Fields) (i : ℕ) (d : Form) → all_have test forms fields ≡ true
+pub all_have_at : (test : Form → List ℕ → Bool) (forms : List Form) (fields : Fields) (i : ℕ) (d : Form)
+    → all_have test forms fields ≡ true
     → i < length forms → i < length fields → test (get_or forms i d) (get_or fields i []) ≡ true
 all_have_at test [] fields i d e inside there = absurd (omega arith)
 all_have_at test (form ∷ forms) [] i d e inside there = absurd (omega arith)
@@ -67,11 +76,13 @@ in_range_number (a_whole low high) text e = within_some low high (whole_number t
 in_range_number (a_decimal low high) text e = within_some low high (decimal_number text) e
 in_range_number a_month text e = month_some _ (month_number text) e
 
-pub all_in_range_number : (forms : List Form) (fields : Fields) → all_have is_in_range forms fields ≡ true → all_have has_number_form forms fields ≡ true
+pub all_in_range_number : (forms : List Form) (fields : Fields) → all_have is_in_range forms fields ≡ true
+    → all_have has_number_form forms fields ≡ true
 all_in_range_number [] fields e = refl
 all_in_range_number (form ∷ forms) [] e = refl
 all_in_range_number (form ∷ forms) (text ∷ fields) e =
-    both (has_number_form form text) (all_have has_number_form forms fields) (in_range_number form text (and_left (is_in_range form text) _ e))
+    both (has_number_form form text) (all_have has_number_form forms fields)
+    (in_range_number form text (and_left (is_in_range form text) _ e))
     (all_in_range_number forms fields (and_right (is_in_range form text) (all_have is_in_range forms fields) e))
 
 -- ---- the forms of a kind
@@ -89,7 +100,8 @@ record IsFront (kind : RecordKind) (n : ℕ) (forms : List Form) : Type 0 where
   front : forms ≡ take n (longest kind)
   within : n ≤ length (longest kind)
 
-exact_front : (kind : RecordKind) (all forms : List Form) (n k : ℕ) → length all ≡ k → HasCount kind (k + 1) → all ≡ take k (longest kind) → k ≤ length (longest kind)
+exact_front : (kind : RecordKind) (all forms : List Form) (n k : ℕ) → length all ≡ k → HasCount kind (k + 1)
+    → all ≡ take k (longest kind) → k ≤ length (longest kind)
     → exactly all n ≡ Some forms → IsFront kind n forms
 exact_front kind all forms n k len count front within e =
     let h = exactly_front all forms n e in
@@ -107,7 +119,8 @@ one_of false true d x y z w e = inr (inl (refl, cc))
 one_of false false true x y z w e = inr (inr (refl, cc))
 one_of false false false x y z w e = cc
 
-front_at : (kind : RecordKind) (n k : ℕ) (forms : List Form) → HasCount kind (k + 1) → k ≤ length (longest kind) → (n == k) ≡ true → forms ≡ take k (longest kind) → IsFront kind n forms
+front_at : (kind : RecordKind) (n k : ℕ) (forms : List Form) → HasCount kind (k + 1) → k ≤ length (longest kind)
+    → (n == k) ≡ true → forms ≡ take k (longest kind) → IsFront kind n forms
 front_at kind n k forms count within is front =
     let same : k ≡ n = sym (eqb-true n k is) in
     record {
@@ -116,9 +129,11 @@ front_at kind n k forms count within is front =
       within = subst (λ m. m ≤ length (longest kind)) same within;
     }
 
-legs_front : (kind : RecordKind) (n i j k : ℕ) (forms : List Form) → HasCount kind (i + 1) → HasCount kind (j + 1) → HasCount kind (k + 1)
+legs_front : (kind : RecordKind) (n i j k : ℕ) (forms : List Form) → HasCount kind (i + 1) → HasCount kind (j + 1)
+    → HasCount kind (k + 1)
     → i ≤ length (longest kind) → j ≤ length (longest kind) → k ≤ length (longest kind)
-    → (if n == i then Some (take i (longest kind)) else if n == j then Some (take j (longest kind)) else if n == k then Some (take k (longest kind)) else None) ≡ Some forms
+    → (if n == i then Some (take i (longest kind)) else if n == j then Some (take j (longest kind)) else if n == k
+    then Some (take k (longest kind)) else None) ≡ Some forms
     → IsFront kind n forms
 legs_front kind n i j k forms two three four least middle most e =
     elim (one_of (n == i) (n == j) (n == k) (take i (longest kind)) (take j (longest kind)) (take k (longest kind)) forms e) [
@@ -132,9 +147,11 @@ forms_front a_set n forms e = exact_front a_set _ forms n 3 refl refl refl (omeg
 forms_front a_commodity n forms e = exact_front a_commodity _ forms n 3 refl refl refl (omega arith) e
 forms_front a_contract n forms e = exact_front a_contract _ forms n 22 refl refl refl (omega arith) e
 forms_front a_tier n forms e = exact_front a_tier _ forms n 4 refl refl refl (omega arith) e
-forms_front an_intra n forms e = legs_front an_intra n 9 12 15 forms (inl refl) (inr (inl refl)) (inr (inr refl)) (omega arith) (omega arith) (omega arith) e
+forms_front an_intra n forms e =
+    legs_front an_intra n 9 12 15 forms (inl refl) (inr (inl refl)) (inr (inr refl)) (omega arith) (omega arith) (omega arith) e
 forms_front a_spot n forms e = exact_front a_spot _ forms n 4 refl refl refl (omega arith) e
-forms_front an_inter n forms e = legs_front an_inter n 8 11 14 forms (inl refl) (inr (inl refl)) (inr (inr refl)) (omega arith) (omega arith) (omega arith) e
+forms_front an_inter n forms e =
+    legs_front an_inter n 8 11 14 forms (inl refl) (inr (inl refl)) (inr (inr refl)) (omega arith) (omega arith) (omega arith) e
 
 count_pos : (kind : RecordKind) (n : ℕ) → HasCount kind n → 2 ≤ n
 count_pos a_set n e = omega arith
@@ -153,7 +170,8 @@ passed_at test kind r forms front e i inside =
     let whole : length (take (length r - 1) (longest kind)) ≡ length r - 1 = length-take-le (length r - 1) (longest kind) front.within in
     let all : all_have test (take (length r - 1) (longest kind)) (drop 1 r) ≡ true = rw (← front.front) e in
     let here = all_have_at test (take (length r - 1) (longest kind)) (drop 1 r) i a_side all (omega arith) (omega arith) in
-    let form : get_or (take (length r - 1) (longest kind)) i a_side ≡ form_at kind i = get_or-take (length r - 1) (longest kind) i a_side (omega arith) in
+    let form : get_or (take (length r - 1) (longest kind)) i a_side ≡ form_at kind i =
+    get_or-take (length r - 1) (longest kind) i a_side (omega arith) in
     let text : get_or (drop 1 r) i [] ≡ text_at r (i + 1) = get_or-drop 1 r i [] ∙ ap (λ n. get_or r n []) (omega arith) in
     rw (← form, ← text) here
 
@@ -171,7 +189,8 @@ has_forms kind r forms e words ranges =
     }
 
 -- and none of their faults holds
-pub none_fails : (kind : RecordKind) (r : Fields) (forms : List Form) → kind_of r ≡ Some kind → forms_of kind (length r - 1) ≡ Some forms
+pub none_fails : (kind : RecordKind) (r : Fields) (forms : List Form) → kind_of r ≡ Some kind
+    → forms_of kind (length r - 1) ≡ Some forms
     → all_have has_word_form forms (drop 1 r) ≡ true → all_have is_in_range forms (drop 1 r) ≡ true → IsFree (field_faults r)
 none_fails kind r forms is e words ranges =
     let layout : layout_of r ≡ Some forms = rw is e in

@@ -1,5 +1,7 @@
 -- A record without a fault, and how many of a kind there are where no record has one.
-use Rattle.std.proofs.Common.{◌≡◌, ◌∙◌, refl, sym, ap, ap₂, subst, arith, inl, inr, ℕ, ◌+◌, ◌≤◌, Bool, true, false, not, cond, ◌&&◌, ◌==◌, if◌then◌else◌, List, [], ◌∷◌, ◌++◌, length, map, Option, Some, None, append_assoc}
+use Rattle.std.proofs.Common.{◌≡◌, ◌∙◌, refl, sym, ap, ap₂, subst, arith, inl, inr, ℕ, ◌+◌}
+use Rattle.std.proofs.Common.{◌≤◌, Bool, true, false, not, cond, ◌&&◌, ◌==◌, if◌then◌else◌}
+use Rattle.std.proofs.Common.{List, [], ◌∷◌, ◌++◌, length, map, Option, Some, None, append_assoc}
 use Rattle.std.specs.Prelude.{⊤, count_by, filter_map, is_none, codes}
 use Rattle.std.specs.List.{cons_option}
 use Rattle.std.specs.Option.{option_map_or}
@@ -10,7 +12,8 @@ use Rattle.span_tables.specs.Faults.{first_that_holds}
 use Rattle.span_tables.specs.Laws.{IsFaultFree}
 use Rattle.span_tables.specs.declared.records.Record.{Record}
 use Rattle.span_tables.proofs.NameLemmas.{same_name}
-use Rattle.span_csv.specs.Records.{Fields, RecordKind, a_set, a_commodity, a_contract, a_tier, an_intra, a_spot, an_inter, has_word_form, is_in_range, kind_named, kind_of, layout_of, is_word, text_at, record_of_kind, param_record}
+use Rattle.span_csv.specs.Records.{Fields, RecordKind, a_set, a_commodity, a_contract, a_tier, an_intra, a_spot, an_inter, has_word_form}
+use Rattle.span_csv.specs.Records.{is_in_range, kind_named, kind_of, layout_of, is_word, text_at, record_of_kind, param_record}
 use Rattle.span_csv.specs.ParamFaults.{is_set, some_fail, exceeds_limit, param_faults}
 use Rattle.span_csv.specs.declared.faults.ParamFault.{ParamFault}
 
@@ -71,7 +74,8 @@ word_of an_inter = codes "INTER"
 abbrev pub has_kind : RecordKind → Fields → Bool
 has_kind kind r = is_word (word_of kind) (text_at r 0)
 
-by_test : (b : Bool) (j k : RecordKind) (rest : Option RecordKind) (P : RecordKind → Type 0) → (b ≡ true → P j) → (rest ≡ Some k → P k)
+by_test : (b : Bool) (j k : RecordKind) (rest : Option RecordKind) (P : RecordKind → Type 0) → (b ≡ true → P j)
+    → (rest ≡ Some k → P k)
     → (if b then Some j else rest) ≡ Some k → P k
 by_test true j k rest P here later e = let same : j ≡ k = cc in subst P same (here refl)
 by_test false j k rest P here later e = later e
@@ -119,7 +123,8 @@ same_kind j k = rank j == rank k
 
 abbrev kind_at : ℕ → RecordKind
 kind_at n =
-    if n == 0 then a_set else if n == 1 then a_commodity else if n == 2 then a_contract else if n == 3 then a_tier else if n == 4 then an_intra
+    if n == 0 then a_set else if n == 1 then a_commodity else if n == 2 then a_contract else if n == 3 then a_tier else if n == 4
+    then an_intra
     else if n == 5 then a_spot else an_inter
 
 kind_at-rank : (k : RecordKind) → kind_at (rank k) ≡ k
@@ -168,7 +173,8 @@ passes test o = option_map_or test o false
 
 -- what a record of a kind gives passes a test if the record does
 abbrev pub IsPicked : {A : Type 0} → RecordKind → (Record → Option A) → (A → Bool) → (Fields → Bool) → Type 0
-IsPicked kind pick test of_fields = (k : RecordKind) (r : Fields) → passes test (pick (record_of_kind k r)) ≡ (same_kind k kind && of_fields r)
+IsPicked kind pick test of_fields =
+    (k : RecordKind) (r : Fields) → passes test (pick (record_of_kind k r)) ≡ (same_kind k kind && of_fields r)
 
 count_by-cons_option : {A : Type 0} (test : A → Bool) (o : Option A) (xs : List A)
     → count_by test (cons_option o xs) ≡ cond (passes test o) 1 0 + count_by test xs
@@ -176,7 +182,8 @@ count_by-cons_option test None xs = omega arith
 count_by-cons_option test (Some x) xs = sum_by-cons (λ y. cond (test y) 1 0) x xs
 
 -- what records without a fault give is counted by their fields
-pub count_picked : {A : Type 0} (kind : RecordKind) (pick : Record → Option A) (test : A → Bool) (of_fields : Fields → Bool) → IsPicked kind pick test of_fields
+pub count_picked : {A : Type 0} (kind : RecordKind) (pick : Record → Option A) (test : A → Bool) (of_fields : Fields → Bool)
+    → IsPicked kind pick test of_fields
     → (before rows : List Fields) → IsFaultFree fault_of before rows
     → count_by test (filter_map pick (map param_record rows)) ≡ count_by (λ r. has_kind kind r && of_fields r) rows
 count_picked kind pick test of_fields picked before [] free = refl
@@ -189,7 +196,8 @@ count_picked kind pick test of_fields picked before (r ∷ rows) free =
     ∙ ap₂ (λ b n. cond b 1 0 + n) here (count_picked kind pick test of_fields picked (before ++ r ∷ []) rows free.1)
     ∙ sym (sum_by-cons (λ x. cond (has_kind kind x && of_fields x) 1 0) r rows)
 
-count_push : (test : Fields → Bool) (rows : List Fields) (r : Fields) (most : ℕ) → count_by test rows ≤ most → (test r ≡ true → (count_by test rows == most) ≡ false)
+count_push : (test : Fields → Bool) (rows : List Fields) (r : Fields) (most : ℕ) → count_by test rows ≤ most
+    → (test r ≡ true → (count_by test rows == most) ≡ false)
     → count_by test (rows ++ r ∷ []) ≤ most
 count_push test rows r most le room =
     elim (cases_Bool (test r)) [
@@ -202,7 +210,8 @@ count_push test rows r most le room =
 -- no more pass a test than may, where none without a fault is one more
 pub never_more : (test : Fields → Bool) (most : ℕ)
     → ((earlier : List Fields) (r : Fields) → IsClean earlier r → test r ≡ true → (count_by test earlier == most) ≡ false)
-    → (before rows : List Fields) → count_by test before ≤ most → IsFaultFree fault_of before rows → count_by test (before ++ rows) ≤ most
+    → (before rows : List Fields) → count_by test before ≤ most → IsFaultFree fault_of before rows
+    → count_by test (before ++ rows) ≤ most
 never_more test most room before [] le free = rw (append-nil before) le
 never_more test most room before (r ∷ rows) le free =
     rw (← append_assoc before (r ∷ []) rows)

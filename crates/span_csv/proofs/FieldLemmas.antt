@@ -5,11 +5,13 @@ use Rattle.csv.proofs.RecordFacts.{field-there, field-get}
 use Rattle.span_csv.specs.Records.{Fields, text_at}
 
 -- a place that a record has holds a field
-pub field_present : (o : Option (Bor (List ℕ))) (fields : Fields) (i : ℕ) → i < length fields → option_map (λ s. s.now) o ≡ field_at fields i → IsSome o
+pub field_present : (o : Option (Bor (List ℕ))) (fields : Fields) (i : ℕ) → i < length fields
+    → option_map (λ s. s.now) o ≡ field_at fields i → IsSome o
 field_present None fields i inside value = absurd (field-there fields i inside (sym value))
 field_present (Some s) fields i inside value = refl
 
 -- which is the one that the call gives
-pub field_same : (o : Option (Bor (List ℕ))) (s : Bor (List ℕ)) (fields : Fields) (i : ℕ) → option_map (λ s. s.now) o ≡ field_at fields i → o ≡ Some s → s.now ≡ text_at fields i
+pub field_same : (o : Option (Bor (List ℕ))) (s : Bor (List ℕ)) (fields : Fields) (i : ℕ)
+    → option_map (λ s. s.now) o ≡ field_at fields i → o ≡ Some s → s.now ≡ text_at fields i
 field_same None s fields i value e = cc
 field_same (Some t) s fields i value e = let same : t ≡ s = cc in rw (← same) (sym (field-get fields i t.now (sym value)))

@@ -1,5 +1,6 @@
 -- What the forms of fields say of the numbers that a record takes from them.
-use Rattle.std.proofs.Common.{◌≡◌, refl, ap, arith, ℕ, suc, zero, ◌<◌, ◌≤◌, Bool, true, false, ◌&&◌, ◌==◌, if◌then◌else◌, ℤ, pos, negsuc, List, [], ◌∷◌, ◌++◌, length, drop, Option, Some, None}
+use Rattle.std.proofs.Common.{◌≡◌, refl, ap, arith, ℕ, suc, zero, ◌<◌, ◌≤◌, Bool, true, false, ◌&&◌, ◌==◌}
+use Rattle.std.proofs.Common.{if◌then◌else◌, ℤ, pos, negsuc, List, [], ◌∷◌, ◌++◌, length, drop, Option, Some, None}
 use Rattle.std.specs.Prelude.{nat_le, nat_abs, unwrap_or, slice_get}
 use Rattle.std.specs.Char.{is_ascii_digit}
 use Rattle.std.specs.List.{list_all, repeat}
@@ -12,17 +13,21 @@ use Rattle.span_csv.specs.Records.{Form, Fields, text_at, all_have, is_within, i
 -- ---- numbers
 
 -- a number that is not negative, taken as a count
-pub count_within : (l h : ℕ) (o : Option ℤ) → is_within (pos l) (pos h) o ≡ true → lies_within l h (positive_part (unwrap_or o (pos 0))) ≡ true
+pub count_within : (l h : ℕ) (o : Option ℤ) → is_within (pos l) (pos h) o ≡ true
+    → lies_within l h (positive_part (unwrap_or o (pos 0))) ≡ true
 count_within l h None e = cc
 count_within l h (Some (pos n)) e = e
 count_within l h (Some (negsuc n)) e = cc
 
 -- the same, of which 0 is the least
-pub count_below : (h : ℕ) (o : Option ℤ) → is_within (pos 0) (pos h) o ≡ true → nat_le (positive_part (unwrap_or o (pos 0))) h ≡ true
-count_below h o e = (and_parts (nat_le 0 (positive_part (unwrap_or o (pos 0)))) (nat_le (positive_part (unwrap_or o (pos 0))) h) (count_within 0 h o e)).1
+pub count_below : (h : ℕ) (o : Option ℤ) → is_within (pos 0) (pos h) o ≡ true
+    → nat_le (positive_part (unwrap_or o (pos 0))) h ≡ true
+count_below h o e =
+    (and_parts (nat_le 0 (positive_part (unwrap_or o (pos 0)))) (nat_le (positive_part (unwrap_or o (pos 0))) h) (count_within 0 h o e)).1
 
 -- the size of a number
-pub size_within : (h : ℕ) (o : Option ℤ) → is_within (negsuc h) (pos (suc h)) o ≡ true → nat_le (nat_abs (unwrap_or o (pos 0))) (suc h) ≡ true
+pub size_within : (h : ℕ) (o : Option ℤ) → is_within (negsuc h) (pos (suc h)) o ≡ true
+    → nat_le (nat_abs (unwrap_or o (pos 0))) (suc h) ≡ true
 size_within h None e = cc
 size_within h (Some (pos n)) e = e
 size_within h (Some (negsuc n)) e =
@@ -32,7 +37,8 @@ size_within h (Some (negsuc n)) e =
 
 -- ---- months
 
-if_some : (b : Bool) (v z : ℤ) → (if b then Some v else None) ≡ Some z → (b ≡ true) × (v ≡ z)
+-- what is given only where a test holds
+pub if_some : {A : Type 0} (b : Bool) (v z : A) → (if b then Some v else None) ≡ Some z → (b ≡ true) × (v ≡ z)
 if_some true v z e = (refl, cc)
 if_some false v z e = cc
 
@@ -43,7 +49,8 @@ month_whole (b ∷ rest) z e =
     let found = if_some ((length (b ∷ rest) == 6) && are_digits 6 (b ∷ rest)) (pos (digits_value (b ∷ rest))) z e in
     let parts = and_parts (length (b ∷ rest) == 6) (are_digits 6 (b ∷ rest)) found.0 in
     let six : length (b ∷ rest) ≡ 6 = eqb-true (length (b ∷ rest)) 6 parts.0 in
-    let digits = and_parts (nat_le 1 (length (b ∷ rest)) && nat_le (length (b ∷ rest)) 6) (list_all is_ascii_digit (b ∷ rest)) parts.1 in
+    let digits = and_parts (nat_le 1 (length (b ∷ rest)) && nat_le (length (b ∷ rest)) 6)
+    (list_all is_ascii_digit (b ∷ rest)) parts.1 in
     let some = and_parts (nat_le 1 (length (b ∷ rest))) (nat_le (length (b ∷ rest)) 6) digits.0 in
     let first = and_parts (is_ascii_digit b) (list_all is_ascii_digit rest) digits.1 in
     let bounds = and_parts (nat_le 48 b) (nat_le b 57) first.0 in
@@ -52,19 +59,22 @@ month_whole (b ∷ rest) z e =
     let few : nat_le (length (b ∷ rest)) 18 ≡ true = le-leb (length (b ∷ rest)) 18 (omega (arith, six)) in
     rw (plain, some.0, few, digits.1) (ap (λ v. Some v) found.1)
 
-month_from : (text : List ℕ) (o : Option ℤ) → month_number text ≡ o → option_map_or (λ z. is_month (positive_part z)) o false ≡ true
+month_from : (text : List ℕ) (o : Option ℤ) → month_number text ≡ o
+    → option_map_or (λ z. is_month (positive_part z)) o false ≡ true
     → is_month (positive_part (unwrap_or (whole_number text) (pos 0))) ≡ true
 month_from text None e h = cc
 month_from text (Some z) e h = rw (month_whole text z e) h
 
 -- a month, taken as a count
-pub month_within : (text : List ℕ) → is_in_range a_month text ≡ true → is_month (positive_part (unwrap_or (whole_number text) (pos 0))) ≡ true
+pub month_within : (text : List ℕ) → is_in_range a_month text ≡ true
+    → is_month (positive_part (unwrap_or (whole_number text) (pos 0))) ≡ true
 month_within text h = month_from text (month_number text) refl h
 
 -- ---- fields
 
 -- each field passes the test of its form
-pub passes_at : (test : Form → List ℕ → Bool) (forms : List Form) (fields : Fields) (i : ℕ) (f : Form) → all_have test forms fields ≡ true
+pub passes_at : (test : Form → List ℕ → Bool) (forms : List Form) (fields : Fields) (i : ℕ) (f : Form)
+    → all_have test forms fields ≡ true
     → i < length fields → slice_get forms i ≡ Some f → test f (text_at fields i) ≡ true
 passes_at test [] fields i f all inside is = cc
 passes_at test (g ∷ forms) [] i f all inside is = absurd (omega arith)
@@ -75,7 +85,8 @@ passes_at test (g ∷ forms) (x ∷ fields) (suc i) f all inside is =
     passes_at test forms fields i f ((and_parts (test g x) (all_have test forms fields) all).1) (omega (arith, inside)) is
 
 -- behind the first forms too
-pub all_behind : (test : Form → List ℕ → Bool) (front back : List Form) (fields : Fields) → all_have test (front ++ back) fields ≡ true
+pub all_behind : (test : Form → List ℕ → Bool) (front back : List Form) (fields : Fields)
+    → all_have test (front ++ back) fields ≡ true
     → length front ≤ length fields → all_have test back (drop (length front) fields) ≡ true
 all_behind test [] back fields all le = all
 all_behind test (g ∷ front) back [] all le = absurd (omega arith)
@@ -83,7 +94,8 @@ all_behind test (g ∷ front) back (x ∷ fields) all le =
     all_behind test front back fields ((and_parts (test g x) (all_have test (front ++ back) fields) all).1) (omega (arith, le))
 
 -- many fields of one form
-pub all_of_form : (test : Form → List ℕ → Bool) (f : Form) (n : ℕ) (fields : Fields) → length fields ≡ n → all_have test (repeat n (f ∷ [])) fields ≡ true
+pub all_of_form : (test : Form → List ℕ → Bool) (f : Form) (n : ℕ) (fields : Fields) → length fields ≡ n
+    → all_have test (repeat n (f ∷ [])) fields ≡ true
     → list_all (test f) fields ≡ true
 all_of_form test f zero [] len all = refl
 all_of_form test f zero (x ∷ fields) len all = absurd (omega (arith, len))

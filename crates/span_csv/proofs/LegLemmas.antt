@@ -37,22 +37,29 @@ inter_ratio_form (suc (suc zero)) few = refl
 inter_ratio_form (suc (suc (suc zero))) few = refl
 inter_ratio_form (suc (suc (suc (suc n)))) few = absurd (omega arith)
 
-pub intra_tier : (r : Fields) (i at : ℕ) → HasForms an_intra r → i < 4 → at ≡ 4 + 3 * i → at < length r → count_at r at ≤ MAX_TIER_NUMBER
+pub intra_tier : (r : Fields) (i at : ℕ) → HasForms an_intra r → i < 4 → at ≡ 4 + 3 * i → at < length r
+    → count_at r at ≤ MAX_TIER_NUMBER
 intra_tier r i at h few is inside =
     let same : 3 + 3 * i + 1 ≡ at = omega arith in
-    subst (λ n. count_at r n ≤ MAX_TIER_NUMBER) same (count_field an_intra r (3 + 3 * i) (pos 1) MAX_TIER_NUMBER h (omega arith) (tier_form i few))
+    subst (λ n. count_at r n ≤ MAX_TIER_NUMBER) same
+    (count_field an_intra r (3 + 3 * i) (pos 1) MAX_TIER_NUMBER h (omega arith) (tier_form i few))
 
-pub intra_ratio : (r : Fields) (i at : ℕ) → HasForms an_intra r → i < 4 → at ≡ 6 + 3 * i → at < length r → ratio_at r at ≤ MAX_RATIO
+pub intra_ratio : (r : Fields) (i at : ℕ) → HasForms an_intra r → i < 4 → at ≡ 6 + 3 * i → at < length r
+    → ratio_at r at ≤ MAX_RATIO
 intra_ratio r i at h few is inside =
     let same : 5 + 3 * i + 1 ≡ at = omega arith in
-    subst (λ n. ratio_at r n ≤ MAX_RATIO) same (ratio_field an_intra r (5 + 3 * i) (pos 1) MAX_RATIO h (omega arith) (intra_ratio_form i few))
+    subst (λ n. ratio_at r n ≤ MAX_RATIO) same
+    (ratio_field an_intra r (5 + 3 * i) (pos 1) MAX_RATIO h (omega arith) (intra_ratio_form i few))
 
-pub inter_commodity : (r : Fields) (i at : ℕ) → HasForms an_inter r → i < 4 → at ≡ 3 + 3 * i → at < length r → is_name (text_at r at) ≡ true
+pub inter_commodity : (r : Fields) (i at : ℕ) → HasForms an_inter r → i < 4 → at ≡ 3 + 3 * i → at < length r
+    → is_name (text_at r at) ≡ true
 inter_commodity r i at h few is inside =
     let same : 2 + 3 * i + 1 ≡ at = omega arith in
     subst (λ n. is_name (text_at r n) ≡ true) same (name_field an_inter r (2 + 3 * i) h (omega arith) (commodity_form i few))
 
-pub inter_ratio : (r : Fields) (i at : ℕ) → HasForms an_inter r → i < 4 → at ≡ 5 + 3 * i → at < length r → ratio_at r at ≤ MAX_RATIO
+pub inter_ratio : (r : Fields) (i at : ℕ) → HasForms an_inter r → i < 4 → at ≡ 5 + 3 * i → at < length r
+    → ratio_at r at ≤ MAX_RATIO
 inter_ratio r i at h few is inside =
     let same : 4 + 3 * i + 1 ≡ at = omega arith in
-    subst (λ n. ratio_at r n ≤ MAX_RATIO) same (ratio_field an_inter r (4 + 3 * i) (pos 1) MAX_RATIO h (omega arith) (inter_ratio_form i few))
+    subst (λ n. ratio_at r n ≤ MAX_RATIO) same
+    (ratio_field an_inter r (4 + 3 * i) (pos 1) MAX_RATIO h (omega arith) (inter_ratio_form i few))

@@ -1,5 +1,6 @@
 -- Records read one after another give what the definition says of all.
-use Rattle.std.proofs.Common.{◌≡◌, ◌∙◌, refl, sym, ap, inl, inr, arith, ℕ, ◌+◌, true, false, ◌==◌, ℤ, List, [], ◌∷◌, ◌++◌, length, map, Option, Some, None, Result, Ok, Err, append_assoc}
+use Rattle.std.proofs.Common.{◌≡◌, ◌∙◌, refl, sym, ap, inl, inr, arith, ℕ, ◌+◌, true, false, ◌==◌, ℤ}
+use Rattle.std.proofs.Common.{List, [], ◌∷◌, ◌++◌, length, map, Option, Some, None, Result, Ok, Err, append_assoc}
 use Rattle.std.specs.Prelude.{option_map}
 use Rattle.std.proofs.lemmas.Bool.{cases_Bool, ne_eqb}
 use Rattle.std.proofs.lemmas.List.{append-nil, map-append, length-map}
@@ -18,7 +19,8 @@ use Rattle.span_csv.specs.declared.faults.PositionFault.TheVariants as fault
 -- ---- one record
 
 -- the accounts of records are the texts of their first fields
-record_accounts : (before : List Fields) → map (λ (p : PositionRecord). p.account) (map position_record before) ≡ map (λ r. text_at r 0) before
+record_accounts : (before : List Fields) → map (λ (p : PositionRecord). p.account) (map position_record before)
+    ≡ map (λ r. text_at r 0) before
 unfolding position_record
 record_accounts [] = refl
 record_accounts (r ∷ before) = ap (λ rest. text_at r 0 ∷ rest) (record_accounts before)
@@ -31,8 +33,10 @@ abbrev names_of : List Fields → List (List ℕ)
 names_of before = map (λ r. text_at r 0) before
 
 -- three fields
-three_counted : (at : ℕ) (before : List Fields) (a c q : List ℕ) (z : ℤ) → is_name a ≡ true → is_name c ≡ true → whole_number q ≡ Some z
-    → position_behind at (distinct (names_of before)) (a ∷ c ∷ q ∷ []) (quantity_alone at (a ∷ c ∷ q ∷ [])) ≡ judged at before (a ∷ c ∷ q ∷ [])
+three_counted : (at : ℕ) (before : List Fields) (a c q : List ℕ) (z : ℤ) → is_name a ≡ true → is_name c ≡ true
+    → whole_number q ≡ Some z
+    → position_behind at (distinct (names_of before)) (a ∷ c ∷ q ∷ []) (quantity_alone at (a ∷ c ∷ q ∷ []))
+    ≡ judged at before (a ∷ c ∷ q ∷ [])
 unfolding quantity_alone position_record
 three_counted at before a c q z named_a named_c whole =
     elim (cases_Bool (is_quantity z)) [
@@ -44,14 +48,17 @@ three_counted at before a c q z named_a named_c whole =
       | inr outside ↦ rw (named_a, named_c, whole, outside) refl
     ]
 
-three_named : (at : ℕ) (before : List Fields) (a c q : List ℕ) (o : Option ℤ) → is_name a ≡ true → is_name c ≡ true → whole_number q ≡ o
-    → position_behind at (distinct (names_of before)) (a ∷ c ∷ q ∷ []) (quantity_alone at (a ∷ c ∷ q ∷ [])) ≡ judged at before (a ∷ c ∷ q ∷ [])
+three_named : (at : ℕ) (before : List Fields) (a c q : List ℕ) (o : Option ℤ) → is_name a ≡ true → is_name c ≡ true
+    → whole_number q ≡ o
+    → position_behind at (distinct (names_of before)) (a ∷ c ∷ q ∷ []) (quantity_alone at (a ∷ c ∷ q ∷ []))
+    ≡ judged at before (a ∷ c ∷ q ∷ [])
 unfolding quantity_alone position_record
 three_named at before a c q None named_a named_c whole = rw (named_a, named_c, whole) refl
 three_named at before a c q (Some z) named_a named_c whole = three_counted at before a c q z named_a named_c whole
 
 three : (at : ℕ) (before : List Fields) (a c q : List ℕ)
-    → position_behind at (distinct (names_of before)) (a ∷ c ∷ q ∷ []) (quantity_alone at (a ∷ c ∷ q ∷ [])) ≡ judged at before (a ∷ c ∷ q ∷ [])
+    → position_behind at (distinct (names_of before)) (a ∷ c ∷ q ∷ []) (quantity_alone at (a ∷ c ∷ q ∷ []))
+    ≡ judged at before (a ∷ c ∷ q ∷ [])
 unfolding quantity_alone position_record
 three at before a c q =
     elim (cases_Bool (is_name a)) [
@@ -71,7 +78,8 @@ one_record at before (a ∷ []) = refl
 one_record at before (a ∷ c ∷ []) = refl
 one_record at before (a ∷ c ∷ q ∷ []) = three at before a c q
 one_record at before (a ∷ c ∷ q ∷ x ∷ r) =
-    let more : (length (a ∷ c ∷ q ∷ x ∷ r) == 3) ≡ false = ne_eqb (length (a ∷ c ∷ q ∷ x ∷ r)) 3 (λ e. absurd (omega (arith, e))) in
+    let more : (length (a ∷ c ∷ q ∷ x ∷ r) == 3) ≡ false =
+    ne_eqb (length (a ∷ c ∷ q ∷ x ∷ r)) 3 (λ e. absurd (omega (arith, e))) in
     rw more refl
 
 -- the next record has its lowest-numbered fault, or is a position
@@ -130,7 +138,8 @@ by_outcome before r rest (Some f) is later =
     ∙ rw is refl
 
 reads_on : (before rows : List Fields) → positions_after (map position_record before) rows ≡ all_judged before rows
-reads_on before [] = positions_after-end (map position_record before) ∙ ap (λ rows. Ok (map position_record rows)) (sym (append-nil before))
+reads_on before [] =
+    positions_after-end (map position_record before) ∙ ap (λ rows. Ok (map position_record rows)) (sym (append-nil before))
 reads_on before (r ∷ rows) = by_outcome before r rows (fault_of before r) refl (reads_on (before ++ r ∷ []) rows)
 
 -- reading from the first record on is the definition

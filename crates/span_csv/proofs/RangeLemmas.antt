@@ -1,5 +1,7 @@
 -- A record whose fields have their forms is in its ranges.
-use Rattle.std.proofs.Common.{◌≡◌, ◌∙◌, refl, sym, subst, arith, inl, inr, ℕ, suc, zero, ◌+◌, ◌-◌, ◌*◌, ◌≤◌, Bool, true, false, ◌&&◌, ◌==◌, if◌then◌else◌, pos, neg_ℤ, List, [], ◌∷◌, ◌++◌, length, drop, map, Some, None}
+use Rattle.std.proofs.Common.{◌≡◌, ◌∙◌, refl, sym, subst, arith, inl, inr, ℕ, suc, zero, ◌+◌}
+use Rattle.std.proofs.Common.{◌-◌, ◌*◌, ◌≤◌, Bool, true, false, ◌&&◌, ◌==◌, if◌then◌else◌}
+use Rattle.std.proofs.Common.{pos, neg_ℤ, List, [], ◌∷◌, ◌++◌, length, drop, map, Some, None}
 use Rattle.std.specs.Prelude.{nat_le, nat_abs, unwrap_or}
 use Rattle.std.specs.List.{list_all, repeat}
 use Rattle.std.proofs.lemmas.Bool.{and_parts, and_from, le-leb, eq-eqb, eqb-true, cases_Bool}
@@ -7,20 +9,21 @@ use Rattle.std.proofs.lemmas.List.{length-map, length-drop}
 use Rattle.span_money.specs.Numbers.{whole_number, decimal_number}
 use Rattle.span_tables.specs.Names.{is_name}
 use Rattle.span_tables.specs.Limits.{lies_within, in_range, is_tier_number, is_ratio}
-use Rattle.span_tables.specs.declared.limits.TheConstants.{MAX_ARRAY_VALUE, MAX_BASIS_POINTS, MAX_DELTA, MAX_PRIORITY, MAX_RATE, MAX_RATIO, MAX_SCALE, MAX_TIER_NUMBER}
+use Rattle.span_tables.specs.declared.limits.TheConstants.{MAX_ARRAY_VALUE, MAX_BASIS_POINTS, MAX_DELTA, MAX_PRIORITY}
+use Rattle.span_tables.specs.declared.limits.TheConstants.{MAX_RATE, MAX_RATIO, MAX_SCALE, MAX_TIER_NUMBER}
 use Rattle.span_tables.specs.declared.records.IntraLeg.{IntraLeg}
 use Rattle.span_tables.specs.declared.records.InterLeg.{InterLeg}
-use Rattle.span_csv.specs.Records.{Form, Fields, a_name, a_side, a_whole, a_decimal, a_month, a_rate, RecordKind, a_set, a_commodity, a_contract, a_tier, an_intra, a_spot, an_inter, all_have, has_word_form, is_in_range, exactly, with_legs, forms_of, set_forms, commodity_forms, contract_front, an_array_value, tier_forms, intra_front, intra_leg_forms, spot_forms, inter_front, inter_leg_forms, text_at, intra_leg, inter_leg, legs_of, record_of_kind}
-use Rattle.span_csv.proofs.FormLemmas.{count_within, count_below, size_within, month_within, passes_at, all_behind, all_of_form}
+use Rattle.span_csv.specs.Records.{Form, Fields, a_name, a_side, a_whole, a_decimal, a_month, a_rate, RecordKind, a_set}
+use Rattle.span_csv.specs.Records.{a_commodity, a_contract, a_tier, an_intra, a_spot, an_inter, all_have, has_word_form}
+use Rattle.span_csv.specs.Records.{is_in_range, exactly, with_legs, forms_of, set_forms, commodity_forms}
+use Rattle.span_csv.specs.Records.{contract_front, an_array_value, tier_forms, intra_front, intra_leg_forms, spot_forms}
+use Rattle.span_csv.specs.Records.{inter_front, inter_leg_forms, text_at, intra_leg, inter_leg, legs_of, record_of_kind}
+use Rattle.span_csv.proofs.FormLemmas.{count_within, count_below, if_some, size_within, month_within, passes_at, all_behind, all_of_form}
 
 -- the fields have these forms
 pub record HaveForms (forms : List Form) (fields : Fields) : Type 0 where
   pub words : all_have has_word_form forms fields ≡ true
   pub ranges : all_have is_in_range forms fields ≡ true
-
-if_some : {A : Type 0} (b : Bool) (v z : A) → (if b then Some v else None) ≡ Some z → (b ≡ true) × (v ≡ z)
-if_some true v z e = (refl, cc)
-if_some false v z e = cc
 
 -- exactly these forms
 exact : (forms found : List Form) (n : ℕ) → exactly forms n ≡ Some found → (n ≡ length forms) × (forms ≡ found)
@@ -28,14 +31,16 @@ exact forms found n e =
     let parts = if_some (n == length forms) forms found e in
     (eqb-true n (length forms) parts.0, parts.1)
 
-set_in_range : (word : List ℕ) (fields : Fields) → length fields ≡ 3 → HaveForms set_forms fields → in_range (record_of_kind a_set (word ∷ fields)) ≡ true
+set_in_range : (word : List ℕ) (fields : Fields) → length fields ≡ 3 → HaveForms set_forms fields
+    → in_range (record_of_kind a_set (word ∷ fields)) ≡ true
 set_in_range word fields len h = passes_at has_word_form set_forms fields 0 a_name h.words (omega (arith, len)) refl
 
 commodity_in_range : (word : List ℕ) (fields : Fields) → length fields ≡ 3 → HaveForms commodity_forms fields
     → in_range (record_of_kind a_commodity (word ∷ fields)) ≡ true
 commodity_in_range word fields len h =
     and_from _ _ (passes_at has_word_form commodity_forms fields 0 a_name h.words (omega (arith, len)) refl)
-    (count_below MAX_RATE (whole_number (text_at fields 1)) (passes_at is_in_range commodity_forms fields 1 a_rate h.ranges (omega (arith, len)) refl))
+    (count_below MAX_RATE (whole_number (text_at fields 1))
+    (passes_at is_in_range commodity_forms fields 1 a_rate h.ranges (omega (arith, len)) refl))
 
 tier_in_range : (word : List ℕ) (fields : Fields) → length fields ≡ 4 → HaveForms tier_forms fields
     → in_range (record_of_kind a_tier (word ∷ fields)) ≡ true
@@ -43,7 +48,8 @@ tier_in_range word fields len h =
     and_from _ _
     (and_from _ _
     (and_from _ _ (passes_at has_word_form tier_forms fields 0 a_name h.words (omega (arith, len)) refl)
-    (count_within 1 MAX_TIER_NUMBER (whole_number (text_at fields 1)) (passes_at is_in_range tier_forms fields 1 (a_whole (pos 1) (pos MAX_TIER_NUMBER)) h.ranges (omega (arith, len)) refl)))
+    (count_within 1 MAX_TIER_NUMBER (whole_number (text_at fields 1))
+    (passes_at is_in_range tier_forms fields 1 (a_whole (pos 1) (pos MAX_TIER_NUMBER)) h.ranges (omega (arith, len)) refl)))
     (month_within (text_at fields 2) (passes_at is_in_range tier_forms fields 2 a_month h.ranges (omega (arith, len)) refl)))
     (month_within (text_at fields 3) (passes_at is_in_range tier_forms fields 3 a_month h.ranges (omega (arith, len)) refl))
 
@@ -54,8 +60,10 @@ spot_in_range word fields len h =
     (and_from _ _
     (and_from _ _ (passes_at has_word_form spot_forms fields 0 a_name h.words (omega (arith, len)) refl)
     (month_within (text_at fields 1) (passes_at is_in_range spot_forms fields 1 a_month h.ranges (omega (arith, len)) refl)))
-    (count_below MAX_RATE (whole_number (text_at fields 2)) (passes_at is_in_range spot_forms fields 2 a_rate h.ranges (omega (arith, len)) refl)))
-    (count_below MAX_RATE (whole_number (text_at fields 3)) (passes_at is_in_range spot_forms fields 3 a_rate h.ranges (omega (arith, len)) refl))
+    (count_below MAX_RATE (whole_number (text_at fields 2))
+    (passes_at is_in_range spot_forms fields 2 a_rate h.ranges (omega (arith, len)) refl)))
+    (count_below MAX_RATE (whole_number (text_at fields 3))
+    (passes_at is_in_range spot_forms fields 3 a_rate h.ranges (omega (arith, len)) refl))
 
 -- ---- a contract
 
@@ -66,7 +74,8 @@ values_in_range (text ∷ texts) all =
     let parts = and_parts (is_in_range an_array_value text) (list_all (is_in_range an_array_value) texts) all in
     and_from _ _ (size_within (MAX_ARRAY_VALUE - 1) (whole_number text) parts.0) (values_in_range texts parts.1)
 
-contract_in_range : (word : List ℕ) (fields : Fields) → length fields ≡ 22 → HaveForms (contract_front ++ repeat 16 (an_array_value ∷ [])) fields
+contract_in_range : (word : List ℕ) (fields : Fields) → length fields ≡ 22
+    → HaveForms (contract_front ++ repeat 16 (an_array_value ∷ [])) fields
     → in_range (record_of_kind a_contract (word ∷ fields)) ≡ true
 contract_in_range word fields len h =
     let few : length contract_front ≤ length fields = omega (arith, len) in
@@ -86,9 +95,11 @@ contract_in_range word fields len h =
     (month_within (text_at fields 3)
     (passes_at is_in_range (contract_front ++ repeat 16 (an_array_value ∷ [])) fields 3 a_month h.ranges (omega (arith, len)) refl)))
     (size_within (MAX_DELTA - 1) (decimal_number (text_at fields 4))
-    (passes_at is_in_range (contract_front ++ repeat 16 (an_array_value ∷ [])) fields 4 (a_decimal (neg_ℤ (pos MAX_DELTA)) (pos MAX_DELTA)) h.ranges (omega (arith, len)) refl)))
+    (passes_at is_in_range (contract_front ++ repeat 16 (an_array_value ∷ [])) fields 4
+    (a_decimal (neg_ℤ (pos MAX_DELTA)) (pos MAX_DELTA)) h.ranges (omega (arith, len)) refl)))
     (count_within 1 MAX_SCALE (decimal_number (text_at fields 5))
-    (passes_at is_in_range (contract_front ++ repeat 16 (an_array_value ∷ [])) fields 5 (a_decimal (pos 1) (pos MAX_SCALE)) h.ranges (omega (arith, len)) refl)))
+    (passes_at is_in_range (contract_front ++ repeat 16 (an_array_value ∷ [])) fields 5 (a_decimal (pos 1) (pos MAX_SCALE)) h.ranges
+    (omega (arith, len)) refl)))
     (eq-eqb _ 16 count))
     (values_in_range (drop 6 fields) each)
 
@@ -113,13 +124,31 @@ pub record HasLegs (front leg forms : List Form) (n : ℕ) : Type 0 where
 with_legs-forms : (front leg forms : List Form) (n : ℕ) → with_legs front leg n ≡ Some forms → HasLegs front leg forms n
 with_legs-forms front leg forms n e =
     elim (cases_Bool (n == length front + 2 * length leg)) [
-      | inl two ↦ record { count = 2; low = omega arith; high = omega arith; fields = eqb-true n (length front + 2 * length leg) two; same = let h = rw two at e in cc }
+      | inl two ↦ record {
+        count = 2;
+        low = omega arith;
+        high = omega arith;
+        fields = eqb-true n (length front + 2 * length leg) two;
+        same = let h = rw two at e in cc;
+      }
       | inr no_two ↦
           elim (cases_Bool (n == length front + 3 * length leg)) [
-            | inl three ↦ record { count = 3; low = omega arith; high = omega arith; fields = eqb-true n (length front + 3 * length leg) three; same = let h = rw (no_two, three) at e in cc }
+            | inl three ↦ record {
+              count = 3;
+              low = omega arith;
+              high = omega arith;
+              fields = eqb-true n (length front + 3 * length leg) three;
+              same = let h = rw (no_two, three) at e in cc;
+            }
             | inr no_three ↦
                 elim (cases_Bool (n == length front + 4 * length leg)) [
-                  | inl four ↦ record { count = 4; low = omega arith; high = omega arith; fields = eqb-true n (length front + 4 * length leg) four; same = let h = rw (no_two, no_three, four) at e in cc }
+                  | inl four ↦ record {
+                    count = 4;
+                    low = omega arith;
+                    high = omega arith;
+                    fields = eqb-true n (length front + 4 * length leg) four;
+                    same = let h = rw (no_two, no_three, four) at e in cc;
+                  }
                   | inr no_four ↦ let h = rw (no_two, no_three, no_four) at e in cc
                 ]
           ]
@@ -134,7 +163,8 @@ intra_legs_in_range (suc k) (x ∷ []) len all = absurd (omega (arith, len))
 intra_legs_in_range (suc k) (x ∷ y ∷ []) len all = absurd (omega (arith, len))
 intra_legs_in_range (suc k) (x ∷ y ∷ z ∷ xs) len all =
     let first = and_parts (is_in_range (a_whole (pos 1) (pos MAX_TIER_NUMBER)) x) _ all in
-    let third = and_parts (is_in_range (a_decimal (pos 1) (pos MAX_RATIO)) z) (all_have is_in_range (repeat k intra_leg_forms) xs) first.1 in
+    let third = and_parts (is_in_range (a_decimal (pos 1) (pos MAX_RATIO)) z)
+    (all_have is_in_range (repeat k intra_leg_forms) xs) first.1 in
     and_from _ _
     (and_from _ _ (count_within 1 MAX_TIER_NUMBER (whole_number x) first.0) (count_within 1 MAX_RATIO (decimal_number z) third.0))
     (intra_legs_in_range k xs (omega (arith, len)) third.1)
@@ -158,7 +188,8 @@ inter_legs_in_range (suc k) (x ∷ y ∷ z ∷ xs) len words all =
 two_to_four : (n k : ℕ) → n ≡ k → 2 ≤ k → k ≤ 4 → lies_within 2 4 n ≡ true
 two_to_four n k same low high = and_from (nat_le 2 n) (nat_le n 4) (le-leb 2 n (omega arith)) (le-leb n 4 (omega arith))
 
-intra_in_range : (word : List ℕ) (fields : Fields) (k : ℕ) → 2 ≤ k → k ≤ 4 → length fields ≡ 3 + k * 3 → HaveForms (intra_front ++ repeat k intra_leg_forms) fields
+intra_in_range : (word : List ℕ) (fields : Fields) (k : ℕ) → 2 ≤ k → k ≤ 4 → length fields ≡ 3 + k * 3
+    → HaveForms (intra_front ++ repeat k intra_leg_forms) fields
     → in_range (record_of_kind an_intra (word ∷ fields)) ≡ true
 intra_in_range word fields k low high len h =
     let behind = all_behind is_in_range intra_front (repeat k intra_leg_forms) fields h.ranges (omega (arith, len)) in
@@ -168,13 +199,15 @@ intra_in_range word fields k low high len h =
     (and_from _ _
     (and_from _ _ (passes_at has_word_form (intra_front ++ repeat k intra_leg_forms) fields 0 a_name h.words (omega (arith, len)) refl)
     (count_within 1 MAX_PRIORITY (whole_number (text_at fields 1))
-    (passes_at is_in_range (intra_front ++ repeat k intra_leg_forms) fields 1 (a_whole (pos 1) (pos MAX_PRIORITY)) h.ranges (omega (arith, len)) refl)))
+    (passes_at is_in_range (intra_front ++ repeat k intra_leg_forms) fields 1 (a_whole (pos 1) (pos MAX_PRIORITY)) h.ranges
+    (omega (arith, len)) refl)))
     (count_below MAX_RATE (whole_number (text_at fields 2))
     (passes_at is_in_range (intra_front ++ repeat k intra_leg_forms) fields 2 a_rate h.ranges (omega (arith, len)) refl)))
     (two_to_four _ k (length-map (legs_of (drop 3 fields)) intra_leg ∙ length-legs_of k (drop 3 fields) threes) low high))
     (intra_legs_in_range k (drop 3 fields) threes behind)
 
-inter_in_range : (word : List ℕ) (fields : Fields) (k : ℕ) → 2 ≤ k → k ≤ 4 → length fields ≡ 2 + k * 3 → HaveForms (inter_front ++ repeat k inter_leg_forms) fields
+inter_in_range : (word : List ℕ) (fields : Fields) (k : ℕ) → 2 ≤ k → k ≤ 4 → length fields ≡ 2 + k * 3
+    → HaveForms (inter_front ++ repeat k inter_leg_forms) fields
     → in_range (record_of_kind an_inter (word ∷ fields)) ≡ true
 inter_in_range word fields k low high len h =
     let words = all_behind has_word_form inter_front (repeat k inter_leg_forms) fields h.words (omega (arith, len)) in
@@ -184,20 +217,24 @@ inter_in_range word fields k low high len h =
     (and_from _ _
     (and_from _ _
     (count_within 1 MAX_PRIORITY (whole_number (text_at fields 0))
-    (passes_at is_in_range (inter_front ++ repeat k inter_leg_forms) fields 0 (a_whole (pos 1) (pos MAX_PRIORITY)) h.ranges (omega (arith, len)) refl))
+    (passes_at is_in_range (inter_front ++ repeat k inter_leg_forms) fields 0 (a_whole (pos 1) (pos MAX_PRIORITY)) h.ranges
+    (omega (arith, len)) refl))
     (count_below MAX_BASIS_POINTS (whole_number (text_at fields 1))
-    (passes_at is_in_range (inter_front ++ repeat k inter_leg_forms) fields 1 (a_whole (pos 0) (pos MAX_BASIS_POINTS)) h.ranges (omega (arith, len)) refl)))
+    (passes_at is_in_range (inter_front ++ repeat k inter_leg_forms) fields 1 (a_whole (pos 0) (pos MAX_BASIS_POINTS)) h.ranges
+    (omega (arith, len)) refl)))
     (two_to_four _ k (length-map (legs_of (drop 2 fields)) inter_leg ∙ length-legs_of k (drop 2 fields) threes) low high))
     (inter_legs_in_range k (drop 2 fields) threes words ranges)
 
 -- ---- any kind
 
 abbrev IsRanged : RecordKind → Type 0
-IsRanged kind = (word : List ℕ) (fields : Fields) (forms : List Form) → forms_of kind (length fields) ≡ Some forms → HaveForms forms fields
+IsRanged kind =
+    (word : List ℕ) (fields : Fields) (forms : List Form) → forms_of kind (length fields) ≡ Some forms → HaveForms forms fields
     → in_range (record_of_kind kind (word ∷ fields)) ≡ true
 
 exactly_ranged : (kind : RecordKind) (want : List Form) → ((n : ℕ) → forms_of kind n ≡ exactly want n)
-    → ((word : List ℕ) (fields : Fields) → length fields ≡ length want → HaveForms want fields → in_range (record_of_kind kind (word ∷ fields)) ≡ true)
+    → ((word : List ℕ) (fields : Fields) → length fields ≡ length want → HaveForms want fields
+    → in_range (record_of_kind kind (word ∷ fields)) ≡ true)
     → IsRanged kind
 exactly_ranged kind want is ranged word fields forms e h =
     let found = exact want forms (length fields) (sym (is (length fields)) ∙ e) in

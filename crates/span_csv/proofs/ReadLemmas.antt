@@ -1,5 +1,6 @@
 -- The reading of a file, one record after another.
-use Rattle.std.proofs.Common.{◌≡◌, ◌+◌, ◌∙◌, sym, ap, refl, arith, ℕ, Bool, true, false, List, [], ◌∷◌, ◌++◌, length, map, Option, Some, None, Ok, Err}
+use Rattle.std.proofs.Common.{◌≡◌, ◌+◌, ◌∙◌, sym, ap, refl, arith, ℕ, Bool, true, false}
+use Rattle.std.proofs.Common.{List, [], ◌∷◌, ◌++◌, length, map, Option, Some, None, Ok, Err}
 use Rattle.std.specs.Prelude.{⊤, option_map, MatchBool, ◌==◌}
 use Rattle.std.specs.Option.{option_or}
 use Rattle.std.proofs.lemmas.Bool.{eqb-true, false≢true}
@@ -29,24 +30,32 @@ pub record IsSoFar (all : List Fields) (xs : List Record) (t : Tally) (rest : Li
 pub so_far_none : (all : List Fields) (xs : List Record) (t : Tally) → xs ≡ [] → Tallies t [] → IsSoFar all xs t all
 so_far_none all xs t none tallies = record { earlier = []; whole = refl; said = none; tallies = tallies; answer = refl }
 
-pub so_far_count : (all : List Fields) (xs : List Record) (t : Tally) (rest : List Fields) (s : IsSoFar all xs t rest) → length s.earlier ≡ length xs
-so_far_count all xs t rest s = let len : length (map param_record s.earlier) ≡ length s.earlier = simp length-map in sym (ap length s.said ∙ len)
+pub so_far_count : (all : List Fields) (xs : List Record) (t : Tally) (rest : List Fields) (s : IsSoFar all xs t rest)
+    → length s.earlier ≡ length xs
+so_far_count all xs t rest s =
+    let len : length (map param_record s.earlier) ≡ length s.earlier = simp length-map in sym (ap length s.said ∙ len)
 
 -- as many were counted as were read
-pub so_far_tallied : (all : List Fields) (xs : List Record) (t : Tally) (rest : List Fields) → IsSoFar all xs t rest → HasTallied t (length xs)
+pub so_far_tallied : (all : List Fields) (xs : List Record) (t : Tally) (rest : List Fields) → IsSoFar all xs t rest
+    → HasTallied t (length xs)
 so_far_tallied all xs t rest s = (s.earlier, so_far_count all xs t rest s, s.tallies)
 
 -- a record without a fault is read
-pub so_far_more : (all : List Fields) (xs : List Record) (t u : Tally) (r : Fields) (before rest : List Fields) (x : Record) (s : IsSoFar all xs t before) → before ≡ r ∷ rest
+pub so_far_more : (all : List Fields) (xs : List Record) (t u : Tally) (r : Fields) (before rest : List Fields) (x : Record)
+    (s : IsSoFar all xs t before) → before ≡ r ∷ rest
     → NextIs s.earlier r (Ok x) u → IsSoFar all (xs ++ x ∷ []) u rest
 so_far_more all xs t u r before rest x s is next = record {
   earlier = s.earlier ++ r ∷ [];
   whole = append_assoc s.earlier (r ∷ []) rest ∙ ap (λ zs. s.earlier ++ zs) (sym is) ∙ s.whole;
-  said = ap (λ zs. zs ++ x ∷ []) s.said ∙ ap (λ y. map param_record s.earlier ++ y ∷ []) next.1 ∙ sym (map-append param_record s.earlier (r ∷ []));
+  said =
+      ap (λ zs. zs ++ x ∷ []) s.said ∙ ap (λ y. map param_record s.earlier ++ y ∷ []) next.1
+      ∙ sym (map-append param_record s.earlier (r ∷ []));
   tallies = next.2;
   answer =
-      let here : first_fault_after fault_of s.earlier (r ∷ rest) ≡ first_fault_after fault_of [] all = ap (first_fault_after fault_of s.earlier) (sym is) ∙ s.answer in
-      sym (ap (λ o. option_or (option_map (λ f. f (length s.earlier + 1)) o) (first_fault_after fault_of (s.earlier ++ r ∷ []) rest)) next.0) ∙ here;
+      let here : first_fault_after fault_of s.earlier (r ∷ rest) ≡ first_fault_after fault_of [] all =
+      ap (first_fault_after fault_of s.earlier) (sym is) ∙ s.answer in
+      sym (ap (λ o. option_or (option_map (λ f. f (length s.earlier + 1)) o) (first_fault_after fault_of (s.earlier ++ r ∷ []) rest))
+      next.0) ∙ here;
 }
 
 -- ---- the answer
@@ -55,7 +64,8 @@ params_fault : (bytes : List ℕ) (e : ParamFault) → param_fault (records_of b
 unfolding params_of
 params_fault bytes e is = ap (λ o. ok_unless o (map param_record (records_of bytes))) is
 
-params_none : (bytes : List ℕ) → param_fault (records_of bytes) ≡ None → params_of bytes ≡ Ok (map param_record (records_of bytes))
+params_none : (bytes : List ℕ) → param_fault (records_of bytes) ≡ None
+    → params_of bytes ≡ Ok (map param_record (records_of bytes))
 unfolding params_of
 params_none bytes is = ap (λ o. ok_unless o (map param_record (records_of bytes))) is
 
@@ -81,16 +91,20 @@ on_match : (b : Bool) (P Q : Type 0) → (P → Q) → MatchBool b ⊤ P → Mat
 on_match true P Q f h = tt
 on_match false P Q f h = f h
 
-ended : (all : List Fields) (xs : List Record) (t : Tally) (rest : List Fields) (s : IsSoFar all xs t rest) → rest ≡ [] → s.earlier ≡ all
+ended : (all : List Fields) (xs : List Record) (t : Tally) (rest : List Fields) (s : IsSoFar all xs t rest) → rest ≡ []
+    → s.earlier ≡ all
 ended all xs t rest s end = sym (append-nil s.earlier) ∙ ap (λ zs. s.earlier ++ zs) (sym end) ∙ s.whole
 
 -- a file without a record
-pub read_empty : (bytes : List ℕ) (xs : List Record) (t : Tally) (rest : List Fields) → IsSoFar (records_of bytes) xs t rest → rest ≡ [] → xs ≡ [] → params_of bytes ≡ Err (fault.NoSet 0)
+pub read_empty : (bytes : List ℕ) (xs : List Record) (t : Tally) (rest : List Fields) → IsSoFar (records_of bytes) xs t rest
+    → rest ≡ [] → xs ≡ [] → params_of bytes ≡ Err (fault.NoSet 0)
 read_empty bytes xs t rest s end none =
-    params_fault bytes (fault.NoSet 0) (no_records (records_of bytes) (sym (ended (records_of bytes) xs t rest s end) ∙ map_empty s.earlier (sym s.said ∙ none)))
+    params_fault bytes (fault.NoSet 0) (no_records (records_of bytes)
+    (sym (ended (records_of bytes) xs t rest s end) ∙ map_empty s.earlier (sym s.said ∙ none)))
 
 -- all records of a file
-pub read_all : (bytes : List ℕ) (xs : List Record) (t : Tally) (rest : List Fields) → IsSoFar (records_of bytes) xs t rest → rest ≡ [] → (xs ≡ [] → ⊥) → params_of bytes ≡ Ok xs
+pub read_all : (bytes : List ℕ) (xs : List Record) (t : Tally) (rest : List Fields) → IsSoFar (records_of bytes) xs t rest
+    → rest ≡ [] → (xs ≡ [] → ⊥) → params_of bytes ≡ Ok xs
 read_all bytes xs t rest s end some =
     let all = ended (records_of bytes) xs t rest s end in
     let none : first_fault_after fault_of [] (records_of bytes) ≡ None = sym s.answer ∙ ap (first_fault_after fault_of s.earlier) end in
@@ -98,14 +112,19 @@ read_all bytes xs t rest s end some =
     params_none bytes (some_records (records_of bytes) given ∙ none) ∙ ap Ok (ap (map param_record) (sym all) ∙ sym s.said)
 
 -- a record with a fault
-pub read_fault : (bytes : List ℕ) (xs : List Record) (t : Tally) (r : Fields) (before rest : List Fields) (e : ParamFault) (s : IsSoFar (records_of bytes) xs t before) → before ≡ r ∷ rest
-    → MatchBool (is_memory e) ⊤ (IsFaultOf (param_faults s.earlier r) (length s.earlier + 1) e) → MatchBool (is_memory e) ⊤ (params_of bytes ≡ Err e)
+pub read_fault : (bytes : List ℕ) (xs : List Record) (t : Tally) (r : Fields) (before rest : List Fields) (e : ParamFault)
+    (s : IsSoFar (records_of bytes) xs t before) → before ≡ r ∷ rest
+    → MatchBool (is_memory e) ⊤ (IsFaultOf (param_faults s.earlier r) (length s.earlier + 1) e)
+    → MatchBool (is_memory e) ⊤ (params_of bytes ≡ Err e)
 read_fault bytes xs t r before rest e s is h =
-    let given : records_of bytes ≡ [] → ⊥ = λ none. not_empty s.earlier r rest (ap (λ zs. s.earlier ++ zs) (sym is) ∙ s.whole ∙ none) in
+    let given : records_of bytes ≡ [] → ⊥ =
+    λ none. not_empty s.earlier r rest (ap (λ zs. s.earlier ++ zs) (sym is) ∙ s.whole ∙ none) in
     on_match (is_memory e) (IsFaultOf (param_faults s.earlier r) (length s.earlier + 1) e) (params_of bytes ≡ Err e)
     (λ here.
-    let first : first_fault_after fault_of s.earlier (r ∷ rest) ≡ Some e = ap (λ o. option_or o (first_fault_after fault_of (s.earlier ++ r ∷ []) rest)) here in
-    params_fault bytes e (some_records (records_of bytes) given ∙ sym s.answer ∙ ap (first_fault_after fault_of s.earlier) is ∙ first))
+    let first : first_fault_after fault_of s.earlier (r ∷ rest) ≡ Some e =
+    ap (λ o. option_or o (first_fault_after fault_of (s.earlier ++ r ∷ []) rest)) here in
+    params_fault bytes e (some_records (records_of bytes) given ∙ sym s.answer ∙ ap (first_fault_after fault_of s.earlier) is
+    ∙ first))
     h
 
 -- ---- a test for no records

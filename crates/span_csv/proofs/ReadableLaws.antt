@@ -1,5 +1,6 @@
 -- The records of a parameter file without a fault are in their ranges, and no more of a kind than there may be.
-use Rattle.std.proofs.Common.{◌≡◌, ◌∙◌, refl, sym, ap, subst, arith, ℕ, ◌-◌, ◌<◌, Bool, true, false, not, ◌&&◌, ◌==◌, List, [], ◌∷◌, ◌++◌, length, length-append, map, Option, Some, None, Ok}
+use Rattle.std.proofs.Common.{◌≡◌, ◌∙◌, refl, sym, ap, subst, arith, ℕ, ◌-◌, ◌<◌, Bool, true, false, not}
+use Rattle.std.proofs.Common.{◌&&◌, ◌==◌, List, [], ◌∷◌, ◌++◌, length, length-append, map, Option, Some, None, Ok}
 use Rattle.std.specs.Prelude.{nat_le, count_by, filter_map, is_some, bytes_eq}
 use Rattle.std.specs.List.{list_all}
 use Rattle.std.proofs.lemmas.Bool.{and_parts, and_from, le-leb, ne_eqb, not-false, both_ways}
@@ -8,19 +9,24 @@ use Rattle.span_tables.specs.Faults.{ok_unless}
 use Rattle.span_tables.specs.Laws.{IsFaultFree}
 use Rattle.span_tables.specs.Rules.{as_set, as_commodity, as_contract, as_tier, as_intra, as_spot, as_inter}
 use Rattle.span_tables.specs.Limits.{in_range, at_most_each, keeps_counts, is_readable}
-use Rattle.span_tables.specs.declared.limits.TheConstants.{MAX_COMMODITIES, MAX_CONTRACTS, MAX_TIERS, MAX_INTRA_SPREADS, MAX_SPOT_MONTHS, MAX_INTER_SPREADS}
+use Rattle.span_tables.specs.declared.limits.TheConstants.{MAX_COMMODITIES, MAX_CONTRACTS, MAX_TIERS}
+use Rattle.span_tables.specs.declared.limits.TheConstants.{MAX_INTRA_SPREADS, MAX_SPOT_MONTHS, MAX_INTER_SPREADS}
 use Rattle.span_tables.specs.declared.records.Record.{Record}
 use Rattle.span_tables.proofs.FaultLaws.{first_fault_none}
 use Rattle.span_tables.proofs.NameLemmas.{same_name}
-use Rattle.span_csv.specs.Records.{Form, Fields, RecordKind, a_set, a_commodity, a_contract, a_tier, an_intra, a_spot, an_inter, records_of, all_have, has_word_form, is_in_range, forms_of, kind_of, layout_of, text_at, record_of_kind, param_record}
+use Rattle.span_csv.specs.Records.{Form, Fields, RecordKind, a_set, a_commodity, a_contract, a_tier, an_intra}
+use Rattle.span_csv.specs.Records.{a_spot, an_inter, records_of, all_have, has_word_form, is_in_range}
+use Rattle.span_csv.specs.Records.{forms_of, kind_of, layout_of, text_at, record_of_kind, param_record}
 use Rattle.span_csv.specs.ParamFaults.{is_set, some_fail, exceeds_limit, count_of_kind, count_of_commodity, param_fault, params_of}
 use Rattle.span_csv.proofs.RangeLemmas.{record_in_range}
-use Rattle.span_csv.proofs.CountLemmas.{IsClean, fault_of, clean, clean_kind, param_record-kind, has_kind, word_of, named_word, some_of, word_named, IsPicked, count_picked, never_more}
+use Rattle.span_csv.proofs.CountLemmas.{IsClean, fault_of, clean, clean_kind, param_record-kind, has_kind, word_of}
+use Rattle.span_csv.proofs.CountLemmas.{named_word, some_of, word_named, IsPicked, count_picked, never_more}
 
 -- ---- ranges
 
 -- no field fails a test where some_fail does not hold
-all_pass : (test : Form → List ℕ → Bool) (word : List ℕ) (fields : Fields) (forms : List Form) → layout_of (word ∷ fields) ≡ Some forms
+all_pass : (test : Form → List ℕ → Bool) (word : List ℕ) (fields : Fields) (forms : List Form)
+    → layout_of (word ∷ fields) ≡ Some forms
     → some_fail test (word ∷ fields) ≡ false → all_have test forms fields ≡ true
 all_pass test word fields forms found e =
     let h = rw found at e in
@@ -53,7 +59,8 @@ first_set r c =
     let word : is_set r ≡ true = not-false (is_set r) c.first in
     rw (param_record-kind r a_set (word_named r a_set word)) refl
 
-not_set : (k : RecordKind) (r : Fields) → kind_of r ≡ Some k → is_set r ≡ false → not (is_some (as_set (record_of_kind k r))) ≡ true
+not_set : (k : RecordKind) (r : Fields) → kind_of r ≡ Some k → is_set r ≡ false
+    → not (is_some (as_set (record_of_kind k r))) ≡ true
 not_set a_set r e other = absurd (both_ways (is_set r) other (named_word (text_at r 0) a_set e))
 not_set a_commodity r e other = refl
 not_set a_contract r e other = refl
@@ -63,7 +70,8 @@ not_set a_spot r e other = refl
 not_set an_inter r e other = refl
 
 -- and none behind it
-later_set : (earlier : List Fields) (r : Fields) → 0 < length earlier → IsClean earlier r → not (is_some (as_set (param_record r))) ≡ true
+later_set : (earlier : List Fields) (r : Fields) → 0 < length earlier → IsClean earlier r
+    → not (is_some (as_set (param_record r))) ≡ true
 later_set earlier r some c =
     let k = clean_kind earlier r c in
     let behind : (length earlier == 0) ≡ false = ne_eqb (length earlier) 0 (λ e. absurd (omega (arith, e))) in
@@ -84,14 +92,17 @@ and_true true = refl
 and_true false = refl
 
 -- records of a kind with a limit
-kind_room : (kind : RecordKind) (most : ℕ) → ((earlier : List Fields) (r : Fields) → exceeds_limit earlier r (Some kind) ≡ (count_of_kind earlier r == most))
+kind_room : (kind : RecordKind) (most : ℕ) → ((earlier : List Fields) (r : Fields)
+    → exceeds_limit earlier r (Some kind) ≡ (count_of_kind earlier r == most))
     → (earlier : List Fields) (r : Fields) → IsClean earlier r → (has_kind kind r && true) ≡ true
     → (count_by (λ x. has_kind kind x && true) earlier == most) ≡ false
 kind_room kind most limit earlier r c h =
     let word = (and_parts (has_kind kind r) true h).0 in
-    let one_more : exceeds_limit earlier r (Some kind) ≡ false = subst (λ k. exceeds_limit earlier r k ≡ false) (word_named r kind word) c.room in
+    let one_more : exceeds_limit earlier r (Some kind) ≡ false =
+    subst (λ k. exceeds_limit earlier r k ≡ false) (word_named r kind word) c.room in
     let counts : (count_by (λ x. bytes_eq (text_at x 0) (text_at r 0)) earlier == most) ≡ false = sym (limit earlier r) ∙ one_more in
-    let named = subst (λ w. (count_by (λ (x : Fields). bytes_eq (text_at x 0) w) earlier == most) ≡ false) (same_name (text_at r 0) (word_of kind) word) counts in
+    let named = subst (λ w. (count_by (λ (x : Fields). bytes_eq (text_at x 0) w) earlier == most) ≡ false)
+    (same_name (text_at r 0) (word_of kind) word) counts in
     ap (λ (p : Fields → Bool). count_by p earlier == most) (λ i. λ x. and_true (has_kind kind x) i) ∙ named
 
 length-count : {A : Type 0} (xs : List A) → count_by (λ x. true) xs ≡ length xs
@@ -115,12 +126,15 @@ commodity_room : (kind : RecordKind) (most : ℕ) (commodity : List ℕ)
     → (count_by (λ x. has_kind kind x && bytes_eq (text_at x 1) commodity) earlier == most) ≡ false
 commodity_room kind most commodity limit earlier r c h =
     let parts = and_parts (has_kind kind r) (bytes_eq (text_at r 1) commodity) h in
-    let one_more : exceeds_limit earlier r (Some kind) ≡ false = subst (λ k. exceeds_limit earlier r k ≡ false) (word_named r kind parts.0) c.room in
+    let one_more : exceeds_limit earlier r (Some kind) ≡ false =
+    subst (λ k. exceeds_limit earlier r k ≡ false) (word_named r kind parts.0) c.room in
     let counts : (count_by (λ x. bytes_eq (text_at x 0) (text_at r 0) && bytes_eq (text_at x 1) (text_at r 1)) earlier == most) ≡ false =
     sym (limit earlier r) ∙ one_more in
-    let named = subst (λ w. (count_by (λ (x : Fields). bytes_eq (text_at x 0) w && bytes_eq (text_at x 1) (text_at r 1)) earlier == most) ≡ false)
+    let named = subst (λ w. (count_by (λ (x : Fields). bytes_eq (text_at x 0) w && bytes_eq (text_at x 1) (text_at r 1)) earlier == most)
+    ≡ false)
     (same_name (text_at r 0) (word_of kind) parts.0) counts in
-    subst (λ w. (count_by (λ (x : Fields). has_kind kind x && bytes_eq (text_at x 1) w) earlier == most) ≡ false) (same_name (text_at r 1) commodity parts.1) named
+    subst (λ w. (count_by (λ (x : Fields). has_kind kind x && bytes_eq (text_at x 1) w) earlier == most) ≡ false)
+    (same_name (text_at r 1) commodity parts.1) named
 
 all_true : {A : Type 0} (test : A → Bool) (xs : List A) → ((x : A) → test x ≡ true) → list_all test xs ≡ true
 all_true test [] each = refl
@@ -134,8 +148,10 @@ few_of_each : {A : Type 0} (kind : RecordKind) (most : ℕ) (pick : Record → O
 few_of_each kind most pick commodity_of limit picked rows free =
     all_true _ (filter_map pick (map param_record rows)) (λ x.
     let commodity = commodity_of x in
-    let few = never_more (λ r. has_kind kind r && bytes_eq (text_at r 1) commodity) most (commodity_room kind most commodity limit) [] rows (omega arith) free in
-    let same = count_picked kind pick (λ y. bytes_eq (commodity_of y) commodity) (λ r. bytes_eq (text_at r 1) commodity) (picked commodity) [] rows free in
+    let few = never_more (λ r. has_kind kind r && bytes_eq (text_at r 1) commodity) most (commodity_room kind most commodity limit) [] rows
+    (omega arith) free in
+    let same = count_picked kind pick (λ y. bytes_eq (commodity_of y) commodity) (λ r. bytes_eq (text_at r 1) commodity)
+    (picked commodity) [] rows free in
     le-leb _ most (omega (arith, few, same)))
 
 commodity_picked : IsPicked a_commodity as_commodity (λ x. true) (λ r. true)
@@ -150,15 +166,18 @@ inter_picked : IsPicked an_inter as_inter (λ x. true) (λ r. true)
 inter_picked an_inter r = refl
 inter_picked _ r = refl
 
-tier_picked : (commodity : List ℕ) → IsPicked a_tier as_tier (λ t. bytes_eq t.commodity commodity) (λ r. bytes_eq (text_at r 1) commodity)
+tier_picked : (commodity : List ℕ) → IsPicked a_tier as_tier (λ t. bytes_eq t.commodity commodity)
+    (λ r. bytes_eq (text_at r 1) commodity)
 tier_picked commodity a_tier r = refl
 tier_picked commodity _ r = refl
 
-intra_picked : (commodity : List ℕ) → IsPicked an_intra as_intra (λ s. bytes_eq s.commodity commodity) (λ r. bytes_eq (text_at r 1) commodity)
+intra_picked : (commodity : List ℕ) → IsPicked an_intra as_intra (λ s. bytes_eq s.commodity commodity)
+    (λ r. bytes_eq (text_at r 1) commodity)
 intra_picked commodity an_intra r = refl
 intra_picked commodity _ r = refl
 
-spot_picked : (commodity : List ℕ) → IsPicked a_spot as_spot (λ s. bytes_eq s.commodity commodity) (λ r. bytes_eq (text_at r 1) commodity)
+spot_picked : (commodity : List ℕ) → IsPicked a_spot as_spot (λ s. bytes_eq s.commodity commodity)
+    (λ r. bytes_eq (text_at r 1) commodity)
 spot_picked commodity a_spot r = refl
 spot_picked commodity _ r = refl
 
@@ -178,7 +197,8 @@ counts_kept rows free =
 
 -- ---- all
 
-free_readable : (r : Fields) (rows : List Fields) → IsFaultFree fault_of [] (r ∷ rows) → is_readable (map param_record (r ∷ rows)) ≡ true
+free_readable : (r : Fields) (rows : List Fields) → IsFaultFree fault_of [] (r ∷ rows)
+    → is_readable (map param_record (r ∷ rows)) ≡ true
 unfolding is_readable
 free_readable r rows free =
     and_from _ _

@@ -1,8 +1,11 @@
 -- What one read of `csv` takes from the records that are left.
-use Rattle.std.proofs.Common.{Bor, ◌≡◌, ◌≤◌, ◌+◌, ◌-◌, ◌==◌, ◌&&◌, ap, refl, arith, inl, inr, ℕ, zero, suc, Bool, true, false, if◌then◌else◌, List, [], ◌∷◌, ◌++◌, length, Option, Some, None, IsSome, add-one}
+use Rattle.std.proofs.Common.{Bor, ◌≡◌, ◌≤◌, ◌+◌, ◌-◌, ◌==◌, ◌&&◌, ap, refl}
+use Rattle.std.proofs.Common.{arith, inl, inr, ℕ, zero, suc, Bool, true, false, if◌then◌else◌}
+use Rattle.std.proofs.Common.{List, [], ◌∷◌, ◌++◌, length, Option, Some, None, IsSome, add-one}
 use Rattle.std.specs.Bool.{MatchBool}
 use Rattle.std.proofs.lemmas.Bool.{false≢true, cases_Bool}
-use Rattle.csv.specs.Machine.{Read, next_record, step, in_field, start_field, start_record, is_end, ends_at_end, ends_with, after_end, carriage_return, fields_after, field_after}
+use Rattle.csv.specs.Machine.{Read, next_record, step, in_field, start_field, start_record, is_end}
+use Rattle.csv.specs.Machine.{ends_at_end, ends_with, after_end, carriage_return, fields_after, field_after}
 use Rattle.csv.specs.Reading.{records_from, records_next, default_config, source_of, pending_of, ReadRecord, ReadsNext, NextIs, has_failed}
 use Rattle.csv.specs.declared.parser.Action.{Action}
 use Rattle.csv.specs.declared.parser.Action.TheVariants as act
@@ -22,12 +25,17 @@ closes_if true x y first second = first
 closes_if false x y first second = second
 
 closes_end : (c : ℕ) → ends_at_end (after_end term.CRLF c) ≡ false
-closes_end c = elim (c == carriage_return) as (λ b. ends_at_end (if b then st.AfterCr else st.StartRecord) ≡ false) [ true ↦ refl | false ↦ refl ]
+closes_end c =
+    elim (c == carriage_return) as (λ b. ends_at_end (if b then st.AfterCr else st.StartRecord) ≡ false) [
+      | true ↦ refl
+      | false ↦ refl
+    ]
 
 closes_in_field : (c : ℕ) → Closes (in_field default_config c)
 closes_in_field c =
     closes_if (c == 44) _ _ (λ e. absurd (false≢true e))
-    (closes_if (ends_with term.CRLF c) (after_end term.CRLF c, act.EndRecord) (st.InField, act.Copy) (λ _. closes_end c) (λ e. absurd (false≢true e)))
+    (closes_if (ends_with term.CRLF c) (after_end term.CRLF c, act.EndRecord) (st.InField, act.Copy) (λ _. closes_end c)
+    (λ e. absurd (false≢true e)))
 
 closes_start_field : (c : ℕ) → Closes (start_field default_config c)
 closes_start_field c = closes_if (true && (c == 34)) _ _ (λ e. absurd (false≢true e)) (closes_in_field c)
@@ -50,12 +58,15 @@ record Takes (bytes : List ℕ) (found : Read) : Type 0 where
   closed : ends_at_end found.1 ≡ false
   fewer : length found.2 ≤ length bytes - 1
 
-takes_at_end : (b : Bool) (fields : Fields) (found : Read) → (if b then Some (fields, st.StartRecord, []) else None) ≡ Some found → Takes [] found
-takes_at_end true fields found e = let same : (fields, st.StartRecord, []) ≡ found = cc in rw (← same) (record { closed = refl; fewer = omega arith })
+takes_at_end : (b : Bool) (fields : Fields) (found : Read) → (if b then Some (fields, st.StartRecord, []) else None) ≡ Some found
+    → Takes [] found
+takes_at_end true fields found e =
+    let same : (fields, st.StartRecord, []) ≡ found = cc in rw (← same) (record { closed = refl; fewer = omega arith })
 takes_at_end false fields found e = cc
 
 takes_step : (after : State × Action) (fields : Fields) (more : Option Read) (c : ℕ) (rest : List ℕ) (found : Read)
-    → Closes after → (more ≡ Some found → Takes rest found) → (if is_end after.1 then Some (fields, after.0, rest) else more) ≡ Some found → Takes (c ∷ rest) found
+    → Closes after → (more ≡ Some found → Takes rest found)
+    → (if is_end after.1 then Some (fields, after.0, rest) else more) ≡ Some found → Takes (c ∷ rest) found
 takes_step after fields more c rest found closes later e =
     elim (cases_Bool (is_end after.1)) [
       | inl ends ↦
@@ -67,26 +78,31 @@ takes_step after fields more c rest found closes later e =
           record { closed = takes.closed; fewer = omega (arith, takes.fewer) }
     ]
 
-takes_next : (s : State) (fields : Fields) (field bytes : List ℕ) (found : Read) → next_record default_config s fields field bytes ≡ Some found → Takes bytes found
+takes_next : (s : State) (fields : Fields) (field bytes : List ℕ) (found : Read)
+    → next_record default_config s fields field bytes ≡ Some found → Takes bytes found
 unfolding next_record
 takes_next s fields field [] found e = takes_at_end (ends_at_end s) (fields ++ (field ∷ [])) found e
 takes_next s fields field (c ∷ rest) found e =
     takes_step (step default_config s c) (fields_after (step default_config s c).1 fields field)
-    (next_record default_config (step default_config s c).0 (fields_after (step default_config s c).1 fields field) (field_after (step default_config s c).1 c field) rest)
+    (next_record default_config (step default_config s c).0 (fields_after (step default_config s c).1 fields field)
+    (field_after (step default_config s c).1 c field) rest)
     c rest found (closes_step s c)
-    (takes_next (step default_config s c).0 (fields_after (step default_config s c).1 fields field) (field_after (step default_config s c).1 c field) rest found) e
+    (takes_next (step default_config s c).0 (fields_after (step default_config s c).1 fields field)
+    (field_after (step default_config s c).1 c field) rest found) e
 
 -- between records an empty text has no record
 none_left : (s : State) → ends_at_end s ≡ false → next_record default_config s [] [] [] ≡ None
 unfolding next_record
 none_left s closed = rw closed refl
 
-same_next : (o : Option Read) (f g : State → List ℕ → List Fields) → ((found : Read) → o ≡ Some found → f found.1 found.2 ≡ g found.1 found.2) → records_next f o ≡ records_next g o
+same_next : (o : Option Read) (f g : State → List ℕ → List Fields)
+    → ((found : Read) → o ≡ Some found → f found.1 found.2 ≡ g found.1 found.2) → records_next f o ≡ records_next g o
 same_next None f g same = refl
 same_next (Some found) f g same = ap (λ (more : List Fields). found.0 ∷ more) (same found refl)
 
 -- from between records, as many turns as there are bytes give every record
-same_turns : (m n : ℕ) (s : State) (bytes : List ℕ) → ends_at_end s ≡ false → length bytes ≤ m → length bytes ≤ n → records_from default_config m s bytes ≡ records_from default_config n s bytes
+same_turns : (m n : ℕ) (s : State) (bytes : List ℕ) → ends_at_end s ≡ false → length bytes ≤ m → length bytes ≤ n
+    → records_from default_config m s bytes ≡ records_from default_config n s bytes
 unfolding records_from
 same_turns zero zero s bytes closed few fit = refl
 same_turns zero (suc n) s [] closed few fit = rw (none_left s closed) refl
@@ -94,14 +110,18 @@ same_turns zero (suc n) s (c ∷ rest) closed few fit = absurd (omega arith)
 same_turns (suc m) zero s [] closed few fit = rw (none_left s closed) refl
 same_turns (suc m) zero s (c ∷ rest) closed few fit = absurd (omega arith)
 same_turns (suc m) (suc n) s bytes closed few fit =
-    same_next (next_record default_config s [] [] bytes) (records_from default_config m) (records_from default_config n) (λ found e. same_turns m n found.1 found.2 (takes_next s [] [] bytes found e).closed (omega (arith, (takes_next s [] [] bytes found e).fewer)) (omega (arith, (takes_next s [] [] bytes found e).fewer)))
+    same_next (next_record default_config s [] [] bytes) (records_from default_config m) (records_from default_config n)
+    (λ found e. same_turns m n found.1 found.2 (takes_next s [] [] bytes found e).closed
+    (omega (arith, (takes_next s [] [] bytes found e).fewer)) (omega (arith, (takes_next s [] [] bytes found e).fewer)))
 
 -- the records that are left are the next one, and those after it
-first_left : (s : State) (bytes : List ℕ) (found : Read) → next_record default_config s [] [] bytes ≡ Some found → rows_from s (Some bytes) ≡ found.0 ∷ rows_from found.1 (Some found.2)
+first_left : (s : State) (bytes : List ℕ) (found : Read) → next_record default_config s [] [] bytes ≡ Some found
+    → rows_from s (Some bytes) ≡ found.0 ∷ rows_from found.1 (Some found.2)
 unfolding records_from
 first_left s bytes found e =
     let takes = takes_next s [] [] bytes found e in
-    let turns : records_from default_config (length bytes) found.1 found.2 ≡ records_from default_config (length found.2 + 1) found.1 found.2 =
+    let turns : records_from default_config (length bytes) found.1 found.2
+    ≡ records_from default_config (length found.2 + 1) found.1 found.2 =
     same_turns (length bytes) (length found.2 + 1) found.1 found.2 takes.closed (omega (arith, takes.fewer)) (omega arith) in
     rw (add-one (length bytes), e, turns) refl
 
@@ -109,22 +129,26 @@ none_more : (s : State) (bytes : List ℕ) → next_record default_config s [] [
 unfolding records_from
 none_more s bytes e = rw (add-one (length bytes), e) refl
 
-row_found : (s after : State) (bytes rest : List ℕ) (fields : Fields) (o : Option Read) → next_record default_config s [] [] bytes ≡ o → NextIs o true fields after rest
+row_found : (s after : State) (bytes rest : List ℕ) (fields : Fields) (o : Option Read) → next_record default_config s [] [] bytes ≡ o
+    → NextIs o true fields after rest
     → rows_from s (Some bytes) ≡ fields ∷ rows_from after (Some rest)
 row_found s after bytes rest fields None e next = cc
 row_found s after bytes rest fields (Some found) e next = rw (next.1, next.2, next.3) (first_left s bytes found e)
 
-row_missing : (s after : State) (bytes rest : List ℕ) (fields : Fields) (o : Option Read) → next_record default_config s [] [] bytes ≡ o → NextIs o false fields after rest
+row_missing : (s after : State) (bytes rest : List ℕ) (fields : Fields) (o : Option Read)
+    → next_record default_config s [] [] bytes ≡ o → NextIs o false fields after rest
     → rows_from s (Some bytes) ≡ []
 row_missing s after bytes rest fields None e next = none_more s bytes e
 row_missing s after bytes rest fields (Some found) e next = cc
 
-row_read : (s after : State) (bytes rest : Option (List ℕ)) (fields : Fields) → IsSome bytes → ReadsNext default_config s bytes rest true fields after → rows_from s bytes ≡ fields ∷ rows_from after rest
+row_read : (s after : State) (bytes rest : Option (List ℕ)) (fields : Fields) → IsSome bytes
+    → ReadsNext default_config s bytes rest true fields after → rows_from s bytes ≡ fields ∷ rows_from after rest
 row_read s after None rest fields known r = absurd (false≢true known)
 row_read s after (Some bytes) None fields known r = absurd r
 row_read s after (Some bytes) (Some rest) fields known r = row_found s after bytes rest fields _ refl r
 
-row_ended : (s after : State) (bytes rest : Option (List ℕ)) (fields : Fields) → IsSome bytes → ReadsNext default_config s bytes rest false fields after → rows_from s bytes ≡ []
+row_ended : (s after : State) (bytes rest : Option (List ℕ)) (fields : Fields) → IsSome bytes
+    → ReadsNext default_config s bytes rest false fields after → rows_from s bytes ≡ []
 row_ended s after None rest fields known r = absurd (false≢true known)
 row_ended s after (Some bytes) None fields known r = absurd r
 row_ended s after (Some bytes) (Some rest) fields known r = row_missing s after bytes rest fields _ refl r
@@ -133,13 +157,15 @@ abbrev given : Bor (List ℕ) → Option (List ℕ)
 given s = Some s.now
 
 -- a read of a record takes it from the records that are left
-pub rows_left-read : (a b : Reader (Bor (List ℕ))) (fields : Fields) → IsPlain a → ReadRecord given a b true fields → rows_left a ≡ fields ∷ rows_left b
+pub rows_left-read : (a b : Reader (Bor (List ℕ))) (fields : Fields) → IsPlain a → ReadRecord given a b true fields
+    → rows_left a ≡ fields ∷ rows_left b
 rows_left-read a b fields plain read =
     let next = rw plain.config at read.0 in
     rw read.1 (row_read a.state b.state (source_of given a) (pending_of (given b.rdr) b) fields plain.known next)
 
 -- a read that finds no record leaves none
-pub rows_left-end : (a b : Reader (Bor (List ℕ))) (fields : Fields) → IsPlain a → ReadRecord given a b false fields → rows_left a ≡ []
+pub rows_left-end : (a b : Reader (Bor (List ℕ))) (fields : Fields) → IsPlain a → ReadRecord given a b false fields
+    → rows_left a ≡ []
 rows_left-end a b fields plain read =
     let next = rw plain.config at read.0 in
     row_ended a.state b.state (source_of given a) (pending_of (given b.rdr) b) fields plain.known next
@@ -154,6 +180,7 @@ pub rows_left-found : (a b : Reader (Bor (List ℕ))) (found : Bool) (fields : F
 rows_left-found a b true fields plain read = rows_left-read a b fields plain read
 rows_left-found a b false fields plain read = rows_left-end a b fields plain read
 
-pub rows_left-failed_read : (a b : Reader (Bor (List ℕ))) (found : Bool) (fields : Fields) → has_failed a ≡ true → found ≡ false → MatchBool found (rows_left a ≡ fields ∷ rows_left b) (rows_left a ≡ [])
+pub rows_left-failed_read : (a b : Reader (Bor (List ℕ))) (found : Bool) (fields : Fields) → has_failed a ≡ true → found ≡ false
+    → MatchBool found (rows_left a ≡ fields ∷ rows_left b) (rows_left a ≡ [])
 rows_left-failed_read a b true fields failed none = cc
 rows_left-failed_read a b false fields failed none = rows_left-failed a failed

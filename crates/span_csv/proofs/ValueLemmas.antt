@@ -1,5 +1,6 @@
 -- The sixteen values of a risk array, one after another.
-use Rattle.std.proofs.Common.{◌≡◌, ◌≢◌, ◌<◌, ◌+◌, ◌∙◌, sym, ap, arith, ℕ, List, [], length, length-drop, get_or, drop, map, ℤ, pos, get_or-set_other, get_or-set_same, below_more}
+use Rattle.std.proofs.Common.{◌≡◌, ◌≢◌, ◌<◌, ◌+◌, ◌∙◌, sym, ap, arith, ℕ, List, [], length}
+use Rattle.std.proofs.Common.{length-drop, get_or, drop, map, ℤ, pos, get_or-set_other, get_or-set_same, below_more}
 use Rattle.std.proofs.lemmas.List.{ext_get_or, get_or-map, get_or-drop}
 use Rattle.std.proofs.Math.ListN.{set, length-map}
 use Rattle.std.specs.Prelude.{unwrap_or}

@@ -1,12 +1,16 @@
 -- The faults of a parameter file's records.
-use Rattle.std.specs.Prelude.{ℕ, Bool, false, not, ◌&&◌, ◌==◌, List, [], ◌∷◌, length, drop, map, count_by, Option, Some, None, is_none, codes, bytes_eq, Result, true}
+use Rattle.std.specs.Prelude.{ℕ, Bool, false, not, ◌&&◌, ◌==◌, List, [], ◌∷◌, length, drop}
+use Rattle.std.specs.Prelude.{map, count_by, Option, Some, None, is_none, codes, bytes_eq, Result, true}
 use Rattle.std.specs.Option.{option_map_or}
 use Rattle.span_tables.specs.Faults.{first_that_holds, first_fault, ok_unless}
-use Rattle.span_csv.specs.Records.{Fields, records_of, Form, RecordKind, a_set, a_commodity, a_contract, a_tier, an_intra, a_spot, an_inter, kind_of, layout_of, text_at, is_word, all_have, has_word_form, has_number_form, is_in_range, param_record}
+use Rattle.span_csv.specs.Records.{Fields, records_of, Form, RecordKind, a_set, a_commodity, a_contract}
+use Rattle.span_csv.specs.Records.{a_tier, an_intra, a_spot, an_inter, kind_of, layout_of, text_at, is_word}
+use Rattle.span_csv.specs.Records.{all_have, has_word_form, has_number_form, is_in_range, param_record}
 use Rattle.span_tables.specs.declared.records.Record.{Record}
 use Rattle.span_csv.specs.declared.faults.ParamFault.{ParamFault}
 use Rattle.span_csv.specs.declared.faults.ParamFault.TheVariants as fault
-use Rattle.span_tables.specs.declared.limits.TheConstants.{MAX_COMMODITIES, MAX_CONTRACTS, MAX_TIERS, MAX_INTRA_SPREADS, MAX_SPOT_MONTHS, MAX_INTER_SPREADS}
+use Rattle.span_tables.specs.declared.limits.TheConstants.{MAX_COMMODITIES, MAX_CONTRACTS, MAX_TIERS}
+use Rattle.span_tables.specs.declared.limits.TheConstants.{MAX_INTRA_SPREADS, MAX_SPOT_MONTHS, MAX_INTER_SPREADS}
 
 -- the record is a SET
 abbrev pub is_set : Fields → Bool

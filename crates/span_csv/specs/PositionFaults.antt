@@ -2,7 +2,8 @@
 use Rattle.std.specs.Prelude.{ℕ, Bool, not, ◌&&◌, ◌==◌, List, [], ◌∷◌, length, map, Option, Result, true, false}
 use Rattle.span_tables.specs.Faults.{first_that_holds, first_fault, ok_unless}
 use Rattle.span_tables.specs.Names.{is_among, distinct}
-use Rattle.span_csv.specs.Records.{Fields, records_of, text_at, all_have, has_word_form, has_number_form, is_in_range, position_forms, position_record}
+use Rattle.span_csv.specs.Records.{Fields, records_of, text_at, all_have, has_word_form}
+use Rattle.span_csv.specs.Records.{has_number_form, is_in_range, position_forms, position_record}
 use Rattle.span_tables.specs.declared.records.PositionRecord.{PositionRecord}
 use Rattle.span_csv.specs.declared.faults.PositionFault.{PositionFault}
 use Rattle.span_csv.specs.declared.faults.PositionFault.TheVariants as fault

@@ -1,5 +1,7 @@
 -- The record grammar of both files: the records of a file's bytes, the forms of their fields, and what they say.
-use Rattle.std.specs.Prelude.{ℕ, ◌+◌, ◌-◌, ◌*◌, Bool, true, false, ◌&&◌, ◌||◌, ◌==◌, if◌then◌else◌, List, [], ◌∷◌, ◌++◌, length, drop, map, zip, Option, Some, None, is_some, unwrap_or, option_and_then, slice_index_or, codes, bytes_eq, ℤ, pos, neg_ℤ, int_le}
+use Rattle.std.specs.Prelude.{ℕ, ◌+◌, ◌-◌, ◌*◌, Bool, true, false, ◌&&◌, ◌||◌, ◌==◌}
+use Rattle.std.specs.Prelude.{if◌then◌else◌, List, [], ◌∷◌, ◌++◌, length, drop, map, zip, Option, Some, None}
+use Rattle.std.specs.Prelude.{is_some, unwrap_or, option_and_then, slice_index_or, codes, bytes_eq, ℤ, pos, neg_ℤ, int_le}
 use Rattle.std.specs.Char.{is_ascii_uppercase}
 use Rattle.std.specs.List.{list_all, repeat}
 use Rattle.std.specs.Option.{option_map_or}
@@ -24,7 +26,8 @@ use Rattle.span_tables.specs.declared.records.InterRecord.{InterRecord}
 use Rattle.span_tables.specs.declared.records.Record.{Record}
 use Rattle.span_tables.specs.declared.records.Record.TheVariants as record_of
 use Rattle.span_tables.specs.declared.records.PositionRecord.{PositionRecord}
-use Rattle.span_tables.specs.declared.limits.TheConstants.{MAX_RATE, MAX_ARRAY_VALUE, MAX_DELTA, MAX_SCALE, MAX_RATIO, MAX_TIER_NUMBER, MAX_PRIORITY, MAX_BASIS_POINTS, MAX_QUANTITY}
+use Rattle.span_tables.specs.declared.limits.TheConstants.{MAX_RATE, MAX_ARRAY_VALUE, MAX_DELTA, MAX_SCALE, MAX_RATIO}
+use Rattle.span_tables.specs.declared.limits.TheConstants.{MAX_TIER_NUMBER, MAX_PRIORITY, MAX_BASIS_POINTS, MAX_QUANTITY, SCENARIOS}
 
 -- the fields of a record, and of a field its bytes
 abbrev pub Fields : Type 0
@@ -139,7 +142,8 @@ commodity_forms = a_name ∷ a_rate ∷ a_method ∷ []
 -- of a CONTRACT those in front of its risk array, and that of a value
 abbrev pub contract_front : List Form
 contract_front =
-    a_name ∷ a_name ∷ a_product ∷ a_month ∷ a_decimal (neg_ℤ (pos MAX_DELTA)) (pos MAX_DELTA) ∷ a_decimal (pos 1) (pos MAX_SCALE) ∷ []
+    a_name ∷ a_name ∷ a_product ∷ a_month ∷ a_decimal (neg_ℤ (pos MAX_DELTA)) (pos MAX_DELTA)
+    ∷ a_decimal (pos 1) (pos MAX_SCALE) ∷ []
 
 abbrev pub an_array_value : Form
 an_array_value = a_whole (neg_ℤ (pos MAX_ARRAY_VALUE)) (pos MAX_ARRAY_VALUE)
@@ -167,7 +171,7 @@ inter_leg_forms = a_name ∷ a_side ∷ a_decimal (pos 1) (pos MAX_RATIO) ∷ []
 abbrev pub forms_of : RecordKind → ℕ → Option (List Form)
 forms_of a_set = exactly set_forms
 forms_of a_commodity = exactly commodity_forms
-forms_of a_contract = exactly (contract_front ++ repeat 16 (an_array_value ∷ []))
+forms_of a_contract = exactly (contract_front ++ repeat SCENARIOS (an_array_value ∷ []))
 forms_of a_tier = exactly tier_forms
 forms_of an_intra = with_legs intra_front intra_leg_forms
 forms_of a_spot = exactly spot_forms

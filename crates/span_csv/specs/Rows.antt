@@ -1,7 +1,8 @@
 -- The records of a file, as `csv` reads its bytes.
 use Rattle.std.specs.Prelude.{◌≡◌, ◌⊎◌, ℕ, ◌+◌, true, List, [], length, Option, Some, None, IsSome}
 use Rattle.std.specs.Borrow.{Bor}
-use Rattle.csv.specs.Reading.{records_from, default_config, source_of, Ready, has_failed, reader_config, reader_trim, reader_state, is_flexible}
+use Rattle.csv.specs.Reading.{records_from, default_config, source_of, Ready, has_failed}
+use Rattle.csv.specs.Reading.{reader_config, reader_trim, reader_state, is_flexible}
 use Rattle.span_csv.specs.Records.{Fields}
 use Rattle.csv.specs.declared.parser.State.{State}
 use Rattle.csv.specs.declared.reader.Reader.{Reader}

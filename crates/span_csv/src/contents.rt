@@ -2,7 +2,9 @@
 ghost use Rattle.std.specs.Prelude.{◌≡◌, ◌+◌, ◌<◌, ◌^◌, drop, length, map, pos, true, unwrap_or};
 ghost use Rattle.csv.specs.Records.{fields_of};
 ghost use Rattle.span_csv.specs.steps.Grammar.{HasForms, leg_at, record_kind};
-ghost use Rattle.span_csv.specs.Records.{a_commodity, a_contract, a_set, a_spot, a_tier, an_inter, an_intra, commodity_record, contract_record, count_at, inter_leg, inter_record, intra_leg, intra_record, legs_of, ratio_at, record_of_kind, set_record, spot_record, text_at, tier_record};
+ghost use Rattle.span_csv.specs.Records.{a_commodity, a_contract, a_set, a_spot, a_tier, an_inter, an_intra, commodity_record};
+ghost use Rattle.span_csv.specs.Records.{contract_record, count_at, inter_leg, inter_record, intra_leg, intra_record, legs_of};
+ghost use Rattle.span_csv.specs.Records.{ratio_at, record_of_kind, set_record, spot_record, text_at, tier_record};
 ghost use Rattle.span_money.specs.Numbers.{whole_number};
 ghost use Rattle.span_tables.specs.Names.{is_name};
 
@@ -13,6 +15,7 @@ use crate::fields::{
 use crate::grammar::Kind;
 use arrayvec::ArrayVec;
 use csv::ByteRecord;
+use span_tables::limits::SCENARIOS;
 use span_tables::records::{
     Commodity, Contract, InterLeg, InterRecord, IntraLeg, IntraRecord, Record, SetRecord, Spot,
     Tier,
@@ -39,13 +42,13 @@ fn commodity_record(row: &ByteRecord) -> Commodity
     }
 }
 
-// The sixteen values of a risk array.
-fn array_values(row: &ByteRecord) -> [i64; 16]
+// The values of a risk array.
+fn array_values(row: &ByteRecord) -> [i64; SCENARIOS]
     requires { length (fields_of row.now) ≡ 23 }
     ensures { result ≡ map (λ text. unwrap_or (whole_number text) (pos 0)) (drop 7 (fields_of row.now)) }
 {
-    let mut values = [0; 16];
-    for i in 0..16 {
+    let mut values = [0; SCENARIOS];
+    for i in 0..SCENARIOS {
         values[i] = whole_at(row, 7 + i);
     }
     values

@@ -4,7 +4,8 @@ ghost use Rattle.std.specs.List.{list_all};
 ghost use Rattle.std.specs.Prelude.{◌≡◌, ◌&&◌, ◌==◌, ◌+◌, IfSome, drop, length, map, option_map};
 ghost use Rattle.csv.specs.Records.{fields_of};
 ghost use Rattle.span_csv.specs.steps.Grammar.{form_of, record_kind, test_of};
-ghost use Rattle.span_csv.specs.Records.{all_have, exactly, forms_of, has_number_form, has_word_form, is_in_range, is_within, kind_named, text_at};
+ghost use Rattle.span_csv.specs.Records.{all_have, exactly, forms_of, has_number_form};
+ghost use Rattle.span_csv.specs.Records.{has_word_form, is_in_range, is_within, kind_named, text_at};
 
 use crate::rows::field;
 use csv::ByteRecord;

@@ -1,4 +1,5 @@
-//! Laws of the definitions of a parameter file, in the format's own words: each is the contract of a function that does nothing.
+//! Laws of the definitions of a parameter file, in the format's own words: each is the contract of a function that
+//! does nothing.
 ghost use Rattle.std.specs.Prelude.{◌≡◌, ◌∷◌, List, [], Some, None};
 ghost use Rattle.span_csv.specs.ParamFaults.{param_fault, param_faults};
 ghost use Rattle.span_csv.specs.Records.{Fields};

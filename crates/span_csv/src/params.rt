@@ -50,7 +50,8 @@ fn read_records(alloc: Global, bytes: &[u8]) -> Result<Vec<Record>, ParamFault>
     Ok(records)
 }
 
-/// The records of a parameter file, or the first record with a fault and its lowest-numbered fault.
+/// The records of a parameter file, or the first record with a fault and its lowest-numbered fault, of P1 to P8
+/// (docs/FORMATS.md, "Parameter file" and "Faults").
 pub fn read_params(alloc: Global, bytes: &[u8]) -> Result<RawTables, ParamFault>
     ensures { Gives is_memory result (params_of bytes.now) }
 {

@@ -1,11 +1,13 @@
 //! The reader of position files.
-ghost use Rattle.std.specs.Prelude.{◌≡◌, ◌++◌, ◌∷◌, [], ◌≤◌, ⊤, IfOk, MatchBool, MatchResult, OnOk, Ok, Err, Some, false, length, nat_abs, slice_get, true};
+ghost use Rattle.std.specs.Prelude.{◌≡◌, ◌++◌, ◌∷◌, [], ◌≤◌, ⊤, IfOk, MatchBool};
+ghost use Rattle.std.specs.Prelude.{MatchResult, OnOk, Ok, Err, Some, false, length, nat_abs, slice_get, true};
 ghost use Rattle.csv.specs.Records.{fields_of};
 ghost use Rattle.span_money.specs.Numbers.{whole_number};
 ghost use Rattle.span_csv.specs.PositionFaults.{is_memory, positions_of};
 ghost use Rattle.span_csv.specs.Records.{text_at};
 ghost use Rattle.span_csv.specs.declared.faults.PositionFault.TheVariants as fault;
-ghost use Rattle.span_csv.specs.steps.PositionReading.{is_one_too_many, is_quantity, next_position, quantity_alone, quantity_from, with_account};
+ghost use Rattle.span_csv.specs.steps.PositionReading.{is_one_too_many, is_quantity, next_position};
+ghost use Rattle.span_csv.specs.steps.PositionReading.{quantity_alone, quantity_from, with_account};
 ghost use Rattle.span_tables.specs.Gives.{Gives};
 ghost use Rattle.span_tables.specs.Names.{is_among, is_name};
 ghost use Rattle.span_tables.specs.Positions.{named_position, named_positions, AreNumbered};
@@ -139,7 +141,8 @@ fn next_position(
     })
 }
 
-/// The records of a position file, or the first record with a fault and its lowest-numbered fault.
+/// The records of a position file, or the first record with a fault and its lowest-numbered fault, of Q1 to Q5
+/// (docs/FORMATS.md, "Position file" and "Faults").
 pub fn read_positions(alloc: Global, bytes: &[u8]) -> Result<RawPositions, PositionFault>
     ensures { Gives is_memory result (positions_of bytes.now) }
 {

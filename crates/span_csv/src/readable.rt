@@ -1,10 +1,12 @@
-//! The law that a parameter file without a fault keeps what a set of raw tables wants: the contract of a function that does nothing.
+//! The law that a parameter file without a fault keeps what a set of raw tables wants: the contract of a function that
+//! does nothing.
 ghost use Rattle.std.specs.Prelude.{◌≡◌, ℕ, List, Ok, true};
 ghost use Rattle.span_csv.specs.ParamFaults.{params_of};
 ghost use Rattle.span_tables.specs.Limits.{is_readable};
 ghost use Rattle.span_tables.specs.declared.records.Record.{Record};
 
-/// The records of a parameter file without a fault begin with its one SET, are in their ranges, and are no more of a kind than there may be.
+/// The records of a parameter file without a fault begin with its one SET, are in their ranges, and are no more of a
+/// kind than there may be.
 pub fn accepted_files_are_readable()
     ensures { (bytes : List ℕ) (records : List Record) → params_of bytes ≡ Ok records
         → is_readable records ≡ true }

@@ -33,7 +33,8 @@ fn memory(_error: Error) -> AllocError {
 // The next record into `row`, and whether there was one.
 fn read_row(reader: &mut Reader<&[u8]>, row: &mut ByteRecord) -> Result<bool, AllocError>
     requires { CanRead reader.old }
-    ensures found { IfOk result (λ found. MatchBool found (rows_left reader.old ≡ fields_of row.new ∷ rows_left reader.new) (rows_left reader.old ≡ [])) }
+    ensures found { IfOk result (λ found. MatchBool found (rows_left reader.old ≡ fields_of row.new ∷ rows_left reader.new)
+        (rows_left reader.old ≡ [])) }
     ensures goes_on { CanRead reader.new }
 {
     match reader.read_byte_record(row) {

@@ -9,9 +9,11 @@ use Rattle.span_tables.specs.Laws.{IsFaultFree, IsFirstFault}
 module _ {A F : Type 0} (fault_of : List A → A → Option (ℕ → F)) where
   -- the answer where the first element's own fault is o
   abbrev answer_by : List A → A → List A → Option (ℕ → F) → Option F
-  answer_by before x xs o = option_or (option_map (λ fault. fault (length before + 1)) o) (first_fault_after fault_of (before ++ x ∷ []) xs)
+  answer_by before x xs o =
+      option_or (option_map (λ fault. fault (length before + 1)) o) (first_fault_after fault_of (before ++ x ∷ []) xs)
 
-  head_none : (before : List A) (x : A) (xs : List A) (o : Option (ℕ → F)) → fault_of before x ≡ o → answer_by before x xs o ≡ None
+  head_none : (before : List A) (x : A) (xs : List A) (o : Option (ℕ → F)) → fault_of before x ≡ o
+      → answer_by before x xs o ≡ None
       → (fault_of before x ≡ None) × (first_fault_after fault_of (before ++ x ∷ []) xs ≡ None)
   head_none before x xs None is e = (is, e)
   head_none before x xs (Some fault) is e = cc
@@ -42,7 +44,8 @@ module _ {A F : Type 0} (fault_of : List A → A → Option (ℕ → F)) where
     answers = subst (λ zs. y ≡ f.fault (length zs + 1)) (append_assoc before (x ∷ []) f.earlier) f.answers;
   }
 
-  head_some : (before : List A) (x : A) (xs : List A) (y : F) (o : Option (ℕ → F)) → fault_of before x ≡ o → answer_by before x xs o ≡ Some y
+  head_some : (before : List A) (x : A) (xs : List A) (y : F) (o : Option (ℕ → F)) → fault_of before x ≡ o
+      → answer_by before x xs o ≡ Some y
       → (first_fault_after fault_of (before ++ x ∷ []) xs ≡ Some y → IsFirstFault fault_of (before ++ x ∷ []) xs y)
       → IsFirstFault fault_of before (x ∷ xs) y
   head_some before x xs y None is e more = later_fault before x xs y is (more e)
@@ -58,6 +61,7 @@ module _ {A F : Type 0} (fault_of : List A → A → Option (ℕ → F)) where
   }
 
   -- an answer: it is that of the first element with a fault
-  pub first_fault_some : (before xs : List A) (y : F) → first_fault_after fault_of before xs ≡ Some y → IsFirstFault fault_of before xs y
+  pub first_fault_some : (before xs : List A) (y : F) → first_fault_after fault_of before xs ≡ Some y
+      → IsFirstFault fault_of before xs y
   first_fault_some before [] y e = cc
   first_fault_some before (x ∷ xs) y e = head_some before x xs y (fault_of before x) refl e (first_fault_some (before ++ x ∷ []) xs y)

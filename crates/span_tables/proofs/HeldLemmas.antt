@@ -1,17 +1,19 @@
 -- What an account holds of a commodity: holdings of contracts that there are, with their whole records, and within the limits.
-use Rattle.std.proofs.Common.{◌≡◌, ℕ, ℤ, suc, zero, ◌+◌, ◌<◌, ◌≤◌, Bool, true, false, cond, eqb, ltb, List, [], ◌∷◌, ◌++◌, length, length-append, map, filter, get_or, Option, Some, None, refl, sym, ap, ◌∙◌, subst, arith}
+use Rattle.std.proofs.Common.{◌≡◌, ℕ, ℤ, suc, zero, ◌+◌, ◌<◌, ◌≤◌, Bool, true, false}
+use Rattle.std.proofs.Common.{cond, eqb, ltb, List, [], ◌∷◌, ◌++◌, length, length-append, map}
+use Rattle.std.proofs.Common.{filter, get_or, Option, Some, None, refl, sym, ap, ◌∙◌, subst, arith}
 use Rattle.std.specs.Prelude.{◌&&◌, All, IfSome, bytes_eq, nat_abs, nat_lt, option_map, slice_get, unwrap_or}
 use Rattle.std.specs.List.{cons_option, list_all}
 use Rattle.std.proofs.lemmas.Bool.Decides.{nat_tests}
 use Rattle.std.proofs.lemmas.List.Elements.{All-nil, All-cons, All-head, All-tail, All-filter, All-push}
 use Rattle.span_tables.specs.Accepted.{IsContract, IsWithinLimits, commodity_id, commodity_number}
-use Rattle.span_tables.specs.Holdings.{AreHeld, ArePortfolio}
-use Rattle.span_tables.specs.Net.{HeldContract, held_of}
+use Rattle.span_tables.specs.Holdings.{AreHeld, AreHoldings, ArePortfolio}
+use Rattle.span_tables.specs.Net.{HeldContract, held_contracts, held_of}
 use Rattle.span_tables.specs.Tables.{AcceptedTables}
 use Rattle.span_tables.specs.declared.limits.TheConstants.{MAX_HELD, MAX_NET}
 use Rattle.span_tables.specs.declared.portfolios.Holding.{Holding}
 use Rattle.span_tables.specs.declared.records.Contract.{Contract}
-use Rattle.span_tables.specs.steps.Gathered.{AreHoldings, commodity_held, held_contracts, holdings_in}
+use Rattle.span_tables.specs.steps.Gathered.{commodity_held, holdings_in}
 use Rattle.span_tables.proofs.Places.{place_names}
 
 -- a number made of the element at k passes as the element does
@@ -39,7 +41,8 @@ and_true true b e = (refl, e)
 and_true false b e = cc
 
 -- each is of a contract that there is
-pub all_known : (contracts : ℕ) (hs : List Holding) → list_all (λ h. nat_lt h.contract contracts) hs ≡ true → All (λ h. h.contract < contracts) hs
+pub all_known : (contracts : ℕ) (hs : List Holding) → list_all (λ h. nat_lt h.contract contracts) hs ≡ true
+    → All (λ h. h.contract < contracts) hs
 all_known contracts [] all = All-nil (λ h. h.contract < contracts)
 all_known contracts (h ∷ hs) all =
     let e = and_true _ _ all in
@@ -91,7 +94,9 @@ module _ (contracts : List Contract) where
   held_at (g ∷ hs) zero h x known lt at is =
       let below : g.contract < length contracts = All-head IsKnown g hs known in
       let same : g ≡ h = sym at in
-      let got : slice_get contracts g.contract ≡ Some x = subst (λ (k : Holding). slice_get contracts k.contract ≡ Some x) (sym same) (get_some contracts h.contract x (subst IsKnown same below) is) in
+      let got : slice_get contracts g.contract ≡ Some x =
+      subst (λ (k : Holding). slice_get contracts k.contract ≡ Some x) (sym same)
+      (get_some contracts h.contract x (subst IsKnown same below) is) in
       ap (λ (hs : List HeldContract). slice_get hs 0) (held_next g hs x got)
       ∙ ap (λ (k : Holding). (let c : HeldContract = record { contract = x; net = k.net } in Some c)) same
   held_at (g ∷ hs) (suc i) h x known lt at is =
@@ -123,14 +128,17 @@ module _ (contracts : List Contract) where
 
   -- ---- what a reader of held contracts tells; ks are the held contracts
 
-  pub held_len : (hs : List Holding) (ks : List HeldContract) → held_contracts contracts hs ≡ ks → AreHoldings contracts hs → length hs ≡ length ks
+  pub held_len : (hs : List Holding) (ks : List HeldContract) → held_contracts contracts hs ≡ ks → AreHoldings contracts hs
+      → length hs ≡ length ks
   held_len hs ks same are = sym (length_held hs are.known) ∙ ap length same
 
-  module _ (hs : List Holding) (ks : List HeldContract) (same : held_contracts contracts hs ≡ ks) (are : AreHoldings contracts hs) (place : ℕ) (within : place < length ks) where
+  module _ (hs : List Holding) (ks : List HeldContract) (same : held_contracts contracts hs ≡ ks) (are : AreHoldings contracts hs)
+      (place : ℕ) (within : place < length ks) where
     inside : place < length hs
     inside = let long = held_len hs ks same are in omega (arith, long, within)
 
-    at_place : (h : Holding) (x : Contract) → h ≡ get_or hs place h → x ≡ get_or contracts h.contract x → slice_get ks place ≡ Some (record { contract = x; net = h.net })
+    at_place : (h : Holding) (x : Contract) → h ≡ get_or hs place h → x ≡ get_or contracts h.contract x
+        → slice_get ks place ≡ Some (record { contract = x; net = h.net })
     at_place h x at is = ap (λ (zs : List HeldContract). slice_get zs place) (sym same) ∙ held_at hs place h x are.known inside at is
 
     pub place_known : (h : Holding) → h ≡ get_or hs place h → h.contract < length contracts
@@ -147,7 +155,8 @@ module _ (contracts : List Contract) where
     pub net_told : (h : Holding) → h ≡ get_or hs place h → IfSome (slice_get ks place) (λ held. h.net ≡ held.net)
     net_told h at =
         let x = there contracts h.contract (place_known h at) in
-        subst (λ (o : Option HeldContract). IfSome o (λ held. h.net ≡ held.net)) (sym (at_place h x.0 at (found contracts h.contract x.0 x.1))) refl
+        subst (λ (o : Option HeldContract). IfSome o (λ held. h.net ≡ held.net))
+        (sym (at_place h x.0 at (found contracts h.contract x.0 x.1))) refl
 
     pub net_kept : (h : Holding) → h ≡ get_or hs place h → nat_abs h.net ≤ MAX_NET
     net_kept h at = subst (λ (k : Holding). nat_abs k.net ≤ MAX_NET) (sym at) (are.nets place h inside)
@@ -166,15 +175,18 @@ module _ (contracts : List Contract) where
   if_none true h hs ks next same = next ∙ same
   if_none false h hs ks next same = same
 
-  next_kept : (commodity : List ℕ) (o : Option Contract) (h : Holding) (hs : List Holding) (ks : List HeldContract) → slice_get contracts h.contract ≡ o
+  next_kept : (commodity : List ℕ) (o : Option Contract) (h : Holding) (hs : List Holding) (ks : List HeldContract)
+      → slice_get contracts h.contract ≡ o
       → held_contracts contracts hs ≡ filter (λ k. bytes_eq (k.contract).commodity commodity) ks
       → held_contracts contracts (cond (bytes_eq (unwrap_or (option_map (λ x. x.commodity) o) []) commodity) (h ∷ hs) hs)
-      ≡ filter (λ k. bytes_eq (k.contract).commodity commodity) (cons_option (option_map (λ x. record { contract = x; net = h.net }) o) ks)
+      ≡ filter (λ k. bytes_eq (k.contract).commodity commodity)
+      (cons_option (option_map (λ x. record { contract = x; net = h.net }) o) ks)
   next_kept commodity None h hs ks is same = if_none (bytes_eq [] commodity) h hs _ (rw is refl) same
   next_kept commodity (Some x) h hs ks is same = if_kept (bytes_eq x.commodity commodity) h _ hs _ (held_next h hs x is) same
 
   -- the holdings of a commodity are what is held of it
-  pub held_in : (hs : List Holding) (commodity : List ℕ) → held_contracts contracts (holdings_in contracts hs commodity) ≡ held_of contracts hs commodity
+  pub held_in : (hs : List Holding) (commodity : List ℕ)
+      → held_contracts contracts (holdings_in contracts hs commodity) ≡ held_of contracts hs commodity
   unfolding held_of
   held_in [] commodity = refl
   held_in (h ∷ hs) commodity = next_kept commodity (slice_get contracts h.contract) h _ _ refl (held_in hs commodity)
@@ -189,7 +201,8 @@ few_in p (h ∷ hs) = few_if (p h) h (filter p hs) (length hs) (few_in p hs)
 
 -- the holdings of a commodity are within the limits
 pub are_holdings : (t : AcceptedTables) (hs : List Holding) (commodity : List ℕ) → IsWithinLimits t → ArePortfolio hs
-    → list_all (λ h. nat_lt h.contract (length t.contracts)) hs ≡ true → AreHoldings t.contracts (holdings_in t.contracts hs commodity)
+    → list_all (λ h. nat_lt h.contract (length t.contracts)) hs ≡ true
+    → AreHoldings t.contracts (holdings_in t.contracts hs commodity)
 are_holdings t hs commodity limits portfolio all =
     let test : Holding → Bool = λ h. bytes_eq (commodity_held t.contracts h) commodity in
     record {
@@ -216,6 +229,8 @@ AreHoldings-push xs hs x h are few net at is =
     record {
       few = omega (arith, few, longer);
       nets = All-push (λ g. nat_abs g.net ≤ MAX_NET) hs h are.nets net;
-      known = All-push (λ g. g.contract < length (xs ++ x ∷ [])) hs h (λ k d lt. let below = are.known k d lt in omega (arith, long, below)) (omega (arith, long, at));
+      known =
+          All-push (λ g. g.contract < length (xs ++ x ∷ [])) hs h (λ k d lt. let below = are.known k d lt in omega (arith, long, below))
+          (omega (arith, long, at));
       in_range = All-push IsContract xs x are.in_range is;
     }

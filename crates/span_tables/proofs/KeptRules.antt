@@ -1,5 +1,6 @@
 -- Records that keep a rule: no record breaks it, and what that says of the records of each kind.
-use Rattle.std.proofs.Common.{◌≡◌, ℕ, ◌+◌, Bool, true, false, List, [], ◌∷◌, ◌++◌, length, Option, Some, None, refl, ap, ◌∙◌, subst}
+use Rattle.std.proofs.Common.{◌≡◌, ℕ, ◌+◌, Bool, true, false, List, [], ◌∷◌}
+use Rattle.std.proofs.Common.{◌++◌, length, Option, Some, None, refl, ap, ◌∙◌, subst}
 use Rattle.std.specs.Prelude.{All, MatchOption, filter_map, is_none, if◌then◌else◌, option_map, ◌||◌, ◌&&◌}
 use Rattle.std.specs.List.{AllByRecursion, cons_option, list_all, list_any}
 use Rattle.std.specs.Option.{option_or}
@@ -20,22 +21,27 @@ abbrev pub Unbroken : (List Record → Record → Bool) → List Record → List
 Unbroken breaks earlier [] = Unit {0}
 Unbroken breaks earlier (r ∷ rs) = (breaks earlier r ≡ false) × Unbroken breaks (earlier ++ r ∷ []) rs
 
-free_head : (b : Bool) (n : ℕ) (rest : Option ℕ) → option_or (option_map (λ (f : ℕ → ℕ). f n) (if b then Some (λ (at : ℕ). at) else None)) rest ≡ None → (b ≡ false) × (rest ≡ None)
+free_head : (b : Bool) (n : ℕ) (rest : Option ℕ)
+    → option_or (option_map (λ (f : ℕ → ℕ). f n) (if b then Some (λ (at : ℕ). at) else None)) rest ≡ None
+    → (b ≡ false) × (rest ≡ None)
 free_head true n rest e = cc
 free_head false n rest e = (refl, e)
 
 unbroken_behind : (breaks : List Record → Record → Bool) (before rs : List Record)
-    → first_fault_after (λ earlier r. if breaks earlier r then Some (λ (at : ℕ). at) else None) before rs ≡ None → Unbroken breaks before rs
+    → first_fault_after (λ earlier r. if breaks earlier r then Some (λ (at : ℕ). at) else None) before rs ≡ None
+    → Unbroken breaks before rs
 unbroken_behind breaks before [] e = tt
 unbroken_behind breaks before (r ∷ rs) e =
-    let h = free_head (breaks before r) (length before + 1) (first_fault_after (λ earlier x. if breaks earlier x then Some (λ (at : ℕ). at) else None) (before ++ r ∷ []) rs) e in
+    let h = free_head (breaks before r) (length before + 1)
+    (first_fault_after (λ earlier x. if breaks earlier x then Some (λ (at : ℕ). at) else None) (before ++ r ∷ []) rs) e in
     (h.0, unbroken_behind breaks (before ++ r ∷ []) rs h.1)
 
 none_is : (o : Option ℕ) → is_none o ≡ true → o ≡ None
 none_is None e = refl
 none_is (Some x) e = cc
 
-rule_kept : (breaks : List Record → Record → Bool) (all : List Record) → is_none (first_breaking (λ at. at) breaks all) ≡ true → Unbroken breaks [] all
+rule_kept : (breaks : List Record → Record → Bool) (all : List Record) → is_none (first_breaking (λ at. at) breaks all) ≡ true
+    → Unbroken breaks [] all
 rule_kept breaks all e = unbroken_behind breaks [] all (none_is (first_breaking (λ (at : ℕ). at) breaks all) e)
 
 -- each of some rules is kept
@@ -43,10 +49,12 @@ abbrev pub Kept : List Record → List (List Record → Record → Bool) → Typ
 Kept all [] = Unit {0}
 Kept all (breaks ∷ rest) = Unbroken breaks [] all × Kept all rest
 
-each_kept : (all : List Record) (tests : List (List Record → Record → Bool)) → list_all (λ breaks. is_none (first_breaking (λ (at : ℕ). at) breaks all)) tests ≡ true → Kept all tests
+each_kept : (all : List Record) (tests : List (List Record → Record → Bool))
+    → list_all (λ breaks. is_none (first_breaking (λ (at : ℕ). at) breaks all)) tests ≡ true → Kept all tests
 each_kept all [] e = tt
 each_kept all (breaks ∷ rest) e =
-    let h = and_true (is_none (first_breaking (λ (at : ℕ). at) breaks all)) (list_all (λ b. is_none (first_breaking (λ (at : ℕ). at) b all)) rest) e in
+    let h = and_true (is_none (first_breaking (λ (at : ℕ). at) breaks all))
+    (list_all (λ b. is_none (first_breaking (λ (at : ℕ). at) b all)) rest) e in
     (rule_kept breaks all h.0, each_kept all rest h.1)
 
 -- records that keep the rules keep each
@@ -55,16 +63,19 @@ unfolding keeps_rules
 all_kept all e = each_kept all (rules all) e
 
 -- a rule that looks at no earlier record
-pub of_each : (breaks : Record → Bool) (before rs : List Record) → Unbroken (λ earlier r. breaks r) before rs → AllByRecursion (λ r. breaks r ≡ false) rs
+pub of_each : (breaks : Record → Bool) (before rs : List Record) → Unbroken (λ earlier r. breaks r) before rs
+    → AllByRecursion (λ r. breaks r ≡ false) rs
 of_each breaks before [] u = tt
 of_each breaks before (r ∷ rs) u = (u.0, of_each breaks (before ++ r ∷ []) rs u.1)
 
-next_of : {Y : Type 0} (P : Y → Type 0) (o : Option Y) (ys : List Y) → MatchOption o (Unit {0}) P → All P ys → All P (cons_option o ys)
+next_of : {Y : Type 0} (P : Y → Type 0) (o : Option Y) (ys : List Y) → MatchOption o (Unit {0}) P → All P ys
+    → All P (cons_option o ys)
 next_of P None ys p more = more
 next_of P (Some y) ys p more = All-cons P y ys p more
 
 -- what each record says of those of a kind
-pub of_kind : {Y : Type 0} (h : Record → Option Y) (P : Y → Type 0) (Q : Record → Type 0) → ((r : Record) → Q r → MatchOption (h r) (Unit {0}) P)
+pub of_kind : {Y : Type 0} (h : Record → Option Y) (P : Y → Type 0) (Q : Record → Type 0)
+    → ((r : Record) → Q r → MatchOption (h r) (Unit {0}) P)
     → (rs : List Record) → AllByRecursion Q rs → All P (filter_map h rs)
 of_kind h P Q each [] all = All-nil P
 of_kind h P Q each (r ∷ rs) all = next_of P (h r) (filter_map h rs) (each r all.0) (of_kind h P Q each rs all.1)
@@ -90,16 +101,20 @@ module _ {Y : Type 0} (h : Record → Option Y) (alike : Y → Y → Bool) where
   abbrev AreApart : List Record → List Y → Type 0
   AreApart before ys = All (λ z. list_any (alike z) ys ≡ false) (filter_map h before) × (has_repeat alike ys ≡ false)
 
-  apart_next : (o : Option Y) (before : List Record) (r : Record) (ys : List Y) → h r ≡ o → repeats before r ≡ false → AreApart (before ++ r ∷ []) ys → AreApart before (cons_option o ys)
+  apart_next : (o : Option Y) (before : List Record) (r : Record) (ys : List Y) → h r ≡ o → repeats before r ≡ false
+      → AreApart (before ++ r ∷ []) ys → AreApart before (cons_option o ys)
   apart_next None before r ys is free more =
       let same : filter_map h (before ++ r ∷ []) ≡ filter_map h before =
-      filter_map-append h before (r ∷ []) ∙ ap (λ o. filter_map h before ++ cons_option o []) is ∙ append-nil (filter_map h before) in
+      filter_map-append h before (r ∷ []) ∙ ap (λ o. filter_map h before ++ cons_option o []) is
+      ∙ append-nil (filter_map h before) in
       (subst (λ zs. All (λ z. list_any (alike z) ys ≡ false) zs) same more.0, more.1)
   apart_next (Some y) before r ys is free more =
       let same : filter_map h (before ++ r ∷ []) ≡ filter_map h before ++ y ∷ [] =
       filter_map-append h before (r ∷ []) ∙ ap (λ o. filter_map h before ++ cons_option o []) is in
-      let split = pushed_all (λ z. list_any (alike z) ys ≡ false) (filter_map h before) y (subst (λ zs. All (λ z. list_any (alike z) ys ≡ false) zs) same more.0) in
-      let other : list_any (λ z. alike z y) (filter_map h before) ≡ false = subst (λ o. is_and o (λ y. list_any (λ z. alike z y) (filter_map h before)) ≡ false) is free in
+      let split = pushed_all (λ z. list_any (alike z) ys ≡ false) (filter_map h before) y
+      (subst (λ zs. All (λ z. list_any (alike z) ys ≡ false) zs) same more.0) in
+      let other : list_any (λ z. alike z y) (filter_map h before) ≡ false =
+      subst (λ o. is_and o (λ y. list_any (λ z. alike z y) (filter_map h before)) ≡ false) is free in
       let none = none_any (λ z. alike z y) (filter_map h before) other in
       (λ k d lt. both_false _ _ (none k d lt) (split.0 k d lt), both_false _ _ split.1 more.1)
 

@@ -9,7 +9,9 @@ cons_none None = refl
 cons_none (Some x) = refl
 
 -- one more record adds what it is
-pub one_more : {X Y : Type 0} (h : X → Option Y) (xs : List X) (x : X) (ys zs : List Y) → ys ≡ filter_map h xs → zs ≡ ys ++ option_to_list (h x)
+pub one_more : {X Y : Type 0} (h : X → Option Y) (xs : List X) (x : X) (ys zs : List Y) → ys ≡ filter_map h xs
+    → zs ≡ ys ++ option_to_list (h x)
     → zs ≡ filter_map h (xs ++ x ∷ [])
 one_more h xs x ys zs is more =
-    more ∙ ap (λ ws. ws ++ option_to_list (h x)) is ∙ ap (λ ws. filter_map h xs ++ ws) (sym (cons_none (h x))) ∙ sym (filter_map-append h xs (x ∷ []))
+    more ∙ ap (λ ws. ws ++ option_to_list (h x)) is ∙ ap (λ ws. filter_map h xs ++ ws) (sym (cons_none (h x)))
+    ∙ sym (filter_map-append h xs (x ∷ []))

@@ -1,12 +1,14 @@
 -- Each commodity that a record names is one of the file.
-use Rattle.std.proofs.Common.{◌≡◌, ℕ, suc, ◌+◌, ◌<◌, Bool, true, false, cond, eqb, ltb, not, List, [], ◌∷◌, length, map, refl, ap, ◌∙◌, arith}
+use Rattle.std.proofs.Common.{◌≡◌, ℕ, suc, ◌+◌, ◌<◌, Bool, true, false, cond, eqb}
+use Rattle.std.proofs.Common.{ltb, not, List, [], ◌∷◌, length, map, refl, ap, ◌∙◌, arith}
 use Rattle.std.specs.Prelude.{All, MatchOption, ◌||◌, ◌==◌, bytes_eq, filter_map}
 use Rattle.std.specs.List.{AllByRecursion, list_any}
 use Rattle.std.proofs.lemmas.Bool.Decides.{nat_tests}
 use Rattle.std.proofs.lemmas.List.Elements.{All-nil, All-cons, All-head, All-tail}
 use Rattle.span_tables.specs.Accepted.{commodity_number}
 use Rattle.span_tables.specs.Names.{has_repeat}
-use Rattle.span_tables.specs.Rules.{as_contract, as_inter, as_intra, as_spot, as_tier, commodities_in, named_commodities, names_no_commodity, repeats_leg}
+use Rattle.span_tables.specs.Rules.{as_contract, as_inter, as_intra, as_spot, as_tier, commodities_in}
+use Rattle.span_tables.specs.Rules.{named_commodities, names_no_commodity, repeats_leg}
 use Rattle.span_tables.specs.Tables.{commodity_leg}
 use Rattle.span_tables.specs.declared.records.Commodity.{Commodity}
 use Rattle.span_tables.specs.declared.records.CommodityLeg.{CommodityLeg}
@@ -35,13 +37,15 @@ known_name : (cs : List Commodity) (name : List ℕ) → list_any (λ c. bytes_e
 known_name [] name e = cc
 known_name (c ∷ cs) name e =
     known_if (bytes_eq c.id name) (commodity_number cs name) (length cs)
-    (step_any (bytes_eq c.id name) (list_any (λ d. bytes_eq d.id name) cs) (ltb (commodity_number cs name) (length cs)) (λ more. within_true _ _ (known_name cs name more)) e)
+    (step_any (bytes_eq c.id name) (list_any (λ d. bytes_eq d.id name) cs) (ltb (commodity_number cs name) (length cs))
+    (λ more. within_true _ _ (known_name cs name more)) e)
 
 not_false : (b : Bool) → not b ≡ false → b ≡ true
 not_false true e = refl
 not_false false e = cc
 
-names_known : (cs : List Commodity) (names : List (List ℕ)) → list_any (λ name. not (list_any (λ c. bytes_eq c.id name) cs)) names ≡ false → All (IsKnown cs) names
+names_known : (cs : List Commodity) (names : List (List ℕ))
+    → list_any (λ name. not (list_any (λ c. bytes_eq c.id name) cs)) names ≡ false → All (IsKnown cs) names
 names_known cs [] e = All-nil (IsKnown cs)
 names_known cs (name ∷ names) e =
     let h = or_false (not (list_any (λ c. bytes_eq c.id name) cs)) (list_any (λ n. not (list_any (λ c. bytes_eq c.id n) cs)) names) e in
@@ -68,39 +72,47 @@ module _ (cs : List Commodity) where
   spot_known (record_of.Spot x) k = All-head (IsKnown cs) x.commodity [] k
   spot_known _ k = tt
 
-  legs_known : (legs : List InterLeg) → All (IsKnown cs) (map (λ leg. leg.commodity) legs) → All (λ leg. IsKnown cs leg.commodity) legs
+  legs_known : (legs : List InterLeg) → All (IsKnown cs) (map (λ leg. leg.commodity) legs)
+      → All (λ leg. IsKnown cs leg.commodity) legs
   legs_known [] k = All-nil (λ (leg : InterLeg). IsKnown cs leg.commodity)
   legs_known (leg ∷ legs) k =
-      All-cons (λ (l : InterLeg). IsKnown cs l.commodity) leg legs (All-head (IsKnown cs) leg.commodity (map (λ (l : InterLeg). l.commodity) legs) k)
+      All-cons (λ (l : InterLeg). IsKnown cs l.commodity) leg legs
+      (All-head (IsKnown cs) leg.commodity (map (λ (l : InterLeg). l.commodity) legs) k)
       (legs_known legs (All-tail (IsKnown cs) leg.commodity (map (λ (l : InterLeg). l.commodity) legs) k))
 
-  inter_known : (r : Record) → NamesKnown cs r → MatchOption (as_inter r) (Unit {0}) (λ x. All (λ leg. IsKnown cs leg.commodity) x.legs.items)
+  inter_known : (r : Record) → NamesKnown cs r
+      → MatchOption (as_inter r) (Unit {0}) (λ x. All (λ leg. IsKnown cs leg.commodity) x.legs.items)
   inter_known (record_of.Inter x) k = legs_known x.legs.items k
   inter_known _ k = tt
 
-  pub contracts_known : (rs : List Record) → AllByRecursion (NamesKnown cs) rs → All (λ x. IsKnown cs x.commodity) (filter_map as_contract rs)
+  pub contracts_known : (rs : List Record) → AllByRecursion (NamesKnown cs) rs
+      → All (λ x. IsKnown cs x.commodity) (filter_map as_contract rs)
   contracts_known = of_kind as_contract _ (NamesKnown cs) contract_known
 
   pub tiers_known : (rs : List Record) → AllByRecursion (NamesKnown cs) rs → All (λ x. IsKnown cs x.commodity) (filter_map as_tier rs)
   tiers_known = of_kind as_tier _ (NamesKnown cs) tier_known
 
-  pub intras_known : (rs : List Record) → AllByRecursion (NamesKnown cs) rs → All (λ x. IsKnown cs x.commodity) (filter_map as_intra rs)
+  pub intras_known : (rs : List Record) → AllByRecursion (NamesKnown cs) rs
+      → All (λ x. IsKnown cs x.commodity) (filter_map as_intra rs)
   intras_known = of_kind as_intra _ (NamesKnown cs) intra_known
 
   pub spots_known : (rs : List Record) → AllByRecursion (NamesKnown cs) rs → All (λ x. IsKnown cs x.commodity) (filter_map as_spot rs)
   spots_known = of_kind as_spot _ (NamesKnown cs) spot_known
 
-  pub inters_known : (rs : List Record) → AllByRecursion (NamesKnown cs) rs → All (λ x. All (λ leg. IsKnown cs leg.commodity) x.legs.items) (filter_map as_inter rs)
+  pub inters_known : (rs : List Record) → AllByRecursion (NamesKnown cs) rs
+      → All (λ x. All (λ leg. IsKnown cs leg.commodity) x.legs.items) (filter_map as_inter rs)
   inters_known = of_kind as_inter _ (NamesKnown cs) inter_known
 
 -- where no record names a commodity that there is not, each names known ones
-pub all_known : (all rs : List Record) → AllByRecursion (λ r. names_no_commodity all r ≡ false) rs → AllByRecursion (NamesKnown (commodities_in all)) rs
+pub all_known : (all rs : List Record) → AllByRecursion (λ r. names_no_commodity all r ≡ false) rs
+    → AllByRecursion (NamesKnown (commodities_in all)) rs
 all_known all [] u = tt
 all_known all (r ∷ rs) u = (names_known (commodities_in all) (named_commodities r) u.0, all_known all rs u.1)
 
 -- ---- two legs of one commodity
 
-legs_apart_each : (r : Record) → repeats_leg r ≡ false → MatchOption (as_inter r) (Unit {0}) (λ s. has_repeat (λ a b. bytes_eq a.commodity b.commodity) s.legs.items ≡ false)
+legs_apart_each : (r : Record) → repeats_leg r ≡ false
+    → MatchOption (as_inter r) (Unit {0}) (λ s. has_repeat (λ a b. bytes_eq a.commodity b.commodity) s.legs.items ≡ false)
 legs_apart_each (record_of.Inter s) e = e
 legs_apart_each _ e = tt
 
@@ -109,15 +121,18 @@ pub inters_apart : (rs : List Record) → AllByRecursion (λ r. repeats_leg r �
 inters_apart = of_kind as_inter _ (λ r. repeats_leg r ≡ false) legs_apart_each
 
 -- known names have one place where they are one
-same_place : (cs : List Commodity) (a b : List ℕ) → has_repeat (λ c d. bytes_eq c.id d.id) cs ≡ false → IsKnown cs b → eqb (commodity_number cs a) (commodity_number cs b) ≡ bytes_eq a b
+same_place : (cs : List Commodity) (a b : List ℕ) → has_repeat (λ c d. bytes_eq c.id d.id) cs ≡ false → IsKnown cs b
+    → eqb (commodity_number cs a) (commodity_number cs b) ≡ bytes_eq a b
 same_place [] a b apart known = absurd (omega arith)
 same_place (c ∷ cs) a b apart known =
     place_names (λ (d : Commodity). d.id) (c ∷ cs) a (commodity_number (c ∷ cs) b) apart known
-    ∙ ap (bytes_eq a) (name_at (λ (d : Commodity). d.id) (c ∷ cs) (commodity_number (c ∷ cs) b) c known ∙ place_key (λ (d : Commodity). d.id) (c ∷ cs) b c known)
+    ∙ ap (bytes_eq a) (name_at (λ (d : Commodity). d.id) (c ∷ cs) (commodity_number (c ∷ cs) b) c known
+    ∙ place_key (λ (d : Commodity). d.id) (c ∷ cs) b c known)
 
 module _ (cs : List Commodity) (apart : has_repeat (λ c d. bytes_eq c.id d.id) cs ≡ false) where
   any_same : (a : InterLeg) (legs : List InterLeg) → All (λ leg. IsKnown cs leg.commodity) legs
-      → list_any (λ (b : CommodityLeg). (commodity_number cs a.commodity) == b.commodity) (map (commodity_leg cs) legs) ≡ list_any (λ b. bytes_eq a.commodity b.commodity) legs
+      → list_any (λ (b : CommodityLeg). (commodity_number cs a.commodity) == b.commodity) (map (commodity_leg cs) legs)
+      ≡ list_any (λ b. bytes_eq a.commodity b.commodity) legs
   any_same a [] k = refl
   any_same a (b ∷ legs) k =
       let here = same_place cs a.commodity b.commodity apart (All-head (λ (leg : InterLeg). IsKnown cs leg.commodity) b legs k) in
@@ -126,7 +141,8 @@ module _ (cs : List Commodity) (apart : has_repeat (λ c d. bytes_eq c.id d.id) 
 
   -- so legs of commodities apart have numbers apart
   pub legs_apart : (legs : List InterLeg) → All (λ leg. IsKnown cs leg.commodity) legs
-      → has_repeat (λ (a b : CommodityLeg). a.commodity == b.commodity) (map (commodity_leg cs) legs) ≡ has_repeat (λ a b. bytes_eq a.commodity b.commodity) legs
+      → has_repeat (λ (a b : CommodityLeg). a.commodity == b.commodity) (map (commodity_leg cs) legs)
+      ≡ has_repeat (λ a b. bytes_eq a.commodity b.commodity) legs
   legs_apart [] k = refl
   legs_apart (a ∷ legs) k =
       let here = any_same a legs (All-tail (λ (leg : InterLeg). IsKnown cs leg.commodity) a legs k) in

@@ -22,7 +22,8 @@ legs_within : (word : Side → ℕ) (t : Side) (legs : List CommodityLeg) (other
     → Within (word t) (fold (λ w leg. cond (same_side leg.side t) (with_slot w leg.commodity) w) other legs)
 legs_within word t [] other within marked = within
 legs_within word t (leg ∷ legs) other within marked =
-    legs_within word t legs _ (leg_within word leg.side t other leg.commodity within (marked 0 leg (omega arith))) (λ k d lt. marked (suc k) d (omega arith))
+    legs_within word t legs _ (leg_within word leg.side t other leg.commodity within (marked 0 leg (omega arith)))
+    (λ k d lt. marked (suc k) d (omega arith))
 
 -- all slots of the legs on a side
 pub legs_marked : (word : Side → ℕ) (t : Side) (legs : List CommodityLeg) → All (λ leg. IsMarked (word leg.side) leg.commodity) legs

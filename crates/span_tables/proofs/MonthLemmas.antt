@@ -1,5 +1,6 @@
 -- A spread's tiers are found among those of its commodity.
-use Rattle.std.proofs.Common.{◌≡◌, ℕ, ◌<◌, Bool, true, false, cond, List, [], ◌∷◌, length, map, filter, get_or, refl, sym, ap, ◌∙◌, subst, arith}
+use Rattle.std.proofs.Common.{◌≡◌, ℕ, ◌<◌, Bool, true, false, cond, List, [], ◌∷◌}
+use Rattle.std.proofs.Common.{length, map, filter, get_or, refl, sym, ap, ◌∙◌, subst, arith}
 use Rattle.std.specs.Prelude.{◌&&◌, ◌==◌, bytes_eq, find}
 use Rattle.span_tables.specs.Accepted.{commodity_number}
 use Rattle.span_tables.specs.Tables.{intra_spread, month_leg}
@@ -12,7 +13,8 @@ use Rattle.span_tables.specs.declared.records.Tier.{Tier}
 use Rattle.span_tables.proofs.GroupLemmas.{at_map, lengths}
 use Rattle.span_tables.proofs.Places.{place_key}
 
-find_if : {X : Type 0} (b : Bool) (p q : X → Bool) (x : X) (xs : List X) → q x ≡ b → find (λ y. q y && p y) (filter q xs) ≡ find (λ y. q y && p y) xs
+find_if : {X : Type 0} (b : Bool) (p q : X → Bool) (x : X) (xs : List X) → q x ≡ b
+    → find (λ y. q y && p y) (filter q xs) ≡ find (λ y. q y && p y) xs
     → find (λ y. q y && p y) (cond b (x ∷ filter q xs) (filter q xs)) ≡ find (λ y. q y && p y) (x ∷ xs)
 find_if true p q x xs is more = rw is (rw more refl)
 find_if false p q x xs is more = rw is more
@@ -26,25 +28,34 @@ map_agree : {X Y : Type 0} (f g : X → Y) → ((x : X) → f x ≡ g x) → (xs
 map_agree f g same [] = refl
 map_agree f g same (x ∷ xs) = let rest = map_agree f g same xs in λ i. same x i ∷ rest i
 
-same_leg : (tiers : List Tier) (commodity : List ℕ) (leg : IntraLeg) → month_leg (filter (λ t. bytes_eq t.commodity commodity) tiers) commodity leg ≡ month_leg tiers commodity leg
-same_leg tiers commodity leg = rw (find_kept (λ (t : Tier). t.number == leg.tier) (λ (t : Tier). bytes_eq t.commodity commodity) tiers) refl
+same_leg : (tiers : List Tier) (commodity : List ℕ) (leg : IntraLeg)
+    → month_leg (filter (λ t. bytes_eq t.commodity commodity) tiers) commodity leg ≡ month_leg tiers commodity leg
+same_leg tiers commodity leg =
+    rw (find_kept (λ (t : Tier). t.number == leg.tier) (λ (t : Tier). bytes_eq t.commodity commodity) tiers) refl
 
-same_spread : (tiers : List Tier) (s : IntraRecord) → intra_spread (filter (λ t. bytes_eq t.commodity s.commodity) tiers) s ≡ intra_spread tiers s
+same_spread : (tiers : List Tier) (s : IntraRecord)
+    → intra_spread (filter (λ t. bytes_eq t.commodity s.commodity) tiers) s ≡ intra_spread tiers s
 same_spread tiers s =
-    let legs = map_agree (month_leg (filter (λ t. bytes_eq t.commodity s.commodity) tiers) s.commodity) (month_leg tiers s.commodity) (same_leg tiers s.commodity) s.legs.items in
+    let legs = map_agree (month_leg (filter (λ t. bytes_eq t.commodity s.commodity) tiers) s.commodity) (month_leg tiers s.commodity)
+    (same_leg tiers s.commodity) s.legs.items in
     ap (λ (ms : List MonthLeg). (let r : Intra = record { rate = s.rate; legs = ms } in r)) legs
 
 -- the tiers at the place of a spread's commodity serve as all do
-pub tiers_found : {V : Type 0} (items : V → List Tier) (cs : List Commodity) (tiers : List Tier) (lists : List V) (n : ℕ) (v : V) (s : IntraRecord)
-    → map items lists ≡ map (λ c. filter (λ t. bytes_eq t.commodity c.id) tiers) cs → n ≡ commodity_number cs s.commodity → n < length lists → v ≡ get_or lists n v
+pub tiers_found : {V : Type 0} (items : V → List Tier) (cs : List Commodity) (tiers : List Tier) (lists : List V) (n : ℕ) (v : V)
+    (s : IntraRecord)
+    → map items lists ≡ map (λ c. filter (λ t. bytes_eq t.commodity c.id) tiers) cs → n ≡ commodity_number cs s.commodity
+    → n < length lists → v ≡ get_or lists n v
     → intra_spread (items v) s ≡ intra_spread tiers s
 tiers_found items [] tiers lists n v s are at lt is =
-    let none : length lists ≡ 0 = lengths items (λ (c : Commodity). filter (λ t. bytes_eq t.commodity c.id) tiers) lists [] are in absurd (omega arith)
+    let none : length lists ≡ 0 = lengths items (λ (c : Commodity). filter (λ t. bytes_eq t.commodity c.id) tiers) lists [] are in
+    absurd (omega arith)
 tiers_found items (c ∷ cs) tiers lists n v s are at lt is =
-    let long : length lists ≡ length (c ∷ cs) = lengths items (λ (d : Commodity). filter (λ t. bytes_eq t.commodity d.id) tiers) lists (c ∷ cs) are in
+    let long : length lists ≡ length (c ∷ cs) =
+    lengths items (λ (d : Commodity). filter (λ t. bytes_eq t.commodity d.id) tiers) lists (c ∷ cs) are in
     let within : n < length (c ∷ cs) = omega (arith, long) in
     let placed : commodity_number (c ∷ cs) s.commodity < length (c ∷ cs) = subst (λ m. m < length (c ∷ cs)) at within in
-    let name : (get_or (c ∷ cs) n c).id ≡ s.commodity = ap (λ m. (get_or (c ∷ cs) m c).id) at ∙ place_key (λ (d : Commodity). d.id) (c ∷ cs) s.commodity c placed in
+    let name : (get_or (c ∷ cs) n c).id ≡ s.commodity = ap (λ m. (get_or (c ∷ cs) m c).id) at
+    ∙ place_key (λ (d : Commodity). d.id) (c ∷ cs) s.commodity c placed in
     let kept : items v ≡ filter (λ t. bytes_eq t.commodity s.commodity) tiers =
     ap items is ∙ sym (at_map items lists n v [] lt) ∙ ap (λ zs. get_or zs n []) are
     ∙ at_map (λ (d : Commodity). filter (λ t. bytes_eq t.commodity d.id) tiers) (c ∷ cs) n c [] within

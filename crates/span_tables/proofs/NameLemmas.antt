@@ -48,6 +48,12 @@ distinct-push (n ∷ names) a =
       | inr apart ↦
           elim (cases_Bool (is_among names a)) [
             | inl old ↦ rw (distinct-push names a, apart, old) refl
-            | inr new ↦ rw (distinct-push names a, apart, new, filter-append (λ other. not (bytes_eq other n)) (distinct names) (a ∷ []), apart) refl
+            | inr new ↦ rw (
+              distinct-push names a,
+              apart,
+              new,
+              filter-append (λ other. not (bytes_eq other n)) (distinct names) (a ∷ []),
+              apart,
+            ) refl
           ]
     ]

@@ -1,5 +1,6 @@
 -- Records numbered by their accounts, as one more comes behind others.
-use Rattle.std.proofs.Common.{◌≡◌, ◌∙◌, refl, sym, ap, inl, inr, arith, ℕ, zero, suc, ◌<◌, ◌≤◌, true, List, [], ◌∷◌, ◌++◌, length, get_or, map, Some, slice_get}
+use Rattle.std.proofs.Common.{◌≡◌, ◌∙◌, refl, sym, ap, inl, inr, arith, ℕ, zero, suc, ◌<◌}
+use Rattle.std.proofs.Common.{◌≤◌, true, List, [], ◌∷◌, ◌++◌, length, get_or, map, Some, slice_get}
 use Rattle.std.specs.Prelude.{All, bytes_eq, nat_abs}
 use Rattle.std.proofs.lemmas.Bool.{cases_Bool}
 use Rattle.std.proofs.lemmas.Slice.Eq.{bytes_eq-Decides}
@@ -19,7 +20,8 @@ use Rattle.span_tables.proofs.NameLemmas.{same_name, is_among-distinct, distinct
 -- ---- places
 
 -- a name that equals the one at a place stands there
-pub name_at : (keys : List (List ℕ)) (a : ℕ) (known name : List ℕ) → a < length keys → known ≡ get_or keys a known → bytes_eq known name ≡ true → slice_get keys a ≡ Some name
+pub name_at : (keys : List (List ℕ)) (a : ℕ) (known name : List ℕ) → a < length keys → known ≡ get_or keys a known
+    → bytes_eq known name ≡ true → slice_get keys a ≡ Some name
 name_at keys a known name within is same = slice_get-get_or keys a known within ∙ ap Some (sym is ∙ same_name known name same)
 
 -- a name that stands at a place is among the names
@@ -33,7 +35,8 @@ name_there (k ∷ keys) zero name at = cc
 name_there (k ∷ keys) (suc a) name at = name_there keys a name at
 
 -- the accounts so far keep their places
-stays : (keys : List (List ℕ)) (name : List ℕ) (i : ℕ) → i < length keys → get_or (insert_key bytes_eq keys name) i [] ≡ get_or keys i []
+stays : (keys : List (List ℕ)) (name : List ℕ) (i : ℕ) → i < length keys
+    → get_or (insert_key bytes_eq keys name) i [] ≡ get_or keys i []
 stays keys name i within =
     elim (cases_Bool (is_among keys name)) [
       | inl old ↦ rw old refl
@@ -48,7 +51,8 @@ longer keys name =
     ]
 
 -- the records so far stand for the same
-same_named : (keys : List (List ℕ)) (name : List ℕ) (records : List NumberedPosition) → All (λ (p : NumberedPosition). p.account < length keys) records
+same_named : (keys : List (List ℕ)) (name : List ℕ) (records : List NumberedPosition)
+    → All (λ (p : NumberedPosition). p.account < length keys) records
     → named_positions (insert_key bytes_eq keys name) records ≡ named_positions keys records
 same_named keys name [] known = refl
 same_named keys name (r ∷ records) known =
@@ -68,7 +72,8 @@ accounts_of-push positions p =
       is_among-distinct (map (λ (q : PositionRecord). q.account) positions) p.account,
     ) refl
 
-module _ (keys keys' : List (List ℕ)) (records : List NumberedPosition) (p : NumberedPosition) (name : List ℕ) (was : AreNumbered keys records)
+module _ (keys keys' : List (List ℕ)) (records : List NumberedPosition) (p : NumberedPosition) (name : List ℕ)
+    (was : AreNumbered keys records)
     (more : keys' ≡ insert_key bytes_eq keys name) (at : slice_get keys' p.account ≡ Some name) where
   -- the records that the numbered ones stand for are one more
   pub named_more : named_positions keys' (records ++ p ∷ []) ≡ named_positions keys records ++ named_position keys' p ∷ []
@@ -96,4 +101,10 @@ module _ (keys keys' : List (List ℕ)) (records : List NumberedPosition) (p : N
 
 -- no record, of no account
 pub numbered_none : AreNumbered [] []
-numbered_none = record { accounts_are = refl; few = omega arith; known = λ i d within. absurd (omega (arith, within)); small = λ i d within. absurd (omega (arith, within)) }
+numbered_none =
+    record {
+      accounts_are = refl;
+      few = omega arith;
+      known = λ i d within. absurd (omega (arith, within));
+      small = λ i d within. absurd (omega (arith, within));
+    }

@@ -1,5 +1,6 @@
 -- The place of a name among names that are apart.
-use Rattle.std.proofs.Common.{◌≡◌, ℕ, suc, zero, ◌+◌, ◌<◌, Bool, true, false, cond, not, List, [], ◌∷◌, length, refl, sym, ap, ◌∙◌, subst, arith, get_or, eqb, ltb, ◌≤◌, Decides}
+use Rattle.std.proofs.Common.{◌≡◌, ℕ, suc, zero, ◌+◌, ◌<◌, Bool, true, false, cond, not, List, [], ◌∷◌}
+use Rattle.std.proofs.Common.{length, refl, sym, ap, ◌∙◌, subst, arith, get_or, eqb, ltb, ◌≤◌, Decides}
 use Rattle.std.specs.Prelude.{Option, Some, None, bytes_eq, unwrap_or, option_map, slice_get, ◌||◌}
 use Rattle.std.specs.List.{position, position_or_len, list_any}
 use Rattle.std.proofs.lemmas.List.Sums.{prefix_len-le-length}
@@ -47,12 +48,14 @@ module _ {C : Type 0} (key : C → List ℕ) where
   place_at (c ∷ cs) zero d apart lt = rw (same_name (key c)) refl
   place_at (c ∷ cs) (suc k) d apart lt =
       let no = not_later (key c) cs k d (or_false _ _ apart).0 (omega arith) in
-      let more : place cs (key (get_or cs k d)) ≡ k = place_at cs k d (or_false (list_any (λ y. bytes_eq (key c) (key y)) cs) _ apart).1 (omega arith) in
+      let more : place cs (key (get_or cs k d)) ≡ k =
+      place_at cs k d (or_false (list_any (λ y. bytes_eq (key c) (key y)) cs) _ apart).1 (omega arith) in
       let next : 1 + place cs (key (get_or cs k d)) ≡ suc k = omega (arith, more) in
       rw no next
 
   -- a name's place is k just where it is the name at k
-  pub place_tells : (cs : List C) (id : List ℕ) (k : ℕ) (d : C) → has_repeat (λ x y. bytes_eq (key x) (key y)) cs ≡ false → k < length cs
+  pub place_tells : (cs : List C) (id : List ℕ) (k : ℕ) (d : C) → has_repeat (λ x y. bytes_eq (key x) (key y)) cs ≡ false
+      → k < length cs
       → eqb (place cs id) k ≡ bytes_eq id (key (get_or cs k d))
   place_tells cs id k d apart lt =
       let by_place : Decides (eqb (place cs id) k) (id ≡ key (get_or cs k d)) = (
@@ -79,5 +82,8 @@ position_step true n m e le = refl
 position_step false n m e le = grind (arith, nat_tests)
 
 -- the place, or the length where there is none
-pub position_or_length : {C : Type 0} (p : C → Bool) (cs : List C) (r : Option ℕ) → r ≡ position p cs → unwrap_or r (length cs) ≡ position_or_len p cs
-position_or_length p cs r is = ap (λ o. unwrap_or o (length cs)) is ∙ position_step (ltb (position_or_len p cs) (length cs)) (position_or_len p cs) (length cs) refl (prefix_len-le-length (λ x. not (p x)) cs)
+pub position_or_length : {C : Type 0} (p : C → Bool) (cs : List C) (r : Option ℕ) → r ≡ position p cs
+    → unwrap_or r (length cs) ≡ position_or_len p cs
+position_or_length p cs r is =
+    ap (λ o. unwrap_or o (length cs)) is ∙ position_step (ltb (position_or_len p cs) (length cs)) (position_or_len p cs) (length cs) refl
+    (prefix_len-le-length (λ x. not (p x)) cs)

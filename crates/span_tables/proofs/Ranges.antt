@@ -7,7 +7,8 @@ use Rattle.std.proofs.lemmas.Bool.Decides.{Decides-eqb}
 use Rattle.std.proofs.lemmas.List.{length-map}
 use Rattle.std.proofs.lemmas.List.Elements.{All-nil, All-cons, All-map, All-weaker}
 use Rattle.span_tables.specs.Accepted.{IsContract, IsIntra, IsSpot}
-use Rattle.span_tables.specs.Limits.{commodity_in_range, contract_in_range, in_range, inter_in_range, intra_in_range, lies_within, spot_in_range}
+use Rattle.span_tables.specs.Limits.{commodity_in_range, contract_in_range, in_range}
+use Rattle.span_tables.specs.Limits.{inter_in_range, intra_in_range, lies_within, spot_in_range}
 use Rattle.span_tables.specs.Tables.{intra_spread, month_leg}
 use Rattle.span_tables.specs.Rules.{as_commodity, as_contract, as_inter, as_intra, as_spot}
 use Rattle.span_tables.specs.declared.limits.TheConstants.{MAX_ARRAY_VALUE, MAX_BASIS_POINTS, MAX_RATE, MAX_RATIO}
@@ -22,7 +23,8 @@ use Rattle.span_tables.specs.declared.records.Tier.{Tier}
 use Rattle.span_tables.proofs.KeptRules.{and_true, of_kind}
 
 -- what a test of all says of each
-pub all_by : {X : Type 0} (p : X → Bool) (P : X → Type 0) → ((x : X) → p x ≡ true → P x) → (xs : List X) → list_all p xs ≡ true → All P xs
+pub all_by : {X : Type 0} (p : X → Bool) (P : X → Type 0) → ((x : X) → p x ≡ true → P x) → (xs : List X)
+    → list_all p xs ≡ true → All P xs
 all_by p P says [] e = All-nil P
 all_by p P says (x ∷ xs) e = let h = and_true (p x) (list_all p xs) e in All-cons P x xs (says x h.0) (all_by p P says xs h.1)
 
@@ -79,8 +81,10 @@ is_intra tiers s e =
     let b = and_true _ _ a.0 in
     let d = and_true _ _ b.0 in
     let few : (2 ≤ length s.legs.items) × (length s.legs.items ≤ 4) = within _ _ _ b.1 in
-    let long : length (map (month_leg tiers s.commodity) s.legs.items) ≡ length s.legs.items = length-map s.legs.items (month_leg tiers s.commodity) in
-    let ratios = all_by _ (λ leg. (1 ≤ leg.ratio) × (leg.ratio ≤ MAX_RATIO)) (λ leg t. within 1 MAX_RATIO leg.ratio (and_true _ _ t).1) s.legs.items a.1 in
+    let long : length (map (month_leg tiers s.commodity) s.legs.items) ≡ length s.legs.items =
+    length-map s.legs.items (month_leg tiers s.commodity) in
+    let ratios = all_by _ (λ leg. (1 ≤ leg.ratio) × (leg.ratio ≤ MAX_RATIO))
+    (λ leg t. within 1 MAX_RATIO leg.ratio (and_true _ _ t).1) s.legs.items a.1 in
     record {
       rate = leb-true _ _ d.1;
       at_least_two = subst (λ n. 2 ≤ n) (sym long) few.0;
@@ -109,7 +113,8 @@ is_inter s e =
     let b = and_true _ _ a.0 in
     let d = and_true _ _ b.0 in
     let few : (2 ≤ length s.legs.items) × (length s.legs.items ≤ 4) = within _ _ _ b.1 in
-    let ratios = all_by _ (λ leg. (1 ≤ leg.ratio) × (leg.ratio ≤ MAX_RATIO)) (λ leg t. within 1 MAX_RATIO leg.ratio (and_true _ _ t).1) s.legs.items a.1 in
+    let ratios = all_by _ (λ leg. (1 ≤ leg.ratio) × (leg.ratio ≤ MAX_RATIO))
+    (λ leg t. within 1 MAX_RATIO leg.ratio (and_true _ _ t).1) s.legs.items a.1 in
     record {
       basis_points = leb-true _ _ d.1;
       at_least_two = few.0;
@@ -120,17 +125,28 @@ is_inter s e =
 
 -- ---- of all records
 
-pub rates_within : (rs : List Record) → list_all in_range rs ≡ true → All (λ c. c.minimum_rate ≤ MAX_RATE) (filter_map as_commodity rs)
-rates_within rs e = All-weaker (λ c. commodity_in_range c ≡ true) _ rate_within _ (of_kind as_commodity (λ c. commodity_in_range c ≡ true) (λ r. in_range r ≡ true) commodity_passes rs (by_recursion in_range rs e))
+pub rates_within : (rs : List Record) → list_all in_range rs ≡ true
+    → All (λ c. c.minimum_rate ≤ MAX_RATE) (filter_map as_commodity rs)
+rates_within rs e =
+    All-weaker (λ c. commodity_in_range c ≡ true) _ rate_within
+    _ (of_kind as_commodity (λ c. commodity_in_range c ≡ true) (λ r. in_range r ≡ true) commodity_passes rs
+    (by_recursion in_range rs e))
 
 pub are_contracts : (rs : List Record) → list_all in_range rs ≡ true → All IsContract (filter_map as_contract rs)
-are_contracts rs e = All-weaker (λ c. contract_in_range c ≡ true) _ is_contract _ (of_kind as_contract (λ c. contract_in_range c ≡ true) (λ r. in_range r ≡ true) contract_passes rs (by_recursion in_range rs e))
+are_contracts rs e =
+    All-weaker (λ c. contract_in_range c ≡ true) _ is_contract
+    _ (of_kind as_contract (λ c. contract_in_range c ≡ true) (λ r. in_range r ≡ true) contract_passes rs (by_recursion in_range rs e))
 
 pub are_intras : (rs : List Record) → list_all in_range rs ≡ true → All (λ s. intra_in_range s ≡ true) (filter_map as_intra rs)
-are_intras rs e = of_kind as_intra (λ s. intra_in_range s ≡ true) (λ r. in_range r ≡ true) intra_passes rs (by_recursion in_range rs e)
+are_intras rs e =
+    of_kind as_intra (λ s. intra_in_range s ≡ true) (λ r. in_range r ≡ true) intra_passes rs (by_recursion in_range rs e)
 
 pub are_spots : (rs : List Record) → list_all in_range rs ≡ true → All IsSpot (filter_map as_spot rs)
-are_spots rs e = All-weaker (λ s. spot_in_range s ≡ true) _ is_spot _ (of_kind as_spot (λ s. spot_in_range s ≡ true) (λ r. in_range r ≡ true) spot_passes rs (by_recursion in_range rs e))
+are_spots rs e =
+    All-weaker (λ s. spot_in_range s ≡ true) _ is_spot
+    _ (of_kind as_spot (λ s. spot_in_range s ≡ true) (λ r. in_range r ≡ true) spot_passes rs (by_recursion in_range rs e))
 
 pub are_inters : (rs : List Record) → list_all in_range rs ≡ true → All IsInterRecord (filter_map as_inter rs)
-are_inters rs e = All-weaker (λ s. inter_in_range s ≡ true) _ is_inter _ (of_kind as_inter (λ s. inter_in_range s ≡ true) (λ r. in_range r ≡ true) inter_passes rs (by_recursion in_range rs e))
+are_inters rs e =
+    All-weaker (λ s. inter_in_range s ≡ true) _ is_inter
+    _ (of_kind as_inter (λ s. inter_in_range s ≡ true) (λ r. in_range r ≡ true) inter_passes rs (by_recursion in_range rs e))

@@ -1,5 +1,6 @@
 -- What marking the slot of a number does to a word, and when a word has all slots of another.
-use Rattle.std.proofs.Common.{◌≡◌, ◌≢◌, ◌≤◌, ◌%◌, ◌^◌, ◌==◌, ℕ, ℤ, pos, negsuc, ◌<ℤ◌, Bool, true, false, bit_and, refl, ap, arith}
+use Rattle.std.proofs.Common.{◌≡◌, ◌≢◌, ◌≤◌, ◌%◌, ◌^◌, ◌==◌, ℕ, ℤ}
+use Rattle.std.proofs.Common.{pos, negsuc, ◌<ℤ◌, Bool, true, false, bit_and, refl, ap, arith}
 use Rattle.std.specs.Int.{bit_at}
 use Rattle.std.proofs.lemmas.Bool.Decides.{nat_tests}
 use Rattle.std.proofs.lemmas.Nat.Bits.{bit_at-lt, bit_at-pow_other, bit_at-pow_same, bit_at-zero, bit_at_and, bit_at_or, same_from_bits}
@@ -45,7 +46,8 @@ with_within word other number h within i =
 -- so all of its slots are there
 pub within_has_all : (word other : ℕ) → Within word other → has_all word other ≡ true
 within_has_all word other within =
-    let same : bit_and word other ≡ other = same_from_bits (bit_and word other) other (λ i. omega (arith, bit_at_and word other i, within i)) in
+    let same : bit_and word other ≡ other =
+    same_from_bits (bit_and word other) other (λ i. omega (arith, bit_at_and word other i, within i)) in
     grind (arith, nat_tests, same)
 
 -- a rest is on one side of the market at most
@@ -58,7 +60,8 @@ not_short (pos n) above = refl
 not_short (negsuc n) above = absurd (omega (arith, ints, above))
 
 -- a number of another slot is marked only where it was
-pub marked_before : (word number other : ℕ) → other % SLOTS ≢ number % SLOTS → IsMarked (with_slot word number) other → IsMarked word other
+pub marked_before : (word number other : ℕ) → other % SLOTS ≢ number % SLOTS → IsMarked (with_slot word number) other
+    → IsMarked word other
 marked_before word number other apart marked =
     omega (arith, marked, bit_at_or word (2 ^ (number % SLOTS)) (other % SLOTS), bit_at-pow_other (number % SLOTS) (other % SLOTS) apart)
 
@@ -66,5 +69,6 @@ marked_before word number other apart marked =
 pub has_all_marked : (word others number : ℕ) → has_all word others ≡ true → IsMarked others number → IsMarked word number
 has_all_marked word others number all marked =
     let same : bit_and word others ≡ others = grind (arith, nat_tests, all) in
-    let bits : bit_at (bit_and word others) (number % SLOTS) ≡ bit_at others (number % SLOTS) = ap (λ n. bit_at n (number % SLOTS)) same in
+    let bits : bit_at (bit_and word others) (number % SLOTS) ≡ bit_at others (number % SLOTS) =
+    ap (λ n. bit_at n (number % SLOTS)) same in
     omega (arith, marked, bits, bit_at_and word others (number % SLOTS), bit_at-lt word (number % SLOTS))

@@ -16,11 +16,13 @@ pub formed_fit : (r : Room) (rs : List Room) → Fits (spreads_formed (r ∷ rs)
 formed_fit r [] = (div-mul-le_self r.side r.ratio, tt)
 formed_fit r (s ∷ rs) =
     let n = spreads_formed (s ∷ rs) in
-    let less : min (r.side / r.ratio) n * r.ratio ≤ (r.side / r.ratio) * r.ratio = mul-le-mul_right r.ratio (min-le_left (r.side / r.ratio) n) in
+    let less : min (r.side / r.ratio) n * r.ratio ≤ (r.side / r.ratio) * r.ratio =
+    mul-le-mul_right r.ratio (min-le_left (r.side / r.ratio) n) in
     (omega (arith, less, div-mul-le_self r.side r.ratio), Fits_fewer _ n (s ∷ rs) (min-le_right (r.side / r.ratio) n) (formed_fit s rs))
 
 -- no more spreads fit
-pub formed_greatest : (r : Room) (rs : List Room) → HaveRatios (r ∷ rs) → (m : ℕ) → Fits m (r ∷ rs) → m ≤ spreads_formed (r ∷ rs)
+pub formed_greatest : (r : Room) (rs : List Room) → HaveRatios (r ∷ rs) → (m : ℕ) → Fits m (r ∷ rs)
+    → m ≤ spreads_formed (r ∷ rs)
 formed_greatest r [] ratios m fits = (le-div_iff_mul-le ratios.0).1 fits.0
 formed_greatest r (s ∷ rs) ratios m fits =
     let first : m ≤ r.side / r.ratio = (le-div_iff_mul-le ratios.0).1 fits.0 in

@@ -1,5 +1,6 @@
 -- A stable sort by a number is `rising_by`.
-use Rattle.std.proofs.Common.{◌≡◌, ℕ, suc, ◌<◌, ◌≤◌, Bool, true, false, cond, eqb, ltb, not, List, [], ◌∷◌, filter, refl, sym, ap, ◌∙◌, subst, arith, inl, inr}
+use Rattle.std.proofs.Common.{◌≡◌, ℕ, suc, ◌<◌, ◌≤◌, Bool, true, false, cond, eqb, ltb, not}
+use Rattle.std.proofs.Common.{List, [], ◌∷◌, filter, refl, sym, ap, ◌∙◌, subst, arith, inl, inr}
 use Rattle.std.specs.Prelude.{nat_le, ◌&&◌}
 use Rattle.std.specs.List.{AllByRecursion}
 use Rattle.std.specs.List.Sorted.{IsNonDecreasingBy, IsSortedByKey, IsStableByKey, IsSortedByKeyClosure, IsStableByKeyClosure, ties}
@@ -18,7 +19,8 @@ use Rattle.span_tables.specs.Tables.{placed_by, rising_by}
 use Rattle.span_tables.proofs.OrderLaws.{rising_rises}
 
 -- two numbers tie where they are one
-tie_by : (l e m f : Bool) → ((l ≡ true) → (e ≡ false) × (m ≡ false) × (f ≡ false)) → ((m ≡ true) → f ≡ false) → ((l ≡ false) → (m ≡ false) → f ≡ true)
+tie_by : (l e m f : Bool) → ((l ≡ true) → (e ≡ false) × (m ≡ false) × (f ≡ false)) → ((m ≡ true) → f ≡ false)
+    → ((l ≡ false) → (m ≡ false) → f ≡ true)
     → (not (is_lt (cond l Less (cond e Equal Greater))) && not (is_lt (cond m Less (cond f Equal Greater)))) ≡ f
 tie_by true e m f a b c = sym (a refl).2
 tie_by false true true f a b c = sym (b refl)
@@ -57,12 +59,14 @@ module _ {A : Type 0} (key : A → ℕ) where
   head_of_key : (x : A) (xs : List A) → of_key (key x) (x ∷ xs) ≡ x ∷ of_key (key x) xs
   head_of_key x xs = let same : eqb (key x) (key x) ≡ true = grind (arith, nat_tests) in rw same refl
 
-  below_not : (x y : A) (xs ys : List A) → IsRisingBy key (y ∷ ys) → of_key (key x) (x ∷ xs) ≡ of_key (key x) (y ∷ ys) → key x < key y → key y ≤ key x
+  below_not : (x y : A) (xs ys : List A) → IsRisingBy key (y ∷ ys) → of_key (key x) (x ∷ xs) ≡ of_key (key x) (y ∷ ys)
+      → key x < key y → key y ≤ key x
   below_not x y xs ys up same lt =
       let none : of_key (key x) (y ∷ ys) ≡ [] = none_below (key x) (key y) (y ∷ ys) lt (omega arith, up.0) in
       let some : x ∷ of_key (key x) xs ≡ [] = sym (head_of_key x xs) ∙ same ∙ none in cc
 
-  not_below : (x y : A) (xs ys : List A) → IsRisingBy key (y ∷ ys) → of_key (key x) (x ∷ xs) ≡ of_key (key x) (y ∷ ys) → key y ≤ key x
+  not_below : (x y : A) (xs ys : List A) → IsRisingBy key (y ∷ ys) → of_key (key x) (x ∷ xs) ≡ of_key (key x) (y ∷ ys)
+      → key y ≤ key x
   not_below x y xs ys up same =
       elim (cases_lt (key x) (key y)) [ inl lt ↦ below_not x y xs ys up same lt | inr le ↦ le ]
 
@@ -71,7 +75,8 @@ module _ {A : Type 0} (key : A → ℕ) where
   tail_if false x y us vs is same = same
 
   -- rising lists with the same elements of each key are one
-  same_rising : (xs ys : List A) → IsRisingBy key xs → IsRisingBy key ys → ((a : A) → of_key (key a) xs ≡ of_key (key a) ys) → xs ≡ ys
+  same_rising : (xs ys : List A) → IsRisingBy key xs → IsRisingBy key ys → ((a : A) → of_key (key a) xs ≡ of_key (key a) ys)
+      → xs ≡ ys
   same_rising [] [] up uq same = refl
   same_rising [] (y ∷ ys) up uq same = let e : [] ≡ y ∷ of_key (key y) ys = same y ∙ head_of_key y ys in absurd cc
   same_rising (x ∷ xs) [] up uq same = let e : x ∷ of_key (key x) xs ≡ [] = sym (head_of_key x xs) ∙ same x in absurd cc
@@ -79,10 +84,13 @@ module _ {A : Type 0} (key : A → ℕ) where
       let le : key y ≤ key x = not_below x y xs ys uq (same x) in
       let ge : key x ≤ key y = not_below y x ys xs up (sym (same y)) in
       let keys : key x ≡ key y = omega arith in
-      let heads : x ∷ of_key (key x) xs ≡ y ∷ of_key (key y) ys = sym (head_of_key x xs) ∙ same x ∙ ap (λ k. of_key k (y ∷ ys)) keys ∙ head_of_key y ys in
+      let heads : x ∷ of_key (key x) xs ≡ y ∷ of_key (key y) ys = sym (head_of_key x xs) ∙ same x
+      ∙ ap (λ k. of_key k (y ∷ ys)) keys ∙ head_of_key y ys in
       let here : x ≡ y = cc in
-      let rest : (a : A) → of_key (key a) xs ≡ of_key (key a) ys = λ a. tail_if (eqb (key x) (key a)) x y (of_key (key a) xs) (of_key (key a) ys) here
-      (subst (λ z. of_key (key a) (x ∷ xs) ≡ cond (eqb (key z) (key a)) (y ∷ of_key (key a) ys) (of_key (key a) ys)) (sym here) (same a)) in
+      let rest : (a : A) → of_key (key a) xs ≡ of_key (key a) ys =
+      λ a. tail_if (eqb (key x) (key a)) x y (of_key (key a) xs) (of_key (key a) ys) here
+      (subst (λ z. of_key (key a) (x ∷ xs) ≡ cond (eqb (key z) (key a)) (y ∷ of_key (key a) ys) (of_key (key a) ys)) (sym here)
+      (same a)) in
       let tails = same_rising xs ys up.1 uq.1 rest in
       cc
 
@@ -112,14 +120,17 @@ module _ {A : Type 0} (key : A → ℕ) where
   pub sorted_rising : (xs ys : List A) → IsSortedByKey key nat_cmp ys → IsStableByKey key nat_cmp xs ys → ys ≡ rising_by key xs
   sorted_rising xs ys sorted stable =
       same_rising ys (rising_by key xs) (rises_by_recursion ys (IsNonDecreasingBy-from_sort key ys sorted)) (rising_rises key xs)
-      (λ a. sym (filter_agree (ties (λ x y. is_lt (nat_cmp (key x) (key y))) a) (λ y. eqb (key y) (key a)) (λ y. tie (key a) (key y)) ys)
+      (λ a. sym (filter_agree (ties (λ x y. is_lt (nat_cmp (key x) (key y))) a) (λ y. eqb (key y) (key a))
+      (λ y. tie (key a) (key y)) ys)
       ∙ stable a
       ∙ filter_agree (ties (λ x y. is_lt (nat_cmp (key x) (key y))) a) (λ y. eqb (key y) (key a)) (λ y. tie (key a) (key y)) xs
       ∙ sym (rising_of_key (key a) xs))
 
   -- the same from the clauses of `sort_by_key`, where each call gives the key
-  pub sorted_by_closure : {F : Type 0} {g : Mut F (Bor A × Unit {0}) ℕ} {f : F} (xs ys : List A) → IsSortedByKeyClosure g nat_cmp f ys → IsStableByKeyClosure g nat_cmp f xs ys
-      → ((a : Bor A × Unit {0}) (r : ℕ) (f' : F) → Called g f a r f' → (r ≡ key a.0.now) × (f' ≡ f)) → ys ≡ rising_by key xs
+  pub sorted_by_closure : {F : Type 0} {g : Mut F (Bor A × Unit {0}) ℕ} {f : F} (xs ys : List A) → IsSortedByKeyClosure g nat_cmp f ys
+      → IsStableByKeyClosure g nat_cmp f xs ys
+      → ((a : Bor A × Unit {0}) (r : ℕ) (f' : F) → Called g f a r f' → (r ≡ key a.0.now) × (f' ≡ f))
+      → ys ≡ rising_by key xs
   sorted_by_closure {g = g} {f = f} xs ys sorted stable calls =
       let keys : ComputesKey g key f = always_returns_same g (λ a r. r ≡ key a.0.now) f calls in
       sorted_rising xs ys (sorted key keys) (stable key keys)

@@ -1,12 +1,14 @@
 -- What is made of accepted tables beforehand is as the tables say.
-use Rattle.std.proofs.Common.{◌≡◌, ℕ, suc, zero, ◌<◌, true, List, [], ◌∷◌, length, map, filter, get_or, refl, ap, ◌∙◌, arith}
+use Rattle.std.proofs.Common.{◌≡◌, ℕ, suc, zero, ◌<◌, true, List, [], ◌∷◌}
+use Rattle.std.proofs.Common.{length, map, filter, get_or, refl, ap, ◌∙◌, arith}
 use Rattle.std.specs.Prelude.{bytes_eq, option_map, slice_get, unwrap_or}
 use Rattle.std.proofs.lemmas.List.{length-map}
 use Rattle.span_tables.specs.Accepted.{IsAccepted, IsTables, commodity_id, commodity_number}
 use Rattle.span_tables.specs.steps.ByKind.{AreByKind}
 use Rattle.span_tables.specs.Limits.{is_readable}
 use Rattle.span_tables.specs.Rules.{keeps_rules}
-use Rattle.span_tables.specs.Tables.{AcceptedTables, inter_spread, inters_of, intra_spread, intras_of, rising_by, set_id_in, spots_of, tables_of}
+use Rattle.span_tables.specs.Tables.{AcceptedTables, inter_spread, inters_of, intra_spread}
+use Rattle.span_tables.specs.Tables.{intras_of, rising_by, set_id_in, spots_of, tables_of}
 use Rattle.span_tables.specs.declared.records.Commodity.{Commodity}
 use Rattle.span_tables.specs.declared.records.Contract.{Contract}
 use Rattle.span_tables.specs.declared.records.Inter.{Inter}
@@ -26,12 +28,14 @@ listed key g (c ∷ cs) zero lt = refl
 listed key g (c ∷ cs) (suc k) lt = listed key g cs k (omega arith)
 
 module _ (t : AcceptedTables) (accepted : IsAccepted t) where
-  intras_at : (intras : List (List Intra)) → intras ≡ map (λ c. map (intra_spread t.tiers) (filter (λ s. bytes_eq s.commodity c.id) t.intras)) t.commodities
+  intras_at : (intras : List (List Intra)) → intras
+      ≡ map (λ c. map (intra_spread t.tiers) (filter (λ s. bytes_eq s.commodity c.id) t.intras)) t.commodities
       → (c : ℕ) → c < length t.commodities → get_or intras c [] ≡ intras_of t (commodity_id t c)
   unfolding intras_of
   intras_at intras is c lt =
       ap (λ (zs : List (List Intra)). get_or zs c []) is
-      ∙ listed (λ (d : Commodity). d.id) (λ id. map (intra_spread t.tiers) (filter (λ (s : IntraRecord). bytes_eq s.commodity id) t.intras)) t.commodities c lt
+      ∙ listed (λ (d : Commodity). d.id) (λ id. map (intra_spread t.tiers)
+      (filter (λ (s : IntraRecord). bytes_eq s.commodity id) t.intras)) t.commodities c lt
 
   spots_at : (spots : List (List Spot)) → spots ≡ map (λ c. filter (λ s. bytes_eq s.commodity c.id) t.spots) t.commodities
       → (c : ℕ) → c < length t.commodities → get_or spots c [] ≡ spots_of t (commodity_id t c)
@@ -62,8 +66,10 @@ module _ (t : AcceptedTables) (accepted : IsAccepted t) where
   }
 
 -- the parts of the tables, each as it was made
-pub same_tables : (rs : List Record) (id : List ℕ) (cs : List Commodity) (xs : List Contract) (ts : List Tier) (is js : List IntraRecord) (ss : List Spot) (ns ms : List InterRecord)
-    → id ≡ set_id_in rs → AreByKind rs cs xs ts is ss ns → js ≡ rising_by (λ s. s.priority) is → ms ≡ rising_by (λ s. s.priority) ns
+pub same_tables : (rs : List Record) (id : List ℕ) (cs : List Commodity) (xs : List Contract) (ts : List Tier) (is js : List IntraRecord)
+    (ss : List Spot) (ns ms : List InterRecord)
+    → id ≡ set_id_in rs → AreByKind rs cs xs ts is ss ns → js ≡ rising_by (λ s. s.priority) is
+    → ms ≡ rising_by (λ s. s.priority) ns
     → record { set_id = id; commodities = cs; contracts = xs; tiers = ts; intras = js; spots = ss; inters = ms } ≡ tables_of rs
 unfolding tables_of
 same_tables rs id cs xs ts is js ss ns ms named kinds i n =
@@ -80,5 +86,6 @@ same_tables rs id cs xs ts is js ss ns ms named kinds i n =
     }
 
 -- accepted tables in parts
-pub accepted_as : (t : AcceptedTables) (rs : List Record) → t ≡ tables_of rs → is_readable rs ≡ true → keeps_rules rs ≡ true → IsAccepted t
+pub accepted_as : (t : AcceptedTables) (rs : List Record) → t ≡ tables_of rs → is_readable rs ≡ true → keeps_rules rs ≡ true
+    → IsAccepted t
 accepted_as t rs is readable kept = record { records = rs; tables = is; readable = readable; kept = kept }

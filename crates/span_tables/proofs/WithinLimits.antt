@@ -9,9 +9,12 @@ use Rattle.std.proofs.lemmas.List.Sorted.{All-permutation, length_permutation}
 use Rattle.span_tables.specs.Accepted.{IsAccepted, IsInter, IsIntra, IsSpot, IsWithinLimits, commodity_number}
 use Rattle.span_tables.specs.Limits.{at_most_each, begins_with_set, in_range, intra_in_range, is_readable}
 use Rattle.span_tables.specs.Names.{has_repeat}
-use Rattle.span_tables.specs.Rules.{as_commodity, as_contract, commodities_in, contracts_in, inters_in, intras_in, keeps_rules, names_no_commodity, repeats_leg, spots_in, tiers_in}
-use Rattle.span_tables.specs.Tables.{AcceptedTables, commodity_leg, inter_spread, inters_of, intra_spread, intras_of, rising_by, spots_of, tables_of}
-use Rattle.span_tables.specs.declared.limits.TheConstants.{MAX_COMMODITIES, MAX_CONTRACTS, MAX_INTER_SPREADS, MAX_INTRA_SPREADS, MAX_SPOT_MONTHS, MAX_RATIO}
+use Rattle.span_tables.specs.Rules.{as_commodity, as_contract, commodities_in, contracts_in, inters_in}
+use Rattle.span_tables.specs.Rules.{intras_in, keeps_rules, names_no_commodity, repeats_leg, spots_in, tiers_in}
+use Rattle.span_tables.specs.Tables.{AcceptedTables, commodity_leg, inter_spread, inters_of}
+use Rattle.span_tables.specs.Tables.{intra_spread, intras_of, rising_by, spots_of, tables_of}
+use Rattle.span_tables.specs.declared.limits.TheConstants.{MAX_COMMODITIES, MAX_CONTRACTS, MAX_INTER_SPREADS}
+use Rattle.span_tables.specs.declared.limits.TheConstants.{MAX_INTRA_SPREADS, MAX_SPOT_MONTHS, MAX_RATIO}
 use Rattle.span_tables.specs.declared.records.Commodity.{Commodity}
 use Rattle.span_tables.specs.declared.records.InterRecord.{InterRecord}
 use Rattle.span_tables.specs.declared.records.IntraRecord.{IntraRecord}
@@ -20,7 +23,8 @@ use Rattle.span_tables.specs.declared.records.Spot.{Spot}
 use Rattle.span_tables.specs.declared.records.Tier.{Tier}
 use Rattle.span_tables.proofs.Counts.{at_most, at_most_permuted}
 use Rattle.span_tables.proofs.KeptRules.{all_kept, and_true, apart, of_each}
-use Rattle.span_tables.proofs.Known.{IsKnown, NamesKnown, all_known, contracts_known, inters_apart, inters_known, intras_known, legs_apart, spots_known, tiers_known}
+use Rattle.span_tables.proofs.Known.{IsKnown, NamesKnown, all_known, contracts_known, inters_apart}
+use Rattle.span_tables.proofs.Known.{inters_known, intras_known, legs_apart, spots_known, tiers_known}
 use Rattle.span_tables.proofs.OrderLaws.{rising_permutation}
 use Rattle.span_tables.proofs.Ranges.{IsInterRecord, are_contracts, are_inters, are_intras, are_spots, is_intra, rates_within}
 
@@ -71,7 +75,8 @@ kept rs e =
       legs = of_each repeats_leg [] rs k.1.1.1.1.1.1.1.0;
     }
 
-all_both : {X : Type 0} (P Q R S : X → Type 0) (xs : List X) → ((x : X) → P x → Q x → R x → S x) → All P xs → All Q xs → All R xs → All S xs
+all_both : {X : Type 0} (P Q R S : X → Type 0) (xs : List X) → ((x : X) → P x → Q x → R x → S x) → All P xs → All Q xs
+    → All R xs → All S xs
 all_both P Q R S xs f p q r = λ k d lt. f _ (p k d lt) (q k d lt) (r k d lt)
 
 -- a spread with its numbers
@@ -107,30 +112,43 @@ within_limits rs is_r keeps =
       contracts_in_range = are_contracts rs r.ranges;
       contracts_apart = k.contracts_apart;
       contracts_known = contracts_known cs rs k.named;
-      few_intras = λ id. at_most_permuted (λ (s : IntraRecord). s.commodity) (intra_spread (tiers_in rs)) MAX_INTRA_SPREADS (intras_in rs) _ r.few_intras intras_same id;
+      few_intras =
+          λ id. at_most_permuted (λ (s : IntraRecord). s.commodity) (intra_spread (tiers_in rs)) MAX_INTRA_SPREADS
+          (intras_in rs) _ r.few_intras intras_same id;
       intras_in_range = λ id. All-map IsIntra (intra_spread (tiers_in rs)) _
-          (All-filter _ (λ s. IsIntra (intra_spread (tiers_in rs) s)) _ (All-permutation (λ s. IsIntra (intra_spread (tiers_in rs) s)) (intras_in rs) _ intras_same
-          (All-weaker (λ s. intra_in_range s ≡ true) (λ s. IsIntra (intra_spread (tiers_in rs) s)) (is_intra (tiers_in rs)) (intras_in rs) (are_intras rs r.ranges))));
+          (All-filter _ (λ s. IsIntra (intra_spread (tiers_in rs) s))
+          _ (All-permutation (λ s. IsIntra (intra_spread (tiers_in rs) s)) (intras_in rs) _ intras_same
+          (All-weaker (λ s. intra_in_range s ≡ true) (λ s. IsIntra (intra_spread (tiers_in rs) s)) (is_intra (tiers_in rs))
+          (intras_in rs) (are_intras rs r.ranges))));
       few_spots = at_most (λ (s : Spot). s.commodity) MAX_SPOT_MONTHS (spots_in rs) r.few_spots;
       spots_in_range = λ id. All-filter _ IsSpot (spots_in rs) (are_spots rs r.ranges);
-      few_inters = subst (λ n. n ≤ MAX_INTER_SPREADS) (sym (length-map (rising_by (λ (s : InterRecord). s.priority) (inters_in rs)) (inter_spread cs) ∙ length_permutation (inters_in rs) _ inters_same)) r.few_inters;
-      inters_in_range = All-map (IsInter (length cs)) (inter_spread cs) _ (All-permutation (λ s. IsInter (length cs) (inter_spread cs s)) (inters_in rs) _ inters_same
-          (all_both IsInterRecord (λ s. All (λ leg. IsKnown cs leg.commodity) s.legs.items) (λ s. has_repeat (λ a b. bytes_eq a.commodity b.commodity) s.legs.items ≡ false)
+      few_inters =
+          subst (λ n. n ≤ MAX_INTER_SPREADS)
+          (sym (length-map (rising_by (λ (s : InterRecord). s.priority) (inters_in rs)) (inter_spread cs)
+          ∙ length_permutation (inters_in rs) _ inters_same)) r.few_inters;
+      inters_in_range =
+          All-map (IsInter (length cs)) (inter_spread cs)
+          _ (All-permutation (λ s. IsInter (length cs) (inter_spread cs s)) (inters_in rs) _ inters_same
+          (all_both IsInterRecord (λ s. All (λ leg. IsKnown cs leg.commodity) s.legs.items)
+          (λ s. has_repeat (λ a b. bytes_eq a.commodity b.commodity) s.legs.items ≡ false)
           (λ s. IsInter (length cs) (inter_spread cs s)) (inters_in rs) (λ s f n l. inter_within cs k.commodities_apart s f n l)
           (are_inters rs r.ranges) (inters_known cs rs k.named) (inters_apart rs k.legs)));
     }
 
 -- ---- of accepted tables
 
-known_tiers : (rs : List Record) → KeepsRules rs → All (λ x. commodity_number (tables_of rs).commodities x.commodity < length (tables_of rs).commodities) (tables_of rs).tiers
+known_tiers : (rs : List Record) → KeepsRules rs
+    → All (λ x. commodity_number (tables_of rs).commodities x.commodity < length (tables_of rs).commodities) (tables_of rs).tiers
 unfolding tables_of
 known_tiers rs k = tiers_known (commodities_in rs) rs k.named
 
-known_spots : (rs : List Record) → KeepsRules rs → All (λ x. commodity_number (tables_of rs).commodities x.commodity < length (tables_of rs).commodities) (tables_of rs).spots
+known_spots : (rs : List Record) → KeepsRules rs
+    → All (λ x. commodity_number (tables_of rs).commodities x.commodity < length (tables_of rs).commodities) (tables_of rs).spots
 unfolding tables_of
 known_spots rs k = spots_known (commodities_in rs) rs k.named
 
-known_intras : (rs : List Record) → KeepsRules rs → All (λ x. commodity_number (tables_of rs).commodities x.commodity < length (tables_of rs).commodities) (tables_of rs).intras
+known_intras : (rs : List Record) → KeepsRules rs
+    → All (λ x. commodity_number (tables_of rs).commodities x.commodity < length (tables_of rs).commodities) (tables_of rs).intras
 unfolding tables_of
 known_intras rs k =
     All-permutation (λ (x : IntraRecord). commodity_number (commodities_in rs) x.commodity < length (commodities_in rs)) (intras_in rs) _
@@ -139,11 +157,20 @@ known_intras rs k =
 pub accepted_limits : (t : AcceptedTables) → IsAccepted t → IsWithinLimits t
 accepted_limits t a = subst IsWithinLimits (sym a.tables) (within_limits a.records a.readable a.kept)
 
-pub accepted_tiers : (t : AcceptedTables) → IsAccepted t → All (λ x. commodity_number t.commodities x.commodity < length t.commodities) t.tiers
-accepted_tiers t a = subst (λ (u : AcceptedTables). All (λ (x : Tier). commodity_number u.commodities x.commodity < length u.commodities) u.tiers) (sym a.tables) (known_tiers a.records (kept a.records a.kept))
+pub accepted_tiers : (t : AcceptedTables) → IsAccepted t
+    → All (λ x. commodity_number t.commodities x.commodity < length t.commodities) t.tiers
+accepted_tiers t a =
+    subst (λ (u : AcceptedTables). All (λ (x : Tier). commodity_number u.commodities x.commodity < length u.commodities) u.tiers)
+    (sym a.tables) (known_tiers a.records (kept a.records a.kept))
 
-pub accepted_spots : (t : AcceptedTables) → IsAccepted t → All (λ x. commodity_number t.commodities x.commodity < length t.commodities) t.spots
-accepted_spots t a = subst (λ (u : AcceptedTables). All (λ (x : Spot). commodity_number u.commodities x.commodity < length u.commodities) u.spots) (sym a.tables) (known_spots a.records (kept a.records a.kept))
+pub accepted_spots : (t : AcceptedTables) → IsAccepted t
+    → All (λ x. commodity_number t.commodities x.commodity < length t.commodities) t.spots
+accepted_spots t a =
+    subst (λ (u : AcceptedTables). All (λ (x : Spot). commodity_number u.commodities x.commodity < length u.commodities) u.spots)
+    (sym a.tables) (known_spots a.records (kept a.records a.kept))
 
-pub accepted_intras : (t : AcceptedTables) → IsAccepted t → All (λ x. commodity_number t.commodities x.commodity < length t.commodities) t.intras
-accepted_intras t a = subst (λ (u : AcceptedTables). All (λ (x : IntraRecord). commodity_number u.commodities x.commodity < length u.commodities) u.intras) (sym a.tables) (known_intras a.records (kept a.records a.kept))
+pub accepted_intras : (t : AcceptedTables) → IsAccepted t
+    → All (λ x. commodity_number t.commodities x.commodity < length t.commodities) t.intras
+accepted_intras t a =
+    subst (λ (u : AcceptedTables). All (λ (x : IntraRecord). commodity_number u.commodities x.commodity < length u.commodities) u.intras)
+    (sym a.tables) (known_intras a.records (kept a.records a.kept))

@@ -1,11 +1,14 @@
 -- What the accepted tables of a set keep, and what is made of them beforehand.
-use Rattle.std.specs.Prelude.{◌≡◌, ℕ, ◌<◌, ◌≤◌, true, false, List, [], length, map, slice_get, slice_index_or, option_map, unwrap_or, ◌==◌, bytes_eq, All, nat_abs}
+use Rattle.std.specs.Prelude.{◌≡◌, ℕ, ◌<◌, ◌≤◌, true, false, List, [], length, map, slice_get}
+use Rattle.std.specs.Prelude.{slice_index_or, option_map, unwrap_or, ◌==◌, bytes_eq, All, nat_abs}
 use Rattle.std.specs.List.{position_or_len}
 use Rattle.span_tables.specs.Names.{has_repeat}
 use Rattle.span_tables.specs.Rules.{keeps_rules}
 use Rattle.span_tables.specs.Limits.{is_readable}
 use Rattle.span_tables.specs.Tables.{AcceptedTables, tables_of, intras_of, spots_of, inters_of}
-use Rattle.span_tables.specs.declared.limits.TheConstants.{MAX_COMMODITIES, MAX_CONTRACTS, MAX_INTRA_SPREADS, MAX_SPOT_MONTHS, MAX_INTER_SPREADS, MAX_RATE, MAX_ARRAY_VALUE, MAX_DELTA, MAX_SCALE, SCENARIOS, MAX_RATIO, MAX_BASIS_POINTS}
+use Rattle.span_tables.specs.declared.limits.TheConstants.{MAX_COMMODITIES, MAX_CONTRACTS, MAX_INTRA_SPREADS}
+use Rattle.span_tables.specs.declared.limits.TheConstants.{MAX_SPOT_MONTHS, MAX_INTER_SPREADS, MAX_RATE, MAX_ARRAY_VALUE}
+use Rattle.span_tables.specs.declared.limits.TheConstants.{MAX_DELTA, MAX_SCALE, SCENARIOS, MAX_RATIO, MAX_BASIS_POINTS}
 use Rattle.span_tables.specs.declared.records.Commodity.{Commodity}
 use Rattle.span_tables.specs.declared.records.Contract.{Contract}
 use Rattle.span_tables.specs.declared.records.Spot.{Spot}

@@ -1,5 +1,6 @@
 -- What the records of a parameter file without a fault keep: their ranges and their numbers.
-use Rattle.std.specs.Prelude.{ℕ, Bool, false, not, ◌&&◌, ◌==◌, nat_le, List, [], ◌∷◌, length, count_by, is_some, bytes_eq, nat_abs}
+use Rattle.std.specs.Prelude.{ℕ, Bool, false, not, ◌&&◌, ◌==◌, nat_le, List, []}
+use Rattle.std.specs.Prelude.{◌∷◌, length, count_by, is_some, bytes_eq, nat_abs}
 use Rattle.std.specs.List.{list_all}
 use Rattle.span_tables.specs.Names.{is_name}
 use Rattle.span_money.specs.Numbers.{is_month}
@@ -12,7 +13,9 @@ use Rattle.span_tables.specs.declared.records.Spot.{Spot}
 use Rattle.span_tables.specs.declared.records.InterRecord.{InterRecord}
 use Rattle.span_tables.specs.declared.records.Record.{Record}
 use Rattle.span_tables.specs.declared.records.Record.TheVariants as record_of
-use Rattle.span_tables.specs.declared.limits.TheConstants.{MAX_COMMODITIES, MAX_CONTRACTS, MAX_TIERS, MAX_INTRA_SPREADS, MAX_SPOT_MONTHS, MAX_INTER_SPREADS, MAX_RATE, MAX_ARRAY_VALUE, MAX_DELTA, MAX_SCALE, MAX_RATIO, MAX_TIER_NUMBER, MAX_PRIORITY, MAX_BASIS_POINTS, MIN_LEGS, MAX_LEGS, SCENARIOS}
+use Rattle.span_tables.specs.declared.limits.TheConstants.{MAX_COMMODITIES, MAX_CONTRACTS, MAX_TIERS, MAX_INTRA_SPREADS, MAX_SPOT_MONTHS}
+use Rattle.span_tables.specs.declared.limits.TheConstants.{MAX_INTER_SPREADS, MAX_RATE, MAX_ARRAY_VALUE, MAX_DELTA, MAX_SCALE, MAX_RATIO}
+use Rattle.span_tables.specs.declared.limits.TheConstants.{MAX_TIER_NUMBER, MAX_PRIORITY, MAX_BASIS_POINTS, MIN_LEGS, MAX_LEGS, SCENARIOS}
 
 -- n lies from low to high
 abbrev pub lies_within : ℕ → ℕ → ℕ → Bool

@@ -1,5 +1,6 @@
 -- Net quantities, and the contracts that an account holds.
-use Rattle.std.specs.Prelude.{ℕ, Bool, not, ◌&&◌, ◌==◌, List, map, filter, filter_map, Option, option_map, slice_get, bytes_eq, ℤ, nat_abs}
+use Rattle.std.specs.Prelude.{ℕ, Bool, not, ◌&&◌, ◌==◌, List, map, filter, filter_map}
+use Rattle.std.specs.Prelude.{Option, option_map, slice_get, bytes_eq, ℤ, nat_abs}
 use Rattle.std.specs.List.{enumerate_from}
 use Rattle.span_money.specs.Numbers.{int_sum_by}
 use Rattle.span_tables.specs.Names.{distinct}
@@ -47,7 +48,11 @@ pub record HeldContract : Type 0 where
 abbrev pub held_contract : List Contract → Holding → Option HeldContract
 held_contract contracts h = option_map (λ x. record { contract = x; net = h.net }) (slice_get contracts h.contract)
 
+-- the holdings with their contracts' whole records
+abbrev pub held_contracts : List Contract → List Holding → List HeldContract
+held_contracts contracts holdings = filter_map (held_contract contracts) holdings
+
 -- the held contracts of a commodity, by rising contract number
 unfoldable pub held_of : List Contract → List Holding → List ℕ → List HeldContract
 held_of contracts holdings commodity =
-    filter (λ h. bytes_eq (h.contract).commodity commodity) (filter_map (held_contract contracts) holdings)
+    filter (λ h. bytes_eq (h.contract).commodity commodity) (held_contracts contracts holdings)

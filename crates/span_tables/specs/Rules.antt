@@ -1,5 +1,6 @@
 -- The rules that the records of a parameter file keep among themselves.
-use Rattle.std.specs.Prelude.{ℕ, Bool, true, false, not, ◌&&◌, ◌||◌, ◌==◌, nat_lt, nat_le, min, max, if◌then◌else◌, List, [], ◌∷◌, map, filter_map, Option, Some, None, is_none, bytes_eq}
+use Rattle.std.specs.Prelude.{ℕ, Bool, true, false, not, ◌&&◌, ◌||◌, ◌==◌, nat_lt, nat_le, min, max}
+use Rattle.std.specs.Prelude.{if◌then◌else◌, List, [], ◌∷◌, map, filter_map, Option, Some, None, is_none, bytes_eq}
 use Rattle.std.specs.List.{list_any, list_all}
 use Rattle.std.specs.Option.{option_map_or}
 use Rattle.span_tables.specs.Faults.{first_fault}
@@ -14,7 +15,8 @@ use Rattle.span_tables.specs.declared.records.Spot.{Spot}
 use Rattle.span_tables.specs.declared.records.InterRecord.{InterRecord}
 use Rattle.span_tables.specs.declared.records.SetRecord.{SetRecord}
 use Rattle.span_tables.specs.declared.records.Record.{Record}
-use Rattle.span_tables.specs.declared.records.Record.TheVariants.{Set, Commodity as CommodityRecord, Contract as ContractRecord, Tier as TierRecord, Intra, Spot as SpotRecord, Inter}
+use Rattle.span_tables.specs.declared.records.Record.TheVariants.{Set, Commodity as CommodityRecord, Contract as ContractRecord}
+use Rattle.span_tables.specs.declared.records.Record.TheVariants.{Tier as TierRecord, Intra, Spot as SpotRecord, Inter}
 
 -- ---- the records of each kind, in file order
 

@@ -1,5 +1,6 @@
 //! What names a commodity, by the commodities' numbers.
-ghost use Rattle.std.specs.Prelude.{◌≡◌, ◌<◌, ◌++◌, ◌∷◌, [], length, map, filter, bytes_eq, replicate, slice_index_or, slice_set, false, All, IfOk, OnOk};
+ghost use Rattle.std.specs.Prelude.{◌≡◌, ◌<◌, ◌++◌, ◌∷◌, [], length, map, filter};
+ghost use Rattle.std.specs.Prelude.{bytes_eq, replicate, slice_index_or, slice_set, false, All, IfOk, OnOk};
 ghost use Rattle.std.specs.List.{position};
 ghost use Rattle.span_tables.specs.Accepted.{commodity_number};
 ghost use Rattle.span_tables.specs.Names.{has_repeat};
@@ -69,7 +70,9 @@ pub(crate) fn push_at<T: Drop>(
     value: T,
 ) -> Result<(), AllocError>
     requires { place < length lists.old.items }
-    ensures items { OnOk result (map (λ v. v.items) lists.new.items ≡ slice_set (map (λ v. v.items) lists.old.items) place (slice_index_or (map (λ v. v.items) lists.old.items) place [] ++ value ∷ [])) }
+    ensures items { OnOk result (map (λ v. v.items) lists.new.items
+        ≡ slice_set (map (λ v. v.items) lists.old.items) place
+        (slice_index_or (map (λ v. v.items) lists.old.items) place [] ++ value ∷ [])) }
     ensures len { length lists.new.items ≡ length lists.old.items }
 {
     lists[place].push(value)?;
@@ -84,7 +87,8 @@ pub(crate) fn tiers_by_commodity(
 ) -> Result<Vec<Vec<Tier>>, AllocError>
     requires apart { has_repeat (λ c d. bytes_eq c.id d.id) commodities.now ≡ false }
     requires known { All (λ t. commodity_number commodities.now t.commodity < length commodities.now) tiers.now }
-    ensures { IfOk result (λ lists. map (λ v. v.items) lists.items ≡ map (λ c. filter (λ t. bytes_eq t.commodity c.id) tiers.now) commodities.now) }
+    ensures { IfOk result (λ lists. map (λ v. v.items) lists.items
+        ≡ map (λ c. filter (λ t. bytes_eq t.commodity c.id) tiers.now) commodities.now) }
 {
     let mut lists = empty_lists(alloc, commodities.len())?;
     for tier in tiers {
@@ -102,7 +106,8 @@ pub(crate) fn spots_by_commodity(
 ) -> Result<Vec<Vec<Spot>>, AllocError>
     requires apart { has_repeat (λ c d. bytes_eq c.id d.id) commodities.now ≡ false }
     requires known { All (λ s. commodity_number commodities.now s.commodity < length commodities.now) spots.now }
-    ensures { IfOk result (λ lists. map (λ v. v.items) lists.items ≡ map (λ c. filter (λ s. bytes_eq s.commodity c.id) spots.now) commodities.now) }
+    ensures { IfOk result (λ lists. map (λ v. v.items) lists.items
+        ≡ map (λ c. filter (λ s. bytes_eq s.commodity c.id) spots.now) commodities.now) }
 {
     let mut lists = empty_lists(alloc, commodities.len())?;
     for spot in spots {

@@ -1,11 +1,11 @@
-//! The contracts of one commodity that an account holds.
+//! The contracts of one commodity that an account holds (docs/METHOD.md, "Positions").
 ghost use Rattle.std.specs.Prelude.{◌≡◌, ◌==◌, ◌<◌, ◌≤◌, true, length, map, nat_abs, slice_get, All, IfOk, IfSome};
 ghost use Rattle.std.specs.Arc.{arc_value};
 ghost use Rattle.span_tables.specs.Accepted.{IsContract, IsWithinLimits, commodity_id};
-ghost use Rattle.span_tables.specs.Holdings.{AreHeld, fits};
-ghost use Rattle.span_tables.specs.Net.{held_of};
+ghost use Rattle.span_tables.specs.Holdings.{AreHeld, AreHoldings, fits};
+ghost use Rattle.span_tables.specs.Net.{held_contracts, held_of};
 ghost use Rattle.span_tables.specs.declared.limits.TheConstants.{MAX_HELD, MAX_NET};
-ghost use Rattle.span_tables.specs.steps.Gathered.{AreHoldings, held_contracts, holdings_in};
+ghost use Rattle.span_tables.specs.steps.Gathered.{holdings_in};
 
 use crate::groups::{lists_with_room, push_at};
 use crate::limits::MAX_COMMODITIES;
@@ -29,8 +29,8 @@ pub struct Held {
 impl Model for Held {
     ghost use Rattle.std.specs.Prelude.{List};
     ghost use Rattle.std.specs.Arc.{arc_value};
-    ghost use Rattle.span_tables.specs.Net.{HeldContract};
-    ghost use Rattle.span_tables.specs.steps.Gathered.{AreHoldings, held_contracts};
+    ghost use Rattle.span_tables.specs.Holdings.{AreHoldings};
+    ghost use Rattle.span_tables.specs.Net.{HeldContract, held_contracts};
 
     ghost Value = { List HeldContract };
 
@@ -75,7 +75,7 @@ impl Held {
         &self.contracts[self.holdings[place].contract]
     }
 
-    /// The net quantity of the held contract at a place.
+    /// The net quantity of the held contract at a place, in contracts; a short one is negative.
     pub fn net(&self, place: usize) -> i64
         requires { place < length self.now }
         ensures value { IfSome (slice_get self.now place) (λ held. result ≡ held.net) }
@@ -125,7 +125,8 @@ fn holdings_by_commodity(
     portfolio: &Portfolio,
 ) -> Result<Vec<Vec<Holding>>, AllocError>
     requires { fits (length tables.now.contracts) portfolio.now.holdings ≡ true }
-    ensures value { IfOk result (λ lists. map (λ v. v.items) lists.items ≡ map (λ c. holdings_in tables.now.contracts portfolio.now.holdings c.id) tables.now.commodities) }
+    ensures value { IfOk result (λ lists. map (λ v. v.items) lists.items
+        ≡ map (λ c. holdings_in tables.now.contracts portfolio.now.holdings c.id) tables.now.commodities) }
     ensures in_range { IfOk result (λ lists. All (λ v. AreHoldings tables.now.contracts v.items) lists.items) }
 {
     let commodities = tables.commodities().len();
@@ -162,7 +163,8 @@ pub fn gather_all(
     portfolio: &Portfolio,
 ) -> Result<Vec<Held>, AllocError>
     requires { fits (length tables.now.contracts) portfolio.now.holdings ≡ true }
-    ensures { IfOk result (λ held. held.items ≡ map (λ c. held_of tables.now.contracts portfolio.now.holdings c.id) tables.now.commodities) }
+    ensures { IfOk result (λ held. held.items
+        ≡ map (λ c. held_of tables.now.contracts portfolio.now.holdings c.id) tables.now.commodities) }
 {
     let lists = holdings_by_commodity(alloc, tables, portfolio)?;
     as_held(alloc, tables, lists)

@@ -25,7 +25,8 @@ impl Kinds {
     ghost use Rattle.span_tables.specs.steps.ByKind.{AreByKind};
 
     fn new(alloc: Global) -> Kinds
-        ensures { AreByKind [] result.commodities.items result.contracts.items result.tiers.items result.intras.items result.spots.items result.inters.items }
+        ensures { AreByKind [] result.commodities.items result.contracts.items result.tiers.items result.intras.items result.spots.items
+            result.inters.items }
     {
         Kinds {
             commodities: Vec::new(alloc),
@@ -61,7 +62,8 @@ fn add(kinds: &mut Kinds, next: Record) -> Result<(), AllocError>
 
 // The records by their kinds.
 pub(crate) fn by_kind(alloc: Global, records: Vec<Record>) -> Result<Kinds, AllocError>
-    ensures { IfOk result (λ kinds. AreByKind records.items kinds.commodities.items kinds.contracts.items kinds.tiers.items kinds.intras.items kinds.spots.items kinds.inters.items) }
+    ensures { IfOk result (λ kinds. AreByKind records.items kinds.commodities.items kinds.contracts.items kinds.tiers.items
+        kinds.intras.items kinds.spots.items kinds.inters.items) }
 {
     let mut kinds = Kinds::new(alloc);
     for record in records {

@@ -1,5 +1,6 @@
 //! Laws of the definitions, in the methodology's words: each is the contract of a function that does nothing.
-ghost use Rattle.std.specs.Prelude.{false, true, ◌≡◌, ◌≢◌, ℕ, ◌%◌, ◌≤◌, List, ◌∷◌, filter, bytes_eq, IsPermutation, ℤ, pos};
+ghost use Rattle.std.specs.Prelude.{false, true, ◌≡◌, ◌≢◌, ℕ, ◌%◌, ◌≤◌};
+ghost use Rattle.std.specs.Prelude.{List, ◌∷◌, filter, bytes_eq, IsPermutation, ℤ, pos};
 ghost use Rattle.span_money.specs.Numbers.{int_sum_by};
 ghost use Rattle.span_tables.specs.Laws.{Fits, HaveRatios, IsRisingBy};
 ghost use Rattle.span_tables.specs.Names.{distinct, has_repeat, is_among};

@@ -1,6 +1,10 @@
 //! The limits with their digits: whoever changes one in `limits` changes it here too, and nowhere else.
 ghost use Rattle.std.specs.Prelude.{◌≡◌};
-ghost use Rattle.span_tables.specs.declared.limits.TheConstants.{MAX_COMMODITIES, MAX_CONTRACTS, MAX_INTER_SPREADS, MAX_TIERS, MAX_INTRA_SPREADS, MAX_SPOT_MONTHS, MAX_ACCOUNTS, MAX_NET, MAX_HELD, SCENARIOS, MIN_LEGS, MAX_LEGS, MAX_RATE, MAX_ARRAY_VALUE, MAX_DELTA, MAX_SCALE, MAX_RATIO, MAX_TIER_NUMBER, MAX_PRIORITY, MAX_BASIS_POINTS, MAX_QUANTITY};
+ghost use Rattle.span_tables.specs.declared.limits.TheConstants.{MAX_COMMODITIES, MAX_CONTRACTS, MAX_INTER_SPREADS, MAX_TIERS};
+ghost use Rattle.span_tables.specs.declared.limits.TheConstants.{MAX_INTRA_SPREADS, MAX_SPOT_MONTHS, MAX_ACCOUNTS, MAX_NET};
+ghost use Rattle.span_tables.specs.declared.limits.TheConstants.{MAX_HELD, SCENARIOS, MIN_LEGS, MAX_LEGS, MAX_RATE};
+ghost use Rattle.span_tables.specs.declared.limits.TheConstants.{MAX_ARRAY_VALUE, MAX_DELTA, MAX_SCALE, MAX_RATIO};
+ghost use Rattle.span_tables.specs.declared.limits.TheConstants.{MAX_TIER_NUMBER, MAX_PRIORITY, MAX_BASIS_POINTS, MAX_QUANTITY};
 
 /// How many there may be of each thing.
 pub fn counts_have_these_digits()

@@ -1,4 +1,5 @@
-//! The limits of a set of parameters and of an account, and the ranges of the fields of their records.
+//! The limits of a set of parameters and of an account, and the ranges of the fields of their records (docs/METHOD.md,
+//! "Limits").
 
 /// COMMODITY records of a file.
 pub const MAX_COMMODITIES: usize = 64;
@@ -14,7 +15,7 @@ pub const MAX_INTRA_SPREADS: usize = 64;
 pub const MAX_SPOT_MONTHS: usize = 16;
 /// Accounts of a position file.
 pub const MAX_ACCOUNTS: usize = 4096;
-/// The size of a net quantity.
+/// The size of a net quantity, in contracts.
 pub const MAX_NET: u64 = 100_000;
 /// Contracts that an account holds.
 pub const MAX_HELD: usize = 256;
@@ -41,7 +42,7 @@ pub const MAX_TIER_NUMBER: u32 = 32;
 pub const MAX_PRIORITY: u32 = 9999;
 /// A credit rate, in basis points.
 pub const MAX_BASIS_POINTS: u32 = 10_000;
-/// The size of a position record's quantity.
+/// The size of a position record's quantity, in contracts.
 pub const MAX_QUANTITY: u32 = 1_000_000;
 
 /// The sizes of an account's month deltas in a commodity together, in units of 10^-8: as many contracts as may be held,

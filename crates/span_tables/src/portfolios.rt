@@ -1,4 +1,4 @@
-//! What accounts hold.
+//! What accounts hold (docs/METHOD.md, "Positions").
 ghost use Rattle.std.specs.Prelude.{◌≡◌, ◌≤◌, length};
 ghost use Rattle.span_tables.specs.Holdings.{ArePortfolio, fits};
 
@@ -6,7 +6,7 @@ use crate::name::Name;
 use crate::tables::Tables;
 use std::marker::Model;
 
-/// The number of a contract in the tables, with an account's net quantity in it.
+/// The number of a contract in the tables, with an account's net quantity in it, in contracts; a short one is negative.
 #[derive(Clone, Copy, Debug)]
 pub struct Holding {
     pub contract: usize,

@@ -1,4 +1,5 @@
-//! The records of both files, and the spreads that the tables make of them: plain data.
+//! The records of both files (docs/FORMATS.md), and the spreads that the tables make of them: plain data, in the units
+//! of docs/METHOD.md, "Units".
 ghost use Rattle.std.specs.Prelude.{◌≡◌};
 ghost use Rattle.span_tables.specs.steps.Legs.{slots_on};
 
@@ -184,7 +185,8 @@ pub struct PositionRecord {
     pub quantity: i32,
 }
 
-/// A record of a position file, with the number of its account from 0, in the order of first appearance.
+/// A record of a position file, with the number of its account from 0, in the order of first appearance. The quantity
+/// is in contracts; a short one is negative.
 #[derive(Drop)]
 pub struct NumberedPosition {
     pub contract: Name,

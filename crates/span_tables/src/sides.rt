@@ -1,4 +1,5 @@
-//! The directions of a spread, the market sides of its legs in them, and how much of a rest is on a market side.
+//! The directions of a spread, the market sides of its legs in them, and how much of a rest is on a market side
+//! (docs/METHOD.md, "Intracommodity spreads" and "Intercommodity spreads").
 ghost use Rattle.std.specs.Prelude.{◌≡◌, ◌+◌, ◌≤◌, nat_abs};
 ghost use Rattle.span_tables.specs.Sides.{IsLeftOf, less_used, market_side, part_on};
 ghost use Rattle.span_tables.specs.declared.limits.TheConstants.{MAX_UNITS};
@@ -43,7 +44,7 @@ pub fn part_on(side: MarketSide, rest: Units) -> u64
     }
 }
 
-/// A rest of which some units on a market side were used.
+/// A rest, in units of 10^-8, of which so many on a market side were used.
 pub fn less_used(side: MarketSide, rest: Units, used: u64) -> Units
     requires rest { nat_abs rest ≤ MAX_UNITS }
     requires used { used ≤ part_on side rest }

@@ -1,5 +1,6 @@
 //! Spreads with what they name: the months of their tiers, or the numbers of their commodities.
-ghost use Rattle.std.specs.Prelude.{◌≡◌, ◌<◌, ◌&&◌, ◌==◌, length, map, filter, find, option_copied, bytes_eq, false, All, IfOk};
+ghost use Rattle.std.specs.Prelude.{◌≡◌, ◌<◌, ◌&&◌, ◌==◌, length, map};
+ghost use Rattle.std.specs.Prelude.{filter, find, option_copied, bytes_eq, false, All, IfOk};
 ghost use Rattle.span_tables.specs.Accepted.{commodity_number};
 ghost use Rattle.span_tables.specs.Names.{has_repeat};
 ghost use Rattle.span_tables.specs.Tables.{commodity_leg, inter_spread, intra_spread, month_leg};
@@ -61,7 +62,8 @@ pub(crate) fn intras_by_commodity(
     requires apart { has_repeat (λ c d. bytes_eq c.id d.id) commodities.now ≡ false }
     requires tiers_known { All (λ t. commodity_number commodities.now t.commodity < length commodities.now) tiers.now }
     requires known { All (λ s. commodity_number commodities.now s.commodity < length commodities.now) spreads.now }
-    ensures { IfOk result (λ lists. map (λ v. v.items) lists.items ≡ map (λ c. map (intra_spread tiers.now) (filter (λ s. bytes_eq s.commodity c.id) spreads.now)) commodities.now) }
+    ensures { IfOk result (λ lists. map (λ v. v.items) lists.items
+        ≡ map (λ c. map (intra_spread tiers.now) (filter (λ s. bytes_eq s.commodity c.id) spreads.now)) commodities.now) }
 {
     let tier_lists = tiers_by_commodity(alloc, commodities, tiers)?;
     let mut lists = empty_lists(alloc, commodities.len())?;

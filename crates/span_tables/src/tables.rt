@@ -1,5 +1,6 @@
 //! The accepted tables of a set of parameters.
-ghost use Rattle.std.specs.Prelude.{◌≡◌, ◌<◌, ◌≤◌, [], bytes_eq, length, map, slice_get, slice_index_or, false, true, All, IfOk, IfSome};
+ghost use Rattle.std.specs.Prelude.{◌≡◌, ◌<◌, ◌≤◌, [], bytes_eq, length, map};
+ghost use Rattle.std.specs.Prelude.{slice_get, slice_index_or, false, true, All, IfOk, IfSome};
 ghost use Rattle.std.specs.Arc.{arc_value};
 ghost use Rattle.span_tables.specs.Accepted.{IsAccepted, IsInter, IsIntra, IsSpot, IsWithinLimits, commodity_id, commodity_number};
 ghost use Rattle.span_tables.specs.Rules.{keeps_rules};
@@ -195,7 +196,8 @@ impl Tables {
     // The number of the commodity of the contract of a number.
     pub(crate) fn commodity_of(&self, contract: usize) -> usize
         requires { contract < length self.now.contracts }
-        ensures value { IfSome (slice_get self.now.contracts contract) (λ x. result ≡ commodity_number self.now.commodities x.commodity) }
+        ensures value { IfSome (slice_get self.now.contracts contract)
+            (λ x. result ≡ commodity_number self.now.commodities x.commodity) }
         ensures known { result < length self.now.commodities }
     {
         self.commodity_numbers[contract]

@@ -28,7 +28,16 @@ fn name(rt: &impl Abort, text: &[u8]) -> Name
 }
 
 fn contract(rt: &impl Abort, id: &[u8], commodity: &[u8], month: u32) -> Record
-    ensures { result ≡ record_of.Contract (record { id = id.now; commodity = commodity.now; kind = product.Future; month = month; delta = pos 10000; scale = 10000; values = repeat 16 (pos 7 ∷ []) }) }
+    ensures { result ≡ record_of.Contract
+        (record {
+          id = id.now;
+          commodity = commodity.now;
+          kind = product.Future;
+          month = month;
+          delta = pos 10000;
+          scale = 10000;
+          values = repeat 16 (pos 7 ∷ []);
+        }) }
 {
     Record::Contract(Contract {
         id: name(rt, id),
@@ -63,7 +72,16 @@ fn tier(rt: &impl Abort, number: u32, first: u32, last: u32) -> Record
 }
 
 fn intra(rt: &impl Abort, priority: u32, rate: u32, long: u32, short: u32) -> Record
-    ensures { result ≡ record_of.Intra (record { commodity = codes "AA"; priority = priority; rate = rate; legs = record { items = record { tier = long; side = side.A; ratio = 10000 } ∷ record { tier = short; side = side.B; ratio = 10000 } ∷ [] } }) }
+    ensures { result ≡ record_of.Intra
+        (record {
+          commodity = codes "AA";
+          priority = priority;
+          rate = rate;
+          legs = record {
+            items = record { tier = long; side = side.A; ratio = 10000 }
+                ∷ record { tier = short; side = side.B; ratio = 10000 } ∷ [];
+          };
+        }) }
 {
     let ratio = Ratio::new(10_000);
     let mut legs = ArrayVec::new();
@@ -86,7 +104,15 @@ fn intra(rt: &impl Abort, priority: u32, rate: u32, long: u32, short: u32) -> Re
 }
 
 fn inter(rt: &impl Abort) -> Record
-    ensures { result ≡ record_of.Inter (record { priority = 1; basis_points = 5000; legs = record { items = record { commodity = codes "BB"; side = side.A; ratio = 10000 } ∷ record { commodity = codes "AA"; side = side.B; ratio = 10000 } ∷ [] } }) }
+    ensures { result ≡ record_of.Inter
+        (record {
+          priority = 1;
+          basis_points = 5000;
+          legs = record {
+            items = record { commodity = codes "BB"; side = side.A; ratio = 10000 }
+                ∷ record { commodity = codes "AA"; side = side.B; ratio = 10000 } ∷ [];
+          };
+        }) }
 {
     let ratio = Ratio::new(10_000);
     let mut legs = ArrayVec::new();

@@ -1,7 +1,8 @@
 -- The rules in groups, in the order of their numbers.
 use Rattle.std.specs.Prelude.{ℕ, Bool, List, [], ◌∷◌, Option, option_map}
 use Rattle.span_tables.specs.Faults.{first_some}
-use Rattle.span_tables.specs.Rules.{first_breaking, repeats_commodity, names_no_commodity, repeats_contract, repeats_tier, is_backwards, overlaps_tier, names_no_tier, repeats_leg, is_one_sided, repeats_priority, repeats_spot}
+use Rattle.span_tables.specs.Rules.{first_breaking, repeats_commodity, names_no_commodity, repeats_contract, repeats_tier, is_backwards}
+use Rattle.span_tables.specs.Rules.{overlaps_tier, names_no_tier, repeats_leg, is_one_sided, repeats_priority, repeats_spot}
 use Rattle.span_tables.specs.declared.records.Record.{Record}
 use Rattle.param_check.specs.declared.faults.CheckFault.{CheckFault}
 use Rattle.param_check.specs.declared.faults.CheckFault.TheVariants as fault

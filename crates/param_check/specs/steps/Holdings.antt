@@ -1,5 +1,6 @@
 -- The nets of all accounts, and the faults found in them.
-use Rattle.std.specs.Prelude.{ℕ, Bool, false, ◌&&◌, ◌==◌, nat_lt, List, [], length, map, zip, Option, Some, None, Result, position, slice_index_or, bytes_eq, nat_abs}
+use Rattle.std.specs.Prelude.{ℕ, Bool, false, ◌&&◌, ◌==◌, nat_lt, List, [], length, map, zip}
+use Rattle.std.specs.Prelude.{Option, Some, None, Result, position, slice_index_or, bytes_eq, nat_abs}
 use Rattle.std.specs.List.{list_any}
 use Rattle.std.specs.Option.{option_or}
 use Rattle.span_tables.specs.Faults.{ok_unless}
@@ -57,6 +58,7 @@ abbrev pub portfolios_from : List (List ℕ) → List (List Holding) → List Ac
 portfolios_from accounts nets = map (λ n. record { account = n.0; holdings = n.1 }) (zip accounts nets)
 
 -- the portfolios of accounts with their nets, or the fault in them
-unfoldable pub portfolios_or_fault : List (List ℕ) → List (List ℕ) → List (List Holding) → List PositionRecord → Result (List AccountHoldings) BindFault
+unfoldable pub portfolios_or_fault : List (List ℕ) → List (List ℕ) → List (List Holding) → List PositionRecord
+    → Result (List AccountHoldings) BindFault
 portfolios_or_fault ids accounts nets positions =
     ok_unless (option_or (net_fault ids accounts nets positions) (held_fault accounts nets positions)) (portfolios_from accounts nets)

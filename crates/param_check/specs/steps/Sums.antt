@@ -1,15 +1,17 @@
 -- Sums by contract number, where a mark says whether anything was added.
-use Rattle.std.specs.Prelude.{◌≡◌, ℕ, ◌+◌, ◌*◌, ◌/◌, ◌%◌, ◌<◌, ◌≤◌, ◌==◌, Bool, true, nat_lt, nat_abs, if◌then◌else◌, List, map, length, slice_index_or, ℤ, pos}
+use Rattle.std.specs.Prelude.{◌≡◌, ℕ, ◌+◌, ◌*◌, ◌/◌, ◌%◌, ◌<◌, ◌≤◌, ◌==◌, Bool}
+use Rattle.std.specs.Prelude.{true, nat_lt, nat_abs, if◌then◌else◌, List, map, length, slice_index_or, ℤ, pos}
 use Rattle.std.specs.Int.{bit_at}
 use Rattle.std.specs.List.{range_with_len}
 use Rattle.span_tables.specs.declared.limits.TheConstants.{MAX_NET}
 use Rattle.span_tables.specs.declared.portfolios.Holding.{Holding}
 use Rattle.param_check.specs.steps.Nets.{entry_holdings, holdings_in}
 use Rattle.param_check.specs.declared.nets.Entry.{Entry}
+use Rattle.param_check.specs.declared.sums.TheConstants.{MARKS}
 
 -- the bit of a number is set
 abbrev pub is_marked : List ℕ → ℕ → Bool
-is_marked marks k = bit_at (slice_index_or marks (k / 64) 0) (k % 64) == 1
+is_marked marks k = bit_at (slice_index_or marks (k / MARKS) 0) (k % MARKS) == 1
 
 -- the sum of a number: what stands in its place where it is marked, and 0 where it is not
 abbrev pub sum_at : List ℕ → List ℤ → ℕ → ℤ
@@ -21,7 +23,7 @@ sums_of marks places = map (sum_at marks places) (range_with_len 0 (length place
 
 -- there is a mark for each of so many numbers, and none of another is set
 pub record AreMarks (marks : List ℕ) (n : ℕ) : Type 0 where
-  pub room : n ≤ 64 * length marks
+  pub room : n ≤ MARKS * length marks
   pub within : (k : ℕ) → is_marked marks k ≡ true → k < n
 
 -- a net as it is kept: one that is over the limit either way stands as the least that is

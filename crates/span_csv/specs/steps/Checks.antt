@@ -1,10 +1,13 @@
 -- The faults of a parameter record part by part, and the counts that its limits speak of.
-use Rattle.std.specs.Prelude.{◌≡◌, ⊤, ℕ, ◌+◌, Bool, not, ◌&&◌, if◌then◌else◌, List, [], ◌∷◌, ◌++◌, length, count_by, Some, None, option_map, is_none, unwrap_or, codes, bytes_eq, Result, Ok, Err, MatchBool}
+use Rattle.std.specs.Prelude.{◌≡◌, ⊤, ℕ, ◌+◌, Bool, not, ◌&&◌, if◌then◌else◌, List, [], ◌∷◌, ◌++◌}
+use Rattle.std.specs.Prelude.{length, count_by, Some, None, option_map, is_none, unwrap_or, codes, bytes_eq, Result, Ok, Err, MatchBool}
 use Rattle.std.specs.HashMap.{HashMap, get}
 use Rattle.span_tables.specs.Faults.{first_that_holds}
 use Rattle.span_tables.specs.declared.records.Record.{Record}
-use Rattle.span_tables.specs.declared.limits.TheConstants.{MAX_COMMODITIES, MAX_CONTRACTS, MAX_TIERS, MAX_INTRA_SPREADS, MAX_SPOT_MONTHS, MAX_INTER_SPREADS}
-use Rattle.span_csv.specs.Records.{Fields, RecordKind, a_set, a_commodity, a_contract, a_tier, an_intra, a_spot, an_inter, kind_of, layout_of, text_at, has_word_form, has_number_form, is_in_range, param_record}
+use Rattle.span_tables.specs.declared.limits.TheConstants.{MAX_COMMODITIES, MAX_CONTRACTS, MAX_TIERS}
+use Rattle.span_tables.specs.declared.limits.TheConstants.{MAX_INTRA_SPREADS, MAX_SPOT_MONTHS, MAX_INTER_SPREADS}
+use Rattle.span_csv.specs.Records.{Fields, RecordKind, a_set, a_commodity, a_contract, a_tier, an_intra, a_spot, an_inter}
+use Rattle.span_csv.specs.Records.{kind_of, layout_of, text_at, has_word_form, has_number_form, is_in_range, param_record}
 use Rattle.span_csv.specs.ParamFaults.{is_set, some_fail, param_faults, is_memory}
 use Rattle.span_csv.specs.declared.faults.ParamFault.{ParamFault}
 use Rattle.span_csv.specs.declared.faults.ParamFault.TheVariants as fault
@@ -12,12 +15,14 @@ use Rattle.span_csv.specs.declared.tally.Tally.{Tally}
 
 -- the faults of a record's kind, where it is the first or not
 abbrev pub kind_faults : Bool → Fields → List (Bool × (ℕ → ParamFault))
-kind_faults first r = (first && not (is_set r), fault.NoSet) ∷ (not first && is_set r, fault.SecondSet) ∷ (is_none (kind_of r), fault.UnknownKind) ∷ []
+kind_faults first r =
+    (first && not (is_set r), fault.NoSet) ∷ (not first && is_set r, fault.SecondSet) ∷ (is_none (kind_of r), fault.UnknownKind) ∷ []
 
 -- the faults of its fields
 abbrev pub field_faults : Fields → List (Bool × (ℕ → ParamFault))
 field_faults r =
-    (is_none (layout_of r), fault.FieldCount) ∷ (some_fail has_word_form r, fault.BadName) ∷ (some_fail has_number_form r, fault.BadNumber)
+    (is_none (layout_of r), fault.FieldCount) ∷ (some_fail has_word_form r, fault.BadName)
+    ∷ (some_fail has_number_form r, fault.BadNumber)
     ∷ (some_fail is_in_range r, fault.OutOfRange) ∷ []
 
 -- the answer is that of the first of these faults that holds, told the record's number
@@ -93,5 +98,6 @@ HasTallied t n = (earlier : List Fields) × (length earlier ≡ n) × Tallies t 
 
 -- what is answered for a record behind earlier ones
 abbrev pub NextIs : List Fields → Fields → Result Record ParamFault → Tally → Type 0
-NextIs earlier r (Ok x) t = (first_that_holds (param_faults earlier r) ≡ None) × (x ≡ param_record r) × Tallies t (earlier ++ r ∷ [])
+NextIs earlier r (Ok x) t =
+    (first_that_holds (param_faults earlier r) ≡ None) × (x ≡ param_record r) × Tallies t (earlier ++ r ∷ [])
 NextIs earlier r (Err e) t = MatchBool (is_memory e) ⊤ (IsFaultOf (param_faults earlier r) (length earlier + 1) e)

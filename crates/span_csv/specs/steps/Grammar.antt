@@ -1,6 +1,9 @@
 -- The code's forms and kinds, as the record grammar has them.
-use Rattle.std.specs.Prelude.{◌≡◌, ◌⊎◌, ◌<◌, ◌+◌, ℕ, Bool, true, List, [], ◌∷◌, length, unwrap_or, slice_index_or}
-use Rattle.span_csv.specs.Records.{Fields, Form, a_name, a_currency, a_method, a_product, a_side, a_whole, a_decimal, a_month, RecordKind, a_set, a_commodity, a_contract, a_tier, an_intra, a_spot, an_inter, has_word_form, has_number_form, is_in_range, forms_of, text_at}
+use Rattle.std.specs.Prelude.{◌≡◌, ◌⊎◌, ◌<◌, ◌+◌, ℕ, Bool, true}
+use Rattle.std.specs.Prelude.{List, [], ◌∷◌, length, unwrap_or, slice_index_or}
+use Rattle.span_csv.specs.Records.{Fields, Form, a_name, a_currency, a_method, a_product, a_side, a_whole}
+use Rattle.span_csv.specs.Records.{a_decimal, a_month, RecordKind, a_set, a_commodity, a_contract, a_tier, an_intra}
+use Rattle.span_csv.specs.Records.{a_spot, an_inter, has_word_form, has_number_form, is_in_range, forms_of, text_at}
 use Rattle.span_csv.specs.declared.grammar.FieldForm.{FieldForm}
 use Rattle.span_csv.specs.declared.grammar.FieldForm.TheVariants as form
 use Rattle.span_csv.specs.declared.grammar.Kind.{Kind}

@@ -1,5 +1,6 @@
 -- Positions read one record after another, each field looked at once: the form that the code has of the definition of position files.
-use Rattle.std.specs.Prelude.{ℕ, ◌+◌, ℤ, Bool, not, ◌&&◌, ◌==◌, if◌then◌else◌, List, [], ◌∷◌, ◌++◌, length, Option, Some, None, Result, Ok, Err, pos, neg_ℤ}
+use Rattle.std.specs.Prelude.{ℕ, ◌+◌, ℤ, Bool, not, ◌&&◌, ◌==◌, if◌then◌else◌, List, []}
+use Rattle.std.specs.Prelude.{◌∷◌, ◌++◌, length, Option, Some, None, Result, Ok, Err, pos, neg_ℤ}
 use Rattle.span_tables.specs.Names.{is_name, is_among}
 use Rattle.span_tables.specs.Net.{accounts_of}
 use Rattle.span_money.specs.Numbers.{whole_number}

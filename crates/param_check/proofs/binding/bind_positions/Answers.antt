@@ -8,7 +8,8 @@ use Rattle.param_check.proofs.binding.bind_positions.Goals as goal
 pub returns-in_err-books : goal.returns-in_err-books
 returns-in_err-books c =
     let e = c.in_err-books.field-0.0 in
-    unknown_given c.args.contracts.now c.args.positions.now c.from_residual-in_err-books.result c.in_ok-numbers.numbers.keys e c.in_ok-numbers.ensures c.in_err-books.ensures
+    unknown_given c.args.contracts.now c.args.positions.now c.from_residual-in_err-books.result c.in_ok-numbers.numbers.keys e
+    c.in_ok-numbers.ensures c.in_err-books.ensures
     (err_is c.from_residual-in_err-books.result e c.from_residual-in_err-books.ensures.1)
 
 pub settle-requires-clause-fit : goal.settle-requires-clause-fit

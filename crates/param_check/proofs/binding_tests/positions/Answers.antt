@@ -14,5 +14,6 @@ loop-record-preserved c =
     let fits : SFits w32 q = search rules in
     let small : nat_abs q ≤ MAX_QUANTITY = search rules in
     rw (items, to_z-of_z w32 q fits)
-    (numbered_more c.loop-record.accounts.keys c.place.new.accounts.keys c.loop-record.all.items _ (c.record-item.result).account c.loop-record.invariant
+    (numbered_more c.loop-record.accounts.keys c.place.new.accounts.keys c.loop-record.all.items _ (c.record-item.result).account
+    c.loop-record.invariant
     c.in_ok-account.ensures.taken c.in_ok-account.ensures.at c.in_ok-account.ensures.few small)

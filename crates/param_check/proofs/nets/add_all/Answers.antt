@@ -7,8 +7,12 @@ pub loop-entry-preserved : goal.loop-entry-preserved
 loop-entry-preserved c =
     let was = c.loop-entry.invariant in
     record {
-      table = c.add.ensures ∙ table_more (length c.args.nets.now) c.loop-entry.entry-index c.args.entries.now _ c.loop-entry.nets was.table c.loop-entry-test.true;
-      small = λ k. rw c.add.ensures (small_more c.loop-entry.nets _ c.loop-entry.entry-index _ (c.requires.quantities c.loop-entry.entry-index _ c.loop-entry-test.true) was.small k);
+      table =
+          c.add.ensures ∙ table_more (length c.args.nets.now) c.loop-entry.entry-index c.args.entries.now _ c.loop-entry.nets was.table
+          c.loop-entry-test.true;
+      small =
+          λ k. rw c.add.ensures (small_more c.loop-entry.nets _ c.loop-entry.entry-index
+          _ (c.requires.quantities c.loop-entry.entry-index _ c.loop-entry-test.true) was.small k);
     }
 
 pub loop-entry-init : goal.loop-entry-init

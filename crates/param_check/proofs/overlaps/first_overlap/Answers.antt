@@ -1,4 +1,5 @@
-use Rattle.std.proofs.Common.{◌≡◌, ◌++◌, [], arith, sym, ◌∙◌, ap, true, false, get_or, take, bytes_eq, filter_map, option_to_list}
+use Rattle.std.proofs.Common.{◌≡◌, ◌++◌, [], arith, sym, ◌∙◌, ap, true}
+use Rattle.std.proofs.Common.{false, get_or, take, bytes_eq, filter_map, option_to_list}
 use Rattle.std.specs.Option.{option_map_or}
 use Rattle.indexmap.specs.IndexMap.{get}
 use Rattle.span_tables.specs.Rules.{overlaps_tier}
@@ -14,7 +15,8 @@ returns-then-branch c =
     let all = c.args.records.now in
     let x = c.index-records-index.result in
     let is : x ≡ get_or all i x = c.index-records-index.is in
-    let grouped = overlaps_tier-grouped (λ q. option_map_or (λ v. v.items) (get bytes_eq c.loop-index.tiers q) []) (take i all) c.loop-index.invariant.groups x in
+    let grouped = overlaps_tier-grouped (λ q. option_map_or (λ v. v.items) (get bytes_eq c.loop-index.tiers q) [])
+    (take i all) c.loop-index.invariant.groups x in
     let met = sym c.in_ok-overlaps_or_joins.ensures.meets ∙ c.if-branch.true in
     let breaks : overlaps_tier (take i all) (get_or all i x) ≡ true = rw (← is) (sym grouped ∙ met) in
     sym (breaking_from-here overlaps_tier all i x (omega arith) breaks) ∙ c.loop-index.invariant.rest
@@ -25,7 +27,8 @@ loop-index-preserved c =
     let all = c.args.records.now in
     let x = c.index-records-index.result in
     let is : x ≡ get_or all i x = c.index-records-index.is in
-    let grouped = overlaps_tier-grouped (λ q. option_map_or (λ v. v.items) (get bytes_eq c.loop-index.tiers q) []) (take i all) c.loop-index.invariant.groups x in
+    let grouped = overlaps_tier-grouped (λ q. option_map_or (λ v. v.items) (get bytes_eq c.loop-index.tiers q) [])
+    (take i all) c.loop-index.invariant.groups x in
     let met = sym c.in_ok-overlaps_or_joins.ensures.meets ∙ c.if-branch.false in
     let keeps : overlaps_tier (take i all) (get_or all i x) ≡ false = rw (← is) (sym grouped ∙ met) in
     record {

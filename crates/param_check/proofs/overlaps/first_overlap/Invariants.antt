@@ -8,6 +8,7 @@ use Rattle.param_check.proofs.overlaps.first_overlap.Given as goal
 
 abbrev pub invariant-loop-index : goal.invariant-loop-index
 invariant-loop-index l = record {
-  groups : (c : List ℕ) → option_map_or (λ v. v.items) (get bytes_eq l.tiers c) [] ≡ filter_map (months_under c) (take l.index l.records);
+  groups : (c : List ℕ) → option_map_or (λ v. v.items) (get bytes_eq l.tiers c) []
+      ≡ filter_map (months_under c) (take l.index l.records);
   rest : breaking_from overlaps_tier l.records l.index ≡ first_breaking (λ at. at) overlaps_tier l.records;
 }

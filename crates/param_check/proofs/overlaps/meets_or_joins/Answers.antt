@@ -9,5 +9,6 @@ returns-clause-joins c = λ _ q.
     let old = c.get_mut.follows.holds-at-none in
     let one : c.push-2.new.self.items ≡ c.args.months ∷ [] = grind arith in
     let none : get bytes_eq c.args.tiers.now c.args.commodity.now ≡ None = sym c.in_default.ensures.value in
-    let began = begun (λ v. v.items) (get bytes_eq c.args.tiers.now) c.args.commodity.now q c.push-2.new.self c.args.months one none (bytes_eq c.args.commodity.now q) refl in
+    let began = begun (λ v. v.items) (get bytes_eq c.args.tiers.now) c.args.commodity.now q c.push-2.new.self c.args.months one none
+    (bytes_eq c.args.commodity.now q) refl in
     grind arith

@@ -5,4 +5,5 @@ use Rattle.param_check.proofs.FirstFaults.{breaking_from}
 use Rattle.param_check.proofs.rules.first_that_breaks.Given as goal
 
 abbrev pub invariant-loop-index : goal.invariant-loop-index
-invariant-loop-index l = breaking_from (λ earlier r. breaks l.rule r) l.records l.index ≡ first_breaking (λ at. at) (λ earlier r. breaks l.rule r) l.records
+invariant-loop-index l =
+    breaking_from (λ earlier r. breaks l.rule r) l.records l.index ≡ first_breaking (λ at. at) (λ earlier r. breaks l.rule r) l.records

@@ -10,26 +10,31 @@ loop-left-init c =
     let left = get_or marks c.args.word 0 in
     let fits : left < 2 ^ 64 = search rules in
     record {
-      so_far = c.requires.so_far ∙ sym (word_begun marks c.args.places.now c.args.word (trailing_zeros w64 left) (lowest_le left fits) (below_lowest left fits));
+      so_far =
+          c.requires.so_far ∙ sym (word_begun marks c.args.places.now c.args.word (trailing_zeros w64 left) (lowest_le left fits)
+          (below_lowest left fits));
       same = λ i x y. refl;
     }
 
 pub push_held-requires : goal.push_held-requires
 push_held-requires c =
     let fits : c.loop-left.left < 2 ^ 64 = search rules in
-    lowest_marked c.args.marks.now c.args.places.now c.args.word c.loop-left.left c.requires.marks fits (omega (arith, c.loop-left-test.true)) c.loop-left.invariant.same
+    lowest_marked c.args.marks.now c.args.places.now c.args.word c.loop-left.left c.requires.marks fits
+    (omega (arith, c.loop-left-test.true)) c.loop-left.invariant.same
 
 pub overflow_mul-number : goal.overflow_mul-number
 overflow_mul-number c =
     let fits : c.loop-left.left < 2 ^ 64 = search rules in
-    let within = lowest_marked c.args.marks.now c.args.places.now c.args.word c.loop-left.left c.requires.marks fits (omega (arith, c.loop-left-test.true)) c.loop-left.invariant.same in
+    let within = lowest_marked c.args.marks.now c.args.places.now c.args.word c.loop-left.left c.requires.marks fits
+    (omega (arith, c.loop-left-test.true)) c.loop-left.invariant.same in
     let short : length c.args.places.now < 2 ^ 64 = search rules in
     omega (arith, within, short)
 
 pub overflow_add-number : goal.overflow_add-number
 overflow_add-number c =
     let fits : c.loop-left.left < 2 ^ 64 = search rules in
-    let within = lowest_marked c.args.marks.now c.args.places.now c.args.word c.loop-left.left c.requires.marks fits (omega (arith, c.loop-left-test.true)) c.loop-left.invariant.same in
+    let within = lowest_marked c.args.marks.now c.args.places.now c.args.word c.loop-left.left c.requires.marks fits
+    (omega (arith, c.loop-left-test.true)) c.loop-left.invariant.same in
     let short : length c.args.places.now < 2 ^ 64 = search rules in
     omega (arith, within, short)
 
@@ -53,10 +58,14 @@ loop-left-preserved c =
     let small : m < 2 ^ 64 = search rules in
     let same = c.loop-left.invariant.same in
     record {
-      so_far = held_more c.args.marks.now c.args.places.now c.args.word n c.requires.marks fits some same m small refl c.loop-left.held.items c.push_held.new.held.items
+      so_far =
+          held_more c.args.marks.now c.args.places.now c.args.word n c.requires.marks fits some same m small refl c.loop-left.held.items
+          c.push_held.new.held.items
           c.loop-left.invariant.so_far c.in_ok-push_held.ensures;
       same = marks_left c.args.marks.now c.args.places.now c.args.word n c.requires.marks fits some same m small refl;
     }
 
 pub returns : goal.returns
-returns c = word_done c.args.marks.now c.args.places.now c.args.word c.loop-left.left c.loop-left.held.items c.loop-left-test.false c.loop-left.invariant.so_far
+returns c =
+    word_done c.args.marks.now c.args.places.now c.args.word c.loop-left.left c.loop-left.held.items c.loop-left-test.false
+    c.loop-left.invariant.so_far

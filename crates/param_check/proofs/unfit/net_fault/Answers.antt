@@ -1,53 +1,42 @@
-use Rattle.std.proofs.Common.{◌<◌, ◌≤◌, ◌∙◌, arith, length, sym}
+use Rattle.std.proofs.Common.{◌∙◌, sym}
 use Rattle.span_tables.specs.Net.{accounts_of}
-use Rattle.span_tables.specs.Positions.{named_position}
-use Rattle.param_check.specs.steps.Holdings.{net_exceeds}
-use Rattle.param_check.proofs.LedgerLaws.{account_is, as_many, none_step, record_at}
+use Rattle.param_check.proofs.LedgerLaws.{all_seen, none_step, seen}
 use Rattle.param_check.proofs.LimitLaws.{net_fault-none, net_fault-all, net_fault-found}
 use Rattle.param_check.proofs.NumberedUnfit.{net_at}
 use Rattle.param_check.proofs.unfit.net_fault.Goals as goal
 
 pub returns-then-not-any_over : goal.returns-then-not-any_over
 returns-then-not-any_over c =
-    net_fault-none c.args.numbers.now.keys (accounts_of c.args.positions.now) c.args.nets.now c.args.positions.now (sym c.any_over.ensures ∙ c.if-not-any_over.true)
+    let accounts = accounts_of c.args.positions.now in
+    net_fault-none c.args.numbers.now.keys accounts c.args.nets.now c.args.positions.now (sym c.any_over.ensures ∙ c.if-not-any_over.true)
 
 pub returns-then-exceeds_net : goal.returns-then-exceeds_net
 returns-then-exceeds_net c =
     let positions = c.args.positions.now in
-    let records = c.records-position-items.result.now in
+    let nets = c.args.nets.now in
     let named = c.records-position-items.ensures.value in
     let known = c.records-position-items.ensures.known in
-    let i = c.loop-number.number in
-    let r = c.position-item.result in
-    let lt : i < length records = c.loop-number-test.true in
+    let lt = c.loop-number-test.true in
     let at = c.position-item.is in
-    let many = as_many positions records named known in
-    let within : i < length positions = omega (arith, lt, many) in
-    let name = account_is positions records named known i r c.accounts-accounts.result.now c.index-accounts-position.result lt at c.accounts-accounts.ensures.value c.index-accounts-position.is in
-    net_fault-found c.args.numbers.now.keys (accounts_of positions) c.args.nets.now positions i (named_position (accounts_of positions) r) c.copied.result within
-    (record_at positions records named known i r lt at) c.loop-number.invariant
-    (sym (net_at positions records named known c.args.nets.now c.args.numbers.now.keys i r lt at) ∙ sym c.exceeds_net.ensures ∙ c.if-exceeds_net.true)
-    (c.copied.ensures ∙ name)
+    let here = seen positions _ named known _ _ _ _ _ lt at c.accounts-accounts.ensures.value c.index-accounts-position.is
+    c.copied.ensures in
+    let one = net_at positions _ named known nets c.args.numbers.now.keys _ _ lt at in
+    net_fault-found c.args.numbers.now.keys (accounts_of positions) nets positions _ _ _ here c.loop-number.invariant
+    (sym one ∙ sym c.exceeds_net.ensures ∙ c.if-exceeds_net.true)
 
 pub loop-number-preserved : goal.loop-number-preserved
 loop-number-preserved c =
     let positions = c.args.positions.now in
-    let records = c.records-position-items.result.now in
     let named = c.records-position-items.ensures.value in
     let known = c.records-position-items.ensures.known in
-    let i = c.loop-number.number in
-    let r = c.position-item.result in
-    let lt : i < length records = c.loop-number-test.true in
+    let lt = c.loop-number-test.true in
     let at = c.position-item.is in
-    none_step positions records named known (net_exceeds c.args.numbers.now.keys (accounts_of positions) c.args.nets.now) i r lt at c.loop-number.invariant
-    (sym (net_at positions records named known c.args.nets.now c.args.numbers.now.keys i r lt at) ∙ sym c.exceeds_net.ensures ∙ c.if-exceeds_net.false)
+    let one = net_at positions _ named known c.args.nets.now c.args.numbers.now.keys _ _ lt at in
+    none_step positions _ named known _ _ _ lt at c.loop-number.invariant (sym one ∙ sym c.exceeds_net.ensures ∙ c.if-exceeds_net.false)
 
 pub returns : goal.returns
 returns c =
     let positions = c.args.positions.now in
-    let records = c.records-position-items.result.now in
-    let many = as_many positions records c.records-position-items.ensures.value c.records-position-items.ensures.known in
-    let i = c.loop-number.number in
-    let past : length records ≤ i = c.loop-number-test.false in
-    let all : length positions ≤ i = omega (arith, past, many) in
-    net_fault-all c.args.numbers.now.keys (accounts_of positions) c.args.nets.now positions i all c.loop-number.invariant
+    let all = all_seen positions _ c.records-position-items.ensures.value c.records-position-items.ensures.known
+    _ c.loop-number-test.false in
+    net_fault-all c.args.numbers.now.keys (accounts_of positions) c.args.nets.now positions _ all c.loop-number.invariant

@@ -12,8 +12,12 @@ loop-i-preserved c =
     let room : c.loop-i.i < length c.loop-i.values = omega (arith, c.loop-i.invariant.sixteen) in
     record {
       sixteen = simp length-set c.loop-i.invariant.sixteen;
-      each = rw same (values_more c.loop-i.values c.loop-i.i c.whole_at.result (fields_of c.args.row.now) room c.whole_at.ensures c.loop-i.invariant.each);
+      each =
+          rw same (values_more c.loop-i.values c.loop-i.i c.whole_at.result
+          (fields_of c.args.row.now) room c.whole_at.ensures c.loop-i.invariant.each);
     }
 
 pub returns : goal.returns
-returns c = values_all c.loop-i.values (fields_of c.args.row.now) c.loop-i.invariant.sixteen c.requires (λ k h. c.loop-i.invariant.each k (omega arith))
+returns c =
+    values_all c.loop-i.values (fields_of c.args.row.now) c.loop-i.invariant.sixteen c.requires
+    (λ k h. c.loop-i.invariant.each k (omega arith))

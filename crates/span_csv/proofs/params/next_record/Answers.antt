@@ -14,18 +14,27 @@ returns-in_err-kind c = λ rs len tallies.
 pub returns-then-count-limit : goal.returns-then-count-limit
 returns-then-count-limit c = λ rs len tallies.
     next_too_many rs (fields_of c.args.row.now) c.args.earlier len c.in_ok-kind.ensures.free
-    (count_full c.args.tally.now (record_kind c.in_ok-kind.kind) rs (fields_of c.args.row.now) c.count.result c.limit.result c.in_ok-kind.ensures.kind.0 tallies c.count.ensures c.limit.ensures c.if-count-limit.true)
+    (count_full c.args.tally.now (record_kind c.in_ok-kind.kind) rs
+    (fields_of c.args.row.now) c.count.result c.limit.result c.in_ok-kind.ensures.kind.0 tallies c.count.ensures c.limit.ensures
+    c.if-count-limit.true)
 
 pub add-requires-clause-room : goal.add-requires-clause-room
 add-requires-clause-room c =
     let counted = c.requires.tallied in
-    omega (arith, counted.1, count_small c.args.tally.now (record_kind c.in_ok-kind.kind) counted.0 (text_at (fields_of c.args.row.now) 1) counted.2)
+    omega (
+      arith,
+      counted.1,
+      count_small c.args.tally.now (record_kind c.in_ok-kind.kind) counted.0
+          (text_at (fields_of c.args.row.now) 1) counted.2,
+    )
 
 pub returns : goal.returns
 returns c = λ rs len tallies.
     let is = c.in_ok-kind.ensures.kind.0 in (
       next_free rs (fields_of c.args.row.now) c.args.earlier len c.in_ok-kind.ensures.free
-          (count_within c.args.tally.now (record_kind c.in_ok-kind.kind) rs (fields_of c.args.row.now) c.count.result c.limit.result is tallies c.count.ensures c.limit.ensures c.if-count-limit.false),
+          (count_within c.args.tally.now (record_kind c.in_ok-kind.kind) rs
+          (fields_of c.args.row.now) c.count.result c.limit.result is tallies c.count.ensures c.limit.ensures c.if-count-limit.false),
       c.record_of_kind.ensures ∙ record_of (fields_of c.args.row.now) (record_kind c.in_ok-kind.kind) is,
-      tally_more c.args.tally.now c.add.new.self (record_kind c.in_ok-kind.kind) rs (fields_of c.args.row.now) is tallies c.in_ok-add.ensures,
+      tally_more c.args.tally.now c.add.new.self (record_kind c.in_ok-kind.kind) rs
+          (fields_of c.args.row.now) is tallies c.in_ok-add.ensures,
     )

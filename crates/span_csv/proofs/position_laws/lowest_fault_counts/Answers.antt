@@ -11,7 +11,8 @@ Fault = Bool × (ℕ → PositionFault)
 abbrev Fails : Fault → Type 0
 Fails x = x.0 ≡ false
 
-first : (front rest : List Fault) (y : ℕ → PositionFault) → All Fails front → first_that_holds (front ++ (true, y) ∷ rest) ≡ Some y
+first : (front rest : List Fault) (y : ℕ → PositionFault) → All Fails front
+    → first_that_holds (front ++ (true, y) ∷ rest) ≡ Some y
 first [] rest y none = refl
 first (x ∷ front) rest y none = rw (All-head Fails x front none) (first front rest y (All-tail Fails x front none))
 

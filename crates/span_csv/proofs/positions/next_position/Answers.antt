@@ -13,13 +13,15 @@ returns-in_err-quantity-clause-found c =
     let p = err_from_is_err_and c.from_residual.result c.from_residual.ensures.1 in
     let e = c.in_err-quantity.field-0.0 in
     rw (p.1, p.2)
-    (told e _ (next_refused c.args.accounts.now.keys c.args.earlier.now (fields_of c.args.row.now) c.requires e (sym c.in_err-quantity.ensures.value)))
+    (told e _ (next_refused c.args.accounts.now.keys c.args.earlier.now (fields_of c.args.row.now) c.requires e
+    (sym c.in_err-quantity.ensures.value)))
 
 pub returns-in_err-account-clause-found : goal.returns-in_err-account-clause-found
 returns-in_err-account-clause-found c =
     let p = err_from_is_err_and c.from_residual-in_err-account.result c.from_residual-in_err-account.ensures.1 in
     let e = c.in_err-account.field-0.0 in
-    let full = next_full c.args.accounts.now.keys c.args.earlier.now (fields_of c.args.row.now) c.requires c.in_ok-quantity.quantity (sym c.in_ok-quantity.ensures.value) in
+    let full = next_full c.args.accounts.now.keys c.args.earlier.now (fields_of c.args.row.now) c.requires c.in_ok-quantity.quantity
+    (sym c.in_ok-quantity.ensures.value) in
     rw (p.1, p.2) (told_by e (rw c.field.ensures at c.in_err-account.ensures.room) (λ h. rw (h.0) (full h.1)))
 
 pub returns-clause-found : goal.returns-clause-found
@@ -27,18 +29,24 @@ returns-clause-found c =
     let q = c.in_ok-quantity.quantity in
     let fits : SFits w32 q = search rules in
     rw (to_z-of_z w32 q fits, c.of.ensures, c.field-2.ensures)
-    (next_read c.args.accounts.now.keys c.args.earlier.now (fields_of c.args.row.now) c.requires c.place.new.accounts.keys c.in_ok-account.account q
-    (sym c.in_ok-quantity.ensures.value) (rw c.field.ensures at c.in_ok-account.ensures.room) (rw c.field.ensures at c.in_ok-account.ensures.at))
+    (next_read c.args.accounts.now.keys c.args.earlier.now
+    (fields_of c.args.row.now) c.requires c.place.new.accounts.keys c.in_ok-account.account q
+    (sym c.in_ok-quantity.ensures.value) (rw c.field.ensures at c.in_ok-account.ensures.room)
+    (rw c.field.ensures at c.in_ok-account.ensures.at))
 
 pub returns-clause-named : goal.returns-clause-named
 returns-clause-named c =
-    named_more c.args.accounts.now.keys c.place.new.accounts.keys c.args.earlier.now _ c.field.result.now c.requires c.in_ok-account.ensures.taken c.in_ok-account.ensures.at
+    named_more c.args.accounts.now.keys c.place.new.accounts.keys c.args.earlier.now _ c.field.result.now c.requires
+    c.in_ok-account.ensures.taken c.in_ok-account.ensures.at
 
 pub returns-clause-numbered : goal.returns-clause-numbered
 returns-clause-numbered c =
     let q = c.in_ok-quantity.quantity in
     let fits : SFits w32 q = search rules in
-    let few : length c.place.new.accounts.keys ≤ MAX_ACCOUNTS = rw (c.in_ok-account.ensures.taken) (still_few c.args.accounts.now.keys c.field.result.now c.requires.few c.in_ok-account.ensures.room) in
+    let few : length c.place.new.accounts.keys ≤ MAX_ACCOUNTS =
+    rw (c.in_ok-account.ensures.taken)
+    (still_few c.args.accounts.now.keys c.field.result.now c.requires.few c.in_ok-account.ensures.room) in
     rw (to_z-of_z w32 q fits)
-    (numbered_more c.args.accounts.now.keys c.place.new.accounts.keys c.args.earlier.now _ c.field.result.now c.requires c.in_ok-account.ensures.taken c.in_ok-account.ensures.at
+    (numbered_more c.args.accounts.now.keys c.place.new.accounts.keys c.args.earlier.now _ c.field.result.now c.requires
+    c.in_ok-account.ensures.taken c.in_ok-account.ensures.at
     few c.in_ok-quantity.ensures.size)

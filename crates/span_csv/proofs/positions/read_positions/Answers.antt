@@ -19,7 +19,8 @@ returns-in_err-position c =
     let next = rw c.if-branch.true at c.in_ok-next.ensures.found in
     let earlier = named_positions c.loop-records.accounts.keys c.loop-records.records.items in
     rw (p.1, p.2, ← c.loop-records.invariant.rest, next)
-    (positions_after-refused earlier (fields_of c.next.new.row) c.next.new.self _ (rw c.deref.ensures.value at c.in_err-position.ensures.found))
+    (positions_after-refused earlier (fields_of c.next.new.row) c.next.new.self
+    _ (rw c.deref.ensures.value at c.in_err-position.ensures.found))
 
 pub loop-records-preserved : goal.loop-records-preserved
 loop-records-preserved c =

@@ -1,5 +1,5 @@
 use Rattle.std.proofs.Common.{◌≡◌, map}
-use Rattle.span_tables.specs.steps.Gathered.{held_contracts}
+use Rattle.span_tables.specs.Net.{held_contracts}
 use Rattle.span_tables.proofs.held.as_held.Given as goal
 
 abbrev pub invariant-loop-holdings : goal.invariant-loop-holdings

@@ -4,4 +4,5 @@ use Rattle.span_tables.specs.steps.Gathered.{holdings_in}
 use Rattle.span_tables.proofs.held.gather.Given as goal
 
 abbrev pub invariant-loop-holding : goal.invariant-loop-holding
-invariant-loop-holding l = l.held.items ≡ holdings_in l.tables.contracts (take l.holding-index l.portfolio.holdings) (commodity_id l.tables l.commodity)
+invariant-loop-holding l =
+    l.held.items ≡ holdings_in l.tables.contracts (take l.holding-index l.portfolio.holdings) (commodity_id l.tables l.commodity)

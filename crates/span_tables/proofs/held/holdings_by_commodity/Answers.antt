@@ -8,7 +8,8 @@ use Rattle.span_tables.proofs.held.holdings_by_commodity.Goals as goal
 
 pub loop-holding-init : goal.loop-holding-init
 loop-holding-init c =
-    c.in_ok-lists.ensures ∙ ap (λ n. replicate n []) (search rules) ∙ gathered_of_none c.args.tables.now.contracts c.args.tables.now.commodities
+    c.in_ok-lists.ensures ∙ ap (λ n. replicate n []) (search rules)
+    ∙ gathered_of_none c.args.tables.now.contracts c.args.tables.now.commodities
 
 pub push_at-requires : goal.push_at-requires
 push_at-requires c =
@@ -23,5 +24,8 @@ loop-holding-preserved c =
 
 pub returns-clause-in_range : goal.returns-clause-in_range
 returns-clause-in_range c =
-    let are : map (λ v. v.items) c.loop-holding.lists.items ≡ map (λ (d : Commodity). holdings_in c.args.tables.now.contracts c.args.portfolio.now.holdings d.id) c.args.tables.now.commodities = grind (arith, common_steps) in
-    all_are_holdings _ c.args.tables.now c.args.portfolio.now.holdings _ _ c.commodities-commodities.ensures.limits c.holdings-holding-items.ensures.kept c.requires are
+    let are : map (λ v. v.items) c.loop-holding.lists.items
+    ≡ map (λ (d : Commodity). holdings_in c.args.tables.now.contracts c.args.portfolio.now.holdings d.id)
+    c.args.tables.now.commodities = grind (arith, common_steps) in
+    all_are_holdings _ c.args.tables.now c.args.portfolio.now.holdings _ _ c.commodities-commodities.ensures.limits
+    c.holdings-holding-items.ensures.kept c.requires are

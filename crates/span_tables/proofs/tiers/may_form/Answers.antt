@@ -21,6 +21,7 @@ returns-then-not-meets c marked =
     let none : bit_and on word ≡ 0 = grind (arith, nat_tests, c.meets.ensures, c.if-not-meets.true) in
     let same : numbers_on (market_side c.args.direction (get_or legs i leg).side) c.args.sides.now ≡ on =
     ap (λ m. numbers_on m c.args.sides.now) (sym c.market_side.ensures) ∙ sym c.on-on.ensures in
-    let apart : bit_and (numbers_on (market_side c.args.direction (get_or legs i leg).side) c.args.sides.now) (get_or c.args.months.now i word) ≡ 0 =
+    let apart : bit_and (numbers_on (market_side c.args.direction (get_or legs i leg).side) c.args.sides.now)
+    (get_or c.args.months.now i word) ≡ 0 =
     ap (λ n. bit_and n (get_or c.args.months.now i word)) same ∙ ap (bit_and on) (sym c.index-months-i.is) ∙ none in
     absurd (never_marked _ _ (get_or legs i leg) (have_at c.args.months.now legs i word leg c.requires lt) apart (marked i leg lt))

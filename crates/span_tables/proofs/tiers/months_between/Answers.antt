@@ -11,7 +11,8 @@ loop-count-init c number low below = absurd (omega (arith, low, below))
 
 pub loop-count-preserved : goal.loop-count-preserved
 loop-count-preserved c number low below =
-    marked_more c.loop-count.slots c.with-slots.result c.loop-count.count number (number == c.loop-count.count) refl below c.with-slots.ensures
+    marked_more c.loop-count.slots c.with-slots.result c.loop-count.count number
+    (number == c.loop-count.count) refl below c.with-slots.ensures
     (λ lt. c.loop-count.invariant number low lt)
 
 pub returns : goal.returns

@@ -16,4 +16,5 @@ loop-leg-preserved c =
     let i = c.loop-leg.leg-index in
     let leg = c.leg-item.result in
     let more = take_more legs i leg c.loop-leg-test.true ∙ ap (λ (x : MonthLeg). take i legs ++ x ∷ []) (sym c.leg-item.is) in
-    rw (c.push.ensures.items, more) (have_push c.loop-leg.months.items (take i legs) c.months_between.result leg c.loop-leg.invariant c.months_between.ensures)
+    rw (c.push.ensures.items, more) (have_push c.loop-leg.months.items
+    (take i legs) c.months_between.result leg c.loop-leg.invariant c.months_between.ensures)

@@ -31,7 +31,8 @@ returns-then-is_set c =
     let n : ℤ = c.index-then-is_set.result.now in
     let fits : SFits w128 n = search rules in
     to_z-of_z w128 n fits
-    ∙ sum_marked marks places c.args.number c.index.result.now n h (c.index.ensures ∙ get_or_default marks (c.args.number / 64) _ 0 word)
+    ∙ sum_marked marks places c.args.number c.index.result.now n h
+    (c.index.ensures ∙ get_or_default marks (c.args.number / 64) _ 0 word)
     (sym c.is_set.ensures ∙ c.if-is_set.true) (c.index-then-is_set.ensures ∙ get_or_default places c.args.number _ (pos 0) h)
     ∙ ap (λ ss. get_or ss c.args.number (pos 0)) c.self.view_is
 
@@ -42,5 +43,6 @@ returns-else-is_set c =
     let long : length c.args.self.now ≡ length places = sym (ap length c.self.view_is) ∙ sums_long marks places in
     let h : c.args.number < length places = omega (arith, c.requires, long) in
     let word : c.args.number / 64 < length marks = omega (arith, h, c.self.invariant.room) in
-    sum_unmarked marks places c.args.number c.index.result.now (c.index.ensures ∙ get_or_default marks (c.args.number / 64) _ 0 word) (sym c.is_set.ensures ∙ c.if-is_set.false)
+    sum_unmarked marks places c.args.number c.index.result.now (c.index.ensures ∙ get_or_default marks (c.args.number / 64) _ 0 word)
+    (sym c.is_set.ensures ∙ c.if-is_set.false)
     ∙ ap (λ ss. get_or ss c.args.number (pos 0)) c.self.view_is

@@ -11,7 +11,8 @@ returns-then-units-gt0-clause-added c Short some =
     absurd (omega (arith, some, not_short c.args.rest above))
 
 pub returns-then-units-gt0-clause-kept : goal.returns-then-units-gt0-clause-kept
-returns-then-units-gt0-clause-kept c other z kept Long some = rw c.with.ensures (marked_kept c.args.self.long c.args.number other (kept Long some))
+returns-then-units-gt0-clause-kept c other z kept Long some =
+    rw c.with.ensures (marked_kept c.args.self.long c.args.number other (kept Long some))
 returns-then-units-gt0-clause-kept c other z kept Short some = kept Short some
 
 pub returns-then-units-lt0-clause-added : goal.returns-then-units-lt0-clause-added
@@ -22,4 +23,5 @@ returns-then-units-lt0-clause-added c Short some = rw c.with-then-units-lt0.ensu
 
 pub returns-then-units-lt0-clause-kept : goal.returns-then-units-lt0-clause-kept
 returns-then-units-lt0-clause-kept c other z kept Long some = kept Long some
-returns-then-units-lt0-clause-kept c other z kept Short some = rw c.with-then-units-lt0.ensures (marked_kept c.args.self.short c.args.number other (kept Short some))
+returns-then-units-lt0-clause-kept c other z kept Short some =
+    rw c.with-then-units-lt0.ensures (marked_kept c.args.self.short c.args.number other (kept Short some))

@@ -10,11 +10,13 @@ set_id-set_id-requires c = rw c.records.ensures.value (readable c.args.raw c.rec
 pub with_numbers-requires : goal.with_numbers-requires
 with_numbers-requires c =
     let kinds = rw c.into_records.ensures.value at c.in_ok-kinds.ensures in
-    let same = same_tables c.args.raw _ _ _ _ _ _ _ _ _ (c.set_id-set_id.ensures ∙ ap set_id_in c.records.ensures.value) kinds c.in_ok-intras.ensures c.in_ok-inters.ensures in
+    let same = same_tables c.args.raw _ _ _ _ _ _ _ _ _ (c.set_id-set_id.ensures
+    ∙ ap set_id_in c.records.ensures.value) kinds c.in_ok-intras.ensures c.in_ok-inters.ensures in
     accepted_as _ c.args.raw same c.records.ensures.readable c.requires
 
 pub returns : goal.returns
 returns c =
     let kinds = rw c.into_records.ensures.value at c.in_ok-kinds.ensures in
-    let same = same_tables c.args.raw _ _ _ _ _ _ _ _ _ (c.set_id-set_id.ensures ∙ ap set_id_in c.records.ensures.value) kinds c.in_ok-intras.ensures c.in_ok-inters.ensures in
+    let same = same_tables c.args.raw _ _ _ _ _ _ _ _ _ (c.set_id-set_id.ensures
+    ∙ ap set_id_in c.records.ensures.value) kinds c.in_ok-intras.ensures c.in_ok-inters.ensures in
     subst (λ (t : AcceptedTables). IfOk c.with_numbers.result (λ tables. tables ≡ t)) same c.with_numbers.ensures
