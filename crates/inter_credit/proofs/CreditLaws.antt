@@ -1,5 +1,6 @@
 -- The credit is the greatest number whose product stays below; without spreads there is none.
-use Rattle.std.proofs.Common.{◌≡◌, ℕ, ◌*◌, ◌/◌, ◌^◌, ◌<◌, ◌≤◌, Bool, true, false, cond, List, nat_abs, zero, suc, [], ◌∷◌, refl, arith}
+use Rattle.std.proofs.Common.{◌≡◌, ℕ, ◌*◌, ◌/◌, ◌^◌, ◌<◌, ◌≤◌, Bool, true, false, cond, List, nat_abs, zero}
+use Rattle.std.proofs.Common.{suc, [], ◌∷◌, refl, arith}
 use Rattle.std.specs.Prelude.{◌==◌, ◌≢◌}
 use Rattle.std.proofs.Math.Nat.{mul-zero, zero-div}
 use Rattle.std.proofs.lemmas.Bool.Decides.{nat_tests}
@@ -35,11 +36,13 @@ cond_same false n m e = e
 credit_unspread : (line : InterLine) → line.weight ≡ 0 → credit_of line ≡ 0
 unfolding credit_of
 credit_unspread line e =
-    let none : (line.price2 * 0) / (2 * 10 ^ 4 * nat_abs line.net) ≡ 0 = rw (mul-zero line.price2) (zero-div (2 * 10 ^ 4 * nat_abs line.net)) in
+    let none : (line.price2 * 0) / (2 * 10 ^ 4 * nat_abs line.net) ≡ 0 =
+    rw (mul-zero line.price2) (zero-div (2 * 10 ^ 4 * nat_abs line.net)) in
     rw e (cond_same (nat_abs line.net == 0) 0 _ none)
 
 -- without spreads there is no credit
-pub no_spread_no_credit : (lines : List InterLine) (commodity : ℕ) → IsUnspread lines → credit_at (after_inter_spreads [] lines) commodity ≡ 0
+pub no_spread_no_credit : (lines : List InterLine) (commodity : ℕ) → IsUnspread lines
+    → credit_at (after_inter_spreads [] lines) commodity ≡ 0
 unfolding after_inter_spreads
 no_spread_no_credit [] commodity h = refl
 no_spread_no_credit (line ∷ lines) zero h = credit_unspread line (h 0 line (omega arith)).weight

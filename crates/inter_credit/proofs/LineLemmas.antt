@@ -1,5 +1,6 @@
 -- A change of one commodity's line, and what it leaves of the others.
-use Rattle.std.proofs.Common.{◌≡◌, ◌≢◌, ◌+◌, ◌*◌, ◌<◌, ◌≤◌, ◌==◌, ◌||◌, ℕ, zero, suc, Bool, true, false, List, [], ◌∷◌, length, get_or, set, drop, refl, sym, ap, ◌∙◌, arith}
+use Rattle.std.proofs.Common.{◌≡◌, ◌≢◌, ◌+◌, ◌*◌, ◌<◌, ◌≤◌, ◌==◌, ◌||◌, ℕ, zero, suc, Bool, true}
+use Rattle.std.proofs.Common.{false, List, [], ◌∷◌, length, get_or, set, drop, refl, sym, ap, ◌∙◌, arith}
 use Rattle.std.specs.List.{list_any}
 use Rattle.std.proofs.lemmas.Bool.Decides.{nat_tests}
 use Rattle.std.proofs.lemmas.List.{drop_more}
@@ -17,7 +18,8 @@ change_at_set f i [] d = refl
 change_at_set f zero (x ∷ xs) d = refl
 change_at_set f (suc i) (x ∷ xs) d = ap (λ ys. x ∷ ys) (change_at_set f i xs d)
 
-pub change_from_set : {A : Type 0} (f : A → A) (i : ℕ) (xs : List A) (x v : A) → x ≡ get_or xs i x → v ≡ f x → set xs i v ≡ change_at f i xs
+pub change_from_set : {A : Type 0} (f : A → A) (i : ℕ) (xs : List A) (x v : A) → x ≡ get_or xs i x → v ≡ f x
+    → set xs i v ≡ change_at f i xs
 change_from_set f i xs x v at e = rw e (ap (λ y. set xs i (f y)) at ∙ change_at_set f i xs x)
 
 pub length-change_at : {A : Type 0} (f : A → A) (i : ℕ) (xs : List A) → length (change_at f i xs) ≡ length xs
@@ -26,7 +28,8 @@ length-change_at f zero (x ∷ xs) = refl
 length-change_at f (suc i) (x ∷ xs) = ap suc (length-change_at f i xs)
 
 -- the rests of other commodities stay
-rest_at-change_at : (f : InterLine → InterLine) (i j : ℕ) (lines : List InterLine) → i ≢ j → rest_at (change_at f i lines) j ≡ rest_at lines j
+rest_at-change_at : (f : InterLine → InterLine) (i j : ℕ) (lines : List InterLine) → i ≢ j
+    → rest_at (change_at f i lines) j ≡ rest_at lines j
 rest_at-change_at f i j [] ne = refl
 rest_at-change_at f zero zero (x ∷ xs) ne = absurd (ne refl)
 rest_at-change_at f zero (suc j) (x ∷ xs) ne = refl
@@ -42,7 +45,8 @@ or_right true b e = cc
 or_right false b e = e
 
 -- a test that no element passes fails at each place
-none_at : {A : Type 0} (p : A → Bool) (xs : List A) → list_any p xs ≡ false → (k : ℕ) (d : A) → k < length xs → p (get_or xs k d) ≡ false
+none_at : {A : Type 0} (p : A → Bool) (xs : List A) → list_any p xs ≡ false → (k : ℕ) (d : A) → k < length xs
+    → p (get_or xs k d) ≡ false
 none_at p [] e k d lt = absurd (omega arith)
 none_at p (x ∷ xs) e zero d lt = or_left (p x) (list_any p xs) e
 none_at p (x ∷ xs) e (suc k) d lt = none_at p xs (or_right (p x) (list_any p xs) e) k d (omega arith)
@@ -51,19 +55,24 @@ not_equal : (a b : ℕ) → (a == b) ≡ false → a ≢ b
 not_equal a b e = grind (arith, nat_tests)
 
 -- after one leg's use the others have the room that they had
-pub HaveRoom-rest : (d : Direction) (n : ℕ) (leg : CommodityLeg) (legs : List CommodityLeg) (lines : List InterLine) (f : InterLine → InterLine)
+pub HaveRoom-rest : (d : Direction) (n : ℕ) (leg : CommodityLeg) (legs : List CommodityLeg) (lines : List InterLine)
+    (f : InterLine → InterLine)
     → HaveRoom d n (leg ∷ legs) lines → HaveRoom d n legs (change_at f leg.commodity lines)
 HaveRoom-rest d n leg legs lines f h =
     let other : CommodityLeg → Bool = λ b. leg.commodity == b.commodity in
     record {
       known = λ k e lt. rw (length-change_at f leg.commodity lines) (h.known (suc k) e (omega arith));
       room = λ k e lt.
-          let ne : leg.commodity ≢ (get_or legs k e).commodity = not_equal leg.commodity (get_or legs k e).commodity (none_at other legs (or_left (list_any other legs) (has_repeat (λ a b. a.commodity == b.commodity) legs) h.apart) k e lt) in
+          let ne : leg.commodity ≢ (get_or legs k e).commodity =
+          not_equal leg.commodity (get_or legs k e).commodity
+          (none_at other legs
+          (or_left (list_any other legs) (has_repeat (λ a b. a.commodity == b.commodity) legs) h.apart) k e lt) in
           rw (rest_at-change_at f leg.commodity (get_or legs k e).commodity lines ne) (h.room (suc k) e (omega arith));
       apart = or_right (list_any other legs) (has_repeat (λ a b. a.commodity == b.commodity) legs) h.apart;
     }
 
-pub HaveRoom-drop : (d : Direction) (n : ℕ) (legs : List CommodityLeg) (i : ℕ) (leg : CommodityLeg) (lines after : List InterLine) (f : InterLine → InterLine)
+pub HaveRoom-drop : (d : Direction) (n : ℕ) (legs : List CommodityLeg) (i : ℕ) (leg : CommodityLeg) (lines after : List InterLine)
+    (f : InterLine → InterLine)
     → i < length legs → leg ≡ get_or legs i leg → after ≡ change_at f leg.commodity lines
     → HaveRoom d n (drop i legs) lines → HaveRoom d n (drop (i + 1) legs) after
 HaveRoom-drop d n legs i leg lines after f lt at e h =

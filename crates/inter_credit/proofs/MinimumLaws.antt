@@ -1,5 +1,7 @@
 -- The short option minimum counts short calls and short puts; the requirement is the larger of two numbers.
-use Rattle.std.proofs.Common.{◌≡◌, ℕ, ◌+◌, ◌*◌, ◌<◌, Bool, true, false, cond, ◌&&◌, List, [], ◌∷◌, max, filter, length, take, get_or, sum_by, nat_abs, ℤ, pos, negsuc, ◌≤ℤ◌, ◌+ℤ◌, ◌-ℤ◌, refl, sym, ap, ◌∙◌, arith}
+use Rattle.std.proofs.Common.{◌≡◌, ℕ, ◌+◌, ◌*◌, ◌<◌, Bool, true, false, cond, ◌&&◌, List, [], ◌∷◌, max}
+use Rattle.std.proofs.Common.{filter, length, take, get_or, sum_by, nat_abs, ℤ, pos, negsuc, ◌≤ℤ◌, ◌+ℤ◌, ◌-ℤ◌, refl}
+use Rattle.std.proofs.Common.{sym, ap, ◌∙◌, arith}
 use Rattle.std.specs.Prelude.{IfSome, int_lt, slice_get}
 use Rattle.std.specs.Int.{int_max}
 use Rattle.std.proofs.lemmas.Bool.Decides.{nat_tests}
@@ -47,8 +49,10 @@ short_count_more is_kind held i x n lt contract net =
     let h : HeldContract = record { contract = x; net = n } in
     let of_kind : HeldContract → Bool = λ x. is_kind (x.contract).kind in
     let term : HeldContract → ℕ = λ x. negative_part x.net in
-    ap (sum_by term) (filter_more of_kind held i h lt) ∙ sum_by-append term (filter of_kind (take i held)) (cond (of_kind (get_or held i h)) (get_or held i h ∷ []) [])
-    ∙ ap (λ (k : HeldContract). short_count is_kind (take i held) + sum_by term (cond (of_kind k) (k ∷ []) [])) (sym (held_here held i x n lt contract net))
+    ap (sum_by term) (filter_more of_kind held i h lt)
+    ∙ sum_by-append term (filter of_kind (take i held)) (cond (of_kind (get_or held i h)) (get_or held i h ∷ []) [])
+    ∙ ap (λ (k : HeldContract). short_count is_kind (take i held) + sum_by term (cond (of_kind k) (k ∷ []) []))
+    (sym (held_here held i x n lt contract net))
     ∙ ap (λ m. short_count is_kind (take i held) + m) (last_of (is_kind x.kind) h)
 
 -- the sum of both kinds
@@ -76,7 +80,8 @@ int_max_least a b g p q = omega (arith, ints, clamps)
 pub requirement_is_least : (scan intra delivery credit minimum : ℤ)
     → ((((scan +ℤ intra) +ℤ delivery) -ℤ credit) ≤ℤ requirement_of scan intra delivery credit minimum)
     × (minimum ≤ℤ requirement_of scan intra delivery credit minimum)
-    × ((g : ℤ) → (((scan +ℤ intra) +ℤ delivery) -ℤ credit) ≤ℤ g → minimum ≤ℤ g → requirement_of scan intra delivery credit minimum ≤ℤ g)
+    × ((g : ℤ) → (((scan +ℤ intra) +ℤ delivery) -ℤ credit) ≤ℤ g → minimum ≤ℤ g
+    → requirement_of scan intra delivery credit minimum ≤ℤ g)
 unfolding requirement_of
 requirement_is_least scan intra delivery credit minimum =
     let risk : ℤ = ((scan +ℤ intra) +ℤ delivery) -ℤ credit in

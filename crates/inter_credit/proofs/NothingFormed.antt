@@ -21,7 +21,8 @@ no_weight w b = omega arith
 same_line : (on : MarketSide) (b : ℕ) (line : InterLine) → line_after on 0 b line ≡ line
 same_line on b line = rw (none_used on line.rest, no_weight line.weight b) refl
 
-same_lines : (f : InterLine → InterLine) → ((line : InterLine) → f line ≡ line) → (place : ℕ) (lines : List InterLine) → change_at f place lines ≡ lines
+same_lines : (f : InterLine → InterLine) → ((line : InterLine) → f line ≡ line) → (place : ℕ) (lines : List InterLine)
+    → change_at f place lines ≡ lines
 same_lines f same place [] = refl
 same_lines f same zero (line ∷ lines) = ap (λ l. l ∷ lines) (same line)
 same_lines f same (suc place) (line ∷ lines) = ap (λ ls. line ∷ ls) (same_lines f same place lines)

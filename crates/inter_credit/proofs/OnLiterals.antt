@@ -1,4 +1,4 @@
--- What an answer unfolds to compute the definitions on literals.
+-- What the worked values unfold to compute the definitions on literals.
 use Rattle.std.specs.Prelude.{⊤}
 use Rattle.inter_credit.specs.Credits.{inter_both_ways, after_inter_spreads, credit_of}
 use Rattle.inter_credit.specs.Requirement.{minimum_of, requirement_of}

@@ -1,5 +1,6 @@
 -- A direction that needs a side of the market on which a commodity has no rest forms nothing, and rests open no side.
-use Rattle.std.proofs.Common.{◌≡◌, ◌/◌, ◌<◌, ◌≤◌, ℕ, ℤ, nat_abs, pos, zero, suc, Bool, true, false, List, [], ◌∷◌, length, replicate, set, refl, sym, ap, ◌∙◌, arith}
+use Rattle.std.proofs.Common.{◌≡◌, ◌/◌, ◌<◌, ◌≤◌, ℕ, ℤ, nat_abs, pos, zero, suc, Bool, true, false, List, []}
+use Rattle.std.proofs.Common.{◌∷◌, length, replicate, set, refl, sym, ap, ◌∙◌, arith}
 use Rattle.std.specs.List.{All, AllByRecursion}
 use Rattle.std.proofs.Math.Nat.{zero-div}
 use Rattle.std.proofs.lemmas.List.Elements.{All-from_recursion}
@@ -62,7 +63,8 @@ rest_of_line [] k = refl
 rest_of_line (line ∷ lines) zero = refl
 rest_of_line (line ∷ lines) (suc k) = rest_of_line lines k
 
-open_left : (sides : OpenSides) (k : ℕ) (before after : ℤ) → IsLeftOf before after → IsOpenAt sides k before → IsOpenAt sides k after
+open_left : (sides : OpenSides) (k : ℕ) (before after : ℤ) → IsLeftOf before after → IsOpenAt sides k before
+    → IsOpenAt sides k after
 open_left sides k before after left at Long some = at Long (omega (arith, some, left.long))
 open_left sides k before after left at Short some = at Short (omega (arith, some, left.short))
 
@@ -71,7 +73,8 @@ pub open_after : (spread : Inter) (d : Direction) (sides : OpenSides) (lines : L
     → AreOpen sides lines → AreOpen sides (inter_one_way spread d lines)
 open_after spread d sides lines inter open_sides k =
     let uses = one_way_uses spread d lines inter k in
-    rw rest_of_line (open_left sides k (line_at lines k).rest (line_at (inter_one_way spread d lines) k).rest uses.rest (rw rest_of_line at (open_sides k)))
+    rw rest_of_line (open_left sides k (line_at lines k).rest (line_at (inter_one_way spread d lines) k).rest uses.rest
+    (rw rest_of_line at (open_sides k)))
 
 no_rest : (sides : OpenSides) (k : ℕ) → IsOpenAt sides k (pos 0)
 no_rest sides k Long some = absurd (omega (arith, some))
@@ -87,7 +90,8 @@ pub none_open : (sides : OpenSides) (n : ℕ) → AreOpen sides (replicate n (un
 none_open sides n k = rw (no_rest_at n k) (no_rest sides k)
 
 -- a commodity that is loaded opens its side
-set_open : (P : ℕ → ℤ → Type 0) (lines : List InterLine) (i : ℕ) (line : InterLine) → ((k : ℕ) → P k (rest_at lines k)) → P i line.rest
+set_open : (P : ℕ → ℤ → Type 0) (lines : List InterLine) (i : ℕ) (line : InterLine) → ((k : ℕ) → P k (rest_at lines k))
+    → P i line.rest
     → (k : ℕ) → P k (rest_at (set lines i line) k)
 set_open P [] i line each new k = each k
 set_open P (x ∷ xs) zero line each new zero = new
@@ -111,7 +115,8 @@ same_line line net price2 no_net no_risk none nothing unspread = λ k. record {
 }
 
 -- to load nothing where nothing is loaded changes nothing
-pub nothing_loaded : (lines : List InterLine) (i : ℕ) (net : ℤ) (price2 : ℕ) → net ≡ pos 0 → price2 ≡ 0 → IsNotLoaded lines i → IsUnspread lines
+pub nothing_loaded : (lines : List InterLine) (i : ℕ) (net : ℤ) (price2 : ℕ) → net ≡ pos 0 → price2 ≡ 0
+    → IsNotLoaded lines i → IsUnspread lines
     → lines ≡ set lines i (unspread_line net price2)
 nothing_loaded [] i net price2 no_net no_risk none unspread = refl
 nothing_loaded (x ∷ xs) zero net price2 no_net no_risk none unspread =

@@ -1,5 +1,6 @@
 -- A spread leaves of each commodity's rest a part.
-use Rattle.std.proofs.Common.{◌≡◌, ◌+◌, ◌*◌, ◌-◌, ◌≤◌, ℕ, zero, suc, List, [], ◌∷◌, length, ℤ, pos, negsuc, neg_ℤ, nat_abs, refl, ◌∙◌, arith}
+use Rattle.std.proofs.Common.{◌≡◌, ◌+◌, ◌*◌, ◌-◌, ◌≤◌, ℕ, zero, suc, List, [], ◌∷◌, length, ℤ, pos}
+use Rattle.std.proofs.Common.{negsuc, neg_ℤ, nat_abs, refl, ◌∙◌, arith}
 use Rattle.std.proofs.lemmas.Int.{ints}
 use Rattle.span_tables.specs.Accepted.{IsInter}
 use Rattle.span_tables.specs.Sides.{IsLeftOf, less_used, market_side, part_on, spreads_formed}
@@ -35,8 +36,11 @@ size_of_neg (suc n) (suc m) used e = e
 
 -- what is left of a rest after a use that it has room for
 used_left : (on : MarketSide) (z : ℤ) (used : ℕ) → used ≤ part_on on z → IsLeftOf z (less_used on z used)
-used_left Long (pos n) used le = let e : less_used Long (pos n) used ≡ pos (n - used) = omega (arith, ints, le) in rw e (record { long = omega arith; short = omega arith })
-used_left Long (negsuc n) used le = let e : less_used Long (negsuc n) used ≡ negsuc n = omega (arith, ints, le) in rw e (same_left (negsuc n))
+used_left Long (pos n) used le =
+    let e : less_used Long (pos n) used ≡ pos (n - used) = omega (arith, ints, le) in
+    rw e (record { long = omega arith; short = omega arith })
+used_left Long (negsuc n) used le =
+    let e : less_used Long (negsuc n) used ≡ negsuc n = omega (arith, ints, le) in rw e (same_left (negsuc n))
 used_left Short (pos n) used le = let e : less_used Short (pos n) used ≡ pos n = omega (arith, ints, le) in rw e (same_left (pos n))
 used_left Short (negsuc n) used le =
     let e : less_used Short (negsuc n) used ≡ neg_ℤ (pos (suc n - used)) = omega (arith, ints, le) in
@@ -54,7 +58,8 @@ used_size Short (negsuc n) used le =
 same_line : (basis_points : ℕ) (line : InterLine) → UsesLine basis_points line line
 same_line bp line = record { net = refl; price2 = refl; rest = same_left line.rest; weight = refl }
 
-then_line : (basis_points : ℕ) (a b c : InterLine) → UsesLine basis_points a b → UsesLine basis_points b c → UsesLine basis_points a c
+then_line : (basis_points : ℕ) (a b c : InterLine) → UsesLine basis_points a b → UsesLine basis_points b c
+    → UsesLine basis_points a c
 then_line bp a b c p q = record {
   net = q.net ∙ p.net;
   price2 = q.price2 ∙ p.price2;

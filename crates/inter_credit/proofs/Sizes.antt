@@ -1,5 +1,6 @@
 -- The sizes of signed sums, and that what is small keeps its value in 128 bits.
-use Rattle.std.proofs.Common.{◌≡◌, ◌+◌, ◌*◌, ◌^◌, ◌<◌, ◌≤◌, ℕ, ℤ, ◌+ℤ◌, ◌-ℤ◌, nat_abs, to_z, of_z, FitsSigned, arith, lit<}
+use Rattle.std.proofs.Common.{◌≡◌, ◌+◌, ◌*◌, ◌^◌, ◌<◌, ◌≤◌, ℕ, ℤ, ◌+ℤ◌, ◌-ℤ◌, nat_abs, to_z}
+use Rattle.std.proofs.Common.{of_z, FitsSigned, arith, lit<}
 use Rattle.std.specs.Int.{int_max, w128}
 use Rattle.std.proofs.lemmas.Int.{ints, clamps, fits_signed_from_abs, to_z-of_z}
 use Rattle.inter_credit.specs.declared.requirement.TheConstants.{MAX_PART}
@@ -18,7 +19,8 @@ pub same : (z : ℤ) (n : ℕ) → nat_abs z ≤ n → n < 2 ^ 127 → to_z w128
 same z n le lt = let below : nat_abs z < 2 ^ 127 = omega (arith, le, lt) in to_z-of_z w128 z (fits_signed_from_abs w128 z below)
 
 -- the larger of two numbers
-pub same_larger : (x y m : ℤ) (n : ℕ) → nat_abs x + nat_abs y ≤ n → n < 2 ^ 127 → m ≡ int_max (to_z w128 (of_z w128 x)) (to_z w128 (of_z w128 y))
+pub same_larger : (x y m : ℤ) (n : ℕ) → nat_abs x + nat_abs y ≤ n → n < 2 ^ 127
+    → m ≡ int_max (to_z w128 (of_z w128 x)) (to_z w128 (of_z w128 y))
     → to_z w128 (of_z w128 m) ≡ int_max x y
 same_larger x y m n le lt e =
     let below : nat_abs (int_max x y) ≤ n = omega (arith, le, size-int_max x y) in
@@ -36,7 +38,9 @@ pub record AreSums (a b d e difference : ℤ) : Type 0 where
 
 pub are_sums : (x y z u a b d e : ℤ) → x ≡ a → y ≡ b → z ≡ d → u ≡ e
     → nat_abs a ≤ MAX_PART → nat_abs b ≤ MAX_PART → nat_abs d ≤ MAX_PART → nat_abs e ≤ MAX_PART
-    → AreSums a b d e (to_z w128 (of_z w128 (to_z w128 (of_z w128 (to_z w128 (of_z w128 x) +ℤ to_z w128 (of_z w128 y))) +ℤ to_z w128 (of_z w128 z))) -ℤ to_z w128 (of_z w128 u))
+    → AreSums a b d e
+    (to_z w128 (of_z w128 (to_z w128 (of_z w128 (to_z w128 (of_z w128 x) +ℤ to_z w128 (of_z w128 y))) +ℤ to_z w128 (of_z w128 z)))
+    -ℤ to_z w128 (of_z w128 u))
 are_sums x y z u a b d e p q r s fa fb fd fe =
     let two : nat_abs (a +ℤ b) ≤ 2 * MAX_PART = omega (arith, size-add a b) in
     let three : nat_abs ((a +ℤ b) +ℤ d) ≤ 3 * MAX_PART = omega (arith, two, size-add (a +ℤ b) d) in

@@ -30,18 +30,25 @@ formed_fit f [] = tt
 formed_fit f (leg ∷ []) = (div-mul-le_self (f leg).side (f leg).ratio, tt)
 formed_fit f (leg ∷ next ∷ legs) =
     let n = spreads_formed (map f (next ∷ legs)) in
-    let less : min ((f leg).side / (f leg).ratio) n * (f leg).ratio ≤ ((f leg).side / (f leg).ratio) * (f leg).ratio = mul-le-mul_right (f leg).ratio (min-le_left ((f leg).side / (f leg).ratio) n) in
-    (omega (arith, less, div-mul-le_self (f leg).side (f leg).ratio), Fit-fewer f _ n (next ∷ legs) (min-le_right ((f leg).side / (f leg).ratio) n) (formed_fit f (next ∷ legs)))
+    let less : min ((f leg).side / (f leg).ratio) n * (f leg).ratio ≤ ((f leg).side / (f leg).ratio) * (f leg).ratio =
+    mul-le-mul_right (f leg).ratio (min-le_left ((f leg).side / (f leg).ratio) n) in (
+      omega (arith, less, div-mul-le_self (f leg).side (f leg).ratio),
+      Fit-fewer f _ n (next ∷ legs) (min-le_right ((f leg).side / (f leg).ratio) n) (formed_fit f (next ∷ legs)),
+    )
 
 -- the spreads formed fit each leg
 pub formed_have_room : (commodities : ℕ) (d : Direction) (spread : Inter) (lines : List InterLine) (legs : List CommodityLeg) (n : ℕ)
-    → IsInter commodities spread → length lines ≡ commodities → legs ≡ spread.legs → n ≡ spreads_formed (commodity_rooms d legs lines)
+    → IsInter commodities spread → length lines ≡ commodities → legs ≡ spread.legs
+    → n ≡ spreads_formed (commodity_rooms d legs lines)
     → HaveRoom d n legs lines
 unfolding room_of
 formed_have_room commodities d spread lines legs n inter long same formed =
-    let known : All (λ leg. leg.commodity < commodities) legs = All-same (λ leg. leg.commodity < commodities) legs spread.legs same inter.known in
+    let known : All (λ leg. leg.commodity < commodities) legs =
+    All-same (λ leg. leg.commodity < commodities) legs spread.legs same inter.known in
     record {
       known = rw long known;
-      room = rw formed (All-from_recursion (λ leg. spreads_formed (commodity_rooms d legs lines) * leg.ratio ≤ part_on (market_side d leg.side) (rest_at lines leg.commodity)) legs (formed_fit (room_of d lines) legs));
+      room = rw formed (All-from_recursion
+          (λ leg. spreads_formed (commodity_rooms d legs lines) * leg.ratio
+          ≤ part_on (market_side d leg.side) (rest_at lines leg.commodity)) legs (formed_fit (room_of d lines) legs));
       apart = rw same inter.apart;
     }

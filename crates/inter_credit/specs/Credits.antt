@@ -1,5 +1,6 @@
 -- Intercommodity spreads and their credits.
-use Rattle.std.specs.Prelude.{ℕ, zero, suc, ◌+◌, ◌*◌, ◌/◌, ◌^◌, ◌==◌, if◌then◌else◌, List, [], ◌∷◌, map, fold, slice_get, option_map, unwrap_or, ℤ, pos, nat_abs}
+use Rattle.std.specs.Prelude.{ℕ, zero, suc, ◌+◌, ◌*◌, ◌/◌, ◌^◌, ◌==◌, if◌then◌else◌, List, [], ◌∷◌, map}
+use Rattle.std.specs.Prelude.{fold, slice_get, option_map, unwrap_or, ℤ, pos, nat_abs}
 use Rattle.span_tables.specs.Sides.{market_side, part_on, less_used, Room, spreads_formed}
 use Rattle.span_tables.specs.declared.sides.Direction.{Direction}
 use Rattle.span_tables.specs.declared.sides.Direction.TheVariants.{ALong, AShort}

@@ -1,5 +1,6 @@
 -- What the lines of commodities keep.
-use Rattle.std.specs.Prelude.{◌≡◌, ℕ, ◌+◌, ◌*◌, ◌≤◌, List, slice_get, option_map, unwrap_or, IfSome, All, pos, nat_abs}
+use Rattle.std.specs.Prelude.{◌≡◌, ℕ, ◌+◌, ◌*◌, ◌≤◌, List, slice_get, option_map, unwrap_or, IfSome, All, pos}
+use Rattle.std.specs.Prelude.{nat_abs}
 use Rattle.span_tables.specs.declared.limits.TheConstants.{MAX_BASIS_POINTS, MAX_PRICE2, MAX_UNITS}
 use Rattle.span_tables.specs.Sides.{IsLeftOf}
 use Rattle.inter_credit.specs.Credits.{credit_of, unspread_line}

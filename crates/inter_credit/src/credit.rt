@@ -1,4 +1,4 @@
-//! The credit of a commodity.
+//! The credit of a commodity (docs/METHOD.md, Intercommodity spreads).
 ghost use Rattle.std.specs.Prelude.{◌≡◌, ◌<◌, ◌≤◌, ◌*◌, ◌^◌, length, pos, nat_abs};
 ghost use Rattle.inter_credit.specs.Credits.{credit_of};
 ghost use Rattle.inter_credit.specs.States.{IsLine, credit_at};
@@ -13,7 +13,7 @@ const WHOLE: u128 = 10_000;
 // What a credit is divided by for each unit of net delta: price risk is held doubled, and weights are in basis points.
 const DOUBLED_WHOLE: u128 = 2 * WHOLE;
 
-// Price risk doubled times the weight.
+// Price risk doubled times the weight, in minor units times 10^-8 deltas times basis points.
 fn product(line: &InterLine) -> u128
     requires { IsLine line.now }
     ensures { result ≡ line.now.price2 * line.now.weight }
@@ -21,7 +21,7 @@ fn product(line: &InterLine) -> u128
     u128::from(line.price2) * line.weight
 }
 
-// The credit of a line, rounded down once.
+// The credit of a line, in minor units, rounded down once.
 #[tactic(auto, unfolding(crate::specs::Credits::credit_of))]
 fn credit_of(line: &InterLine) -> u128
     requires { IsLine line.now }
@@ -35,7 +35,7 @@ fn credit_of(line: &InterLine) -> u128
     floor_div(product(line), DOUBLED_WHOLE * u128::from(net))
 }
 
-/// The intercommodity credit of the commodity of a number, in minor units.
+/// The intercommodity credit of the commodity of a number, in minor units, rounded down once; 0 where its net delta is 0.
 pub fn credit(state: &InterState, commodity: usize) -> Money
     requires { commodity < length state.now }
     ensures value { result ≡ pos (credit_at state.now commodity) }

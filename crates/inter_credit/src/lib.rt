@@ -1,4 +1,5 @@
-//! Intercommodity spreads and their credits, the short option minimum, and the requirement of a commodity.
+//! Intercommodity spreads and their credits, the short option minimum, and the requirement of a commodity
+//! (docs/METHOD.md, Intercommodity spreads; Minimum and requirement).
 #![tactic(auto)]
 
 pub mod credit;

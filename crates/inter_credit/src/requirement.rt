@@ -1,4 +1,4 @@
-//! The short option minimum, and the requirement of a commodity.
+//! The short option minimum, and the requirement of a commodity (docs/METHOD.md, Minimum and requirement).
 ghost use Rattle.std.specs.Prelude.{◌≡◌, ◌+◌, ◌*◌, ◌≤◌, ◌+ℤ◌, ◌-ℤ◌, pos, nat_abs};
 ghost use Rattle.span_money.specs.Numbers.{negative_part};
 ghost use Rattle.span_tables.specs.declared.limits.TheConstants.{MAX_HELD, MAX_NET, MAX_RATE};
@@ -12,7 +12,7 @@ use span_tables::records::{MinimumMethod, ProductKind};
 /// The size of each part of a requirement, in minor units: ten parts are an amount of money.
 pub const MAX_PART: u128 = MAX_MONEY / 10;
 
-// How many of a held contract are short.
+// How many of a net quantity are short, in contracts.
 fn short_part(net: i64) -> u64
     ensures value { result ≡ negative_part net }
     ensures bound { result ≤ nat_abs net }
@@ -58,7 +58,8 @@ fn short_options(held: &Held, method: MinimumMethod) -> u64
     }
 }
 
-/// The short option minimum: the rate (in minor units a contract) times the count of short option contracts.
+/// The short option minimum, in minor units: the rate (in minor units a contract) times the count of short option
+/// contracts.
 #[tactic(auto, unfolding(crate::specs::Requirement::minimum_of))]
 pub fn minimum(held: &Held, rate: u32, method: MinimumMethod) -> Money
     requires { rate ≤ MAX_RATE }
@@ -69,7 +70,7 @@ pub fn minimum(held: &Held, rate: u32, method: MinimumMethod) -> Money
     Money::new((u64::from(rate) * count) as i128)
 }
 
-// Scan risk and charges, less the credit.
+// Scan risk and charges, less the credit, in minor units.
 fn risk_less_credit(scan: Money, intra: Money, delivery: Money, credit: Money) -> i128
     requires scan { nat_abs scan ≤ MAX_PART }
     requires intra { nat_abs intra ≤ MAX_PART }
@@ -81,7 +82,7 @@ fn risk_less_credit(scan: Money, intra: Money, delivery: Money, credit: Money) -
     scan.get() + intra.get() + delivery.get() - credit.get()
 }
 
-/// The requirement of a commodity: the larger of scan risk and charges less the credit, and the minimum.
+/// The requirement of a commodity, in minor units: the larger of scan risk and charges less the credit, and the minimum.
 #[tactic(auto, unfolding(crate::specs::Requirement::requirement_of))]
 pub fn requirement(
     scan: Money,

@@ -1,4 +1,5 @@
-//! Intercommodity spreads: how many are formed in a direction, and what they use of each commodity.
+//! Intercommodity spreads: how many are formed in a direction, and what they use of each commodity (docs/METHOD.md,
+//! Intercommodity spreads).
 ghost use Rattle.std.specs.Prelude.{◌≡◌, ◌<◌, ◌≤◌, ◌*◌, ◌/◌, ◌+◌, length, false, List, All, IfOk, nat_abs};
 ghost use Rattle.span_tables.specs.Accepted.{IsInter};
 ghost use Rattle.span_tables.specs.Sides.{market_side, part_on, spreads_formed};
@@ -16,7 +17,7 @@ use span_tables::sides::{Direction, MarketSide, less_used, market_side, part_on}
 use span_tables::slots::OpenSides;
 use std::alloc::{AllocError, Global};
 
-// How many spreads a leg's commodity has room for.
+// How many spreads a leg's commodity has room for, in 10^-4 spreads.
 fn fit(lines: &[InterLine], leg: &CommodityLeg, direction: Direction) -> u64
     requires known { leg.now.commodity < length lines.now }
     requires ratio { 0 < leg.now.ratio }
@@ -30,7 +31,7 @@ fn fit(lines: &[InterLine], leg: &CommodityLeg, direction: Direction) -> u64
     greatest_fit(side, leg.ratio)
 }
 
-// How many spreads are formed in a direction: what each leg has room for.
+// How many spreads are formed in a direction, in 10^-4 spreads: what each leg has room for.
 fn spreads_formed(lines: &[InterLine], legs: &[CommodityLeg], direction: Direction) -> u64
     requires known { All (λ leg. leg.commodity < length lines.now) legs.now }
     requires ratios { All (λ leg. 0 < leg.ratio) legs.now }
@@ -49,7 +50,7 @@ fn spreads_formed(lines: &[InterLine], legs: &[CommodityLeg], direction: Directi
     }
 }
 
-// A commodity of which some units on a market side were used, at so many basis points.
+// A commodity of which some units of 10^-8 deltas on a market side were used, at so many basis points.
 fn line_after(line: InterLine, on: MarketSide, used: u64, basis_points: u32) -> InterLine
     requires line { IsLine line }
     requires used { used ≤ part_on on line.rest }
@@ -146,7 +147,7 @@ pub(crate) fn spread_both_ways(lines: &mut [InterLine], sides: &OpenSides, sprea
     spread_one_way(lines, sides, spread, Direction::AShort);
 }
 
-// Whether a spread may be formed in one of the directions. `false` says that none is.
+// Whether a spread may be formed in one of the directions. `false` says that none is, `true` nothing.
 #[tactic(auto, unfolding(crate::specs::Credits::inter_both_ways))]
 pub(crate) fn may_form_either(sides: &OpenSides, spread: &Inter) -> bool
     ensures { (lines : List InterLine) → AreOpen sides.now lines → result ≡ false

@@ -1,4 +1,5 @@
-//! For each commodity its net delta, what spreads have left of it, its price risk, and what earns its credit.
+//! For each commodity its net delta, what spreads have left of it, its price risk, and what earns its credit
+//! (docs/METHOD.md, Intercommodity spreads).
 ghost use Rattle.std.specs.Prelude.{◌≡◌, ◌<◌, ◌≤◌, ◌==◌, false, length, replicate, slice_set, All, IfOk, pos, nat_abs};
 ghost use Rattle.inter_credit.specs.Credits.{inter_both_ways, unspread_line};
 ghost use Rattle.span_tables.specs.Accepted.{IsInter};
@@ -14,8 +15,8 @@ use std::marker::Model;
 
 /// A commodity in the intercommodity stage.
 ///
-/// `net` is its net delta (at most `MAX_UNITS` either way) and `rest` what spreads have left of it, `price2` is price
-/// risk doubled (in minor units, at most `MAX_PRICE2`), and `weight` is the sum of units used times basis points.
+/// `net` is its net delta (in 10^-8 deltas, at most `MAX_UNITS` either way) and `rest` what spreads have left of it, `price2`
+/// is price risk doubled (in minor units, at most `MAX_PRICE2`), and `weight` is the sum of units used times basis points.
 #[derive(Clone, Copy, Debug, PartialEq, Eq)]
 pub struct InterLine {
     pub weight: u128,
@@ -76,7 +77,7 @@ impl InterState {
         Ok(InterState { lines, sides })
     }
 
-    /// Gives a commodity its net delta and its price risk; its rest is its full net delta.
+    /// Gives a commodity its net delta, and its price risk doubled in minor units; its rest is its full net delta.
     ///
     /// Nothing was loaded for that commodity, and no spread was formed.
     pub fn load(&mut self, commodity: usize, net: Units, price2: u64)
@@ -104,7 +105,8 @@ impl InterState {
         spread_both_ways(&mut self.lines, &self.sides, spread);
     }
 
-    /// Whether a spread may be formed. `false` says that none is, and that the state stays as it is.
+    /// Whether a spread may be formed. `false` says that none is, and that the state stays as it is; `true` says nothing, since
+    /// a side that spreads used up still counts.
     pub fn may_spread(&self, spread: &Inter) -> bool
         ensures { result ≡ false → inter_both_ways self.now spread.now ≡ self.now }
     {
@@ -134,7 +136,8 @@ pub fn empty(alloc: Global, commodities: usize) -> Result<InterState, AllocError
     Ok(InterState { lines, sides })
 }
 
-/// The state with the net delta and the price risk of one more commodity, whose rest is its full net delta.
+/// The state with the net delta of one more commodity, and its price risk doubled in minor units; its rest is its full
+/// net delta.
 ///
 /// Nothing was loaded for that commodity, and no spread was formed.
 ///

@@ -1,15 +1,16 @@
+//! Worked values of the calls. Units are 10^-8 deltas, ratios and spreads 10^-4, amounts minor units.
 ghost use Rattle.std.specs.Prelude.{◌≡◌, ◌<◌, ◌≤◌, All, IfOk, length, nat_abs};
 ghost use Rattle.span_tables.specs.Accepted.{IsContract, IsInter};
 ghost use Rattle.inter_credit.specs.declared.requirement.TheConstants.{MAX_PART};
 
-use super::credit::credit;
-use super::requirement::{MAX_PART, minimum, requirement};
-use super::spreads::inter_spread;
-use super::state::{InterLine, InterState, empty, load};
+use crate::credit::credit;
+use crate::requirement::{MAX_PART, minimum, requirement};
+use crate::spreads::inter_spread;
+use crate::state::{InterLine, InterState, empty, load};
 use arrayvec::ArrayVec;
 use span_money::amounts::{Delta, Money, Ratio, Scale, Units};
 use span_tables::held::Held;
-use span_tables::limits::{MAX_BASIS_POINTS, MAX_NET, MAX_PRICE2, MAX_UNITS};
+use span_tables::limits::{MAX_BASIS_POINTS, MAX_NET, MAX_PRICE2, MAX_RATIO, MAX_UNITS, SCENARIOS};
 use span_tables::name::Name;
 use span_tables::portfolios::Holding;
 use span_tables::records::{CommodityLeg, Contract, Inter, MinimumMethod, ProductKind, Side};
@@ -88,8 +89,8 @@ fn spread_of(
     assert!(rt; first.0 < commodities);
     assert!(rt; second.0 < commodities);
     assert!(rt; first.0 != second.0);
-    assert!(rt; 0 < first.1 && first.1 <= 10_000_000);
-    assert!(rt; 0 < second.1 && second.1 <= 10_000_000);
+    assert!(rt; 0 < first.1 && first.1 <= MAX_RATIO);
+    assert!(rt; 0 < second.1 && second.1 <= MAX_RATIO);
     let mut legs = ArrayVec::new();
     legs.push(CommodityLeg {
         commodity: first.0,
@@ -104,51 +105,50 @@ fn spread_of(
     Inter::new(basis_points, legs)
 }
 
+// Forms spreads one after the other, each of its basis points and two legs, and compares what they leave.
+fn expect_spreads(
+    rt: &impl Abort,
+    alloc: Global,
+    spreads: &[(u32, (usize, u32), (usize, u32))],
+    commodities: &[Worked],
+) -> Result<(), Fail> {
+    let mut state = loaded(rt, alloc, commodities)?;
+    for (basis_points, first, second) in spreads {
+        let spread = spread_of(rt, state.len(), *basis_points, *first, *second);
+        state = inter_spread(alloc, &state, &spread)?;
+    }
+    compare(rt, &state, commodities);
+    Ok(())
+}
+
+// Each against 2 short deltas with a price risk doubled of 3600.
 #[test]
 fn spreads_of_two_commodities(rt: HostRuntime) -> Result<(), Fail> {
     let cases = [
         (
-            5000,
-            10_000,
-            10_000,
-            (100_000_000, 2400),
-            (0, 500_000_000_000, 600),
+            (5000, (0, 10_000), (1, 10_000)),
+            commodity((100_000_000, 2400), (0, 500_000_000_000, 600)),
             (-100_000_000, 500_000_000_000, 450),
         ),
         (
-            3333,
-            10_000,
-            10_000,
-            (100_000_000, 2400),
-            (0, 333_300_000_000, 399),
+            (3333, (0, 10_000), (1, 10_000)),
+            commodity((100_000_000, 2400), (0, 333_300_000_000, 399)),
             (-100_000_000, 333_300_000_000, 299),
         ),
         (
-            5000,
-            20_000,
-            30_000,
-            (100_000_000, 2400),
-            (0, 500_000_000_000, 600),
+            (5000, (0, 20_000), (1, 30_000)),
+            commodity((100_000_000, 2400), (0, 500_000_000_000, 600)),
             (-50_000_000, 750_000_000_000, 675),
         ),
         (
-            5000,
-            10_000,
-            10_000,
-            (0, 2400),
-            (0, 0, 0),
+            (5000, (0, 10_000), (1, 10_000)),
+            commodity((0, 2400), (0, 0, 0)),
             (-200_000_000, 0, 0),
         ),
     ];
-    for (basis_points, ratio, other_ratio, before, after, other_after) in cases {
-        let commodities = [
-            commodity(before, after),
-            commodity((-200_000_000, 3600), other_after),
-        ];
-        let mut state = loaded(&rt, rt.alloc(), &commodities)?;
-        let spread = spread_of(&rt, state.len(), basis_points, (0, ratio), (1, other_ratio));
-        state.spread(&spread);
-        compare(&rt, &state, &commodities);
+    for (spread, first, after) in cases {
+        let second = commodity((-200_000_000, 3600), after);
+        expect_spreads(&rt, rt.alloc(), &[spread], &[first, second])?;
     }
     Ok(())
 }
@@ -160,13 +160,11 @@ fn spreads_that_share_a_commodity(rt: HostRuntime) -> Result<(), Fail> {
         commodity((-100_000_000, 1800), (0, 500_000_000_000, 450)),
         commodity((-100_000_000, 600), (0, 200_000_000_000, 60)),
     ];
-    let state = loaded(&rt, rt.alloc(), &commodities)?;
-    let spread = spread_of(&rt, state.len(), 5000, (0, 10_000), (1, 10_000));
-    let state = inter_spread(rt.alloc(), &state, &spread)?;
-    let spread = spread_of(&rt, state.len(), 2000, (0, 10_000), (2, 10_000));
-    let state = inter_spread(rt.alloc(), &state, &spread)?;
-    compare(&rt, &state, &commodities);
-    Ok(())
+    let spreads = [
+        (5000, (0, 10_000), (1, 10_000)),
+        (2000, (0, 10_000), (2, 10_000)),
+    ];
+    expect_spreads(&rt, rt.alloc(), &spreads, &commodities)
 }
 
 // The first spread is tried in both directions before the second is tried at all.
@@ -177,13 +175,11 @@ fn first_spread_before_the_second(rt: HostRuntime) -> Result<(), Fail> {
         commodity((300_000_000, 5400), (0, 1_900_000_000_000, 1710)),
         commodity((-300_000_000, 1800), (-200_000_000, 900_000_000_000, 270)),
     ];
-    let state = loaded(&rt, rt.alloc(), &commodities)?;
-    let spread = spread_of(&rt, state.len(), 5000, (0, 10_000), (1, 10_000));
-    let state = inter_spread(rt.alloc(), &state, &spread)?;
-    let spread = spread_of(&rt, state.len(), 9000, (1, 10_000), (2, 10_000));
-    let state = inter_spread(rt.alloc(), &state, &spread)?;
-    compare(&rt, &state, &commodities);
-    Ok(())
+    let spreads = [
+        (5000, (0, 10_000), (1, 10_000)),
+        (9000, (1, 10_000), (2, 10_000)),
+    ];
+    expect_spreads(&rt, rt.alloc(), &spreads, &commodities)
 }
 
 // Commodities of which one side of a spread has no rest are told at once; the others may form it in either direction.
@@ -243,7 +239,7 @@ fn contract(kind: ProductKind) -> Contract
         month: 202_503,
         delta: Delta::new(10_000),
         scale: Scale::new(10_000),
-        values: [0; 16],
+        values: [0; SCENARIOS],
     }
 }
 

@@ -1,5 +1,5 @@
-//! Worked numbers, computed by the definitions alone.
-#![tactic(auto, unfolding(crate::specs::Credits::inter_both_ways, crate::specs::Credits::after_inter_spreads, crate::specs::Credits::credit_of, crate::specs::Requirement::minimum_of, crate::specs::Requirement::requirement_of))]
+//! Worked values, computed by the definitions: each is the contract of a function that does nothing.
+#![tactic(auto, unfolding(crate::proofs::OnLiterals::credits_on_literals))]
 
 ghost use Rattle.std.specs.Prelude.{◌≡◌, [], ◌∷◌, map, pos};
 ghost use Rattle.span_tables.specs.declared.records.MinimumMethod.TheVariants as method;

@@ -1,5 +1,6 @@
 -- Laws of the scan.
-use Rattle.std.proofs.Common.{◌≡◌, ℕ, suc, zero, ◌+◌, ◌-◌, ◌<◌, Bool, true, false, List, [], ◌∷◌, length, get_or, refl, sym, ap, ◌∙◌, arith, subst, inl, inr, Some, cond, not}
+use Rattle.std.proofs.Common.{◌≡◌, ℕ, suc, zero, ◌+◌, ◌-◌, ◌<◌, Bool, true, false, List, [], ◌∷◌, length, get_or}
+use Rattle.std.proofs.Common.{refl, sym, ap, ◌∙◌, arith, subst, inl, inr, Some, cond, not}
 use Rattle.std.specs.Prelude.{ℤ, pos, fold, All, ◌≤ℤ◌, ◌<ℤ◌, unwrap_or, None, int_le, nat_lt, position}
 use Rattle.std.specs.List.{position_or_len}
 use Rattle.std.specs.Int.{int_max}
@@ -39,7 +40,8 @@ largest_tested : (sums : List ℤ) (z : ℤ) → is_largest sums z ≡ true → 
 largest_tested sums z e k d lt = le_tested _ z (AllPass-from_list_all (λ t. int_le t z) sums e k d lt)
 
 -- where some element passes, there is a first place that does
-place_exists : {X : Type 0} (p : X → Bool) (xs : List X) (i : ℕ) (d : X) → i < length xs → p (get_or xs i d) ≡ true → position_or_len p xs < length xs
+place_exists : {X : Type 0} (p : X → Bool) (xs : List X) (i : ℕ) (d : X) → i < length xs → p (get_or xs i d) ≡ true
+    → position_or_len p xs < length xs
 place_exists p [] i d lt e = absurd (omega arith)
 place_exists p (x ∷ xs) zero d lt e = rw e (omega arith)
 place_exists {X} p (x ∷ xs) (suc i) d lt e = by_test (p x) (place_exists p xs i d (omega arith) e) where
@@ -57,29 +59,38 @@ same_element : (xs : List ℤ) (i : ℕ) (m : ℤ) → i < length xs → get_or 
 same_element xs i m lt e = get_or_default xs i (pos 0) m lt ∙ e
 
 -- one of the sums is at least each of them
-some_largest : (s : ℤ) (rest : List ℤ) → (i : ℕ) × (i < length (s ∷ rest)) × (is_largest (s ∷ rest) (get_or (s ∷ rest) i (pos 0)) ≡ true)
+some_largest : (s : ℤ) (rest : List ℤ)
+    → (i : ℕ) × (i < length (s ∷ rest)) × (is_largest (s ∷ rest) (get_or (s ∷ rest) i (pos 0)) ≡ true)
 some_largest s rest =
     let m = fold int_max s rest in
     let b = fold-int_max_bounds s rest m refl in
     let above : All (λ t. t ≤ℤ m) (s ∷ rest) = all_cons s rest m b.0 b.1 in
     elim (fold-int_max_reached s rest m refl) [
       | inl e ↦ (0, omega arith, largest_test (s ∷ rest) s (subst (λ z. All (λ t. t ≤ℤ z) (s ∷ rest)) e above))
-      | inr c ↦ (suc c.0, omega (arith, c.1), largest_test (s ∷ rest) (get_or rest c.0 (pos 0)) (subst (λ z. All (λ t. t ≤ℤ z) (s ∷ rest)) (sym (same_element rest c.0 m c.1 c.2)) above))
+      | inr c ↦ (
+        suc c.0,
+        omega (arith, c.1),
+        largest_test (s ∷ rest) (get_or rest c.0 (pos 0))
+            (subst (λ z. All (λ t. t ≤ℤ z) (s ∷ rest)) (sym (same_element rest c.0 m c.1 c.2)) above),
+      )
     ]
 
 -- the place of the active scenario's sum
 place : List ℤ → ℕ
 place sums = position_or_len (is_largest sums) sums
 
-position_is : (s : ℤ) (rest : List ℤ) → position (is_largest (s ∷ rest)) (s ∷ rest) ≡ Some (position_or_len (is_largest (s ∷ rest)) (s ∷ rest))
+position_is : (s : ℤ) (rest : List ℤ)
+    → position (is_largest (s ∷ rest)) (s ∷ rest) ≡ Some (position_or_len (is_largest (s ∷ rest)) (s ∷ rest))
 position_is s rest =
     let w = some_largest s rest in
     let lt = place_exists (is_largest (s ∷ rest)) (s ∷ rest) w.0 (pos 0) w.1 w.2 in
-    let yes : nat_lt (position_or_len (is_largest (s ∷ rest)) (s ∷ rest)) (length (s ∷ rest)) ≡ true = grind (arith, nat_tests, lt) in
+    let yes : nat_lt (position_or_len (is_largest (s ∷ rest)) (s ∷ rest)) (length (s ∷ rest)) ≡ true =
+    grind (arith, nat_tests, lt) in
     ap (λ b. cond b (Some (position_or_len (is_largest (s ∷ rest)) (s ∷ rest))) None) yes
 
 -- the active scenario's sum is at least every sum, and no lower-numbered one's is
-pub active_is_largest : (s : ℤ) (rest : List ℤ) → All (λ t. t ≤ℤ at_scenario (s ∷ rest) (active_scenario (s ∷ rest))) (s ∷ rest)
+pub active_is_largest : (s : ℤ) (rest : List ℤ)
+    → All (λ t. t ≤ℤ at_scenario (s ∷ rest) (active_scenario (s ∷ rest))) (s ∷ rest)
 active_is_largest s rest =
     let p = position_is s rest in
     let found = position-Some (is_largest (s ∷ rest)) (s ∷ rest) _ (pos 0) p in
@@ -88,7 +99,8 @@ active_is_largest s rest =
     subst (λ o. All (λ t. t ≤ℤ at_scenario (s ∷ rest) (unwrap_or o 0 + 1)) (s ∷ rest)) (sym p)
     (largest_tested (s ∷ rest) _ (subst (λ i. is_largest (s ∷ rest) (get_or (s ∷ rest) i (pos 0)) ≡ true) (sym less) found.1))
 
-pub active_is_first : (s : ℤ) (rest : List ℤ) (k : ℕ) → 0 < k → k < active_scenario (s ∷ rest) → ¬ (All (λ t. t ≤ℤ at_scenario (s ∷ rest) k) (s ∷ rest))
+pub active_is_first : (s : ℤ) (rest : List ℤ) (k : ℕ) → 0 < k → k < active_scenario (s ∷ rest)
+    → ¬ (All (λ t. t ≤ℤ at_scenario (s ∷ rest) k) (s ∷ rest))
 active_is_first s rest k lo hi all =
     let p = position_is s rest in
     let found = position-Some (is_largest (s ∷ rest)) (s ∷ rest) _ (pos 0) p in
@@ -102,7 +114,8 @@ gt_test : (a b : ℤ) → a <ℤ b → int_le b a ≡ false
 gt_test a b h = grind (arith, ints)
 
 -- the place of the first largest sum makes the active scenario, for code that looks for it
-pub active_from : (sums : List ℤ) (i : ℕ) → i < length sums → ((k : ℕ) → k < length sums → get_or sums k (pos 0) ≤ℤ get_or sums i (pos 0))
+pub active_from : (sums : List ℤ) (i : ℕ) → i < length sums
+    → ((k : ℕ) → k < length sums → get_or sums k (pos 0) ≤ℤ get_or sums i (pos 0))
     → ((k : ℕ) → k < i → get_or sums k (pos 0) <ℤ get_or sums i (pos 0)) → active_scenario sums ≡ i + 1
 active_from sums i lt above before =
     let z = get_or sums i (pos 0) in

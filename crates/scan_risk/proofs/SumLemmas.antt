@@ -1,5 +1,7 @@
 -- Steps of the scenario sums: a contract adds its term to each of sixteen sums.
-use Rattle.std.proofs.Common.{◌≡◌, ℕ, ◌+◌, ◌-◌, ◌<◌, ◌≤◌, ◌≢◌, zero, suc, List, [], ◌∷◌, length, get_or, arith, ap, sym, ◌∙◌, subst, pos, ℤ, ◌+ℤ◌, ◌*ℤ◌, take, w64, to_z, of_z, get_or-set_other}
+use Rattle.std.proofs.Common.{◌≡◌, ℕ, ◌+◌, ◌-◌, ◌<◌, ◌≤◌, ◌≢◌, zero, suc, List, [], ◌∷◌, length}
+use Rattle.std.proofs.Common.{get_or, arith, ap, sym, ◌∙◌, subst, pos, ℤ, ◌+ℤ◌, ◌*ℤ◌, take, w64, to_z, of_z}
+use Rattle.std.proofs.Common.{get_or-set_other}
 use Rattle.std.specs.Prelude.{All, nat_abs}
 use Rattle.std.proofs.Math.ListN.{set}
 use Rattle.std.proofs.Math.Nat.{mul-le-mul}
@@ -20,10 +22,12 @@ pub added_more : (old sums values : List ℤ) (net v : ℤ) (s : ℕ) → s < le
     → ((k : ℕ) → k < s → get_or sums k (pos 0) ≡ with_term old net values k) → (k : ℕ) → k < s + 1
     → get_or (set sums s v) k (pos 0) ≡ with_term old net values k
 added_more old sums values net v s lt e before k h =
-    subst (λ x. get_or (set sums s x) k (pos 0) ≡ with_term old net values k) (sym e) (fill_by_more (with_term old net values) sums s (pos 0) lt before k h)
+    subst (λ x. get_or (set sums s x) k (pos 0) ≡ with_term old net values k) (sym e)
+    (fill_by_more (with_term old net values) sums s (pos 0) lt before k h)
 
 -- the sums behind the place stay
-pub left_more : (old sums : List ℤ) (v : ℤ) (s : ℕ) → ((k : ℕ) → s ≤ k → get_or sums k (pos 0) ≡ get_or old k (pos 0)) → (k : ℕ) → s + 1 ≤ k
+pub left_more : (old sums : List ℤ) (v : ℤ) (s : ℕ) → ((k : ℕ) → s ≤ k → get_or sums k (pos 0) ≡ get_or old k (pos 0))
+    → (k : ℕ) → s + 1 ≤ k
     → get_or (set sums s v) k (pos 0) ≡ get_or old k (pos 0)
 left_more old sums v s behind k h = let ne : k ≢ s = omega arith in rw get_or-set_other (behind k (omega arith))
 
@@ -42,12 +46,14 @@ sum_size : (a t : ℤ) (b : ℕ) → nat_abs a ≤ b → nat_abs t ≤ MAX_TERM 
 sum_size a t b x y = omega (arith, ints)
 
 -- sums with a contract's terms are larger by at most a term
-pub bound_more : (old sums values : List ℤ) (net : ℤ) → nat_abs net ≤ MAX_NET → All (λ v. nat_abs v ≤ MAX_ARRAY_VALUE) values → length sums ≤ 16
+pub bound_more : (old sums values : List ℤ) (net : ℤ) → nat_abs net ≤ MAX_NET → All (λ v. nat_abs v ≤ MAX_ARRAY_VALUE) values
+    → length sums ≤ 16
     → ((k : ℕ) → k < 16 → get_or sums k (pos 0) ≡ with_term old net values k) → (b : ℕ) → All (λ s. nat_abs s ≤ b) old
     → All (λ s. nat_abs s ≤ b + MAX_TERM) sums
 bound_more old sums values net small vs long is b olds k d lt =
     let size : nat_abs (with_term old net values k) ≤ b + MAX_TERM =
-    sum_size (get_or old k (pos 0)) (net *ℤ at_scenario values (k + 1)) b (at_most old b olds k) (term_size net (at_scenario values (k + 1)) small (at_most values MAX_ARRAY_VALUE vs (k + 1 - 1))) in
+    sum_size (get_or old k (pos 0)) (net *ℤ at_scenario values (k + 1)) b (at_most old b olds k)
+    (term_size net (at_scenario values (k + 1)) small (at_most values MAX_ARRAY_VALUE vs (k + 1 - 1))) in
     subst (λ z. nat_abs z ≤ b + MAX_TERM) (sym (is k (omega arith)) ∙ get_or_default sums k (pos 0) d lt) size
 
 -- what the code computes of a sum and a term that are not too large

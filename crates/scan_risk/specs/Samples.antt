@@ -14,7 +14,9 @@ future = record {
   month = 202503;
   delta = pos 10000;
   scale = 10000;
-  values = pos 0 ∷ pos 0 ∷ neg_ℤ (pos 400) ∷ neg_ℤ (pos 400) ∷ pos 400 ∷ pos 400 ∷ neg_ℤ (pos 800) ∷ neg_ℤ (pos 800) ∷ pos 800 ∷ pos 800 ∷ neg_ℤ (pos 1200) ∷ neg_ℤ (pos 1200) ∷ pos 1200 ∷ pos 1200 ∷ neg_ℤ (pos 1188) ∷ pos 1188 ∷ [];
+  values = pos 0 ∷ pos 0 ∷ neg_ℤ (pos 400) ∷ neg_ℤ (pos 400) ∷ pos 400 ∷ pos 400 ∷ neg_ℤ (pos 800) ∷ neg_ℤ (pos 800)
+      ∷ pos 800 ∷ pos 800 ∷ neg_ℤ (pos 1200) ∷ neg_ℤ (pos 1200) ∷ pos 1200 ∷ pos 1200 ∷ neg_ℤ (pos 1188) ∷ pos 1188
+      ∷ [];
 }
 
 -- the largest contract: a gain of 100000000 in scenarios 1 and 2 and a loss of it in the others

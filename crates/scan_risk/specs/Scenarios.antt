@@ -1,5 +1,6 @@
 -- Scenario sums and their scan.
-use Rattle.std.specs.Prelude.{ℕ, ◌+◌, ◌-◌, ◌%◌, Bool, ◌==◌, nat_lt, if◌then◌else◌, List, map, fold, position, unwrap_or, slice_index_or, ℤ, pos, ◌+ℤ◌, ◌-ℤ◌, ◌*ℤ◌, int_le}
+use Rattle.std.specs.Prelude.{ℕ, ◌+◌, ◌-◌, ◌%◌, Bool, ◌==◌, nat_lt, if◌then◌else◌, List, map, fold, position}
+use Rattle.std.specs.Prelude.{unwrap_or, slice_index_or, ℤ, pos, ◌+ℤ◌, ◌-ℤ◌, ◌*ℤ◌, int_le}
 use Rattle.std.specs.Int.{int_max}
 use Rattle.std.specs.List.{list_all, range_with_len}
 use Rattle.span_money.specs.Numbers.{int_sum_by, positive_part}

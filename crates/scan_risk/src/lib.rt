@@ -1,4 +1,5 @@
-//! Scenario sums of held contracts, and their scan: scan risk, active and paired scenario, and price risk.
+//! Scenario sums of held contracts, and their scan: scan risk, active and paired scenario, and price risk
+//! (docs/METHOD.md, Scan).
 #![tactic(auto)]
 
 pub mod laws;
@@ -10,9 +11,11 @@ pub mod worked;
 
 use span_money::amounts::Money;
 
-/// The scan of sixteen scenario sums.
+/// The scan of sixteen scenario sums (docs/METHOD.md, Scan).
 ///
-/// `active` and `paired` are numbers of scenarios, from 1 to 16. `price2` is the price risk doubled, in minor units.
+/// `risk` is the scan risk: the largest sum, and 0 if none is positive. `active` is the number of the scenario with the
+/// largest sum, the lowest of several, and `paired` that of the scenario with the same price move and the other volatility
+/// move, both from 1 to 16. `price2` is the price risk doubled, in minor units.
 #[derive(Clone, Copy, Debug, PartialEq, Eq)]
 pub struct Scan {
     pub risk: Money,

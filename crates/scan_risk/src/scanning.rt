@@ -1,14 +1,18 @@
-//! The scan of sixteen scenario sums.
+//! The scan of sixteen scenario sums (docs/METHOD.md, Scan).
 ghost use Rattle.std.specs.Prelude.{◌≡◌, ◌*◌, ◌≤◌, ◌≤ℤ◌, ◌+ℤ◌, ◌-ℤ◌, pos, All, nat_abs};
 ghost use Rattle.span_money.specs.Numbers.{positive_part};
 ghost use Rattle.scan_risk.specs.Scenarios.{active_scenario, at_scenario, paired_scenario, price2, scan_of, scan_risk};
-ghost use Rattle.span_tables.specs.declared.limits.TheConstants.{MAX_PRICE2, MAX_SUM};
+ghost use Rattle.span_tables.specs.declared.limits.TheConstants.{MAX_PRICE2, MAX_SUM, SCENARIOS};
 
 use crate::Scan;
 use span_money::amounts::Money;
+use span_tables::limits::SCENARIOS;
 
-// The largest of the sums, or 0.
-fn risk(sums: &[i64; 16]) -> i64
+// The last scenario that has a pair: 15 and 16 have no volatility move.
+const LAST_OF_PAIRS: u8 = 14;
+
+// The largest of the sums, or 0, in minor units.
+fn risk(sums: &[i64; SCENARIOS]) -> i64
     requires { All (λ s. nat_abs s ≤ MAX_SUM) sums.now }
     ensures value { result ≡ scan_risk sums.now }
     ensures above { pos 0 ≤ℤ result }
@@ -22,13 +26,13 @@ fn risk(sums: &[i64; 16]) -> i64
 }
 
 // The lowest-numbered scenario of the largest sum.
-fn active(sums: &[i64; 16]) -> u8
+fn active(sums: &[i64; SCENARIOS]) -> u8
     ensures value { result ≡ active_scenario sums.now }
     ensures low { 1 ≤ result }
-    ensures high { result ≤ 16 }
+    ensures high { result ≤ SCENARIOS }
 {
     let mut best = 0;
-    for i in 1..16 {
+    for i in 1..SCENARIOS {
         if sums[i] > sums[best] {
             best = i;
         }
@@ -39,12 +43,12 @@ fn active(sums: &[i64; 16]) -> u8
 // The scenario of the opposite volatility: 1 with 2, up to 13 with 14; 15 and 16 with themselves.
 fn paired(active: u8) -> u8
     requires low { 1 ≤ active }
-    requires high { active ≤ 16 }
+    requires high { active ≤ SCENARIOS }
     ensures value { result ≡ paired_scenario active }
     ensures low { 1 ≤ result }
-    ensures high { result ≤ 16 }
+    ensures high { result ≤ SCENARIOS }
 {
-    if active > 14 {
+    if active > LAST_OF_PAIRS {
         active
     } else if active % 2 == 1 {
         active + 1
@@ -54,9 +58,9 @@ fn paired(active: u8) -> u8
 }
 
 // The sum of a scenario, numbered from 1.
-fn sum_at(sums: &[i64; 16], scenario: u8) -> i64
+fn sum_at(sums: &[i64; SCENARIOS], scenario: u8) -> i64
     requires low { 1 ≤ scenario }
-    requires high { scenario ≤ 16 }
+    requires high { scenario ≤ SCENARIOS }
     requires sizes { All (λ s. nat_abs s ≤ MAX_SUM) sums.now }
     ensures value { result ≡ at_scenario sums.now scenario }
     ensures bound { nat_abs result ≤ MAX_SUM }
@@ -65,11 +69,11 @@ fn sum_at(sums: &[i64; 16], scenario: u8) -> i64
 }
 
 // The sum of two scenarios together.
-fn pair_sum(sums: &[i64; 16], one: u8, other: u8) -> i64
+fn pair_sum(sums: &[i64; SCENARIOS], one: u8, other: u8) -> i64
     requires one_low { 1 ≤ one }
-    requires one_high { one ≤ 16 }
+    requires one_high { one ≤ SCENARIOS }
     requires other_low { 1 ≤ other }
-    requires other_high { other ≤ 16 }
+    requires other_high { other ≤ SCENARIOS }
     requires sizes { All (λ s. nat_abs s ≤ MAX_SUM) sums.now }
     ensures value { result ≡ at_scenario sums.now one +ℤ at_scenario sums.now other }
     ensures bound { nat_abs result ≤ 2 * MAX_SUM }
@@ -91,12 +95,12 @@ fn excess(over: i64, under: i64) -> u64
     }
 }
 
-// The price risk doubled: the active and the paired sum less sums 1 and 2, and 0 when negative.
-fn price_risk_doubled(sums: &[i64; 16], active: u8, paired: u8) -> u64
+// The price risk doubled, in minor units: the active and the paired sum less sums 1 and 2, and 0 when negative.
+fn price_risk_doubled(sums: &[i64; SCENARIOS], active: u8, paired: u8) -> u64
     requires active_low { 1 ≤ active }
-    requires active_high { active ≤ 16 }
+    requires active_high { active ≤ SCENARIOS }
     requires paired_low { 1 ≤ paired }
-    requires paired_high { paired ≤ 16 }
+    requires paired_high { paired ≤ SCENARIOS }
     requires sizes { All (λ s. nat_abs s ≤ MAX_SUM) sums.now }
     requires is_active { active ≡ active_scenario sums.now }
     requires is_paired { paired ≡ paired_scenario active }
@@ -106,18 +110,18 @@ fn price_risk_doubled(sums: &[i64; 16], active: u8, paired: u8) -> u64
     excess(pair_sum(sums, active, paired), pair_sum(sums, 1, 2))
 }
 
-/// The scan of sixteen scenario sums: the largest sum, the scenario that it comes from with its pair, and the price
-/// risk doubled. A sum is at most `MAX_SUM` either way.
+/// The scan of sixteen scenario sums, in minor units: the largest sum, the scenario that it comes from with its pair, and
+/// the price risk doubled. A sum is at most `MAX_SUM` either way.
 #[tactic(auto, unfolding(crate::specs::Scenarios::scan_of))]
-pub fn scan(sums: &[i64; 16]) -> Scan
+pub fn scan(sums: &[i64; SCENARIOS]) -> Scan
     requires { All (λ s. nat_abs s ≤ MAX_SUM) sums.now }
     ensures value { result ≡ scan_of sums.now }
     ensures risk_above { pos 0 ≤ℤ result.risk }
     ensures risk_bound { nat_abs result.risk ≤ MAX_SUM }
     ensures active_low { 1 ≤ result.active }
-    ensures active_high { result.active ≤ 16 }
+    ensures active_high { result.active ≤ SCENARIOS }
     ensures paired_low { 1 ≤ result.paired }
-    ensures paired_high { result.paired ≤ 16 }
+    ensures paired_high { result.paired ≤ SCENARIOS }
     ensures price2_bound { result.price2 ≤ MAX_PRICE2 }
 {
     let risk = Money::new(i128::from(risk(sums)));

@@ -1,3 +1,4 @@
+//! Worked values of the calls, in minor units.
 ghost use Rattle.std.specs.Prelude.{IfSome, IfOk};
 ghost use Rattle.span_tables.specs.Accepted.{IsContract};
 
@@ -5,6 +6,7 @@ use crate::scanning::scan;
 use crate::scenarios::sums;
 use span_money::amounts::{Delta, Scale};
 use span_tables::held::Held;
+use span_tables::limits::SCENARIOS;
 use span_tables::name::Name;
 use span_tables::portfolios::Holding;
 use span_tables::records::{Contract, ProductKind};
@@ -55,7 +57,7 @@ fn sums_held_contracts(rt: HostRuntime) -> Result<(), Fail> {
 
 #[test]
 fn scans(rt: HostRuntime) {
-    let rows: [([i64; 16], i128, u8, u8, u64); 4] = [
+    let rows: [([i64; SCENARIOS], i128, u8, u8, u64); 4] = [
         (
             [
                 -5, -3, -9, -7, -4, -2, -12, -11, -3, -1, -20, -19, -2, -1, -15, -1,
@@ -79,7 +81,7 @@ fn scans(rt: HostRuntime) {
             4,
             0,
         ),
-        ([0; 16], 0, 1, 2, 0),
+        ([0; SCENARIOS], 0, 1, 2, 0),
     ];
     for (sums, risk, active, paired, price2) in rows {
         assert!(rt; sums.iter().all(|sum| -1000 <= *sum && *sum <= 1000));

@@ -8,11 +8,15 @@ ghost use Rattle.scan_risk.specs.Scenarios.{scan_of, scenario_sums};
 /// lowest of equal sums is active.
 #[tactic(auto, unfolding(crate::specs::Scenarios::scan_of))]
 pub fn scans()
-    ensures no_loss { scan_of (neg_ℤ (pos 5) ∷ neg_ℤ (pos 3) ∷ neg_ℤ (pos 9) ∷ neg_ℤ (pos 7) ∷ neg_ℤ (pos 4) ∷ neg_ℤ (pos 2) ∷ neg_ℤ (pos 12) ∷ neg_ℤ (pos 11) ∷ neg_ℤ (pos 3) ∷ neg_ℤ (pos 1) ∷ neg_ℤ (pos 20) ∷ neg_ℤ (pos 19) ∷ neg_ℤ (pos 2) ∷ neg_ℤ (pos 1) ∷ neg_ℤ (pos 15) ∷ neg_ℤ (pos 1) ∷ [])
+    ensures no_loss { scan_of (neg_ℤ (pos 5) ∷ neg_ℤ (pos 3) ∷ neg_ℤ (pos 9) ∷ neg_ℤ (pos 7) ∷ neg_ℤ (pos 4)
+        ∷ neg_ℤ (pos 2) ∷ neg_ℤ (pos 12) ∷ neg_ℤ (pos 11) ∷ neg_ℤ (pos 3) ∷ neg_ℤ (pos 1) ∷ neg_ℤ (pos 20)
+        ∷ neg_ℤ (pos 19) ∷ neg_ℤ (pos 2) ∷ neg_ℤ (pos 1) ∷ neg_ℤ (pos 15) ∷ neg_ℤ (pos 1) ∷ [])
         ≡ record { risk = pos 0; active = 10; paired = 9; price2 = 4 } }
-    ensures extreme_move { scan_of (pos 10 ∷ neg_ℤ (pos 6) ∷ pos 12 ∷ neg_ℤ (pos 4) ∷ pos 14 ∷ neg_ℤ (pos 2) ∷ pos 20 ∷ pos 2 ∷ pos 24 ∷ pos 6 ∷ pos 30 ∷ pos 10 ∷ pos 40 ∷ pos 20 ∷ pos 50 ∷ pos 90 ∷ [])
+    ensures extreme_move { scan_of (pos 10 ∷ neg_ℤ (pos 6) ∷ pos 12 ∷ neg_ℤ (pos 4) ∷ pos 14 ∷ neg_ℤ (pos 2) ∷ pos 20
+        ∷ pos 2 ∷ pos 24 ∷ pos 6 ∷ pos 30 ∷ pos 10 ∷ pos 40 ∷ pos 20 ∷ pos 50 ∷ pos 90 ∷ [])
         ≡ record { risk = pos 90; active = 16; paired = 16; price2 = 176 } }
-    ensures negative_price_risk { scan_of (pos 100 ∷ pos 90 ∷ pos 110 ∷ pos 50 ∷ pos 0 ∷ pos 0 ∷ pos 0 ∷ pos 0 ∷ pos 0 ∷ pos 0 ∷ pos 0 ∷ pos 0 ∷ pos 0 ∷ pos 0 ∷ pos 0 ∷ pos 0 ∷ [])
+    ensures negative_price_risk { scan_of (pos 100 ∷ pos 90 ∷ pos 110 ∷ pos 50 ∷ pos 0 ∷ pos 0 ∷ pos 0 ∷ pos 0
+        ∷ pos 0 ∷ pos 0 ∷ pos 0 ∷ pos 0 ∷ pos 0 ∷ pos 0 ∷ pos 0 ∷ pos 0 ∷ [])
         ≡ record { risk = pos 110; active = 3; paired = 4; price2 = 0 } }
     ensures zeros { scan_of (repeat 16 (pos 0 ∷ [])) ≡ record { risk = pos 0; active = 1; paired = 2; price2 = 0 } }
 {}
@@ -20,7 +24,10 @@ pub fn scans()
 /// One long future, three long futures against four short ones, and 255 of the largest contract.
 #[tactic(auto, unfolding(crate::specs::Scenarios::scan_of, crate::specs::Scenarios::scenario_sums))]
 pub fn sums_of_held_contracts()
-    ensures one_long { scan_of (scenario_sums (held (pos 1) future ∷ [])) ≡ record { risk = pos 1200; active = 13; paired = 14; price2 = 2400 } }
-    ensures long_and_short { scan_of (scenario_sums (held (pos 3) future ∷ held (neg_ℤ (pos 4)) future ∷ [])) ≡ record { risk = pos 1200; active = 11; paired = 12; price2 = 2400 } }
-    ensures largest { scan_of (scenario_sums (repeat 255 (held (pos 100000) largest ∷ []))) ≡ record { risk = pos 2550000000000000; active = 3; paired = 4; price2 = 10200000000000000 } }
+    ensures one_long { scan_of (scenario_sums (held (pos 1) future ∷ []))
+        ≡ record { risk = pos 1200; active = 13; paired = 14; price2 = 2400 } }
+    ensures long_and_short { scan_of (scenario_sums (held (pos 3) future ∷ held (neg_ℤ (pos 4)) future ∷ []))
+        ≡ record { risk = pos 1200; active = 11; paired = 12; price2 = 2400 } }
+    ensures largest { scan_of (scenario_sums (repeat 255 (held (pos 100000) largest ∷ [])))
+        ≡ record { risk = pos 2550000000000000; active = 3; paired = 4; price2 = 10200000000000000 } }
 {}

@@ -7,7 +7,8 @@ use Rattle.span_cli.specs.Words.{is_taken, kinds_of, span_app}
 
 -- words that are taken are refused only for want of memory
 pub taken_fails : {T : Type 0} (a : App) (words : List Text) (r : Result T Error) → a ≡ span_app
-    → IfErr r (λ e. takes a words ≡ true → kind_of e ≡ OutOfMemory) → IfErr r (λ e. is_taken words ≡ true → kind_of e ≡ OutOfMemory)
+    → IfErr r (λ e. takes a words ≡ true → kind_of e ≡ OutOfMemory)
+    → IfErr r (λ e. is_taken words ≡ true → kind_of e ≡ OutOfMemory)
 unfolding is_taken
 taken_fails a words r same h = subst (λ (x : App). IfErr r (λ e. takes x words ≡ true → kind_of e ≡ OutOfMemory)) same h
 

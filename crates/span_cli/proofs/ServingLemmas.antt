@@ -24,7 +24,8 @@ Appends-none (Some xs) = sym (append-nil xs)
 
 -- a refusal was told
 pub refused_tells : (status : ℕ) (line : List ℕ) (given : ℕ) (out old_err new_err : Stream)
-    → out.failed ≡ false → given ≡ status → Says old_err new_err line → Tells (refused status line) given out out old_err new_err
+    → out.failed ≡ false → given ≡ status → Says old_err new_err line
+    → Tells (refused status line) given out out old_err new_err
 refused_tells status line given out old_err new_err fresh same said = record {
   status = rw fresh same;
   out = rw fresh (refl, Appends-none out.held);
@@ -34,7 +35,8 @@ refused_tells status line given out old_err new_err fresh same said = record {
 
 -- a refusal's line and status are those of the answer, or of want of memory
 pub refusal_serves : (answer : Answer) (r : Refusal) (given : ℕ) (out old_err new_err : Stream) → out.failed ≡ false
-    → given ≡ refusal_status r → Says old_err new_err (refusal_line r) → Refuses answer r → Serves answer given out out old_err new_err
+    → given ≡ refusal_status r → Says old_err new_err (refusal_line r) → Refuses answer r
+    → Serves answer given out out old_err new_err
 refusal_serves answer (refusal.File name) given out old_err new_err fresh status line run =
     inl (rw run (refused_tells _ _ given out old_err new_err fresh status line))
 refusal_serves answer (refusal.Fault e) given out old_err new_err fresh status line (inl wanted) =
@@ -73,7 +75,8 @@ OfAnswer-each file (Some (a_margin params positions)) P f = by_files (file param
 
 -- what holds of two files that were read, the second behind the first, holds of the files where they are known
 pub both_known : (P : File → File → Type 0) (first second later : Option File) (ps qs : List ℕ) → later ≡ second
-    → IfSome first (λ f. f ≡ Ok ps) → IfSome later (λ f. f ≡ Ok qs) → P (Ok ps) (Ok qs) → IfSome first (λ p. IfSome second (λ q. P p q))
+    → IfSome first (λ f. f ≡ Ok ps) → IfSome later (λ f. f ≡ Ok qs) → P (Ok ps) (Ok qs)
+    → IfSome first (λ p. IfSome second (λ q. P p q))
 both_known P None second later ps qs same h k holds = tt
 both_known P (Some p) None later ps qs same h k holds = tt
 both_known P (Some p) (Some q) later ps qs same h k holds =

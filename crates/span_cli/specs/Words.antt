@@ -1,6 +1,7 @@
 -- What the words of a command line ask for.
 use Rattle.std.specs.Prelude.{Bool, true, List, Option, None, codes, bytes_eq, if◌then◌else◌, option_map, option_and_then}
-use Rattle.clap.specs.Words.{App, Kinds, Row, Rule, Text, first_of, new_app, new_rule, fault_of, subcommand_of, takes, with_rule, with_subcommand}
+use Rattle.clap.specs.Words.{App, Kinds, Row, Rule, Text, first_of, new_app, new_rule, fault_of, subcommand_of, takes}
+use Rattle.clap.specs.Words.{with_rule, with_subcommand}
 use Rattle.span_cli.specs.Serving.{Asked, a_check, a_margin}
 
 -- a file's name, which has to be given

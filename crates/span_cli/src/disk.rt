@@ -5,7 +5,7 @@ use std::alloc::Global;
 use std::rt::Files;
 
 /// How many turns a reading of a file has: one for each byte that it may have, and one for its end.
-const MAX_TURNS: u32 = 67_108_865;
+const MAX_TURNS: u32 = FILE_CAP as u32 + 1;
 
 /// The files of a runtime.
 #[derive(Drop)]

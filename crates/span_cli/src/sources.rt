@@ -4,7 +4,7 @@ ghost use Rattle.std.specs.Prelude.{◌≡◌, IfSome, List, None, Option, Some,
 
 use std::alloc::Global;
 
-/// How many bytes a file may have.
+/// How many bytes a file may have (docs/METHOD.md, Limits).
 pub const FILE_CAP: usize = 67_108_864;
 
 /// Why a file cannot be read.

@@ -52,56 +52,60 @@ fn prints_counts(rt: HostRuntime) -> Result<(), Fail> {
     Ok(())
 }
 
+// Two files of `FILES`, with the status and the line that they are refused with.
+const REFUSED: [(&str, &str, u8, &[u8]); 7] = [
+    (
+        "no-set.csv",
+        "space.csv",
+        3,
+        b"parameters: P1 NoSet at record 1\n",
+    ),
+    (
+        "empty.csv",
+        "positions.csv",
+        3,
+        b"parameters: P1 NoSet at record 0\n",
+    ),
+    (
+        "twice.csv",
+        "space.csv",
+        3,
+        b"parameters: C1 DuplicateCommodity at record 3\n",
+    ),
+    (
+        "params.csv",
+        "space.csv",
+        4,
+        b"positions: Q2 BadName at record 2\n",
+    ),
+    (
+        "params.csv",
+        "unknown.csv",
+        4,
+        b"positions: B1 UnknownContract at record 2 account Y\n",
+    ),
+    ("no-set.csv", "missing.csv", 6, b"file: missing.csv\n"),
+    ("missing.csv", "missing-too.csv", 6, b"file: missing.csv\n"),
+];
+
 #[test]
 fn refuses_files(rt: HostRuntime) -> Result<(), Fail> {
     let alloc = rt.alloc();
-    let cases: [(&str, &str, u8, &[u8]); 7] = [
-        (
-            "no-set.csv",
-            "space.csv",
-            3,
-            b"parameters: P1 NoSet at record 1\n",
-        ),
-        (
-            "empty.csv",
-            "positions.csv",
-            3,
-            b"parameters: P1 NoSet at record 0\n",
-        ),
-        (
-            "twice.csv",
-            "space.csv",
-            3,
-            b"parameters: C1 DuplicateCommodity at record 3\n",
-        ),
-        (
-            "params.csv",
-            "space.csv",
-            4,
-            b"positions: Q2 BadName at record 2\n",
-        ),
-        (
-            "params.csv",
-            "unknown.csv",
-            4,
-            b"positions: B1 UnknownContract at record 2 account Y\n",
-        ),
-        ("no-set.csv", "missing.csv", 6, b"file: missing.csv\n"),
-        ("missing.csv", "missing-too.csv", 6, b"file: missing.csv\n"),
-    ];
+    let cases = REFUSED;
     for (params, positions, status, line) in cases {
         assert!(rt;
             margin(alloc, params, positions).is(status, b"", line),
             "{params} {positions}"
         );
     }
-    assert!(rt;
-        run(alloc, &["span", "check", "twice.csv"]).is(
-            3,
-            b"",
-            b"parameters: C1 DuplicateCommodity at record 3\n"
-        )
-    );
+    Ok(())
+}
+
+#[test]
+fn refuses_a_file_alone(rt: HostRuntime) -> Result<(), Fail> {
+    let alloc = rt.alloc();
+    let line = b"parameters: C1 DuplicateCommodity at record 3\n";
+    assert!(rt; run(alloc, &["span", "check", "twice.csv"]).is(3, b"", line));
     assert!(rt; run(alloc, &["span", "check", "none"]).is(6, b"", b"file: none\n"));
     Ok(())
 }

@@ -68,6 +68,16 @@ INTER,1,5000,AA,A,1,BB,B,1
 INTER,2,2000,AA,A,1,CC,B,1
 ";
 
+const CREDITED_POSITIONS: &[u8] = b"X,FA,3\nX,FB,-1\nX,FC,-1\n";
+
+// The second spread has what the first left.
+const CREDITED_STATEMENT: &[u8] = b"\
+R,X,D1,AA,3600,13,0,0,840,0,2760
+R,X,D1,BB,900,11,0,0,450,0,450
+R,X,D1,CC,300,11,0,0,60,0,240
+T,X,D1,3450
+";
+
 // Two commodities with a credit that is no whole amount.
 const ODD_CREDIT: &[u8] = b"\
 SET,D1,1,USD
@@ -182,13 +192,7 @@ fn margins_spreads_and_options(rt: HostRuntime) -> Result<(), Fail> {
 #[test]
 fn gives_credits(rt: HostRuntime) -> Result<(), Fail> {
     let alloc = rt.alloc();
-    let three = b"\
-R,X,D1,AA,3600,13,0,0,840,0,2760
-R,X,D1,BB,900,11,0,0,450,0,450
-R,X,D1,CC,300,11,0,0,60,0,240
-T,X,D1,3450
-";
-    assert!(rt; margin(alloc, CREDITS, b"X,FA,3\nX,FB,-1\nX,FC,-1\n").is(0, three, b""));
+    assert!(rt; margin(alloc, CREDITS, CREDITED_POSITIONS).is(0, CREDITED_STATEMENT, b""));
     // 399.96 and 299.97.
     let odd = b"\
 R,X,D1,AA,1200,13,0,0,399,0,801
@@ -230,15 +234,9 @@ fn counts_and_refuses(rt: HostRuntime) -> Result<(), Fail> {
 #[test]
 fn says_where_memory_is_wanted(rt: HostRuntime) -> Result<(), Fail> {
     let alloc = rt.alloc();
-    let Given { status, out, err } = margin(alloc, CREDITS, b"X,FA,3\nX,FB,-1\nX,FC,-1\n");
-    let whole = b"\
-R,X,D1,AA,3600,13,0,0,840,0,2760
-R,X,D1,BB,900,11,0,0,450,0,450
-R,X,D1,CC,300,11,0,0,60,0,240
-T,X,D1,3450
-";
+    let Given { status, out, err } = margin(alloc, CREDITS, CREDITED_POSITIONS);
     if status == 0 {
-        assert!(rt; out.as_slice() == whole.as_slice());
+        assert!(rt; out.as_slice() == CREDITED_STATEMENT);
         assert!(rt; err.is_empty());
     } else {
         // The stream itself grows, and may be refused.

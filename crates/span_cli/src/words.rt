@@ -3,7 +3,8 @@ ghost use Rattle.clap.specs.Words.{FailsBy, app_of, first_of, found_of, kind_of,
 ghost use Rattle.clap.specs.declared.builder.command.Command.TheViews.{out-Command as fields_of};
 ghost use Rattle.span_cli.specs.Serving.{OfAnswer, asked_by, memory};
 ghost use Rattle.span_cli.specs.Telling.{IsMistake, IsShown, Refuses, RefusesBy, Serves, Tells, no_text_line};
-ghost use Rattle.span_cli.specs.Words.{asked_in, asked_under, check_app, check_in, file_rule, is_taken, kinds_of, margin_app, margin_in, span_app};
+ghost use Rattle.span_cli.specs.Words.{asked_in, asked_under, check_app, check_in, file_rule, is_taken, kinds_of};
+ghost use Rattle.span_cli.specs.Words.{margin_app, margin_in, span_app};
 ghost use Rattle.span_told.specs.Streams.{Says};
 ghost use Rattle.statement.specs.FaultLines.{memory_line};
 ghost use Rattle.std.specs.IoError.{error_kind};

@@ -1,5 +1,6 @@
 -- A decimal is a minus or none, 1 to 6 digits, and a fraction.
-use Rattle.std.proofs.Common.{◌≡◌, ℕ, ◌+◌, ◌-◌, ◌*◌, ◌^◌, ◌&&◌, ◌==◌, Bool, true, false, cond, List, [], ◌∷◌, ◌++◌, length, drop, refl, sym, ap, ◌∙◌, subst, arith}
+use Rattle.std.proofs.Common.{◌≡◌, ℕ, ◌+◌, ◌-◌, ◌*◌, ◌^◌, ◌&&◌, ◌==◌, Bool, true, false, cond, List, []}
+use Rattle.std.proofs.Common.{◌∷◌, ◌++◌, length, drop, refl, sym, ap, ◌∙◌, subst, arith}
 use Rattle.std.specs.Prelude.{ℤ, Some, None, Option, option_map}
 use Rattle.std.specs.Char.{is_ascii_digit}
 use Rattle.std.specs.List.{list_all, prefix_len, take_while}
@@ -8,7 +9,8 @@ use Rattle.std.proofs.lemmas.List.Sums.{take_while-cons}
 use Rattle.std.proofs.lemmas.List.{take-append-drop}
 use Rattle.std.proofs.lemmas.List.Folds.{length-prefix_len}
 use Rattle.std.proofs.Math.Seq.{drop-append_seam}
-use Rattle.span_money.specs.Numbers.{are_digits, digits_value, decimal_number, fraction, has_minus, unsigned_decimal, with_sign, without_minus}
+use Rattle.span_money.specs.Numbers.{are_digits, digits_value, decimal_number, fraction, has_minus, unsigned_decimal, with_sign}
+use Rattle.span_money.specs.Numbers.{without_minus}
 use Rattle.span_money.specs.Forms.{IsDecimal}
 
 and_split : (x y : Bool) → (x && y) ≡ true → (x ≡ true) × (y ≡ true)
@@ -16,7 +18,8 @@ and_split true y h = (refl, h)
 and_split false y h = absurd (cc)
 
 -- the digits that digits and what is none begin with
-stops : (front back : List ℕ) → list_all is_ascii_digit front ≡ true → take_while is_ascii_digit back ≡ [] → take_while is_ascii_digit (front ++ back) ≡ front
+stops : (front back : List ℕ) → list_all is_ascii_digit front ≡ true → take_while is_ascii_digit back ≡ []
+    → take_while is_ascii_digit (front ++ back) ≡ front
 stops [] back h e = e
 stops (x ∷ xs) back h e =
     let both = and_split (is_ascii_digit x) (list_all is_ascii_digit xs) h in
@@ -28,8 +31,12 @@ stops (x ∷ xs) back h e =
 no_digit : (back : List ℕ) (part : ℕ) → fraction back ≡ Some part → take_while is_ascii_digit back ≡ []
 no_digit [] part e = refl
 no_digit (b ∷ back) part e = by_point (b == 46) refl e where
-  by_point : (t : Bool) → (b == 46) ≡ t → cond (t && are_digits 4 back) (Some (digits_value back * 10 ^ (4 - length back))) None ≡ Some part → take_while is_ascii_digit (b ∷ back) ≡ []
-  by_point true is h = let point : b ≡ 46 = grind (arith, nat_tests) in subst (λ x. take_while is_ascii_digit (x ∷ back) ≡ []) (sym point) (take_while-cons is_ascii_digit 46 back)
+  by_point : (t : Bool) → (b == 46) ≡ t
+      → cond (t && are_digits 4 back) (Some (digits_value back * 10 ^ (4 - length back))) None ≡ Some part
+      → take_while is_ascii_digit (b ∷ back) ≡ []
+  by_point true is h =
+      let point : b ≡ 46 = grind (arith, nat_tests) in
+      subst (λ x. take_while is_ascii_digit (x ∷ back) ≡ []) (sym point) (take_while-cons is_ascii_digit 46 back)
   by_point false is h = absurd (cc)
 
 -- what digits and a fraction spell
@@ -38,11 +45,13 @@ of_parts : (front back : List ℕ) (part : ℕ) → are_digits 6 front ≡ true 
 of_parts front back part h e =
     let all : list_all is_ascii_digit front ≡ true = grind (arith, nat_tests) in
     let begins = stops front back all (no_digit back part e) in
-    subst (λ f. cond (are_digits 6 f) (option_map (λ x. digits_value f * 10000 + x) (fraction (drop (length f) (front ++ back)))) None ≡ Some (digits_value front * 10000 + part)) (sym begins)
+    subst (λ f. cond (are_digits 6 f) (option_map (λ x. digits_value f * 10000 + x) (fraction (drop (length f) (front ++ back)))) None
+    ≡ Some (digits_value front * 10000 + part)) (sym begins)
     (rw (h, drop-append_seam front back, e) refl)
 
 -- a text that begins with a digit has no minus
-plain : (front back : List ℕ) → are_digits 6 front ≡ true → (has_minus (front ++ back) ≡ false) × (without_minus (front ++ back) ≡ front ++ back)
+plain : (front back : List ℕ) → are_digits 6 front ≡ true
+    → (has_minus (front ++ back) ≡ false) × (without_minus (front ++ back) ≡ front ++ back)
 plain [] back h = absurd (cc)
 plain (x ∷ xs) back h =
     let all : list_all is_ascii_digit (x ∷ xs) ≡ true = grind (arith, nat_tests) in
@@ -79,13 +88,17 @@ has_parts text n e = by_digits (are_digits 6 front) refl e where
   back = drop (length front) text
 
   halves : text ≡ front ++ back
-  halves = sym (ap (λ i. front ++ drop i text) (length-prefix_len is_ascii_digit text) ∙ take-append-drop (prefix_len is_ascii_digit text) text)
+  halves = sym (ap (λ i. front ++ drop i text) (length-prefix_len is_ascii_digit text)
+      ∙ take-append-drop (prefix_len is_ascii_digit text) text)
 
-  by_fraction : are_digits 6 front ≡ true → (f : Option ℕ) → fraction back ≡ f → option_map (λ x. digits_value front * 10000 + x) f ≡ Some n → HasParts text n
-  by_fraction digits (Some part) is h = record { front = front; back = back; part = part; split = halves; digits = digits; fraction_is = is; value = cc }
+  by_fraction : are_digits 6 front ≡ true → (f : Option ℕ) → fraction back ≡ f
+      → option_map (λ x. digits_value front * 10000 + x) f ≡ Some n → HasParts text n
+  by_fraction digits (Some part) is h =
+      record { front = front; back = back; part = part; split = halves; digits = digits; fraction_is = is; value = cc }
   by_fraction digits None is h = absurd (cc)
 
-  by_digits : (t : Bool) → are_digits 6 front ≡ t → cond t (option_map (λ x. digits_value front * 10000 + x) (fraction back)) None ≡ Some n → HasParts text n
+  by_digits : (t : Bool) → are_digits 6 front ≡ t
+      → cond t (option_map (λ x. digits_value front * 10000 + x) (fraction back)) None ≡ Some n → HasParts text n
   by_digits true is h = by_fraction is (fraction back) refl h
   by_digits false is h = absurd (cc)
 
@@ -100,7 +113,8 @@ split_sign (b ∷ rest) = by_minus (b == 45) refl where
 -- what is read as a number is a decimal that spells it
 pub is_decimal : (text : List ℕ) (z : ℤ) → decimal_number text ≡ Some z → IsDecimal text z
 is_decimal text z e = by_number (unsigned_decimal (without_minus text)) refl e where
-  by_number : (u : Option ℕ) → unsigned_decimal (without_minus text) ≡ u → option_map (with_sign (has_minus text)) u ≡ Some z → IsDecimal text z
+  by_number : (u : Option ℕ) → unsigned_decimal (without_minus text) ≡ u → option_map (with_sign (has_minus text)) u ≡ Some z
+      → IsDecimal text z
   by_number (Some n) is h =
       let p = has_parts (without_minus text) n is in
       let same : z ≡ with_sign (has_minus text) n = cc in
@@ -117,4 +131,5 @@ is_decimal text z e = by_number (unsigned_decimal (without_minus text)) refl e w
   by_number None is h = absurd (cc)
 
 pub of_decimal : (text : List ℕ) (z : ℤ) → IsDecimal text z → decimal_number text ≡ Some z
-of_decimal text z d = ap decimal_number d.split ∙ reads d.negative d.front d.back d.part d.digits d.fraction_is ∙ ap (λ x. Some x) (sym d.value)
+of_decimal text z d =
+    ap decimal_number d.split ∙ reads d.negative d.front d.back d.part d.digits d.fraction_is ∙ ap (λ x. Some x) (sym d.value)

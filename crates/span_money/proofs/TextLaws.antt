@@ -1,5 +1,6 @@
 -- Laws of number texts.
-use Rattle.std.proofs.Common.{◌≡◌, ◌≢◌, ℕ, suc, ◌+◌, ◌-◌, ◌*◌, ◌^◌, ◌<◌, ◌==◌, Bool, true, false, cond, List, [], ◌∷◌, length, get_or, ap, ◌∙◌, arith, rules}
+use Rattle.std.proofs.Common.{◌≡◌, ◌≢◌, ℕ, suc, ◌+◌, ◌-◌, ◌*◌, ◌^◌, ◌<◌, ◌==◌, Bool, true, false}
+use Rattle.std.proofs.Common.{cond, List, [], ◌∷◌, length, get_or, ap, ◌∙◌, arith, rules}
 use Rattle.std.specs.Prelude.{ℤ, pos, negsuc, neg_ℤ, nat_abs, fold, Some, None}
 use Rattle.std.specs.Char.{is_ascii_digit}
 use Rattle.std.specs.Fmt.{decimal, signed_decimal}
@@ -12,7 +13,8 @@ use Rattle.span_money.specs.Numbers.{are_digits, digits_value, whole_number, wit
 -- the digits of a text and their value are those that std prints
 
 own : IsNumeralModel (λ ds. list_all is_ascii_digit ds ≡ true) digits_value
-own = numerals_by_fold (λ ds. list_all is_ascii_digit ds ≡ true) (search rules) (λ n text. fold (λ n d. n * 10 + (d - 48)) n text) (search rules)
+own = numerals_by_fold (λ ds. list_all is_ascii_digit ds ≡ true) (search rules) (λ n text. fold (λ n d. n * 10 + (d - 48)) n text)
+    (search rules)
 
 -- a number of at most 18 digits is written with at most so many
 written : (n : ℕ) → n < 10 ^ 18 → are_digits 18 (decimal n) ≡ true
@@ -25,7 +27,8 @@ written n h =
 
 -- a text that has no minus is read as it stands
 without_flag : (flag : Bool) (b : ℕ) (rest : List ℕ) → flag ≡ false → are_digits 18 (b ∷ rest) ≡ true
-    → cond (are_digits 18 (cond flag rest (b ∷ rest))) (Some (with_sign flag (digits_value (cond flag rest (b ∷ rest))))) None ≡ Some (pos (digits_value (b ∷ rest)))
+    → cond (are_digits 18 (cond flag rest (b ∷ rest))) (Some (with_sign flag (digits_value (cond flag rest (b ∷ rest))))) None
+    ≡ Some (pos (digits_value (b ∷ rest)))
 without_flag false b rest off e = ap (λ t. cond t (Some (pos (digits_value (b ∷ rest)))) None) e
 without_flag true b rest off e = absurd (cc)
 

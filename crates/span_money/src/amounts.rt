@@ -1,4 +1,4 @@
-//! The quantities of the methodology, each a whole number of its unit.
+//! The quantities of the methodology, each a whole number of its unit (docs/METHOD.md, Units).
 ghost use Rattle.std.specs.Prelude.{◌≡◌, ◌≤◌, nat_abs};
 ghost use Rattle.span_money.specs.declared.amounts.TheConstants.{MAX_MONEY};
 

@@ -1,4 +1,4 @@
-//! Exact division.
+//! Exact division, by which every figure is rounded (docs/METHOD.md, Rounding).
 ghost use Rattle.std.specs.Prelude.{◌≡◌, ◌*◌, ◌/◌, ◌<◌, ◌≤◌, ◌+◌};
 ghost use Rattle.std.specs.Int.{div_ceil};
 
@@ -20,7 +20,7 @@ pub fn ceil_div(n: u128, d: u128) -> u128
     if n % d == 0 { n / d } else { n / d + 1 }
 }
 
-/// The greatest number n with `n * ratio` at most `rest`.
+/// The greatest number n with `n * ratio` at most `rest` (in units of 10^-8): how many 10^-4 spreads fit.
 pub fn greatest_fit(rest: u64, ratio: Ratio) -> u64
     requires { 0 < ratio }
     ensures value { result ≡ rest / ratio }

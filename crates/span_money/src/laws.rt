@@ -10,9 +10,11 @@ pub fn rounding_up_is_least()
     ensures { (x d : ℕ) → 0 < d → (x ≤ div_ceil x d * d) × ((g : ℕ) → x ≤ g * d → div_ceil x d ≤ g) }
 {}
 
-/// Rounded down, a quotient is the greatest number that fits: `greatest_fit` gives the greatest n with n times the ratio at most the rest.
+/// Rounded down, a quotient is the greatest number that fits: `greatest_fit` gives the greatest n with n times the ratio at
+/// most the rest.
 pub fn greatest_fit_is_greatest()
-    ensures { (rest ratio : ℕ) → 0 < ratio → ((rest / ratio) * ratio ≤ rest) × ((n : ℕ) → n * ratio ≤ rest → n ≤ rest / ratio) }
+    ensures { (rest ratio : ℕ) → 0 < ratio
+        → ((rest / ratio) * ratio ≤ rest) × ((n : ℕ) → n * ratio ≤ rest → n ≤ rest / ratio) }
 {}
 
 /// What `decimal` writes of a whole number of at most 18 digits, `parse_whole` reads as that number.

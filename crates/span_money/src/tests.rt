@@ -1,3 +1,4 @@
+//! Texts and quotients from calculations by hand.
 use crate::amounts::Ratio;
 use crate::division::{ceil_div, floor_div, greatest_fit};
 use crate::texts::{decimal, is_month, parse_decimal, parse_month, parse_whole};

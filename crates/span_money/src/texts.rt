@@ -1,14 +1,32 @@
-//! Number texts: whole numbers, decimals with at most four places, months, and plain decimals to write.
-ghost use Rattle.std.specs.Prelude.{◌≡◌, ◌+◌, ◌*◌, ◌-◌, ◌^◌, ◌<◌, ◌≤◌, true, if◌then◌else◌, length, drop, Some, None, IfSome, OnSome, option_map, pos, nat_abs};
+//! Number texts (docs/FORMATS.md, Numbers): whole numbers, decimals with at most four places, months, and plain decimals to
+//! write.
+ghost use Rattle.std.specs.Prelude.{◌≡◌, ◌+◌, ◌*◌, ◌-◌, ◌^◌, ◌<◌, ◌≤◌, true, if◌then◌else◌, length};
+ghost use Rattle.std.specs.Prelude.{drop, Some, None, IfSome, OnSome, option_map, pos, nat_abs};
 ghost use Rattle.std.specs.Char.{is_ascii_digit};
 ghost use Rattle.std.specs.Fmt.{signed_decimal};
 ghost use Rattle.std.specs.List.{prefix_len, take_while};
-ghost use Rattle.span_money.specs.Numbers.{are_digits, decimal_number, digits_value, fraction, has_minus, is_month, month_number, unsigned_decimal, whole_number, with_sign, without_minus};
+ghost use Rattle.span_money.specs.Numbers.{are_digits, decimal_number, digits_value, fraction, has_minus, is_month};
+ghost use Rattle.span_money.specs.Numbers.{month_number, unsigned_decimal, whole_number, with_sign, without_minus};
 
 use arrayvec::ArrayString;
 use itoa::Buffer;
 
-/// The number that 1 to `most` digits spell; `None` for any other text.
+// The digits of a whole number, at most.
+const WHOLE_DIGITS: usize = 18;
+// The digits of a decimal before its point, at most.
+const INTEGER_DIGITS: usize = 6;
+// The digits of a decimal behind its point, at most.
+const PLACES: usize = 4;
+// One in 10^-4, which decimals are held in.
+const ONE: u64 = 10_000;
+// The digits of a month.
+const MONTH_DIGITS: usize = 6;
+// The first year that a month may be of.
+const FIRST_YEAR: u32 = 1900;
+// The last year that a month may be of.
+const LAST_YEAR: u32 = 2999;
+
+// The number that 1 to `most` digits spell; `None` for any other text.
 fn parse_digits(text: &[u8], most: usize) -> Option<u64>
     requires { most ≤ 18 }
     ensures value { result ≡ (if are_digits most text.now then Some (digits_value text.now) else None) }
@@ -55,7 +73,7 @@ pub fn parse_whole(text: &[u8]) -> Option<i64>
     ensures bound { IfSome result (λ z. nat_abs z < 10 ^ 18) }
 {
     let (negative, digits) = split_minus(text);
-    let n = parse_digits(digits, 18)?;
+    let n = parse_digits(digits, WHOLE_DIGITS)?;
     Some(with_minus(negative, n))
 }
 
@@ -98,7 +116,7 @@ fn parse_fraction(text: &[u8]) -> Option<u64>
     match text {
         [] => Some(0),
         [b'.', digits @ ..] => {
-            let part = parse_digits(digits, 4)?;
+            let part = parse_digits(digits, PLACES)?;
             Some(scaled(part, digits.len()))
         }
         _ => None,
@@ -111,9 +129,9 @@ fn parse_unsigned_decimal(text: &[u8]) -> Option<u64>
     ensures bound { IfSome result (λ n. n < 10 ^ 10) }
 {
     let (front, rest) = split_digits(text);
-    let whole = parse_digits(front, 6)?;
+    let whole = parse_digits(front, INTEGER_DIGITS)?;
     let part = parse_fraction(rest)?;
-    Some(whole * 10_000 + part)
+    Some(whole * ONE + part)
 }
 
 /// A decimal, in 10^-4: an optional `-`, 1 to 6 digits, and optionally a point and 1 to 4 digits. `None` for any
@@ -130,12 +148,12 @@ pub fn parse_decimal(text: &[u8]) -> Option<i64>
 /// The number of six digits `yyyymm`. `None` for any other text; whether there is such a month, `is_month` tells.
 pub fn parse_month(text: &[u8]) -> Option<u32>
     ensures value { option_map pos result ≡ month_number text.now }
-    ensures bound { IfSome result (λ n. n < 1000000) }
+    ensures bound { IfSome result (λ n. n < 10 ^ 6) }
 {
-    if text.len() != 6 {
+    if text.len() != MONTH_DIGITS {
         return None;
     }
-    let n = parse_digits(text, 6)?;
+    let n = parse_digits(text, MONTH_DIGITS)?;
     Some(n as u32)
 }
 
@@ -145,7 +163,7 @@ pub fn is_month(month: u32) -> bool
 {
     let year = month / 100;
     let month_of_year = month % 100;
-    1900 <= year && year <= 2999 && 1 <= month_of_year && month_of_year <= 12
+    FIRST_YEAR <= year && year <= LAST_YEAR && 1 <= month_of_year && month_of_year <= 12
 }
 
 /// The text of a whole number in plain decimals.

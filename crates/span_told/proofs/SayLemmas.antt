@@ -22,7 +22,8 @@ OnOk-two (Err e) a b c xs ys h k = tt
 pub Says-two : (a b c : Stream) (xs ys : List ℕ) → Says a b xs → Says b c ys → Says a c (xs ++ ys)
 Says-two a b c xs ys h k = by_marks b.failed c.failed h k where
   by_marks : (m n : Bool) → MatchBool m ⊤ ((a.failed ≡ false) × Appends a.held b.held xs)
-      → MatchBool n ⊤ ((m ≡ false) × Appends b.held c.held ys) → MatchBool n ⊤ ((a.failed ≡ false) × Appends a.held c.held (xs ++ ys))
+      → MatchBool n ⊤ ((m ≡ false) × Appends b.held c.held ys)
+      → MatchBool n ⊤ ((a.failed ≡ false) × Appends a.held c.held (xs ++ ys))
   by_marks m true h k = tt
   by_marks true false h k = cc
   by_marks false false h k = (h.0, Appends-two a.held b.held c.held xs ys h.1 k.1)

@@ -1,30 +1,9 @@
 //! Writers that fail, and writers that do not.
 use crate::Told;
+use std::fmt;
 use std::fmt::{Display, Formatter};
-use std::io::{ErrorKind, Write};
+use std::io::Write;
 use std::test::Fail;
-use std::{fmt, io};
-
-// Takes so many bytes and then fails.
-#[derive(Drop)]
-struct Breaking {
-    room: usize,
-}
-
-impl Write for Breaking {
-    fn write(&mut self, buf: &[u8]) -> io::Result<usize> {
-        if self.room == 0 {
-            return Err(ErrorKind::BrokenPipe.into());
-        }
-        let taken = self.room.min(buf.len());
-        self.room -= taken;
-        Ok(taken)
-    }
-
-    fn flush(&mut self) -> io::Result<()> {
-        Ok(())
-    }
-}
 
 // A text that cannot be formatted.
 #[derive(Drop)]
@@ -48,7 +27,8 @@ fn keeps_the_bytes_in_order(rt: HostRuntime) -> Result<(), Fail> {
 
 #[test]
 fn remembers_a_failed_write(rt: HostRuntime) -> Result<(), Fail> {
-    let mut told = Told::new(Breaking { room: 5 });
+    let mut room = [0; 5];
+    let mut told = Told::new(&mut room[..]);
     assert!(rt; told.write_all(b"1234").is_ok() && !told.failed());
     assert!(rt; told.write_all(b"56").is_err() && told.failed());
     // A write of nothing succeeds, and takes nothing back.
@@ -59,10 +39,12 @@ fn remembers_a_failed_write(rt: HostRuntime) -> Result<(), Fail> {
 
 #[test]
 fn remembers_a_failed_text(rt: HostRuntime) -> Result<(), Fail> {
-    let mut told = Told::new(Breaking { room: 2 });
+    let mut room = [0; 2];
+    let mut told = Told::new(&mut room[..]);
     assert!(rt; write!(told, "{}", 12).is_ok() && !told.failed());
     assert!(rt; write!(told, "{}", 3).is_err() && told.failed());
-    let mut told = Told::new(Breaking { room: 2 });
+    let mut room = [0; 2];
+    let mut told = Told::new(&mut room[..]);
     assert!(rt; write!(told, "{}", Unsayable).is_err() && told.failed());
     Ok(())
 }

@@ -1,5 +1,6 @@
 -- What each leg of a spread takes where no two draw on the same rest.
-use Rattle.std.proofs.Common.{◌≡◌, ℕ, suc, ◌+◌, ◌-◌, ◌*◌, ◌<◌, ◌≤◌, Bool, true, false, cond, not, List, [], ◌∷◌, refl, ap, ◌∙◌, arith, map}
+use Rattle.std.proofs.Common.{◌≡◌, ℕ, suc, ◌+◌, ◌-◌, ◌*◌, ◌<◌, ◌≤◌, Bool, true, false, cond, not, List, []}
+use Rattle.std.proofs.Common.{◌∷◌, refl, ap, ◌∙◌, arith, map}
 use Rattle.std.specs.Prelude.{ℤ, pos, negsuc, ◌+ℤ◌, ◌-ℤ◌, ◌||◌, nat_lt}
 use Rattle.std.specs.List.{AllByRecursion}
 use Rattle.std.proofs.lemmas.Bool.Decides.{nat_tests}
@@ -50,7 +51,8 @@ other_part d side.B side.B e z u h = cc
 
 -- ---- a leg keeps its side where another one draws
 
-other_side : (on : MarketSide) (leg : MonthLeg) (f : MonthUnits → MonthUnits) → ((m : MonthUnits) → weight on leg (f m) ≡ weight on leg m) → (ms : List MonthUnits)
+other_side : (on : MarketSide) (leg : MonthLeg) (f : MonthUnits → MonthUnits)
+    → ((m : MonthUnits) → weight on leg (f m) ≡ weight on leg m) → (ms : List MonthUnits)
     → tier_side (map f ms) on leg ≡ tier_side ms on leg
 other_side on leg f same [] = refl
 other_side on leg f same (m ∷ ms) =
@@ -65,32 +67,42 @@ module _ (d : Direction) (leg other : MonthLeg) (needed : ℕ) (rests : List Mon
   used m = used_of_month rests (market_side d other.side) other needed m
 
   by_side : (m : MonthUnits) → not (same_side leg.side other.side) ≡ true
-      → part_on (market_side d leg.side) (less_used (market_side d other.side) m.units (used m)) ≡ part_on (market_side d leg.side) m.units
+      → part_on (market_side d leg.side) (less_used (market_side d other.side) m.units (used m))
+      ≡ part_on (market_side d leg.side) m.units
   by_side m e = other_part d leg.side other.side e m.units (used m) (within rests (market_side d other.side) other needed m)
 
   -- a month of the leg's tier alone
   by_tier : (m : MonthUnits) → is_in_tier other m ≡ false
-      → part_on (market_side d leg.side) (less_used (market_side d other.side) m.units (used m)) ≡ part_on (market_side d leg.side) m.units
+      → part_on (market_side d leg.side) (less_used (market_side d other.side) m.units (used m))
+      ≡ part_on (market_side d leg.side) m.units
   by_tier m e =
       let none : used m ≡ 0 = rw e refl in
       ap (part_on (market_side d leg.side)) (none_used (market_side d other.side) m.units (used m) none)
 
-  same_if : (m : MonthUnits) (b : Bool) → is_in_tier leg m ≡ b → (b ≡ true → part_on (market_side d leg.side) (less_used (market_side d other.side) m.units (used m)) ≡ part_on (market_side d leg.side) m.units)
-      → cond b (part_on (market_side d leg.side) (less_used (market_side d other.side) m.units (used m))) 0 ≡ cond b (part_on (market_side d leg.side) m.units) 0
+  same_if : (m : MonthUnits) (b : Bool) → is_in_tier leg m ≡ b
+      → (b ≡ true → part_on (market_side d leg.side) (less_used (market_side d other.side) m.units (used m))
+      ≡ part_on (market_side d leg.side) m.units)
+      → cond b (part_on (market_side d leg.side) (less_used (market_side d other.side) m.units (used m))) 0
+      ≡ cond b (part_on (market_side d leg.side) m.units) 0
   same_if m true e same = same refl
   same_if m false e same = refl
 
-  parts : (m : MonthUnits) (a : Bool) → not (same_side leg.side other.side) ≡ a → (a || (nat_lt leg.last other.first || nat_lt other.last leg.first)) ≡ true → is_in_tier leg m ≡ true
-      → part_on (market_side d leg.side) (less_used (market_side d other.side) m.units (used m)) ≡ part_on (market_side d leg.side) m.units
+  parts : (m : MonthUnits) (a : Bool) → not (same_side leg.side other.side) ≡ a
+      → (a || (nat_lt leg.last other.first || nat_lt other.last leg.first)) ≡ true → is_in_tier leg m ≡ true
+      → part_on (market_side d leg.side) (less_used (market_side d other.side) m.units (used m))
+      ≡ part_on (market_side d leg.side) m.units
   parts m true e apart inside = by_side m e
   parts m false e apart inside =
       let out : is_in_tier other m ≡ false = grind (arith, nat_tests, apart, inside) in
       by_tier m out
 
-  pub side_kept : draw_apart leg other ≡ true → tier_side (rests_after_leg (market_side d other.side) needed rests other) (market_side d leg.side) leg ≡ tier_side rests (market_side d leg.side) leg
+  pub side_kept : draw_apart leg other ≡ true
+      → tier_side (rests_after_leg (market_side d other.side) needed rests other) (market_side d leg.side) leg
+      ≡ tier_side rests (market_side d leg.side) leg
   unfolding weight
   side_kept apart =
-      other_side (market_side d leg.side) leg (λ m. record { month = m.month; units = less_used (market_side d other.side) m.units (used m) })
+      other_side (market_side d leg.side) leg
+      (λ m. record { month = m.month; units = less_used (market_side d other.side) m.units (used m) })
       (λ m. same_if m (is_in_tier leg m) refl (λ inside. parts m (not (same_side leg.side other.side)) refl apart inside)) rests
 
 -- ---- all legs
@@ -118,20 +130,24 @@ module _ (d : Direction) (n : ℕ) where
   abbrev after : MonthLeg → List MonthUnits → List MonthUnits
   after leg rests = rests_after_leg (market_side d leg.side) (n * leg.ratio) rests leg
 
-  kept_by_all : (leg : MonthLeg) (legs : List MonthLeg) (rests : List MonthUnits) → AllByRecursion (λ other. draw_apart leg other ≡ true) legs
+  kept_by_all : (leg : MonthLeg) (legs : List MonthLeg) (rests : List MonthUnits)
+      → AllByRecursion (λ other. draw_apart leg other ≡ true) legs
       → side_of leg (rests_after d n legs rests) ≡ side_of leg rests
   kept_by_all leg [] rests apart = refl
   kept_by_all leg (other ∷ legs) rests apart =
       kept_by_all leg legs (after other rests) apart.1 ∙ side_kept d leg other (n * other.ratio) rests apart.0
 
-  still_enough : (leg : MonthLeg) (legs : List MonthLeg) (rests : List MonthUnits) → AllByRecursion (λ other. draw_apart leg other ≡ true) legs
-      → AllByRecursion (λ other. n * other.ratio ≤ side_of other rests) legs → AllByRecursion (λ other. n * other.ratio ≤ side_of other (after leg rests)) legs
+  still_enough : (leg : MonthLeg) (legs : List MonthLeg) (rests : List MonthUnits)
+      → AllByRecursion (λ other. draw_apart leg other ≡ true) legs
+      → AllByRecursion (λ other. n * other.ratio ≤ side_of other rests) legs
+      → AllByRecursion (λ other. n * other.ratio ≤ side_of other (after leg rests)) legs
   still_enough leg [] rests apart enough = enough
   still_enough leg (other ∷ legs) rests apart enough =
       let same = side_kept d other leg (n * leg.ratio) rests (swap_apart leg other apart.0) in
       (omega (arith, same, enough.0), still_enough leg legs rests apart.1 enough.1)
 
-  from_first : (leg : MonthLeg) (legs : List MonthLeg) (end rests : List MonthUnits) → AllByRecursion (λ other. draw_apart leg other ≡ true) legs
+  from_first : (leg : MonthLeg) (legs : List MonthLeg) (end rests : List MonthUnits)
+      → AllByRecursion (λ other. draw_apart leg other ≡ true) legs
       → AllByRecursion (λ other. side_of other end + n * other.ratio ≡ side_of other (after leg rests)) legs
       → AllByRecursion (λ other. side_of other end + n * other.ratio ≡ side_of other rests) legs
   from_first leg [] end rests apart fall = fall
@@ -141,11 +157,13 @@ module _ (d : Direction) (n : ℕ) where
 -- each leg's side falls by just what the leg needs
 pub legs_fall : (d : Direction) (n : ℕ) (legs : List MonthLeg) (rests : List MonthUnits) → MonthsRise rests → DrawApart legs
     → AllByRecursion (λ leg. n * leg.ratio ≤ tier_side rests (market_side d leg.side) leg) legs
-    → AllByRecursion (λ leg. tier_side (rests_after d n legs rests) (market_side d leg.side) leg + n * leg.ratio ≡ tier_side rests (market_side d leg.side) leg) legs
+    → AllByRecursion (λ leg. tier_side (rests_after d n legs rests) (market_side d leg.side) leg + n * leg.ratio
+    ≡ tier_side rests (market_side d leg.side) leg) legs
 legs_fall d n [] rests rise apart enough = enough
 legs_fall d n (leg ∷ legs) rests rise apart enough =
     let next = after d n leg rests in
     let first = side_falls (market_side d leg.side) leg rests (n * leg.ratio) rise enough.0 in
     let kept = kept_by_all d n leg legs next apart.0 in
-    let others = legs_fall d n legs next (leg_rise (market_side d leg.side) (n * leg.ratio) rests leg rise) apart.1 (still_enough d n leg legs rests apart.0 enough.1) in
+    let others = legs_fall d n legs next (leg_rise (market_side d leg.side) (n * leg.ratio) rests leg rise) apart.1
+    (still_enough d n leg legs rests apart.0 enough.1) in
     (ap (λ k. k + n * leg.ratio) kept ∙ first, from_first d n leg legs (rests_after d n (leg ∷ legs) rests) rests apart.0 others)

@@ -1,5 +1,6 @@
 -- A spread of which a leg has nothing to use is not formed, and changes nothing.
-use Rattle.std.proofs.Common.{◌≡◌, ℕ, zero, suc, ◌+◌, ◌*◌, ◌/◌, ◌<◌, ◌≤◌, Bool, true, false, cond, List, [], ◌∷◌, ◌++◌, refl, sym, ap, ◌∙◌, subst, arith, sum_by, fold}
+use Rattle.std.proofs.Common.{◌≡◌, ℕ, zero, suc, ◌+◌, ◌*◌, ◌/◌, ◌^◌, ◌<◌, ◌≤◌, Bool, true, false, cond}
+use Rattle.std.proofs.Common.{List, [], ◌∷◌, ◌++◌, refl, sym, ap, ◌∙◌, subst, arith, sum_by, fold}
 use Rattle.std.specs.Prelude.{ℤ, pos, negsuc, All}
 use Rattle.std.specs.Int.{div_ceil}
 use Rattle.std.proofs.Math.Nat.{zero-div}
@@ -18,7 +19,8 @@ use Rattle.span_tables.specs.declared.records.MonthLeg.{MonthLeg}
 use Rattle.span_tables.specs.declared.records.Spot.{Spot}
 use Rattle.spread_stage.specs.Charges.{delivery_charge, spot_charge}
 use Rattle.spread_stage.specs.Months.{IsPartOf, Shrinks}
-use Rattle.spread_stage.specs.Spreads.{after_spreads, is_in_tier, spread_both_ways, spread_one_way, TierRests, tier_rooms, tier_side, unspread}
+use Rattle.spread_stage.specs.Spreads.{after_spreads, is_in_tier, spread_both_ways, spread_one_way, TierRests, tier_rooms, tier_side}
+use Rattle.spread_stage.specs.Spreads.{unspread}
 use Rattle.spread_stage.specs.steps.Sides.{HaveSides}
 use Rattle.spread_stage.specs.declared.months.MonthUnits.{MonthUnits}
 use Rattle.spread_stage.proofs.SpreadLemmas.{legs_none}
@@ -32,7 +34,8 @@ push_all P (y ∷ ys) x all p = All-cons P y (ys ++ x ∷ []) (All-head P y ys a
 
 -- one more month
 pub have_more : (sides next : OpenSides) (months : List MonthUnits) (m : MonthUnits) → HaveSides sides months
-    → ((other : ℕ) (z : ℤ) → IsOpenAt sides other z → IsOpenAt next other z) → IsOpenAt next (month_count m.month) m.units → HaveSides next (months ++ m ∷ [])
+    → ((other : ℕ) (z : ℤ) → IsOpenAt sides other z → IsOpenAt next other z) → IsOpenAt next (month_count m.month) m.units
+    → HaveSides next (months ++ m ∷ [])
 have_more sides next months m have kept added =
     push_all (λ (x : MonthUnits). IsOpenAt next (month_count x.month) x.units) months m (λ k x lt. kept _ _ (have k x lt)) added
 
@@ -47,7 +50,8 @@ part_less Short (negsuc n) (pos k) h = omega arith
 part_less Short (negsuc n) (negsuc k) h = omega (arith, h)
 
 -- what spreads left of months is on the sides of the months
-pub have_rests : (sides : OpenSides) (months rests : List MonthUnits) → Shrinks months rests → HaveSides sides months → HaveSides sides rests
+pub have_rests : (sides : OpenSides) (months rests : List MonthUnits) → Shrinks months rests → HaveSides sides months
+    → HaveSides sides rests
 have_rests sides [] [] h have = have
 have_rests sides [] (r ∷ rests) h have = absurd h
 have_rests sides (m ∷ months) [] h have = absurd h
@@ -56,11 +60,13 @@ have_rests sides (m ∷ months) (r ∷ rests) h have =
     let here : IsOpenAt sides (month_count m.month) m.units = All-head P m months have in
     let less : (on : MarketSide) → part_on on r.units ≤ part_on on m.units = λ on. part_less on m.units r.units (h.1).0 in
     let there : IsOpenAt sides (month_count m.month) r.units = λ on above. here on (omega (arith, less on, above)) in
-    All-cons P r rests (subst (λ (k : ℕ). IsOpenAt sides (month_count k) r.units) (sym h.0) there) (have_rests sides months rests (h.1).1 (All-tail P m months have))
+    All-cons P r rests (subst (λ (k : ℕ). IsOpenAt sides (month_count k) r.units) (sym h.0) there)
+    (have_rests sides months rests (h.1).1 (All-tail P m months have))
 
 -- ---- a leg that has something to use
 
-month_marked : (on : MarketSide) (sides : OpenSides) (leg : MonthLeg) (m : MonthUnits) (b : Bool) → is_in_tier leg m ≡ b → IsOpenAt sides (month_count m.month) m.units
+month_marked : (on : MarketSide) (sides : OpenSides) (leg : MonthLeg) (m : MonthUnits) (b : Bool) → is_in_tier leg m ≡ b
+    → IsOpenAt sides (month_count m.month) m.units
     → 0 < cond b (part_on on m.units) 0 → IsTierMarked (numbers_on on sides) leg
 month_marked on sides leg m true e seen above = record {
   month = m.month;
@@ -70,13 +76,15 @@ month_marked on sides leg m true e seen above = record {
 }
 month_marked on sides leg m false e seen above = absurd (omega (arith, above))
 
-tier_by : (on : MarketSide) (sides : OpenSides) (leg : MonthLeg) (m : MonthUnits) (here rest : ℕ) → (0 < here → IsTierMarked (numbers_on on sides) leg)
+tier_by : (on : MarketSide) (sides : OpenSides) (leg : MonthLeg) (m : MonthUnits) (here rest : ℕ)
+    → (0 < here → IsTierMarked (numbers_on on sides) leg)
     → (0 < rest → IsTierMarked (numbers_on on sides) leg) → 0 < here + rest → IsTierMarked (numbers_on on sides) leg
 tier_by on sides leg m zero rest first others above = others (omega (arith, above))
 tier_by on sides leg m (suc n) rest first others above = first (omega arith)
 
 -- a side with something on it has a month that is marked
-tier_marked : (on : MarketSide) (sides : OpenSides) (leg : MonthLeg) (rests : List MonthUnits) → HaveSides sides rests → 0 < tier_side rests on leg
+tier_marked : (on : MarketSide) (sides : OpenSides) (leg : MonthLeg) (rests : List MonthUnits) → HaveSides sides rests
+    → 0 < tier_side rests on leg
     → IsTierMarked (numbers_on on sides) leg
 unfolding weight
 tier_marked on sides leg [] have above = absurd (omega (arith, above))
@@ -106,14 +114,16 @@ module _ (d : Direction) (sides : OpenSides) (rests : List MonthUnits) (have : H
   legs_open (leg ∷ x ∷ xs) above =
       All-cons IsOpen leg (x ∷ xs) (leg_open leg (omega (arith, above))) (legs_open (x ∷ xs) (omega (arith, above)))
 
-  by_count : (legs : List MonthLeg) (n : ℕ) → spreads_formed (tier_rooms d legs rests) ≡ n → (All (λ leg. IsTierMarked (numbers_on (market_side d leg.side) sides) leg) legs → false ≡ true)
+  by_count : (legs : List MonthLeg) (n : ℕ) → spreads_formed (tier_rooms d legs rests) ≡ n
+      → (All (λ leg. IsTierMarked (numbers_on (market_side d leg.side) sides) leg) legs → false ≡ true)
       → spreads_formed (tier_rooms d legs rests) ≡ 0
   unfolding IsOpen
   by_count legs zero e closed = e
   by_count legs (suc n) e closed = let never : false ≡ true = closed (legs_open legs (omega (arith, e))) in cc
 
   -- so where some leg has none, no spread is formed
-  pub formed_closed : (legs : List MonthLeg) → (All (λ leg. IsTierMarked (numbers_on (market_side d leg.side) sides) leg) legs → false ≡ true)
+  pub formed_closed : (legs : List MonthLeg)
+      → (All (λ leg. IsTierMarked (numbers_on (market_side d leg.side) sides) leg) legs → false ≡ true)
       → spreads_formed (tier_rooms d legs rests) ≡ 0
   formed_closed legs closed = by_count legs (spreads_formed (tier_rooms d legs rests)) refl closed
 
@@ -124,14 +134,17 @@ formed_of_nothing d [] = refl
 formed_of_nothing d (leg ∷ []) = zero-div leg.ratio
 formed_of_nothing d (leg ∷ x ∷ xs) = let none = zero-div leg.ratio in omega (arith, none)
 
-one_way_none : (t : TierRests) (s : Intra) (d : Direction) → spreads_formed (tier_rooms d s.legs t.rests) ≡ 0 → spread_one_way s d t ≡ t
+one_way_none : (t : TierRests) (s : Intra) (d : Direction) → spreads_formed (tier_rooms d s.legs t.rests) ≡ 0
+    → spread_one_way s d t ≡ t
 one_way_none t s d e =
     let n = spreads_formed (tier_rooms d s.legs t.rests) in
     let free : t.charge + n * s.rate ≡ t.charge = ap (λ k. t.charge + k * s.rate) e ∙ omega arith in
-    ap (λ (rs : List MonthUnits). let u : TierRests = record { rests = rs; charge = t.charge + n * s.rate } in u) (legs_none d n s.legs t.rests e)
+    ap (λ (rs : List MonthUnits). let u : TierRests = record { rests = rs; charge = t.charge + n * s.rate } in u)
+    (legs_none d n s.legs t.rests e)
     ∙ ap (λ (c : ℕ). let u : TierRests = record { rests = t.rests; charge = c } in u) free
 
-both_ways_none : (t : TierRests) (s : Intra) → ((d : Direction) → spreads_formed (tier_rooms d s.legs t.rests) ≡ 0) → spread_both_ways t s ≡ t
+both_ways_none : (t : TierRests) (s : Intra) → ((d : Direction) → spreads_formed (tier_rooms d s.legs t.rests) ≡ 0)
+    → spread_both_ways t s ≡ t
 unfolding spread_both_ways
 both_ways_none t s none = ap (spread_one_way s AShort) (one_way_none t s ALong (none ALong)) ∙ one_way_none t s AShort (none AShort)
 
@@ -142,7 +155,8 @@ either P a b AShort = b
 -- a spread of which some leg has nothing to use, in either direction, changes nothing
 pub both_ways_closed : (t : TierRests) (s : Intra) (sides : OpenSides) → HaveSides sides t.rests
     → (All (λ leg. IsTierMarked (numbers_on (market_side ALong leg.side) sides) leg) s.legs → false ≡ true)
-    → (All (λ leg. IsTierMarked (numbers_on (market_side AShort leg.side) sides) leg) s.legs → false ≡ true) → spread_both_ways t s ≡ t
+    → (All (λ leg. IsTierMarked (numbers_on (market_side AShort leg.side) sides) leg) s.legs → false ≡ true)
+    → spread_both_ways t s ≡ t
 both_ways_closed t s sides have first second =
     both_ways_none t s (λ d. formed_closed d sides t.rests have s.legs
     (either (λ e. All (λ leg. IsTierMarked (numbers_on (market_side e leg.side) sides) leg) s.legs → false ≡ true) first second d))
@@ -152,7 +166,8 @@ pub after_spreads_of_nothing : (spreads : List Intra) → after_spreads spreads 
 unfolding after_spreads
 after_spreads_of_nothing [] = refl
 after_spreads_of_nothing (s ∷ spreads) =
-    ap (λ (t : TierRests). fold spread_both_ways t spreads) (both_ways_none (unspread []) s (λ d. formed_of_nothing d s.legs)) ∙ after_spreads_of_nothing spreads
+    ap (λ (t : TierRests). fold spread_both_ways t spreads) (both_ways_none (unspread []) s (λ d. formed_of_nothing d s.legs))
+    ∙ after_spreads_of_nothing spreads
 
 spots_of_nothing : (spots : List Spot) → sum_by (spot_charge [] []) spots ≡ 0
 spots_of_nothing [] = refl
@@ -162,4 +177,4 @@ spots_of_nothing (s ∷ spots) =
 -- nor is anything delivered
 pub delivery_of_nothing : (spots : List Spot) → delivery_charge [] [] spots ≡ 0
 unfolding delivery_charge
-delivery_of_nothing spots = ap (λ n. div_ceil n 100000000) (spots_of_nothing spots)
+delivery_of_nothing spots = ap (λ n. div_ceil n (10 ^ 8)) (spots_of_nothing spots)

@@ -1,5 +1,6 @@
 -- The deltas of months, one held contract after the other.
-use Rattle.std.proofs.Common.{◌≡◌, ℕ, ◌+◌, ◌<◌, ◌≤◌, Bool, true, false, cond, List, [], ◌∷◌, refl, sym, ap, ◌∙◌, subst, arith, filter, map, inl, inr, nat_abs}
+use Rattle.std.proofs.Common.{◌≡◌, ℕ, ◌+◌, ◌<◌, ◌≤◌, Bool, true, false, cond, List, [], ◌∷◌, refl, sym, ap}
+use Rattle.std.proofs.Common.{◌∙◌, subst, arith, filter, map, inl, inr, nat_abs}
 use Rattle.std.specs.Prelude.{ℤ, pos, ◌+ℤ◌, ◌==◌, nat_lt, ◌⊎◌}
 use Rattle.std.specs.List.{AllByRecursion}
 use Rattle.std.proofs.lemmas.Int.{ints}
@@ -18,19 +19,24 @@ use Rattle.spread_stage.proofs.MonthLaws.{Rise, Has, months_rise_up, months_have
 abbrev with_deltas : (ℕ → ℤ) → List ℕ → List MonthUnits
 with_deltas f ps = map (λ p. record { month = p; units = f p }) ps
 
-same_cons : (p : ℕ) (a b : ℤ) (xs ys : List MonthUnits) → a ≡ b → xs ≡ ys → record { month = p; units = a } ∷ xs ≡ record { month = p; units = b } ∷ ys
-same_cons p a b xs ys e h = ap (λ (u : ℤ). record { month = p; units = u } ∷ xs) e ∙ ap (λ (ms : List MonthUnits). record { month = p; units = b } ∷ ms) h
+same_cons : (p : ℕ) (a b : ℤ) (xs ys : List MonthUnits) → a ≡ b → xs ≡ ys
+    → record { month = p; units = a } ∷ xs ≡ record { month = p; units = b } ∷ ys
+same_cons p a b xs ys e h =
+    ap (λ (u : ℤ). record { month = p; units = u } ∷ xs) e ∙ ap (λ (ms : List MonthUnits). record { month = p; units = b } ∷ ms) h
 
 -- where two functions agree, the months are the same
-same_above : (f g : ℕ → ℤ) (p : ℕ) (ps : List ℕ) → ((q : ℕ) → p < q → f q ≡ g q) → AllByRecursion (λ q. p < q) ps → with_deltas f ps ≡ with_deltas g ps
+same_above : (f g : ℕ → ℤ) (p : ℕ) (ps : List ℕ) → ((q : ℕ) → p < q → f q ≡ g q) → AllByRecursion (λ q. p < q) ps
+    → with_deltas f ps ≡ with_deltas g ps
 same_above f g p [] same h = refl
-same_above f g p (q ∷ qs) same h = same_cons q (f q) (g q) (with_deltas f qs) (with_deltas g qs) (same q h.0) (same_above f g p qs same h.1)
+same_above f g p (q ∷ qs) same h =
+    same_cons q (f q) (g q) (with_deltas f qs) (with_deltas g qs) (same q h.0) (same_above f g p qs same h.1)
 
 module _ (f g : ℕ → ℤ) (p : ℕ) (u : ℤ) (at : g p ≡ f p +ℤ u) (other : (q : ℕ) → (p == q) ≡ false → f q ≡ g q) where
   later : (q : ℕ) → p < q → f q ≡ g q
   later q lt = let no : (p == q) ≡ false = grind (arith, nat_tests, lt) in other q no
 
-  nothing : (q : ℕ) (qs : List ℕ) → p < q → AllByRecursion (λ r. q < r) qs → Has p (q ∷ qs) ⊎ (f p ≡ pos 0) → f p ≡ pos 0
+  nothing : (q : ℕ) (qs : List ℕ) → p < q → AllByRecursion (λ r. q < r) qs → Has p (q ∷ qs) ⊎ (f p ≡ pos 0)
+      → f p ≡ pos 0
   nothing q qs lt above (inr z) = z
   nothing q qs lt above (inl (inl e)) = absurd (omega (arith, lt, e))
   nothing q qs lt above (inl (inr k)) = let more = later_than p q qs above k in absurd (omega (arith, lt, more))
@@ -40,37 +46,48 @@ module _ (f g : ℕ → ℤ) (p : ℕ) (u : ℤ) (at : g p ≡ f p +ℤ u) (othe
   fewer q qs d (inl (inl e)) = absurd (grind (arith, nat_tests, d, e))
   fewer q qs d (inl (inr k)) = inl k
 
-  step_if : (b c : Bool) (q : ℕ) (qs : List ℕ) → nat_lt p q ≡ b → (p == q) ≡ c → Rise (q ∷ qs) → Has p (q ∷ qs) ⊎ (f p ≡ pos 0)
+  step_if : (b c : Bool) (q : ℕ) (qs : List ℕ) → nat_lt p q ≡ b → (p == q) ≡ c → Rise (q ∷ qs)
+      → Has p (q ∷ qs) ⊎ (f p ≡ pos 0)
       → (Has p qs ⊎ (f p ≡ pos 0) → with_units p u (with_deltas f qs) ≡ with_deltas g (with_month p qs))
-      → cond b (record { month = p; units = u } ∷ with_deltas f (q ∷ qs)) (cond c (record { month = q; units = f q +ℤ u } ∷ with_deltas f qs) (record { month = q; units = f q } ∷ with_units p u (with_deltas f qs)))
+      → cond b (record { month = p; units = u } ∷ with_deltas f (q ∷ qs))
+      (cond c (record { month = q; units = f q +ℤ u } ∷ with_deltas f qs)
+      (record { month = q; units = f q } ∷ with_units p u (with_deltas f qs)))
       ≡ with_deltas g (cond b (p ∷ q ∷ qs) (cond c (q ∷ qs) (q ∷ with_month p qs)))
   step_if true c q qs e d rise h rest =
       let lt : p < q = grind (arith, nat_tests, e) in
       let none = nothing q qs lt rise.0 h in
       let here : u ≡ g p = omega (arith, ints, none, at) in
-      same_cons p u (g p) (with_deltas f (q ∷ qs)) (with_deltas g (q ∷ qs)) here (same_above f g p (q ∷ qs) later (lt, all_above p q qs lt rise.0))
+      same_cons p u (g p) (with_deltas f (q ∷ qs)) (with_deltas g (q ∷ qs)) here
+      (same_above f g p (q ∷ qs) later (lt, all_above p q qs lt rise.0))
   step_if false true q qs e d rise h rest =
       let same : p ≡ q = grind (arith, nat_tests, d) in
       let here : f q +ℤ u ≡ g q = cc (same, at) in
-      same_cons q (f q +ℤ u) (g q) (with_deltas f qs) (with_deltas g qs) here (same_above f g q qs (λ r lt. later r (omega (arith, same, lt))) rise.0)
+      same_cons q (f q +ℤ u) (g q) (with_deltas f qs) (with_deltas g qs) here
+      (same_above f g q qs (λ r lt. later r (omega (arith, same, lt))) rise.0)
   step_if false false q qs e d rise h rest =
       same_cons q (f q) (g q) (with_units p u (with_deltas f qs)) (with_deltas g (with_month p qs)) (other q d) (rest (fewer q qs d h))
 
-  step : (ps : List ℕ) → Rise ps → Has p ps ⊎ (f p ≡ pos 0) → with_units p u (with_deltas f ps) ≡ with_deltas g (with_month p ps)
+  step : (ps : List ℕ) → Rise ps → Has p ps ⊎ (f p ≡ pos 0)
+      → with_units p u (with_deltas f ps) ≡ with_deltas g (with_month p ps)
   step [] rise (inl k) = absurd k
   step [] rise (inr z) = let here : u ≡ g p = omega (arith, ints, z, at) in same_cons p u (g p) [] [] here refl
   step (q ∷ qs) rise h = step_if (nat_lt p q) (p == q) q qs refl refl rise h (step qs rise.1)
 
 -- a month is one of these, or no contract has it
-absent : (p : ℕ) (ps : List ℕ) (hs : List HeldContract) → AllByRecursion (λ h. Has (h.contract).month ps) hs → Has p ps ⊎ (month_delta hs p ≡ pos 0)
+absent : (p : ℕ) (ps : List ℕ) (hs : List HeldContract) → AllByRecursion (λ h. Has (h.contract).month ps) hs
+    → Has p ps ⊎ (month_delta hs p ≡ pos 0)
 absent p ps [] a = inr refl
 absent p ps (h ∷ hs) a = pick ((h.contract).month == p) refl (absent p ps hs a.1) where
-  pick : (b : Bool) → ((h.contract).month == p) ≡ b → Has p ps ⊎ (month_delta hs p ≡ pos 0) → Has p ps ⊎ (month_delta (h ∷ hs) p ≡ pos 0)
+  pick : (b : Bool) → ((h.contract).month == p) ≡ b → Has p ps ⊎ (month_delta hs p ≡ pos 0)
+      → Has p ps ⊎ (month_delta (h ∷ hs) p ≡ pos 0)
   pick true e rest = let same : (h.contract).month ≡ p = grind (arith, nat_tests, e) in inl (subst (λ q. Has q ps) same a.0)
   pick false e (inl k) = inl k
-  pick false e (inr z) = inr (ap (λ b. int_sum_by units_of (cond b (h ∷ filter (λ x. (x.contract).month == p) hs) (filter (λ x. (x.contract).month == p) hs))) e ∙ z)
+  pick false e (inr z) =
+      inr (ap (λ b. int_sum_by units_of
+      (cond b (h ∷ filter (λ x. (x.contract).month == p) hs) (filter (λ x. (x.contract).month == p) hs))) e ∙ z)
 
-delta_at : (h : HeldContract) (hs : List HeldContract) → month_delta (h ∷ hs) (h.contract).month ≡ month_delta hs (h.contract).month +ℤ units_of h
+delta_at : (h : HeldContract) (hs : List HeldContract)
+    → month_delta (h ∷ hs) (h.contract).month ≡ month_delta hs (h.contract).month +ℤ units_of h
 delta_at h hs =
     let p = (h.contract).month in
     let yes : (p == p) ≡ true = grind (arith, nat_tests) in
@@ -78,20 +95,26 @@ delta_at h hs =
     let here : cond (p == p) (units_of h) (pos 0) ≡ units_of h = ap (λ b. cond b (units_of h) (pos 0)) yes in
     omega (arith, ints, all, here)
 
-delta_other : (h : HeldContract) (hs : List HeldContract) (q : ℕ) → ((h.contract).month == q) ≡ false → month_delta hs q ≡ month_delta (h ∷ hs) q
-delta_other h hs q e = sym (ap (λ b. int_sum_by units_of (cond b (h ∷ filter (λ x. (x.contract).month == q) hs) (filter (λ x. (x.contract).month == q) hs))) e)
+delta_other : (h : HeldContract) (hs : List HeldContract) (q : ℕ) → ((h.contract).month == q) ≡ false
+    → month_delta hs q ≡ month_delta (h ∷ hs) q
+delta_other h hs q e =
+    sym (ap (λ b. int_sum_by units_of
+    (cond b (h ∷ filter (λ x. (x.contract).month == q) hs) (filter (λ x. (x.contract).month == q) hs))) e)
 
 -- with one more contract in front, its units are added to its month
-pub month_deltas-cons : (h : HeldContract) (hs : List HeldContract) → with_units (h.contract).month (units_of h) (month_deltas hs) ≡ month_deltas (h ∷ hs)
+pub month_deltas-cons : (h : HeldContract) (hs : List HeldContract)
+    → with_units (h.contract).month (units_of h) (month_deltas hs) ≡ month_deltas (h ∷ hs)
 unfolding month_deltas
 month_deltas-cons h hs =
-    step (month_delta hs) (month_delta (h ∷ hs)) (h.contract).month (units_of h) (delta_at h hs) (delta_other h hs) (months_of hs) (months_rise_up hs)
+    step (month_delta hs) (month_delta (h ∷ hs)) (h.contract).month (units_of h) (delta_at h hs) (delta_other h hs) (months_of hs)
+    (months_rise_up hs)
     (absent (h.contract).month (months_of hs) hs (months_have hs))
 
 -- ---- sizes
 
 size_if : (b c : Bool) (p : ℕ) (u : ℤ) (m : MonthUnits) (ms more : List MonthUnits) → total_size more ≤ total_size ms + nat_abs u
-    → total_size (cond b (record { month = p; units = u } ∷ m ∷ ms) (cond c (record { month = m.month; units = m.units +ℤ u } ∷ ms) (m ∷ more))) ≤ total_size (m ∷ ms) + nat_abs u
+    → total_size (cond b (record { month = p; units = u } ∷ m ∷ ms)
+    (cond c (record { month = m.month; units = m.units +ℤ u } ∷ ms) (m ∷ more))) ≤ total_size (m ∷ ms) + nat_abs u
 size_if true c p u m ms more h =
     let a = sum_by-cons (λ (x : MonthUnits). nat_abs x.units) (record { month = p; units = u }) (m ∷ ms) in omega (arith, a)
 size_if false true p u m ms more h =

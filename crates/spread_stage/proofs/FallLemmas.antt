@@ -1,5 +1,6 @@
 -- How sides and rests fall.
-use Rattle.std.proofs.Common.{◌≡◌, ℕ, suc, ◌+◌, ◌-◌, ◌≤◌, min, Bool, true, false, cond, List, [], ◌∷◌, refl, ap, arith, map, sum_by, fold}
+use Rattle.std.proofs.Common.{◌≡◌, ℕ, suc, ◌+◌, ◌-◌, ◌≤◌, min, Bool, true, false, cond, List, [], ◌∷◌, refl, ap}
+use Rattle.std.proofs.Common.{arith, map, sum_by, fold}
 use Rattle.std.specs.Prelude.{ℤ, pos, negsuc, ◌+ℤ◌, ◌-ℤ◌}
 use Rattle.std.proofs.lemmas.Int.{ints}
 use Rattle.std.proofs.lemmas.List.Sums.{sum_by-cons}
@@ -11,7 +12,8 @@ use Rattle.span_tables.specs.declared.sides.MarketSide.TheVariants.{Long, Short}
 use Rattle.span_tables.specs.declared.records.Intra.{Intra}
 use Rattle.span_tables.specs.declared.records.MonthLeg.{MonthLeg}
 use Rattle.spread_stage.specs.Months.{MonthsRise, Shrinks}
-use Rattle.spread_stage.specs.Spreads.{is_in_tier, tier_side, side_before, used_of_month, rests_after_leg, tier_rooms, TierRests, spread_one_way, spread_both_ways, after_spreads, unspread}
+use Rattle.spread_stage.specs.Spreads.{is_in_tier, tier_side, side_before, used_of_month, rests_after_leg, tier_rooms, TierRests}
+use Rattle.spread_stage.specs.Spreads.{spread_one_way, spread_both_ways, after_spreads, unspread}
 use Rattle.spread_stage.specs.declared.months.MonthUnits.{MonthUnits}
 use Rattle.spread_stage.proofs.SizeLemmas.{shrinks_none}
 use Rattle.spread_stage.proofs.SpreadLemmas.{legs_shrink}
@@ -38,8 +40,10 @@ part-less_used Short (negsuc n) u h =
     let p = negative_left (negsuc n +ℤ pos u) (suc n - u) u e in omega (arith, h, p)
 
 weight_if : (on : MarketSide) (b : Bool) (z : ℤ) (x : ℕ)
-    → cond b (part_on on (less_used on z (cond b (min (part_on on z) x) 0))) 0 + cond b (min (part_on on z) x) 0 ≡ cond b (part_on on z) 0
-weight_if on true z x = let within : min (part_on on z) x ≤ part_on on z = omega arith in part-less_used on z (min (part_on on z) x) within
+    → cond b (part_on on (less_used on z (cond b (min (part_on on z) x) 0))) 0 + cond b (min (part_on on z) x) 0
+    ≡ cond b (part_on on z) 0
+weight_if on true z x =
+    let within : min (part_on on z) x ≤ part_on on z = omega arith in part-less_used on z (min (part_on on z) x) within
 weight_if on false z x = refl
 
 module _ (on : MarketSide) (leg : MonthLeg) (needed : ℕ) (rests : List MonthUnits) where
@@ -61,21 +65,24 @@ module _ (on : MarketSide) (leg : MonthLeg) (needed : ℕ) (rests : List MonthUn
       omega (arith, a, b, d, e, h)
 
 -- a leg's side falls by what the leg needs
-pub side_falls : (on : MarketSide) (leg : MonthLeg) (rests : List MonthUnits) (needed : ℕ) → MonthsRise rests → needed ≤ tier_side rests on leg
+pub side_falls : (on : MarketSide) (leg : MonthLeg) (rests : List MonthUnits) (needed : ℕ) → MonthsRise rests
+    → needed ≤ tier_side rests on leg
     → tier_side (rests_after_leg on needed rests leg) on leg + needed ≡ tier_side rests on leg
 side_falls on leg rests needed rise enough =
     let all = side_of_all on leg needed rests rests in
     let whole = used_total on leg rests needed rise enough in
     omega (arith, all, whole)
 
-both_shrink : (deltas : List MonthUnits) (t : TierRests) (s : Intra) → Shrinks deltas t.rests → Shrinks deltas (spread_both_ways t s).rests
+both_shrink : (deltas : List MonthUnits) (t : TierRests) (s : Intra) → Shrinks deltas t.rests
+    → Shrinks deltas (spread_both_ways t s).rests
 unfolding spread_both_ways
 both_shrink deltas t s h =
     let once = spread_one_way s ALong t in
     legs_shrink AShort (spreads_formed (tier_rooms AShort s.legs once.rests)) deltas s.legs once.rests
     (legs_shrink ALong (spreads_formed (tier_rooms ALong s.legs t.rests)) deltas s.legs t.rests h)
 
-all_shrink : (deltas : List MonthUnits) (spreads : List Intra) (t : TierRests) → Shrinks deltas t.rests → Shrinks deltas (fold spread_both_ways t spreads).rests
+all_shrink : (deltas : List MonthUnits) (spreads : List Intra) (t : TierRests) → Shrinks deltas t.rests
+    → Shrinks deltas (fold spread_both_ways t spreads).rests
 all_shrink deltas [] t h = h
 all_shrink deltas (s ∷ spreads) t h = all_shrink deltas spreads (spread_both_ways t s) (both_shrink deltas t s h)
 

@@ -1,5 +1,6 @@
 -- The held months rise, and their deltas add up to the net delta.
-use Rattle.std.proofs.Common.{◌≡◌, ℕ, ◌<◌, Bool, true, false, cond, List, [], ◌∷◌, refl, sym, ap, ◌∙◌, arith, subst, filter, map, inl, inr}
+use Rattle.std.proofs.Common.{◌≡◌, ℕ, ◌<◌, Bool, true, false, cond, List, [], ◌∷◌, refl, sym, ap, ◌∙◌, arith, subst}
+use Rattle.std.proofs.Common.{filter, map, inl, inr}
 use Rattle.std.specs.Prelude.{ℤ, pos, ◌+ℤ◌, ◌==◌, nat_lt, ◌⊎◌}
 use Rattle.std.specs.List.{AllByRecursion}
 use Rattle.std.proofs.lemmas.Int.{ints}
@@ -20,7 +21,8 @@ pub all_above : (p q : ℕ) (qs : List ℕ) → p < q → AllByRecursion (λ r. 
 all_above p q [] lt h = tt
 all_above p q (r ∷ rs) lt h = (let qr : q < r = h.0 in omega arith, all_above p q rs lt h.1)
 
-above_if : (b : Bool) (m p q : ℕ) (qs more : List ℕ) → m < p → m < q → AllByRecursion (λ r. m < r) qs → AllByRecursion (λ r. m < r) more
+above_if : (b : Bool) (m p q : ℕ) (qs more : List ℕ) → m < p → m < q → AllByRecursion (λ r. m < r) qs
+    → AllByRecursion (λ r. m < r) more
     → AllByRecursion (λ r. m < r) (cond b (p ∷ q ∷ qs) (cond (p == q) (q ∷ qs) (q ∷ more)))
 above_if true m p q qs more mp mq h k = (mp, (mq, h))
 above_if false m p q qs more mp mq h k = pick (p == q) where
@@ -28,7 +30,8 @@ above_if false m p q qs more mp mq h k = pick (p == q) where
   pick true = (mq, h)
   pick false = (mq, k)
 
-with_month_above : (m p : ℕ) (qs : List ℕ) → m < p → AllByRecursion (λ r. m < r) qs → AllByRecursion (λ r. m < r) (with_month p qs)
+with_month_above : (m p : ℕ) (qs : List ℕ) → m < p → AllByRecursion (λ r. m < r) qs
+    → AllByRecursion (λ r. m < r) (with_month p qs)
 with_month_above m p [] lt h = (lt, tt)
 with_month_above m p (q ∷ qs) lt h = above_if (nat_lt p q) m p q qs (with_month p qs) lt h.0 h.1 (with_month_above m p qs lt h.1)
 
@@ -49,7 +52,8 @@ months_rise_up (h ∷ hs) = with_month_rises (h.contract).month (months_of hs) (
 with_units : List HeldContract → ℕ → MonthUnits
 with_units held p = record { month = p; units = month_delta held p }
 
-above_map : (held : List HeldContract) (m : ℕ) (ps : List ℕ) → AllByRecursion (λ p. m < p) ps → AllByRecursion (λ (n : MonthUnits). m < n.month) (map (with_units held) ps)
+above_map : (held : List HeldContract) (m : ℕ) (ps : List ℕ) → AllByRecursion (λ p. m < p) ps
+    → AllByRecursion (λ (n : MonthUnits). m < n.month) (map (with_units held) ps)
 unfolding with_units
 above_map held m [] h = tt
 above_map held m (p ∷ ps) h = (h.0, above_map held m ps h.1)
@@ -71,7 +75,8 @@ abbrev pub Has : ℕ → List ℕ → Type 0
 Has p [] = ⊥
 Has p (q ∷ qs) = (p ≡ q) ⊎ Has p qs
 
-has_if : (b c : Bool) (r p q : ℕ) (qs more : List ℕ) → (p == q) ≡ c → (r ≡ p) ⊎ Has r (q ∷ qs) → (Has r qs → Has r more) → (r ≡ p → Has r more)
+has_if : (b c : Bool) (r p q : ℕ) (qs more : List ℕ) → (p == q) ≡ c → (r ≡ p) ⊎ Has r (q ∷ qs)
+    → (Has r qs → Has r more) → (r ≡ p → Has r more)
     → Has r (cond b (p ∷ q ∷ qs) (cond c (q ∷ qs) (q ∷ more)))
 has_if true c r p q qs more f h keep new = h
 has_if false true r p q qs more f (inl e) keep new = let same : p ≡ q = grind (arith, nat_tests, f) in inl (e ∙ same)
@@ -82,17 +87,24 @@ has_if false false r p q qs more f (inr (inr h)) keep new = inr (keep h)
 
 with_month_has : (r p : ℕ) (qs : List ℕ) → (r ≡ p) ⊎ Has r qs → Has r (with_month p qs)
 with_month_has r p [] h = h
-with_month_has r p (q ∷ qs) h = has_if (nat_lt p q) (p == q) r p q qs (with_month p qs) refl h (λ k. with_month_has r p qs (inr k)) (λ e. with_month_has r p qs (inl e))
+with_month_has r p (q ∷ qs) h =
+    has_if (nat_lt p q) (p == q) r p q qs (with_month p qs) refl h (λ k. with_month_has r p qs (inr k))
+    (λ e. with_month_has r p qs (inl e))
 
-all_had : (p : ℕ) (ps : List ℕ) (hs : List HeldContract) → AllByRecursion (λ h. Has (h.contract).month ps) hs → AllByRecursion (λ h. Has (h.contract).month (with_month p ps)) hs
+all_had : (p : ℕ) (ps : List ℕ) (hs : List HeldContract) → AllByRecursion (λ h. Has (h.contract).month ps) hs
+    → AllByRecursion (λ h. Has (h.contract).month (with_month p ps)) hs
 all_had p ps [] a = tt
 all_had p ps (h ∷ hs) a = (with_month_has (h.contract).month p ps (inr a.0), all_had p ps hs a.1)
 
 pub months_have : (held : List HeldContract) → AllByRecursion (λ h. Has (h.contract).month (months_of held)) held
 months_have [] = tt
-months_have (h ∷ hs) = (with_month_has (h.contract).month (h.contract).month (months_of hs) (inl refl), all_had (h.contract).month (months_of hs) hs (months_have hs))
+months_have (h ∷ hs) = (
+  with_month_has (h.contract).month (h.contract).month (months_of hs) (inl refl),
+  all_had (h.contract).month (months_of hs) hs (months_have hs),
+)
 
-not_there : (p : ℕ) (u : ℤ) (qs : List ℕ) → AllByRecursion (λ q. p < q) qs → int_sum_by (λ q. cond (p == q) u (pos 0)) qs ≡ pos 0
+not_there : (p : ℕ) (u : ℤ) (qs : List ℕ) → AllByRecursion (λ q. p < q) qs
+    → int_sum_by (λ q. cond (p == q) u (pos 0)) qs ≡ pos 0
 not_there p u [] h = refl
 not_there p u (q ∷ qs) h =
     let lt : p < q = h.0 in
@@ -125,7 +137,8 @@ there_once p u (q ∷ qs) h (inr k) =
 
 -- a month's delta with one more contract, summed over months
 sum_with : (h : HeldContract) (hs : List HeldContract) (ps : List ℕ)
-    → int_sum_by (month_delta (h ∷ hs)) ps ≡ int_sum_by (λ p. cond ((h.contract).month == p) (units_of h) (pos 0)) ps +ℤ int_sum_by (month_delta hs) ps
+    → int_sum_by (month_delta (h ∷ hs)) ps
+    ≡ int_sum_by (λ p. cond ((h.contract).month == p) (units_of h) (pos 0)) ps +ℤ int_sum_by (month_delta hs) ps
 sum_with h hs [] = refl
 sum_with h hs (p ∷ ps) =
     let a = int_sum_by-cons (month_delta (h ∷ hs)) p ps in
@@ -140,7 +153,8 @@ sum_none : (ps : List ℕ) → int_sum_by (month_delta []) ps ≡ pos 0
 sum_none [] = refl
 sum_none (p ∷ ps) = let a = int_sum_by-cons (month_delta []) p ps in let b = sum_none ps in omega (arith, ints, a, b)
 
-sum_over : (ps : List ℕ) → Rise ps → (hs : List HeldContract) → AllByRecursion (λ h. Has (h.contract).month ps) hs → int_sum_by (month_delta hs) ps ≡ int_sum_by units_of hs
+sum_over : (ps : List ℕ) → Rise ps → (hs : List HeldContract) → AllByRecursion (λ h. Has (h.contract).month ps) hs
+    → int_sum_by (month_delta hs) ps ≡ int_sum_by units_of hs
 sum_over ps rise [] a = sum_none ps
 sum_over ps rise (h ∷ hs) a =
     let one = there_once (h.contract).month (units_of h) ps rise a.0 in

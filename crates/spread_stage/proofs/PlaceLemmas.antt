@@ -1,5 +1,6 @@
 -- The place of a month among months that rise.
-use Rattle.std.proofs.Common.{◌≡◌, ℕ, zero, suc, ◌+◌, ◌<◌, ◌≤◌, Bool, true, false, cond, List, [], ◌∷◌, ◌++◌, refl, sym, ap, ◌∙◌, arith, length, take, drop, set, get_or, drop-cons, Some, None}
+use Rattle.std.proofs.Common.{◌≡◌, ℕ, zero, suc, ◌+◌, ◌<◌, ◌≤◌, Bool, true, false, cond, List, [], ◌∷◌}
+use Rattle.std.proofs.Common.{◌++◌, refl, sym, ap, ◌∙◌, arith, length, take, drop, set, get_or, drop-cons, Some, None}
 use Rattle.std.specs.Prelude.{ℤ, ◌+ℤ◌, ◌==◌, nat_lt, nat_le, position}
 use Rattle.std.specs.List.{insert, position_or_len}
 use Rattle.std.proofs.Math.Seq.{drop-length, take-length}
@@ -22,24 +23,29 @@ no_place false n e = refl
 
 module _ (p : ℕ) (u : ℤ) where
   earlier_if : (b c : Bool) (m : MonthUnits) (ms more : List MonthUnits) → nat_lt p m.month ≡ b → (p == m.month) ≡ c → m.month < p
-      → cond b (record { month = p; units = u } ∷ m ∷ ms) (cond c (record { month = m.month; units = m.units +ℤ u } ∷ ms) (m ∷ more)) ≡ m ∷ more
+      → cond b (record { month = p; units = u } ∷ m ∷ ms)
+      (cond c (record { month = m.month; units = m.units +ℤ u } ∷ ms) (m ∷ more)) ≡ m ∷ more
   earlier_if true c m ms more e d lt = absurd (grind (arith, nat_tests, e, lt))
   earlier_if false true m ms more e d lt = absurd (grind (arith, nat_tests, d, lt))
   earlier_if false false m ms more e d lt = refl
 
   same_if : (b c : Bool) (m : MonthUnits) (ms more : List MonthUnits) → nat_lt p m.month ≡ b → (p == m.month) ≡ c → m.month ≡ p
-      → cond b (record { month = p; units = u } ∷ m ∷ ms) (cond c (record { month = m.month; units = m.units +ℤ u } ∷ ms) (m ∷ more)) ≡ record { month = m.month; units = m.units +ℤ u } ∷ ms
+      → cond b (record { month = p; units = u } ∷ m ∷ ms)
+      (cond c (record { month = m.month; units = m.units +ℤ u } ∷ ms) (m ∷ more))
+      ≡ record { month = m.month; units = m.units +ℤ u } ∷ ms
   same_if true c m ms more e d same = absurd (grind (arith, nat_tests, e, same))
   same_if false true m ms more e d same = refl
   same_if false false m ms more e d same = absurd (grind (arith, nat_tests, d, same))
 
   later_if : (b c : Bool) (m : MonthUnits) (ms more : List MonthUnits) → nat_lt p m.month ≡ b → p < m.month
-      → cond b (record { month = p; units = u } ∷ m ∷ ms) (cond c (record { month = m.month; units = m.units +ℤ u } ∷ ms) (m ∷ more)) ≡ record { month = p; units = u } ∷ m ∷ ms
+      → cond b (record { month = p; units = u } ∷ m ∷ ms)
+      (cond c (record { month = m.month; units = m.units +ℤ u } ∷ ms) (m ∷ more)) ≡ record { month = p; units = u } ∷ m ∷ ms
   later_if true c m ms more e lt = refl
   later_if false c m ms more e lt = absurd (grind (arith, nat_tests, e, lt))
 
   -- behind earlier months
-  behind : (ms : List MonthUnits) (i : ℕ) (d : MonthUnits) → ((k : ℕ) → k < i → nat_le p (get_or ms k d).month ≡ false) → i ≤ length ms
+  behind : (ms : List MonthUnits) (i : ℕ) (d : MonthUnits) → ((k : ℕ) → k < i → nat_le p (get_or ms k d).month ≡ false)
+      → i ≤ length ms
       → with_units p u ms ≡ take i ms ++ with_units p u (drop i ms)
   behind ms zero d h le = refl
   behind [] (suc i) d h le = absurd (omega (arith, le))
@@ -50,7 +56,8 @@ module _ (p : ℕ) (u : ℤ) where
       ∙ ap (λ (xs : List MonthUnits). m ∷ xs) (behind ms i d (λ k lk. h (suc k) (omega (arith, lk))) (omega (arith, le)))
 
   -- the month stands at the place
-  pub with_units-set : (ms : List MonthUnits) (i : ℕ) (d v : MonthUnits) → position (λ m. nat_le p m.month) ms ≡ Some i → (get_or ms i d).month ≡ p
+  pub with_units-set : (ms : List MonthUnits) (i : ℕ) (d v : MonthUnits) → position (λ m. nat_le p m.month) ms ≡ Some i
+      → (get_or ms i d).month ≡ p
       → v.month ≡ (get_or ms i d).month → v.units ≡ (get_or ms i d).units +ℤ u → set ms i v ≡ with_units p u ms
   with_units-set ms i d v found same month units =
       let at = position-Some (λ (m : MonthUnits). nat_le p m.month) ms i d found in
@@ -65,11 +72,14 @@ module _ (p : ℕ) (u : ℤ) where
       let here = same_if (nat_lt p m.month) (p == m.month) m (drop (suc i) ms) (with_units p u (drop (suc i) ms)) refl refl same in
       sym (take-append-drop i (set ms i v))
       ∙ ap (λ (xs : List MonthUnits). xs ++ drop i (set ms i v)) front
-      ∙ ap (λ (xs : List MonthUnits). take i ms ++ xs) (back ∙ ap (λ (x : MonthUnits). x ∷ drop (i + 1) ms) is ∙ ap (λ n. record { month = m.month; units = m.units +ℤ u } ∷ drop n ms) one ∙ sym here ∙ ap (with_units p u) (sym split))
+      ∙ ap (λ (xs : List MonthUnits). take i ms ++ xs)
+      (back ∙ ap (λ (x : MonthUnits). x ∷ drop (i + 1) ms) is
+      ∙ ap (λ n. record { month = m.month; units = m.units +ℤ u } ∷ drop n ms) one ∙ sym here ∙ ap (with_units p u) (sym split))
       ∙ sym (behind ms i d (at.2) (omega (arith, lt)))
 
   -- the month comes before the one at the place
-  pub with_units-insert : (ms : List MonthUnits) (i : ℕ) (d : MonthUnits) → position (λ m. nat_le p m.month) ms ≡ Some i → ¬ ((get_or ms i d).month ≡ p)
+  pub with_units-insert : (ms : List MonthUnits) (i : ℕ) (d : MonthUnits) → position (λ m. nat_le p m.month) ms ≡ Some i
+      → ¬ ((get_or ms i d).month ≡ p)
       → insert ms i (record { month = p; units = u }) ≡ with_units p u ms
   with_units-insert ms i d found other =
       let at = position-Some (λ (m : MonthUnits). nat_le p m.month) ms i d found in
@@ -85,13 +95,16 @@ module _ (p : ℕ) (u : ℤ) where
       ∙ sym (behind ms i d (at.2) (omega (arith, lt)))
 
   -- all months are earlier
-  pub with_units-push : (ms : List MonthUnits) → position (λ m. nat_le p m.month) ms ≡ None → ms ++ record { month = p; units = u } ∷ [] ≡ with_units p u ms
+  pub with_units-push : (ms : List MonthUnits) → position (λ m. nat_le p m.month) ms ≡ None
+      → ms ++ record { month = p; units = u } ∷ [] ≡ with_units p u ms
   with_units-push ms none =
       let d : MonthUnits = record { month = p; units = u } in
       let first = position_or_len (λ (m : MonthUnits). nat_le p m.month) ms in
       let test : nat_lt first (length ms) ≡ false = no_place (nat_lt first (length ms)) first none in
       let past : length ms ≤ first = grind (arith, nat_tests, test) in
-      let all = behind ms (length ms) d (λ k lk. fails_before_first (λ (m : MonthUnits). nat_le p m.month) ms k d (omega (arith, lk, past))) (omega arith) in
+      let all = behind ms (length ms) d
+      (λ k lk. fails_before_first (λ (m : MonthUnits). nat_le p m.month) ms k d (omega (arith, lk, past))) (omega arith) in
       let whole : take (length ms) ms ≡ ms = take-length ms in
       let rest : drop (length ms) ms ≡ [] = drop-length ms in
-      sym (all ∙ ap (λ (xs : List MonthUnits). xs ++ with_units p u (drop (length ms) ms)) whole ∙ ap (λ (xs : List MonthUnits). ms ++ with_units p u xs) rest)
+      sym (all ∙ ap (λ (xs : List MonthUnits). xs ++ with_units p u (drop (length ms) ms)) whole
+      ∙ ap (λ (xs : List MonthUnits). ms ++ with_units p u xs) rest)

@@ -1,5 +1,6 @@
 -- Sizes of sides and rests.
-use Rattle.std.proofs.Common.{◌≡◌, ℕ, ◌+◌, ◌-◌, ◌<◌, ◌≤◌, Bool, true, false, cond, List, [], ◌∷◌, refl, sym, ap, subst, arith, filter, map, nat_abs, suc, sum_by}
+use Rattle.std.proofs.Common.{◌≡◌, ℕ, ◌+◌, ◌-◌, ◌<◌, ◌≤◌, Bool, true, false, cond, List, [], ◌∷◌, refl, sym}
+use Rattle.std.proofs.Common.{ap, subst, arith, filter, map, nat_abs, suc, sum_by}
 use Rattle.std.specs.Prelude.{ℤ, pos, negsuc, ◌+ℤ◌, ◌-ℤ◌, ◌==◌, nat_lt, Option, Some, find, option_map, unwrap_or}
 use Rattle.std.specs.List.{AllByRecursion}
 use Rattle.std.proofs.lemmas.Int.{ints}
@@ -29,7 +30,9 @@ size-less_used Short (pos n) u h = omega (arith, ints, h)
 size-less_used Short (negsuc n) u h = omega (arith, ints, h)
 
 -- a side is at most the size of all rests
-size_if : (on : MarketSide) (b : Bool) (m : MonthUnits) (xs : List MonthUnits) → sum_by (λ (x : MonthUnits). part_on on x.units) (cond b (m ∷ xs) xs) ≤ part_on on m.units + sum_by (λ (x : MonthUnits). part_on on x.units) xs
+size_if : (on : MarketSide) (b : Bool) (m : MonthUnits) (xs : List MonthUnits)
+    → sum_by (λ (x : MonthUnits). part_on on x.units) (cond b (m ∷ xs) xs)
+    ≤ part_on on m.units + sum_by (λ (x : MonthUnits). part_on on x.units) xs
 size_if on true m xs = let a = sum_by-cons (λ (x : MonthUnits). part_on on x.units) m xs in omega (arith, a)
 size_if on false m xs = omega arith
 
@@ -97,7 +100,8 @@ module _ (on : MarketSide) (used : MonthUnits → ℕ) (within : (m : MonthUnits
   abbrev after : MonthUnits → MonthUnits
   after m = record { month = m.month; units = less_used on m.units (used m) }
 
-  above_after : (p : ℕ) (ms : List MonthUnits) → AllByRecursion (λ n. p < n.month) ms → AllByRecursion (λ n. p < n.month) (map after ms)
+  above_after : (p : ℕ) (ms : List MonthUnits) → AllByRecursion (λ n. p < n.month) ms
+      → AllByRecursion (λ n. p < n.month) (map after ms)
   above_after p [] h = tt
   above_after p (m ∷ ms) h = (h.0, above_after p ms h.1)
 
@@ -119,8 +123,13 @@ module _ (on : MarketSide) (used : MonthUnits → ℕ) (within : (m : MonthUnits
   shrinks_after [] [] h = tt
   shrinks_after [] (m ∷ ms) h = absurd h
   shrinks_after (d ∷ deltas) [] h = absurd h
-  shrinks_after (d ∷ deltas) (m ∷ ms) h =
-      (h.0, (IsPartOf-part d.units m.units (less_used on m.units (used m)) (h.1).0 (IsPartOf-less_used on m.units (used m) (within m)), shrinks_after deltas ms (h.1).1))
+  shrinks_after (d ∷ deltas) (m ∷ ms) h = (
+    h.0,
+    (
+      IsPartOf-part d.units m.units (less_used on m.units (used m)) (h.1).0 (IsPartOf-less_used on m.units (used m) (within m)),
+      shrinks_after deltas ms (h.1).1,
+    ),
+  )
 
 -- before any use, each rest is its delta
 pub shrinks_none : (deltas : List MonthUnits) → Shrinks deltas deltas
@@ -129,7 +138,8 @@ shrinks_none (d ∷ deltas) = (refl, (IsPartOf-all d.units, shrinks_none deltas)
 
 -- ---- what a month has
 
-units_if : (b : Bool) (m : MonthUnits) (ms : List MonthUnits) (r : Option MonthUnits) → nat_abs (unwrap_or (option_map (λ (x : MonthUnits). x.units) r) (pos 0)) ≤ total_size ms
+units_if : (b : Bool) (m : MonthUnits) (ms : List MonthUnits) (r : Option MonthUnits)
+    → nat_abs (unwrap_or (option_map (λ (x : MonthUnits). x.units) r) (pos 0)) ≤ total_size ms
     → nat_abs (unwrap_or (option_map (λ (x : MonthUnits). x.units) (cond b (Some m) r)) (pos 0)) ≤ total_size (m ∷ ms)
 units_if true m ms r h = let a = sum_by-cons (λ (x : MonthUnits). nat_abs x.units) m ms in omega (arith, a)
 units_if false m ms r h = let a = sum_by-cons (λ (x : MonthUnits). nat_abs x.units) m ms in omega (arith, a, h)
@@ -140,13 +150,16 @@ units_at_le [] p = omega arith
 units_at_le (m ∷ ms) p = units_if (m.month == p) m ms (find (λ x. x.month == p) ms) (units_at_le ms p)
 
 left_if : (b : Bool) (m r : MonthUnits) (f g : Option MonthUnits) → IsPartOf m.units r.units
-    → nat_abs (unwrap_or (option_map (λ (x : MonthUnits). x.units) g) (pos 0)) ≤ nat_abs (unwrap_or (option_map (λ (x : MonthUnits). x.units) f) (pos 0))
-    → nat_abs (unwrap_or (option_map (λ (x : MonthUnits). x.units) (cond b (Some r) g)) (pos 0)) ≤ nat_abs (unwrap_or (option_map (λ (x : MonthUnits). x.units) (cond b (Some m) f)) (pos 0))
+    → nat_abs (unwrap_or (option_map (λ (x : MonthUnits). x.units) g) (pos 0))
+    ≤ nat_abs (unwrap_or (option_map (λ (x : MonthUnits). x.units) f) (pos 0))
+    → nat_abs (unwrap_or (option_map (λ (x : MonthUnits). x.units) (cond b (Some r) g)) (pos 0))
+    ≤ nat_abs (unwrap_or (option_map (λ (x : MonthUnits). x.units) (cond b (Some m) f)) (pos 0))
 left_if true m r f g part h = IsPartOf-size m.units r.units part
 left_if false m r f g part h = h
 
 -- what is left of a month's delta is at most its delta
-pub left_le : (deltas rests : List MonthUnits) (p : ℕ) → Shrinks deltas rests → nat_abs (units_at rests p) ≤ nat_abs (units_at deltas p)
+pub left_le : (deltas rests : List MonthUnits) (p : ℕ) → Shrinks deltas rests
+    → nat_abs (units_at rests p) ≤ nat_abs (units_at deltas p)
 left_le [] [] p h = omega arith
 left_le [] (r ∷ rests) p h = absurd h
 left_le (m ∷ deltas) [] p h = absurd h
@@ -154,6 +167,7 @@ left_le (m ∷ deltas) (r ∷ rests) p h =
     let test : (r.month == p) ≡ (m.month == p) = ap (λ n. n == p) h.0 in
     let g = find (λ (x : MonthUnits). x.month == p) rests in
     let first = left_if (m.month == p) m r (find (λ x. x.month == p) deltas) g (h.1).0 (left_le deltas rests p (h.1).1) in
-    let same : nat_abs (units_at (r ∷ rests) p) ≡ nat_abs (unwrap_or (option_map (λ (x : MonthUnits). x.units) (cond (m.month == p) (Some r) g)) (pos 0)) =
+    let same : nat_abs (units_at (r ∷ rests) p)
+    ≡ nat_abs (unwrap_or (option_map (λ (x : MonthUnits). x.units) (cond (m.month == p) (Some r) g)) (pos 0)) =
     ap (λ b. nat_abs (unwrap_or (option_map (λ (x : MonthUnits). x.units) (cond b (Some r) g)) (pos 0))) test in
     omega (arith, first, same)

@@ -1,5 +1,6 @@
 -- What a spread's legs leave of the rests.
-use Rattle.std.proofs.Common.{◌≡◌, ℕ, zero, suc, ◌+◌, ◌*◌, ◌-◌, ◌<◌, ◌≤◌, min, Bool, true, false, cond, List, [], ◌∷◌, refl, ap, ◌∙◌, arith, length, get_or, map, sum_by}
+use Rattle.std.proofs.Common.{◌≡◌, ℕ, zero, suc, ◌+◌, ◌*◌, ◌-◌, ◌<◌, ◌≤◌, min, Bool, true, false, cond, List}
+use Rattle.std.proofs.Common.{[], ◌∷◌, refl, ap, ◌∙◌, arith, length, get_or, map, sum_by}
 use Rattle.std.specs.Prelude.{ℤ, All}
 use Rattle.std.proofs.Math.Nat.{mul-le-mul}
 use Rattle.std.proofs.lemmas.Int.{ints}
@@ -13,7 +14,8 @@ use Rattle.span_tables.proofs.SpreadLaws.{formed_fit}
 use Rattle.span_tables.specs.declared.records.Intra.{Intra}
 use Rattle.span_tables.specs.declared.records.MonthLeg.{MonthLeg}
 use Rattle.spread_stage.specs.Months.{MonthsRise, total_size, Shrinks}
-use Rattle.spread_stage.specs.Spreads.{is_in_tier, tier_side, side_before, used_of_month, rests_after_leg, rests_after, tier_rooms, TierRests, spread_both_ways}
+use Rattle.spread_stage.specs.Spreads.{is_in_tier, tier_side, side_before, used_of_month, rests_after_leg, rests_after, tier_rooms}
+use Rattle.spread_stage.specs.Spreads.{TierRests, spread_both_ways}
 use Rattle.spread_stage.specs.declared.months.MonthUnits.{MonthUnits}
 use Rattle.span_tables.specs.declared.limits.TheConstants.{MAX_UNITS}
 use Rattle.spread_stage.proofs.SizeLemmas.{rise_after, size_after, shrinks_after, tier_side-le}
@@ -24,7 +26,8 @@ within_if true part x = omega arith
 within_if false part x = omega arith
 
 -- a leg uses no more of a month than its part
-pub within : (rests : List MonthUnits) (on : MarketSide) (leg : MonthLeg) (needed : ℕ) (m : MonthUnits) → used_of_month rests on leg needed m ≤ part_on on m.units
+pub within : (rests : List MonthUnits) (on : MarketSide) (leg : MonthLeg) (needed : ℕ) (m : MonthUnits)
+    → used_of_month rests on leg needed m ≤ part_on on m.units
 within rests on leg needed m = within_if (is_in_tier leg m) (part_on on m.units) (needed - side_before rests on leg m.month)
 
 -- ---- after one leg
@@ -43,7 +46,8 @@ module _ (on : MarketSide) (needed : ℕ) (rests : List MonthUnits) (leg : Month
   leg_shrinks deltas h = shrinks_after on (used_of_month rests on leg needed) (within rests on leg needed) deltas rests h
 
   -- the sizes fall by just what the leg needs
-  leg_falls : MonthsRise rests → needed ≤ tier_side rests on leg → total_size (rests_after_leg on needed rests leg) + needed ≡ total_size rests
+  leg_falls : MonthsRise rests → needed ≤ tier_side rests on leg
+      → total_size (rests_after_leg on needed rests leg) + needed ≡ total_size rests
   leg_falls rise enough = let e = leg_size in let all = used_total on leg rests needed rise enough in omega (arith, e, all)
 
 pub none_used : (on : MarketSide) (z : ℤ) (u : ℕ) → u ≡ 0 → less_used on z u ≡ z
@@ -54,15 +58,19 @@ unused : (on : MarketSide) (used : MonthUnits → ℕ) → ((m : MonthUnits) →
     → map (λ m. record { month = m.month; units = less_used on m.units (used m) }) ms ≡ ms
 unused on used none [] = refl
 unused on used none (m ∷ ms) =
-    ap (λ (z : ℤ). record { month = m.month; units = z } ∷ map (λ x. record { month = x.month; units = less_used on x.units (used x) }) ms) (none_used on m.units (used m) (none m))
+    ap (λ (z : ℤ). record { month = m.month; units = z }
+    ∷ map (λ x. record { month = x.month; units = less_used on x.units (used x) }) ms) (none_used on m.units (used m) (none m))
     ∙ ap (λ (xs : List MonthUnits). m ∷ xs) (unused on used none ms)
 
 zero_if : (b : Bool) (part needed side : ℕ) → needed ≡ 0 → cond b (min part (needed - side)) 0 ≡ 0
 zero_if true part needed side e = omega (arith, e)
 zero_if false part needed side e = refl
 
-leg_none : (on : MarketSide) (needed : ℕ) (rests : List MonthUnits) (leg : MonthLeg) → needed ≡ 0 → rests_after_leg on needed rests leg ≡ rests
-leg_none on needed rests leg e = unused on (used_of_month rests on leg needed) (λ m. zero_if (is_in_tier leg m) (part_on on m.units) needed (side_before rests on leg m.month) e) rests
+leg_none : (on : MarketSide) (needed : ℕ) (rests : List MonthUnits) (leg : MonthLeg) → needed ≡ 0
+    → rests_after_leg on needed rests leg ≡ rests
+leg_none on needed rests leg e =
+    unused on (used_of_month rests on leg needed)
+    (λ m. zero_if (is_in_tier leg m) (part_on on m.units) needed (side_before rests on leg m.month) e) rests
 
 -- ---- after all legs
 
@@ -83,10 +91,12 @@ module _ (d : Direction) (n : ℕ) where
       let b = leg_less (market_side d leg.side) (n * leg.ratio) rests leg in
       omega (arith, a, b)
 
-  pub legs_shrink : (deltas : List MonthUnits) (legs : List MonthLeg) (rests : List MonthUnits) → Shrinks deltas rests → Shrinks deltas (rests_after d n legs rests)
+  pub legs_shrink : (deltas : List MonthUnits) (legs : List MonthLeg) (rests : List MonthUnits) → Shrinks deltas rests
+      → Shrinks deltas (rests_after d n legs rests)
   unfolding after
   legs_shrink deltas [] rests h = h
-  legs_shrink deltas (leg ∷ legs) rests h = legs_shrink deltas legs (after leg rests) (leg_shrinks (market_side d leg.side) (n * leg.ratio) rests leg deltas h)
+  legs_shrink deltas (leg ∷ legs) rests h =
+      legs_shrink deltas legs (after leg rests) (leg_shrinks (market_side d leg.side) (n * leg.ratio) rests leg deltas h)
 
   pub legs_none : (legs : List MonthLeg) (rests : List MonthUnits) → n ≡ 0 → rests_after d n legs rests ≡ rests
   unfolding after
@@ -96,7 +106,8 @@ module _ (d : Direction) (n : ℕ) where
       ap (rests_after d n legs) (leg_none (market_side d leg.side) (n * leg.ratio) rests leg none) ∙ legs_none legs rests e
 
   -- a spread takes at least as much off the rests as spreads are formed
-  first_falls : (leg : MonthLeg) (legs : List MonthLeg) (rests : List MonthUnits) → MonthsRise rests → 0 < leg.ratio → n * leg.ratio ≤ tier_side rests (market_side d leg.side) leg
+  first_falls : (leg : MonthLeg) (legs : List MonthLeg) (rests : List MonthUnits) → MonthsRise rests → 0 < leg.ratio
+      → n * leg.ratio ≤ tier_side rests (market_side d leg.side) leg
       → n + total_size (rests_after d n (leg ∷ legs) rests) ≤ total_size rests
   unfolding after
   first_falls leg legs rests rise above enough =
@@ -126,8 +137,10 @@ module _ (d : Direction) where
       (formed_fit (record { side = tier_side rests (market_side d leg.side) leg; ratio = leg.ratio }) others) small k x lt
 
   -- the rests fall by at least as much as spreads are formed
-  pub formed_falls : (legs : List MonthLeg) (rests : List MonthUnits) → MonthsRise rests → 0 < length legs → All (λ leg. 0 < leg.ratio) legs
-      → spreads_formed (tier_rooms d legs rests) + total_size (rests_after d (spreads_formed (tier_rooms d legs rests)) legs rests) ≤ total_size rests
+  pub formed_falls : (legs : List MonthLeg) (rests : List MonthUnits) → MonthsRise rests → 0 < length legs
+      → All (λ leg. 0 < leg.ratio) legs
+      → spreads_formed (tier_rooms d legs rests) + total_size (rests_after d (spreads_formed (tier_rooms d legs rests)) legs rests)
+      ≤ total_size rests
   formed_falls [] rests rise some above = absurd (omega (arith, some))
   formed_falls (leg ∷ legs) rests rise some above =
       let others = tier_rooms d legs rests in
@@ -135,7 +148,8 @@ module _ (d : Direction) where
       first_falls d (spreads_formed (tier_rooms d (leg ∷ legs) rests)) leg legs rests rise (above 0 leg (omega arith)) fits.0
 
 -- both directions, one after the other
-pub both_ways : (t : TierRests) (s : Intra) (legs : List MonthLeg) (none first second : List MonthUnits) (n k charge : ℕ) → legs ≡ s.legs → none ≡ t.rests
+pub both_ways : (t : TierRests) (s : Intra) (legs : List MonthLeg) (none first second : List MonthUnits) (n k charge : ℕ)
+    → legs ≡ s.legs → none ≡ t.rests
     → n ≡ spreads_formed (tier_rooms ALong legs none) → first ≡ rests_after ALong n legs none
     → k ≡ spreads_formed (tier_rooms AShort legs first) → second ≡ rests_after AShort k legs first
     → charge ≡ t.charge + n * s.rate + k * s.rate → record { rests = second; charge = charge } ≡ spread_both_ways t s

@@ -1,5 +1,6 @@
 -- A leg uses just what it needs of its tier's side.
-use Rattle.std.proofs.Common.{◌≡◌, ℕ, ◌+◌, ◌-◌, ◌<◌, ◌≤◌, min, Bool, true, false, cond, List, [], ◌∷◌, ◌++◌, refl, sym, ap, ◌∙◌, arith, filter, sum_by}
+use Rattle.std.proofs.Common.{◌≡◌, ℕ, ◌+◌, ◌-◌, ◌<◌, ◌≤◌, min, Bool, true, false, cond, List, [], ◌∷◌}
+use Rattle.std.proofs.Common.{◌++◌, refl, sym, ap, ◌∙◌, arith, filter, sum_by}
 use Rattle.std.specs.Prelude.{nat_lt, ◌&&◌}
 use Rattle.std.specs.List.{AllByRecursion}
 use Rattle.std.proofs.lemmas.Bool.Decides.{nat_tests}
@@ -18,7 +19,8 @@ module _ (on : MarketSide) (leg : MonthLeg) where
   unfoldable pub weight : MonthUnits → ℕ
   weight m = cond (is_in_tier leg m) (part_on on m.units) 0
 
-  sum_if : (f : MonthUnits → ℕ) (b : Bool) (m : MonthUnits) (xs : List MonthUnits) → sum_by f (cond b (m ∷ xs) xs) ≡ cond b (f m) 0 + sum_by f xs
+  sum_if : (f : MonthUnits → ℕ) (b : Bool) (m : MonthUnits) (xs : List MonthUnits)
+      → sum_by f (cond b (m ∷ xs) xs) ≡ cond b (f m) 0 + sum_by f xs
   sum_if f true m xs = sum_by-cons f m xs
   sum_if f false m xs = omega arith
 
@@ -27,12 +29,16 @@ module _ (on : MarketSide) (leg : MonthLeg) where
   side-cons m ms = sum_if (λ x. part_on on x.units) (is_in_tier leg m) m (filter (is_in_tier leg) ms)
 
   pub side-append : (xs ys : List MonthUnits) → tier_side (xs ++ ys) on leg ≡ tier_side xs on leg + tier_side ys on leg
-  side-append xs ys = ap (sum_by (λ m. part_on on m.units)) (filter-append (is_in_tier leg) xs ys) ∙ sum_by-append (λ m. part_on on m.units) (filter (is_in_tier leg) xs) (filter (is_in_tier leg) ys)
+  side-append xs ys =
+      ap (sum_by (λ m. part_on on m.units)) (filter-append (is_in_tier leg) xs ys)
+      ∙ sum_by-append (λ m. part_on on m.units) (filter (is_in_tier leg) xs) (filter (is_in_tier leg) ys)
 
-  before-append : (xs ys : List MonthUnits) (p : ℕ) → side_before (xs ++ ys) on leg p ≡ side_before xs on leg p + side_before ys on leg p
+  before-append : (xs ys : List MonthUnits) (p : ℕ)
+      → side_before (xs ++ ys) on leg p ≡ side_before xs on leg p + side_before ys on leg p
   before-append xs ys p =
       let early : MonthUnits → Bool = λ m. is_in_tier leg m && nat_lt m.month p in
-      ap (sum_by (λ m. part_on on m.units)) (filter-append early xs ys) ∙ sum_by-append (λ m. part_on on m.units) (filter early xs) (filter early ys)
+      ap (sum_by (λ m. part_on on m.units)) (filter-append early xs ys)
+      ∙ sum_by-append (λ m. part_on on m.units) (filter early xs) (filter early ys)
 
   and_true : (a b : Bool) → b ≡ true → (a && b) ≡ a
   and_true true b e = e
@@ -43,7 +49,8 @@ module _ (on : MarketSide) (leg : MonthLeg) where
   and_false false b e = refl
 
   -- of months that are all earlier, the side before is the side
-  before_all : (xs : List MonthUnits) (p : ℕ) → AllByRecursion (λ x. x.month < p) xs → side_before xs on leg p ≡ tier_side xs on leg
+  before_all : (xs : List MonthUnits) (p : ℕ) → AllByRecursion (λ x. x.month < p) xs
+      → side_before xs on leg p ≡ tier_side xs on leg
   before_all [] p h = refl
   before_all (x ∷ xs) p h =
       let early : MonthUnits → Bool = λ m. is_in_tier leg m && nat_lt m.month p in
@@ -65,7 +72,8 @@ module _ (on : MarketSide) (leg : MonthLeg) where
       ∙ ap (λ b. cond b (part_on on x.units) 0 + side_before xs on leg p) (and_false (is_in_tier leg x) (nat_lt x.month p) t)
       ∙ (let rest = before_none xs p h.1 in omega (arith, rest))
 
-  later_or_same : (m : MonthUnits) (ms : List MonthUnits) → AllByRecursion (λ n. m.month < n.month) ms → AllByRecursion (λ n. m.month ≤ n.month) ms
+  later_or_same : (m : MonthUnits) (ms : List MonthUnits) → AllByRecursion (λ n. m.month < n.month) ms
+      → AllByRecursion (λ n. m.month ≤ n.month) ms
   later_or_same m [] h = tt
   later_or_same m (x ∷ xs) h = (let lt : m.month < x.month = h.0 in omega arith, later_or_same m xs h.1)
 
@@ -73,22 +81,26 @@ module _ (on : MarketSide) (leg : MonthLeg) where
   Below : List MonthUnits → List MonthUnits → Type 0
   Below front back = AllByRecursion (λ m. AllByRecursion (λ x. x.month < m.month) front) back
 
-  earlier_push : (front : List MonthUnits) (m n : MonthUnits) → AllByRecursion (λ x. x.month < n.month) front → m.month < n.month → AllByRecursion (λ x. x.month < n.month) (front ++ m ∷ [])
+  earlier_push : (front : List MonthUnits) (m n : MonthUnits) → AllByRecursion (λ x. x.month < n.month) front → m.month < n.month
+      → AllByRecursion (λ x. x.month < n.month) (front ++ m ∷ [])
   earlier_push [] m n h lt = (lt, tt)
   earlier_push (x ∷ xs) m n h lt = (h.0, earlier_push xs m n h.1 lt)
 
-  below_push : (front : List MonthUnits) (m : MonthUnits) (back : List MonthUnits) → Below front back → AllByRecursion (λ n. m.month < n.month) back → Below (front ++ m ∷ []) back
+  below_push : (front : List MonthUnits) (m : MonthUnits) (back : List MonthUnits) → Below front back
+      → AllByRecursion (λ n. m.month < n.month) back → Below (front ++ m ∷ []) back
   unfolding Below
   below_push front m [] h later = tt
   below_push front m (n ∷ ns) h later = (earlier_push front m n h.0 later.0, below_push front m ns h.1 later.1)
 
-  used_step : (b : Bool) (part needed side : ℕ) → cond b (min part (needed - side)) 0 + min needed side ≡ min needed (side + cond b part 0)
+  used_step : (b : Bool) (part needed side : ℕ)
+      → cond b (min part (needed - side)) 0 + min needed side ≡ min needed (side + cond b part 0)
   used_step true part needed side = omega arith
   used_step false part needed side = omega arith
 
   -- what the later months use, beside what the earlier ones used
   used_rest : (needed : ℕ) (front back : List MonthUnits) → Below front back → MonthsRise back
-      → sum_by (used_of_month (front ++ back) on leg needed) back + min needed (tier_side front on leg) ≡ min needed (tier_side front on leg + tier_side back on leg)
+      → sum_by (used_of_month (front ++ back) on leg needed) back + min needed (tier_side front on leg)
+      ≡ min needed (tier_side front on leg + tier_side back on leg)
   unfolding Below weight
   used_rest needed front [] below rise = omega arith
   used_rest needed front (m ∷ ms) below rise =
@@ -117,16 +129,19 @@ module _ (on : MarketSide) (leg : MonthLeg) where
   below_empty (m ∷ ms) = (tt, below_empty ms)
 
   -- a leg uses what it needs, where its side has that much
-  pub used_total : (rests : List MonthUnits) (needed : ℕ) → MonthsRise rests → needed ≤ tier_side rests on leg → sum_by (used_of_month rests on leg needed) rests ≡ needed
+  pub used_total : (rests : List MonthUnits) (needed : ℕ) → MonthsRise rests → needed ≤ tier_side rests on leg
+      → sum_by (used_of_month rests on leg needed) rests ≡ needed
   used_total rests needed rise enough =
       let all = used_rest needed [] rests (below_empty rests) rise in
       omega (arith, all, enough)
 
-  all_back : (x : MonthUnits) (front back : List MonthUnits) → AllByRecursion (λ (n : MonthUnits). x.month < n.month) (front ++ back) → AllByRecursion (λ (n : MonthUnits). x.month < n.month) back
+  all_back : (x : MonthUnits) (front back : List MonthUnits) → AllByRecursion (λ (n : MonthUnits). x.month < n.month) (front ++ back)
+      → AllByRecursion (λ (n : MonthUnits). x.month < n.month) back
   all_back x [] back h = h
   all_back x (y ∷ front) back h = all_back x front back h.1
 
-  below_cons : (x : MonthUnits) (front back : List MonthUnits) → AllByRecursion (λ (n : MonthUnits). x.month < n.month) back → Below front back → Below (x ∷ front) back
+  below_cons : (x : MonthUnits) (front back : List MonthUnits) → AllByRecursion (λ (n : MonthUnits). x.month < n.month) back
+      → Below front back → Below (x ∷ front) back
   unfolding Below
   below_cons x front [] h below = tt
   below_cons x front (m ∷ ms) h below = ((h.0, below.0), below_cons x front ms h.1 below.1)

@@ -9,7 +9,7 @@ use Rattle.span_tables.specs.declared.records.Spot.{Spot}
 unfoldable pub intra_charge : ℕ → ℕ
 intra_charge exact = div_ceil exact (10 ^ 4)
 
--- what is left of a month's delta after all spreads
+-- what is left of a month's delta after all spreads, in units of 10^-8
 abbrev pub left_of : List MonthUnits → ℕ → ℕ
 left_of rests p = nat_abs (units_at rests p)
 
@@ -17,7 +17,7 @@ left_of rests p = nat_abs (units_at rests p)
 abbrev pub used_of : List MonthUnits → List MonthUnits → ℕ → ℕ
 used_of deltas rests p = nat_abs (units_at deltas p) - left_of rests p
 
--- the charge of a spot month, in 10^-8
+-- the charge of a spot month, in 10^-8 minor units
 abbrev pub spot_charge : List MonthUnits → List MonthUnits → Spot → ℕ
 spot_charge deltas rests s = used_of deltas rests s.month * s.spread_rate + left_of rests s.month * s.outright_rate
 

@@ -33,14 +33,16 @@ month_units month units = record { month = month; units = units }
 abbrev pub calendar_spread : ℕ → Intra
 calendar_spread ratio = record {
   rate = 250;
-  legs = record { first = 202501; last = 202504; side = side.A; ratio = ratio } ∷ record { first = 202505; last = 202512; side = side.B; ratio = ratio } ∷ [];
+  legs = record { first = 202501; last = 202504; side = side.A; ratio = ratio }
+      ∷ record { first = 202505; last = 202512; side = side.B; ratio = ratio } ∷ [];
 }
 
 -- a spread of all months of 2025 against themselves
 abbrev pub own_spread : Intra
 own_spread = record {
   rate = 250;
-  legs = record { first = 202501; last = 202512; side = side.A; ratio = 10000 } ∷ record { first = 202501; last = 202512; side = side.B; ratio = 10000 } ∷ [];
+  legs = record { first = 202501; last = 202512; side = side.A; ratio = 10000 }
+      ∷ record { first = 202501; last = 202512; side = side.B; ratio = 10000 } ∷ [];
 }
 
 -- the spot month 202503

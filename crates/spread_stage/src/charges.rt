@@ -1,5 +1,6 @@
-//! The intracommodity charge and the delivery charge.
-ghost use Rattle.std.specs.Prelude.{option_copied, ◌≡◌, ◌+◌, ◌*◌, ◌/◌, ◌==◌, ◌≤◌, find, length, All, sum_by, nat_abs, pos};
+//! The intracommodity charge and the delivery charge (docs/METHOD.md, Charges).
+ghost use Rattle.std.specs.Prelude.{option_copied, ◌≡◌, ◌+◌, ◌*◌, ◌/◌, ◌==◌, ◌≤◌, find, length};
+ghost use Rattle.std.specs.Prelude.{All, sum_by, nat_abs, pos};
 ghost use Rattle.span_tables.specs.Accepted.{IsSpot};
 ghost use Rattle.span_tables.specs.declared.limits.TheConstants.{MAX_RATE, MAX_SPOT_MONTHS, MAX_UNITS};
 ghost use Rattle.spread_stage.specs.Charges.{delivery_charge, intra_charge, left_of, spot_charge, used_of};
@@ -13,15 +14,20 @@ use span_money::division::ceil_div;
 use span_tables::limits::{MAX_RATE, MAX_SPOT_MONTHS, MAX_UNITS};
 use span_tables::records::Spot;
 
-/// The largest intracommodity charge, in minor units: as many spreads as there are units, each at the largest rate.
-pub const MAX_INTRA_CHARGE: u128 = MAX_UNITS as u128 * MAX_RATE as u128 / 10_000;
+// One spread in 10^-4 spreads, and so one minor unit of the exact sum of spreads times rates.
+const WHOLE_SPREAD: u128 = 10_000;
+// One delta in units of 10^-8, and so one minor unit of the exact sum of units times rates.
+const WHOLE_DELTA: u128 = 100_000_000;
+
+/// The largest intracommodity charge, in minor units: as many 10^-4 spreads as there are units, at the largest rate.
+pub const MAX_INTRA_CHARGE: u128 = MAX_UNITS as u128 * MAX_RATE as u128 / WHOLE_SPREAD;
 
 /// The largest delivery charge, in minor units: all units in each spot month, used and left, at the largest rate.
 pub const MAX_DELIVERY_CHARGE: u128 = 2
     * MAX_UNITS as u128
     * MAX_RATE as u128
     * MAX_SPOT_MONTHS as u128
-    / 100_000_000;
+    / WHOLE_DELTA;
 
 /// The intracommodity charge of the spreads formed, in minor units, rounded up once.
 #[tactic(auto, unfolding(crate::specs::Charges::intra_charge))]
@@ -29,7 +35,7 @@ pub fn intra_charge(tiers: &TierState) -> Money
     ensures value { result ≡ pos (intra_charge tiers.now.charge) }
     ensures bound { nat_abs result ≤ MAX_INTRA_CHARGE }
 {
-    Money::new(ceil_div(tiers.charge(), 10_000) as i128)
+    Money::new(ceil_div(tiers.charge(), WHOLE_SPREAD) as i128)
 }
 
 // The month of a number, where it is held.
@@ -39,7 +45,7 @@ fn find_month(months: &[MonthUnits], month: u32) -> Option<&MonthUnits>
     months.iter().find(|m| m.month == month)
 }
 
-// What a month has, or 0 where it is not held.
+// What a month has, in units of 10^-8, or 0 where it is not held.
 fn units_at(months: &[MonthUnits], month: u32) -> Units
     ensures { result ≡ units_at months.now month }
 {
@@ -49,7 +55,7 @@ fn units_at(months: &[MonthUnits], month: u32) -> Units
     }
 }
 
-// The size of what a month has.
+// The size of what a month has, in units of 10^-8.
 #[tactic(auto, using(crate::proofs::SizeLemmas::units_at_le))]
 fn size_at(months: &[MonthUnits], month: u32) -> u128
     requires { total_size months.now ≤ MAX_UNITS }
@@ -59,7 +65,7 @@ fn size_at(months: &[MonthUnits], month: u32) -> u128
     u128::from(units_at(months, month).get().unsigned_abs())
 }
 
-// So many units at a rate.
+// So many units at a rate, in 10^-8 minor units.
 fn at_rate(units: u128, rate: u32) -> u128
     requires units { units ≤ MAX_UNITS }
     requires rate { rate ≤ MAX_RATE }
@@ -116,5 +122,5 @@ pub fn delivery(months: &Months, tiers: &TierState, spots: &[Spot]) -> Money
     ensures bound { nat_abs result ≤ MAX_DELIVERY_CHARGE }
 {
     let sum = spot_charges(months.as_slice(), tiers.rests(), spots);
-    Money::new(ceil_div(sum, 100_000_000) as i128)
+    Money::new(ceil_div(sum, WHOLE_DELTA) as i128)
 }

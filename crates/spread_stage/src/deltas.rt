@@ -1,4 +1,4 @@
-//! The deltas of the months in which an account holds contracts of a commodity.
+//! The deltas of the months in which an account holds contracts of a commodity (docs/METHOD.md, Deltas).
 ghost use Rattle.std.specs.Prelude.{◌≡◌, ◌+◌, ◌*◌, ◌≤◌, nat_abs, nat_le, position, OnOk, IfOk};
 ghost use Rattle.span_tables.specs.Accepted.{IsContract};
 ghost use Rattle.span_tables.specs.declared.limits.TheConstants.{MAX_DELTA, MAX_NET, MAX_SCALE, MAX_UNITS};
@@ -56,7 +56,8 @@ fn add(months: &mut Vec<MonthUnits>, month: u32, units: i64) -> Result<(), Alloc
     Ok(())
 }
 
-/// The months in which contracts are held, rising, each with the sum of its contracts' deltas.
+/// The months (`yyyymm`) in which contracts are held, rising, each with the sum of its contracts' deltas in units of 10^-8.
+/// `Err` is want of memory.
 #[tactic(auto, unfolding(crate::specs::Deltas::month_deltas))]
 pub fn month_deltas(alloc: Global, held: &Held) -> Result<Months, AllocError>
     ensures { IfOk result (λ months. months ≡ month_deltas held.now) }

@@ -1,4 +1,5 @@
-//! Month deltas, intracommodity spreads, and the intracommodity and delivery charges.
+//! Month deltas, intracommodity spreads, and the intracommodity and delivery charges (docs/METHOD.md, Deltas;
+//! Intracommodity spreads; Charges).
 #![tactic(auto)]
 
 pub mod charges;

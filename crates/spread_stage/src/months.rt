@@ -1,4 +1,4 @@
-//! Months with their delta positions.
+//! Months with their delta positions (docs/METHOD.md, Deltas).
 ghost use Rattle.std.specs.Prelude.{◌≡◌, ◌≤◌, nat_abs};
 ghost use Rattle.span_tables.specs.declared.limits.TheConstants.{MAX_UNITS};
 ghost use Rattle.spread_stage.specs.Deltas.{net_delta};
@@ -7,7 +7,7 @@ ghost use Rattle.spread_stage.specs.Months.{AreMonths};
 use span_money::amounts::Units;
 use std::marker::Model;
 
-/// A month (`yyyymm`) and a delta position in it: its delta, or what spreads left of it.
+/// A month (`yyyymm`) and a delta position in it, in units of 10^-8: its delta, or what spreads left of it.
 #[derive(Clone, Copy, Debug, PartialEq, Eq)]
 pub struct MonthUnits {
     pub month: u32,
@@ -62,7 +62,7 @@ impl Months {
         &self.months
     }
 
-    /// The net delta: the sum over the months.
+    /// The net delta: the sum over the months, in units of 10^-8.
     pub fn net(&self) -> Units
         ensures value { result ≡ net_delta self.now }
         ensures bound { nat_abs result ≤ MAX_UNITS }

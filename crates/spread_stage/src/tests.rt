@@ -11,7 +11,7 @@ use crate::tiers::{TierState, spread, start};
 use arrayvec::ArrayVec;
 use span_money::amounts::{Delta, Ratio, Scale};
 use span_tables::held::Held;
-use span_tables::limits::{MAX_NET, MAX_RATE, MAX_RATIO};
+use span_tables::limits::{MAX_LEGS, MAX_NET, MAX_RATE, MAX_RATIO, MIN_LEGS, SCENARIOS};
 use span_tables::name::Name;
 use span_tables::portfolios::Holding;
 use span_tables::records::{Contract, Intra, MonthLeg, ProductKind, Side, Spot};
@@ -31,7 +31,7 @@ fn future(month: u32) -> Contract
         month,
         delta: Delta::new(10_000),
         scale: Scale::new(10_000),
-        values: [0; 16],
+        values: [0; SCENARIOS],
     }
 }
 
@@ -51,6 +51,7 @@ fn held(rt: &impl Abort, alloc: Global, positions: &[(u32, i64)]) -> Result<Held
     Ok(Held::new(Arc::new(alloc, contracts)?, holdings))
 }
 
+// A leg on the months from the first to the last, with a whole ratio.
 fn leg(first: u32, last: u32, side: Side, ratio: u32) -> MonthLeg
     requires { ratio < 10 }
 {
@@ -62,28 +63,42 @@ fn leg(first: u32, last: u32, side: Side, ratio: u32) -> MonthLeg
     }
 }
 
+// The legs of a spread of the months before 202505 against the later ones, with this ratio on both.
+fn calendar_legs(ratio: u32) -> [MonthLeg; 2]
+    requires { ratio < 10 }
+{
+    [
+        leg(202501, 202504, Side::A, ratio),
+        leg(202505, 202512, Side::B, ratio),
+    ]
+}
+
+// Whether all ratios are above 0.
 fn are_above(legs: &[MonthLeg]) -> bool
     ensures { IsTrue result ↔ All (λ leg. 0 < leg.ratio) legs.now }
 {
     legs.iter().all(|leg| leg.ratio.get() > 0)
 }
 
+// Whether all ratios are within their limit.
 fn are_within(legs: &[MonthLeg]) -> bool
     ensures { IsTrue result ↔ All (λ leg. leg.ratio ≤ MAX_RATIO) legs.now }
 {
     legs.iter().all(|leg| leg.ratio.get() <= MAX_RATIO)
 }
 
+// A spread of these legs.
 fn intra(rt: &impl Abort, rate: u32, legs: &[MonthLeg]) -> Intra
     ensures { IsIntra result }
 {
     assert!(rt; rate <= MAX_RATE);
-    assert!(rt; legs.len() >= 2 && legs.len() <= 4);
+    assert!(rt; MIN_LEGS <= legs.len() && legs.len() <= MAX_LEGS);
     assert!(rt; are_above(legs));
     assert!(rt; are_within(legs));
     Intra::new(rate, ArrayVec::try_from(legs).expect(rt, "few legs"))
 }
 
+// A spot month with its two rates.
 fn spot(rt: &impl Abort, month: u32, spread_rate: u32, outright_rate: u32) -> Spot
     ensures { IsSpot result }
 {
@@ -97,6 +112,7 @@ fn spot(rt: &impl Abort, month: u32, spread_rate: u32, outright_rate: u32) -> Sp
     }
 }
 
+// Compares months and their units with those that are expected.
 fn expect_months(rt: &impl Abort, months: &[MonthUnits], want: &[(u32, i64)], case: &str) {
     assert_eq!(rt; months.len(), want.len(), "{case}");
     for (got, want) in months.iter().zip(want) {
@@ -117,11 +133,7 @@ fn two_tiers_and_a_spot_month(rt: HostRuntime) -> Result<(), Fail> {
     expect_months(&rt, tiers.rests(), &deltas, "start");
     assert_eq!(rt; tiers.charge(), 0);
 
-    let legs = [
-        leg(202501, 202504, Side::A, 1),
-        leg(202505, 202512, Side::B, 1),
-    ];
-    let tiers = spread(rt.alloc(), &tiers, &intra(&rt, 250, &legs))?;
+    let tiers = spread(rt.alloc(), &tiers, &intra(&rt, 250, &calendar_legs(1)))?;
     expect_months(
         &rt,
         tiers.rests(),
@@ -182,6 +194,21 @@ fn expect_case(
     Ok(())
 }
 
+// The same of one calendar spread at 250 a spread, and of one spot month at 10 a delta used and 20 a delta left.
+fn expect_calendar_case(
+    rt: &impl Abort,
+    alloc: Global,
+    case: &Case,
+    ratio: u32,
+    spot_month: u32,
+) -> Result<(), Fail>
+    requires { ratio < 10 }
+{
+    let spreads = [intra(rt, 250, &calendar_legs(ratio))];
+    let spots = [spot(rt, spot_month, 10, 20)];
+    expect_case(rt, alloc, case, &spreads, &spots)
+}
+
 #[test]
 fn part_of_a_spread(rt: HostRuntime) -> Result<(), Fail> {
     let case = Case {
@@ -192,17 +219,7 @@ fn part_of_a_spread(rt: HostRuntime) -> Result<(), Fail> {
         intra_charge: 84,
         delivery: 11,
     };
-    let legs = [
-        leg(202501, 202504, Side::A, 3),
-        leg(202505, 202512, Side::B, 3),
-    ];
-    expect_case(
-        &rt,
-        rt.alloc(),
-        &case,
-        &[intra(&rt, 250, &legs)],
-        &[spot(&rt, 202503, 10, 20)],
-    )
+    expect_calendar_case(&rt, rt.alloc(), &case, 3, 202503)
 }
 
 #[test]
@@ -215,17 +232,7 @@ fn earliest_month_is_used_first(rt: HostRuntime) -> Result<(), Fail> {
         intra_charge: 500,
         delivery: 30,
     };
-    let legs = [
-        leg(202501, 202504, Side::A, 1),
-        leg(202505, 202512, Side::B, 1),
-    ];
-    expect_case(
-        &rt,
-        rt.alloc(),
-        &case,
-        &[intra(&rt, 250, &legs)],
-        &[spot(&rt, 202504, 10, 20)],
-    )
+    expect_calendar_case(&rt, rt.alloc(), &case, 1, 202504)
 }
 
 #[test]
@@ -238,17 +245,7 @@ fn second_direction(rt: HostRuntime) -> Result<(), Fail> {
         intra_charge: 500,
         delivery: 40,
     };
-    let legs = [
-        leg(202501, 202504, Side::A, 1),
-        leg(202505, 202512, Side::B, 1),
-    ];
-    expect_case(
-        &rt,
-        rt.alloc(),
-        &case,
-        &[intra(&rt, 250, &legs)],
-        &[spot(&rt, 202503, 10, 20)],
-    )
+    expect_calendar_case(&rt, rt.alloc(), &case, 1, 202503)
 }
 
 #[test]

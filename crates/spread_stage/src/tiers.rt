@@ -1,4 +1,5 @@
-//! The rests of months after intracommodity spreads, and the exact charge of the spreads.
+//! The rests of months after intracommodity spreads, and the exact charge of the spreads (docs/METHOD.md, Intracommodity
+//! spreads; Charges).
 ghost use Rattle.std.specs.Prelude.{◌≡◌, false, ℕ, ◌+◌, ◌*◌, ◌<◌, ◌≤◌, List, [], ◌∷◌, length, All, IfOk};
 ghost use Rattle.span_tables.specs.Accepted.{IsIntra};
 ghost use Rattle.span_tables.specs.Sides.{spreads_formed};
@@ -68,7 +69,8 @@ impl TierState {
         })
     }
 
-    /// Whether a spread may be formed. `false` tells that it changes nothing.
+    /// Whether a spread may be formed. `false` tells that it changes nothing; `true` tells nothing, since a side that spreads
+    /// used up still counts.
     pub fn may_spread(&self, intra: &Intra) -> bool
         ensures { result ≡ false → spread_both_ways self.now intra.now ≡ self.now }
     {
@@ -95,7 +97,7 @@ fn is_in_tier(leg: &MonthLeg, month: &MonthUnits) -> bool
     leg.first <= month.month && month.month <= leg.last
 }
 
-// The side of a leg's tier: the sum of its months' parts.
+// The side of a leg's tier, in units of 10^-8: the sum of its months' parts.
 fn tier_side(rests: &[MonthUnits], on: MarketSide, leg: &MonthLeg) -> u64
     requires { total_size rests.now ≤ MAX_UNITS }
     ensures { result ≡ tier_side rests.now on leg.now }
@@ -141,7 +143,7 @@ fn spreads_formed(rests: &[MonthUnits], direction: Direction, legs: &[MonthLeg])
     }
 }
 
-// What a leg uses of a month that still needs so many units.
+// What a leg that still needs so many units uses of a month.
 fn used_now(month: &MonthUnits, on: MarketSide, leg: &MonthLeg, needed: u64) -> u64
     ensures { result ≡ used_now on leg.now needed month.now }
 {
@@ -231,7 +233,7 @@ fn charge_of(formed: u64, rate: u32) -> u128
     u128::from(formed) * u128::from(rate)
 }
 
-/// The state before any spread: each month's rest is its delta, and nothing is charged.
+/// The state before any spread: each month's rest is its delta, and nothing is charged. `Err` is want of memory.
 pub fn start(alloc: Global, months: &Months) -> Result<TierState, AllocError>
     ensures value { IfOk result (λ tiers. tiers ≡ unspread months.now) }
     ensures shrinks { IfOk result (λ tiers. Shrinks months.now tiers.rests) }
@@ -263,7 +265,8 @@ fn spread_rests(rests: &mut [MonthUnits], sides: &OpenSides, intra: &Intra) -> u
     charge_of(first, intra.rate()) + charge_of(second, intra.rate())
 }
 
-/// The state after one more spread, formed in both directions, with side A long first.
+/// The state after one more spread, formed in both directions, with side A long first. `Err` is want of memory, and `tiers`
+/// stays as it was.
 pub fn spread(alloc: Global, tiers: &TierState, intra: &Intra) -> Result<TierState, AllocError>
     requires { IsIntra intra.now }
     ensures value { IfOk result (λ t. t ≡ spread_both_ways tiers.now intra.now) }

@@ -16,7 +16,8 @@ fn deltas_of_two_months()
 // Two spreads of ratio 1 at rate 250 leave one long delta.
 #[tactic(auto, unfolding(crate::specs::Spreads::after_spreads, crate::specs::Spreads::spread_both_ways))]
 fn rests_of_one_spread()
-    ensures { after_spreads (calendar_spread 10000 ∷ []) (month_units 202503 (pos 300000000) ∷ month_units 202506 (neg_ℤ (pos 200000000)) ∷ [])
+    ensures { after_spreads (calendar_spread 10000 ∷ [])
+        (month_units 202503 (pos 300000000) ∷ month_units 202506 (neg_ℤ (pos 200000000)) ∷ [])
         ≡ record { rests = month_units 202503 (pos 100000000) ∷ month_units 202506 (pos 0) ∷ []; charge = 5000000 } }
 {}
 
@@ -29,13 +30,15 @@ fn charges_of_one_spread()
 // Two deltas used at 10 and one left at 20.
 #[tactic(auto, unfolding(crate::specs::Charges::delivery_charge))]
 fn delivery_of_one_spread()
-    ensures { delivery_charge (month_units 202503 (pos 300000000) ∷ []) (month_units 202503 (pos 100000000) ∷ []) (march ∷ []) ≡ 40 }
+    ensures { delivery_charge (month_units 202503 (pos 300000000) ∷ []) (month_units 202503 (pos 100000000) ∷ []) (march ∷ [])
+        ≡ 40 }
 {}
 
 // A third of a spread leaves 10000 units on each month.
 #[tactic(auto, unfolding(crate::specs::Spreads::after_spreads, crate::specs::Spreads::spread_both_ways))]
 fn rests_of_a_third()
-    ensures { after_spreads (calendar_spread 30000 ∷ []) (month_units 202503 (pos 100000000) ∷ month_units 202506 (neg_ℤ (pos 100000000)) ∷ [])
+    ensures { after_spreads (calendar_spread 30000 ∷ [])
+        (month_units 202503 (pos 100000000) ∷ month_units 202506 (neg_ℤ (pos 100000000)) ∷ [])
         ≡ record { rests = month_units 202503 (pos 10000) ∷ month_units 202506 (neg_ℤ (pos 10000)) ∷ []; charge = 833250 } }
 {}
 
@@ -48,14 +51,19 @@ fn charge_of_a_third()
 // The earliest month of a tier is used first.
 #[tactic(auto, unfolding(crate::specs::Spreads::after_spreads, crate::specs::Spreads::spread_both_ways))]
 fn earliest_month_first()
-    ensures { after_spreads (calendar_spread 10000 ∷ []) (month_units 202503 (pos 100000000) ∷ month_units 202504 (pos 200000000) ∷ month_units 202506 (neg_ℤ (pos 200000000)) ∷ [])
-        ≡ record { rests = month_units 202503 (pos 0) ∷ month_units 202504 (pos 100000000) ∷ month_units 202506 (pos 0) ∷ []; charge = 5000000 } }
+    ensures { after_spreads (calendar_spread 10000 ∷ [])
+        (month_units 202503 (pos 100000000) ∷ month_units 202504 (pos 200000000) ∷ month_units 202506 (neg_ℤ (pos 200000000)) ∷ [])
+        ≡ record {
+          rests = month_units 202503 (pos 0) ∷ month_units 202504 (pos 100000000) ∷ month_units 202506 (pos 0) ∷ [];
+          charge = 5000000;
+        } }
 {}
 
 // With side A short and B long.
 #[tactic(auto, unfolding(crate::specs::Spreads::after_spreads, crate::specs::Spreads::spread_both_ways))]
 fn rests_of_the_second_direction()
-    ensures { after_spreads (calendar_spread 10000 ∷ []) (month_units 202503 (neg_ℤ (pos 300000000)) ∷ month_units 202506 (pos 200000000) ∷ [])
+    ensures { after_spreads (calendar_spread 10000 ∷ [])
+        (month_units 202503 (neg_ℤ (pos 300000000)) ∷ month_units 202506 (pos 200000000) ∷ [])
         ≡ record { rests = month_units 202503 (neg_ℤ (pos 100000000)) ∷ month_units 202506 (pos 0) ∷ []; charge = 5000000 } }
 {}
 

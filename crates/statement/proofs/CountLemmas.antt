@@ -12,4 +12,5 @@ unfolding counts_form counts_line
 counts_form_is t =
     let texts = decimal (length t.commodities) ∷ decimal (length t.contracts) ∷ decimal (length t.tiers)
     ∷ decimal (length t.intras) ∷ decimal (length t.spots) ∷ decimal (length t.inters) ∷ [] in
-    ap (λ x. x ++ 10 ∷ []) (append_assoc (codes "OK") (field t.set_id) (flat_map field texts) ∙ sym (joined (codes "OK") (t.set_id ∷ texts)))
+    ap (λ x. x ++ 10 ∷ []) (append_assoc (codes "OK") (field t.set_id) (flat_map field texts)
+    ∙ sym (joined (codes "OK") (t.set_id ∷ texts)))

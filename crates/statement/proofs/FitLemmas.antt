@@ -1,5 +1,6 @@
 -- The portfolios that positions are bound to fit the tables.
-use Rattle.std.proofs.Common.{◌≡◌, ℕ, ◌+◌, ◌≤◌, ◌<◌, Bool, true, false, cond, List, [], ◌∷◌, length, map, filter, Option, Some, None, Ok, refl, subst, arith}
+use Rattle.std.proofs.Common.{◌≡◌, ℕ, ◌+◌, ◌≤◌, ◌<◌, Bool, true, false, cond, List, [], ◌∷◌}
+use Rattle.std.proofs.Common.{length, map, filter, Option, Some, None, Ok, refl, subst, arith}
 use Rattle.std.specs.Prelude.{All, nat_lt}
 use Rattle.std.specs.List.{enumerate_from}
 use Rattle.std.proofs.lemmas.Bool.Decides.{nat_tests}
@@ -14,7 +15,8 @@ use Rattle.span_tables.specs.declared.records.Contract.{Contract}
 use Rattle.span_tables.specs.declared.records.PositionRecord.{PositionRecord}
 use Rattle.param_check.specs.declared.faults.BindFault.{BindFault}
 
-fits_if : (n : ℕ) (b : Bool) (h : Holding) (hs : List Holding) → h.contract < n → fits n hs ≡ true → fits n (cond b (h ∷ hs) hs) ≡ true
+fits_if : (n : ℕ) (b : Bool) (h : Holding) (hs : List Holding) → h.contract < n → fits n hs ≡ true
+    → fits n (cond b (h ∷ hs) hs) ≡ true
 fits_if n true h hs lt rest = let first : nat_lt h.contract n ≡ true = grind (arith, nat_tests, lt) in rw (first) rest
 fits_if n false h hs lt rest = rest
 
@@ -29,9 +31,12 @@ pub bound_fits : (contracts : List Contract) (positions : List PositionRecord) (
     → bindings_of contracts positions ≡ Ok portfolios → All (λ p. fits (length contracts) p.holdings ≡ true) portfolios
 unfolding bindings_of portfolios_of
 bound_fits contracts positions portfolios e = by_fault (bind_fault contracts positions) e where
-  by_fault : (o : Option BindFault) → ok_unless o (portfolios_of contracts positions) ≡ Ok portfolios → All (λ p. fits (length contracts) p.holdings ≡ true) portfolios
+  by_fault : (o : Option BindFault) → ok_unless o (portfolios_of contracts positions) ≡ Ok portfolios
+      → All (λ p. fits (length contracts) p.holdings ≡ true) portfolios
   by_fault (Some f) e = cc
   by_fault None e = let same : portfolios_of contracts positions ≡ portfolios = cc in
       subst (All (λ p. fits (length contracts) p.holdings ≡ true)) same
-      (All-map (λ p. fits (length contracts) p.holdings ≡ true) (λ account. record { account = account; holdings = holdings_of contracts positions account })
-      (accounts_of positions) (λ k d lt. numbered_fit (length contracts) 0 positions (slice_index_or (accounts_of positions) k d) contracts (omega arith)))
+      (All-map (λ p. fits (length contracts) p.holdings ≡ true)
+      (λ account. record { account = account; holdings = holdings_of contracts positions account })
+      (accounts_of positions)
+      (λ k d lt. numbered_fit (length contracts) 0 positions (slice_index_or (accounts_of positions) k d) contracts (omega arith)))

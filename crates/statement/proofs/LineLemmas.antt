@@ -23,7 +23,8 @@ pub figures_form_is : (account set_id : List ℕ) (c : CommodityRow) → figures
 unfolding figures_form figures_line
 figures_form_is account set_id c =
     let f = c.figures in
-    let texts = signed_decimal f.scan ∷ decimal f.active ∷ signed_decimal f.intra ∷ signed_decimal f.delivery ∷ signed_decimal f.credit ∷ signed_decimal f.minimum ∷ signed_decimal f.requirement ∷ [] in
+    let texts = signed_decimal f.scan ∷ decimal f.active ∷ signed_decimal f.intra ∷ signed_decimal f.delivery
+    ∷ signed_decimal f.credit ∷ signed_decimal f.minimum ∷ signed_decimal f.requirement ∷ [] in
     three_and_more 82 (field account) (field set_id) (field c.commodity) (flat_map field texts) (10 ∷ [])
     ∙ ap (λ t. t ++ 10 ∷ []) (sym (joined (82 ∷ []) (account ∷ set_id ∷ c.commodity ∷ texts)))
 

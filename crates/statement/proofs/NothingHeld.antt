@@ -18,7 +18,18 @@ minimum_of_nothing rate method.Sum = mul-zero rate
 minimum_of_nothing rate method.Max = mul-zero rate
 
 pub stages_of_nothing : (tables : AcceptedTables) (c : Commodity)
-    → record { is_held = false; scan = record { risk = pos 0; active = 1; paired = 2; price2 = 0 }; net = pos 0; intra = pos 0; delivery = pos 0; minimum = pos 0 } ≡ stages_from tables c []
+    → record {
+      is_held = false;
+      scan = record { risk = pos 0; active = 1; paired = 2; price2 = 0 };
+      net = pos 0;
+      intra = pos 0;
+      delivery = pos 0;
+      minimum = pos 0;
+    } ≡ stages_from tables c []
 unfolding stages_from month_deltas scan_of scenario_sums intra_charge
 stages_of_nothing tables c =
-    rw (after_spreads_of_nothing (intras_of tables c.id), delivery_of_nothing (spots_of tables c.id), minimum_of_nothing c.minimum_rate c.method) refl
+    rw (
+      after_spreads_of_nothing (intras_of tables c.id),
+      delivery_of_nothing (spots_of tables c.id),
+      minimum_of_nothing c.minimum_rate c.method,
+    ) refl

@@ -5,6 +5,7 @@ pub mod FaultLines
 pub mod Figures
 pub mod OnLiterals
 pub mod Rows
+pub mod Samples
 pub mod SpanFaults
 pub mod Statement
 pub mod steps

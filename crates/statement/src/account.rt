@@ -74,7 +74,7 @@ fn held_rows(
     Ok(rows)
 }
 
-/// The row of an account under accepted tables.
+/// The row of an account under accepted tables (docs/METHOD.md, Minimum and requirement).
 pub fn margin_account(
     alloc: Global,
     tables: &Tables,

@@ -32,7 +32,7 @@ fn write_parts(alloc: Global, tables: &Tables) -> Result<Vec<u8>, AllocError>
 }
 
 /// The line of accepted tables: `OK`, the id of the set, and how many commodities, contracts, tiers, intracommodity
-/// spreads, spot months and intercommodity spreads they have.
+/// spreads, spot months and intercommodity spreads they have (docs/FORMATS.md, Commands).
 pub fn write_counts(alloc: Global, tables: &Tables) -> Result<Vec<u8>, AllocError>
     ensures { IfOk result (λ text. text.items ≡ counts_line tables.now) }
 {

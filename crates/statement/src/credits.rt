@@ -34,7 +34,8 @@ fn spread_all(state: &mut InterState, spreads: &[Inter])
     }
 }
 
-/// The commodities of these stages after the intercommodity spreads, in their order.
+/// The commodities of these stages after the intercommodity spreads, in their order (docs/METHOD.md, Intercommodity
+/// spreads).
 pub fn credit_state(
     alloc: Global,
     all: &[Stages],

@@ -1,5 +1,6 @@
-//! Why there is no statement, and the line and the exit status that say so.
-ghost use Rattle.statement.specs.FaultLines.{account_line, bind_line, check_line, fault_line, fault_status, param_line, place_text, position_line, record_line};
+//! Why there is no statement, and the line and the exit status that say so (docs/FORMATS.md, Fault lines and statuses).
+ghost use Rattle.statement.specs.FaultLines.{account_line, bind_line, check_line, fault_line, fault_status, param_line};
+ghost use Rattle.statement.specs.FaultLines.{place_text, position_line, record_line};
 ghost use Rattle.statement.specs.SpanFaults.{of_bind, of_check, of_params, of_positions};
 ghost use Rattle.statement.specs.declared.faults.SpanFault.TheVariants as fault;
 ghost use Rattle.statement.specs.steps.LineParts.{text_of};

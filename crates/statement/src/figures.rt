@@ -11,13 +11,13 @@ use inter_credit::requirement::requirement;
 use inter_credit::state::InterState;
 use span_money::amounts::Money;
 
-/// The size of a commodity's requirement, in minor units.
+/// How large a commodity's requirement may be either way, in minor units (docs/METHOD.md, Limits).
 pub const MAX_REQUIREMENT: u128 = 300_000_000_000_000_000_000;
 
-/// The seven figures of a commodity of an account, the amounts in minor units.
+/// The seven figures of a commodity of an account, the amounts in minor units (docs/METHOD.md, Minimum and requirement).
 #[derive(Clone, Copy, Debug, PartialEq, Eq)]
 pub struct Figures {
-    /// Scan risk.
+    /// Scan risk: the largest loss.
     pub scan: Money,
     /// The active scenario, from 1 to 16.
     pub active: u8,
@@ -25,7 +25,7 @@ pub struct Figures {
     pub intra: Money,
     /// The delivery charge.
     pub delivery: Money,
-    /// The intercommodity credit.
+    /// The intercommodity credit, which is subtracted.
     pub credit: Money,
     /// The short option minimum.
     pub minimum: Money,
@@ -33,7 +33,7 @@ pub struct Figures {
     pub requirement: Money,
 }
 
-/// The figures of a commodity's stages with the credit of its number.
+/// The figures of a commodity's stages with the credit of its number (docs/METHOD.md, Minimum and requirement).
 pub fn add_credit(stages: &Stages, state: &InterState, number: usize) -> Figures
     requires bounds { AreBounded stages.now }
     requires number { number < length state.now }

@@ -121,7 +121,8 @@ fn push_total(
     push_total_parts(out, account, set_id, total)
 }
 
-/// Appends the lines of an account: its figures in each commodity that it holds, in file order, and its total.
+/// Appends the lines of an account: its figures in each commodity that it holds, in file order, and its total
+/// (docs/FORMATS.md, Statement).
 #[tactic(auto, unfolding(crate::specs::Statement::row_text))]
 pub fn push_row(out: &mut Vec<u8>, row: &Row) -> Result<(), AllocError>
     ensures { OnOk result (out.new.items ≡ out.old.items ++ row_text row.now) }

@@ -15,7 +15,7 @@ use span_tables::portfolios::Portfolios;
 use span_tables::tables::Tables;
 use std::alloc::{AllocError, Global};
 
-/// The statement of portfolios under accepted tables, in their order.
+/// The statement of portfolios under accepted tables, in their order (docs/FORMATS.md, Statement).
 #[tactic(auto, unfolding(crate::specs::Statement::statement_text))]
 pub fn margin_portfolios(
     alloc: Global,
@@ -45,7 +45,7 @@ fn margin_positions(alloc: Global, tables: &Tables, positions: &[u8]) -> Result<
 }
 
 /// The statement of two files, or the first fault in reading the parameters, checking them, reading the positions and
-/// binding them; or want of memory.
+/// binding them; or want of memory (docs/METHOD.md has the figures, docs/FORMATS.md the faults).
 #[tactic(auto, unfolding(crate::specs::Statement::statement_of))]
 pub fn margin_plain(alloc: Global, params: &[u8], positions: &[u8]) -> Result<Vec<u8>, SpanFault>
     ensures { GivesText (λ text. text.items) result (statement_of params.now positions.now) }

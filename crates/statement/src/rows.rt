@@ -13,7 +13,8 @@ pub struct CommodityRow {
     pub figures: Figures,
 }
 
-/// What a statement shows of an account: its figures in each commodity that it holds, in file order, and its total.
+/// What a statement shows of an account: its figures in each commodity that it holds, in file order, and its total, in
+/// minor units (docs/METHOD.md, Minimum and requirement).
 #[derive(Drop)]
 pub struct Row {
     account: Name,
@@ -64,7 +65,7 @@ impl Row {
         &self.held
     }
 
-    /// The sum of the requirements of all commodities.
+    /// The sum of the requirements of all commodities, in minor units.
     pub fn total(&self) -> Money
         ensures { result ≡ self.now.total }
     {

@@ -25,20 +25,21 @@ use spread_stage::months::Months;
 use spread_stage::tiers::{TierState, start};
 use std::alloc::{AllocError, Global};
 
-/// What the stages of a commodity by itself give: all of its figures but the credit, and its net delta.
+/// What the stages of a commodity by itself give: all of its figures but the credit and the requirement, which needs it, and
+/// its net delta. Amounts are in minor units.
 #[derive(Clone, Copy, Debug)]
 pub struct Stages {
     /// Whether the account holds a contract of the commodity.
     pub is_held: bool,
-    /// The scan of its scenario sums.
+    /// The scan of its scenario sums (docs/METHOD.md, Scan).
     pub scan: Scan,
-    /// Its net delta.
+    /// Its net delta, in 10^-8 (docs/METHOD.md, Deltas).
     pub net: Units,
-    /// The intracommodity charge.
+    /// The intracommodity charge (docs/METHOD.md, Charges).
     pub intra: Money,
-    /// The delivery charge.
+    /// The delivery charge (docs/METHOD.md, Charges).
     pub delivery: Money,
-    /// The short option minimum.
+    /// The short option minimum (docs/METHOD.md, Minimum and requirement).
     pub minimum: Money,
 }
 
@@ -103,7 +104,8 @@ fn stages_of(
     })
 }
 
-/// The stages of the commodity of a number, of the contracts of it that an account holds.
+/// The stages of the commodity of a number, of the contracts of it that an account holds (docs/METHOD.md, Scan, Deltas,
+/// Intracommodity spreads, Charges, and of the last section the minimum).
 pub fn compute_held(
     alloc: Global,
     tables: &Tables,
@@ -123,7 +125,7 @@ pub fn compute_held(
     }
 }
 
-/// The stages of each commodity, by its number, for an account.
+/// The stages of each commodity, by its number, for an account: those of `compute_held`.
 pub fn all_stages(
     alloc: Global,
     tables: &Tables,

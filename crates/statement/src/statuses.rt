@@ -1,4 +1,4 @@
-//! Exit statuses.
+//! Exit statuses (docs/FORMATS.md, Fault lines and statuses).
 
 /// Done.
 pub const DONE: u8 = 0;

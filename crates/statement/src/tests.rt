@@ -1,3 +1,4 @@
+//! Statements, lines of rows and lines of faults, also where memory or room is refused.
 use crate::faults::{SpanFault, status, tell_fault, write_fault};
 use crate::figures::Figures;
 use crate::lines::write;
@@ -12,30 +13,38 @@ use std::alloc::Global;
 use std::process::Abort;
 use std::test::Fail;
 
-const PARAMS: &[u8] = b"SET,D1,1,USD
+// A record of each kind.
+const PARAMS: &[u8] = b"\
+SET,D1,1,USD
 COMMODITY,AA,0,SUM
 COMMODITY,BB,0,SUM
-COMMODITY,CC,0,SUM
 CONTRACT,FA,AA,F,202503,1,1,0,0,-400,-400,400,400,-800,-800,800,800,-1200,-1200,1200,1200,-1188,1188
+CONTRACT,FA2,AA,F,202506,1,1,0,0,-400,-400,400,400,-800,-800,800,800,-1200,-1200,1200,1200,-1188,1188
 CONTRACT,FB,BB,F,202503,1,1,0,0,-300,-300,300,300,-600,-600,600,600,-900,-900,900,900,-891,891
-CONTRACT,FC,CC,F,202503,1,1,0,0,-100,-100,100,100,-200,-200,200,200,-300,-300,300,300,-297,297
+TIER,AA,1,202501,202504
+TIER,AA,2,202505,202512
+INTRA,AA,1,250,1,A,1,2,B,1
+SPOT,AA,202503,10,20
 INTER,1,5000,AA,A,1,BB,B,1
-INTER,2,2000,AA,A,1,CC,B,1
 ";
 
-const POSITIONS: &[u8] = b"X,FA,3
-X,FB,-1
-X,FC,-1
+const POSITIONS: &[u8] = b"\
+X,FA,3
+X,FA2,-2
+X,FB,-3
 ";
 
-const STATEMENT: &[u8] = b"R,X,D1,AA,3600,13,0,0,840,0,2760
-R,X,D1,BB,900,11,0,0,450,0,450
-R,X,D1,CC,300,11,0,0,60,0,240
-T,X,D1,3450
+// AA: a net delta of 1 at 1200; two spreads at 250; one month left at 20 and two spreads of it at 10; half of 1200.
+// BB: three deltas at 900, of which one earns half.
+const STATEMENT: &[u8] = b"\
+R,X,D1,AA,1200,13,500,40,600,0,1140
+R,X,D1,BB,2700,11,0,0,450,0,2250
+T,X,D1,3390
 ";
 
 // The set has a commodity twice.
-const REPEATED: &[u8] = b"SET,D1,1,USD
+const REPEATED: &[u8] = b"\
+SET,D1,1,USD
 COMMODITY,AA,0,SUM
 COMMODITY,AA,0,SUM
 ";
@@ -45,7 +54,7 @@ fn name(text: &[u8]) -> Name {
 }
 
 #[test]
-fn three_commodities_two_spreads(rt: HostRuntime) -> Result<(), Fail> {
+fn spreads_of_both_kinds(rt: HostRuntime) -> Result<(), Fail> {
     let text = margin_plain(rt.alloc(), PARAMS, POSITIONS)?;
     assert_eq!(rt; text.as_slice(), STATEMENT);
     Ok(())

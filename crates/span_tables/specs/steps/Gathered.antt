@@ -1,6 +1,5 @@
 -- What an account holds of a commodity, as numbers of contracts with their nets.
 use Rattle.std.specs.Prelude.{ℕ, List, [], filter, option_map, unwrap_or, slice_get, bytes_eq}
-pub use Rattle.span_tables.specs.Holdings.{AreHoldings}
 use Rattle.span_tables.specs.declared.portfolios.Holding.{Holding}
 use Rattle.span_tables.specs.declared.records.Contract.{Contract}
 

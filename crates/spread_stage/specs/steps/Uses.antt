@@ -14,7 +14,7 @@ with_units p units (m ∷ ms) =
     else if p == m.month then record { month = m.month; units = m.units +ℤ units } ∷ ms
     else m ∷ with_units p units ms
 
--- what a leg uses of a month that still needs so many units
+-- what a leg that still needs so many units uses of a month
 abbrev pub used_now : MarketSide → MonthLeg → ℕ → MonthUnits → ℕ
 used_now on leg needed m = if is_in_tier leg m then min (part_on on m.units) needed else 0
 

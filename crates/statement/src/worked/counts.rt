@@ -5,7 +5,7 @@ ghost use Rattle.param_check.specs.declared.faults.CheckFault.TheVariants as che
 ghost use Rattle.span_csv.specs.declared.faults.ParamFault.TheVariants as params;
 ghost use Rattle.statement.specs.Counts.{counts_of};
 ghost use Rattle.statement.specs.declared.faults.SpanFault.TheVariants as span_fault;
-ghost use Rattle.std.specs.Prelude.{◌≡◌, Err, Ok, codes};
+ghost use Rattle.std.specs.Prelude.{◌++◌, ◌≡◌, Err, Ok, codes};
 
 // A set alone.
 fn nothing_but_a_set()
@@ -15,7 +15,29 @@ fn nothing_but_a_set()
 // Each kind of record, a different number of times: commodities, contracts, tiers, intracommodity spreads, spot months
 // and intercommodity spreads.
 fn each_kind()
-    ensures { counts_of (codes "SET,D_1,1,USD\nCOMMODITY,AA,0,SUM\nCOMMODITY,BB,0,SUM\nCONTRACT,FA,AA,F,202503,1,1,0,0,-400,-400,400,400,-800,-800,800,800,-1200,-1200,1200,1200,-1188,1188\nTIER,AA,1,202501,202503\nTIER,AA,2,202504,202506\nTIER,AA,3,202507,202509\nINTRA,AA,1,250,1,A,1,2,B,1\nINTRA,AA,2,250,1,A,1,3,B,1\nINTRA,AA,3,250,2,A,1,3,B,1\nINTRA,AA,4,250,2,B,1,3,A,1\nSPOT,AA,202503,10,20\nSPOT,AA,202504,10,20\nSPOT,AA,202505,10,20\nSPOT,AA,202506,10,20\nSPOT,AA,202507,10,20\nINTER,1,5000,AA,A,1,BB,B,1\nINTER,2,5000,AA,A,1,BB,B,1\nINTER,3,5000,AA,A,1,BB,B,1\nINTER,4,5000,AA,A,1,BB,B,1\nINTER,5,5000,AA,A,1,BB,B,1\nINTER,6,5000,AA,A,1,BB,B,1\n")
+    ensures { counts_of (
+        codes "SET,D_1,1,USD\n"
+        ++ codes "COMMODITY,AA,0,SUM\n"
+        ++ codes "COMMODITY,BB,0,SUM\n"
+        ++ codes "CONTRACT,FA,AA,F,202503,1,1,0,0,-400,-400,400,400,-800,-800,800,800,-1200,-1200,1200,1200,-1188,1188\n"
+        ++ codes "TIER,AA,1,202501,202503\n"
+        ++ codes "TIER,AA,2,202504,202506\n"
+        ++ codes "TIER,AA,3,202507,202509\n"
+        ++ codes "INTRA,AA,1,250,1,A,1,2,B,1\n"
+        ++ codes "INTRA,AA,2,250,1,A,1,3,B,1\n"
+        ++ codes "INTRA,AA,3,250,2,A,1,3,B,1\n"
+        ++ codes "INTRA,AA,4,250,2,B,1,3,A,1\n"
+        ++ codes "SPOT,AA,202503,10,20\n"
+        ++ codes "SPOT,AA,202504,10,20\n"
+        ++ codes "SPOT,AA,202505,10,20\n"
+        ++ codes "SPOT,AA,202506,10,20\n"
+        ++ codes "SPOT,AA,202507,10,20\n"
+        ++ codes "INTER,1,5000,AA,A,1,BB,B,1\n"
+        ++ codes "INTER,2,5000,AA,A,1,BB,B,1\n"
+        ++ codes "INTER,3,5000,AA,A,1,BB,B,1\n"
+        ++ codes "INTER,4,5000,AA,A,1,BB,B,1\n"
+        ++ codes "INTER,5,5000,AA,A,1,BB,B,1\n"
+        ++ codes "INTER,6,5000,AA,A,1,BB,B,1\n")
         ≡ Ok (codes "OK,D_1,2,1,3,4,5,6\n") }
 {}
 

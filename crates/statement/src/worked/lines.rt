@@ -43,10 +43,14 @@ fn lines_of_positions()
     ensures q2 { fault_line (span_fault.Positions (positions.BadName 1)) ≡ codes "positions: Q2 BadName at record 1\n" }
     ensures q3 { fault_line (span_fault.Positions (positions.BadNumber 1)) ≡ codes "positions: Q3 BadNumber at record 1\n" }
     ensures q4 { fault_line (span_fault.Positions (positions.OutOfRange 1)) ≡ codes "positions: Q4 OutOfRange at record 1\n" }
-    ensures q5 { fault_line (span_fault.Positions (positions.TooManyAccounts 4097)) ≡ codes "positions: Q5 TooManyAccounts at record 4097\n" }
-    ensures b1 { fault_line (span_fault.Bind (bind.UnknownContract 1 (codes "X"))) ≡ codes "positions: B1 UnknownContract at record 1 account X\n" }
-    ensures b2 { fault_line (span_fault.Bind (bind.NetOutOfRange 2 (codes "ACC-1"))) ≡ codes "positions: B2 NetOutOfRange at record 2 account ACC-1\n" }
-    ensures b3 { fault_line (span_fault.Bind (bind.TooManyHeld 258 (codes "A_B"))) ≡ codes "positions: B3 TooManyHeld at record 258 account A_B\n" }
+    ensures q5 { fault_line (span_fault.Positions (positions.TooManyAccounts 4097))
+        ≡ codes "positions: Q5 TooManyAccounts at record 4097\n" }
+    ensures b1 { fault_line (span_fault.Bind (bind.UnknownContract 1 (codes "X")))
+        ≡ codes "positions: B1 UnknownContract at record 1 account X\n" }
+    ensures b2 { fault_line (span_fault.Bind (bind.NetOutOfRange 2 (codes "ACC-1")))
+        ≡ codes "positions: B2 NetOutOfRange at record 2 account ACC-1\n" }
+    ensures b3 { fault_line (span_fault.Bind (bind.TooManyHeld 258 (codes "A_B")))
+        ≡ codes "positions: B3 TooManyHeld at record 258 account A_B\n" }
 {}
 
 // Want of memory, and the exit statuses.
@@ -63,7 +67,18 @@ fn statuses()
 
 // The line of a commodity and that of a total.
 fn lines_of_a_row()
-    ensures figures { figures_line (codes "X-1") (codes "D_1") (record { commodity = codes "AA"; figures = record { scan = pos 1200; active = 13; intra = pos 500; delivery = pos 40; credit = pos 7; minimum = pos 0; requirement = pos 1733 } })
+    ensures figures { figures_line (codes "X-1") (codes "D_1") (record {
+      commodity = codes "AA";
+      figures = record {
+        scan = pos 1200;
+        active = 13;
+        intra = pos 500;
+        delivery = pos 40;
+        credit = pos 7;
+        minimum = pos 0;
+        requirement = pos 1733;
+      };
+    })
         ≡ codes "R,X-1,D_1,AA,1200,13,500,40,7,0,1733\n" }
     ensures total { total_line (codes "X-1") (codes "D_1") (pos 1733) ≡ codes "T,X-1,D_1,1733\n" }
     ensures below_zero { total_line (codes "Y") (codes "D_1") (neg_ℤ (pos 5)) ≡ codes "T,Y,D_1,-5\n" }

@@ -9,7 +9,8 @@ new-requires c =
     let minimum = c.get.result in
     let parts : nat_abs minimum ≤ MAX_PART = omega (arith, ap nat_abs c.get.ensures.value) in
     let small : nat_abs risk + nat_abs minimum ≤ 5 * MAX_PART = omega (arith, parts) in
-    rw (same_larger risk minimum c.max.result (5 * MAX_PART) small (lit< tt) c.max.ensures.value) (omega (arith, small, size-int_max risk minimum))
+    rw (same_larger risk minimum c.max.result (5 * MAX_PART) small (lit< tt) c.max.ensures.value)
+    (omega (arith, small, size-int_max risk minimum))
 
 pub returns-clause-bound : goal.returns-clause-bound
 returns-clause-bound c =
@@ -17,4 +18,5 @@ returns-clause-bound c =
     let minimum = c.get.result in
     let same : nat_abs minimum ≡ nat_abs c.args.minimum = ap nat_abs c.get.ensures.value in
     let small : nat_abs risk + nat_abs minimum ≤ 5 * MAX_PART = omega (arith, same) in
-    rw (c.new.ensures, same_larger risk minimum c.max.result (5 * MAX_PART) small (lit< tt) c.max.ensures.value) (omega (arith, same, size-int_max risk minimum))
+    rw (c.new.ensures, same_larger risk minimum c.max.result (5 * MAX_PART) small (lit< tt) c.max.ensures.value)
+    (omega (arith, same, size-int_max risk minimum))

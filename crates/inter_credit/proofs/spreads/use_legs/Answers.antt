@@ -18,7 +18,8 @@ loop-leg-preserved c =
     let d = c.args.direction in
     let legs = c.args.legs.now in
     let i = c.loop-leg.leg-index in
-    let step : CommodityLeg → List InterLine → List InterLine = λ x ls. change_at (line_after (market_side d x.side) (c.args.n * x.ratio) c.args.basis_points) x.commodity ls in
+    let step : CommodityLeg → List InterLine → List InterLine =
+    λ x ls. change_at (line_after (market_side d x.side) (c.args.n * x.ratio) c.args.basis_points) x.commodity ls in
     record {
       so_far =
           c.use_leg.ensures.value ∙ ap (step leg) c.loop-leg.invariant.so_far

@@ -1,6 +1,5 @@
-use Rattle.std.proofs.Common.{◌≡◌, ◌∙◌, ◌<◌, ◌≤◌, length, length-append, nat_abs, sym, arith, rules, [], ◌∷◌}
+use Rattle.std.proofs.Common.{◌∙◌, ◌<◌, length, length-append, arith, rules, [], ◌∷◌}
 use Rattle.span_tables.specs.declared.limits.TheConstants.{MAX_HELD}
-use Rattle.span_tables.specs.declared.portfolios.Holding.{Holding}
 use Rattle.span_tables.proofs.HeldLemmas.{AreHoldings-push}
 use Rattle.inter_credit.proofs.tests.minimums.Goals as goal
 

@@ -1,5 +1,5 @@
 use Rattle.std.proofs.Common.{◌≡◌, length}
-use Rattle.span_tables.specs.steps.Gathered.{AreHoldings}
+use Rattle.span_tables.specs.Holdings.{AreHoldings}
 use Rattle.inter_credit.proofs.tests.minimums.Given as goal
 
 abbrev pub invariant-loop-kind : goal.invariant-loop-kind

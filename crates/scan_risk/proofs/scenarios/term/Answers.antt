@@ -8,7 +8,8 @@ use Rattle.scan_risk.proofs.scenarios.term.Goals as goal
 same : (z : ℤ) (n : ℕ) → nat_abs z ≤ n → n < 2 ^ 63 → to_z w64 (of_z w64 z) ≡ z
 same z n le lt = let below : nat_abs z < 2 ^ 63 = omega (arith, le, lt) in to_z-of_z w64 z (fits_signed_from_abs w64 z below)
 
-product : (a b : ℤ) → nat_abs a ≤ MAX_NET → nat_abs b ≤ MAX_ARRAY_VALUE → to_z w64 (of_z w64 (to_z w64 (of_z w64 a) *ℤ to_z w64 (of_z w64 b))) ≡ a *ℤ b
+product : (a b : ℤ) → nat_abs a ≤ MAX_NET → nat_abs b ≤ MAX_ARRAY_VALUE
+    → to_z w64 (of_z w64 (to_z w64 (of_z w64 a) *ℤ to_z w64 (of_z w64 b))) ≡ a *ℤ b
 product a b x y =
     rw (same a MAX_NET x (lit< tt), same b MAX_ARRAY_VALUE y (lit< tt)) (same (a *ℤ b) MAX_TERM (term_size a b x y) (lit< tt))
 

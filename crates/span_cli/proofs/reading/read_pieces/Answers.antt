@@ -1,4 +1,4 @@
-use Rattle.std.proofs.Common.{rules, ◌+◌, ◌≡◌, ◌++◌, ◌∙◌, ap, sym, refl, [], ◌∷◌, take, ℕ, List}
+use Rattle.std.proofs.Common.{rules, ◌≡◌, ◌++◌, ◌∙◌, ap, sym, refl, [], ◌∷◌, take, ℕ, List}
 use Rattle.std.proofs.KnownBytes.{Consumes-kept, Consumes-trans, Consumes-whole}
 use Rattle.std.proofs.lemmas.List.{append-nil}
 use Rattle.span_cli.proofs.reading.read_pieces.Goals as goal
@@ -10,7 +10,8 @@ take_nothing (x ∷ xs) = refl
 
 pub returns-in-Ok-eq0-clause-whole : goal.returns-in-Ok-eq0-clause-whole
 returns-in-Ok-eq0-clause-whole g c =
-    let nothing : take c.in-Ok-eq0.field-0 c.read.new.buffer ≡ [] = ap (λ n. take n c.read.new.buffer) c.in-Ok-eq0.field-0-test ∙ take_nothing c.read.new.buffer in
+    let nothing : take c.in-Ok-eq0.field-0 c.read.new.buffer ≡ [] =
+    ap (λ n. take n c.read.new.buffer) c.in-Ok-eq0.field-0-test ∙ take_nothing c.read.new.buffer in
     let all = Consumes-trans c.args.reader.now.bytes c.loop-turn.reader.bytes c.read.new.self.bytes c.loop-turn.bytes.items
     (take c.in-Ok-eq0.field-0 c.read.new.buffer) c.loop-turn.invariant.taken c.in-Ok-eq0.ensures.bytes.0 in
     Consumes-whole c.args.reader.now.bytes c.read.new.self.bytes

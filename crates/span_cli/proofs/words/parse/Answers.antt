@@ -3,7 +3,9 @@ use Rattle.span_cli.proofs.ParseLemmas.{taken_fails, mistaken_fails}
 use Rattle.span_cli.proofs.words.parse.Goals as goal
 
 pub returns-clause-err : goal.returns-clause-err
-returns-clause-err g c = taken_fails (app_of c.in_ok-command.command) _ c.try_get_matches_from.result c.in_ok-command.ensures.shape c.try_get_matches_from.ensures.passes
+returns-clause-err g c = taken_fails (app_of c.in_ok-command.command) _ c.try_get_matches_from.result c.in_ok-command.ensures.shape
+    c.try_get_matches_from.ensures.passes
 
 pub returns-clause-kinds : goal.returns-clause-kinds
-returns-clause-kinds g c = mistaken_fails (app_of c.in_ok-command.command) _ c.try_get_matches_from.result c.in_ok-command.ensures.shape c.try_get_matches_from.ensures.kinds
+returns-clause-kinds g c = mistaken_fails (app_of c.in_ok-command.command) _ c.try_get_matches_from.result c.in_ok-command.ensures.shape
+    c.try_get_matches_from.ensures.kinds

@@ -1,9 +1,11 @@
-use Rattle.std.proofs.Common.{◌≡◌, ◌≤◌, ◌+◌, nat_abs, sym, ap, ◌∙◌, arith, get_or, ◌+ℤ◌, ℤ, Some, None, ◌++◌, ◌∷◌, []}
+use Rattle.std.proofs.Common.{◌≡◌, ◌≤◌, ◌+◌, nat_abs, sym, ap, ◌∙◌, arith, get_or, ◌+ℤ◌, ℤ, Some, None}
+use Rattle.std.proofs.Common.{◌++◌, ◌∷◌, []}
 use Rattle.std.specs.List.{insert}
 use Rattle.std.specs.Prelude.{position, nat_le}
 use Rattle.std.proofs.lemmas.Int.{ints}
 use Rattle.std.proofs.lemmas.List.Sums.{get_or-le-sum_by}
 use Rattle.std.proofs.lemmas.List.Quantifiers.{position-Some}
+use Rattle.span_tables.specs.declared.limits.TheConstants.{MAX_UNITS}
 use Rattle.spread_stage.specs.Months.{total_size}
 use Rattle.spread_stage.specs.declared.months.MonthUnits.{MonthUnits}
 use Rattle.spread_stage.proofs.PlaceLemmas.{with_units-set, with_units-insert, with_units-push, get_same}
@@ -23,7 +25,7 @@ returns-in-Some c =
     let read : c.index-in-Some.result.now ≡ get_or ms i d = c.index-in-Some.ensures ∙ get_same ms i c.index-in-Some.result.now d at.0 in
     let had : c.get.result ≡ (get_or ms i d).units = c.get.ensures ∙ ap (λ (m : MonthUnits). m.units) read in
     let small : nat_abs (get_or ms i d).units ≤ total_size ms = get_or-le-sum_by (λ (m : MonthUnits). nat_abs m.units) ms i d at.0 in
-    let bound : total_size ms + nat_abs c.args.units ≤ 25600000000000000 = c.requires in
+    let bound : total_size ms + nat_abs c.args.units ≤ MAX_UNITS = c.requires in
     let now : c.new.result ≡ (get_or ms i d).units +ℤ c.args.units = omega (arith, ints, had, small, bound, c.new.ensures) in
     with_units-set c.args.month c.args.units ms i d
     (record { month = c.index_mut.result.now.month; units = c.new.result }) found same (ap (λ (m : MonthUnits). m.month) again) now
@@ -38,7 +40,8 @@ returns-in_ok-insert-in-Some-2 c =
     let here : d ≡ get_or ms i d = c.index.ensures in
     let units : c.new-in-Some-2.result ≡ c.args.units = omega (arith, ints, c.new-in-Some-2.ensures) in
     c.in_ok-insert-in-Some-2.ensures.items ∙ ap (λ (u : ℤ). insert ms i (record { month = c.args.month; units = u })) units
-    ∙ with_units-insert c.args.month c.args.units ms i d found (λ same. c.if-index-month.false (ap (λ (m : MonthUnits). m.month) here ∙ same))
+    ∙ with_units-insert c.args.month c.args.units ms i d found
+    (λ same. c.if-index-month.false (ap (λ (m : MonthUnits). m.month) here ∙ same))
 
 pub returns-in_ok-push-in-None : goal.returns-in_ok-push-in-None
 returns-in_ok-push-in-None c =

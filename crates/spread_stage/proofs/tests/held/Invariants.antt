@@ -1,5 +1,5 @@
 use Rattle.std.proofs.Common.{◌≡◌, length}
-use Rattle.span_tables.specs.steps.Gathered.{AreHoldings}
+use Rattle.span_tables.specs.Holdings.{AreHoldings}
 use Rattle.spread_stage.proofs.tests.held.Given as goal
 
 abbrev pub invariant-loop-contract : goal.invariant-loop-contract

@@ -12,7 +12,8 @@ returns-then-formed-gt0-clause-rise c =
 
 pub returns-then-formed-gt0-clause-less : goal.returns-then-formed-gt0-clause-less
 returns-then-formed-gt0-clause-less c =
-    rw (c.use_legs.ensures, c.spreads_formed-formed.ensures) (formed_falls c.args.direction c.args.legs.now c.args.rests.now c.requires.rise c.requires.legs c.requires.ratios)
+    rw (c.use_legs.ensures, c.spreads_formed-formed.ensures)
+    (formed_falls c.args.direction c.args.legs.now c.args.rests.now c.requires.rise c.requires.legs c.requires.ratios)
 
 pub returns-then-formed-gt0-clause-shrinks : goal.returns-then-formed-gt0-clause-shrinks
 returns-then-formed-gt0-clause-shrinks c months h =

@@ -1,8 +1,10 @@
-use Rattle.std.proofs.Common.{◌≡◌, ◌≤◌, ◌<◌, ◌++◌, [], nat_abs, sym, ap, ◌∙◌, arith, length, drop, take, List, sum_by}
+use Rattle.std.proofs.Common.{◌≡◌, ◌≤◌, ◌<◌, ◌++◌, [], nat_abs, sym, ap, ◌∙◌, arith, length, drop, take, List}
+use Rattle.std.proofs.Common.{sum_by}
 use Rattle.std.proofs.Math.ListN.{drop_of_length-le}
 use Rattle.std.proofs.Math.Seq.{take-length}
 use Rattle.std.proofs.lemmas.List.{append-nil}
 use Rattle.std.proofs.lemmas.List.Sums.{sum_by-drop_more, sum_by-take-drop}
+use Rattle.span_tables.specs.declared.limits.TheConstants.{MAX_UNITS}
 use Rattle.spread_stage.specs.Months.{total_size}
 use Rattle.spread_stage.specs.steps.Uses.{used_in_turn}
 use Rattle.spread_stage.specs.declared.months.MonthUnits.{MonthUnits}
@@ -17,7 +19,7 @@ less_used-rest-requires-clause-rest c =
     let here = sum_by-drop_more f c.loop-rest.rests i c.rest-item.result lt in
     let same : sum_by f (drop i c.loop-rest.rests) ≡ sum_by f (drop i c.args.rests.now) = ap (sum_by f) c.loop-rest.invariant.rest in
     let all = sum_by-take-drop f c.args.rests.now i in
-    let small : total_size c.args.rests.now ≤ 25600000000000000 = c.requires.small in
+    let small : total_size c.args.rests.now ≤ MAX_UNITS = c.requires.small in
     omega (arith, here, same, all, small)
 
 pub returns : goal.returns

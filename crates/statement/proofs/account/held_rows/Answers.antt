@@ -19,14 +19,17 @@ loop-number-preserved c =
     elim c.if-all-number.branch [
       | then-all-number+in_ok-push w ↦
           step_of cs all figures i commodity s w.index-figures-number.result c.loop-number-test.true c.requires.stages c.requires.figures
-          c.index-commodities-number.is c.index-all-number.is w.index-figures-number.is (ap (λ x. x.is_held) c.index-all-number.is ∙ w.if-all-number.true)
+          c.index-commodities-number.is c.index-all-number.is w.index-figures-number.is
+          (ap (λ x. x.is_held) c.index-all-number.is ∙ w.if-all-number.true)
           c.loop-number.rows.items c.if-all-number.rows.items (held_of_all cs all figures)
           (ap (λ v. v.items) w.rows-is ∙ w.in_ok-push.ensures.items
-          ∙ ap (λ t. c.loop-number.rows.items ++ record { commodity = t; figures = w.index-figures-number.result } ∷ []) w.copied.ensures)
+          ∙ ap (λ t. c.loop-number.rows.items ++ record { commodity = t; figures = w.index-figures-number.result } ∷ [])
+          w.copied.ensures)
           c.loop-number.invariant
       | else-all-number w ↦
           rw w.rows-is
           (step_over cs all figures i commodity s f c.loop-number-test.true c.requires.stages c.requires.figures
-          c.index-commodities-number.is c.index-all-number.is (get_or_default figures i d f inside) (ap (λ x. x.is_held) c.index-all-number.is ∙ w.if-all-number.false)
+          c.index-commodities-number.is c.index-all-number.is (get_or_default figures i d f inside)
+          (ap (λ x. x.is_held) c.index-all-number.is ∙ w.if-all-number.false)
           c.loop-number.rows.items (held_of_all cs all figures) c.loop-number.invariant)
     ]
