@@ -9,7 +9,8 @@ use Rattle.clap.specs.declared.error.kind.ErrorKind.{ErrorKind}
 use Rattle.span_told.specs.Streams.{Says, Stream}
 use Rattle.statement.specs.FaultLines.{fault_line, fault_status}
 use Rattle.statement.specs.declared.faults.SpanFault.{SpanFault}
-use Rattle.span_cli.specs.Serving.{Answer, Asked, a_check, a_margin, OfAnswer, check_answer, margin_answer, memory, refused}
+use Rattle.span_cli.specs.Serving.{Answer, Asked, a_check, a_margin, a_plan, OfAnswer, check_answer}
+use Rattle.span_cli.specs.Serving.{margin_answer, memory, plan_answer, refused}
 use Rattle.span_cli.specs.Sources.{File}
 use Rattle.span_cli.specs.Telling.{RefusesBy, Serves, Tells}
 use Rattle.span_cli.specs.Telling as telling
@@ -52,6 +53,10 @@ OfAnswer-map file (a_check params) P Q f h = by_file (file params) h where
   by_file : (p : Option File) → IfSome p (λ x. P (check_answer params x)) → IfSome p (λ x. Q (check_answer params x))
   by_file None k = tt
   by_file (Some x) k = f (check_answer params x) k
+OfAnswer-map file (a_plan params) P Q f h = by_file (file params) h where
+  by_file : (p : Option File) → IfSome p (λ x. P (plan_answer params x)) → IfSome p (λ x. Q (plan_answer params x))
+  by_file None k = tt
+  by_file (Some x) k = f (plan_answer params x) k
 OfAnswer-map file (a_margin params positions) P Q f h = by_files (file params) (file positions) h where
   by_files : (p q : Option File) → IfSome p (λ x. IfSome q (λ y. P (margin_answer params positions x y)))
       → IfSome p (λ x. IfSome q (λ y. Q (margin_answer params positions x y)))
@@ -67,6 +72,10 @@ OfAnswer-each file (Some (a_check params)) P f = by_file (file params) where
   by_file : (p : Option File) → IfSome p (λ x. P (check_answer params x))
   by_file None = tt
   by_file (Some x) = f (check_answer params x)
+OfAnswer-each file (Some (a_plan params)) P f = by_file (file params) where
+  by_file : (p : Option File) → IfSome p (λ x. P (plan_answer params x))
+  by_file None = tt
+  by_file (Some x) = f (plan_answer params x)
 OfAnswer-each file (Some (a_margin params positions)) P f = by_files (file params) (file positions) where
   by_files : (p q : Option File) → IfSome p (λ x. IfSome q (λ y. P (margin_answer params positions x y)))
   by_files None q = tt

@@ -1,6 +1,7 @@
 -- What is answered to a request.
 use Rattle.std.specs.Prelude.{ℕ, List, [], ◌++◌, codes, Option, IfSome, Result, Ok, Err}
 use Rattle.statement.specs.Counts.{counts_of}
+use Rattle.statement.specs.Listing.{listing_of}
 use Rattle.statement.specs.FaultLines.{fault_line, fault_status, memory_line}
 use Rattle.statement.specs.Statement.{statement_of}
 use Rattle.statement.specs.declared.faults.SpanFault.{SpanFault}
@@ -49,6 +50,11 @@ abbrev pub check_answer : List ℕ → File → Answer
 check_answer params_name (Err e) = unread params_name e
 check_answer params_name (Ok params) = answer_of (counts_of params)
 
+-- the answer to `plan`
+abbrev pub plan_answer : List ℕ → File → Answer
+plan_answer params_name (Err e) = unread params_name e
+plan_answer params_name (Ok params) = answer_of (listing_of params)
+
 -- the answer to `margin`, whose files are read in their order
 abbrev pub margin_answer : List ℕ → List ℕ → File → File → Answer
 margin_answer params_name positions_name (Err e) positions = unread params_name e
@@ -58,15 +64,18 @@ margin_answer params_name positions_name (Ok params) (Ok positions) = answer_of 
 -- what a request asks for, with the names of its files as texts
 pub data Asked : Type 0 where
   a_check : List ℕ → Asked
+  a_plan : List ℕ → Asked
   a_margin : List ℕ → List ℕ → Asked
 
 -- what a request asks for
 abbrev pub asked_by : Request → Asked
 asked_by (request.Check params) = a_check params.now
+asked_by (request.Plan params) = a_plan params.now
 asked_by (request.Margin params positions) = a_margin params.now positions.now
 
 -- what holds of the answer to a request, where its files are known
 abbrev pub OfAnswer : (List ℕ → Option File) → Asked → (Answer → Type 0) → Type 0
 OfAnswer file (a_check params) P = IfSome (file params) (λ p. P (check_answer params p))
+OfAnswer file (a_plan params) P = IfSome (file params) (λ p. P (plan_answer params p))
 OfAnswer file (a_margin params positions) P =
     IfSome (file params) (λ p. IfSome (file positions) (λ q. P (margin_answer params positions p q)))

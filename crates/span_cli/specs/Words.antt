@@ -2,7 +2,7 @@
 use Rattle.std.specs.Prelude.{Bool, true, List, Option, None, codes, bytes_eq, if◌then◌else◌, option_map, option_and_then}
 use Rattle.clap.specs.Words.{App, Kinds, Row, Rule, Text, first_of, new_app, new_rule, fault_of, subcommand_of, takes}
 use Rattle.clap.specs.Words.{with_rule, with_subcommand}
-use Rattle.span_cli.specs.Serving.{Asked, a_check, a_margin}
+use Rattle.span_cli.specs.Serving.{Asked, a_check, a_margin, a_plan}
 
 -- a file's name, which has to be given
 abbrev pub file_rule : Text → Rule
@@ -11,6 +11,10 @@ file_rule id = record (new_rule id) { required = true }
 -- the command `check PARAMS`
 abbrev pub check_app : App
 check_app = with_rule (new_app (codes "check")) (file_rule (codes "PARAMS"))
+
+-- the command `plan PARAMS`
+abbrev pub plan_app : App
+plan_app = with_rule (new_app (codes "plan")) (file_rule (codes "PARAMS"))
 
 -- the command `margin PARAMS POSITIONS`
 abbrev pub margin_app : App
@@ -24,11 +28,15 @@ bare_app =
 
 -- the program
 abbrev pub span_app : App
-span_app = with_subcommand (with_subcommand bare_app check_app.top) margin_app.top
+span_app = with_subcommand (with_subcommand (with_subcommand bare_app check_app.top) plan_app.top) margin_app.top
 
 -- the file behind `check`
 abbrev pub check_in : List Row → Option Asked
 check_in rows = option_map (λ params. a_check params) (first_of (codes "PARAMS") rows)
+
+-- the file behind `plan`
+abbrev pub plan_in : List Row → Option Asked
+plan_in rows = option_map (λ params. a_plan params) (first_of (codes "PARAMS") rows)
 
 -- the files behind `margin`
 abbrev pub margin_in : List Row → Option Asked
@@ -40,6 +48,7 @@ margin_in rows =
 abbrev pub asked_under : Text → List Row → Option Asked
 asked_under name rows =
     if bytes_eq name (codes "check") then check_in rows
+    else if bytes_eq name (codes "plan") then plan_in rows
     else if bytes_eq name (codes "margin") then margin_in rows
     else None
 

@@ -1,10 +1,11 @@
 //! Requests, and the bytes that answer them.
-ghost use Rattle.span_cli.specs.Serving.{OfAnswer, answer_of, asked_by, check_answer, done, margin_answer};
+ghost use Rattle.span_cli.specs.Serving.{OfAnswer, answer_of, asked_by, check_answer, done, margin_answer, plan_answer};
 ghost use Rattle.span_cli.specs.Telling.{Serves, Tells};
 ghost use Rattle.span_cli.specs.steps.Refusals.{Loads, Runs, refusal_line, refusal_status};
 ghost use Rattle.span_cli.specs.declared.serving.Refusal.TheVariants as refusal;
 ghost use Rattle.span_told.specs.Streams.{Says};
 ghost use Rattle.statement.specs.Counts.{counts_of};
+ghost use Rattle.statement.specs.Listing.{listing_of};
 ghost use Rattle.statement.specs.Statement.{statement_of};
 ghost use Rattle.std.specs.Prelude.{◌≡◌, IfSome, List, false, ℕ};
 
@@ -13,6 +14,7 @@ use span_told::Told;
 use statement::counts::check_plain;
 use statement::faults::{SpanFault, status, tell_fault};
 use statement::margin::margin_plain;
+use statement::plans::plan_plain;
 use statement::statuses::{DONE, FILE_FAILED};
 use std::alloc::Global;
 use std::io::Write;
@@ -22,6 +24,8 @@ use std::io::Write;
 pub enum Request<'a> {
     /// The counts of a parameter file by itself.
     Check { params: &'a str },
+    /// The steps of the compiled plan of a parameter file.
+    Plan { params: &'a str },
     /// The statement of a position file under a parameter file.
     Margin { params: &'a str, positions: &'a str },
 }
@@ -81,6 +85,27 @@ fn check<'a, S: Sources>(
     counts(alloc, param_bytes)
 }
 
+// The plan of the bytes of a file.
+fn listing<'a>(alloc: Global, params: Vec<u8>) -> Result<Vec<u8>, Refusal<'a>>
+    ensures { Runs (λ text. text.items) (answer_of (listing_of params.items)) result }
+{
+    let text = plan_plain(alloc, params.as_slice())?;
+    Ok(text)
+}
+
+// The plan of a file.
+fn plan<'a, S: Sources>(
+    alloc: Global,
+    sources: &mut S,
+    params: &'a str,
+) -> Result<Vec<u8>, Refusal<'a>>
+    ensures { IfSome (S.file sources.old params.entry.now) (λ p.
+        Runs (λ text. text.items) (plan_answer params.entry.now p) result) }
+{
+    let param_bytes = load(alloc, sources, params)?;
+    listing(alloc, param_bytes)
+}
+
 // The statement of the bytes of two files.
 fn statement<'a>(alloc: Global, params: Vec<u8>, positions: Vec<u8>) -> Result<Vec<u8>, Refusal<'a>>
     ensures { Runs (λ text. text.items) (answer_of (statement_of params.items positions.items)) result }
@@ -115,6 +140,7 @@ fn run<'a, S: Sources>(
 {
     match request {
         Request::Check { params } => check(alloc, sources, params),
+        Request::Plan { params } => plan(alloc, sources, params),
         Request::Margin { params, positions } => margin(alloc, sources, params, positions),
     }
 }

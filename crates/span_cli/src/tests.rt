@@ -208,6 +208,7 @@ Usage: span <COMMAND>
 
 Commands:
   check   Checks a parameter file and counts its records
+  plan    Prints the steps of the compiled plan of a parameter file
   margin  Prints the margin statement of every account
   help    Print this message or the help of the given subcommand(s)
 
@@ -236,6 +237,23 @@ A file that is no valid set is refused with its first fault and the number of th
 docs/FORMATS.md describes the records and the faults.
 ";
 
+const PLAN_HELP: &[u8] = b"\
+Prints the steps of the compiled plan of a parameter file
+
+Usage: span plan <PARAMS>
+
+Arguments:
+  <PARAMS>  Parameter file (CSV): a set with its commodities, contracts, tiers and spreads
+
+Options:
+  -h, --help  Print help
+
+Prints a line for each step: its number, its operation, and the numbers of its inputs:
+  7 Final(0) 2 4 5 6 19
+A file that is no valid set is refused as by `check`.
+docs/PLAN.md describes the steps.
+";
+
 const MARGIN_HELP: &[u8] = b"\
 Prints the margin statement of every account
 
@@ -259,11 +277,12 @@ docs/FORMATS.md describes the files and the statement, docs/METHOD.md the figure
 #[test]
 fn helps(rt: HostRuntime) -> Result<(), Fail> {
     let alloc = rt.alloc();
-    let cases: [(&[&str], &[u8]); 6] = [
+    let cases: [(&[&str], &[u8]); 7] = [
         (&["span", "--help"], SPAN_HELP),
         (&["span", "help"], SPAN_HELP),
         (&["span", "help", "check"], CHECK_HELP),
         (&["span", "check", "-h"], CHECK_HELP),
+        (&["span", "help", "plan"], PLAN_HELP),
         (&["span", "help", "margin"], MARGIN_HELP),
         (&["span", "margin", "params.csv", "--help"], MARGIN_HELP),
     ];
@@ -303,7 +322,7 @@ fn refuses_words_that_cannot_be_read(rt: HostRuntime) -> Result<(), Fail> {
 
 const NO_COMMAND: &[u8] = b"\
 error: 'span' requires a subcommand but one was not provided
-  [subcommands: check, margin, help]
+  [subcommands: check, plan, margin, help]
 
 Usage: span <COMMAND>
 

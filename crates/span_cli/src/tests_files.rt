@@ -102,6 +102,64 @@ CONTRACT,FA,AA,F,202503,1,1,0,0,-400,-400,400,400,-800,-800,800,800,-1200,-1200,
 TIER,AA,4,202502,202501
 ";
 
+// The plan of ODD_CREDIT: both commodities, then what is between them, then the total. Each Final step reads the state
+// behind the last intercommodity spread.
+const TWO_COMMODITIES_PLAN: &[u8] = b"\
+0 Gather(0)
+1 Sums(0) 0
+2 ScanMax(0) 1
+3 Months(0) 0
+4 TierStart(0) 3
+5 Delivery(0) 3 4
+6 Minimum(0) 0
+7 Final(0) 2 4 5 6 19
+8 Gather(1)
+9 Sums(1) 8
+10 ScanMax(1) 9
+11 Months(1) 8
+12 TierStart(1) 11
+13 Delivery(1) 11 12
+14 Minimum(1) 8
+15 Final(1) 10 12 13 14 19
+16 InterStart()
+17 InterLoad(0) 16 3 2
+18 InterLoad(1) 17 11 10
+19 InterSpread(0) 18
+20 TotalStart()
+21 TotalAdd(0) 20 7
+22 TotalAdd(1) 21 15
+";
+
+// The plan of CALENDAR: a spread between the tiers.
+const CALENDAR_PLAN: &[u8] = b"\
+0 Gather(0)
+1 Sums(0) 0
+2 ScanMax(0) 1
+3 Months(0) 0
+4 TierStart(0) 3
+5 Spread(0,0) 4
+6 Delivery(0) 3 5
+7 Minimum(0) 0
+8 Final(0) 2 5 6 7 10
+9 InterStart()
+10 InterLoad(0) 9 3 2
+11 TotalStart()
+12 TotalAdd(0) 11 8
+";
+
+fn plan(alloc: Global, params: &[u8]) -> Given {
+    let request = Request::Plan { params: "params" };
+    answer(alloc, request, &[("params", params)])
+}
+
+#[test]
+fn lists_plans(rt: HostRuntime) -> Result<(), Fail> {
+    let alloc = rt.alloc();
+    assert!(rt; plan(alloc, ODD_CREDIT).is(0, TWO_COMMODITIES_PLAN, b""));
+    assert!(rt; plan(alloc, CALENDAR).is(0, CALENDAR_PLAN, b""));
+    Ok(())
+}
+
 fn margin(alloc: Global, params: &[u8], positions: &[u8]) -> Given {
     let request = Request::Margin {
         params: "params",

@@ -4,7 +4,7 @@ ghost use Rattle.clap.specs.declared.builder.command.Command.TheViews.{out-Comma
 ghost use Rattle.span_cli.specs.Serving.{OfAnswer, asked_by, memory};
 ghost use Rattle.span_cli.specs.Telling.{IsMistake, IsShown, Refuses, RefusesBy, Serves, Tells, no_text_line};
 ghost use Rattle.span_cli.specs.Words.{asked_in, asked_under, check_app, check_in, file_rule, is_taken, kinds_of};
-ghost use Rattle.span_cli.specs.Words.{margin_app, margin_in, span_app};
+ghost use Rattle.span_cli.specs.Words.{margin_app, margin_in, plan_app, plan_in, span_app};
 ghost use Rattle.span_told.specs.Streams.{Says};
 ghost use Rattle.statement.specs.FaultLines.{memory_line};
 ghost use Rattle.std.specs.IoError.{error_kind};
@@ -41,6 +41,12 @@ Prints one line, with the id of the set and how many records of each kind it has
 A file that is no valid set is refused with its first fault and the number of the record.
 docs/FORMATS.md describes the records and the faults.";
 
+const PLAN_MORE: &str = "\
+Prints a line for each step: its number, its operation, and the numbers of its inputs:
+  7 Final(0) 2 4 5 6 19
+A file that is no valid set is refused as by `check`.
+docs/PLAN.md describes the steps.";
+
 const MARGIN_MORE: &str = "\
 Prints a line for each commodity that an account holds, then one for its total:
   R,account,set,commodity,scan,active,intra,delivery,credit,minimum,requirement
@@ -68,6 +74,17 @@ fn check<'a>(alloc: Global) -> Result<Command<'a>, AllocError>
     Ok(command)
 }
 
+fn plan<'a>(alloc: Global) -> Result<Command<'a>, AllocError>
+    ensures shape { IfOk result (λ c. app_of c ≡ plan_app) }
+    ensures local { IfOk result (λ c. (fields_of c).has_globals ≡ false) }
+{
+    let command = Command::new(alloc, "plan")
+        .about("Prints the steps of the compiled plan of a parameter file")
+        .after_help(PLAN_MORE);
+    let command = command.arg(file(alloc, "PARAMS", PARAMS_HELP))?;
+    Ok(command)
+}
+
 fn margin<'a>(alloc: Global) -> Result<Command<'a>, AllocError>
     ensures shape { IfOk result (λ c. app_of c ≡ margin_app) }
     ensures local { IfOk result (λ c. (fields_of c).has_globals ≡ false) }
@@ -84,6 +101,7 @@ fn span<'a>(alloc: Global) -> Result<Command<'a>, AllocError>
     ensures shape { IfOk result (λ c. app_of c ≡ span_app) }
 {
     let check = check(alloc)?;
+    let plan = plan(alloc)?;
     let margin = margin(alloc)?;
     let command = Command::new(alloc, "span")
         .about("Margins futures and options accounts by the SPAN method")
@@ -91,6 +109,7 @@ fn span<'a>(alloc: Global) -> Result<Command<'a>, AllocError>
         .version(VERSION)
         .subcommand_required(true);
     let command = command.subcommand(check)?;
+    let command = command.subcommand(plan)?;
     let command = command.subcommand(margin)?;
     Ok(command)
 }
@@ -108,6 +127,13 @@ fn check_request<'a>(matches: &ArgMatches<'a>) -> Option<Request<'a>>
     Some(Request::Check { params })
 }
 
+fn plan_request<'a>(matches: &ArgMatches<'a>) -> Option<Request<'a>>
+    ensures { option_map asked_by result ≡ plan_in (rows_of (found_of matches.now)) }
+{
+    let params = text(matches, "PARAMS")?;
+    Some(Request::Plan { params })
+}
+
 fn margin_request<'a>(matches: &ArgMatches<'a>) -> Option<Request<'a>>
     ensures { option_map asked_by result ≡ margin_in (rows_of (found_of matches.now)) }
 {
@@ -122,6 +148,8 @@ fn request_under<'a>(name: &str, matches: &ArgMatches<'a>) -> Option<Request<'a>
 {
     if name == "check" {
         check_request(matches)
+    } else if name == "plan" {
+        plan_request(matches)
     } else if name == "margin" {
         margin_request(matches)
     } else {

@@ -2,7 +2,7 @@
 #![tactic(auto, unfolding(crate::specs::OnLiterals::on_literals))]
 
 ghost use Rattle.clap.specs.declared.error.kind.ErrorKind.TheVariants as kind;
-ghost use Rattle.span_cli.specs.Serving.{a_check, a_margin, check_answer, done, margin_answer, memory, refused};
+ghost use Rattle.span_cli.specs.Serving.{a_check, a_margin, a_plan, check_answer, done, margin_answer, memory, plan_answer, refused};
 ghost use Rattle.span_cli.specs.Words.{asked_in, is_taken, kinds_of};
 ghost use Rattle.span_cli.specs.declared.sources.ReadFault.TheVariants as read;
 ghost use Rattle.span_cli.specs.declared.disk.TheConstants.{MAX_TURNS};
@@ -13,6 +13,12 @@ ghost use Rattle.std.specs.Prelude.{◌≡◌, ◌∷◌, Err, None, Ok, Some, [
 fn check_of_a_file()
     ensures taken { is_taken (codes "span" ∷ codes "check" ∷ codes "p" ∷ []) ≡ true }
     ensures asked { asked_in (codes "span" ∷ codes "check" ∷ codes "p" ∷ []) ≡ Some (a_check (codes "p")) }
+{}
+
+// `span plan p` is taken, and asks for just that.
+fn plan_of_a_file()
+    ensures taken { is_taken (codes "span" ∷ codes "plan" ∷ codes "p" ∷ []) ≡ true }
+    ensures asked { asked_in (codes "span" ∷ codes "plan" ∷ codes "p" ∷ []) ≡ Some (a_plan (codes "p")) }
 {}
 
 // `span margin p q` is taken, and asks for just that, with the files in their order.
@@ -57,6 +63,13 @@ fn files_that_are_read()
     ensures unknown_contract { margin_answer (codes "p") (codes "q")
         (Ok (codes "SET,D1,1,USD\n")) (Ok (codes "X,FA,1\n"))
         ≡ refused 4 (codes "positions: B1 UnknownContract at record 1 account X\n") }
+{}
+
+// The plan of a set alone, and the refusals of files that are no set.
+fn plans()
+    ensures alone { plan_answer (codes "p") (Ok (codes "SET,D1,1,USD\n")) ≡ done (codes "0 InterStart()\n1 TotalStart()\n") }
+    ensures no_set { plan_answer (codes "p") (Ok []) ≡ refused 3 (codes "parameters: P1 NoSet at record 0\n") }
+    ensures failed { plan_answer (codes "p") (Err read.Failed) ≡ refused 6 (codes "file: p\n") }
 {}
 
 // How long a file may be, and how many turns a reading of it has.

@@ -1,6 +1,7 @@
 pub mod Answers
 pub mod Bounds
 pub mod Counts
+pub mod Listing
 pub mod FaultLines
 pub mod Figures
 pub mod OnLiterals

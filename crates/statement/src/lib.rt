@@ -9,6 +9,7 @@ pub mod figures;
 pub mod laws;
 pub mod lines;
 pub mod margin;
+pub mod plans;
 pub mod rows;
 pub mod stages;
 pub mod statuses;
