@@ -14,9 +14,6 @@ use Rattle.spread_stage.specs.Spreads.{spread_both_ways, after_spreads}
 use Rattle.spread_stage.specs.Charges.{intra_charge, delivery_charge}
 use Rattle.inter_credit.specs.Credits.{inter_both_ways, after_inter_spreads, credit_of}
 use Rattle.inter_credit.specs.Requirement.{minimum_of, requirement_of}
-use Rattle.plan_ir.specs.Listing.{plan_text}
-use Rattle.plan_compiler.specs.Places.{plan_of}
-use Rattle.statement.specs.Listing.{listing_of}
 use Rattle.statement.specs.Counts.{counts_line, counts_of}
 use Rattle.statement.specs.Figures.{stages_from, inter_lines, figures_of}
 use Rattle.statement.specs.Statement.{figures_line, total_line, row_text, total_of, held_figures, statement_text}
@@ -28,5 +25,4 @@ unfolding digits reading_on_literals keeps_rules is_readable check_fault checked
     portfolios_of held_of bind_fault bindings_of scenario_sums scan_of month_deltas spread_both_ways after_spreads intra_charge
     delivery_charge inter_both_ways after_inter_spreads credit_of minimum_of requirement_of stages_from inter_lines figures_of
     figures_line total_line row_text total_of held_figures statement_text statement_under statement_of counts_line counts_of
-    plan_text plan_of listing_of
 on_literals = tt
