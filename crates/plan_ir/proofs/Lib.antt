@@ -1,4 +1,6 @@
 pub mod PackingLemmas
 pub mod UserLemmas
+pub mod UserLaws
 pub mod PlaceLemmas
 pub mod BoundLaws
+pub mod SampleLaws

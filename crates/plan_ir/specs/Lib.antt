@@ -4,3 +4,5 @@ pub mod Apply
 pub mod Plans
 pub mod steps
 pub mod Listing
+pub mod Samples
+pub mod OnLiterals

@@ -3,9 +3,13 @@
 
 pub mod evaluation;
 pub mod figures;
+pub mod laws;
 pub mod listing;
 pub mod lists;
 pub mod ops;
 pub mod plans;
+#[cfg(test)]
+mod tests;
 mod users;
 pub mod values;
+mod worked;

@@ -1,0 +1,54 @@
+//! Texts, users and figures, computed by the definitions: each is the contract of a function that does nothing.
+#![tactic(auto, unfolding(crate::specs::OnLiterals::on_literals))]
+
+ghost use Rattle.std.specs.Prelude.{◌≡◌, [], ◌∷◌, codes, pos};
+ghost use Rattle.plan_ir.specs.Figures.{figures_from};
+ghost use Rattle.plan_ir.specs.Listing.{op_text, plan_text};
+ghost use Rattle.plan_ir.specs.Plans.{inputs_at, op_at, users_of};
+ghost use Rattle.plan_ir.specs.Samples.{scan, small_plan, step, tiers};
+ghost use Rattle.plan_ir.specs.declared.ops.Op.TheVariants as op;
+
+// Operations with one number, with two, and with none.
+fn texts_of_operations()
+    ensures one { op_text (op.TierStart 12) ≡ codes "TierStart(12)" }
+    ensures two { op_text (op.Spread 3 10) ≡ codes "Spread(3,10)" }
+    ensures none { op_text op.InterStart ≡ codes "InterStart()" }
+{}
+
+// A plan without commodities, and one whose first step is used by both others.
+fn texts_of_plans()
+    ensures no_commodity { plan_text (step op.InterStart [] ∷ step op.TotalStart [] ∷ [])
+        ≡ codes "0 InterStart()\n1 TotalStart()\n" }
+    ensures three_steps { plan_text (step (op.Gather 0) [] ∷ step (op.Sums 0) (0 ∷ []) ∷ step (op.Delivery 7) (1 ∷ 0 ∷ []) ∷ [])
+        ≡ codes "0 Gather(0)\n1 Sums(0) 0\n2 Delivery(7) 1 0\n" }
+{}
+
+// A step used by two others, one used by a step before it, and one that nothing uses.
+fn users_in_a_small_plan()
+    ensures two { users_of small_plan 0 ≡ 1 ∷ 2 ∷ [] }
+    ensures one_before { users_of small_plan 3 ≡ 2 ∷ [] }
+    ensures none { users_of small_plan 2 ≡ [] }
+    ensures past_the_end { users_of small_plan 4 ≡ [] }
+{}
+
+// A step of a plan, and one past its end.
+fn steps_of_a_small_plan()
+    ensures operation { op_at small_plan 2 ≡ op.Final 0 }
+    ensures inputs { inputs_at small_plan 2 ≡ 1 ∷ 0 ∷ 3 ∷ [] }
+    ensures no_inputs { inputs_at small_plan 4 ≡ [] }
+{}
+
+// A charge of 83.325 rounded up, and the larger of what the stages make and the minimum.
+fn figures_of_a_commodity()
+    ensures stages { figures_from scan tiers (pos 40) (pos 600) (pos 500)
+        ≡ record {
+          scan = pos 1200;
+          active = 13;
+          intra = pos 84;
+          delivery = pos 40;
+          credit = pos 600;
+          minimum = pos 500;
+          requirement = pos 724;
+        } }
+    ensures minimum { (figures_from scan tiers (pos 40) (pos 600) (pos 2500)).requirement ≡ pos 2500 }
+{}
