@@ -4,7 +4,7 @@ ghost use Rattle.span_tables.specs.Tables.{inters_of};
 ghost use Rattle.span_tables.specs.declared.limits.TheConstants.{MAX_COMMODITIES, MAX_INTER_SPREADS, MAX_INTRA_SPREADS};
 ghost use Rattle.plan_ir.specs.Apply.{IsOp};
 ghost use Rattle.plan_ir.specs.Figures.{intras_at};
-ghost use Rattle.plan_ir.specs.declared.ops.Op.TheVariants.{Final};
+ghost use Rattle.plan_ir.specs.declared.ops.Op.TheVariants.{Final, InterLoad};
 ghost use Rattle.plan_compiler.specs.declared.layout.TheConstants.{MAX_FIRST};
 ghost use Rattle.plan_compiler.specs.Places.{first_step, inputs_of, inter_step, load_step, tiers_step, total_step};
 ghost use Rattle.plan_compiler.specs.steps.Layout.{AreFirsts};
@@ -134,11 +134,7 @@ fn push_inputs(
             last_tiers_step(tables, firsts, c),
         ]),
         Op::Final(c) => push_final(lists, tables, firsts, c),
-        Op::InterLoad(c) => lists.push(&[
-            load_step(tables, firsts, c),
-            first_step(tables, firsts, c) + 3,
-            first_step(tables, firsts, c) + 2,
-        ]),
+        Op::InterLoad(c) => push_load(lists, tables, firsts, c),
         Op::InterSpread(j) => lists.push(&[inter_step(tables, firsts, j)]),
         Op::TotalAdd(c) => lists.push(&[
             total_step(tables, firsts, c),
@@ -166,6 +162,21 @@ fn push_final(
         tiers + 2,
         last_inter_step(tables, firsts),
     ])
+}
+
+// Appends the inputs of the step that loads a commodity: its months as they are before its spreads, and its scan.
+fn push_load(
+    lists: &mut NumberLists,
+    tables: &Tables,
+    firsts: &[u32],
+    c: u32,
+) -> Result<(), AllocError>
+    requires firsts { AreFirsts tables.now firsts.now }
+    requires among { c < length tables.now.commodities }
+    ensures { OnOk result (lists.new ≡ lists.old ++ inputs_of tables.now (InterLoad c) ∷ []) }
+{
+    let first = first_step(tables, firsts, c);
+    lists.push(&[load_step(tables, firsts, c), first + 3, first + 2])
 }
 
 // The inputs of the step of each of these operations.
