@@ -4,7 +4,7 @@ ghost use Rattle.span_tables.specs.Tables.{AcceptedTables};
 ghost use Rattle.std.specs.Prelude.{◌+◌, ◌*◌, ◌≤◌};
 ghost use Rattle.span_tables.specs.declared.limits.TheConstants.{MAX_COMMODITIES, MAX_INTER_SPREADS, MAX_INTRA_SPREADS};
 ghost use Rattle.plan_ir.specs.declared.plans.TheConstants.{MAX_STEPS};
-ghost use Rattle.plan_compiler.specs.Compiled.{IsCompiled, SetView};
+ghost use Rattle.plan_compiler.specs.Compiled.{IsCompiled};
 ghost use Rattle.plan_compiler.specs.Places.{plan_of};
 ghost use Rattle.plan_compiler.specs.Plan.{IsPlanOf};
 

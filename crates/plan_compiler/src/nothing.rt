@@ -1,5 +1,5 @@
 //! The values of a commodity of which nothing is held.
-ghost use Rattle.std.specs.Prelude.{◌≡◌, [], IfOk, pos};
+ghost use Rattle.std.specs.Prelude.{◌≡◌, [], pos};
 ghost use Rattle.std.specs.Arc.{arc_value};
 ghost use Rattle.plan_ir.specs.declared.values.Value.TheVariants as value;
 ghost use Rattle.scan_risk.specs.Scenarios.{scan_of, scenario_sums};
@@ -37,7 +37,8 @@ impl Model for NothingHeld {
 
     ghost view = { λ n. tt };
 
-    ghost invariant = { λ n. AreNothing (arc_value n.held) (arc_value n.sums) (arc_value n.scan) (arc_value n.months) (arc_value n.tiers) (arc_value n.amount) };
+    ghost invariant = { λ n. AreNothing (arc_value n.held) (arc_value n.sums) (arc_value n.scan)
+        (arc_value n.months) (arc_value n.tiers) (arc_value n.amount) };
 }
 
 impl NothingHeld {

@@ -1,13 +1,11 @@
 //! Compiled sets.
-ghost use Rattle.std.specs.Prelude.{◌≡◌, ◌<◌, ℕ, List, IfOk, length};
-ghost use Rattle.plan_ir.specs.Figures.{total_to};
+ghost use Rattle.std.specs.Prelude.{◌≡◌, ◌<◌, IfOk, length};
 ghost use Rattle.plan_ir.specs.Plans.{op_at};
 ghost use Rattle.plan_ir.specs.declared.ops.Op.TheVariants as operation;
 ghost use Rattle.plan_compiler.specs.Compiled.{IsCompiled, IsFirstInput};
 ghost use Rattle.plan_compiler.specs.Meaning.{last_total};
 ghost use Rattle.plan_compiler.specs.Places.{plan_of};
 ghost use Rattle.plan_compiler.specs.Plan.{IsPlanOf};
-ghost use Rattle.plan_compiler.specs.steps.Layout.{AreFirsts};
 
 use crate::layout::{first_steps, inputs_of_all, last_tiers_step, total_step};
 use crate::nothing::NothingHeld;
