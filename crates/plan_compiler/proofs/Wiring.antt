@@ -134,19 +134,9 @@ module _ (t : AcceptedTables) (limits : IsWithinLimits t) where
   wanted_lower_each (op.Spread c j) = (before_spread_lower c j, tt)
   wanted_lower_each (op.Delivery c) = (omega arith, (last_tiers_lower c, tt))
   wanted_lower_each (op.Minimum c) = (omega arith, tt)
-  wanted_lower_each (op.Final c) = (
-    omega arith,
-    (
-      omega (arith, last_tiers_lower c),
-      (
-        omega arith,
-        (
-          omega arith,
-          (omega (arith, before_inter_lower (length (inters_of t))), tt),
-        ),
-      ),
-    ),
-  )
+  wanted_lower_each (op.Final c) =
+      let inter = before_inter_lower (length (inters_of t)) in
+      (omega arith, (omega (arith, last_tiers_lower c), (omega arith, (omega arith, (omega (arith, inter), tt)))))
   wanted_lower_each op.InterStart = tt
   wanted_lower_each (op.InterLoad c) = (before_load_lower c, (omega arith, (omega arith, tt)))
   wanted_lower_each (op.InterSpread j) = (before_inter_lower j, tt)

@@ -6,3 +6,6 @@ pub mod layout;
 pub mod nothing;
 mod operations;
 pub mod set;
+#[cfg(test)]
+mod tests;
+mod worked;
