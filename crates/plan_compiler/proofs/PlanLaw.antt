@@ -1,5 +1,6 @@
 -- A plan of a set's operations, each with the places of what it wants, keeps the plan law.
-use Rattle.std.proofs.Common.{◌≡◌, ℕ, ◌<◌, false, List, [], ◌∷◌, length, map, Some, slice_get, slice_index_or}
+use Rattle.std.proofs.Common.{◌≡◌, ℕ, ◌+◌, ◌*◌, ◌≤◌, ◌<◌, false, List, [], ◌∷◌, length, map, Some}
+use Rattle.std.proofs.Common.{slice_get, slice_index_or}
 use Rattle.std.proofs.Common.{refl, sym, ap, subst, ◌∙◌, arith}
 use Rattle.std.specs.Prelude.{All, ◌==◌}
 use Rattle.std.specs.List.{AllByRecursion}
@@ -9,6 +10,7 @@ use Rattle.std.proofs.lemmas.Option.{get_or_from_slice_get, slice_get_within}
 use Rattle.span_tables.specs.Accepted.{IsWithinLimits}
 use Rattle.span_tables.specs.Names.{has_repeat}
 use Rattle.span_tables.specs.Tables.{AcceptedTables}
+use Rattle.span_tables.specs.declared.limits.TheConstants.{MAX_COMMODITIES, MAX_INTER_SPREADS, MAX_INTRA_SPREADS}
 use Rattle.span_tables.specs.declared.portfolios.Holding.{Holding}
 use Rattle.plan_ir.specs.Apply.{IsOp}
 use Rattle.plan_ir.specs.Plans.{AreInputs, StepView, inputs_at, no_step, op_at, ops_in, steps_with}
@@ -22,7 +24,7 @@ use Rattle.plan_compiler.specs.Places.{inputs_of, place_of, plan_of}
 use Rattle.plan_compiler.specs.steps.Layout.{AreFirsts}
 use Rattle.plan_compiler.specs.steps.Sets.{IsSet}
 use Rattle.plan_compiler.proofs.FromPlan.{inputs_within, known_before_total, known_ops, known_wanted, wired}
-use Rattle.plan_compiler.proofs.LayoutLemmas.{place_stands}
+use Rattle.plan_compiler.proofs.LayoutLemmas.{first_small, length_ops, place_stands}
 use Rattle.plan_compiler.proofs.Meanings.{gives_meaning}
 use Rattle.plan_compiler.proofs.Taken.{takes_meanings}
 use Rattle.plan_compiler.proofs.Wiring.{apart, few_inputs, few_steps, first_not_final, first_not_total, wanted_lower}
@@ -155,6 +157,17 @@ module _ (t : AcceptedTables) where
   -- and the plan keeps the plan law
   pub plan_keeps_law : IsWithinLimits t → IsCompiled (record { tables = t; plan = plan_of t })
   plan_keeps_law limits = compiled t (plan_of t) plan_ops plan_wires limits
+
+  -- and is no longer than that of the largest set
+  pub plan_is_short : IsWithinLimits t
+      → length (plan_of t) ≤ MAX_COMMODITIES * (10 + MAX_INTRA_SPREADS) + 1 + MAX_INTER_SPREADS + 1
+  unfolding plan_of
+  plan_is_short limits =
+      let small = first_small t limits (length t.commodities) in
+      let commodities = limits.commodities in
+      let inters = limits.few_inters in
+      let many = as_many_steps (ops_of t) (map (inputs_of t) (ops_of t)) lists_long in
+      omega (arith, many, length_ops t, small, commodities, inters)
 
   pub are_inputs : IsWithinLimits t → AreInputs (ops_of t) (map (inputs_of t) (ops_of t))
   are_inputs limits = record {

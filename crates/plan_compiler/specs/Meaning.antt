@@ -98,7 +98,7 @@ wanted t (op.TotalAdd c) = before_total c ∷ op.Final c ∷ []
 
 -- ---- ranks
 
--- more than the spreads of any commodity
+-- above the rank of every spread of a commodity
 abbrev pub rank_of_last_spread : ℕ
 rank_of_last_spread = 3 + MAX_INTRA_SPREADS
 

@@ -1,4 +1,4 @@
-//! Where the steps of a plan stand, and which steps are the inputs of each.
+//! Where the steps of a plan stand, and which steps are the inputs of each (docs/METHOD.md, "The plan of steps").
 ghost use Rattle.std.specs.Prelude.{◌≡◌, ◌+◌, ◌*◌, ◌<◌, ◌≤◌, ◌++◌, [], ◌∷◌, All, IfOk, OnOk, length, map};
 ghost use Rattle.span_tables.specs.Tables.{inters_of};
 ghost use Rattle.span_tables.specs.declared.limits.TheConstants.{MAX_COMMODITIES, MAX_INTER_SPREADS, MAX_INTRA_SPREADS};
@@ -15,7 +15,7 @@ use span_tables::limits::{MAX_COMMODITIES, MAX_INTRA_SPREADS};
 use span_tables::tables::Tables;
 use std::alloc::{AllocError, Global};
 
-/// The steps of a commodity beside its spreads.
+/// How many steps a commodity has beside those of its spreads.
 pub const COMMODITY_STEPS: usize = 8;
 /// The number of the first step between commodities, at most.
 pub const MAX_FIRST: usize = MAX_COMMODITIES * (COMMODITY_STEPS + MAX_INTRA_SPREADS);
@@ -34,7 +34,7 @@ pub(crate) fn first_steps(alloc: Global, tables: &Tables) -> Result<Vec<u32>, Al
     Ok(firsts)
 }
 
-// The number of a commodity's first step.
+// The number of a commodity's first step; with the number of commodities, that of the first step between them.
 fn first_step(tables: &Tables, firsts: &[u32], c: u32) -> u32
     requires firsts { AreFirsts tables.now firsts.now }
     requires among { c ≤ length tables.now.commodities }
