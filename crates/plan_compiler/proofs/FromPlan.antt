@@ -1,29 +1,19 @@
--- The plan of accepted tables keeps the plan law.
-use Rattle.std.proofs.Common.{◌≡◌, ℕ, zero, suc, ◌+◌, ◌*◌, ◌<◌, ◌≤◌, Bool, true, false, List, [], ◌∷◌, ◌++◌, length, map, Some, slice_get, slice_index, slice_index_or, get_or, refl, sym, ap, subst, ◌∙◌, arith, add-one}
-use Rattle.std.specs.Prelude.{All, ◌==◌}
+-- Each operation of a plan is one of the tables, and the inputs of its step are the places of what it wants.
+use Rattle.std.proofs.Common.{◌≡◌, ℕ, zero, suc, ◌+◌, ◌<◌, ◌≤◌, List, [], ◌∷◌, ◌++◌, length, map}
+use Rattle.std.proofs.Common.{Some, slice_get, refl, ap, ◌∙◌, arith, add-one}
+use Rattle.std.specs.Prelude.{All}
 use Rattle.std.specs.List.{AllByRecursion}
-use Rattle.std.proofs.lemmas.Bool.{ne_eqb}
-use Rattle.std.proofs.lemmas.List.{get_or-map, length-append, length-map}
-use Rattle.std.proofs.lemmas.List.Elements.{All-append, All-cons, All-from_get_or, All-from_recursion, All-map, All-nil}
-use Rattle.std.proofs.lemmas.Option.{get_or_from_slice_get, slice_get_within}
-use Rattle.span_tables.specs.Accepted.{IsWithinLimits, commodity_id}
-use Rattle.span_tables.specs.Names.{has_repeat}
+use Rattle.std.proofs.lemmas.List.Elements.{All-append, All-cons, All-from_recursion, All-nil}
+use Rattle.std.proofs.lemmas.Option.{slice_get_within}
 use Rattle.span_tables.specs.Tables.{AcceptedTables, inters_of}
-use Rattle.span_tables.specs.declared.portfolios.Holding.{Holding}
 use Rattle.plan_ir.specs.Apply.{IsOp}
 use Rattle.plan_ir.specs.Figures.{intras_at}
-use Rattle.plan_ir.specs.Plans.{AreInputs, StepView, inputs_at, no_step, op_at, ops_in, steps_with}
 use Rattle.plan_ir.specs.declared.ops.Op.{Op}
 use Rattle.plan_ir.specs.declared.ops.Op.TheVariants as op
-use Rattle.plan_ir.specs.declared.plans.TheConstants.{MAX_INPUTS, MAX_STEPS}
-use Rattle.plan_ir.proofs.UserLemmas.{as_many_steps, inputs_are, op_is}
-use Rattle.plan_compiler.specs.Compiled.{Fits, IsCompiled, IsFirstInput, step_meaning}
-use Rattle.plan_compiler.specs.Meaning.{before_inter, before_load, before_spread, before_total, last_inter, last_tiers, last_total, meaning, rank_of, wanted}
-use Rattle.plan_compiler.specs.Plan.{IsPlanOf, Names, commodity_ops, each, final_ops, first_ops, inter_ops, ops_of, spread_ops, total_ops}
-use Rattle.plan_compiler.specs.Places.{first_step, inputs_of, inter_step, load_step, place_of, tiers_step, total_step}
-use Rattle.plan_compiler.proofs.LayoutLemmas.{first_small, length_inter, length_singles, place_stands}
-use Rattle.plan_compiler.proofs.Meanings.{gives_meaning}
-use Rattle.plan_compiler.proofs.Taken.{takes_meanings}
+use Rattle.plan_compiler.specs.Meaning.{before_inter, before_load, before_spread, before_total, wanted}
+use Rattle.plan_compiler.specs.Plan.{Names, commodity_ops, each, final_ops, first_ops, inter_ops, ops_of, spread_ops, total_ops}
+use Rattle.plan_compiler.specs.Places.{inputs_of, inter_step, load_step, place_of, tiers_step, total_step}
+use Rattle.plan_compiler.proofs.LayoutLemmas.{place_stands}
 
 -- ---- every operation of the plan is one of the tables, and so is each that it wants
 
@@ -84,7 +74,8 @@ module _ (t : AcceptedTables) where
   known_wanted (op.Delivery c) known = (known, (known_before_spread c (length (intras_at t c)) known (omega arith), tt))
   known_wanted (op.Minimum c) known = (known, tt)
   known_wanted (op.Final c) known =
-      (known, (known_before_spread c (length (intras_at t c)) known (omega arith), (known, (known, (known_before_inter (length (inters_of t)) (omega arith), tt)))))
+      let tiers = known_before_spread c (length (intras_at t c)) known (omega arith) in
+      (known, (tiers, (known, (known, (known_before_inter (length (inters_of t)) (omega arith), tt)))))
   known_wanted op.InterStart known = tt
   known_wanted (op.InterLoad c) known = (known_before_load c (omega (arith, known)), (known, (known, tt)))
   known_wanted (op.InterSpread j) known = (known_before_inter j (omega (arith, known)), tt)
@@ -122,7 +113,9 @@ module _ (t : AcceptedTables) where
   place-before_load (suc c) = rw add-one refl
 
   pub place-before_inter : (j : ℕ) → place_of t (before_inter t j) ≡ inter_step t j
-  place-before_inter zero = place-before_load (length t.commodities) ∙ (let same : load_step t (length t.commodities) ≡ inter_step t 0 = omega arith in same)
+  place-before_inter zero =
+      let same : load_step t (length t.commodities) ≡ inter_step t 0 = omega arith in
+      place-before_load (length t.commodities) ∙ same
   place-before_inter (suc j) = rw add-one refl
 
   pub place-before_total : (c : ℕ) → place_of t (before_total c) ≡ total_step t c

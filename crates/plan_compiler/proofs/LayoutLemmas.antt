@@ -1,25 +1,26 @@
 -- Where the steps of a plan stand.
-use Rattle.std.proofs.Common.{◌≡◌, ℕ, zero, suc, ◌+◌, ◌-◌, ◌*◌, ◌<◌, ◌≤◌, List, [], ◌∷◌, ◌++◌, length, map, Some, slice_get, refl, sym, ap, ◌∙◌, arith, add-one, inl, inr}
-use Rattle.std.specs.Prelude.{⊤}
+use Rattle.std.proofs.Common.{◌≡◌, ℕ, zero, suc, ◌+◌, ◌*◌, ◌<◌, ◌≤◌, List, [], ◌∷◌, ◌++◌}
+use Rattle.std.proofs.Common.{length, Some, slice_get, refl, sym, ap, ◌∙◌, arith, add-one, inl, inr}
 use Rattle.std.proofs.lemmas.Bool.{cases_eq}
 use Rattle.std.proofs.lemmas.List.{append_assoc, length-append}
 use Rattle.span_tables.specs.Accepted.{IsWithinLimits, commodity_id}
 use Rattle.span_tables.specs.Tables.{AcceptedTables, inters_of}
-use Rattle.span_tables.specs.declared.limits.TheConstants.{MAX_COMMODITIES, MAX_INTRA_SPREADS}
+use Rattle.span_tables.specs.declared.limits.TheConstants.{MAX_INTRA_SPREADS}
 use Rattle.plan_ir.specs.Apply.{IsOp}
 use Rattle.plan_ir.specs.Figures.{intras_at}
 use Rattle.plan_ir.specs.declared.ops.Op.{Op}
 use Rattle.plan_ir.specs.declared.ops.Op.TheVariants as op
 use Rattle.plan_compiler.specs.Plan.{commodity_ops, each, final_ops, first_ops, inter_ops, ops_of, spread_ops, total_ops}
 use Rattle.plan_compiler.specs.declared.layout.TheConstants.{COMMODITY_STEPS}
-use Rattle.plan_compiler.specs.Places.{first_step, inter_step, load_step, place_of, tiers_step, total_step}
+use Rattle.plan_compiler.specs.Places.{first_step, place_of, total_step}
 
 -- one more of each
 pub each_more : (f : ℕ → List Op) (n : ℕ) → each f (n + 1) ≡ each f n ++ f n
 each_more f n = rw add-one refl
 
 -- one more of each, behind others
-pub each_appended : (f : ℕ → List Op) (n : ℕ) (old now new : List Op) → now ≡ old ++ each f n → new ≡ now ++ f n → new ≡ old ++ each f (n + 1)
+pub each_appended : (f : ℕ → List Op) (n : ℕ) (old now new : List Op) → now ≡ old ++ each f n → new ≡ now ++ f n
+    → new ≡ old ++ each f (n + 1)
 each_appended f n old now new e more =
     more ∙ ap (λ xs. xs ++ f n) e ∙ append_assoc old (each f n) (f n) ∙ ap (λ xs. old ++ xs) (sym (each_more f n))
 
@@ -27,7 +28,10 @@ each_appended f n old now new e more =
 
 pub length_singles : (f : ℕ → List Op) → ((c : ℕ) → length (f c) ≡ 1) → (n : ℕ) → length (each f n) ≡ n
 length_singles f one zero = refl
-length_singles f one (suc n) = let rest = length_singles f one n in let last = one n in omega (arith, length-append (each f n) (f n), rest, last)
+length_singles f one (suc n) =
+    let rest = length_singles f one n in
+    let last = one n in
+    omega (arith, length-append (each f n) (f n), rest, last)
 
 pub length_spreads : (c n : ℕ) → length (spread_ops c n) ≡ n
 length_spreads c n = length_singles (λ j. op.Spread c j ∷ []) (λ j. refl) n
@@ -42,7 +46,9 @@ length_commodity t c =
 
 -- a commodity's steps stand before those of the next
 pub first_more : (t : AcceptedTables) (c : ℕ) → first_step t (c + 1) ≡ first_step t c + (COMMODITY_STEPS + length (intras_at t c))
-first_more t c = ap length (each_more (commodity_ops t) c) ∙ length-append (each (commodity_ops t) c) (commodity_ops t c) ∙ ap (λ n. first_step t c + n) (length_commodity t c)
+first_more t c =
+    ap length (each_more (commodity_ops t) c) ∙ length-append (each (commodity_ops t) c) (commodity_ops t c)
+    ∙ ap (λ n. first_step t c + n) (length_commodity t c)
 
 -- not too many stand before it
 pub first_small : (t : AcceptedTables) → IsWithinLimits t → (c : ℕ) → first_step t c ≤ c * (COMMODITY_STEPS + MAX_INTRA_SPREADS)
@@ -64,22 +70,26 @@ at_back : (xs ys : List Op) (i k : ℕ) (o : Op) → slice_get ys i ≡ Some o �
 at_back xs ys i k o e at = ap (slice_get (xs ++ ys)) at ∙ behind xs ∙ e where
   behind : (zs : List Op) → slice_get (zs ++ ys) (length zs + i) ≡ slice_get ys i
   behind [] = let none : 0 + i ≡ i = omega arith in ap (slice_get ys) none
-  behind (z ∷ zs) = let next : suc (length zs) + i ≡ suc (length zs + i) = omega arith in ap (slice_get (z ∷ (zs ++ ys))) next ∙ behind zs
+  behind (z ∷ zs) =
+      let next : suc (length zs) + i ≡ suc (length zs + i) = omega arith in
+      ap (slice_get (z ∷ (zs ++ ys))) next ∙ behind zs
 
 -- the steps of one of each stand behind those before it
-at_each : (f : ℕ → List Op) (n c i k : ℕ) (o : Op) → c < n → slice_get (f c) i ≡ Some o → k ≡ length (each f c) + i → slice_get (each f n) k ≡ Some o
+at_each : (f : ℕ → List Op) (n c i k : ℕ) (o : Op) → c < n → slice_get (f c) i ≡ Some o
+    → k ≡ length (each f c) + i → slice_get (each f n) k ≡ Some o
 at_each f zero c i k o lt e at = elim lt [ ]
 at_each f (suc n) c i k o lt e at = elim (cases_eq c n) [
   | inl same ↦ at_back (each f n) (f n) i k o (rw (← same) e) (rw (← same) at)
   | inr other ↦ at_front (each f n) (f n) k o (at_each f n c i k o (omega (arith, lt, other)) e at)
 ]
 
-at_single : (f : ℕ → List Op) → ((c : ℕ) → length (f c) ≡ 1) → (n c k : ℕ) (o : Op) → c < n → slice_get (f c) 0 ≡ Some o → k ≡ c → slice_get (each f n) k ≡ Some o
+at_single : (f : ℕ → List Op) → ((c : ℕ) → length (f c) ≡ 1) → (n c k : ℕ) (o : Op) → c < n
+    → slice_get (f c) 0 ≡ Some o → k ≡ c → slice_get (each f n) k ≡ Some o
 at_single f one n c k o lt e at = at_each f n c 0 k o lt e (omega (arith, at, length_singles f one c))
 
 module _ (t : AcceptedTables) where
-  in_commodity : (c i k : ℕ) (o : Op) → c < length t.commodities → slice_get (commodity_ops t c) i ≡ Some o → k ≡ first_step t c + i
-      → slice_get (ops_of t) k ≡ Some o
+  in_commodity : (c i k : ℕ) (o : Op) → c < length t.commodities → slice_get (commodity_ops t c) i ≡ Some o
+      → k ≡ first_step t c + i → slice_get (ops_of t) k ≡ Some o
   in_commodity c i k o lt e at =
       let n = length t.commodities in
       at_front (each (commodity_ops t) n ++ inter_ops n (length (inters_of t))) (total_ops n) k o
@@ -118,7 +128,11 @@ module _ (t : AcceptedTables) where
       let between = inter_ops n (length (inters_of t)) in
       at_front (front ++ between) (total_ops n) k o (at_back front between i k o e at)
 
-  length_loads : length (op.InterStart ∷ [] ++ each (λ c. op.InterLoad c ∷ []) (length t.commodities)) ≡ 1 + length t.commodities
+  -- the steps that load commodities, behind the first step between commodities
+  abbrev loads : List Op
+  loads = op.InterStart ∷ [] ++ each (λ c. op.InterLoad c ∷ []) (length t.commodities)
+
+  length_loads : length loads ≡ 1 + length t.commodities
   length_loads =
       let n = length t.commodities in
       let many = length_singles (λ c. op.InterLoad c ∷ []) (λ c. refl) n in
@@ -128,12 +142,11 @@ module _ (t : AcceptedTables) where
   length_inter =
       let m = length (inters_of t) in
       let many = length_singles (λ j. op.InterSpread j ∷ []) (λ j. refl) m in
-      omega (arith, many, length_loads, length-append (op.InterStart ∷ [] ++ each (λ c. op.InterLoad c ∷ []) (length t.commodities)) (each (λ j. op.InterSpread j ∷ []) m))
+      omega (arith, many, length_loads, length-append loads (each (λ j. op.InterSpread j ∷ []) m))
 
-  in_loads : (i : ℕ) (o : Op) → slice_get (op.InterStart ∷ [] ++ each (λ c. op.InterLoad c ∷ []) (length t.commodities)) i ≡ Some o
+  in_loads : (i : ℕ) (o : Op) → slice_get loads i ≡ Some o
       → slice_get (inter_ops (length t.commodities) (length (inters_of t))) i ≡ Some o
-  in_loads i o e =
-      at_front (op.InterStart ∷ [] ++ each (λ c. op.InterLoad c ∷ []) (length t.commodities)) (each (λ j. op.InterSpread j ∷ []) (length (inters_of t))) i o e
+  in_loads i o e = at_front loads (each (λ j. op.InterSpread j ∷ []) (length (inters_of t))) i o e
 
   in_total : (i k : ℕ) (o : Op) → slice_get (total_ops (length t.commodities)) i ≡ Some o
       → k ≡ total_step t 0 + i → slice_get (ops_of t) k ≡ Some o
@@ -163,9 +176,11 @@ module _ (t : AcceptedTables) where
       (omega arith)
   place_stands (op.InterSpread j) known =
       let n = length t.commodities in
+      let m = length (inters_of t) in
       in_inter (1 + n + j) _ (op.InterSpread j)
-      (at_back (op.InterStart ∷ [] ++ each (λ c. op.InterLoad c ∷ []) n) (each (λ i. op.InterSpread i ∷ []) (length (inters_of t))) j (1 + n + j) (op.InterSpread j)
-      (at_single (λ i. op.InterSpread i ∷ []) (λ i. refl) (length (inters_of t)) j j (op.InterSpread j) known refl refl) (omega (arith, length_loads)))
+      (at_back loads (each (λ i. op.InterSpread i ∷ []) m) j (1 + n + j) (op.InterSpread j)
+      (at_single (λ i. op.InterSpread i ∷ []) (λ i. refl) m j j (op.InterSpread j) known refl refl)
+      (omega (arith, length_loads)))
       (omega arith)
   place_stands op.TotalStart known = in_total 0 _ op.TotalStart refl (omega arith)
   place_stands (op.TotalAdd c) known =
@@ -178,7 +193,10 @@ module _ (t : AcceptedTables) where
   pub first_before : (c n : ℕ) → c < n → first_step t c + (COMMODITY_STEPS + length (intras_at t c)) ≤ first_step t n
   first_before c zero lt = elim lt [ ]
   first_before c (suc n) lt = elim (cases_eq c n) [
-    | inl same ↦ let here = first_more t c in let more : first_step t (c + 1) ≡ first_step t (suc n) = rw same (rw add-one refl) in omega (arith, here, more)
+    | inl same ↦
+        let here = first_more t c in
+        let more : first_step t (c + 1) ≡ first_step t (suc n) = rw same (rw add-one refl) in
+        omega (arith, here, more)
     | inr other ↦
         let before = first_before c n (omega (arith, lt, other)) in
         let more = length-append (each (commodity_ops t) n) (commodity_ops t n) in

@@ -4,3 +4,4 @@ pub mod LayoutLemmas
 pub mod FromPlan
 pub mod Wiring
 pub mod PlanLaw
+pub mod SampleLaws

@@ -1,5 +1,6 @@
 -- On the meanings of the wanted operations each operation has its own meaning.
-use Rattle.std.proofs.Common.{◌≡◌, ℕ, zero, suc, ◌+◌, ◌-◌, ◌<◌, ◌≤◌, List, [], ◌∷◌, ◌++◌, length, map, take, fold, slice_index_or, slice_set, refl, sym, ap, ◌∙◌, arith, pos, ℤ, ◌+ℤ◌, add-one}
+use Rattle.std.proofs.Common.{◌≡◌, ℕ, zero, suc, ◌+◌, ◌-◌, ◌<◌, List, [], ◌∷◌, ◌++◌, length, map}
+use Rattle.std.proofs.Common.{slice_set, refl, sym, ap, ◌∙◌, arith, pos, ℤ, ◌+ℤ◌, add-one}
 use Rattle.std.specs.Prelude.{replicate}
 use Rattle.std.specs.List.{range_with_len}
 use Rattle.std.proofs.lemmas.List.{append-nil, append_assoc, map-id, take_all}
@@ -13,12 +14,12 @@ use Rattle.span_tables.specs.declared.portfolios.Holding.{Holding}
 use Rattle.spread_stage.specs.Spreads.{after_spreads, spread_both_ways, unspread}
 use Rattle.inter_credit.specs.Credits.{after_inter_spreads, inter_both_ways, unspread_line}
 use Rattle.plan_ir.specs.Apply.{IsOp, inter_at, intra_at, no_inter, no_intra, value_on}
-use Rattle.plan_ir.specs.Figures.{deltas_at, figures_of, inter_lines, intras_at, line_of, loaded_lines, scan_at, tiers_at, total_to}
+use Rattle.plan_ir.specs.Figures.{deltas_at, figures_of, inter_lines, intras_at, line_of, loaded_lines, tiers_at, total_to}
 use Rattle.plan_ir.specs.declared.ops.Op.{Op}
 use Rattle.plan_ir.specs.declared.ops.Op.TheVariants as op
-use Rattle.plan_ir.specs.declared.values.Value.{Value}
 use Rattle.plan_ir.specs.declared.values.Value.TheVariants as value
-use Rattle.plan_compiler.specs.Meaning.{before_inter, before_load, before_spread, before_total, last_inter, last_tiers, lines_after, lines_loaded, meaning, tiers_after, wanted}
+use Rattle.plan_compiler.specs.Meaning.{before_inter, before_load, before_spread, before_total, last_inter, last_tiers}
+use Rattle.plan_compiler.specs.Meaning.{lines_after, lines_loaded, meaning, tiers_after, wanted}
 
 module _ (t : AcceptedTables) (holdings : List Holding) where
   -- ---- what stands before an operation means the state before it
@@ -49,15 +50,18 @@ module _ (t : AcceptedTables) (holdings : List Holding) where
 
   -- ---- one step more
 
-  spread_more : (c j : ℕ) → j < length (intras_at t c) → spread_both_ways (tiers_after t holdings c j) (intra_at t c j) ≡ tiers_after t holdings c (j + 1)
+  spread_more : (c j : ℕ) → j < length (intras_at t c)
+      → spread_both_ways (tiers_after t holdings c j) (intra_at t c j) ≡ tiers_after t holdings c (j + 1)
   unfolding after_spreads
   spread_more c j lt = sym (fold_more spread_both_ways (unspread (deltas_at t holdings c)) (intras_at t c) j no_intra lt)
 
-  inter_more : (j : ℕ) → j < length (inters_of t) → inter_both_ways (lines_after t holdings j) (inter_at t j) ≡ lines_after t holdings (j + 1)
+  inter_more : (j : ℕ) → j < length (inters_of t)
+      → inter_both_ways (lines_after t holdings j) (inter_at t j) ≡ lines_after t holdings (j + 1)
   unfolding after_inter_spreads
   inter_more j lt = sym (fold_more inter_both_ways (loaded_lines t holdings) (inters_of t) j no_inter lt)
 
-  load_more : (c : ℕ) → c < length t.commodities → slice_set (lines_loaded t holdings c) c (line_of t holdings c) ≡ lines_loaded t holdings (c + 1)
+  load_more : (c : ℕ) → c < length t.commodities
+      → slice_set (lines_loaded t holdings c) c (line_of t holdings c) ≡ lines_loaded t holdings (c + 1)
   load_more c lt =
       let front = map (line_of t holdings) (range_with_len 0 c) in
       let none = unspread_line (pos 0) 0 in
@@ -79,14 +83,19 @@ module _ (t : AcceptedTables) (holdings : List Holding) where
       let more : range_with_len 0 (c + 1) ≡ range_with_len 0 c ++ c ∷ [] =
       sym (map-id (range_with_len 0 (c + 1))) ∙ map-range_with_len_more (λ n. n) 0 c c zero_more
       ∙ ap (λ ns. ns ++ c ∷ []) (map-id (range_with_len 0 c)) in
-      sym (ap (int_sum_by (λ n. (figures_of t holdings n).requirement)) more ∙ fold-append requirements (pos 0) (range_with_len 0 c) (c ∷ []))
+      sym (ap (int_sum_by (λ n. (figures_of t holdings n).requirement)) more
+      ∙ fold-append requirements (pos 0) (range_with_len 0 c) (c ∷ []))
 
   all_tiers : (c : ℕ) → tiers_after t holdings c (length (intras_at t c)) ≡ tiers_at t holdings c
-  all_tiers c = ap (λ spreads. after_spreads spreads (deltas_at t holdings c)) (take_all (length (intras_at t c)) (intras_at t c) (omega arith))
+  all_tiers c =
+      ap (λ spreads. after_spreads spreads (deltas_at t holdings c))
+      (take_all (length (intras_at t c)) (intras_at t c) (omega arith))
 
   pub all_lines : lines_after t holdings (length (inters_of t)) ≡ inter_lines t holdings
   unfolding inter_lines
-  all_lines = ap (λ spreads. after_inter_spreads spreads (loaded_lines t holdings)) (take_all (length (inters_of t)) (inters_of t) (omega arith))
+  all_lines =
+      ap (λ spreads. after_inter_spreads spreads (loaded_lines t holdings))
+      (take_all (length (inters_of t)) (inters_of t) (omega arith))
 
   pub meaning-last_tiers : (c : ℕ) → meaning t holdings (last_tiers t c) ≡ value.Tiers (tiers_at t holdings c)
   meaning-last_tiers c = meaning-before_spread c (length (intras_at t c)) ∙ ap value.Tiers (all_tiers c)

@@ -1,5 +1,7 @@
 -- A plan of a set's operations, each with the places of what it wants, keeps the plan law.
-use Rattle.std.proofs.Common.{◌≡◌, ℕ, ◌+◌, ◌<◌, ◌≤◌, true, false, List, [], ◌∷◌, length, map, Some, slice_get, slice_index, slice_index_or, refl, sym, ap, subst, ◌∙◌, arith}
+use Rattle.std.proofs.Common.{◌≡◌, ℕ, ◌+◌, ◌*◌, ◌≤◌, ◌<◌, false, List, [], ◌∷◌, length, map, Some}
+use Rattle.std.proofs.Common.{slice_get, slice_index_or}
+use Rattle.std.proofs.Common.{refl, sym, ap, subst, ◌∙◌, arith}
 use Rattle.std.specs.Prelude.{All, ◌==◌}
 use Rattle.std.specs.List.{AllByRecursion}
 use Rattle.std.proofs.lemmas.List.{get_or-map, length-map}
@@ -7,25 +9,22 @@ use Rattle.std.proofs.lemmas.List.Elements.{All-cons, All-map, All-nil, recursio
 use Rattle.std.proofs.lemmas.Option.{get_or_from_slice_get, slice_get_within}
 use Rattle.span_tables.specs.Accepted.{IsWithinLimits}
 use Rattle.span_tables.specs.Names.{has_repeat}
-use Rattle.span_tables.specs.Tables.{AcceptedTables, inters_of}
+use Rattle.span_tables.specs.Tables.{AcceptedTables}
+use Rattle.span_tables.specs.declared.limits.TheConstants.{MAX_COMMODITIES, MAX_INTER_SPREADS, MAX_INTRA_SPREADS}
 use Rattle.span_tables.specs.declared.portfolios.Holding.{Holding}
-use Rattle.plan_ir.specs.Apply.{IsOp, Takes, value_on}
-use Rattle.plan_ir.specs.Figures.{intras_at}
+use Rattle.plan_ir.specs.Apply.{IsOp}
 use Rattle.plan_ir.specs.Plans.{AreInputs, StepView, inputs_at, no_step, op_at, ops_in, steps_with}
 use Rattle.plan_ir.specs.declared.ops.Op.{Op}
 use Rattle.plan_ir.specs.declared.ops.Op.TheVariants as op
-use Rattle.plan_ir.specs.declared.plans.TheConstants.{MAX_INPUTS}
-use Rattle.plan_ir.specs.declared.values.Value.{Value}
 use Rattle.plan_ir.proofs.UserLemmas.{all_ops, as_many_steps, inputs_are, op_is}
-use Rattle.plan_compiler.specs.Compiled.{Fits, IsCompiled, IsFirstInput, SetView, input_meanings, step_meaning}
-use Rattle.plan_compiler.specs.Meaning.{before_total, last_total, meaning, rank_of, wanted}
-use Rattle.plan_compiler.specs.Plan.{IsPlanOf, Names, ops_of}
+use Rattle.plan_compiler.specs.Compiled.{IsCompiled, IsFirstInput}
+use Rattle.plan_compiler.specs.Meaning.{last_total, meaning, rank_of, wanted}
+use Rattle.plan_compiler.specs.Plan.{IsPlanOf, ops_of}
 use Rattle.plan_compiler.specs.Places.{inputs_of, place_of, plan_of}
 use Rattle.plan_compiler.specs.steps.Layout.{AreFirsts}
-use Rattle.plan_compiler.specs.steps.Layout.{AreFirsts}
 use Rattle.plan_compiler.specs.steps.Sets.{IsSet}
-use Rattle.plan_compiler.proofs.FromPlan.{inputs_within, known_before_total, known_ops, known_wanted, place-before_total, wired}
-use Rattle.plan_compiler.proofs.LayoutLemmas.{place_stands}
+use Rattle.plan_compiler.proofs.FromPlan.{inputs_within, known_before_total, known_ops, known_wanted, wired}
+use Rattle.plan_compiler.proofs.LayoutLemmas.{first_small, length_ops, place_stands}
 use Rattle.plan_compiler.proofs.Meanings.{gives_meaning}
 use Rattle.plan_compiler.proofs.Taken.{takes_meanings}
 use Rattle.plan_compiler.proofs.Wiring.{apart, few_inputs, few_steps, first_not_final, first_not_total, wanted_lower}
@@ -34,7 +33,8 @@ use Rattle.plan_compiler.proofs.Wiring.{apart, few_inputs, few_steps, first_not_
 op_named : (plan : List StepView) (i : ℕ) (o : Op) → slice_get (ops_in plan) i ≡ Some o → op_at plan i ≡ o
 op_named plan i o e =
     let within : i < length plan = omega (arith, slice_get_within (ops_in plan) i o e, length-map plan (λ (s : StepView). s.op)) in
-    sym (get_or-map (λ (s : StepView). s.op) plan i no_step op.TotalStart within) ∙ get_or_from_slice_get (ops_in plan) i o op.TotalStart e
+    sym (get_or-map (λ (s : StepView). s.op) plan i no_step op.TotalStart within)
+    ∙ get_or_from_slice_get (ops_in plan) i o op.TotalStart e
 
 map_of_map : {A B C : Type 0} (f : B → C) (g : A → B) (xs : List A) → map f (map g xs) ≡ map (λ x. f (g x)) xs
 map_of_map f g [] = refl
@@ -47,8 +47,10 @@ module _ (t : AcceptedTables) (plan : List StepView) (ops : ops_in plan ≡ ops_
 
   op_known : (k : ℕ) → k < length plan → IsOp t (op_at plan k)
   op_known k lt =
-      let at : slice_index_or (ops_in plan) k op.TotalStart ≡ op_at plan k = get_or-map (λ (s : StepView). s.op) plan k no_step op.TotalStart lt in
-      subst (IsOp t) (sym (ap (λ os. slice_index_or os k op.TotalStart) ops) ∙ at) (known_ops t k op.TotalStart (omega (arith, lt, long)))
+      let at : slice_index_or (ops_in plan) k op.TotalStart ≡ op_at plan k =
+      get_or-map (λ (s : StepView). s.op) plan k no_step op.TotalStart lt in
+      subst (IsOp t) (sym (ap (λ os. slice_index_or os k op.TotalStart) ops) ∙ at)
+      (known_ops t k op.TotalStart (omega (arith, lt, long)))
 
   stands : (o : Op) → IsOp t o → op_at plan (place_of t o) ≡ o
   stands o known = op_named plan (place_of t o) o (ap (λ os. slice_get os (place_of t o)) ops ∙ place_stands t o known)
@@ -65,7 +67,9 @@ module _ (t : AcceptedTables) (plan : List StepView) (ops : ops_in plan ≡ ops_
 
   inputs_mean : (holdings : List Holding) (k : ℕ) → k < length plan
       → map (λ i. meaning t holdings (op_at plan i)) (inputs_at plan k) ≡ map (meaning t holdings) (wanted t (op_at plan k))
-  inputs_mean holdings k lt = sym (map_of_map (meaning t holdings) (op_at plan) (inputs_at plan k)) ∙ ap (map (meaning t holdings)) (input_ops k lt)
+  inputs_mean holdings k lt =
+      sym (map_of_map (meaning t holdings) (op_at plan) (inputs_at plan k))
+      ∙ ap (map (meaning t holdings)) (input_ops k lt)
 
   pub is_plan : IsPlanOf t plan
   is_plan = record {
@@ -90,7 +94,8 @@ module _ (t : AcceptedTables) (plan : List StepView) (ops : ops_in plan ≡ ops_
     rank = λ k. rank_of t (op_at plan k);
     lower = λ k lt. rw (wires k lt) (lower_inputs (rank_of t (op_at plan k)) (wanted t (op_at plan k))
         (known_wanted t (op_at plan k) (op_known k lt))
-        (recursion_from_All (λ w. rank_of t w < rank_of t (op_at plan k)) (wanted t (op_at plan k)) (wanted_lower t limits (op_at plan k))));
+        (recursion_from_All (λ w. rank_of t w < rank_of t (op_at plan k)) (wanted t (op_at plan k))
+        (wanted_lower t limits (op_at plan k))));
     taken = λ holdings fits k lt. rw (inputs_mean holdings k lt)
         (takes_meanings t holdings limits fits.portfolio fits.known (op_at plan k) (op_known k lt));
     gives = λ holdings fits k lt. rw (inputs_mean holdings k lt) (gives_meaning t holdings (op_at plan k) (op_known k lt));
@@ -105,7 +110,8 @@ module _ (t : AcceptedTables) (plan : List StepView) (ops : ops_in plan ≡ ops_
   op_at_place o known = stands o known
 
   -- what a first input is the first of
-  first_op : (j : ℕ) (f : IsFirstInput plan j) → (0 < length (wanted t (op_at plan f.user))) × (slice_index_or (wanted t (op_at plan f.user)) 0 op.TotalStart ≡ op_at plan j)
+  first_op : (j : ℕ) (f : IsFirstInput plan j) → (0 < length (wanted t (op_at plan f.user)))
+      × (slice_index_or (wanted t (op_at plan f.user)) 0 op.TotalStart ≡ op_at plan j)
   first_op j f =
       let os = input_ops f.user f.in_range in
       let numbers = inputs_at plan f.user in
@@ -152,6 +158,17 @@ module _ (t : AcceptedTables) where
   pub plan_keeps_law : IsWithinLimits t → IsCompiled (record { tables = t; plan = plan_of t })
   plan_keeps_law limits = compiled t (plan_of t) plan_ops plan_wires limits
 
+  -- and is no longer than that of the largest set
+  pub plan_is_short : IsWithinLimits t
+      → length (plan_of t) ≤ MAX_COMMODITIES * (10 + MAX_INTRA_SPREADS) + 1 + MAX_INTER_SPREADS + 1
+  unfolding plan_of
+  plan_is_short limits =
+      let small = first_small t limits (length t.commodities) in
+      let commodities = limits.commodities in
+      let inters = limits.few_inters in
+      let many = as_many_steps (ops_of t) (map (inputs_of t) (ops_of t)) lists_long in
+      omega (arith, many, length_ops t, small, commodities, inters)
+
   pub are_inputs : IsWithinLimits t → AreInputs (ops_of t) (map (inputs_of t) (ops_of t))
   are_inputs limits = record {
     few = few_steps t limits;
@@ -164,13 +181,15 @@ module _ (t : AcceptedTables) where
 
   -- what is made of the operations and their inputs is the plan of the tables
   pub made_plan : (plan : List StepView) (items seen : List Op) (lists : List (List ℕ))
-      → plan ≡ steps_with items lists → lists ≡ map (inputs_of t) seen → seen ≡ items → items ≡ ops_of t → plan ≡ plan_of t
+      → plan ≡ steps_with items lists → lists ≡ map (inputs_of t) seen → seen ≡ items → items ≡ ops_of t
+      → plan ≡ plan_of t
   unfolding plan_of
   made_plan plan items seen lists plan_is lists_are same items_are =
       plan_is ∙ ap (steps_with items) (lists_are ∙ ap (map (inputs_of t)) (same ∙ items_are))
       ∙ ap (λ os. steps_with os (map (inputs_of t) (ops_of t))) items_are
 
-  pub made_set : IsWithinLimits t → (plan : List StepView) (firsts : List ℕ) → plan ≡ plan_of t → AreFirsts t firsts → IsSet t plan firsts
+  pub made_set : IsWithinLimits t → (plan : List StepView) (firsts : List ℕ) → plan ≡ plan_of t
+      → AreFirsts t firsts → IsSet t plan firsts
   made_set limits plan firsts is firsts_are = rw is (record {
     limits = limits;
     is_plan = plan_is_wired;

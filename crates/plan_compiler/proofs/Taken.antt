@@ -1,33 +1,32 @@
 -- The meanings of the wanted operations are what each operation takes.
-use Rattle.std.proofs.Common.{◌≡◌, ℕ, zero, suc, ◌+◌, ◌-◌, ◌*◌, ◌<◌, ◌≤◌, true, List, [], ◌∷◌, ◌++◌, length, map, take, slice_index_or, refl, sym, ap, ◌∙◌, arith, pos, ℤ, ◌+ℤ◌, nat_abs}
-use Rattle.std.specs.Prelude.{All, IfSome, Some, replicate, slice_get}
+use Rattle.std.proofs.Common.{◌≡◌, ℕ, suc, ◌+◌, ◌-◌, ◌<◌, ◌≤◌, true, List, [], ◌∷◌, ◌++◌}
+use Rattle.std.proofs.Common.{length, map, take, refl, sym, ap, ◌∙◌, arith, pos, nat_abs}
+use Rattle.std.specs.Prelude.{All, Some, replicate, slice_get}
 use Rattle.std.specs.List.{range_with_len}
-use Rattle.span_money.specs.declared.amounts.TheConstants.{MAX_MONEY}
-use Rattle.span_tables.specs.Accepted.{IsInter, IsWithinLimits, commodity_id}
-use Rattle.span_tables.specs.Holdings.{AreHeld, ArePortfolio, fits}
+use Rattle.span_tables.specs.Accepted.{IsWithinLimits}
+use Rattle.span_tables.specs.Holdings.{ArePortfolio, fits}
 use Rattle.span_tables.specs.Tables.{AcceptedTables, inters_of}
-use Rattle.span_tables.specs.declared.limits.TheConstants.{MAX_PRICE2, MAX_SUM}
+use Rattle.span_tables.specs.declared.limits.TheConstants.{MAX_SUM}
 use Rattle.span_tables.specs.declared.portfolios.Holding.{Holding}
-use Rattle.scan_risk.specs.Scenarios.{scan_of, scenario_sums}
+use Rattle.scan_risk.specs.Scenarios.{scenario_sums}
 use Rattle.spread_stage.proofs.FallLemmas.{spreads_shrink}
 use Rattle.inter_credit.proofs.BoundLaws.{length-after_inter_spreads}
 use Rattle.scan_risk.proofs.BoundLaws as scan
 use Rattle.plan_ir.proofs.BoundLaws.{delivery_at_small, held_at_are, length-inter_lines, length-loaded_lines}
 use Rattle.plan_ir.proofs.BoundLaws.{minimum_at_small, next_total_is_money, price2_at_small, risk_at_small}
-use Rattle.inter_credit.specs.Credits.{after_inter_spreads, inter_both_ways, unspread_line}
-use Rattle.inter_credit.specs.declared.state.InterLine.{InterLine}
-use Rattle.span_tables.specs.declared.records.Inter.{Inter}
+use Rattle.inter_credit.specs.Credits.{unspread_line}
 use Rattle.std.proofs.lemmas.List.{length-append, length-replicate}
 use Rattle.std.proofs.lemmas.List.Elements.{All-append, All-map, All-replicate}
 use Rattle.std.proofs.lemmas.List.FromFn.{length-map-range_with_len}
 use Rattle.inter_credit.specs.States.{IsNotLoaded, IsUnspread, IsUnspreadLine}
 use Rattle.inter_credit.specs.declared.requirement.TheConstants.{MAX_PART}
 use Rattle.plan_ir.specs.Apply.{IsOp, Takes}
-use Rattle.plan_ir.specs.Figures.{commodity_at, no_commodity, spots_at, tiers_at, deltas_at, delivery_at, figures_of, held_at, inter_lines, intras_at, line_of, loaded_lines, minimum_at, scan_at, total_to}
+use Rattle.plan_ir.specs.Figures.{deltas_at, delivery_at, held_at, intras_at, line_of, loaded_lines, minimum_at, scan_at}
 use Rattle.plan_ir.specs.declared.ops.Op.{Op}
 use Rattle.plan_ir.specs.declared.ops.Op.TheVariants as op
 use Rattle.plan_compiler.specs.Meaning.{lines_after, lines_loaded, meaning, wanted}
-use Rattle.plan_compiler.proofs.Meanings.{meaning-before_inter, meaning-before_load, meaning-before_spread, meaning-before_total, meaning-last_inter, meaning-last_tiers, total_more}
+use Rattle.plan_compiler.proofs.Meanings.{meaning-before_inter, meaning-before_load, meaning-before_spread, meaning-before_total}
+use Rattle.plan_compiler.proofs.Meanings.{meaning-last_inter, meaning-last_tiers}
 
 -- the element behind a front
 at_seam : {A : Type 0} (xs : List A) (x : A) (ys : List A) → slice_get (xs ++ x ∷ ys) (length xs) ≡ Some x
@@ -51,7 +50,9 @@ module _ (t : AcceptedTables) (holdings : List Holding) (limits : IsWithinLimits
   -- ---- the commodities
 
   length_lines : (j : ℕ) → length (lines_after t holdings j) ≡ length t.commodities
-  length_lines j = length-after_inter_spreads (take j (inters_of t)) (loaded_lines t holdings) ∙ length-loaded_lines t holdings limits portfolio known
+  length_lines j =
+      length-after_inter_spreads (take j (inters_of t)) (loaded_lines t holdings)
+      ∙ length-loaded_lines t holdings limits portfolio known
 
   length_partly : (c : ℕ) → c ≤ length t.commodities → length (lines_loaded t holdings c) ≡ length t.commodities
   length_partly c le =
@@ -91,7 +92,10 @@ module _ (t : AcceptedTables) (holdings : List Holding) (limits : IsWithinLimits
   takes_meanings (op.ScanMax c) is = record { known = is; taken = record { count = refl; sums = tt; small = sums_small c } }
   takes_meanings (op.Months c) is = record { known = is; taken = record { count = refl; held = tt } }
   takes_meanings (op.TierStart c) is = record { known = is; taken = record { count = refl; months = tt } }
-  takes_meanings (op.Spread c j) is = rw (meaning-before_spread t holdings c j) (record { known = is; taken = record { count = refl; tiers = tt } })
+  takes_meanings (op.Spread c j) is = rw (meaning-before_spread t holdings c j) (record {
+    known = is;
+    taken = record { count = refl; tiers = tt };
+  })
   takes_meanings (op.Delivery c) is = rw (meaning-last_tiers t holdings c) (record {
     known = is;
     taken = record { count = refl; months = tt; tiers = tt; shrinks = spreads_shrink (intras_at t c) (deltas_at t holdings c) };
@@ -126,7 +130,10 @@ module _ (t : AcceptedTables) (holdings : List Holding) (limits : IsWithinLimits
       price2_small = price2_at_small t holdings limits portfolio known c;
     };
   })
-  takes_meanings (op.InterSpread j) is = rw (meaning-before_inter t holdings j) (record { known = is; taken = record { count = refl; lines = tt; many = length_lines j } })
+  takes_meanings (op.InterSpread j) is = rw (meaning-before_inter t holdings j) (record {
+    known = is;
+    taken = record { count = refl; lines = tt; many = length_lines j };
+  })
   takes_meanings op.TotalStart is = record { known = tt; taken = record { count = refl } }
   takes_meanings (op.TotalAdd c) is = rw (meaning-before_total t holdings c) (record {
     known = is;

@@ -1,5 +1,6 @@
 -- The inputs of a step: few, each once, and of lower rank; and which steps are no first inputs.
-use Rattle.std.proofs.Common.{◌≡◌, ℕ, zero, suc, ◌+◌, ◌*◌, ◌<◌, ◌≤◌, Bool, true, false, List, [], ◌∷◌, length, map, slice_index_or, refl, sym, ap, ◌∙◌, arith}
+use Rattle.std.proofs.Common.{◌≡◌, ℕ, zero, suc, ◌+◌, ◌<◌, ◌≤◌, false, [], ◌∷◌, length}
+use Rattle.std.proofs.Common.{slice_index_or, refl, sym, ap, arith}
 use Rattle.std.specs.Prelude.{All, ◌==◌}
 use Rattle.std.specs.List.{AllByRecursion}
 use Rattle.std.proofs.lemmas.Bool.{ne_eqb}
@@ -7,15 +8,15 @@ use Rattle.std.proofs.lemmas.List.Elements.{All-from_recursion}
 use Rattle.span_tables.specs.Accepted.{IsWithinLimits, commodity_id}
 use Rattle.span_tables.specs.Names.{has_repeat}
 use Rattle.span_tables.specs.Tables.{AcceptedTables, inters_of}
-use Rattle.span_tables.specs.declared.limits.TheConstants.{MAX_COMMODITIES, MAX_INTER_SPREADS, MAX_INTRA_SPREADS}
 use Rattle.plan_ir.specs.Apply.{IsOp}
 use Rattle.plan_ir.specs.Figures.{intras_at}
 use Rattle.plan_ir.specs.declared.ops.Op.{Op}
 use Rattle.plan_ir.specs.declared.ops.Op.TheVariants as op
 use Rattle.plan_ir.specs.declared.plans.TheConstants.{MAX_INPUTS, MAX_STEPS}
-use Rattle.plan_compiler.specs.Meaning.{before_inter, before_load, before_spread, before_total, last_inter, last_tiers, last_total, rank_of, rank_of_last_spread, wanted}
+use Rattle.plan_compiler.specs.Meaning.{before_inter, before_load, before_spread, before_total, last_tiers, last_total, rank_of}
+use Rattle.plan_compiler.specs.Meaning.{rank_of_last_spread, wanted}
 use Rattle.plan_compiler.specs.Plan.{ops_of}
-use Rattle.plan_compiler.specs.Places.{first_step, inputs_of, inter_step, load_step, place_of, tiers_step, total_step}
+use Rattle.plan_compiler.specs.Places.{first_step, inputs_of, inter_step, load_step, tiers_step, total_step}
 use Rattle.plan_compiler.proofs.LayoutLemmas.{first_before, first_small, length_ops}
 use Rattle.plan_compiler.proofs.FromPlan.{place-before_inter, place-before_load, place-before_spread, place-before_total}
 
@@ -24,13 +25,15 @@ use Rattle.plan_compiler.proofs.FromPlan.{place-before_inter, place-before_load,
 two_apart : (a b : ℕ) → (a ≡ b → ⊥) → has_repeat (λ x y. x == y) (a ∷ b ∷ []) ≡ false
 two_apart a b ab = rw (ne_eqb a b ab) refl
 
-three_apart : (a b d : ℕ) → (a ≡ b → ⊥) → (a ≡ d → ⊥) → (b ≡ d → ⊥) → has_repeat (λ x y. x == y) (a ∷ b ∷ d ∷ []) ≡ false
+three_apart : (a b d : ℕ) → (a ≡ b → ⊥) → (a ≡ d → ⊥) → (b ≡ d → ⊥)
+    → has_repeat (λ x y. x == y) (a ∷ b ∷ d ∷ []) ≡ false
 three_apart a b d ab ad bd = rw (ne_eqb a b ab, ne_eqb a d ad, ne_eqb b d bd) refl
 
 below : (a b : ℕ) → a < b → a ≡ b → ⊥
 below a b lt e = omega (arith, lt, e)
 
-five_rising : (a b d e f : ℕ) → a < b → b < d → d < e → e < f → has_repeat (λ x y. x == y) (a ∷ b ∷ d ∷ e ∷ f ∷ []) ≡ false
+five_rising : (a b d e f : ℕ) → a < b → b < d → d < e → e < f
+    → has_repeat (λ x y. x == y) (a ∷ b ∷ d ∷ e ∷ f ∷ []) ≡ false
 five_rising a b d e f ab bd de ef = rw (
   ne_eqb a b (below a b ab),
   ne_eqb a d (below a d (omega (arith, ab, bd))),
@@ -79,22 +82,27 @@ module _ (t : AcceptedTables) (limits : IsWithinLimits t) where
   apart (op.Months c) known = refl
   apart (op.TierStart c) known = refl
   apart (op.Spread c j) known = refl
-  apart (op.Delivery c) known = rw (place-before_spread t c (length (intras_at t c))) (two_apart (first_step t c + 3) (tiers_step t c (length (intras_at t c))) (λ e. omega (arith, e)))
+  apart (op.Delivery c) known =
+      let n = length (intras_at t c) in
+      rw (place-before_spread t c n) (two_apart (first_step t c + 3) (tiers_step t c n) (λ e. omega (arith, e)))
   apart (op.Minimum c) known = refl
   apart (op.Final c) known =
       let before = first_before t c (length t.commodities) known in
+      let tiers = tiers_step t c (length (intras_at t c)) in
       rw (place-before_spread t c (length (intras_at t c)), place-before_inter t (length (inters_of t)))
-      (five_rising (first_step t c + 2) (tiers_step t c (length (intras_at t c))) (tiers_step t c (length (intras_at t c)) + 1)
-      (tiers_step t c (length (intras_at t c)) + 2) (inter_step t (length (inters_of t))) (omega arith) (omega arith) (omega arith) (omega (arith, before)))
+      (five_rising (first_step t c + 2) tiers (tiers + 1) (tiers + 2) (inter_step t (length (inters_of t)))
+      (omega arith) (omega arith) (omega arith) (omega (arith, before)))
   apart op.InterStart known = refl
   apart (op.InterLoad c) known =
       let before = first_before t c (length t.commodities) known in
-      rw (place-before_load t c) (three_apart (load_step t c) (first_step t c + 3) (first_step t c + 2) (λ e. omega (arith, e, before)) (λ e. omega (arith, e, before)) (λ e. omega (arith, e)))
+      rw (place-before_load t c) (three_apart (load_step t c) (first_step t c + 3) (first_step t c + 2)
+      (λ e. omega (arith, e, before)) (λ e. omega (arith, e, before)) (λ e. omega (arith, e)))
   apart (op.InterSpread j) known = refl
   apart op.TotalStart known = refl
   apart (op.TotalAdd c) known =
       let before = first_before t c (length t.commodities) known in
-      rw (place-before_total t c) (two_apart (total_step t c) (tiers_step t c (length (intras_at t c)) + 3) (λ e. omega (arith, e, before)))
+      rw (place-before_total t c) (two_apart (total_step t c) (tiers_step t c (length (intras_at t c)) + 3)
+      (λ e. omega (arith, e, before)))
 
   -- ---- lower ranks
 
@@ -127,7 +135,8 @@ module _ (t : AcceptedTables) (limits : IsWithinLimits t) where
   wanted_lower_each (op.Delivery c) = (omega arith, (last_tiers_lower c, tt))
   wanted_lower_each (op.Minimum c) = (omega arith, tt)
   wanted_lower_each (op.Final c) =
-      (omega arith, (omega (arith, last_tiers_lower c), (omega arith, (omega arith, (omega (arith, before_inter_lower (length (inters_of t))), tt)))))
+      let inter = before_inter_lower (length (inters_of t)) in
+      (omega arith, (omega (arith, last_tiers_lower c), (omega arith, (omega arith, (omega (arith, inter), tt)))))
   wanted_lower_each op.InterStart = tt
   wanted_lower_each (op.InterLoad c) = (before_load_lower c, (omega arith, (omega arith, tt)))
   wanted_lower_each (op.InterSpread j) = (before_inter_lower j, tt)
@@ -172,7 +181,8 @@ first_not_final t op.TotalStart n e = cc
 first_not_final t (op.TotalAdd c) n e = total_not_final c n e
 
 -- a total of so many commodities is no other operation
-total_apart : (n : ℕ) (o : Op) → (op.TotalStart ≡ o → ⊥) → ((c : ℕ) → op.TotalAdd c ≡ o → ⊥) → before_total n ≡ o → ⊥
+total_apart : (n : ℕ) (o : Op) → (op.TotalStart ≡ o → ⊥) → ((c : ℕ) → op.TotalAdd c ≡ o → ⊥)
+    → before_total n ≡ o → ⊥
 total_apart zero o start add e = start e
 total_apart (suc n) o start add e = add n e
 

@@ -2,4 +2,6 @@ pub mod Meaning
 pub mod Plan
 pub mod Places
 pub mod Compiled
+pub mod Samples
+pub mod OnLiterals
 pub mod steps

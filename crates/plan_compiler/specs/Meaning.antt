@@ -8,7 +8,8 @@ use Rattle.scan_risk.specs.Scenarios.{scenario_sums}
 use Rattle.spread_stage.specs.Spreads.{TierRests, after_spreads, unspread}
 use Rattle.inter_credit.specs.Credits.{after_inter_spreads, unspread_line}
 use Rattle.inter_credit.specs.declared.state.InterLine.{InterLine}
-use Rattle.plan_ir.specs.Figures.{deltas_at, delivery_at, figures_of, held_at, intras_at, line_of, loaded_lines, minimum_at, scan_at, total_to}
+use Rattle.plan_ir.specs.Figures.{deltas_at, delivery_at, figures_of, held_at, intras_at, line_of, loaded_lines, minimum_at}
+use Rattle.plan_ir.specs.Figures.{scan_at, total_to}
 use Rattle.plan_ir.specs.declared.ops.Op.{Op}
 use Rattle.plan_ir.specs.declared.ops.Op.TheVariants as op
 use Rattle.plan_ir.specs.declared.values.Value.{Value}
@@ -97,7 +98,7 @@ wanted t (op.TotalAdd c) = before_total c ∷ op.Final c ∷ []
 
 -- ---- ranks
 
--- more than the spreads of any commodity
+-- above the rank of every spread of a commodity
 abbrev pub rank_of_last_spread : ℕ
 rank_of_last_spread = 3 + MAX_INTRA_SPREADS
 

@@ -1,10 +1,10 @@
-//! The laws of plans, each the contract of a function with an empty body.
+//! The laws of plans (docs/METHOD.md, "The plan of steps"), each the contract of a function with an empty body.
 ghost use Rattle.span_tables.specs.Accepted.{IsWithinLimits};
 ghost use Rattle.span_tables.specs.Tables.{AcceptedTables};
-ghost use Rattle.std.specs.Prelude.{◌+◌, ◌*◌, ◌≤◌};
+ghost use Rattle.std.specs.Prelude.{◌+◌, ◌*◌, ◌≤◌, length};
 ghost use Rattle.span_tables.specs.declared.limits.TheConstants.{MAX_COMMODITIES, MAX_INTER_SPREADS, MAX_INTRA_SPREADS};
 ghost use Rattle.plan_ir.specs.declared.plans.TheConstants.{MAX_STEPS};
-ghost use Rattle.plan_compiler.specs.Compiled.{IsCompiled, SetView};
+ghost use Rattle.plan_compiler.specs.Compiled.{IsCompiled};
 ghost use Rattle.plan_compiler.specs.Places.{plan_of};
 ghost use Rattle.plan_compiler.specs.Plan.{IsPlanOf};
 
@@ -15,12 +15,14 @@ pub fn inputs_are_what_is_wanted()
 {}
 
 /// The plan of tables within their limits keeps the plan law.
-#[tactic(auto, using(crate::proofs::PlanLaw::plan_keeps_law))]
 pub fn plans_keep_the_plan_law()
     ensures { (t : AcceptedTables) → IsWithinLimits t → IsCompiled (record { tables = t; plan = plan_of t }) }
 {}
 
-/// The plan of the largest set, of as many commodities and spreads as there may be, is below the limit of plans.
+/// No plan has more steps than that of as many commodities and spreads as there may be, which fits the limit of plans.
+#[tactic(auto, using(crate::proofs::PlanLaw::plan_is_short))]
 pub fn the_largest_plan_fits()
-    ensures { MAX_COMMODITIES * (10 + MAX_INTRA_SPREADS) + 1 + MAX_INTER_SPREADS + 1 ≤ MAX_STEPS }
+    ensures largest { (t : AcceptedTables) → IsWithinLimits t
+        → length (plan_of t) ≤ MAX_COMMODITIES * (10 + MAX_INTRA_SPREADS) + 1 + MAX_INTER_SPREADS + 1 }
+    ensures fits { MAX_COMMODITIES * (10 + MAX_INTRA_SPREADS) + 1 + MAX_INTER_SPREADS + 1 ≤ MAX_STEPS }
 {}

@@ -1,10 +1,10 @@
-//! Where the steps of a plan stand, and which steps are the inputs of each.
+//! Where the steps of a plan stand, and which steps are the inputs of each (docs/METHOD.md, "The plan of steps").
 ghost use Rattle.std.specs.Prelude.{◌≡◌, ◌+◌, ◌*◌, ◌<◌, ◌≤◌, ◌++◌, [], ◌∷◌, All, IfOk, OnOk, length, map};
 ghost use Rattle.span_tables.specs.Tables.{inters_of};
 ghost use Rattle.span_tables.specs.declared.limits.TheConstants.{MAX_COMMODITIES, MAX_INTER_SPREADS, MAX_INTRA_SPREADS};
 ghost use Rattle.plan_ir.specs.Apply.{IsOp};
 ghost use Rattle.plan_ir.specs.Figures.{intras_at};
-ghost use Rattle.plan_ir.specs.declared.ops.Op.TheVariants.{Final};
+ghost use Rattle.plan_ir.specs.declared.ops.Op.TheVariants.{Final, InterLoad};
 ghost use Rattle.plan_compiler.specs.declared.layout.TheConstants.{MAX_FIRST};
 ghost use Rattle.plan_compiler.specs.Places.{first_step, inputs_of, inter_step, load_step, tiers_step, total_step};
 ghost use Rattle.plan_compiler.specs.steps.Layout.{AreFirsts};
@@ -15,7 +15,7 @@ use span_tables::limits::{MAX_COMMODITIES, MAX_INTRA_SPREADS};
 use span_tables::tables::Tables;
 use std::alloc::{AllocError, Global};
 
-/// The steps of a commodity beside its spreads.
+/// How many steps a commodity has beside those of its spreads.
 pub const COMMODITY_STEPS: usize = 8;
 /// The number of the first step between commodities, at most.
 pub const MAX_FIRST: usize = MAX_COMMODITIES * (COMMODITY_STEPS + MAX_INTRA_SPREADS);
@@ -34,7 +34,7 @@ pub(crate) fn first_steps(alloc: Global, tables: &Tables) -> Result<Vec<u32>, Al
     Ok(firsts)
 }
 
-// The number of a commodity's first step.
+// The number of a commodity's first step; with the number of commodities, that of the first step between them.
 fn first_step(tables: &Tables, firsts: &[u32], c: u32) -> u32
     requires firsts { AreFirsts tables.now firsts.now }
     requires among { c ≤ length tables.now.commodities }
@@ -134,11 +134,7 @@ fn push_inputs(
             last_tiers_step(tables, firsts, c),
         ]),
         Op::Final(c) => push_final(lists, tables, firsts, c),
-        Op::InterLoad(c) => lists.push(&[
-            load_step(tables, firsts, c),
-            first_step(tables, firsts, c) + 3,
-            first_step(tables, firsts, c) + 2,
-        ]),
+        Op::InterLoad(c) => push_load(lists, tables, firsts, c),
         Op::InterSpread(j) => lists.push(&[inter_step(tables, firsts, j)]),
         Op::TotalAdd(c) => lists.push(&[
             total_step(tables, firsts, c),
@@ -166,6 +162,21 @@ fn push_final(
         tiers + 2,
         last_inter_step(tables, firsts),
     ])
+}
+
+// Appends the inputs of the step that loads a commodity: its months as they are before its spreads, and its scan.
+fn push_load(
+    lists: &mut NumberLists,
+    tables: &Tables,
+    firsts: &[u32],
+    c: u32,
+) -> Result<(), AllocError>
+    requires firsts { AreFirsts tables.now firsts.now }
+    requires among { c < length tables.now.commodities }
+    ensures { OnOk result (lists.new ≡ lists.old ++ inputs_of tables.now (InterLoad c) ∷ []) }
+{
+    let first = first_step(tables, firsts, c);
+    lists.push(&[load_step(tables, firsts, c), first + 3, first + 2])
 }
 
 // The inputs of the step of each of these operations.

@@ -1,4 +1,4 @@
-//! Compiled sets: accepted tables with the plan of their steps.
+//! Compiled sets: accepted tables with the plan of their steps (docs/METHOD.md, "The plan of steps").
 #![tactic(auto)]
 
 pub mod laws;
@@ -6,3 +6,6 @@ pub mod layout;
 pub mod nothing;
 mod operations;
 pub mod set;
+#[cfg(test)]
+mod tests;
+mod worked;

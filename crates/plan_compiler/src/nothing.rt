@@ -1,5 +1,5 @@
-//! The values of a commodity of which nothing is held.
-ghost use Rattle.std.specs.Prelude.{◌≡◌, [], IfOk, pos};
+//! The values of a commodity of which nothing is held (docs/METHOD.md, "The plan of steps").
+ghost use Rattle.std.specs.Prelude.{◌≡◌, [], pos};
 ghost use Rattle.std.specs.Arc.{arc_value};
 ghost use Rattle.plan_ir.specs.declared.values.Value.TheVariants as value;
 ghost use Rattle.scan_risk.specs.Scenarios.{scan_of, scenario_sums};
@@ -18,7 +18,8 @@ use std::alloc::{AllocError, Global};
 use std::marker::Model;
 use std::sync::Arc;
 
-/// The values that a commodity's steps have where the account holds none of its contracts, made once for a set.
+/// The values that a commodity's steps before its figures have where the account holds none of its contracts. They are
+/// made once for a set. Amounts are in minor units.
 #[derive(Drop)]
 pub struct NothingHeld {
     held: Arc<Value>,
@@ -37,11 +38,12 @@ impl Model for NothingHeld {
 
     ghost view = { λ n. tt };
 
-    ghost invariant = { λ n. AreNothing (arc_value n.held) (arc_value n.sums) (arc_value n.scan) (arc_value n.months) (arc_value n.tiers) (arc_value n.amount) };
+    ghost invariant = { λ n. AreNothing (arc_value n.held) (arc_value n.sums) (arc_value n.scan)
+        (arc_value n.months) (arc_value n.tiers) (arc_value n.amount) };
 }
 
 impl NothingHeld {
-    /// The values of nothing under these tables. `Err` is want of memory.
+    /// The values of a commodity of these tables of which nothing is held. `Err` is want of memory.
     pub(crate) fn new(alloc: Global, tables: &Tables) -> Result<NothingHeld, AllocError> {
         let held = Held::none(alloc, tables)?;
         let sums = sums(&held);
@@ -64,14 +66,14 @@ impl NothingHeld {
         &self.held
     }
 
-    /// The scenario sums of nothing, each 0.
+    /// The scenario sums of no contracts, each 0.
     pub fn sums(&self) -> &Arc<Value>
         ensures { arc_value result.now ≡ value.Sums (scenario_sums []) }
     {
         &self.sums
     }
 
-    /// Their scan.
+    /// The scan of those sums: a risk of 0, in scenario 1.
     pub fn scan(&self) -> &Arc<Value>
         ensures { arc_value result.now ≡ value.Scan (scan_of (scenario_sums [])) }
     {
@@ -85,14 +87,14 @@ impl NothingHeld {
         &self.months
     }
 
-    /// No rests, and no charge.
+    /// No months left to spread, and an exact charge of 0.
     pub fn tiers(&self) -> &Arc<Value>
         ensures { arc_value result.now ≡ value.Tiers (unspread (month_deltas [])) }
     {
         &self.tiers
     }
 
-    /// An amount of 0.
+    /// An amount of 0: a delivery charge, or a short option minimum.
     pub fn amount(&self) -> &Arc<Value>
         ensures { arc_value result.now ≡ value.Amount (pos 0) }
     {

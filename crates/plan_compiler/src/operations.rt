@@ -1,4 +1,4 @@
-//! The operations of a plan, in their order.
+//! The operations of a plan, in their order (docs/METHOD.md, "The plan of steps").
 ghost use Rattle.std.specs.Prelude.{◌≡◌, ◌++◌, ◌<◌, [], ◌∷◌, IfOk, OnOk, length};
 ghost use Rattle.plan_compiler.specs.Plan.{commodity_ops, each, ops_of, spread_ops};
 ghost use Rattle.plan_ir.specs.declared.ops.Op.TheVariants.{InterLoad, InterSpread, TotalAdd};
@@ -7,7 +7,7 @@ use plan_ir::ops::Op;
 use span_tables::tables::Tables;
 use std::alloc::{AllocError, Global};
 
-// The steps of a commodity's spreads.
+// Appends the steps of a commodity's spreads.
 fn push_spreads(ops: &mut Vec<Op>, c: u32, spreads: u32) -> Result<(), AllocError>
     ensures { OnOk result (ops.new.items ≡ ops.old.items ++ spread_ops c spreads) }
 {
@@ -17,7 +17,7 @@ fn push_spreads(ops: &mut Vec<Op>, c: u32, spreads: u32) -> Result<(), AllocErro
     Ok(())
 }
 
-// The steps of a commodity.
+// Appends the steps of a commodity.
 fn push_commodity(ops: &mut Vec<Op>, tables: &Tables, c: u32) -> Result<(), AllocError>
     requires { c < length tables.now.commodities }
     ensures { OnOk result (ops.new.items ≡ ops.old.items ++ commodity_ops tables.now c) }
@@ -34,7 +34,7 @@ fn push_commodity(ops: &mut Vec<Op>, tables: &Tables, c: u32) -> Result<(), Allo
     ops.extend_from_slice(&[Op::Delivery(c), Op::Minimum(c), Op::Final(c)])
 }
 
-// The steps of all commodities.
+// Appends the steps of all commodities.
 fn push_commodities(ops: &mut Vec<Op>, tables: &Tables) -> Result<(), AllocError>
     ensures { OnOk result (ops.new.items ≡ ops.old.items ++ each (commodity_ops tables.now) (length tables.now.commodities)) }
 {
@@ -45,7 +45,7 @@ fn push_commodities(ops: &mut Vec<Op>, tables: &Tables) -> Result<(), AllocError
     Ok(())
 }
 
-// The steps that load commodities.
+// Appends the steps that load commodities.
 fn push_loads(ops: &mut Vec<Op>, commodities: u32) -> Result<(), AllocError>
     ensures { OnOk result (ops.new.items ≡ ops.old.items ++ each (λ c. InterLoad c ∷ []) commodities) }
 {
@@ -55,7 +55,7 @@ fn push_loads(ops: &mut Vec<Op>, commodities: u32) -> Result<(), AllocError>
     Ok(())
 }
 
-// The steps of intercommodity spreads.
+// Appends the steps of intercommodity spreads.
 fn push_inter_spreads(ops: &mut Vec<Op>, spreads: u32) -> Result<(), AllocError>
     ensures { OnOk result (ops.new.items ≡ ops.old.items ++ each (λ j. InterSpread j ∷ []) spreads) }
 {
@@ -65,7 +65,7 @@ fn push_inter_spreads(ops: &mut Vec<Op>, spreads: u32) -> Result<(), AllocError>
     Ok(())
 }
 
-// The steps of the total.
+// Appends the steps that add commodities to the total.
 fn push_adds(ops: &mut Vec<Op>, commodities: u32) -> Result<(), AllocError>
     ensures { OnOk result (ops.new.items ≡ ops.old.items ++ each (λ c. TotalAdd c ∷ []) commodities) }
 {

@@ -1,13 +1,11 @@
-//! Compiled sets.
-ghost use Rattle.std.specs.Prelude.{◌≡◌, ◌<◌, ℕ, List, IfOk, length};
-ghost use Rattle.plan_ir.specs.Figures.{total_to};
+//! Compiled sets (docs/METHOD.md, "The plan of steps").
+ghost use Rattle.std.specs.Prelude.{◌≡◌, ◌<◌, IfOk, length};
 ghost use Rattle.plan_ir.specs.Plans.{op_at};
 ghost use Rattle.plan_ir.specs.declared.ops.Op.TheVariants as operation;
 ghost use Rattle.plan_compiler.specs.Compiled.{IsCompiled, IsFirstInput};
 ghost use Rattle.plan_compiler.specs.Meaning.{last_total};
 ghost use Rattle.plan_compiler.specs.Places.{plan_of};
 ghost use Rattle.plan_compiler.specs.Plan.{IsPlanOf};
-ghost use Rattle.plan_compiler.specs.steps.Layout.{AreFirsts};
 
 use crate::layout::{first_steps, inputs_of_all, last_tiers_step, total_step};
 use crate::nothing::NothingHeld;
@@ -19,7 +17,8 @@ use std::marker::Model;
 
 /// Accepted tables with the plan of their steps.
 ///
-/// Beside the plan stand the numbers of each commodity's first step and the values of what is not held.
+/// Beside the plan stand the number of each commodity's first step, and the values of a commodity of which nothing is
+/// held. Contracts see the tables and the plan.
 #[derive(Drop)]
 pub struct CompiledSet {
     tables: Tables,
@@ -57,12 +56,13 @@ impl CompiledSet {
         &self.plan
     }
 
-    /// The values of what is not held.
+    /// The values of a commodity of which nothing is held.
     pub fn nothing_held(&self) -> &NothingHeld {
         &self.nothing
     }
 
-    /// The number of the step that has the figures of a commodity. It is no step's first input.
+    /// The number of the step that has the figures of a commodity, whose number is from 0 in file order. It is no
+    /// step's first input.
     pub fn final_step(&self, commodity: u32) -> u32
         requires { commodity < length self.now.tables.commodities }
         ensures in_range { result < length self.now.plan }
@@ -83,7 +83,7 @@ impl CompiledSet {
     }
 }
 
-/// The tables with the plan of their steps. `Err` is want of memory.
+/// The tables with the plan of their steps (docs/METHOD.md, "The plan of steps"). `Err` is want of memory.
 pub fn compile(alloc: Global, tables: Tables) -> Result<CompiledSet, AllocError>
     ensures tables { IfOk result (λ set. set.tables ≡ tables) }
     ensures plan { IfOk result (λ set. set.plan ≡ plan_of tables) }

@@ -3,7 +3,7 @@ use Rattle.std.specs.Prelude.{◌≡◌, ℕ, ◌<◌, List, length}
 use Rattle.span_tables.specs.Accepted.{IsWithinLimits}
 use Rattle.span_tables.specs.Tables.{AcceptedTables}
 use Rattle.plan_ir.specs.Plans.{StepView, inputs_at, op_at}
-use Rattle.plan_compiler.specs.Compiled.{IsCompiled, SetView}
+use Rattle.plan_compiler.specs.Compiled.{IsCompiled}
 use Rattle.plan_compiler.specs.Plan.{IsPlanOf}
 use Rattle.plan_compiler.specs.Places.{inputs_of}
 use Rattle.plan_compiler.specs.steps.Layout.{AreFirsts}

@@ -1,4 +1,4 @@
-use Rattle.std.proofs.Common.{◌≡◌, ◌∙◌, ◌+◌, ap, length, slice_index_or, arith}
+use Rattle.std.proofs.Common.{◌≡◌, ◌<◌, ◌∙◌, ◌+◌, ap, length, slice_index_or, arith}
 use Rattle.std.proofs.lemmas.List.FromFn.{get_or-map-range_with_len, length-map-range_with_len}
 use Rattle.plan_compiler.specs.Places.{first_step}
 use Rattle.plan_compiler.proofs.LayoutLemmas.{first_small}
@@ -12,8 +12,9 @@ bounds-firsts-c c =
 pub returns-clause-value : goal.returns-clause-value
 returns-clause-value c =
     let n = length c.args.tables.now.commodities in
+    let within : c.args.c < n + 1 = omega (arith, c.requires.among) in
     ap (λ firsts. slice_index_or firsts c.args.c 0) c.requires.firsts
-    ∙ get_or-map-range_with_len (first_step c.args.tables.now) 0 (n + 1) c.args.c c.args.c 0 (omega (arith, c.requires.among)) (omega arith)
+    ∙ get_or-map-range_with_len (first_step c.args.tables.now) 0 (n + 1) c.args.c c.args.c 0 within (omega arith)
 
 pub returns-clause-bound : goal.returns-clause-bound
 returns-clause-bound c =
@@ -21,7 +22,8 @@ returns-clause-bound c =
     let limits = c.commodities-limits.ensures.limits in
     let few = limits.commodities in
     let small = first_small c.args.tables.now limits c.args.c in
+    let within : c.args.c < n + 1 = omega (arith, c.requires.among) in
     let value : slice_index_or c.args.firsts.now c.args.c 0 ≡ first_step c.args.tables.now c.args.c =
     ap (λ firsts. slice_index_or firsts c.args.c 0) c.requires.firsts
-    ∙ get_or-map-range_with_len (first_step c.args.tables.now) 0 (n + 1) c.args.c c.args.c 0 (omega (arith, c.requires.among)) (omega arith) in
+    ∙ get_or-map-range_with_len (first_step c.args.tables.now) 0 (n + 1) c.args.c c.args.c 0 within (omega arith) in
     omega (arith, value, small, few, c.requires.among)

@@ -28,7 +28,8 @@ returns c =
     let before = c.loop-c.invariant in
     let n = c.loop-c.c in
     let here : 0 + n ≡ n = omega arith in
-    let all : n ≡ length t.commodities = omega (arith, c.loop-c-test.false, c.loop-c.auto.c-end, ap length c.commodities-c-end.ensures.value) in
+    let all : n ≡ length t.commodities =
+    omega (arith, c.loop-c-test.false, c.loop-c.auto.c-end, ap length c.commodities-c-end.ensures.value) in
     c.in_ok-push-2.ensures.items ∙ ap (λ xs. xs ++ c.loop-c.first ∷ []) before.firsts
     ∙ ap (λ x. map (first_step t) (range_with_len 0 n) ++ x ∷ []) before.first
     ∙ sym (map-range_with_len_more (first_step t) 0 n n here)

@@ -1,0 +1,41 @@
+-- Parameter files that the worked plans and the tests are of.
+use Rattle.std.specs.Prelude.{ℕ, List, [], ◌∷◌, ◌++◌, codes}
+use Rattle.span_tables.specs.declared.records.MinimumMethod.TheVariants as method
+use Rattle.span_tables.specs.declared.records.Side.TheVariants as side
+use Rattle.span_tables.specs.declared.records.Record.{Record}
+use Rattle.span_tables.specs.declared.records.Record.TheVariants as record_of
+
+-- a set alone
+abbrev pub set_alone : List Record
+set_alone = record_of.Set (record { id = codes "D1"; currency = codes "USD" }) ∷ []
+
+-- the lines of its plan
+abbrev pub set_alone_lines : List ℕ
+set_alone_lines = codes "0 InterStart()\n1 TotalStart()\n"
+
+-- a set with two commodities, and a spread of one against the other
+abbrev pub two_commodities : List Record
+two_commodities =
+    record_of.Set (record { id = codes "D1"; currency = codes "USD" })
+    ∷ record_of.Commodity (record { id = codes "AA"; minimum_rate = 0; method = method.Sum })
+    ∷ record_of.Commodity (record { id = codes "BB"; minimum_rate = 0; method = method.Sum })
+    ∷ record_of.Inter (record {
+      priority = 1;
+      basis_points = 5000;
+      legs =
+          record {
+            items = record { commodity = codes "AA"; side = side.A; ratio = 10000 }
+                ∷ record { commodity = codes "BB"; side = side.B; ratio = 10000 } ∷ [];
+          };
+    })
+    ∷ []
+
+-- the lines of its plan
+abbrev pub two_commodities_lines : List ℕ
+two_commodities_lines =
+    codes "0 Gather(0)\n1 Sums(0) 0\n2 ScanMax(0) 1\n3 Months(0) 0\n4 TierStart(0) 3\n"
+    ++ codes "5 Delivery(0) 3 4\n6 Minimum(0) 0\n7 Final(0) 2 4 5 6 19\n"
+    ++ codes "8 Gather(1)\n9 Sums(1) 8\n10 ScanMax(1) 9\n11 Months(1) 8\n12 TierStart(1) 11\n"
+    ++ codes "13 Delivery(1) 11 12\n14 Minimum(1) 8\n15 Final(1) 10 12 13 14 19\n"
+    ++ codes "16 InterStart()\n17 InterLoad(0) 16 3 2\n18 InterLoad(1) 17 11 10\n19 InterSpread(0) 18\n"
+    ++ codes "20 TotalStart()\n21 TotalAdd(0) 20 7\n22 TotalAdd(1) 21 15\n"

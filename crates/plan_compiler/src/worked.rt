@@ -1,0 +1,43 @@
+//! Worked plans, computed by the definitions alone.
+#![tactic(auto, unfolding(crate::specs::OnLiterals::plans_on_literals))]
+
+ghost use Rattle.std.specs.Prelude.{◌≡◌, [], ◌∷◌, length};
+ghost use Rattle.span_tables.specs.Samples.{small_file};
+ghost use Rattle.span_tables.specs.Tables.{tables_of};
+ghost use Rattle.plan_ir.specs.Listing.{plan_text};
+ghost use Rattle.plan_ir.specs.Plans.{inputs_in, users_of};
+ghost use Rattle.plan_ir.specs.declared.ops.Op.TheVariants as operation;
+ghost use Rattle.plan_compiler.specs.Places.{plan_of};
+ghost use Rattle.plan_compiler.specs.Plan.{ops_of};
+ghost use Rattle.plan_compiler.specs.Samples.{set_alone, set_alone_lines, two_commodities, two_commodities_lines};
+
+// Without commodities there are no steps but the first of those between commodities and of the total, without inputs.
+fn plan_of_a_set_alone()
+    ensures ops { ops_of (tables_of set_alone) ≡ operation.InterStart ∷ operation.TotalStart ∷ [] }
+    ensures inputs { inputs_in (plan_of (tables_of set_alone)) ≡ [] ∷ [] ∷ [] }
+    ensures text { plan_text (plan_of (tables_of set_alone)) ≡ set_alone_lines }
+{}
+
+// The lines of each commodity, of those between them, and of the total.
+fn plan_of_two_commodities()
+    ensures many { length (plan_of (tables_of two_commodities)) ≡ 23 }
+    ensures text { plan_text (plan_of (tables_of two_commodities)) ≡ two_commodities_lines }
+{}
+
+// The steps that read the held contracts of the first commodity, and those that read the last state between commodities.
+fn users_of_two_commodities()
+    ensures first { users_of (plan_of (tables_of two_commodities)) 0 ≡ 1 ∷ 3 ∷ 6 ∷ [] }
+    ensures last { users_of (plan_of (tables_of two_commodities)) 19 ≡ 7 ∷ 15 ∷ [] }
+{}
+
+// Two spreads of the first commodity and one between both: each spread reads the state before it, and what follows
+// reads the state behind all of them.
+fn plan_with_spreads()
+    ensures { inputs_in (plan_of (tables_of small_file))
+        ≡ [] ∷ (0 ∷ []) ∷ (1 ∷ []) ∷ (0 ∷ []) ∷ (3 ∷ [])
+        ∷ (4 ∷ []) ∷ (5 ∷ []) ∷ (3 ∷ 6 ∷ []) ∷ (0 ∷ []) ∷ (2 ∷ 6 ∷ 7 ∷ 8 ∷ 21 ∷ [])
+        ∷ [] ∷ (10 ∷ []) ∷ (11 ∷ []) ∷ (10 ∷ []) ∷ (13 ∷ [])
+        ∷ (13 ∷ 14 ∷ []) ∷ (10 ∷ []) ∷ (12 ∷ 14 ∷ 15 ∷ 16 ∷ 21 ∷ [])
+        ∷ [] ∷ (18 ∷ 3 ∷ 2 ∷ []) ∷ (19 ∷ 13 ∷ 12 ∷ []) ∷ (20 ∷ [])
+        ∷ [] ∷ (22 ∷ 9 ∷ []) ∷ (23 ∷ 17 ∷ []) ∷ [] }
+{}
