@@ -1,5 +1,6 @@
 -- Lists that stand one behind the other.
-use Rattle.std.proofs.Common.{◌≡◌, ℕ, zero, suc, ◌+◌, ◌-◌, ◌≤◌, ◌<◌, List, [], ◌∷◌, ◌++◌, length, take, drop, slice_index_or, refl, sym, ap, ◌∙◌, arith}
+use Rattle.std.proofs.Common.{◌≡◌, ℕ, zero, suc, ◌+◌, ◌-◌, ◌≤◌, ◌<◌, List, [], ◌∷◌}
+use Rattle.std.proofs.Common.{◌++◌, length, take, drop, slice_index_or, refl, sym, ap, ◌∙◌, arith}
 use Rattle.std.proofs.lemmas.List.{drop-append-le, length-append, length-drop, take-append-le, take_all}
 use Rattle.std.proofs.Math.Seq.{drop-append_seam}
 use Rattle.plan_ir.specs.steps.Packing.{AreEnds, lists_between, start_of}
@@ -23,7 +24,8 @@ bounds numbers start (end ∷ ends) (suc k) (le, rest) lt = bounds numbers end e
 
 -- the list at a place
 pub list_is : (numbers : List ℕ) (start : ℕ) (ends : List ℕ) (k : ℕ) → k < length ends
-    → slice_index_or (lists_between numbers start ends) k [] ≡ take (slice_index_or ends k 0 - start_of start ends k) (drop (start_of start ends k) numbers)
+    → slice_index_or (lists_between numbers start ends) k []
+    ≡ take (slice_index_or ends k 0 - start_of start ends k) (drop (start_of start ends k) numbers)
 list_is numbers start [] k lt = elim lt [ ]
 list_is numbers start (end ∷ ends) zero lt = refl
 list_is numbers start (end ∷ ends) (suc k) lt = list_is numbers end ends k (omega (arith, lt))
@@ -35,7 +37,8 @@ start_is_end start (end ∷ ends) zero lt = refl
 start_is_end start (end ∷ ends) (suc k) lt = start_is_end end ends k (omega (arith, lt))
 
 -- the same, told of the place behind
-pub start_is_end_before : (start : ℕ) (ends : List ℕ) (k : ℕ) → 0 < k → k < length ends → slice_index_or ends (k - 1) 0 ≡ start_of start ends k
+pub start_is_end_before : (start : ℕ) (ends : List ℕ) (k : ℕ) → 0 < k → k < length ends
+    → slice_index_or ends (k - 1) 0 ≡ start_of start ends k
 start_is_end_before start ends zero above lt = omega (arith, above)
 start_is_end_before start ends (suc k) above lt =
     let before : suc k - 1 ≡ k = omega arith in
@@ -59,7 +62,8 @@ lists_push numbers list start [] e =
     ap (λ xs. take (length whole - start) xs ∷ []) behind ∙ ap (λ xs. xs ∷ []) (take_all (length whole - start) list all)
 lists_push numbers list start (end ∷ ends) (le, rest) =
     let whole = numbers ++ list in
-    ap (λ x. x ∷ lists_between whole end (ends ++ length whole ∷ [])) (take_front numbers list start end le (within numbers end ends rest))
+    ap (λ x. x ∷ lists_between whole end (ends ++ length whole ∷ []))
+    (take_front numbers list start end le (within numbers end ends rest))
     ∙ ap (λ xs. take (end - start) (drop start numbers) ∷ xs) (lists_push numbers list end ends rest)
 
 pub ends_push : (numbers list : List ℕ) (start : ℕ) (ends : List ℕ) → AreEnds numbers start ends

@@ -1,5 +1,6 @@
 -- Elements that are gone through with their places.
-use Rattle.std.proofs.Common.{◌≡◌, ℕ, ◌+◌, ◌<◌, List, [], ◌∷◌, ◌++◌, length, flat_map, map, take, slice_index_or, sym, ap, ◌∙◌, arith}
+use Rattle.std.proofs.Common.{◌≡◌, ℕ, ◌+◌, ◌<◌, List, [], ◌∷◌, ◌++◌, length, flat_map, map}
+use Rattle.std.proofs.Common.{take, slice_index_or, sym, ap, ◌∙◌, arith}
 use Rattle.std.specs.List.{enumerate_from}
 use Rattle.std.proofs.lemmas.Grind.{flat_map-append, take_at_read}
 use Rattle.std.proofs.lemmas.List.{append-nil, map-append}
@@ -15,7 +16,8 @@ take_next xs i d lt =
     let inside : i < length (enumerate_from 0 xs) = omega (arith, long, lt) in
     let zero_more : 0 + i ≡ i = omega arith in
     (take_at_read (enumerate_from 0 xs) i (0, d) inside).1
-    ∙ ap (λ x. take i (enumerate_from 0 xs) ++ x ∷ []) (get_or-enumerate_from 0 xs i (0, d) lt ∙ ap (λ n. (n, slice_index_or xs i d)) zero_more)
+    ∙ ap (λ x. take i (enumerate_from 0 xs) ++ x ∷ [])
+    (get_or-enumerate_from 0 xs i (0, d) lt ∙ ap (λ n. (n, slice_index_or xs i d)) zero_more)
 
 pub map_next : {A B : Type 0} (f : ℕ × A → B) (xs : List A) (i : ℕ) (d : A) → i < length xs
     → map f (take (i + 1) (enumerate_from 0 xs)) ≡ map f (take i (enumerate_from 0 xs)) ++ f (i, slice_index_or xs i d) ∷ []

@@ -1,13 +1,15 @@
 -- What the users of a step are.
-use Rattle.std.proofs.Common.{◌≡◌, ℕ, zero, suc, ◌+◌, ◌<◌, ◌≤◌, Bool, true, false, cond, List, [], ◌∷◌, length, slice_index_or, refl, ap, ◌∙◌, arith}
-use Rattle.std.specs.Prelude.{◌==◌, ◌||◌, All}
+use Rattle.std.proofs.Common.{◌≡◌, ℕ, zero, suc, ◌+◌, ◌<◌, ◌≤◌, Bool, true, false, cond, List, []}
+use Rattle.std.proofs.Common.{◌∷◌, length, slice_index_or, refl, ap, ◌∙◌, arith}
+use Rattle.std.specs.Prelude.{◌==◌, All}
 use Rattle.std.specs.List.Sorted.{IsStrictlyIncreasing}
 use Rattle.std.proofs.lemmas.Bool.{eq-eqb, ne_eqb}
 use Rattle.plan_ir.specs.Plans.{StepView, inputs_at, inputs_in, is_among, places_from, users_of}
 
 -- no place stands before the first, nor behind the last
 abbrev AreFrom : ℕ → ℕ → List ℕ → Type 0
-AreFrom first end places = (i d : ℕ) → i < length places → (first ≤ slice_index_or places i d) × (slice_index_or places i d < end)
+AreFrom first end places =
+    (i d : ℕ) → i < length places → (first ≤ slice_index_or places i d) × (slice_index_or places i d < end)
 
 are_from : (k first : ℕ) (lists : List (List ℕ)) → AreFrom first (first + length lists) (places_from first k lists)
 are_from k first [] = λ i d lt. elim lt [ ]
@@ -15,7 +17,8 @@ are_from k first (x ∷ lists) = by (is_among k x) (are_from k (first + 1) lists
   rest : List ℕ
   rest = places_from (first + 1) k lists
 
-  by : (b : Bool) → AreFrom (first + 1) (first + 1 + length lists) rest → AreFrom first (first + suc (length lists)) (cond b (first ∷ rest) rest)
+  by : (b : Bool) → AreFrom (first + 1) (first + 1 + length lists) rest
+      → AreFrom first (first + suc (length lists)) (cond b (first ∷ rest) rest)
   by true later zero d lt = (omega arith, omega arith)
   by true later (suc i) d lt = let at = later i d (omega (arith, lt)) in (omega (arith, at), omega (arith, at))
   by false later i d lt = let at = later i d lt in (omega (arith, at), omega (arith, at))

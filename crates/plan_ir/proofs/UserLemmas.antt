@@ -1,14 +1,16 @@
 -- The users of steps.
-use Rattle.std.proofs.Common.{◌≡◌, ◌≢◌, ℕ, zero, suc, ◌+◌, ◌<◌, ◌≤◌, Bool, true, false, cond, List, [], ◌∷◌, ◌++◌, length, map, take, slice_index_or, slice_set, fold, refl, sym, ap, ◌∙◌, arith}
+use Rattle.std.proofs.Common.{◌≡◌, ℕ, zero, suc, ◌+◌, ◌<◌, Bool, true, false, cond, List, [], ◌∷◌}
+use Rattle.std.proofs.Common.{◌++◌, length, take, slice_index_or, slice_set, refl, sym, ap, ◌∙◌, arith}
 use Rattle.std.proofs.Common.{◌⊎◌, inl, inr}
-use Rattle.std.specs.Prelude.{◌==◌, ◌||◌, All, replicate}
+use Rattle.std.specs.Prelude.{◌==◌, All, replicate}
 use Rattle.std.specs.List.{list_any, range_with_len}
-use Rattle.std.proofs.lemmas.List.{append_assoc, append-nil, get_or-set_same, get_or-set_other, length-set, length-map, length-take-le, ext_get_or, take_more, get_or-replicate, length-replicate}
+use Rattle.std.proofs.lemmas.List.{append-nil, get_or-set_same, get_or-set_other, length-set, length-map}
+use Rattle.std.proofs.lemmas.List.{length-take-le, ext_get_or, take_more, get_or-replicate, length-replicate}
 use Rattle.std.proofs.lemmas.List.FromFn.{get_or-map-range_with_len, length-range_with_len}
 use Rattle.std.proofs.lemmas.List.Elements.{All-tail}
 use Rattle.std.proofs.lemmas.Bool.{cases_eq, eq-eqb, ne_eqb, or_parts}
 use Rattle.span_tables.specs.Names.{has_repeat}
-use Rattle.plan_ir.specs.Plans.{is_among, places_from, steps_with, step_at, inputs_in, op_at, inputs_at, ops_in}
+use Rattle.plan_ir.specs.Plans.{is_among, places_from, steps_with, inputs_in, op_at, inputs_at, ops_in}
 use Rattle.plan_ir.specs.declared.ops.Op.{Op}
 use Rattle.plan_ir.specs.steps.Noting.{noted, places_of_all}
 
@@ -38,7 +40,8 @@ all_ops [] lists e = refl
 all_ops (o ∷ ops) [] e = let no : ⊥ = omega (arith, e) in elim no [ ]
 all_ops (o ∷ ops) (x ∷ lists) e = ap (λ os. o ∷ os) (all_ops ops lists (omega (arith, e)))
 
-pub as_many_steps : (ops : List Op) (lists : List (List ℕ)) → length lists ≡ length ops → length (steps_with ops lists) ≡ length ops
+pub as_many_steps : (ops : List Op) (lists : List (List ℕ)) → length lists ≡ length ops
+    → length (steps_with ops lists) ≡ length ops
 as_many_steps [] lists e = refl
 as_many_steps (o ∷ ops) [] e = let no : ⊥ = omega (arith, e) in elim no [ ]
 as_many_steps (o ∷ ops) (x ∷ lists) e = ap suc (as_many_steps ops lists (omega (arith, e)))
@@ -64,9 +67,12 @@ places_push first k (y ∷ lists) x =
     let next : first + 1 + length lists ≡ first + suc (length lists) = omega arith in
     by (is_among k y)
     (places_push (first + 1) k lists x ∙ ap (λ n. places_from (first + 1) k lists ++ cond (is_among k x) (n ∷ []) []) next) where
-      by : (b : Bool) → places_from (first + 1) k (lists ++ x ∷ []) ≡ places_from (first + 1) k lists ++ cond (is_among k x) ((first + suc (length lists)) ∷ []) []
+      by : (b : Bool)
+          → places_from (first + 1) k (lists ++ x ∷ [])
+          ≡ places_from (first + 1) k lists ++ cond (is_among k x) ((first + suc (length lists)) ∷ []) []
           → cond b (first ∷ places_from (first + 1) k (lists ++ x ∷ [])) (places_from (first + 1) k (lists ++ x ∷ []))
-          ≡ cond b (first ∷ places_from (first + 1) k lists) (places_from (first + 1) k lists) ++ cond (is_among k x) ((first + suc (length lists)) ∷ []) []
+          ≡ cond b (first ∷ places_from (first + 1) k lists) (places_from (first + 1) k lists)
+          ++ cond (is_among k x) ((first + suc (length lists)) ∷ []) []
       by true more = ap (λ xs. first ∷ xs) more
       by false more = more
 
@@ -80,19 +86,24 @@ no_more : (number : ℕ) (b : Bool) (xs : List ℕ) → b ≡ false → xs ++ co
 no_more number false xs e = append-nil xs
 no_more number true xs e = cc
 
-at_noted_step : (number p : ℕ) (places : List ℕ) (lists : List (List ℕ)) (k : ℕ) → is_among p places ≡ false → k < length lists
+at_noted_step : (number p : ℕ) (places : List ℕ) (lists : List (List ℕ)) (k : ℕ)
+    → is_among p places ≡ false → k < length lists
     → slice_index_or (noted number (p ∷ places) lists) k []
     ≡ slice_index_or (slice_set lists p (slice_index_or lists p [] ++ number ∷ [])) k [] ++ cond (is_among k places) (number ∷ []) []
-    → slice_index_or (noted number (p ∷ places) lists) k [] ≡ slice_index_or lists k [] ++ cond (is_among k (p ∷ places)) (number ∷ []) []
+    → slice_index_or (noted number (p ∷ places) lists) k []
+    ≡ slice_index_or lists k [] ++ cond (is_among k (p ∷ places)) (number ∷ []) []
 at_noted_step number p places lists k out lt rest = by (cases_eq k p) where
   after : List (List ℕ)
   after = slice_set lists p (slice_index_or lists p [] ++ number ∷ [])
 
-  by : (k ≡ p) ⊎ (k ≡ p → ⊥) → slice_index_or (noted number (p ∷ places) lists) k [] ≡ slice_index_or lists k [] ++ cond (is_among k (p ∷ places)) (number ∷ []) []
+  by : (k ≡ p) ⊎ (k ≡ p → ⊥)
+      → slice_index_or (noted number (p ∷ places) lists) k []
+      ≡ slice_index_or lists k [] ++ cond (is_among k (p ∷ places)) (number ∷ []) []
   by (inl e) =
       let same : (k == p) ≡ true = eq-eqb k p e in
       let gone : is_among k places ≡ false = rw e out in
-      let here : slice_index_or after k [] ≡ slice_index_or lists k [] ++ number ∷ [] = rw e (get_or-set_same lists p _ [] (rw (← e) lt)) in
+      let here : slice_index_or after k [] ≡ slice_index_or lists k [] ++ number ∷ [] =
+      rw e (get_or-set_same lists p _ [] (rw (← e) lt)) in
       rest ∙ no_more number (is_among k places) (slice_index_or after k []) gone ∙ here ∙ rw same refl
   by (inr ne) =
       let other : (k == p) ≡ false = ne_eqb k p ne in
@@ -116,7 +127,8 @@ pub length_places : (n : ℕ) (lists : List (List ℕ)) → length (places_of_al
 length_places n lists = length-map (range_with_len 0 n) (λ k. places_from 0 k lists) ∙ length-range_with_len 0 n
 
 -- the places of a number's lists
-pub places_at : (n : ℕ) (lists : List (List ℕ)) (k : ℕ) → k < n → slice_index_or (places_of_all n lists) k [] ≡ places_from 0 k lists
+pub places_at : (n : ℕ) (lists : List (List ℕ)) (k : ℕ) → k < n
+    → slice_index_or (places_of_all n lists) k [] ≡ places_from 0 k lists
 places_at n lists k lt = get_or-map-range_with_len (λ k. places_from 0 k lists) 0 n k k [] lt (omega arith)
 
 -- before the first step nobody uses any

@@ -1,5 +1,6 @@
 -- What an operation takes, and the value that it has on its inputs, whatever they are.
-use Rattle.std.specs.Prelude.{◌≡◌, ℕ, ◌<◌, ◌≤◌, List, [], length, replicate, slice_index_or, slice_set, ⊤, All, pos, ◌+ℤ◌, nat_abs}
+use Rattle.std.specs.Prelude.{◌≡◌, ℕ, ◌<◌, ◌≤◌, List, [], length, replicate, slice_index_or}
+use Rattle.std.specs.Prelude.{slice_set, ⊤, All, pos, ◌+ℤ◌, nat_abs}
 use Rattle.span_money.specs.declared.amounts.TheConstants.{MAX_MONEY}
 use Rattle.span_tables.specs.Tables.{AcceptedTables, inters_of}
 use Rattle.span_tables.specs.declared.limits.TheConstants.{MAX_PRICE2, MAX_SUM}
@@ -17,7 +18,9 @@ use Rattle.span_tables.specs.declared.portfolios.Holding.{Holding}
 use Rattle.span_tables.specs.declared.records.Inter.{Inter}
 use Rattle.span_tables.specs.declared.records.Intra.{Intra}
 use Rattle.plan_ir.specs.Figures.{commodity_at, figures_from, held_at, intras_at, spots_at}
-use Rattle.plan_ir.specs.Values.{IsHeld, IsSums, IsScan, IsMonths, IsTiers, IsAmount, IsFigures, IsInter, IsTotal, held_in, sums_in, scan_in, months_in, tiers_in, amount_in, figures_in, lines_in, total_in}
+use Rattle.plan_ir.specs.Values.{IsHeld, IsSums, IsScan, IsMonths, IsTiers, IsAmount, IsFigures, IsInter, IsTotal}
+use Rattle.plan_ir.specs.Values.{held_in, sums_in, scan_in, months_in, tiers_in, amount_in, figures_in, lines_in}
+use Rattle.plan_ir.specs.Values.{total_in}
 use Rattle.plan_ir.specs.declared.figures.Figures.{Figures}
 use Rattle.plan_ir.specs.declared.ops.Op.{Op}
 use Rattle.plan_ir.specs.declared.ops.Op.TheVariants as op

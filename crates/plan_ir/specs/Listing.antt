@@ -1,5 +1,5 @@
 -- The text of a plan.
-use Rattle.std.specs.Prelude.{ℕ, List, [], ◌∷◌, ◌++◌, codes, decimal, flat_map}
+use Rattle.std.specs.Prelude.{ℕ, List, ◌++◌, codes, decimal, flat_map}
 use Rattle.std.specs.List.{enumerate_from}
 use Rattle.plan_ir.specs.Plans.{StepView}
 use Rattle.plan_ir.specs.declared.ops.Op.{Op}

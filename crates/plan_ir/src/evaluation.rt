@@ -1,4 +1,4 @@
-//! The value of an operation on its inputs.
+//! The value of an operation on the values of its inputs: one part of the method (docs/METHOD.md) each.
 ghost use Rattle.std.specs.Prelude.{◌≡◌, ◌<◌, ◌≤◌, ◌+ℤ◌, length, map, true, IfOk, nat_abs, pos};
 ghost use Rattle.std.specs.Arc.{arc_value};
 ghost use Rattle.span_money.specs.declared.amounts.TheConstants.{MAX_MONEY};
@@ -15,7 +15,7 @@ use crate::values::Value;
 use inter_credit::credit::credit;
 use inter_credit::requirement::minimum;
 use inter_credit::spreads::inter_spread;
-use inter_credit::state::{InterState, empty, load};
+use inter_credit::state::{empty, load};
 use scan_risk::scanning::scan;
 use scan_risk::scenarios::sums;
 use span_money::amounts::Money;
@@ -51,7 +51,8 @@ fn inter_at(tables: &Tables, place: u32) -> &Inter
 // The short option minimum of a commodity, of the contracts that are held of it.
 fn minimum_at(tables: &Tables, commodity: u32, held: &Held) -> Money
     requires { commodity < length tables.now.commodities }
-    ensures { result ≡ pos (minimum_of (commodity_at tables.now commodity).minimum_rate (commodity_at tables.now commodity).method held.now) }
+    ensures { result ≡ pos (minimum_of (commodity_at tables.now commodity).minimum_rate
+        (commodity_at tables.now commodity).method held.now) }
 {
     let commodity = &tables.commodities()[commodity as usize];
     minimum(held, commodity.minimum_rate, commodity.method)
@@ -80,7 +81,10 @@ fn sum(one: Money, other: Money) -> Money
     Money::new(one.get() + other.get())
 }
 
-/// The value of an operation on the values of its inputs. `Err` is want of memory.
+/// The value of an operation on the values of its inputs, for an account under the tables. `Err` is want of memory.
+///
+/// The portfolio fits the tables, the operation's numbers are those of a commodity or a spread of the tables, and the
+/// inputs are in number, kind and range what the operation takes.
 pub fn apply(
     alloc: Global,
     tables: &Tables,

@@ -1,5 +1,5 @@
-//! The figures of a commodity.
-ghost use Rattle.std.specs.Prelude.{◌≡◌, ◌≤◌, nat_abs, pos};
+//! The seven figures of a commodity (docs/METHOD.md, "Minimum and requirement").
+ghost use Rattle.std.specs.Prelude.{◌≡◌, ◌≤◌, nat_abs};
 ghost use Rattle.inter_credit.specs.declared.requirement.TheConstants.{MAX_PART};
 ghost use Rattle.plan_ir.specs.Figures.{figures_from};
 
@@ -10,8 +10,8 @@ use span_tables::limits::{MAX_HELD, MAX_NET, MAX_PRICE2, MAX_RATE, MAX_SUM};
 use spread_stage::charges::{MAX_DELIVERY_CHARGE, MAX_INTRA_CHARGE, intra_charge};
 use spread_stage::tiers::TierState;
 
-/// The size of the requirement of a commodity, in minor units: scan risk, the charges, the credit and the minimum, each
-/// at its largest. (The credit is at most half of price risk doubled.)
+/// The size of the requirement of a commodity, at most, in minor units: scan risk, the charges, the credit and the
+/// minimum, each at its largest. (The credit is at most half of price risk doubled.)
 pub const MAX_REQUIREMENT: u128 = MAX_SUM as u128
     + MAX_INTRA_CHARGE
     + MAX_DELIVERY_CHARGE

@@ -1,4 +1,4 @@
-//! The text of a plan.
+//! The text of a plan (docs/FORMATS.md, "Plan listing").
 ghost use Rattle.std.specs.Prelude.{◌≡◌, ◌++◌, flat_map, decimal, IfOk, OnOk};
 ghost use Rattle.plan_ir.specs.Listing.{input_text, numbered, op_text, plan_text, step_line};
 ghost use Rattle.plan_ir.specs.declared.ops.Op.TheVariants.{Spread};
@@ -84,9 +84,8 @@ fn push_step(out: &mut Vec<u8>, number: usize, op: &Op, inputs: &[u32]) -> Resul
     Ok(())
 }
 
-/// The text of a plan, a line for each step: its number, its operation and the numbers of its inputs.
-///
-/// `Err` is want of memory.
+/// The text of a plan, a line for each step: its number, its operation and the numbers of its inputs
+/// (docs/FORMATS.md, "Plan listing"). `Err` is want of memory.
 pub fn list(alloc: Global, plan: &Plan) -> Result<Vec<u8>, AllocError>
     ensures { IfOk result (λ text. text.items ≡ plan_text plan.now) }
 {

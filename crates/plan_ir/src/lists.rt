@@ -1,5 +1,6 @@
 //! Lists of numbers, kept one behind the other.
-ghost use Rattle.std.specs.Prelude.{◌≡◌, ◌-◌, ◌<◌, ◌≤◌, [], ◌∷◌, ◌++◌, drop, length, slice_index_or, take, OnOk, OnErr};
+ghost use Rattle.std.specs.Prelude.{◌≡◌, ◌-◌, ◌<◌, ◌≤◌, [], ◌∷◌, ◌++◌};
+ghost use Rattle.std.specs.Prelude.{drop, length, slice_index_or, take, OnOk, OnErr};
 ghost use Rattle.plan_ir.specs.steps.Packing.{AreEnds, lists_between, start_of};
 
 use std::alloc::{AllocError, Global};
@@ -53,7 +54,7 @@ impl NumberLists {
         Ok(())
     }
 
-    /// The list at a place.
+    /// The list at a place, counted from 0.
     pub fn at(&self, place: usize) -> &[u32]
         requires { place < length self.now }
         ensures { result.now ≡ slice_index_or self.now place [] }

@@ -1,34 +1,34 @@
-//! The operations of a plan's steps.
+//! The operations of a plan's steps. A name in quotes is that of the section of docs/METHOD.md that an operation computes.
 
 /// What a step does. Numbers of commodities are in file order, and those of spreads by rising priority; both from 0.
 #[derive(Clone, Copy, Debug, PartialEq, Eq)]
 pub enum Op {
-    /// The contracts of a commodity that the account holds.
+    /// The contracts of a commodity that the account holds ("Positions").
     Gather(u32),
-    /// The scenario sums of a commodity.
+    /// The scenario sums of a commodity ("Scan").
     Sums(u32),
-    /// The scan of a commodity's scenario sums.
+    /// The scan of a commodity's scenario sums ("Scan").
     ScanMax(u32),
-    /// The held months of a commodity with their deltas.
+    /// The held months of a commodity with their deltas ("Deltas").
     Months(u32),
-    /// A commodity's months before any spread.
+    /// A commodity's months before any spread ("Intracommodity spreads").
     TierStart(u32),
-    /// A commodity's months after one more of its spreads.
+    /// A commodity's months after one more of its spreads: the commodity's number, and the spread's among its own.
     Spread(u32, u32),
-    /// The delivery charge of a commodity.
+    /// The delivery charge of a commodity ("Charges").
     Delivery(u32),
-    /// The short option minimum of a commodity.
+    /// The short option minimum of a commodity ("Minimum and requirement").
     Minimum(u32),
-    /// The figures of a commodity.
+    /// The seven figures of a commodity ("Minimum and requirement").
     Final(u32),
-    /// The commodities before any is loaded.
+    /// The commodities before any is loaded ("Intercommodity spreads").
     InterStart,
-    /// The commodities with one more of them loaded.
+    /// The commodities with the net delta and the price risk of one more of them.
     InterLoad(u32),
     /// The commodities after one more intercommodity spread.
     InterSpread(u32),
-    /// The total of no commodity.
+    /// The total of no commodity: 0 ("Minimum and requirement").
     TotalStart,
-    /// The total with one more commodity.
+    /// The total with the requirement of one more commodity.
     TotalAdd(u32),
 }

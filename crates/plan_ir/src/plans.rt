@@ -8,9 +8,9 @@ use crate::users::collect_users;
 use std::alloc::{AllocError, Global};
 use std::marker::Model;
 
-/// The steps of the longest plan. A set of as many commodities and spreads as there may be has fewer.
+/// The steps of a plan, at most. The plan of a set with as many commodities and spreads as there may be has fewer.
 pub const MAX_STEPS: usize = 6000;
-/// The inputs of a step, at most.
+/// The inputs of a step of a compiled plan, at most: those of the figures of a commodity.
 pub const MAX_INPUTS: usize = 5;
 
 /// A plan: steps numbered from 0, each an operation with the numbers of the steps that are its inputs.
@@ -45,6 +45,8 @@ fn op_in(ops: &[Op], place: usize) -> Op
 
 impl Plan {
     /// The plan of these operations, each with its inputs. `Err` is want of memory.
+    ///
+    /// There is a list of inputs for each operation: numbers of steps of this plan, none of them twice.
     pub fn new(alloc: Global, ops: Vec<Op>, inputs: NumberLists) -> Result<Plan, AllocError>
         requires { AreInputs ops.items inputs }
         ensures { IfOk result (λ plan. plan ≡ steps_with ops.items inputs) }

@@ -174,6 +174,40 @@ fn delivery_of_months(rt: HostRuntime) -> Result<(), Fail> {
     Ok(())
 }
 
+// The scan of a loss of 1200 in scenarios 3 and 4.
+fn small_scan() -> Scan
+    ensures { result ≡ record { risk = pos 1200; active = 3; paired = 4; price2 = 2400 } }
+{
+    Scan {
+        risk: Money::new(1200),
+        active: 3,
+        paired: 4,
+        price2: 2400,
+    }
+}
+
+#[test]
+fn loaded_commodity(rt: HostRuntime) -> Result<(), Fail> {
+    let alloc = rt.alloc();
+    let tables = small_tables(alloc, &rt)?;
+    let portfolio = short_calls(alloc, &rt)?;
+    assert!(rt; portfolio.fits(&tables));
+    assert_eq!(rt; tables.commodities().len(), 1);
+    let lines = apply(alloc, &tables, &portfolio, &Op::InterStart, &[])?;
+    assert_eq!(rt; lines.inter().len(), 1);
+    let months = month_deltas(alloc, &gather(alloc, &tables, &portfolio, 0)?)?;
+    let inputs = [
+        Arc::new(alloc, Value::Inter(empty(alloc, 1)?))?,
+        Arc::new(alloc, Value::Months(months))?,
+        Arc::new(alloc, Value::Scan(small_scan()))?,
+    ];
+    let lines = apply(alloc, &tables, &portfolio, &Op::InterLoad(0), &inputs)?;
+    assert_eq!(rt; lines.inter().len(), 1);
+    assert_eq!(rt; lines.inter().lines()[0].rest.get(), -200_000_000);
+    assert_eq!(rt; lines.inter().lines()[0].price2, 2400);
+    Ok(())
+}
+
 #[test]
 fn figures_of_a_commodity(rt: HostRuntime) -> Result<(), Fail> {
     let alloc = rt.alloc();
@@ -181,31 +215,13 @@ fn figures_of_a_commodity(rt: HostRuntime) -> Result<(), Fail> {
     let portfolio = short_calls(alloc, &rt)?;
     assert!(rt; portfolio.fits(&tables));
     assert_eq!(rt; tables.commodities().len(), 1);
-    let scan = Scan {
-        risk: Money::new(1200),
-        active: 3,
-        paired: 4,
-        price2: 2400,
-    };
     let months = month_deltas(alloc, &gather(alloc, &tables, &portfolio, 0)?)?;
-    let tiers = start(alloc, &months)?;
-    let lines = apply(alloc, &tables, &portfolio, &Op::InterStart, &[])?;
-    assert_eq!(rt; lines.inter().len(), 1);
     let inputs = [
-        Arc::new(alloc, Value::Inter(empty(alloc, 1)?))?,
-        Arc::new(alloc, Value::Months(months))?,
-        Arc::new(alloc, Value::Scan(scan))?,
-    ];
-    let lines = apply(alloc, &tables, &portfolio, &Op::InterLoad(0), &inputs)?;
-    assert_eq!(rt; lines.inter().len(), 1);
-    assert_eq!(rt; lines.inter().lines()[0].rest.get(), -200_000_000);
-    assert_eq!(rt; lines.inter().lines()[0].price2, 2400);
-    let inputs = [
-        Arc::new(alloc, Value::Scan(scan))?,
-        Arc::new(alloc, Value::Tiers(tiers))?,
+        Arc::new(alloc, Value::Scan(small_scan()))?,
+        Arc::new(alloc, Value::Tiers(start(alloc, &months)?))?,
         Arc::new(alloc, Value::Amount(Money::new(40)))?,
         Arc::new(alloc, Value::Amount(Money::new(200)))?,
-        Arc::new(alloc, lines)?,
+        Arc::new(alloc, Value::Inter(empty(alloc, 1)?))?,
     ];
     let figures = apply(alloc, &tables, &portfolio, &Op::Final(0), &inputs)?;
     assert_eq!(rt; figures.figures().active, 3);

@@ -1,5 +1,5 @@
 //! The users of a plan's steps: the steps that have a step among their inputs.
-ghost use Rattle.std.specs.Prelude.{◌≡◌, ◌==◌, ◌<◌, ◌≤◌, [], All, IfOk, OnOk, false, length, map};
+ghost use Rattle.std.specs.Prelude.{◌≡◌, ◌==◌, ◌<◌, ◌≤◌, All, IfOk, OnOk, false, length, map};
 ghost use Rattle.span_tables.specs.Names.{has_repeat};
 ghost use Rattle.plan_ir.specs.declared.plans.TheConstants.{MAX_STEPS};
 ghost use Rattle.plan_ir.specs.steps.Noting.{noted, places_of_all};
@@ -20,7 +20,7 @@ fn note(users: &mut Vec<Vec<u32>>, inputs: &[u32], step: u32) -> Result<(), Allo
     Ok(())
 }
 
-// The users of each step by now: of the inputs of the first steps.
+// The users of each step, in a list of its own.
 fn users_by_step(alloc: Global, inputs: &NumberLists) -> Result<Vec<Vec<u32>>, AllocError>
     requires few { length inputs.now ≤ MAX_STEPS }
     requires in_range { All (λ list. All (λ i. i < length inputs.now) list) inputs.now }
@@ -45,7 +45,7 @@ fn pack(alloc: Global, lists: &[Vec<u32>]) -> Result<NumberLists, AllocError>
     Ok(packed)
 }
 
-// For each step the steps that have it among their inputs, of the inputs of all steps.
+// The users of each step: the steps that have it among their inputs, by rising number.
 pub(crate) fn collect_users(alloc: Global, inputs: &NumberLists) -> Result<NumberLists, AllocError>
     requires few { length inputs.now ≤ MAX_STEPS }
     requires in_range { All (λ list. All (λ i. i < length inputs.now) list) inputs.now }

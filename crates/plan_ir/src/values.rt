@@ -11,24 +11,24 @@ use span_tables::held::Held;
 use spread_stage::months::Months;
 use spread_stage::tiers::TierState;
 
-/// The value of a step, of one of the kinds in the plan's table.
+/// The value of a step. Each operation gives values of one kind.
 #[derive(Drop)]
 pub enum Value {
-    /// The held contracts of a commodity.
+    /// The contracts of a commodity that the account holds, with their net quantities, in contracts.
     Held(Held),
     /// The sums of the scenarios 1 to 16, in minor units.
     Sums([i64; 16]),
-    /// The scan of a commodity's sums.
+    /// The scan of a commodity's sums: scan risk and price risk doubled, in minor units, and two scenarios.
     Scan(Scan),
-    /// The held months of a commodity with their deltas.
+    /// The held months of a commodity with their deltas, in 10^-8.
     Months(Months),
-    /// What intracommodity spreads left of them, and the exact charge so far.
+    /// What intracommodity spreads left of them, in 10^-8 deltas, and the exact charge so far, in 10^-4 minor units.
     Tiers(TierState),
-    /// An amount of a commodity, in minor units.
+    /// The delivery charge or the short option minimum of a commodity, in minor units.
     Amount(Money),
     /// The seven figures of a commodity.
     Figures(Figures),
-    /// The commodities in the intercommodity stage.
+    /// The commodities in the intercommodity stage: net deltas and rests, price risks doubled and weights.
     Inter(InterState),
     /// The sum of the requirements of some commodities, in minor units.
     Total(Money),
@@ -46,7 +46,7 @@ impl Value {
         }
     }
 
-    /// The scenario sums. The value is of that kind.
+    /// The sums of the scenarios 1 to 16, in minor units. The value is of that kind.
     pub fn sums(&self) -> &[i64; 16]
         requires { IsSums self.now }
         ensures { result.now ≡ sums_in self.now }
@@ -90,7 +90,7 @@ impl Value {
         }
     }
 
-    /// The amount. The value is of that kind.
+    /// The amount, in minor units. The value is of that kind.
     pub fn amount(&self) -> Money
         requires { IsAmount self.now }
         ensures { result ≡ amount_in self.now }
@@ -123,7 +123,7 @@ impl Value {
         }
     }
 
-    /// The total. The value is of that kind.
+    /// The total, in minor units. The value is of that kind.
     pub fn total(&self) -> Money
         requires { IsTotal self.now }
         ensures { result ≡ total_in self.now }

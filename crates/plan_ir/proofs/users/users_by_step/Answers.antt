@@ -9,7 +9,8 @@ loop-step-init c =
     let many = c.len.ensures in
     record {
       users = c.in_ok-users.ensures ∙ ap (λ n. replicate n []) many ∙ no_places (length c.args.inputs.now);
-      len = sym (length-map c.in_ok-users.users.items (λ v. v.items)) ∙ ap length c.in_ok-users.ensures ∙ length-replicate c.len.result [] ∙ many;
+      len = sym (length-map c.in_ok-users.users.items (λ v. v.items)) ∙ ap length c.in_ok-users.ensures
+          ∙ length-replicate c.len.result [] ∙ many;
     }
 
 pub loop-step-preserved : goal.loop-step-preserved

@@ -8,5 +8,11 @@ invariant_of-self-2 c =
 
 pub returns-clause-ok : goal.returns-clause-ok
 returns-clause-ok c =
-    rw (← c.self.view_is, c.push_reserved.ensures.items, c.as_slice-end.ensures.value, c.in_ok-extend_from_slice.ensures.items, c.reserve.ensures.items)
+    rw (
+      ← c.self.view_is,
+      c.push_reserved.ensures.items,
+      c.as_slice-end.ensures.value,
+      c.in_ok-extend_from_slice.ensures.items,
+      c.reserve.ensures.items,
+    )
     (lists_push c.self.inside.numbers.items c.args.list.now 0 c.self.inside.ends.items c.self.invariant)

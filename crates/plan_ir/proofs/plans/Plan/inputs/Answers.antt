@@ -14,5 +14,6 @@ returns c =
     let parts = c.self.invariant in
     let many = as_many_steps c.self.inside.ops.items c.self.inside.inputs parts.as_many in
     c.at.ensures
-    ∙ inputs_are c.self.inside.ops.items c.self.inside.inputs c.args.k parts.as_many (omega (arith, c.requires, many, ap length c.self.view_is))
+    ∙ inputs_are c.self.inside.ops.items c.self.inside.inputs c.args.k parts.as_many
+    (omega (arith, c.requires, many, ap length c.self.view_is))
     ∙ ap (λ plan. inputs_at plan c.args.k) c.self.view_is
