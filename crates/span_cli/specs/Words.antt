@@ -26,9 +26,13 @@ abbrev pub bare_app : App
 bare_app =
     let a = new_app (codes "span") in record a { top = record a.top { subcommand_required = true; has_version = true } }
 
+-- the program with the commands that take a parameter file alone
+abbrev pub params_app : App
+params_app = with_subcommand (with_subcommand bare_app check_app.top) plan_app.top
+
 -- the program
 abbrev pub span_app : App
-span_app = with_subcommand (with_subcommand (with_subcommand bare_app check_app.top) plan_app.top) margin_app.top
+span_app = with_subcommand params_app margin_app.top
 
 -- the file behind `check`
 abbrev pub check_in : List Row → Option Asked

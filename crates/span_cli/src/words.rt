@@ -4,7 +4,7 @@ ghost use Rattle.clap.specs.declared.builder.command.Command.TheViews.{out-Comma
 ghost use Rattle.span_cli.specs.Serving.{OfAnswer, asked_by, memory};
 ghost use Rattle.span_cli.specs.Telling.{IsMistake, IsShown, Refuses, RefusesBy, Serves, Tells, no_text_line};
 ghost use Rattle.span_cli.specs.Words.{asked_in, asked_under, check_app, check_in, file_rule, is_taken, kinds_of};
-ghost use Rattle.span_cli.specs.Words.{margin_app, margin_in, plan_app, plan_in, span_app};
+ghost use Rattle.span_cli.specs.Words.{margin_app, margin_in, params_app, plan_app, plan_in, span_app};
 ghost use Rattle.span_told.specs.Streams.{Says};
 ghost use Rattle.statement.specs.FaultLines.{memory_line};
 ghost use Rattle.std.specs.IoError.{error_kind};
@@ -97,12 +97,12 @@ fn margin<'a>(alloc: Global) -> Result<Command<'a>, AllocError>
     Ok(command)
 }
 
-fn span<'a>(alloc: Global) -> Result<Command<'a>, AllocError>
-    ensures shape { IfOk result (λ c. app_of c ≡ span_app) }
+// The program with the commands that take a parameter file alone.
+fn span_of_params<'a>(alloc: Global) -> Result<Command<'a>, AllocError>
+    ensures shape { IfOk result (λ c. app_of c ≡ params_app) }
 {
     let check = check(alloc)?;
     let plan = plan(alloc)?;
-    let margin = margin(alloc)?;
     let command = Command::new(alloc, "span")
         .about("Margins futures and options accounts by the SPAN method")
         .after_help(SPAN_MORE)
@@ -110,6 +110,14 @@ fn span<'a>(alloc: Global) -> Result<Command<'a>, AllocError>
         .subcommand_required(true);
     let command = command.subcommand(check)?;
     let command = command.subcommand(plan)?;
+    Ok(command)
+}
+
+fn span<'a>(alloc: Global) -> Result<Command<'a>, AllocError>
+    ensures shape { IfOk result (λ c. app_of c ≡ span_app) }
+{
+    let margin = margin(alloc)?;
+    let command = span_of_params(alloc)?;
     let command = command.subcommand(margin)?;
     Ok(command)
 }
