@@ -2,6 +2,5 @@ pub mod CountLemmas
 pub mod FitLemmas
 pub mod LineLemmas
 pub mod LoadLemmas
-pub mod PlaceLemmas
 pub mod RowLemmas
 pub mod NothingHeld

@@ -5,7 +5,7 @@ use Rattle.statement.specs.Figures.{credited}
 use Rattle.statement.specs.declared.figures.Figures.{Figures}
 use Rattle.statement.specs.declared.figures.TheConstants.{MAX_REQUIREMENT}
 use Rattle.std.proofs.lemmas.List.Elements.{All-push}
-use Rattle.statement.proofs.PlaceLemmas.{map_next, take_all}
+use Rattle.plan_ir.proofs.PlaceLemmas.{map_next, take_all}
 use Rattle.statement.proofs.account.all_figures.Goals as goal
 
 pub loop-number-preserved : goal.loop-number-preserved
