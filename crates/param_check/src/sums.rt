@@ -11,7 +11,7 @@ use span_tables::portfolios::Holding;
 use std::alloc::{AllocError, Global};
 use std::marker::Model;
 
-/// How many marks a word has.
+// How many marks a word has.
 const MARKS: usize = u64::BITS as usize;
 
 /// A sum for each contract number. Contracts see the list of them.
