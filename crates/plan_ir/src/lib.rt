@@ -3,6 +3,7 @@
 
 pub mod evaluation;
 pub mod figures;
+pub mod in_place;
 pub mod laws;
 pub mod listing;
 pub mod lists;
