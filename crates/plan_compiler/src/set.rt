@@ -1,8 +1,11 @@
 //! Compiled sets (docs/METHOD.md, "The plan of steps").
-ghost use Rattle.std.specs.Prelude.{◌≡◌, ◌<◌, IfOk, length};
+ghost use Rattle.std.specs.Prelude.{◌≡◌, ◌<◌, IfOk, List, length};
+ghost use Rattle.span_tables.specs.declared.portfolios.Holding.{Holding};
+ghost use Rattle.plan_ir.specs.Figures.{total_to};
 ghost use Rattle.plan_ir.specs.Plans.{op_at};
 ghost use Rattle.plan_ir.specs.declared.ops.Op.TheVariants as operation;
-ghost use Rattle.plan_compiler.specs.Compiled.{IsCompiled, IsFirstInput};
+ghost use Rattle.plan_ir.specs.declared.values.Value.TheVariants as value;
+ghost use Rattle.plan_compiler.specs.Compiled.{IsCompiled, IsFirstInput, step_meaning};
 ghost use Rattle.plan_compiler.specs.Meaning.{last_total};
 ghost use Rattle.plan_compiler.specs.Places.{plan_of};
 ghost use Rattle.plan_compiler.specs.Plan.{IsPlanOf};
@@ -76,6 +79,8 @@ impl CompiledSet {
     pub fn total_step(&self) -> u32
         ensures in_range { result < length self.now.plan }
         ensures op { op_at self.now.plan result ≡ last_total self.now.tables }
+        ensures means { (holdings : List Holding) → step_meaning self.now holdings result
+            ≡ value.Total (total_to self.now.tables holdings (length self.now.tables.commodities)) }
         ensures stays { IsFirstInput self.now.plan result → ⊥ }
     {
         let commodities = self.tables.commodities().len();

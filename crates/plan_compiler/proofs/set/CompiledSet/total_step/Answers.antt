@@ -1,5 +1,6 @@
-use Rattle.std.proofs.Common.{length, arith}
-use Rattle.plan_compiler.specs.Meaning.{last_total}
+use Rattle.std.proofs.Common.{◌∙◌, ap, length, arith}
+use Rattle.plan_compiler.specs.Meaning.{last_total, meaning}
+use Rattle.plan_compiler.proofs.Meanings.{meaning-before_total}
 use Rattle.plan_compiler.proofs.FromPlan.{known_before_total, place-before_total}
 use Rattle.plan_compiler.proofs.PlanLaw.{op_at_place, place_within, total_stays}
 use Rattle.plan_compiler.proofs.set.CompiledSet.total_step.Goals as goal
@@ -26,3 +27,12 @@ returns-clause-stays c =
     let t = c.self.inside.tables in
     rw (← c.self.view_is, c.total_step.ensures, c.commodities-commodities.ensures.value, ← place-before_total t (length t.commodities))
     (total_stays t c.self.inside.plan set.is_plan.ops set.wires)
+
+pub returns-clause-means : goal.returns-clause-means
+returns-clause-means c =
+    let set = c.self.invariant in
+    let t = c.self.inside.tables in
+    let known = known_before_total t (length t.commodities) (omega arith) in
+    let op = op_at_place t c.self.inside.plan set.is_plan.ops set.wires (last_total t) known in
+    rw (← c.self.view_is, c.total_step.ensures, c.commodities-commodities.ensures.value, ← place-before_total t (length t.commodities))
+    (λ holdings. ap (meaning t holdings) op ∙ meaning-before_total t holdings (length t.commodities))

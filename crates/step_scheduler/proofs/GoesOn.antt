@@ -1,0 +1,74 @@
+-- A board with an unfinished step has one that can go on.
+use Rattle.std.proofs.Common.{◌≡◌, ℕ, zero, suc, ◌<◌, Bool, true, false, List, [], ◌∷◌, length, All, refl, ap, ◌∙◌, ◌⊎◌, inl, inr, arith, get_or}
+use Rattle.std.proofs.lemmas.Bool.{cases_eq}
+use Rattle.std.proofs.lemmas.List.Elements.{All-cons, All-nil}
+use Rattle.plan_ir.specs.Plans.{inputs_at}
+use Rattle.step_scheduler.specs.Jobs.{JobView}
+use Rattle.step_scheduler.specs.declared.events.Event.{Event}
+use Rattle.step_scheduler.specs.declared.progress.Progress.{Progress}
+use Rattle.step_scheduler.specs.Runs.{CanGoOn}
+use Rattle.step_scheduler.specs.steps.Steps.{was_taken, is_done, progress_at}
+use Rattle.step_scheduler.specs.steps.Kept.{IsRunBoard}
+use Rattle.step_scheduler.proofs.BoardLemmas.{ready_from_start}
+
+true_or_false : (b : Bool) → (b ≡ true) ⊎ (b ≡ false)
+true_or_false true = inl refl
+true_or_false false = inr refl
+
+-- either all numbers pass the test, or one of them fails it
+all_or_one : (p : ℕ → Bool) (xs : List ℕ) → All (λ i. p i ≡ true) xs ⊎ ((m : ℕ) × (m < length xs) × (p (get_or xs m 0) ≡ false))
+all_or_one p [] = inl (All-nil (λ i. p i ≡ true))
+all_or_one p (x ∷ xs) =
+    elim (true_or_false (p x)) [
+      | inr fails ↦ inr (0, omega arith, fails)
+      | inl passes ↦
+          elim (all_or_one p xs) [
+            | inl rest ↦ inl (All-cons (λ i. p i ≡ true) x xs passes rest)
+            | inr one ↦ inr (suc one.0, omega (arith, one.1), one.2)
+          ]
+    ]
+
+below_more_at : (p : ℕ → Bool) (n : ℕ) → ((k : ℕ) → k < n → p k ≡ true) → p n ≡ true → (k : ℕ) → k < suc n → p k ≡ true
+below_more_at p n below here k h =
+    elim (cases_eq k n) [ inl same ↦ ap p same ∙ here | inr other ↦ below k (omega arith) ]
+
+-- either each number below n passes the test, or one of them fails it
+below_or_one : (p : ℕ → Bool) (n : ℕ) → ((k : ℕ) → k < n → p k ≡ true) ⊎ ((k : ℕ) × (k < n) × (p k ≡ false))
+below_or_one p zero = inl (λ k h. absurd (omega arith))
+below_or_one p (suc n) =
+    elim (below_or_one p n) [
+      | inr one ↦ inr (one.0, omega (arith, one.1), one.2)
+      | inl below ↦
+          elim (true_or_false (p n)) [
+            | inr fails ↦ inr (n, omega arith, fails)
+            | inl passes ↦ inl (below_more_at p n below passes)
+          ]
+    ]
+
+module _ (job : JobView) (steps : List Progress) (history : List Event) (capacity : ℕ) (b : IsRunBoard job steps history capacity) where
+  -- an unfinished step of a rank below the bound leads to one that can go on
+  unfinished_goes_on : (bound k : ℕ) → b.compiled.rank k < bound → k < length steps → is_done (progress_at steps k) ≡ false → (j : ℕ) × CanGoOn job.set.plan history j
+  unfinished_goes_on zero k low h open_k = absurd (omega arith)
+  unfinished_goes_on (suc bound) k low h open_k =
+      let in_plan : k < length job.set.plan = let l = b.long in omega arith in
+      elim (true_or_false (was_taken (progress_at steps k))) [
+        | inl taken ↦ (k, inr (record { taken = b.taken k ∙ taken; unfinished = b.finished k ∙ open_k }))
+        | inr waits ↦
+            elim (all_or_one (λ i. is_done (progress_at steps i)) (inputs_at job.set.plan k)) [
+              | inl fed ↦
+                  (k, inl (ready_from_start job steps history capacity k b (record { in_range = in_plan; waits = waits; fed = fed })))
+              | inr one ↦
+                  let i : ℕ = get_or (inputs_at job.set.plan k) one.0 0 in
+                  let lower = b.compiled.lower k in_plan one.0 0 one.1 in
+                  let range = b.compiled.in_range k in_plan one.0 0 one.1 in
+                  unfinished_goes_on bound i (omega arith) (let l = b.long in omega arith) one.2
+            ]
+      ]
+
+  -- where not all steps have their values, one can go on
+  pub some_goes_on : (((k : ℕ) → k < length steps → is_done (progress_at steps k) ≡ true) → ⊥) → (k : ℕ) × CanGoOn job.set.plan history k
+  some_goes_on not_all =
+      elim (below_or_one (λ k. is_done (progress_at steps k)) (length steps)) [
+        | inl all ↦ absurd (not_all all)
+        | inr one ↦ unfinished_goes_on (suc (b.compiled.rank one.0)) one.0 (omega arith) one.1 one.2
+      ]

@@ -1,0 +1,9 @@
+pub mod Histories
+pub mod BoardLemmas
+pub mod GoesOn
+pub mod RunValues
+pub mod Counting
+pub mod UserLemmas
+pub mod Places
+pub mod Counted
+pub mod RunOnce

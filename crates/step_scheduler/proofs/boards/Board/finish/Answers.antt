@@ -1,0 +1,59 @@
+use Rattle.std.proofs.Common.{◌≡◌, ◌∙◌, ap, sym, refl, arith}
+use Rattle.std.specs.Arc.{arc_value}
+use Rattle.step_scheduler.specs.Boards.{BoardView}
+use Rattle.step_scheduler.proofs.BoardLemmas.{has_room}
+use Rattle.step_scheduler.proofs.Counted.{users_miss, users_fit, board_finishes_and_releases}
+use Rattle.step_scheduler.proofs.UserLemmas.{has_users}
+use Rattle.step_scheduler.proofs.boards.Board.finish.Goals as goal
+
+pub push_reserved-requires : goal.push_reserved-requires
+push_reserved-requires c =
+    let under_way = rw c.as_slice.ensures.value at (c.if-not-is_under_way.ensures.0 refl) in
+    let job : c.args.finished.job ≡ arc_value c.self.inside.job = c.requires ∙ sym (ap (λ (b : BoardView). b.job) c.self.view_is) in
+    let step = rw (job, ← c.into_parts-step.ensures.step, ← c.self.invariant.counted_board.board.long) at c.into_parts-step.ensures.in_range in
+    let room = has_room _ _ _ _ _ c.self.invariant.counted_board.board step under_way.1 in
+    omega arith
+
+pub invariant_of-self : goal.invariant_of-self
+invariant_of-self c =
+    let under_way = rw c.as_slice.ensures.value at (c.if-not-is_under_way.ensures.0 refl) in
+    let job : c.args.finished.job ≡ arc_value c.self.inside.job = c.requires ∙ sym (ap (λ (b : BoardView). b.job) c.self.view_is) in
+    let step = rw (job, ← c.into_parts-step.ensures.step, ← c.self.invariant.counted_board.board.long) at c.into_parts-step.ensures.in_range in
+    let right = rw (c.in-Some.is, ← c.into_parts-step.ensures.step, job) at c.into_parts-step.ensures.right in
+    let users = rw (c.plan.ensures.plan, c.deref.ensures) at c.users.ensures in
+    rw (c.push_reserved.ensures.items, c.push_reserved.ensures.capacity)
+    (record {
+      counted_board = (board_finishes_and_releases _ _ _ _ _ _ _ _ _ _ _ _ _ c.self.invariant.counted_board step under_way.0 under_way.1 right (record {
+        long = c.release.ensures.long;
+        left = λ k. rw (← users) (c.release.ensures.missing k);
+        freed = λ k. rw (← users) (c.release.ensures.ready k);
+        in_range = c.release.ensures.ready_in_range;
+        room = rw (← users) c.release.ensures.few;
+        same_room = c.release.ensures.capacity;
+      }));
+      own_spare = rw (c.into_parts-step.ensures.job, job) at c.keep_hold.ensures;
+    })
+
+pub release-requires-clause-positive : goal.release-requires-clause-positive
+release-requires-clause-positive c =
+    let under_way = rw c.as_slice.ensures.value at (c.if-not-is_under_way.ensures.0 refl) in
+    let job : c.args.finished.job ≡ arc_value c.self.inside.job = c.requires ∙ sym (ap (λ (b : BoardView). b.job) c.self.view_is) in
+    let step = rw (job, ← c.into_parts-step.ensures.step, ← c.self.invariant.counted_board.board.long) at c.into_parts-step.ensures.in_range in
+    rw (c.users.ensures, c.plan.ensures.plan, c.deref.ensures) (users_miss _ _ _ _ _ _ _ _ _ c.self.invariant.counted_board step under_way.1)
+
+pub release-requires-clause-room : goal.release-requires-clause-room
+release-requires-clause-room c =
+    let under_way = rw c.as_slice.ensures.value at (c.if-not-is_under_way.ensures.0 refl) in
+    let job : c.args.finished.job ≡ arc_value c.self.inside.job = c.requires ∙ sym (ap (λ (b : BoardView). b.job) c.self.view_is) in
+    let step = rw (job, ← c.into_parts-step.ensures.step, ← c.self.invariant.counted_board.board.long) at c.into_parts-step.ensures.in_range in
+    rw (c.users.ensures, c.plan.ensures.plan, c.deref.ensures) (users_fit _ _ _ _ _ _ _ _ _ c.self.invariant.counted_board step under_way.1)
+
+pub release-requires-clause-in_range : goal.release-requires-clause-in_range
+release-requires-clause-in_range c =
+    let b = c.self.invariant.counted_board in
+    rw (c.users.ensures, c.plan.ensures.plan, c.deref.ensures, b.counted.long) ((has_users _ b.board.compiled).in_range _)
+
+pub release-requires-clause-once : goal.release-requires-clause-once
+release-requires-clause-once c =
+    let b = c.self.invariant.counted_board in
+    rw (c.users.ensures, c.plan.ensures.plan, c.deref.ensures) ((has_users _ b.board.compiled).once _)

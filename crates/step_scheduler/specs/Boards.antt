@@ -1,0 +1,16 @@
+-- What contracts see of a board.
+use Rattle.std.specs.Prelude.{◌≡◌, Bool, false, List}
+use Rattle.step_scheduler.specs.Jobs.{JobView}
+use Rattle.step_scheduler.specs.Runs.{AllFinished}
+use Rattle.step_scheduler.specs.declared.events.Event.{Event}
+
+-- a job, what has happened to its steps, and whether the board has failed
+pub record BoardView : Type 0 where
+  pub job : JobView
+  pub history : List Event
+  pub failed : Bool
+
+-- every step is finished, and the board has not failed
+pub record IsComplete (b : BoardView) : Type 0 where
+  pub live : b.failed ≡ false
+  pub finished : AllFinished b.job.set.plan b.history

@@ -1,0 +1,4 @@
+pub mod Jobs
+pub mod Runs
+pub mod Boards
+pub mod steps

@@ -1,0 +1,34 @@
+-- Counters of missing inputs, and the list of ready steps.
+use Rattle.std.specs.Prelude.{◌≡◌, ℕ, ◌+◌, ◌<◌, ◌≤◌, ◌==◌, Bool, true, List, [], ◌∷◌, length, All, slice_index}
+use Rattle.std.specs.Prelude.{if◌then◌else◌}
+use Rattle.plan_ir.specs.Plans.{StepView, inputs_at}
+use Rattle.step_scheduler.specs.declared.progress.Progress.{Progress}
+use Rattle.step_scheduler.specs.steps.Steps.{was_taken, is_done, progress_at}
+
+-- how often x stands in the list
+abbrev pub times : ℕ → List ℕ → ℕ
+times x [] = 0
+times x (y ∷ ys) = (if y == x then 1 else 0) + times x ys
+
+-- how many of these steps have no value yet
+abbrev pub open_inputs : List Progress → List ℕ → ℕ
+open_inputs steps [] = 0
+open_inputs steps (i ∷ is) = (if is_done (progress_at steps i) then 0 else 1) + open_inputs steps is
+
+-- how often a step stands in the list of ready steps
+abbrev pub ready_times : Bool → ℕ → ℕ
+ready_times taken missing = if taken then 0 else (if missing == 0 then 1 else 0)
+
+-- the counters count, and the list has each step that can start once
+pub record IsCounted (plan : List StepView) (steps : List Progress) (missing ready : List ℕ) (capacity : ℕ) : Type 0 where
+  pub long : length missing ≡ length plan
+  pub missing_is : (k : ℕ) → k < length plan → slice_index missing k ≡ open_inputs steps (inputs_at plan k)
+  pub fed : (k : ℕ) → k < length plan → was_taken (progress_at steps k) ≡ true → slice_index missing k ≡ 0
+  pub in_range : All (λ k. k < length plan) ready
+  pub listed : (k : ℕ) → k < length plan
+      → times k ready ≡ ready_times (was_taken (progress_at steps k)) (slice_index missing k)
+  pub room : length plan ≤ capacity
+
+-- how often a user is listed when it was counted down to what is missing now
+abbrev pub freed_times : ℕ → ℕ → ℕ
+freed_times users missing = if users == 0 then 0 else (if missing == 0 then 1 else 0)

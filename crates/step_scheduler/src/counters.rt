@@ -1,0 +1,63 @@
+//! Counters of missing inputs, and the list of ready steps.
+ghost use Rattle.std.specs.Prelude.{◌≡◌, ℕ, ◌+◌, ◌<◌, ◌≤◌, ◌++◌, ◌∷◌, [], ◌-◌, All, IfOk, MatchOption, length, replicate};
+ghost use Rattle.std.specs.Prelude.{slice_index, take, vec_capacity};
+ghost use Rattle.plan_ir.specs.Plans.{inputs_at};
+ghost use Rattle.plan_ir.specs.declared.plans.TheConstants.{MAX_INPUTS, MAX_STEPS};
+ghost use Rattle.step_scheduler.specs.declared.progress.Progress.TheVariants.{Waiting};
+ghost use Rattle.step_scheduler.specs.steps.Counts.{times, freed_times, IsCounted};
+
+use plan_ir::plans::Plan;
+use std::alloc::{AllocError, Global};
+
+// The last number of the list.
+pub(crate) fn last_of(ready: &[u32]) -> Option<u32>
+    ensures { MatchOption result (ready.now ≡ []) (λ k. ready.now ≡ take (length ready.now - 1) ready.now ++ k ∷ []) }
+{
+    if ready.is_empty() {
+        return None;
+    }
+    Some(ready[ready.len() - 1])
+}
+
+// The counters of a plan of which no step has its value, and the steps that miss nothing.
+pub(crate) fn counters(alloc: Global, plan: &Plan) -> Result<(Vec<u8>, Vec<u32>), AllocError>
+    requires few_steps { length plan.now ≤ MAX_STEPS }
+    requires few_inputs { (k : ℕ) → k < length plan.now → length (inputs_at plan.now k) ≤ MAX_INPUTS }
+    ensures { IfOk result (λ r. IsCounted plan.now (replicate (length plan.now) Waiting) r.0.items r.1.items (vec_capacity r.1)) }
+{
+    let count = plan.len();
+    let mut missing = Vec::with_capacity(alloc, count)?;
+    let mut ready = Vec::with_capacity(alloc, count)?;
+    for k in 0..count {
+        let inputs = plan.inputs(k).len();
+        missing.push(inputs as u8)?;
+        if inputs == 0 {
+            ready.push(k as u32)?;
+        }
+    }
+    Ok((missing, ready))
+}
+
+// Counts the users of a finished step down, and lists those that miss nothing any more.
+pub(crate) fn release(users: &[u32], missing: &mut Vec<u8>, ready: &mut Vec<u32>)
+    requires in_range { All (λ u. u < length missing.old.items) users.now }
+    requires once { (k : ℕ) → times k users.now ≤ 1 }
+    requires positive { (k : ℕ) → 0 < times k users.now → 0 < slice_index missing.old.items k }
+    requires room { length ready.old.items + length users.now ≤ vec_capacity ready.old }
+    ensures long { length missing.new.items ≡ length missing.old.items }
+    ensures missing { (k : ℕ) → slice_index missing.new.items k + times k users.now ≡ slice_index missing.old.items k }
+    ensures ready { (k : ℕ) → times k ready.new.items ≡ times k ready.old.items
+        + freed_times (times k users.now) (slice_index missing.new.items k) }
+    ensures ready_in_range { (n : ℕ) → n ≡ length missing.old.items → All (λ u. u < n) ready.old.items
+        → All (λ u. u < n) ready.new.items }
+    ensures few { length ready.new.items ≤ length ready.old.items + length users.now }
+    ensures capacity { vec_capacity ready.new ≡ vec_capacity ready.old }
+{
+    for user in users {
+        let left = missing[*user as usize] - 1;
+        missing[*user as usize] = left;
+        if left == 0 {
+            ready.push_reserved(*user);
+        }
+    }
+}

@@ -1,0 +1,105 @@
+//! The values of tasks' steps.
+ghost use Rattle.std.specs.Prelude.{◌≡◌, ◌<◌, ◌∷◌, List, IfSome, IsTrue, IsFalse, length, map};
+ghost use Rattle.std.specs.Arc.{arc_value};
+ghost use Rattle.std.specs.Option.{option_map};
+ghost use Rattle.span_tables.specs.declared.portfolios.Holding.{Holding};
+ghost use Rattle.plan_ir.specs.Apply.{IsInPlace, Takes, value_on};
+ghost use Rattle.step_scheduler.specs.Jobs.{inputs_for, meaning_at};
+ghost use Rattle.step_scheduler.specs.steps.Tasks.{inputs_of};
+
+use crate::jobs::Job;
+use crate::tasks::{Finished, Task};
+use plan_compiler::set::CompiledSet;
+use plan_ir::evaluation::apply;
+use plan_ir::in_place::{apply_beside, apply_in_place, changes_nothing, is_in_place};
+use plan_ir::ops::Op;
+use plan_ir::values::Value;
+use span_tables::tables::Tables;
+use std::alloc::Global;
+use std::sync::Arc;
+
+/// The value of a task's step, or the mark that there was no memory for it.
+pub fn evaluate(alloc: Global, task: Task) -> Finished
+    ensures job { result.job ≡ task.job }
+    ensures step { result.step ≡ task.step }
+    ensures value { IfSome result.value (λ v. v ≡ meaning_at task.job task.step) }
+{
+    let Task {
+        job,
+        first,
+        rest,
+        found,
+        step,
+    } = task;
+    let value = match found {
+        Some(value) => Some(value),
+        None => value_of(alloc, &job, step, first, rest.as_slice()),
+    };
+    Finished { job, value, step }
+}
+
+// The value of a step on the meanings of its inputs. `None` is want of memory.
+fn value_of(
+    alloc: Global,
+    job: &Arc<Job>,
+    step: u32,
+    first: Option<Arc<Value>>,
+    rest: &[Arc<Value>],
+) -> Option<Arc<Value>>
+    requires in_range { step < length (arc_value job.now).set.plan }
+    requires fed { inputs_of (option_map arc_value first) (map arc_value rest.now) ≡ inputs_for (arc_value job.now) step }
+    ensures { IfSome result (λ v. arc_value v ≡ meaning_at (arc_value job.now) step) }
+{
+    let set = job.set();
+    let op = set.plan().op(step as usize);
+    match first {
+        Some(first) => renewed(alloc, set, op, first, rest),
+        None => match apply(alloc, set.tables(), job.portfolio(), &op, rest) {
+            Ok(value) => Arc::new(alloc, value).ok(),
+            Err(_) => None,
+        },
+    }
+}
+
+// The value of an operation that has inputs: the first of them, where nothing changes; the set's, where nothing is held;
+// the first written over, where nothing else holds it; else a new one. `None` is want of memory.
+fn renewed(
+    alloc: Global,
+    set: &CompiledSet,
+    op: Op,
+    mut first: Arc<Value>,
+    rest: &[Arc<Value>],
+) -> Option<Arc<Value>>
+    requires { Takes set.now.tables op (arc_value first ∷ map arc_value rest.now) }
+    ensures { IfSome result (λ v. (holdings : List Holding)
+        → arc_value v ≡ value_on set.now.tables holdings op (arc_value first ∷ map arc_value rest.now)) }
+{
+    let tables = set.tables();
+    if changes_nothing(tables, op, &first, rest) {
+        return Some(first);
+    }
+    if is_in_place(op) && written(tables, op, &mut first, rest) {
+        return Some(first);
+    }
+    match apply_beside(alloc, tables, op, &first, rest) {
+        Ok(value) => Arc::new(alloc, value).ok(),
+        Err(_) => None,
+    }
+}
+
+// Writes an operation's value over its first input, where nothing else holds that. Whether it did.
+fn written(tables: &Tables, op: Op, first: &mut Arc<Value>, rest: &[Arc<Value>]) -> bool
+    requires in_place { IsInPlace op }
+    requires inputs { Takes tables.now op (arc_value first.old ∷ map arc_value rest.now) }
+    ensures alone { IsTrue result → (holdings : List Holding)
+        → arc_value first.new ≡ value_on tables.now holdings op (arc_value first.old ∷ map arc_value rest.now) }
+    ensures shared { IsFalse result → arc_value first.new ≡ arc_value first.old }
+{
+    match Arc::get_mut(first) {
+        Some(value) => {
+            apply_in_place(tables, op, value, rest);
+            true
+        }
+        None => false,
+    }
+}

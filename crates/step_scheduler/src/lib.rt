@@ -1,0 +1,12 @@
+//! Jobs, their tasks, and boards that run a compiled plan step by step.
+#![tactic(auto)]
+
+pub mod boards;
+mod counters;
+pub mod evaluation;
+pub mod events;
+mod handing;
+pub mod jobs;
+mod opening;
+pub mod progress;
+pub mod tasks;

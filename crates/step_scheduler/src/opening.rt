@@ -1,0 +1,42 @@
+//! What a board finds out when it is opened.
+ghost use Rattle.std.specs.Prelude.{◌≡◌, IfOk, None, length, replicate};
+ghost use Rattle.std.specs.Arc.{arc_value};
+ghost use Rattle.plan_ir.specs.declared.values.Value.TheVariants as value;
+ghost use Rattle.step_scheduler.specs.steps.Keeping.{KeepsMeanings};
+
+use crate::jobs::Job;
+use plan_compiler::set::CompiledSet;
+use plan_ir::values::Value;
+use span_tables::held::{Held, gather_all};
+use std::alloc::{AllocError, Global};
+use std::sync::Arc;
+
+// So many empty places.
+fn empty(alloc: Global, count: usize) -> Result<Vec<Option<Arc<Value>>>, AllocError>
+    ensures { IfOk result (λ v. v.items ≡ replicate count None) }
+{
+    let mut places = Vec::with_capacity(alloc, count)?;
+    for _ in 0..count {
+        places.push(None)?;
+    }
+    Ok(places)
+}
+
+// Held contracts as a value: that of the set, where there are none.
+fn as_value(alloc: Global, set: &CompiledSet, held: Held) -> Result<Arc<Value>, AllocError>
+    ensures { IfOk result (λ v. arc_value v ≡ value.Held held) }
+{
+    if held.is_empty() {
+        Arc::try_clone(set.nothing_held().held())
+    } else {
+        Ok(Arc::new(alloc, Value::Held(held))?)
+    }
+}
+
+// The places for the values of a job's steps.
+pub(crate) fn found_values(alloc: Global, job: &Job) -> Result<Vec<Option<Arc<Value>>>, AllocError>
+    ensures long { IfOk result (λ v. length v.items ≡ length job.now.set.plan) }
+    ensures means { IfOk result (λ v. KeepsMeanings job.now v.items) }
+{
+    empty(alloc, job.set().plan().len())
+}

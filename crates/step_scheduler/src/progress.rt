@@ -1,0 +1,51 @@
+//! How far the steps of a board are.
+ghost use Rattle.std.specs.Prelude.{◌≡◌, ◌<◌, ◌↔◌, ℕ, IsTrue, length, true, false};
+ghost use Rattle.step_scheduler.specs.steps.Steps.{was_taken, is_done, progress_at};
+
+/// How far a step is.
+#[derive(Clone, Copy, PartialEq, Eq, Debug)]
+pub enum Progress {
+    /// It was not handed out.
+    Waiting,
+    /// It was handed out, and has no value.
+    Taken,
+    /// It has had its value.
+    Done,
+}
+
+impl Progress {
+    // Whether the step was taken and has had no value.
+    pub(crate) fn is_under_way(&self) -> bool
+        ensures { IsTrue result ↔ ((was_taken self.now ≡ true) × (is_done self.now ≡ false)) }
+    {
+        matches!(self, Progress::Taken)
+    }
+
+    // Whether the step has had its value.
+    pub(crate) fn is_done(&self) -> bool
+        ensures { result ≡ is_done self.now }
+    {
+        matches!(self, Progress::Done)
+    }
+}
+
+// Whether the step of a number was taken and has had no value.
+pub(crate) fn is_under_way(steps: &[Progress], step: usize) -> bool
+    requires { step < length steps.now }
+    ensures { IsTrue result ↔ ((was_taken (progress_at steps.now step) ≡ true)
+        × (is_done (progress_at steps.now step) ≡ false)) }
+{
+    steps[step].is_under_way()
+}
+
+// Whether all steps have had their values.
+pub(crate) fn all_done(steps: &[Progress]) -> bool
+    ensures { IsTrue result ↔ ((k : ℕ) → k < length steps.now → is_done (progress_at steps.now k) ≡ true) }
+{
+    for step in steps {
+        if !step.is_done() {
+            return false;
+        }
+    }
+    true
+}

@@ -1,0 +1,140 @@
+//! Steps that were handed out, and steps with their values.
+ghost use Rattle.std.specs.Prelude.{◌≡◌, ◌<◌, IfSome, length, map};
+ghost use Rattle.std.specs.Arc.{arc_value};
+ghost use Rattle.std.specs.Option.{option_map};
+ghost use Rattle.step_scheduler.specs.Jobs.{inputs_for, meaning_at};
+ghost use Rattle.step_scheduler.specs.steps.Tasks.{inputs_of};
+
+use crate::jobs::Job;
+use plan_ir::values::Value;
+use std::marker::Model;
+use std::sync::Arc;
+
+/// A step that is to be evaluated, with the values of its inputs. Only a board hands it out.
+#[derive(Drop)]
+pub struct Task {
+    pub(crate) job: Arc<Job>,
+    pub(crate) first: Option<Arc<Value>>,
+    pub(crate) rest: Vec<Arc<Value>>,
+    // The step's own value, where it was found when the board was opened.
+    pub(crate) found: Option<Arc<Value>>,
+    pub(crate) step: u32,
+}
+
+impl Model for Task {
+    ghost use Rattle.std.specs.Prelude.{map};
+    ghost use Rattle.std.specs.Arc.{arc_value};
+    ghost use Rattle.std.specs.Option.{option_map};
+    ghost use Rattle.step_scheduler.specs.Jobs.{TaskView};
+    ghost use Rattle.step_scheduler.specs.steps.Tasks.{IsTaskWith, inputs_of};
+
+    ghost Value = { TaskView };
+
+    ghost view = { λ t. record {
+      job = arc_value t.job;
+      step = t.step;
+      inputs = inputs_of (option_map arc_value t.first) (map arc_value t.rest.items);
+    } };
+
+    ghost invariant = { λ t. IsTaskWith (option_map arc_value t.found) (record {
+      job = arc_value t.job;
+      step = t.step;
+      inputs = inputs_of (option_map arc_value t.first) (map arc_value t.rest.items);
+    }) };
+}
+
+impl Task {
+    // The task of a step, with its inputs, and with its value where that was found when the board was opened.
+    pub(crate) fn new(
+        job: Arc<Job>,
+        step: u32,
+        first: Option<Arc<Value>>,
+        rest: Vec<Arc<Value>>,
+        found: Option<Arc<Value>>,
+    ) -> Task
+        requires in_range { step < length (arc_value job).set.plan }
+        requires fed { inputs_of (option_map arc_value first) (map arc_value rest.items) ≡ inputs_for (arc_value job) step }
+        requires found { IfSome found (λ v. arc_value v ≡ meaning_at (arc_value job) step) }
+        ensures { result ≡ record {
+          job = arc_value job;
+          step = step;
+          inputs = inputs_of (option_map arc_value first) (map arc_value rest.items);
+        } }
+    {
+        Task {
+            job,
+            first,
+            rest,
+            found,
+            step,
+        }
+    }
+
+    /// The job.
+    pub fn job(&self) -> &Arc<Job>
+        ensures { arc_value result.now ≡ self.now.job }
+    {
+        &self.job
+    }
+
+    /// The step's number in the plan.
+    pub fn step(&self) -> usize
+        ensures value { result ≡ self.now.step }
+        ensures in_range { result < length self.now.job.set.plan }
+    {
+        self.step as usize
+    }
+}
+
+/// A step with its value, or with the mark that there was no memory for it. Only `evaluate` makes it.
+#[derive(Drop)]
+pub struct Finished {
+    pub(crate) job: Arc<Job>,
+    pub(crate) value: Option<Arc<Value>>,
+    pub(crate) step: u32,
+}
+
+impl Model for Finished {
+    ghost use Rattle.std.specs.Option.{option_map};
+    ghost use Rattle.std.specs.Arc.{arc_value};
+    ghost use Rattle.step_scheduler.specs.Jobs.{FinishedView, IsFinishedStep};
+
+    ghost Value = { FinishedView };
+
+    ghost view = { λ f. record { job = arc_value f.job; step = f.step; value = option_map arc_value f.value } };
+
+    ghost invariant = { λ f. IsFinishedStep (record {
+      job = arc_value f.job;
+      step = f.step;
+      value = option_map arc_value f.value;
+    }) };
+}
+
+impl Finished {
+    /// The job.
+    pub fn job(&self) -> &Arc<Job>
+        ensures { arc_value result.now ≡ self.now.job }
+    {
+        &self.job
+    }
+
+    /// The step's number in the plan.
+    pub fn step(&self) -> usize
+        ensures value { result ≡ self.now.step }
+        ensures in_range { result < length self.now.job.set.plan }
+    {
+        self.step as usize
+    }
+
+    // The step, its value, and the hold on its job.
+    pub(crate) fn into_parts(self) -> (u32, Option<Arc<Value>>, Arc<Job>)
+        ensures step { result.0 ≡ self.step }
+        ensures value { option_map arc_value result.1 ≡ self.value }
+        ensures job { arc_value result.2 ≡ self.job }
+        ensures in_range { self.step < length self.job.set.plan }
+        ensures right { IfSome result.1 (λ v. arc_value v ≡ meaning_at self.job self.step) }
+    {
+        let Finished { job, value, step } = self;
+        (step, value, job)
+    }
+}
