@@ -1,5 +1,5 @@
 -- A board's invariant after each event.
-use Rattle.std.specs.Prelude.{◌↔◌, not}
+use Rattle.std.specs.Prelude.{◌↔◌}
 use Rattle.std.proofs.Common.{◌≡◌, ℕ, zero, suc, ◌*◌, ◌<◌, ◌≤◌, ◌||◌, Bool, true, false, List, [], ◌∷◌, ◌++◌, length, refl, ap, ◌∙◌, sym, subst, inl, inr, arith, slice_set, slice_index_or, sum_by, map, get_or-set_same, get_or-set_other, length-append, length-set, eq-eqb}
 use Rattle.std.proofs.lemmas.Bool.{cases_eq, ne_eqb, false≢true}
 use Rattle.std.proofs.lemmas.List.Sums.{sum_by-set, sum_by-cons}
@@ -123,18 +123,14 @@ start_has_room job steps history capacity k b s =
     let r = s.in_range in let l = b.long in
     has_room job steps history capacity k b (omega arith) (waiting_not_done _ s.waits)
 
-not_true : (b : Bool) → not b ≡ true → b ≡ false
-not_true true e = absurd (false≢true e)
-not_true false e = refl
-
 -- a board that has not failed is complete just where all of its steps have their values
 pub complete_where_done : (job : JobView) (steps : List Progress) (history : List Event) (capacity : ℕ) (failed : Bool)
-    → IsRunBoard job steps history capacity → not failed ≡ true
+    → IsRunBoard job steps history capacity → failed ≡ false
     → ((k : ℕ) → k < length steps → is_done (progress_at steps k) ≡ true)
     ↔ IsComplete (record { job = job; history = history; failed = failed })
 complete_where_done job steps history capacity failed b live = (
   (λ all. record {
-    live = not_true failed live;
+    live = live;
     finished = λ k h. b.finished k ∙ all k (let l = b.long in omega arith);
   }),
   (λ complete k h. sym (b.finished k) ∙ complete.finished k (let l = b.long in omega arith))

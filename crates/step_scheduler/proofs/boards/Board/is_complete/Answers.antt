@@ -1,4 +1,5 @@
 use Rattle.std.proofs.Common.{◌∙◌, sym}
+use Rattle.std.specs.Arc.{arc_value}
 use Rattle.step_scheduler.proofs.BoardLemmas.{complete_where_done}
 use Rattle.std.proofs.lemmas.Bool.{false≢true}
 use Rattle.step_scheduler.proofs.GoesOn.{some_goes_on}
@@ -11,5 +12,5 @@ returns-then-not-self-clause-goes_on c =
 pub returns-then-not-self-clause-complete : goal.returns-then-not-self-clause-complete
 returns-then-not-self-clause-complete c =
     let done = rw c.as_slice.ensures.value at c.all_done.ensures in
-    let same = complete_where_done _ _ _ _ _ c.self.invariant.counted_board.board c.if-not-self.true in
+    let same = complete_where_done (arc_value c.self.inside.job) _ c.self.inside.history.items _ c.self.inside.failed c.self.invariant.counted_board.board c.if-not-self.true in
     rw (← c.self.view_is) ((λ yes. same.0 (done.0 yes)), (λ complete. done.1 (same.1 complete)))
