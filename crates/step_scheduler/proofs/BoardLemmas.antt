@@ -24,6 +24,11 @@ events_open Waiting e = omega arith
 events_open Taken e = omega arith
 events_open Done e = absurd (false≢true (sym e))
 
+events_done : (p : Progress) → is_done p ≡ true → events_of p ≡ 2
+events_done Waiting e = absurd (false≢true e)
+events_done Taken e = absurd (false≢true e)
+events_done Done e = refl
+
 sum_le : (steps : List Progress) → sum_by events_of steps ≤ 2 * length steps
 sum_le [] = omega arith
 sum_le (s ∷ ss) = rw sum_by-cons (omega (arith, events_le s, sum_le ss))
@@ -32,6 +37,24 @@ sum_open : (steps : List Progress) (k : ℕ) → k < length steps → is_done (p
 sum_open [] k h open_k = omega arith
 sum_open (s ∷ ss) zero h open_k = rw sum_by-cons (omega (arith, events_open s open_k, sum_le ss))
 sum_open (s ∷ ss) (suc k) h open_k = let l : k < length ss = omega arith in rw sum_by-cons (omega (arith, events_le s, sum_open ss k l open_k))
+
+sum_done : (steps : List Progress) → ((k : ℕ) → k < length steps → is_done (progress_at steps k) ≡ true)
+    → sum_by events_of steps ≡ 2 * length steps
+sum_done [] all = refl
+sum_done (s ∷ ss) all =
+    rw sum_by-cons (omega (arith, events_done s (all 0 (omega arith)), sum_done ss (λ k h. all (suc k) (omega (arith, h)))))
+
+done_or_open : (b : Bool) → (b ≡ false → ⊥) → b ≡ true
+done_or_open true n = refl
+done_or_open false n = absurd (n refl)
+
+-- all steps have their values just where there were two events for each
+pub all_done_sum : (steps : List Progress) → (sum_by events_of steps ≡ 2 * length steps)
+    ↔ ((k : ℕ) → k < length steps → is_done (progress_at steps k) ≡ true)
+all_done_sum steps = (
+  (λ e k h. done_or_open _ (λ open_k. absurd (let s = sum_open steps k h open_k in omega (arith, s, e)))),
+  sum_done steps
+)
 
 -- a step that has no value yet leaves room in the history
 pub has_room : (job : JobView) (steps : List Progress) (history : List Event) (capacity k : ℕ) → IsRunBoard job steps history capacity → k < length steps → is_done (progress_at steps k) ≡ false → length history < capacity

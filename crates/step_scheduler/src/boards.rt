@@ -178,7 +178,7 @@ impl Board {
         ensures goes_on { result ≡ false → self.now.failed ≡ false
             → (k : ℕ) × CanGoOn self.now.job.set.plan self.now.history k }
     {
-        !self.failed && all_done(self.steps.as_slice())
+        !self.failed && all_done(self.steps.as_slice(), self.history.len())
     }
 
     /// How many inputs of step k have no value yet.

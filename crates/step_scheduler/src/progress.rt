@@ -1,6 +1,6 @@
 //! How far the steps of a board are.
-ghost use Rattle.std.specs.Prelude.{◌≡◌, ◌<◌, ◌↔◌, ℕ, IsTrue, length, true, false};
-ghost use Rattle.step_scheduler.specs.steps.Steps.{was_taken, is_done, progress_at};
+ghost use Rattle.std.specs.Prelude.{◌≡◌, ◌<◌, ◌↔◌, ℕ, IsTrue, length, sum_by, true, false};
+ghost use Rattle.step_scheduler.specs.steps.Steps.{was_taken, is_done, events_of, progress_at};
 
 /// How far a step is.
 #[derive(Clone, Copy, PartialEq, Eq, Debug)]
@@ -38,14 +38,10 @@ pub(crate) fn is_under_way(steps: &[Progress], step: usize) -> bool
     steps[step].is_under_way()
 }
 
-// Whether all steps have had their values.
-pub(crate) fn all_done(steps: &[Progress]) -> bool
+// Whether all steps have had their values, of which so many events are known: each step has two in all.
+pub(crate) fn all_done(steps: &[Progress], events: usize) -> bool
+    requires { sum_by events_of steps.now ≡ events }
     ensures { IsTrue result ↔ ((k : ℕ) → k < length steps.now → is_done (progress_at steps.now k) ≡ true) }
 {
-    for step in steps {
-        if !step.is_done() {
-            return false;
-        }
-    }
-    true
+    events == 2 * steps.len()
 }
