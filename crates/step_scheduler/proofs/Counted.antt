@@ -1,5 +1,8 @@
 -- The counters of a board after each event.
-use Rattle.std.proofs.Common.{◌≡◌, ℕ, zero, suc, ◌+◌, ◌<◌, ◌≤◌, ◌==◌, Bool, true, false, List, [], ◌∷◌, ◌++◌, length, All, refl, sym, ap, ◌∙◌, subst, inl, inr, arith, slice_index, slice_set, replicate, nat_lt, if◌then◌else◌, eq-eqb, zero-add, add-zero, length-append, get_or-set_same, get_or-set_other, Some, Global}
+use Rattle.std.proofs.Common.{◌≡◌, ℕ, zero, suc, ◌+◌, ◌<◌, ◌≤◌, ◌==◌, Bool, true, false}
+use Rattle.std.proofs.Common.{List, [], ◌∷◌, ◌++◌, length, All, refl, sym, ap, ◌∙◌, subst, inl, inr}
+use Rattle.std.proofs.Common.{arith, slice_index, slice_set, replicate, nat_lt, if◌then◌else◌, eq-eqb, zero-add}
+use Rattle.std.proofs.Common.{add-zero, length-append, get_or-set_same, get_or-set_other, Some, Global}
 use Rattle.std.proofs.lemmas.Bool.{cases_eq, cases_lt, ne_eqb, false≢true, lt-ltb, le-ltb}
 use Rattle.std.proofs.lemmas.List.{get_or_append_left, get_or_push}
 use Rattle.std.proofs.lemmas.List.Elements.{All-cons, All-nil, All-head, All-tail, All-weaker, All-push}
@@ -23,10 +26,12 @@ use Rattle.step_scheduler.proofs.Places.{kept_at_end, kept_takes, kept_finishes}
 use Rattle.step_scheduler.proofs.Counting.{times_push_same, times_push_other, Released}
 use Rattle.step_scheduler.proofs.UserLemmas.{HasUsers, has_users}
 
-open_same : (steps steps' : List Progress) → ((i : ℕ) → is_done (progress_at steps' i) ≡ is_done (progress_at steps i)) → (is : List ℕ) → open_inputs steps' is ≡ open_inputs steps is
+open_same : (steps steps' : List Progress) → ((i : ℕ) → is_done (progress_at steps' i) ≡ is_done (progress_at steps i))
+    → (is : List ℕ) → open_inputs steps' is ≡ open_inputs steps is
 open_same steps steps' e [] = refl
 open_same steps steps' e (i ∷ is) =
-    ap (λ b. (if b then 0 else 1) + open_inputs steps' is) (e i) ∙ ap (λ n. (if is_done (progress_at steps i) then 0 else 1) + n) (open_same steps steps' e is)
+    ap (λ b. (if b then 0 else 1) + open_inputs steps' is) (e i)
+        ∙ ap (λ n. (if is_done (progress_at steps i) then 0 else 1) + n) (open_same steps steps' e is)
 
 open_head : (b : Bool) (n : ℕ) → (if b then 0 else 1) + n ≡ 0 → (b ≡ true) × (n ≡ 0)
 open_head true n e = (refl, omega arith)
@@ -45,24 +50,30 @@ none_open steps (i ∷ is) all =
     rw done (zero-add _ ∙ none_open steps is (All-tail (λ i. is_done (progress_at steps i) ≡ true) i is all))
 
 -- a step that gets its value is one open input less, as often as it is an input
-open_done : (steps : List Progress) (j : ℕ) → j < length steps → is_done (progress_at steps j) ≡ false → (is : List ℕ) → open_inputs (slice_set steps j Done) is + times j is ≡ open_inputs steps is
+open_done : (steps : List Progress) (j : ℕ) → j < length steps → is_done (progress_at steps j) ≡ false
+    → (is : List ℕ) → open_inputs (slice_set steps j Done) is + times j is ≡ open_inputs steps is
 open_done steps j h open_j [] = refl
 open_done steps j h open_j (i ∷ is) =
     let rest = open_done steps j h open_j is in
     elim (cases_eq i j) [
       | inl same ↦
-          subst (λ (x : ℕ). ((if is_done (progress_at (slice_set steps j Done) x) then 0 else 1) + open_inputs (slice_set steps j Done) is) + ((if x == j then 1 else 0) + times j is) ≡ (if is_done (progress_at steps x) then 0 else 1) + open_inputs steps is) (sym same)
+          subst (λ (x : ℕ). ((if is_done (progress_at (slice_set steps j Done) x) then 0 else 1) + open_inputs
+              (slice_set steps j Done) is) + ((if x == j then 1 else 0) + times j is) ≡
+              (if is_done (progress_at steps x) then 0 else 1) + open_inputs steps is) (sym same)
           (rw (get_or-set_same steps j Done Waiting h, eq-eqb j j refl, open_j) (omega arith))
       | inr other ↦ rw (get_or-set_other steps j i Done Waiting other, ne_eqb i j other) (omega arith)
     ]
 
 -- an open step is counted as often as it is an input
-open_still : (steps : List Progress) (j : ℕ) → j < length steps → is_done (progress_at steps j) ≡ false → (is : List ℕ) → times j is ≤ open_inputs steps is
+open_still : (steps : List Progress) (j : ℕ) → j < length steps → is_done (progress_at steps j) ≡ false
+    → (is : List ℕ) → times j is ≤ open_inputs steps is
 open_still steps j h open_j [] = omega arith
 open_still steps j h open_j (i ∷ is) =
     let rest = open_still steps j h open_j is in
     elim (cases_eq i j) [
-      | inl same ↦ subst (λ (x : ℕ). (if x == j then 1 else 0) + times j is ≤ (if is_done (progress_at steps x) then 0 else 1) + open_inputs steps is) (sym same) (rw (eq-eqb j j refl, open_j) (omega arith))
+      | inl same ↦ subst (λ (x : ℕ). (if x == j then 1 else 0) + times j is ≤
+          (if is_done (progress_at steps x) then 0 else 1) + open_inputs steps is) (sym same)
+          (rw (eq-eqb j j refl, open_j) (omega arith))
       | inr other ↦ rw (ne_eqb i j other) (omega arith)
     ]
 
@@ -106,7 +117,8 @@ count_all n (x ∷ xs) all =
     omega arith
 
 -- two lists of numbers below n that have each number at most once together have at most n elements
-pub fits_together : (n : ℕ) (xs ys : List ℕ) → All (λ x. x < n) xs → All (λ x. x < n) ys → ((k : ℕ) → k < n → times k xs + times k ys ≤ 1) → length xs + length ys ≤ n
+pub fits_together : (n : ℕ) (xs ys : List ℕ) → All (λ x. x < n) xs → All (λ x. x < n) ys
+    → ((k : ℕ) → k < n → times k xs + times k ys ≤ 1) → length xs + length ys ≤ n
 fits_together n xs ys all_xs all_ys once =
     let a = count_all n xs all_xs in
     let b = count_all n ys all_ys in
@@ -116,9 +128,11 @@ fits_together n xs ys all_xs all_ys once =
 
 ready_of : (taken : Bool) (missing : ℕ) → 0 < ready_times taken missing → (taken ≡ false) × (missing ≡ 0)
 ready_of true missing h = absurd (omega arith)
-ready_of false m h = elim (cases_eq m 0) [ inl same ↦ (refl, same) | inr other ↦ let never = rw (ne_eqb m 0 other) at h in absurd (omega arith) ]
+ready_of false m h = elim (cases_eq m 0) [ inl same ↦ (refl, same) | inr other ↦ let never = rw (ne_eqb m 0 other) at h in
+    absurd (omega arith) ]
 
-listed_after : (taken : Bool) (m m' t : ℕ) → m' + t ≡ m → (taken ≡ true → m ≡ 0) → ready_times taken m + freed_times t m' ≡ ready_times taken m'
+listed_after : (taken : Bool) (m m' t : ℕ) → m' + t ≡ m → (taken ≡ true → m ≡ 0)
+    → ready_times taken m + freed_times t m' ≡ ready_times taken m'
 listed_after true m m' t e fed = let z = fed refl in let none : t ≡ 0 = omega arith in rw none refl
 listed_after false m m' t e fed =
     elim (cases_eq t 0) [
@@ -128,7 +142,8 @@ listed_after false m m' t e fed =
 
 module _ (plan : List StepView) (steps : List Progress) (missing : List ℕ) (long : length steps ≡ length plan) where
   -- a step in the list can start
-  pub listed_starts : (ready : List ℕ) (capacity k : ℕ) → IsCounted plan steps missing ready capacity → k < length plan → 0 < times k ready → CanStart plan steps k
+  pub listed_starts : (ready : List ℕ) (capacity k : ℕ) → IsCounted plan steps missing ready capacity → k < length plan
+      → 0 < times k ready → CanStart plan steps k
   listed_starts ready capacity k c h l =
       let r = ready_of (was_taken (progress_at steps k)) (slice_index missing k) (let e = c.listed k h in omega arith) in
       record { in_range = h; waits = r.0; fed = open_none steps (inputs_at plan k) (sym (c.missing_is k h) ∙ r.1) }
@@ -141,12 +156,15 @@ module _ (plan : List StepView) (steps : List Progress) (missing : List ℕ) (lo
       absurd (omega arith)
 
   -- the last of the list is handed out
-  pub counted_takes : (rest : List ℕ) (capacity k : ℕ) → IsCounted plan steps missing (rest ++ k ∷ []) capacity → k < length plan → was_taken (progress_at steps k) ≡ false → slice_index missing k ≡ 0 → is_done (progress_at steps k) ≡ false → IsCounted plan (slice_set steps k Taken) missing rest capacity
+  pub counted_takes : (rest : List ℕ) (capacity k : ℕ) → IsCounted plan steps missing (rest ++ k ∷ []) capacity
+      → k < length plan → was_taken (progress_at steps k) ≡ false → slice_index missing k ≡ 0
+      → is_done (progress_at steps k) ≡ false → IsCounted plan (slice_set steps k Taken) missing rest capacity
   counted_takes rest capacity k c h waits none open_k =
       let in_steps : k < length steps = omega arith in
       let same_done : (i : ℕ) → is_done (progress_at (slice_set steps k Taken) i) ≡ is_done (progress_at steps i) =
       λ i. elim (cases_eq i k) [
-        | inl same ↦ subst (λ (x : ℕ). is_done (progress_at (slice_set steps k Taken) x) ≡ is_done (progress_at steps x)) (sym same) (rw (get_or-set_same steps k Taken Waiting in_steps) (sym open_k))
+        | inl same ↦ subst (λ (x : ℕ). is_done (progress_at (slice_set steps k Taken) x) ≡ is_done (progress_at steps x))
+            (sym same) (rw (get_or-set_same steps k Taken Waiting in_steps) (sym open_k))
         | inr other ↦ ap is_done (get_or-set_other steps k i Taken Waiting other)
       ] in
       record {
@@ -156,11 +174,14 @@ module _ (plan : List StepView) (steps : List Progress) (missing : List ℕ) (lo
           | inl same ↦ subst (λ (x : ℕ). slice_index missing x ≡ 0) (sym same) none
           | inr other ↦ c.fed j l (ap was_taken (sym (get_or-set_other steps k j Taken Waiting other)) ∙ t)
         ];
-        in_range = λ i d l. rw (← get_or_append_left rest (k ∷ []) d i l) (c.in_range i d (omega (arith, length-append rest (k ∷ []))));
+        in_range = λ i d l. rw (← get_or_append_left rest (k ∷ []) d i l)
+            (c.in_range i d (omega (arith, length-append rest (k ∷ []))));
         listed = λ j l. elim (cases_eq j k) [
           | inl same ↦
-              subst (λ (x : ℕ). times x rest ≡ ready_times (was_taken (progress_at (slice_set steps k Taken) x)) (slice_index missing x)) (sym same)
-              (rw (get_or-set_same steps k Taken Waiting in_steps) (let e = rw (waits, none, times_push_same k rest) at (c.listed k h) in omega arith))
+              subst (λ (x : ℕ). times x rest ≡ ready_times (was_taken (progress_at (slice_set steps k Taken) x))
+                  (slice_index missing x)) (sym same)
+              (rw (get_or-set_same steps k Taken Waiting in_steps) (let e =
+                  rw (waits, none, times_push_same k rest) at (c.listed k h) in omega arith))
           | inr other ↦
               rw (get_or-set_other steps k j Taken Waiting other) (sym (times_push_other j k rest (λ e. other (sym e))) ∙ c.listed j l)
         ];
@@ -168,12 +189,17 @@ module _ (plan : List StepView) (steps : List Progress) (missing : List ℕ) (lo
       }
 
   -- a step gets its value, and its users are counted down
-  pub counted_finishes : (ready missing' ready' : List ℕ) (capacity capacity' k : ℕ) → HasUsers plan → IsCounted plan steps missing ready capacity → k < length plan → was_taken (progress_at steps k) ≡ true → is_done (progress_at steps k) ≡ false → Released (users_of plan k) missing missing' ready ready' capacity capacity' → IsCounted plan (slice_set steps k Done) missing' ready' capacity'
+  pub counted_finishes : (ready missing' ready' : List ℕ) (capacity capacity' k : ℕ) → HasUsers plan
+      → IsCounted plan steps missing ready capacity → k < length plan → was_taken (progress_at steps k) ≡ true
+      → is_done (progress_at steps k) ≡ false
+      → Released (users_of plan k) missing missing' ready ready' capacity capacity'
+      → IsCounted plan (slice_set steps k Done) missing' ready' capacity'
   counted_finishes ready missing' ready' capacity capacity' k are c h taken_k open_k r =
       let in_steps : k < length steps = omega arith in
       let was : (j : ℕ) → was_taken (progress_at (slice_set steps k Done) j) ≡ was_taken (progress_at steps j) =
       λ j. elim (cases_eq j k) [
-        | inl same ↦ subst (λ (x : ℕ). was_taken (progress_at (slice_set steps k Done) x) ≡ was_taken (progress_at steps x)) (sym same) (rw (get_or-set_same steps k Done Waiting in_steps) (sym taken_k))
+        | inl same ↦ subst (λ (x : ℕ). was_taken (progress_at (slice_set steps k Done) x) ≡ was_taken
+            (progress_at steps x)) (sym same) (rw (get_or-set_same steps k Done Waiting in_steps) (sym taken_k))
         | inr other ↦ ap was_taken (get_or-set_other steps k j Done Waiting other)
       ] in
       record {
@@ -186,7 +212,9 @@ module _ (plan : List StepView) (steps : List Progress) (missing : List ℕ) (lo
             omega arith;
         fed = λ j l t. let e = c.fed j l (sym (was j) ∙ t) in let b = r.left j in omega arith;
         in_range = r.in_range (length plan) (sym c.long) c.in_range;
-        listed = λ j l. r.freed j ∙ ap (λ n. n + freed_times (times j (users_of plan k)) (slice_index missing' j)) (c.listed j l) ∙ listed_after (was_taken (progress_at steps j)) _ _ _ (r.left j) (c.fed j l) ∙ ap (λ b. ready_times b (slice_index missing' j)) (sym (was j));
+        listed = λ j l. r.freed j ∙ ap (λ n. n + freed_times (times j (users_of plan k)) (slice_index missing' j))
+            (c.listed j l) ∙ listed_after (was_taken (progress_at steps j)) _ _ _ (r.left j) (c.fed j l)
+            ∙ ap (λ b. ready_times b (slice_index missing' j)) (sym (was j));
         room = let e = r.same_room in let a = c.room in omega arith;
       }
 
@@ -208,21 +236,29 @@ ready_times_some false m h = rw (ne_eqb m 0 (λ e. absurd (omega arith))) refl
 
 module _ (job : JobView) (steps : List Progress) (places : List Place) (history : List Event) (capacity : ℕ) (missing : List ℕ) where
   -- the last step of the list can start
-  pub last_starts : (ready rest : List ℕ) (ready_capacity k : ℕ) → IsCountedBoard job steps places history capacity missing ready ready_capacity → ready ≡ rest ++ k ∷ [] → CanStart job.set.plan steps k
+  pub last_starts : (ready rest : List ℕ) (ready_capacity k : ℕ)
+      → IsCountedBoard job steps places history capacity missing ready ready_capacity → ready ≡ rest ++ k ∷ []
+      → CanStart job.set.plan steps k
   last_starts ready rest ready_capacity k b e =
       let some : 0 < times k ready = let t = ap (times k) e ∙ times_push_same k rest in omega arith in
-      listed_starts job.set.plan steps missing b.board.long ready ready_capacity k b.counted (times_in_range _ k ready b.counted.in_range some) some
+      listed_starts job.set.plan steps missing b.board.long ready ready_capacity k b.counted
+          (times_in_range _ k ready b.counted.in_range some) some
 
   -- where the list is empty, no step is ready
-  pub none_starts : (ready : List ℕ) (ready_capacity : ℕ) → IsCountedBoard job steps places history capacity missing ready ready_capacity → ready ≡ [] → (k : ℕ) → IsReady job.set.plan history k → ⊥
+  pub none_starts : (ready : List ℕ) (ready_capacity : ℕ)
+      → IsCountedBoard job steps places history capacity missing ready ready_capacity → ready ≡ [] → (k : ℕ)
+      → IsReady job.set.plan history k → ⊥
   none_starts ready ready_capacity b e k r =
-      empty_none job.set.plan steps missing b.board.long ready_capacity (subst (λ (xs : List ℕ). IsCounted job.set.plan steps missing xs ready_capacity) e b.counted) k (record {
+      empty_none job.set.plan steps missing b.board.long ready_capacity
+          (subst (λ (xs : List ℕ). IsCounted job.set.plan steps missing xs ready_capacity) e b.counted) k (record {
         in_range = r.in_range;
         waits = sym (b.board.taken k) ∙ r.fresh;
         fed = λ i d l. sym (b.board.finished _) ∙ r.fed i d l;
       })
 
-  module _ (ready : List ℕ) (ready_capacity j : ℕ) (b : IsCountedBoard job steps places history capacity missing ready ready_capacity) (h : j < length steps) (open_j : is_done (progress_at steps j) ≡ false) where
+  module _ (ready : List ℕ) (ready_capacity j : ℕ)
+      (b : IsCountedBoard job steps places history capacity missing ready ready_capacity) (h : j < length steps)
+      (open_j : is_done (progress_at steps j) ≡ false) where
     in_plan : j < length job.set.plan
     in_plan = let l = b.board.long in omega arith
 
@@ -238,30 +274,44 @@ module _ (job : JobView) (steps : List Progress) (places : List Place) (history 
     -- and there is room for them in the list
     pub users_fit : length ready + length (users_of job.set.plan j) ≤ ready_capacity
     users_fit =
-        let all = fits_together (length job.set.plan) ready (users_of job.set.plan j) b.counted.in_range ((has_users _ b.board.compiled).in_range j) (λ k l.
+        let all = fits_together (length job.set.plan) ready (users_of job.set.plan j) b.counted.in_range
+            ((has_users _ b.board.compiled).in_range j) (λ k l.
         let listed = b.counted.listed k l in
         let once = (has_users _ b.board.compiled).once j k in
         elim (cases_eq (times k (users_of job.set.plan j)) 0) [
           | inl none ↦ let le = ready_times_le (was_taken (progress_at steps k)) (slice_index missing k) in omega arith
-          | inr other ↦ let z = ready_times_some (was_taken (progress_at steps k)) (slice_index missing k) (users_miss k (omega arith)) in omega arith
+          | inr other ↦ let z = ready_times_some (was_taken (progress_at steps k)) (slice_index missing k)
+              (users_miss k (omega arith)) in omega arith
         ]) in
         let room = b.counted.room in
         omega arith
 
-  pub board_takes_last : (ready rest : List ℕ) (places' : List Place) (ready_capacity k : ℕ) → IsCountedBoard job steps places history capacity missing ready ready_capacity → ready ≡ rest ++ k ∷ [] → IsHanded job.set.plan k places places' → IsCountedBoard job (slice_set steps k Taken) places' (history ++ Take k ∷ []) capacity missing rest ready_capacity
+  pub board_takes_last : (ready rest : List ℕ) (places' : List Place) (ready_capacity k : ℕ)
+      → IsCountedBoard job steps places history capacity missing ready ready_capacity → ready ≡ rest ++ k ∷ []
+      → IsHanded job.set.plan k places places' → IsCountedBoard job (slice_set steps k Taken) places'
+      (history ++ Take k ∷ []) capacity missing rest ready_capacity
   board_takes_last ready rest places' ready_capacity k b e handed =
       let s = last_starts ready rest ready_capacity k b e in
       record {
         board = board_takes job steps history capacity k b.board s;
         kept = kept_takes job steps places b.kept b.board.long k places' s handed;
-        counted = counted_takes job.set.plan steps missing b.board.long rest ready_capacity k (subst (λ (xs : List ℕ). IsCounted job.set.plan steps missing xs ready_capacity) e b.counted) s.in_range s.waits (b.counted.missing_is k s.in_range ∙ none_open steps (inputs_at job.set.plan k) s.fed) (waiting_not_done _ s.waits);
+        counted = counted_takes job.set.plan steps missing b.board.long rest ready_capacity k
+            (subst (λ (xs : List ℕ). IsCounted job.set.plan steps missing xs ready_capacity) e b.counted) s.in_range s.waits
+            (b.counted.missing_is k s.in_range ∙ none_open steps (inputs_at job.set.plan k) s.fed) (waiting_not_done _ s.waits);
       }
 
-  pub board_finishes_and_releases : (ready missing' ready' : List ℕ) (ready_capacity ready_capacity' k : ℕ) (v : Arc Value Global) → IsCountedBoard job steps places history capacity missing ready ready_capacity → k < length steps → was_taken (progress_at steps k) ≡ true → is_done (progress_at steps k) ≡ false → arc_value v ≡ meaning_at job k → Released (users_of job.set.plan k) missing missing' ready ready' ready_capacity ready_capacity' → IsCountedBoard job (slice_set steps k Done) (slice_set places k (Some v)) (history ++ Finish k ∷ []) capacity missing' ready' ready_capacity'
+  pub board_finishes_and_releases : (ready missing' ready' : List ℕ) (ready_capacity ready_capacity' k : ℕ)
+      (v : Arc Value Global) → IsCountedBoard job steps places history capacity missing ready ready_capacity
+      → k < length steps → was_taken (progress_at steps k) ≡ true → is_done (progress_at steps k) ≡ false
+      → arc_value v ≡ meaning_at job k
+      → Released (users_of job.set.plan k) missing missing' ready ready' ready_capacity ready_capacity'
+      → IsCountedBoard job (slice_set steps k Done) (slice_set places k (Some v))
+      (history ++ Finish k ∷ []) capacity missing' ready' ready_capacity'
   board_finishes_and_releases ready missing' ready' ready_capacity ready_capacity' k v b h taken_k open_k right r = record {
     board = board_finishes job steps history capacity k b.board h taken_k open_k;
     kept = kept_finishes job steps places b.kept b.board.long k v h taken_k right;
-    counted = counted_finishes job.set.plan steps missing b.board.long ready missing' ready' ready_capacity ready_capacity' k (has_users _ b.board.compiled) b.counted (let l = b.board.long in omega arith) taken_k open_k r;
+    counted = counted_finishes job.set.plan steps missing b.board.long ready missing' ready' ready_capacity ready_capacity' k
+        (has_users _ b.board.compiled) b.counted (let l = b.board.long in omega arith) taken_k open_k r;
   }
 
 -- inputs without a value are those that are not finished
@@ -274,7 +324,10 @@ open_is_unfinished steps history same (i ∷ is) =
     ∙ ap (λ n. (if is_finished history i then 0 else 1) + n) (open_is_unfinished steps history same is)
 
 -- when all steps are finished, what no step has as its first input is kept
-pub kept_when_complete : (job : JobView) (steps : List Progress) (places : List Place) (history : List Event) (capacity : ℕ) (missing ready : List ℕ) (ready_capacity j : ℕ) → IsCountedBoard job steps places history capacity missing ready ready_capacity → AllFinished job.set.plan history → j < length job.set.plan → (IsFirstInput job.set.plan j → ⊥) → is_full (place_at places j) ≡ true
+pub kept_when_complete : (job : JobView) (steps : List Progress) (places : List Place) (history : List Event) (capacity : ℕ)
+    (missing ready : List ℕ) (ready_capacity j : ℕ)
+    → IsCountedBoard job steps places history capacity missing ready ready_capacity → AllFinished job.set.plan history
+    → j < length job.set.plan → (IsFirstInput job.set.plan j → ⊥) → is_full (place_at places j) ≡ true
 kept_when_complete job steps places history capacity missing ready ready_capacity j b all h stays =
     kept_at_end job steps places b.kept b.board.long j (sym (b.board.finished j) ∙ all j h) stays
 
@@ -301,7 +354,9 @@ open_all n [] = refl
 open_all n (i ∷ is) = rw (nothing_done n i, open_all n is) (omega arith)
 
 -- the counters of a whole plan
-pub counters_all : (plan : List StepView) (missing ready : List ℕ) (capacity : ℕ) → CountersSoFar plan missing ready capacity (length plan) → IsCounted plan (replicate (length plan) Waiting) missing ready capacity
+pub counters_all : (plan : List StepView) (missing ready : List ℕ) (capacity : ℕ)
+    → CountersSoFar plan missing ready capacity (length plan)
+    → IsCounted plan (replicate (length plan) Waiting) missing ready capacity
 counters_all plan missing ready capacity c = record {
   long = c.long;
   missing_is = λ k h. c.counts k h ∙ sym (open_all (length plan) (inputs_at plan k));
@@ -322,7 +377,9 @@ counters_none plan capacity room = record {
 
 -- one more step is counted
 
-counts_more : (plan : List StepView) (missing : List ℕ) (k n : ℕ) → length missing ≡ k → ((j : ℕ) → j < k → slice_index missing j ≡ length (inputs_at plan j)) → n ≡ length (inputs_at plan k) → (j : ℕ) → j < k + 1 → slice_index (missing ++ n ∷ []) j ≡ length (inputs_at plan j)
+counts_more : (plan : List StepView) (missing : List ℕ) (k n : ℕ) → length missing ≡ k
+    → ((j : ℕ) → j < k → slice_index missing j ≡ length (inputs_at plan j)) → n ≡ length (inputs_at plan k)
+    → (j : ℕ) → j < k + 1 → slice_index (missing ++ n ∷ []) j ≡ length (inputs_at plan j)
 counts_more plan missing k n long counts e j h =
     elim (cases_eq j k) [
       | inl same ↦ rw (get_or_push missing n 0 j (long ∙ sym same), same) e
@@ -342,25 +399,35 @@ same_test j k n =
       | inr above ↦ le-ltb j (k + 1) (omega arith) ∙ sym (le-ltb j k above)
     ]
 
-pub counters_waits : (plan : List StepView) (missing ready : List ℕ) (capacity k n : ℕ) → CountersSoFar plan missing ready capacity k → n ≡ length (inputs_at plan k) → (n ≡ 0 → ⊥) → CountersSoFar plan (missing ++ n ∷ []) ready capacity (k + 1)
+pub counters_waits : (plan : List StepView) (missing ready : List ℕ) (capacity k n : ℕ)
+    → CountersSoFar plan missing ready capacity k → n ≡ length (inputs_at plan k) → (n ≡ 0 → ⊥)
+    → CountersSoFar plan (missing ++ n ∷ []) ready capacity (k + 1)
 counters_waits plan missing ready capacity k n c e some = record {
   long = let l = c.long in omega (arith, length-append missing (n ∷ []));
   counts = counts_more plan missing k n c.long c.counts e;
   in_range = All-weaker (λ x. x < k) (λ x. x < k + 1) (λ x h. omega arith) ready c.in_range;
   listed = λ j. elim (cases_eq j k) [
-    | inl same ↦ subst (λ (x : ℕ). times x ready ≡ (if nat_lt x (k + 1) then ready_times false (length (inputs_at plan x)) else 0)) (sym same) (rw (lt-ltb k (k + 1) (omega arith), ← e, ne_eqb n 0 some) (not_there k ready c.in_range))
+    | inl same ↦ subst (λ (x : ℕ). times x ready ≡ (if nat_lt x (k + 1) then ready_times false
+        (length (inputs_at plan x)) else 0)) (sym same) (rw (lt-ltb k (k + 1) (omega arith), ← e, ne_eqb n 0 some)
+        (not_there k ready c.in_range))
     | inr other ↦ c.listed j ∙ rw (same_test j k other) refl
   ];
   room = c.room;
 }
 
-pub counters_ready : (plan : List StepView) (missing ready : List ℕ) (capacity capacity' k n : ℕ) → CountersSoFar plan missing ready capacity k → n ≡ length (inputs_at plan k) → n ≡ 0 → capacity ≤ capacity' → CountersSoFar plan (missing ++ n ∷ []) (ready ++ k ∷ []) capacity' (k + 1)
+pub counters_ready : (plan : List StepView) (missing ready : List ℕ) (capacity capacity' k n : ℕ)
+    → CountersSoFar plan missing ready capacity k → n ≡ length (inputs_at plan k) → n ≡ 0 → capacity ≤ capacity'
+    → CountersSoFar plan (missing ++ n ∷ []) (ready ++ k ∷ []) capacity' (k + 1)
 counters_ready plan missing ready capacity capacity' k n c e none more = record {
   long = let l = c.long in omega (arith, length-append missing (n ∷ []));
   counts = counts_more plan missing k n c.long c.counts e;
-  in_range = All-push (λ x. x < k + 1) ready k (All-weaker (λ x. x < k) (λ x. x < k + 1) (λ x h. omega arith) ready c.in_range) (omega arith);
+  in_range = All-push (λ x. x < k + 1) ready k (All-weaker (λ x. x < k) (λ x. x < k + 1)
+      (λ x h. omega arith) ready c.in_range) (omega arith);
   listed = λ j. elim (cases_eq j k) [
-    | inl same ↦ subst (λ (x : ℕ). times x (ready ++ k ∷ []) ≡ (if nat_lt x (k + 1) then ready_times false (length (inputs_at plan x)) else 0)) (sym same) (rw (lt-ltb k (k + 1) (omega arith), ← e, none, times_push_same k ready) (let z = not_there k ready c.in_range in omega arith))
+    | inl same ↦ subst (λ (x : ℕ). times x (ready ++ k ∷ []) ≡
+        (if nat_lt x (k + 1) then ready_times false (length (inputs_at plan x)) else 0)) (sym same)
+        (rw (lt-ltb k (k + 1) (omega arith), ← e, none, times_push_same k ready) (let z = not_there k ready c.in_range in
+        omega arith))
     | inr other ↦ times_push_other j k ready (λ x. other (sym x)) ∙ c.listed j ∙ rw (same_test j k other) refl
   ];
   room = let r = c.room in omega arith;

@@ -1,5 +1,8 @@
 -- Counting users down.
-use Rattle.std.proofs.Common.{◌≡◌, ℕ, ◌+◌, ◌-◌, ◌<◌, ◌≤◌, ◌==◌, List, [], ◌∷◌, ◌++◌, length, All, take, drop, refl, sym, ap, ◌∙◌, subst, inl, inr, arith, get_or, slice_index, slice_set, if◌then◌else◌, eq-eqb, get_or-set_same, get_or-set_other, length-append, add_assoc, zero-add}
+use Rattle.std.proofs.Common.{◌≡◌, ℕ, ◌+◌, ◌-◌, ◌<◌, ◌≤◌, ◌==◌, List, [], ◌∷◌}
+use Rattle.std.proofs.Common.{◌++◌, length, All, take, drop, refl, sym, ap, ◌∙◌, subst, inl, inr, arith}
+use Rattle.std.proofs.Common.{get_or, slice_index, slice_set, if◌then◌else◌, eq-eqb, get_or-set_same}
+use Rattle.std.proofs.Common.{get_or-set_other, length-append, add_assoc, zero-add}
 use Rattle.std.proofs.lemmas.Bool.{cases_eq, ne_eqb}
 use Rattle.std.proofs.lemmas.List.{take_more, length-set, take-append-drop}
 use Rattle.std.proofs.lemmas.List.Elements.{All-push}
@@ -7,7 +10,8 @@ use Rattle.step_scheduler.specs.steps.Counts.{times, freed_times}
 
 pub times-append : (x : ℕ) (ys zs : List ℕ) → times x (ys ++ zs) ≡ times x ys + times x zs
 times-append x [] zs = sym (zero-add (times x zs))
-times-append x (y ∷ ys) zs = ap (λ n. (if y == x then 1 else 0) + n) (times-append x ys zs) ∙ sym (add_assoc (if y == x then 1 else 0) (times x ys) (times x zs))
+times-append x (y ∷ ys) zs = ap (λ n. (if y == x then 1 else 0) + n) (times-append x ys zs)
+    ∙ sym (add_assoc (if y == x then 1 else 0) (times x ys) (times x zs))
 
 pub times_push_same : (x : ℕ) (ys : List ℕ) → times x (ys ++ x ∷ []) ≡ times x ys + 1
 times_push_same x ys = times-append x ys (x ∷ []) ∙ rw (eq-eqb x x refl) refl
@@ -28,7 +32,8 @@ times_take : (x n : ℕ) (ys : List ℕ) → times x (take n ys) ≤ times x ys
 times_take x n ys = omega (arith, times-append x (take n ys) (drop n ys), ap (times x) (take-append-drop n ys))
 
 -- a user at place i stands at no earlier place
-pub not_before : (users : List ℕ) (i : ℕ) → i < length users → ((k : ℕ) → times k users ≤ 1) → times (get_or users i 0) (take i users) ≡ 0
+pub not_before : (users : List ℕ) (i : ℕ) → i < length users → ((k : ℕ) → times k users ≤ 1)
+    → times (get_or users i 0) (take i users) ≡ 0
 not_before users i h once =
     let u : ℕ = get_or users i 0 in
     let more = ap (times u) (take_more users i 0 h) ∙ times_push_same u (take i users) in
@@ -40,15 +45,19 @@ stands users i h =
     let more = ap (times u) (take_more users i 0 h) ∙ times_push_same u (take i users) in
     omega (arith, times_take u (i + 1) users)
 
-module _ (us missing missing' ready ready' : List ℕ) (capacity capacity' u : ℕ) (done : Released us missing missing' ready ready' capacity capacity') (fresh : times u us ≡ 0) (h : u < length missing) (some : 0 < slice_index missing u) where
+module _ (us missing missing' ready ready' : List ℕ) (capacity capacity' u : ℕ)
+    (done : Released us missing missing' ready ready' capacity capacity') (fresh : times u us ≡ 0) (h : u < length missing)
+    (some : 0 < slice_index missing u) where
   pub at_u : slice_index missing' u ≡ slice_index missing u
   at_u = let l = done.left u in omega arith
 
-  left_more : (k : ℕ) → slice_index (slice_set missing' u (slice_index missing' u - 1)) k + times k (us ++ u ∷ []) ≡ slice_index missing k
+  left_more : (k : ℕ) → slice_index (slice_set missing' u (slice_index missing' u - 1)) k + times k
+      (us ++ u ∷ []) ≡ slice_index missing k
   left_more k =
       elim (cases_eq u k) [
         | inl same ↦
-            subst (λ (x : ℕ). slice_index (slice_set missing' u (slice_index missing' u - 1)) x + times x (us ++ u ∷ []) ≡ slice_index missing x) same
+            subst (λ (x : ℕ). slice_index (slice_set missing' u (slice_index missing' u - 1)) x + times x
+                (us ++ u ∷ []) ≡ slice_index missing x) same
             (let a = get_or-set_same missing' u (slice_index missing' u - 1) 0 (let l = done.long in omega arith) in
             let e = at_u in
             omega (arith, times_push_same u us))
@@ -58,32 +67,40 @@ module _ (us missing missing' ready ready' : List ℕ) (capacity capacity' u : �
             omega (arith, times_push_other k u us other)
       ]
 
-  pub released_and_freed : slice_index missing' u - 1 ≡ 0 → Released (us ++ u ∷ []) missing (slice_set missing' u (slice_index missing' u - 1)) ready (ready' ++ u ∷ []) capacity capacity'
+  pub released_and_freed : slice_index missing' u - 1 ≡ 0 → Released (us ++ u ∷ []) missing
+      (slice_set missing' u (slice_index missing' u - 1)) ready (ready' ++ u ∷ []) capacity capacity'
   released_and_freed none = record {
     long = length-set missing' u (slice_index missing' u - 1) ∙ done.long;
     left = left_more;
     freed = λ k. elim (cases_eq u k) [
       | inl same ↦
-          subst (λ (x : ℕ). times x (ready' ++ u ∷ []) ≡ times x ready + freed_times (times x (us ++ u ∷ [])) (slice_index (slice_set missing' u (slice_index missing' u - 1)) x)) same
-          (rw (times_push_same u ready', times_push_same u us, fresh, get_or-set_same missing' u (slice_index missing' u - 1) 0 (let l = done.long in omega arith), none) (let f = rw fresh at (done.freed u) in omega arith))
+          subst (λ (x : ℕ). times x (ready' ++ u ∷ []) ≡ times x ready + freed_times (times x (us ++ u ∷ []))
+              (slice_index (slice_set missing' u (slice_index missing' u - 1)) x)) same
+          (rw (times_push_same u ready', times_push_same u us, fresh, get_or-set_same missing' u (slice_index missing' u - 1) 0
+              (let l = done.long in omega arith), none) (let f = rw fresh at (done.freed u) in omega arith))
       | inr other ↦
-          rw (times_push_other k u ready' other, times_push_other k u us other, get_or-set_other missing' u k (slice_index missing' u - 1) 0 (λ e. other (sym e))) (done.freed k)
+          rw (times_push_other k u ready' other, times_push_other k u us other, get_or-set_other missing' u k
+              (slice_index missing' u - 1) 0 (λ e. other (sym e))) (done.freed k)
     ];
     in_range = λ n e all. All-push (λ x. x < n) ready' u (done.in_range n e all) (omega arith);
     room = let r = done.room in omega (arith, length-append ready' (u ∷ []), length-append us (u ∷ []));
     same_room = done.same_room;
   }
 
-  pub released_and_kept : (slice_index missing' u - 1 ≡ 0 → ⊥) → Released (us ++ u ∷ []) missing (slice_set missing' u (slice_index missing' u - 1)) ready ready' capacity capacity'
+  pub released_and_kept : (slice_index missing' u - 1 ≡ 0 → ⊥)
+      → Released (us ++ u ∷ []) missing (slice_set missing' u (slice_index missing' u - 1)) ready ready' capacity capacity'
   released_and_kept some_left = record {
     long = length-set missing' u (slice_index missing' u - 1) ∙ done.long;
     left = left_more;
     freed = λ k. elim (cases_eq u k) [
       | inl same ↦
-          subst (λ (x : ℕ). times x ready' ≡ times x ready + freed_times (times x (us ++ u ∷ [])) (slice_index (slice_set missing' u (slice_index missing' u - 1)) x)) same
-          (rw (times_push_same u us, fresh, get_or-set_same missing' u (slice_index missing' u - 1) 0 (let l = done.long in omega arith), ne_eqb _ _ some_left) (let f = rw fresh at (done.freed u) in omega arith))
+          subst (λ (x : ℕ). times x ready' ≡ times x ready + freed_times (times x (us ++ u ∷ []))
+              (slice_index (slice_set missing' u (slice_index missing' u - 1)) x)) same
+          (rw (times_push_same u us, fresh, get_or-set_same missing' u (slice_index missing' u - 1) 0 (let l = done.long in
+              omega arith), ne_eqb _ _ some_left) (let f = rw fresh at (done.freed u) in omega arith))
       | inr other ↦
-          rw (times_push_other k u us other, get_or-set_other missing' u k (slice_index missing' u - 1) 0 (λ e. other (sym e))) (done.freed k)
+          rw (times_push_other k u us other, get_or-set_other missing' u k (slice_index missing' u - 1) 0 (λ e. other (sym e)))
+              (done.freed k)
     ];
     in_range = done.in_range;
     room = let r = done.room in omega (arith, length-append us (u ∷ []));

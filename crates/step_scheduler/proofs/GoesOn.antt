@@ -1,5 +1,6 @@
 -- A board with an unfinished step has one that can go on.
-use Rattle.std.proofs.Common.{◌≡◌, ℕ, zero, suc, ◌<◌, Bool, true, false, List, [], ◌∷◌, length, All, refl, ap, ◌∙◌, ◌⊎◌, inl, inr, arith, get_or}
+use Rattle.std.proofs.Common.{◌≡◌, ℕ, zero, suc, ◌<◌, Bool, true, false, List, [], ◌∷◌, length, All}
+use Rattle.std.proofs.Common.{refl, ap, ◌∙◌, ◌⊎◌, inl, inr, arith, get_or}
 use Rattle.std.proofs.lemmas.Bool.{cases_eq}
 use Rattle.std.proofs.lemmas.List.Elements.{All-cons, All-nil}
 use Rattle.plan_ir.specs.Plans.{inputs_at}
@@ -9,14 +10,11 @@ use Rattle.step_scheduler.specs.declared.progress.Progress.{Progress}
 use Rattle.step_scheduler.specs.Runs.{CanGoOn}
 use Rattle.step_scheduler.specs.steps.Steps.{was_taken, is_done, progress_at}
 use Rattle.step_scheduler.specs.steps.Kept.{IsRunBoard}
-use Rattle.step_scheduler.proofs.BoardLemmas.{ready_from_start}
-
-true_or_false : (b : Bool) → (b ≡ true) ⊎ (b ≡ false)
-true_or_false true = inl refl
-true_or_false false = inr refl
+use Rattle.step_scheduler.proofs.BoardLemmas.{ready_from_start, true_or_false}
 
 -- either all numbers pass the test, or one of them fails it
-all_or_one : (p : ℕ → Bool) (xs : List ℕ) → All (λ i. p i ≡ true) xs ⊎ ((m : ℕ) × (m < length xs) × (p (get_or xs m 0) ≡ false))
+all_or_one : (p : ℕ → Bool) (xs : List ℕ) → All (λ i. p i ≡ true) xs ⊎
+    ((m : ℕ) × (m < length xs) × (p (get_or xs m 0) ≡ false))
 all_or_one p [] = inl (All-nil (λ i. p i ≡ true))
 all_or_one p (x ∷ xs) =
     elim (true_or_false (p x)) [
@@ -28,7 +26,8 @@ all_or_one p (x ∷ xs) =
           ]
     ]
 
-below_more_at : (p : ℕ → Bool) (n : ℕ) → ((k : ℕ) → k < n → p k ≡ true) → p n ≡ true → (k : ℕ) → k < suc n → p k ≡ true
+below_more_at : (p : ℕ → Bool) (n : ℕ) → ((k : ℕ) → k < n → p k ≡ true) → p n ≡ true → (k : ℕ)
+    → k < suc n → p k ≡ true
 below_more_at p n below here k h =
     elim (cases_eq k n) [ inl same ↦ ap p same ∙ here | inr other ↦ below k (omega arith) ]
 
@@ -47,7 +46,8 @@ below_or_one p (suc n) =
 
 module _ (job : JobView) (steps : List Progress) (history : List Event) (capacity : ℕ) (b : IsRunBoard job steps history capacity) where
   -- an unfinished step of a rank below the bound leads to one that can go on
-  unfinished_goes_on : (bound k : ℕ) → b.compiled.rank k < bound → k < length steps → is_done (progress_at steps k) ≡ false → (j : ℕ) × CanGoOn job.set.plan history j
+  unfinished_goes_on : (bound k : ℕ) → b.compiled.rank k < bound → k < length steps
+      → is_done (progress_at steps k) ≡ false → (j : ℕ) × CanGoOn job.set.plan history j
   unfinished_goes_on zero k low h open_k = absurd (omega arith)
   unfinished_goes_on (suc bound) k low h open_k =
       let in_plan : k < length job.set.plan = let l = b.long in omega arith in
@@ -66,7 +66,8 @@ module _ (job : JobView) (steps : List Progress) (history : List Event) (capacit
       ]
 
   -- where not all steps have their values, one can go on
-  pub some_goes_on : (((k : ℕ) → k < length steps → is_done (progress_at steps k) ≡ true) → ⊥) → (k : ℕ) × CanGoOn job.set.plan history k
+  pub some_goes_on : (((k : ℕ) → k < length steps → is_done (progress_at steps k) ≡ true) → ⊥)
+      → (k : ℕ) × CanGoOn job.set.plan history k
   some_goes_on not_all =
       elim (below_or_one (λ k. is_done (progress_at steps k)) (length steps)) [
         | inl all ↦ absurd (not_all all)

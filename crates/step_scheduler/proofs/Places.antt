@@ -1,5 +1,8 @@
 -- The values of a board after each event.
-use Rattle.std.proofs.Common.{◌≡◌, ◌++◌, length-append, ℕ, zero, suc, ◌+◌, ◌<◌, ◌==◌, Bool, true, false, Some, None, List, [], ◌∷◌, length, map, All, refl, sym, ap, ◌∙◌, subst, ◌⊎◌, inl, inr, arith, get_or, slice_index, slice_set, replicate, if◌then◌else◌, get_or-set_same, get_or-set_other, length-set, Global}
+use Rattle.std.proofs.Common.{◌≡◌, ◌++◌, length-append, ℕ, zero, suc, ◌+◌, ◌<◌, ◌==◌, Bool}
+use Rattle.std.proofs.Common.{true, false, Some, None, List, [], ◌∷◌, length, map, All, refl, sym, ap}
+use Rattle.std.proofs.Common.{◌∙◌, subst, ◌⊎◌, inl, inr, arith, get_or, slice_index, slice_set, replicate}
+use Rattle.std.proofs.Common.{if◌then◌else◌, get_or-set_same, get_or-set_other, length-set, Global}
 use Rattle.std.proofs.lemmas.Bool.{cases_eq, ne_eqb, false≢true}
 use Rattle.std.proofs.lemmas.List.{get_or_default, get_or_append_left, length-replicate}
 use Rattle.std.specs.declared.sync.Arc.{Arc}
@@ -12,38 +15,42 @@ use Rattle.step_scheduler.specs.declared.progress.Progress.TheVariants.{Waiting,
 use Rattle.step_scheduler.specs.Jobs.{JobView, inputs_for, meaning_at}
 use Rattle.step_scheduler.specs.steps.Steps.{was_taken, is_done, progress_at, CanStart}
 use Rattle.step_scheduler.specs.steps.Counts.{times}
-use Rattle.step_scheduler.specs.steps.Keeping.{Place, is_full, value_in, place_at, kept_at, AreKept, KeepsMeanings, IsSpent, IsKept, IsOnlyUser, IsHanded}
-use Rattle.step_scheduler.proofs.BoardLemmas.{map_same}
+use Rattle.step_scheduler.specs.steps.Keeping.{Place, is_full, value_in, place_at, kept_at, AreKept, KeepsMeanings}
+use Rattle.step_scheduler.specs.steps.Keeping.{IsSpent, IsKept, IsOnlyUser, IsHanded}
+use Rattle.step_scheduler.proofs.BoardLemmas.{map_same, true_or_false}
 use Rattle.step_scheduler.proofs.Counting.{stands}
 use Rattle.step_scheduler.proofs.UserLemmas.{HasUsers}
 
-true_or_false : (b : Bool) → (b ≡ true) ⊎ (b ≡ false)
-true_or_false true = inl refl
-true_or_false false = inr refl
-
 -- a step that was taken stays so
-still_taken : (steps : List Progress) (k j : ℕ) (p : Progress) → k < length steps → was_taken p ≡ true → was_taken (progress_at steps j) ≡ true → was_taken (progress_at (slice_set steps k p) j) ≡ true
+still_taken : (steps : List Progress) (k j : ℕ) (p : Progress) → k < length steps → was_taken p ≡ true
+    → was_taken (progress_at steps j) ≡ true → was_taken (progress_at (slice_set steps k p) j) ≡ true
 still_taken steps k j p h taken_p taken_j =
     elim (cases_eq j k) [
-      | inl same ↦ subst (λ (x : ℕ). was_taken (progress_at (slice_set steps k p) x) ≡ true) (sym same) (ap was_taken (get_or-set_same steps k p Waiting h) ∙ taken_p)
+      | inl same ↦ subst (λ (x : ℕ). was_taken (progress_at (slice_set steps k p) x) ≡ true) (sym same)
+          (ap was_taken (get_or-set_same steps k p Waiting h) ∙ taken_p)
       | inr other ↦ ap was_taken (get_or-set_other steps k j p Waiting other) ∙ taken_j
     ]
 
-still_spent : (plan : List StepView) (steps : List Progress) (k j : ℕ) (p : Progress) → k < length steps → was_taken p ≡ true → IsSpent plan steps j → IsSpent plan (slice_set steps k p) j
+still_spent : (plan : List StepView) (steps : List Progress) (k j : ℕ) (p : Progress) → k < length steps
+    → was_taken p ≡ true → IsSpent plan steps j → IsSpent plan (slice_set steps k p) j
 still_spent plan steps k j p h taken_p s = record {
   users_taken = λ m l some. still_taken steps k m p h taken_p (s.users_taken m l some);
   is_first = s.is_first;
 }
 
 -- a step that another event is about is done as before
-done_other : (steps : List Progress) (k j : ℕ) (p : Progress) → (j ≡ k → ⊥) → is_done (progress_at (slice_set steps k p) j) ≡ true → is_done (progress_at steps j) ≡ true
+done_other : (steps : List Progress) (k j : ℕ) (p : Progress) → (j ≡ k → ⊥)
+    → is_done (progress_at (slice_set steps k p) j) ≡ true → is_done (progress_at steps j) ≡ true
 done_other steps k j p other done = ap is_done (sym (get_or-set_other steps k j p Waiting other)) ∙ done
 
-done_taken : (steps : List Progress) (k j : ℕ) → k < length steps → is_done (progress_at (slice_set steps k Taken) j) ≡ true → is_done (progress_at steps j) ≡ true
+done_taken : (steps : List Progress) (k j : ℕ) → k < length steps
+    → is_done (progress_at (slice_set steps k Taken) j) ≡ true → is_done (progress_at steps j) ≡ true
 done_taken steps k j h done =
     elim (cases_eq j k) [
       | inl same ↦
-          let never : is_done (progress_at (slice_set steps k Taken) j) ≡ false = ap (λ (x : ℕ). is_done (progress_at (slice_set steps k Taken) x)) same ∙ ap is_done (get_or-set_same steps k Taken Waiting h) in
+          let never : is_done (progress_at (slice_set steps k Taken) j) ≡ false =
+              ap (λ (x : ℕ). is_done (progress_at (slice_set steps k Taken) x)) same
+              ∙ ap is_done (get_or-set_same steps k Taken Waiting h) in
           absurd (false≢true (sym never ∙ done))
       | inr other ↦ done_other steps k j Taken other done
     ]
@@ -68,7 +75,8 @@ module _ (job : JobView) (steps : List Progress) (places : List Place) (kept : I
   start_fed k s = map_same _ _ _ (λ i d l. kept.means _ (start_kept k s i d l))
 
   -- what is done and no step's first input is kept
-  pub kept_at_end : (j : ℕ) → is_done (progress_at steps j) ≡ true → (IsFirstInput job.set.plan j → ⊥) → is_full (place_at places j) ≡ true
+  pub kept_at_end : (j : ℕ) → is_done (progress_at steps j) ≡ true → (IsFirstInput job.set.plan j → ⊥)
+      → is_full (place_at places j) ≡ true
   kept_at_end j done stays =
       elim (true_or_false (is_full (place_at places j))) [
         | inl full ↦ full
@@ -82,12 +90,15 @@ module _ (job : JobView) (steps : List Progress) (places : List Place) (kept : I
     here = λ j done empty. still_spent job.set.plan steps k j Taken h refl (kept.here j (done_taken steps k j h done) empty);
   }
 
-  kept_moved : (k i : ℕ) → k < length steps → i < length places → k < length job.set.plan → IsOnlyUser job.set.plan k i → IsKept job (slice_set steps k Taken) (slice_set places i None)
+  kept_moved : (k i : ℕ) → k < length steps → i < length places → k < length job.set.plan
+      → IsOnlyUser job.set.plan k i → IsKept job (slice_set steps k Taken) (slice_set places i None)
   kept_moved k i h at in_plan only = record {
     long = length-set places i None ∙ kept.long;
     means = λ j full. elim (cases_eq j i) [
       | inl same ↦
-          let never : is_full (place_at (slice_set places i None) j) ≡ false = ap (λ (x : ℕ). is_full (place_at (slice_set places i None) x)) same ∙ ap is_full (get_or-set_same places i None None at) in
+          let never : is_full (place_at (slice_set places i None) j) ≡ false =
+              ap (λ (x : ℕ). is_full (place_at (slice_set places i None) x)) same
+              ∙ ap is_full (get_or-set_same places i None None at) in
           absurd (false≢true (sym never ∙ full))
       | inr other ↦
           let same_place = get_or-set_other places i j None None other in
@@ -95,11 +106,13 @@ module _ (job : JobView) (steps : List Progress) (places : List Place) (kept : I
     ];
     here = λ j done empty. elim (cases_eq j i) [
       | inl same ↦ subst (λ (x : ℕ). IsSpent job.set.plan (slice_set steps k Taken) x) (sym same) (record {
-        users_taken = λ m l some. subst (λ (x : ℕ). was_taken (progress_at (slice_set steps k Taken) x) ≡ true) (sym (only.only m l some)) (ap was_taken (get_or-set_same steps k Taken Waiting h));
+        users_taken = λ m l some. subst (λ (x : ℕ). was_taken (progress_at (slice_set steps k Taken) x) ≡ true)
+            (sym (only.only m l some)) (ap was_taken (get_or-set_same steps k Taken Waiting h));
         is_first = record { user = k; in_range = in_plan; some = only.some; is = only.first };
       })
       | inr other ↦
-          still_spent job.set.plan steps k j Taken h refl (kept.here j (done_taken steps k j h done) (ap is_full (sym (get_or-set_other places i j None None other)) ∙ empty))
+          still_spent job.set.plan steps k j Taken h refl (kept.here j (done_taken steps k j h done)
+              (ap is_full (sym (get_or-set_other places i j None None other)) ∙ empty))
     ];
   }
 
@@ -111,7 +124,9 @@ module _ (job : JobView) (steps : List Progress) (places : List Place) (kept : I
         long = length-set places k None ∙ kept.long;
         means = λ j full. elim (cases_eq j k) [
           | inl same ↦
-              let never : is_full (place_at (slice_set places k None) j) ≡ false = ap (λ (x : ℕ). is_full (place_at (slice_set places k None) x)) same ∙ ap is_full (get_or-set_same places k None None at) in
+              let never : is_full (place_at (slice_set places k None) j) ≡ false =
+                  ap (λ (x : ℕ). is_full (place_at (slice_set places k None) x)) same
+                  ∙ ap is_full (get_or-set_same places k None None at) in
               absurd (false≢true (sym never ∙ full))
           | inr other ↦
               let same_place = get_or-set_other places k j None None other in
@@ -119,44 +134,55 @@ module _ (job : JobView) (steps : List Progress) (places : List Place) (kept : I
         ];
         here = λ j done empty. elim (cases_eq j k) [
           | inl same ↦
-              let never : is_done (progress_at (slice_set steps k Taken) j) ≡ false = ap (λ (x : ℕ). is_done (progress_at (slice_set steps k Taken) x)) same ∙ ap is_done (get_or-set_same steps k Taken Waiting h) in
+              let never : is_done (progress_at (slice_set steps k Taken) j) ≡ false =
+                  ap (λ (x : ℕ). is_done (progress_at (slice_set steps k Taken) x)) same
+                  ∙ ap is_done (get_or-set_same steps k Taken Waiting h) in
               absurd (false≢true (sym never ∙ done))
           | inr other ↦
-              still_spent job.set.plan steps k j Taken h refl (kept.here j (done_taken steps k j h done) (ap is_full (sym (get_or-set_other places k j None None other)) ∙ empty))
+              still_spent job.set.plan steps k j Taken h refl
+                  (kept.here j (done_taken steps k j h done) (ap is_full (sym (get_or-set_other places k j None None other)) ∙ empty))
         ];
       }
 
   -- after step k is handed out
-  pub kept_takes : (k : ℕ) (places' : List Place) → CanStart job.set.plan steps k → IsHanded job.set.plan k places places' → IsKept job (slice_set steps k Taken) places'
+  pub kept_takes : (k : ℕ) (places' : List Place) → CanStart job.set.plan steps k → IsHanded job.set.plan k places places'
+      → IsKept job (slice_set steps k Taken) places'
   kept_takes k places' s handed =
       let h : k < length steps = let r = s.in_range in omega arith in
       elim handed [
         | inl same ↦ subst (λ (ps : List Place). IsKept job (slice_set steps k Taken) ps) (sym same) (kept_same k h)
         | inr (inl moved) ↦
             let i : ℕ = slice_index (inputs_at job.set.plan k) 0 in
-            subst (λ (ps : List Place). IsKept job (slice_set steps k Taken) ps) (sym moved.after) (kept_moved k i h moved.in_range s.in_range moved.only_user)
+            subst (λ (ps : List Place). IsKept job (slice_set steps k Taken) ps) (sym moved.after)
+                (kept_moved k i h moved.in_range s.in_range moved.only_user)
         | inr (inr emptied) ↦
             subst (λ (ps : List Place). IsKept job (slice_set steps k Taken) ps) (sym emptied) (kept_emptied k h)
       ]
 
   -- after step k gets its value
-  pub kept_finishes : (k : ℕ) (v : Arc Value Global) → k < length steps → was_taken (progress_at steps k) ≡ true → arc_value v ≡ meaning_at job k → IsKept job (slice_set steps k Done) (slice_set places k (Some v))
+  pub kept_finishes : (k : ℕ) (v : Arc Value Global) → k < length steps → was_taken (progress_at steps k) ≡ true
+      → arc_value v ≡ meaning_at job k → IsKept job (slice_set steps k Done) (slice_set places k (Some v))
   kept_finishes k v h taken_k right =
       let at : k < length places = let l = kept.long in omega arith in
       record {
         long = length-set places k (Some v) ∙ kept.long;
         means = λ j full. elim (cases_eq j k) [
-          | inl same ↦ subst (λ (x : ℕ). kept_at (slice_set places k (Some v)) x ≡ meaning_at job x) (sym same) (ap value_in (get_or-set_same places k (Some v) None at) ∙ right)
+          | inl same ↦ subst (λ (x : ℕ). kept_at (slice_set places k (Some v)) x ≡ meaning_at job x) (sym same)
+              (ap value_in (get_or-set_same places k (Some v) None at) ∙ right)
           | inr other ↦
               let same_place = get_or-set_other places k j (Some v) None other in
               ap value_in same_place ∙ kept.means j (ap is_full (sym same_place) ∙ full)
         ];
         here = λ j done empty. elim (cases_eq j k) [
           | inl same ↦
-              let never : is_full (place_at (slice_set places k (Some v)) j) ≡ true = ap (λ (x : ℕ). is_full (place_at (slice_set places k (Some v)) x)) same ∙ ap is_full (get_or-set_same places k (Some v) None at) in
+              let never : is_full (place_at (slice_set places k (Some v)) j) ≡ true =
+                  ap (λ (x : ℕ). is_full (place_at (slice_set places k (Some v)) x)) same
+                  ∙ ap is_full (get_or-set_same places k (Some v) None at) in
               absurd (false≢true (sym empty ∙ never))
           | inr other ↦
-              still_spent job.set.plan steps k j Done h refl (kept.here j (done_other steps k j Done other done) (ap is_full (sym (get_or-set_other places k j (Some v) None other)) ∙ empty))
+              still_spent job.set.plan steps k j Done h refl
+                  (kept.here j (done_other steps k j Done other done)
+                  (ap is_full (sym (get_or-set_other places k j (Some v) None other)) ∙ empty))
         ];
       }
 
@@ -192,7 +218,8 @@ only_user plan k i has h some first one = record {
   some = some;
   first = first;
   only = λ j l used.
-      let k_uses : 0 < times i (inputs_at plan k) = subst (λ (x : ℕ). 0 < times x (inputs_at plan k)) first (stands (inputs_at plan k) 0 some) in
+      let k_uses : 0 < times i (inputs_at plan k) = subst (λ (x : ℕ). 0 < times x (inputs_at plan k)) first
+          (stands (inputs_at plan k) 0 some) in
       let a = has.same i j l in
       let b = has.same i k h in
       one_element j k (users_of plan i) one (omega arith) (omega arith);
