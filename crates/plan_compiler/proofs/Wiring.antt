@@ -14,7 +14,7 @@ use Rattle.plan_ir.specs.declared.ops.Op.{Op}
 use Rattle.plan_ir.specs.declared.ops.Op.TheVariants as op
 use Rattle.plan_ir.specs.declared.plans.TheConstants.{MAX_INPUTS, MAX_STEPS}
 use Rattle.plan_compiler.specs.Meaning.{before_inter, before_load, before_spread, before_total, last_tiers, last_total, rank_of}
-use Rattle.plan_compiler.specs.Meaning.{rank_of_last_spread, wanted}
+use Rattle.plan_compiler.specs.Meaning.{rank_above_spreads, wanted}
 use Rattle.plan_compiler.specs.Plan.{ops_of}
 use Rattle.plan_compiler.specs.Places.{first_step, inputs_of, inter_step, load_step, tiers_step, total_step}
 use Rattle.plan_compiler.proofs.LayoutLemmas.{first_before, first_small, length_ops}
@@ -118,11 +118,11 @@ module _ (t : AcceptedTables) (limits : IsWithinLimits t) where
   before_inter_lower zero = omega (arith, before_load_lower (length t.commodities))
   before_inter_lower (suc j) = omega arith
 
-  before_total_lower : (c : ℕ) → rank_of t (before_total c) < 2 + rank_of_last_spread + length t.commodities + length (inters_of t) + c
+  before_total_lower : (c : ℕ) → rank_of t (before_total c) < 2 + rank_above_spreads + length t.commodities + length (inters_of t) + c
   before_total_lower zero = omega arith
   before_total_lower (suc c) = omega arith
 
-  last_tiers_lower : (c : ℕ) → rank_of t (last_tiers t c) < rank_of_last_spread
+  last_tiers_lower : (c : ℕ) → rank_of t (last_tiers t c) < rank_above_spreads
   last_tiers_lower c = let few = limits.few_intras (commodity_id t c) in omega (arith, few, before_spread_lower c (length (intras_at t c)))
 
   wanted_lower_each : (o : Op) → AllByRecursion (λ w. rank_of t w < rank_of t o) (wanted t o)

@@ -99,8 +99,8 @@ wanted t (op.TotalAdd c) = before_total c ∷ op.Final c ∷ []
 -- ---- ranks
 
 -- above the rank of every spread of a commodity
-abbrev pub rank_of_last_spread : ℕ
-rank_of_last_spread = 3 + MAX_INTRA_SPREADS
+abbrev pub rank_above_spreads : ℕ
+rank_above_spreads = 3 + MAX_INTRA_SPREADS
 
 -- a rank that every wanted operation has lower
 abbrev pub rank_of : AcceptedTables → Op → ℕ
@@ -110,11 +110,11 @@ rank_of t (op.ScanMax c) = 2
 rank_of t (op.Months c) = 1
 rank_of t (op.TierStart c) = 2
 rank_of t (op.Spread c j) = 3 + j
-rank_of t (op.Delivery c) = rank_of_last_spread
+rank_of t (op.Delivery c) = rank_above_spreads
 rank_of t (op.Minimum c) = 1
-rank_of t (op.Final c) = 1 + rank_of_last_spread + length t.commodities + length (inters_of t)
+rank_of t (op.Final c) = 1 + rank_above_spreads + length t.commodities + length (inters_of t)
 rank_of t op.InterStart = 0
 rank_of t (op.InterLoad c) = 3 + c
 rank_of t (op.InterSpread j) = 3 + length t.commodities + j
 rank_of t op.TotalStart = 0
-rank_of t (op.TotalAdd c) = 2 + rank_of_last_spread + length t.commodities + length (inters_of t) + c
+rank_of t (op.TotalAdd c) = 2 + rank_above_spreads + length t.commodities + length (inters_of t) + c

@@ -35,7 +35,7 @@ pub(crate) fn first_steps(alloc: Global, tables: &Tables) -> Result<Vec<u32>, Al
 }
 
 // The number of a commodity's first step; with the number of commodities, that of the first step between them.
-fn first_step(tables: &Tables, firsts: &[u32], c: u32) -> u32
+pub(crate) fn first_step(tables: &Tables, firsts: &[u32], c: u32) -> u32
     requires firsts { AreFirsts tables.now firsts.now }
     requires among { c ≤ length tables.now.commodities }
     ensures value { result ≡ first_step tables.now c }

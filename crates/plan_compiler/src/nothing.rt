@@ -1,16 +1,22 @@
 //! The values of a commodity of which nothing is held (docs/METHOD.md, "The plan of steps").
-ghost use Rattle.std.specs.Prelude.{◌≡◌, [], pos};
+ghost use Rattle.std.specs.Prelude.{◌≡◌, ◌↔◌, [], ◌∷◌, List, IfSome, IsTrue, pos};
 ghost use Rattle.std.specs.Arc.{arc_value};
+ghost use Rattle.span_tables.specs.Tables.{AcceptedTables};
+ghost use Rattle.span_tables.specs.declared.portfolios.Holding.{Holding};
+ghost use Rattle.plan_ir.specs.Apply.{Takes, value_on};
+ghost use Rattle.plan_ir.specs.declared.values.Value.{Value};
 ghost use Rattle.plan_ir.specs.declared.values.Value.TheVariants as value;
 ghost use Rattle.scan_risk.specs.Scenarios.{scan_of, scenario_sums};
 ghost use Rattle.spread_stage.specs.Deltas.{month_deltas};
 ghost use Rattle.spread_stage.specs.Spreads.{unspread};
 
+use plan_ir::ops::Op;
 use plan_ir::values::Value;
 use scan_risk::scanning::scan;
 use scan_risk::scenarios::sums;
 use span_money::amounts::Money;
 use span_tables::held::Held;
+use span_tables::limits::SCENARIOS;
 use span_tables::tables::Tables;
 use spread_stage::deltas::month_deltas;
 use spread_stage::tiers::start;
@@ -40,6 +46,13 @@ impl Model for NothingHeld {
 
     ghost invariant = { λ n. AreNothing (arc_value n.held) (arc_value n.sums) (arc_value n.scan)
         (arc_value n.months) (arc_value n.tiers) (arc_value n.amount) };
+}
+
+// Whether scenario sums are those of no contracts, each 0.
+fn are_of_nothing(sums: &[i64; SCENARIOS]) -> bool
+    ensures { IsTrue result ↔ (sums.now ≡ scenario_sums []) }
+{
+    *sums == [0; SCENARIOS]
 }
 
 impl NothingHeld {
@@ -99,5 +112,57 @@ impl NothingHeld {
         ensures { arc_value result.now ≡ value.Amount (pos 0) }
     {
         &self.amount
+    }
+
+    // The value of an operation on no held contracts.
+    #[tactic(auto, using(crate::proofs::NothingLemmas::minimum_of_nothing))]
+    fn of_no_contracts(&self, op: Op) -> Option<&Arc<Value>>
+        ensures { IfSome result (λ v. (t : AcceptedTables) (holdings : List Holding) (rest : List Value)
+            → arc_value v.now ≡ value_on t holdings op (value.Held [] ∷ rest)) }
+    {
+        match op {
+            Op::Sums(_) => Some(&self.sums),
+            Op::Months(_) => Some(&self.months),
+            Op::Minimum(_) => Some(&self.amount),
+            _ => None,
+        }
+    }
+
+    // The value of an operation on no months.
+    fn of_no_months(&self, op: Op) -> Option<&Arc<Value>>
+        ensures { IfSome result (λ v. (t : AcceptedTables) (holdings : List Holding) (rest : List Value)
+            → Takes t op (value.Months [] ∷ rest)
+            → arc_value v.now ≡ value_on t holdings op (value.Months [] ∷ rest)) }
+    {
+        match op {
+            Op::TierStart(_) => Some(&self.tiers),
+            Op::Delivery(_) => Some(&self.amount),
+            _ => None,
+        }
+    }
+
+    // The value of an operation on the scenario sums of no contracts.
+    fn of_no_sums(&self, op: Op) -> Option<&Arc<Value>>
+        ensures { IfSome result (λ v. (t : AcceptedTables) (holdings : List Holding) (rest : List Value)
+            → arc_value v.now ≡ value_on t holdings op (value.Sums (scenario_sums []) ∷ rest)) }
+    {
+        match op {
+            Op::ScanMax(_) => Some(&self.scan),
+            _ => None,
+        }
+    }
+
+    /// The value of an operation where its first input has nothing: no contracts, no months, or sums that are all 0. `None`
+    /// where that input has something, or where no such value is kept.
+    pub fn value_for(&self, op: Op, first: &Value) -> Option<&Arc<Value>>
+        ensures { IfSome result (λ v. (t : AcceptedTables) (holdings : List Holding) (rest : List Value)
+            → Takes t op (first.now ∷ rest) → arc_value v.now ≡ value_on t holdings op (first.now ∷ rest)) }
+    {
+        match first {
+            Value::Held(held) if held.is_empty() => self.of_no_contracts(op),
+            Value::Months(months) if months.as_slice().is_empty() => self.of_no_months(op),
+            Value::Sums(sums) if are_of_nothing(sums) => self.of_no_sums(op),
+            _ => None,
+        }
     }
 }

@@ -10,7 +10,7 @@ ghost use Rattle.plan_compiler.specs.Meaning.{last_total};
 ghost use Rattle.plan_compiler.specs.Places.{plan_of};
 ghost use Rattle.plan_compiler.specs.Plan.{IsPlanOf};
 
-use crate::layout::{first_steps, inputs_of_all, last_tiers_step, total_step};
+use crate::layout::{first_step, first_steps, inputs_of_all, last_tiers_step, total_step};
 use crate::nothing::NothingHeld;
 use crate::operations::ops_of;
 use plan_ir::plans::Plan;
@@ -62,6 +62,15 @@ impl CompiledSet {
     /// The values of a commodity of which nothing is held.
     pub fn nothing_held(&self) -> &NothingHeld {
         &self.nothing
+    }
+
+    /// The number of the step that has the held contracts of a commodity, whose number is from 0 in file order.
+    pub fn gather_step(&self, commodity: u32) -> u32
+        requires { commodity < length self.now.tables.commodities }
+        ensures in_range { result < length self.now.plan }
+        ensures op { op_at self.now.plan result ≡ operation.Gather commodity }
+    {
+        first_step(&self.tables, &self.firsts, commodity)
     }
 
     /// The number of the step that has the figures of a commodity, whose number is from 0 in file order. It is no

@@ -104,6 +104,7 @@ fn plan_of_two_commodities(rt: HostRuntime) -> Result<(), Fail> {
     let set = compile(alloc, tables)?;
     assert_eq!(rt; set.tables().set_id().as_bytes(), b"D1".as_slice());
     assert_eq!(rt; set.tables().commodities().len(), 2);
+    assert_eq!(rt; set.gather_step(1), 8);
     assert_eq!(rt; set.final_step(0), 7);
     assert_eq!(rt; set.final_step(1), 15);
     assert_eq!(rt; set.total_step(), 22);
@@ -135,5 +136,26 @@ fn nothing_held(rt: HostRuntime) -> Result<(), Fail> {
     assert!(rt; nothing.tiers().tiers().rests().is_empty());
     assert_eq!(rt; nothing.tiers().tiers().charge(), 0);
     assert_eq!(rt; nothing.amount().amount().get(), 0);
+    Ok(())
+}
+
+// Each operation on no contracts, on no months and on sums of 0 has its value kept; one on the tiers of nothing has not.
+#[test]
+fn values_of_nothing_held(rt: HostRuntime) -> Result<(), Fail> {
+    let alloc = rt.alloc();
+    let tables = two_commodity_tables(alloc, &rt)?;
+    let nothing = NothingHeld::new(alloc, &tables)?;
+    for op in [Op::Sums(0), Op::Months(0), Op::Minimum(0)] {
+        assert!(rt; nothing.value_for(op, nothing.held()).is_some());
+    }
+    for op in [Op::TierStart(0), Op::Delivery(0)] {
+        assert!(rt; nothing.value_for(op, nothing.months()).is_some());
+    }
+    assert!(rt; nothing.value_for(Op::ScanMax(0), nothing.sums()).is_some());
+    assert!(rt;
+        nothing
+            .value_for(Op::Spread(0, 0), nothing.tiers())
+            .is_none()
+    );
     Ok(())
 }

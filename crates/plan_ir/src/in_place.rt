@@ -1,5 +1,6 @@
 //! The value of an operation whose first input stands apart: that input where nothing changes, written over it, or new.
-ghost use Rattle.std.specs.Prelude.{◌≡◌, ◌∷◌, ◌<◌, ◌≤◌, ◌↔◌, ◌+ℤ◌, ℕ, List, IfOk, IsTrue, length, map, nat_abs, slice_set};
+ghost use Rattle.std.specs.Prelude.{◌≡◌, ◌∷◌, ◌<◌, ◌≤◌, ◌↔◌, ◌+ℤ◌, ℕ, List};
+ghost use Rattle.std.specs.Prelude.{IfOk, IsTrue, length, map, nat_abs, slice_set};
 ghost use Rattle.std.specs.Arc.{arc_value};
 ghost use Rattle.span_money.specs.declared.amounts.TheConstants.{MAX_MONEY};
 ghost use Rattle.span_tables.specs.Accepted.{IsInter, IsIntra};

@@ -10,6 +10,7 @@ ghost use Rattle.plan_ir.specs.declared.values.Value.TheVariants as value;
 
 use super::evaluation::apply;
 use super::figures::Figures;
+use super::in_place::changes_nothing;
 use super::listing::list;
 use super::lists::NumberLists;
 use super::ops::Op;
@@ -18,7 +19,7 @@ use super::values::Value;
 use inter_credit::state::empty;
 use scan_risk::Scan;
 use span_money::amounts::{Delta, Money, Scale};
-use span_tables::held::gather;
+use span_tables::held::{Held, gather};
 use span_tables::limits::MAX_SUM;
 use span_tables::name::Name;
 use span_tables::portfolios::{Holding, Portfolio};
@@ -254,6 +255,52 @@ fn totals(rt: HostRuntime) -> Result<(), Fail> {
     ];
     let total = apply(alloc, &tables, &portfolio, &Op::TotalAdd(0), &inputs)?;
     assert_eq!(rt; total.total().get(), 1740);
+    Ok(())
+}
+
+// A load of a commodity of which nothing is held changes nothing; one with a price risk may.
+#[test]
+fn load_of_nothing(rt: HostRuntime) -> Result<(), Fail> {
+    let alloc = rt.alloc();
+    let tables = small_tables(alloc, &rt)?;
+    assert_eq!(rt; tables.commodities().len(), 1);
+    let lines = Value::Inter(empty(alloc, 1)?);
+    let months = month_deltas(alloc, &Held::none(alloc, &tables)?)?;
+    let scan = Scan {
+        risk: Money::new(0),
+        active: 1,
+        paired: 2,
+        price2: 0,
+    };
+    let months = Arc::new(alloc, Value::Months(months))?;
+    let rest = [
+        Arc::try_clone(&months)?,
+        Arc::new(alloc, Value::Scan(scan))?,
+    ];
+    assert!(rt; changes_nothing(&tables, Op::InterLoad(0), &lines, &rest));
+    let rest = [months, Arc::new(alloc, Value::Scan(small_scan()))?];
+    assert!(rt; !changes_nothing(&tables, Op::InterLoad(0), &lines, &rest));
+    Ok(())
+}
+
+// A total with a requirement of 0 stays as it is.
+#[test]
+fn total_of_nothing(rt: HostRuntime) -> Result<(), Fail> {
+    let alloc = rt.alloc();
+    let tables = small_tables(alloc, &rt)?;
+    assert_eq!(rt; tables.commodities().len(), 1);
+    let none = Figures {
+        scan: Money::new(0),
+        active: 1,
+        intra: Money::new(0),
+        delivery: Money::new(0),
+        credit: Money::new(0),
+        minimum: Money::new(0),
+        requirement: Money::new(0),
+    };
+    let rest = [Arc::new(alloc, Value::Figures(none))?];
+    let total = Value::Total(Money::new(500));
+    assert!(rt; changes_nothing(&tables, Op::TotalAdd(0), &total, &rest));
     Ok(())
 }
 
