@@ -58,7 +58,7 @@ pub all_done_sum : (steps : List Progress) → (sum_by events_of steps ≡ 2 * l
     ↔ ((k : ℕ) → k < length steps → is_done (progress_at steps k) ≡ true)
 all_done_sum steps = (
   (λ e k h. true_from_ne_false _ (λ open_k. absurd (let s = sum_open steps k h open_k in omega (arith, s, e)))),
-  sum_done steps
+  sum_done steps,
 )
 
 -- a step that has no value yet leaves room in the history
@@ -181,7 +181,7 @@ complete_where_done job steps history capacity failed b live = (
     live = live;
     finished = λ k h. b.finished k ∙ all k (let l = b.long in omega arith);
   }),
-  (λ complete k h. sym (b.finished k) ∙ complete.finished k (let l = b.long in omega arith))
+  (λ complete k h. sym (b.finished k) ∙ complete.finished k (let l = b.long in omega arith)),
 )
 
 pub map_same : {X Y : Type 0} (f g : X → Y) (xs : List X) → ((i : ℕ) (d : X) → i < length xs

@@ -31,7 +31,7 @@ open_same : (steps steps' : List Progress) → ((i : ℕ) → is_done (progress_
 open_same steps steps' e [] = refl
 open_same steps steps' e (i ∷ is) =
     ap (λ b. (if b then 0 else 1) + open_inputs steps' is) (e i)
-        ∙ ap (λ n. (if is_done (progress_at steps i) then 0 else 1) + n) (open_same steps steps' e is)
+    ∙ ap (λ n. (if is_done (progress_at steps i) then 0 else 1) + n) (open_same steps steps' e is)
 
 open_head : (b : Bool) (n : ℕ) → (if b then 0 else 1) + n ≡ 0 → (b ≡ true) × (n ≡ 0)
 open_head true n e = (refl, omega arith)
@@ -58,8 +58,8 @@ open_done steps j h open_j (i ∷ is) =
     elim (cases_eq i j) [
       | inl same ↦
           subst (λ (x : ℕ). ((if is_done (progress_at (slice_set steps j Done) x) then 0 else 1) + open_inputs
-              (slice_set steps j Done) is) + ((if x == j then 1 else 0) + times j is) ≡
-              (if is_done (progress_at steps x) then 0 else 1) + open_inputs steps is) (sym same)
+          (slice_set steps j Done) is) + ((if x == j then 1 else 0) + times j is) ≡
+          (if is_done (progress_at steps x) then 0 else 1) + open_inputs steps is) (sym same)
           (rw (get_or-set_same steps j Done Waiting h, eq-eqb j j refl, open_j) (omega arith))
       | inr other ↦ rw (get_or-set_other steps j i Done Waiting other, ne_eqb i j other) (omega arith)
     ]
@@ -128,8 +128,11 @@ fits_together n xs ys all_xs all_ys once =
 
 ready_of : (taken : Bool) (missing : ℕ) → 0 < ready_times taken missing → (taken ≡ false) × (missing ≡ 0)
 ready_of true missing h = absurd (omega arith)
-ready_of false m h = elim (cases_eq m 0) [ inl same ↦ (refl, same) | inr other ↦ let never = rw (ne_eqb m 0 other) at h in
-    absurd (omega arith) ]
+ready_of false m h = elim (cases_eq m 0) [
+  | inl same ↦ (refl, same)
+  | inr other ↦ let never = rw (ne_eqb m 0 other) at h in
+      absurd (omega arith)
+]
 
 listed_after : (taken : Bool) (m m' t : ℕ) → m' + t ≡ m → (taken ≡ true → m ≡ 0)
     → ready_times taken m + freed_times t m' ≡ ready_times taken m'
@@ -179,9 +182,9 @@ module _ (plan : List StepView) (steps : List Progress) (missing : List ℕ) (lo
         listed = λ j l. elim (cases_eq j k) [
           | inl same ↦
               subst (λ (x : ℕ). times x rest ≡ ready_times (was_taken (progress_at (slice_set steps k Taken) x))
-                  (slice_index missing x)) (sym same)
+              (slice_index missing x)) (sym same)
               (rw (get_or-set_same steps k Taken Waiting in_steps) (let e =
-                  rw (waits, none, times_push_same k rest) at (c.listed k h) in omega arith))
+              rw (waits, none, times_push_same k rest) at (c.listed k h) in omega arith))
           | inr other ↦
               rw (get_or-set_other steps k j Taken Waiting other) (sym (times_push_other j k rest (λ e. other (sym e))) ∙ c.listed j l)
         ];
@@ -242,7 +245,7 @@ module _ (job : JobView) (steps : List Progress) (places : List Place) (history 
   last_starts ready rest ready_capacity k b e =
       let some : 0 < times k ready = let t = ap (times k) e ∙ times_push_same k rest in omega arith in
       listed_starts job.set.plan steps missing b.board.long ready ready_capacity k b.counted
-          (times_in_range _ k ready b.counted.in_range some) some
+      (times_in_range _ k ready b.counted.in_range some) some
 
   -- where the list is empty, no step is ready
   pub none_starts : (ready : List ℕ) (ready_capacity : ℕ)
@@ -250,7 +253,7 @@ module _ (job : JobView) (steps : List Progress) (places : List Place) (history 
       → IsReady job.set.plan history k → ⊥
   none_starts ready ready_capacity b e k r =
       empty_none job.set.plan steps missing b.board.long ready_capacity
-          (subst (λ (xs : List ℕ). IsCounted job.set.plan steps missing xs ready_capacity) e b.counted) k (record {
+      (subst (λ (xs : List ℕ). IsCounted job.set.plan steps missing xs ready_capacity) e b.counted) k (record {
         in_range = r.in_range;
         waits = sym (b.board.taken k) ∙ r.fresh;
         fed = λ i d l. sym (b.board.finished _) ∙ r.fed i d l;
@@ -275,7 +278,7 @@ module _ (job : JobView) (steps : List Progress) (places : List Place) (history 
     pub users_fit : length ready + length (users_of job.set.plan j) ≤ ready_capacity
     users_fit =
         let all = fits_together (length job.set.plan) ready (users_of job.set.plan j) b.counted.in_range
-            ((has_users _ b.board.compiled).in_range j) (λ k l.
+        ((has_users _ b.board.compiled).in_range j) (λ k l.
         let listed = b.counted.listed k l in
         let once = (has_users _ b.board.compiled).once j k in
         elim (cases_eq (times k (users_of job.set.plan j)) 0) [

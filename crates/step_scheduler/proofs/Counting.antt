@@ -57,7 +57,7 @@ module _ (us missing missing' ready ready' : List ℕ) (capacity capacity' u : �
       elim (cases_eq u k) [
         | inl same ↦
             subst (λ (x : ℕ). slice_index (slice_set missing' u (slice_index missing' u - 1)) x + times x
-                (us ++ u ∷ []) ≡ slice_index missing x) same
+            (us ++ u ∷ []) ≡ slice_index missing x) same
             (let a = get_or-set_same missing' u (slice_index missing' u - 1) 0 (let l = done.long in omega arith) in
             let e = at_u in
             omega (arith, times_push_same u us))
@@ -75,12 +75,22 @@ module _ (us missing missing' ready ready' : List ℕ) (capacity capacity' u : �
     freed = λ k. elim (cases_eq u k) [
       | inl same ↦
           subst (λ (x : ℕ). times x (ready' ++ u ∷ []) ≡ times x ready + freed_times (times x (us ++ u ∷ []))
-              (slice_index (slice_set missing' u (slice_index missing' u - 1)) x)) same
-          (rw (times_push_same u ready', times_push_same u us, fresh, get_or-set_same missing' u (slice_index missing' u - 1) 0
-              (let l = done.long in omega arith), none) (let f = rw fresh at (done.freed u) in omega arith))
+          (slice_index (slice_set missing' u (slice_index missing' u - 1)) x)) same
+          (rw (
+            times_push_same u ready',
+            times_push_same u us,
+            fresh,
+            get_or-set_same missing' u (slice_index missing' u - 1) 0
+                (let l = done.long in omega arith),
+            none,
+          ) (let f = rw fresh at (done.freed u) in omega arith))
       | inr other ↦
-          rw (times_push_other k u ready' other, times_push_other k u us other, get_or-set_other missing' u k
-              (slice_index missing' u - 1) 0 (λ e. other (sym e))) (done.freed k)
+          rw (
+            times_push_other k u ready' other,
+            times_push_other k u us other,
+            get_or-set_other missing' u k
+                (slice_index missing' u - 1) 0 (λ e. other (sym e)),
+          ) (done.freed k)
     ];
     in_range = λ n e all. All-push (λ x. x < n) ready' u (done.in_range n e all) (omega arith);
     room = let r = done.room in omega (arith, length-append ready' (u ∷ []), length-append us (u ∷ []));
@@ -95,12 +105,17 @@ module _ (us missing missing' ready ready' : List ℕ) (capacity capacity' u : �
     freed = λ k. elim (cases_eq u k) [
       | inl same ↦
           subst (λ (x : ℕ). times x ready' ≡ times x ready + freed_times (times x (us ++ u ∷ []))
-              (slice_index (slice_set missing' u (slice_index missing' u - 1)) x)) same
-          (rw (times_push_same u us, fresh, get_or-set_same missing' u (slice_index missing' u - 1) 0 (let l = done.long in
-              omega arith), ne_eqb _ _ some_left) (let f = rw fresh at (done.freed u) in omega arith))
+          (slice_index (slice_set missing' u (slice_index missing' u - 1)) x)) same
+          (rw (
+            times_push_same u us,
+            fresh,
+            get_or-set_same missing' u (slice_index missing' u - 1) 0 (let l = done.long in
+                omega arith),
+            ne_eqb _ _ some_left,
+          ) (let f = rw fresh at (done.freed u) in omega arith))
       | inr other ↦
           rw (times_push_other k u us other, get_or-set_other missing' u k (slice_index missing' u - 1) 0 (λ e. other (sym e)))
-              (done.freed k)
+          (done.freed k)
     ];
     in_range = done.in_range;
     room = let r = done.room in omega (arith, length-append us (u ∷ []));

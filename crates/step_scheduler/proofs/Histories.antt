@@ -19,6 +19,8 @@ is_finished-push (x ∷ xs) e k = ap (λ b. finishes x k || b) (is_finished-push
 pub run_push : (plan : List StepView) (before history : List Event) (e : Event) → IsRunAfter plan before history
     → IsLawful plan (before ++ history) e → IsRunAfter plan before (history ++ e ∷ [])
 run_push plan before [] e run lawful = ((let P : List Event → Type 0 = λ h. IsLawful plan h e in subst P (append-nil before) lawful), tt)
-run_push plan before (x ∷ xs) e run lawful =
-    (run.0, run_push plan (before ++ x ∷ []) xs e run.1 (let P : List Event → Type 0 = λ h. IsLawful plan h e in
-        subst P (sym (append_assoc before (x ∷ []) xs)) lawful))
+run_push plan before (x ∷ xs) e run lawful = (
+  run.0,
+  run_push plan (before ++ x ∷ []) xs e run.1 (let P : List Event → Type 0 = λ h. IsLawful plan h e in
+      subst P (sym (append_assoc before (x ∷ []) xs)) lawful),
+)

@@ -7,3 +7,4 @@ pub mod UserLemmas
 pub mod Places
 pub mod Counted
 pub mod RunOnce
+pub mod FoundLemmas

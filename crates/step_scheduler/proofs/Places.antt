@@ -49,10 +49,23 @@ done_taken steps k j h done =
     elim (cases_eq j k) [
       | inl same ↦
           let never : is_done (progress_at (slice_set steps k Taken) j) ≡ false =
-              ap (λ (x : ℕ). is_done (progress_at (slice_set steps k Taken) x)) same
-              ∙ ap is_done (get_or-set_same steps k Taken Waiting h) in
+          ap (λ (x : ℕ). is_done (progress_at (slice_set steps k Taken) x)) same
+          ∙ ap is_done (get_or-set_same steps k Taken Waiting h) in
           absurd (false≢true (sym never ∙ done))
       | inr other ↦ done_other steps k j Taken other done
+    ]
+
+-- what is kept of another step stays
+pub keeps_more : (job : JobView) (places : List Place) (k : ℕ) (v : Arc Value Global) → k < length places
+    → KeepsMeanings job places → arc_value v ≡ meaning_at job k → KeepsMeanings job (slice_set places k (Some v))
+keeps_more job places k v at means right j full =
+    elim (cases_eq j k) [
+      | inl same ↦
+          subst (λ (x : ℕ). kept_at (slice_set places k (Some v)) x ≡ meaning_at job x) (sym same)
+          (ap value_in (get_or-set_same places k (Some v) None at) ∙ right)
+      | inr other ↦
+          let same_place = get_or-set_other places k j (Some v) None other in
+          ap value_in same_place ∙ means j (ap is_full (sym same_place) ∙ full)
     ]
 
 module _ (job : JobView) (steps : List Progress) (places : List Place) (kept : IsKept job steps places)
@@ -97,8 +110,8 @@ module _ (job : JobView) (steps : List Progress) (places : List Place) (kept : I
     means = λ j full. elim (cases_eq j i) [
       | inl same ↦
           let never : is_full (place_at (slice_set places i None) j) ≡ false =
-              ap (λ (x : ℕ). is_full (place_at (slice_set places i None) x)) same
-              ∙ ap is_full (get_or-set_same places i None None at) in
+          ap (λ (x : ℕ). is_full (place_at (slice_set places i None) x)) same
+          ∙ ap is_full (get_or-set_same places i None None at) in
           absurd (false≢true (sym never ∙ full))
       | inr other ↦
           let same_place = get_or-set_other places i j None None other in
@@ -112,7 +125,7 @@ module _ (job : JobView) (steps : List Progress) (places : List Place) (kept : I
       })
       | inr other ↦
           still_spent job.set.plan steps k j Taken h refl (kept.here j (done_taken steps k j h done)
-              (ap is_full (sym (get_or-set_other places i j None None other)) ∙ empty))
+          (ap is_full (sym (get_or-set_other places i j None None other)) ∙ empty))
     ];
   }
 
@@ -125,8 +138,8 @@ module _ (job : JobView) (steps : List Progress) (places : List Place) (kept : I
         means = λ j full. elim (cases_eq j k) [
           | inl same ↦
               let never : is_full (place_at (slice_set places k None) j) ≡ false =
-                  ap (λ (x : ℕ). is_full (place_at (slice_set places k None) x)) same
-                  ∙ ap is_full (get_or-set_same places k None None at) in
+              ap (λ (x : ℕ). is_full (place_at (slice_set places k None) x)) same
+              ∙ ap is_full (get_or-set_same places k None None at) in
               absurd (false≢true (sym never ∙ full))
           | inr other ↦
               let same_place = get_or-set_other places k j None None other in
@@ -135,12 +148,12 @@ module _ (job : JobView) (steps : List Progress) (places : List Place) (kept : I
         here = λ j done empty. elim (cases_eq j k) [
           | inl same ↦
               let never : is_done (progress_at (slice_set steps k Taken) j) ≡ false =
-                  ap (λ (x : ℕ). is_done (progress_at (slice_set steps k Taken) x)) same
-                  ∙ ap is_done (get_or-set_same steps k Taken Waiting h) in
+              ap (λ (x : ℕ). is_done (progress_at (slice_set steps k Taken) x)) same
+              ∙ ap is_done (get_or-set_same steps k Taken Waiting h) in
               absurd (false≢true (sym never ∙ done))
           | inr other ↦
               still_spent job.set.plan steps k j Taken h refl
-                  (kept.here j (done_taken steps k j h done) (ap is_full (sym (get_or-set_other places k j None None other)) ∙ empty))
+              (kept.here j (done_taken steps k j h done) (ap is_full (sym (get_or-set_other places k j None None other)) ∙ empty))
         ];
       }
 
@@ -154,7 +167,7 @@ module _ (job : JobView) (steps : List Progress) (places : List Place) (kept : I
         | inr (inl moved) ↦
             let i : ℕ = slice_index (inputs_at job.set.plan k) 0 in
             subst (λ (ps : List Place). IsKept job (slice_set steps k Taken) ps) (sym moved.after)
-                (kept_moved k i h moved.in_range s.in_range moved.only_user)
+            (kept_moved k i h moved.in_range s.in_range moved.only_user)
         | inr (inr emptied) ↦
             subst (λ (ps : List Place). IsKept job (slice_set steps k Taken) ps) (sym emptied) (kept_emptied k h)
       ]
@@ -166,23 +179,17 @@ module _ (job : JobView) (steps : List Progress) (places : List Place) (kept : I
       let at : k < length places = let l = kept.long in omega arith in
       record {
         long = length-set places k (Some v) ∙ kept.long;
-        means = λ j full. elim (cases_eq j k) [
-          | inl same ↦ subst (λ (x : ℕ). kept_at (slice_set places k (Some v)) x ≡ meaning_at job x) (sym same)
-              (ap value_in (get_or-set_same places k (Some v) None at) ∙ right)
-          | inr other ↦
-              let same_place = get_or-set_other places k j (Some v) None other in
-              ap value_in same_place ∙ kept.means j (ap is_full (sym same_place) ∙ full)
-        ];
+        means = keeps_more job places k v at kept.means right;
         here = λ j done empty. elim (cases_eq j k) [
           | inl same ↦
               let never : is_full (place_at (slice_set places k (Some v)) j) ≡ true =
-                  ap (λ (x : ℕ). is_full (place_at (slice_set places k (Some v)) x)) same
-                  ∙ ap is_full (get_or-set_same places k (Some v) None at) in
+              ap (λ (x : ℕ). is_full (place_at (slice_set places k (Some v)) x)) same
+              ∙ ap is_full (get_or-set_same places k (Some v) None at) in
               absurd (false≢true (sym empty ∙ never))
           | inr other ↦
               still_spent job.set.plan steps k j Done h refl
-                  (kept.here j (done_other steps k j Done other done)
-                  (ap is_full (sym (get_or-set_other places k j (Some v) None other)) ∙ empty))
+              (kept.here j (done_other steps k j Done other done)
+              (ap is_full (sym (get_or-set_other places k j (Some v) None other)) ∙ empty))
         ];
       }
 
@@ -219,7 +226,7 @@ only_user plan k i has h some first one = record {
   first = first;
   only = λ j l used.
       let k_uses : 0 < times i (inputs_at plan k) = subst (λ (x : ℕ). 0 < times x (inputs_at plan k)) first
-          (stands (inputs_at plan k) 0 some) in
+      (stands (inputs_at plan k) 0 some) in
       let a = has.same i j l in
       let b = has.same i k h in
       one_element j k (users_of plan i) one (omega arith) (omega arith);

@@ -60,7 +60,7 @@ module _ (job : JobView) (compiled : IsCompiled job.set) (fits : Fits job.set.ta
       elim (cases_eq j k) [
         | inl same ↦
             subst (λ (x : ℕ). values_after job values (Finish j) x ≡ meaning_at job x) same
-                (rw (eq-eqb j j refl) (at_step before values j g under_way))
+            (rw (eq-eqb j j refl) (at_step before values j g under_way))
         | inr other ↦
             elim cases [
               | inl old ↦ rw (ne_eqb j k other) (g.right k old)
@@ -87,16 +87,20 @@ module _ (job : JobView) (compiled : IsCompiled job.set) (fits : Fits job.set.ta
   run_gives before [] values g run = subst (λ (h : List Event). IsGoodSoFar job h values) (sym (append-nil before)) g
   run_gives before (Take j ∷ es) values g run =
       subst (λ (h : List Event). IsGoodSoFar job h (values_along job (values_after job values (Take j)) es))
-          (append_assoc before (Take j ∷ []) es)
+      (append_assoc before (Take j ∷ []) es)
       (run_gives (before ++ Take j ∷ []) es (values_after job values (Take j)) (good_take before values j g run.0) run.1)
   run_gives before (Finish j ∷ es) values g run =
       subst (λ (h : List Event). IsGoodSoFar job h (values_along job (values_after job values (Finish j)) es))
-          (append_assoc before (Finish j ∷ []) es)
+      (append_assoc before (Finish j ∷ []) es)
       (run_gives (before ++ Finish j ∷ []) es (values_after job values (Finish j)) (good_finish before values j g run.0) run.1)
 
   -- the value that a run gives to a finished step is its meaning
   pub run_means : (history : List Event) → IsRun job.set.plan history → (k : ℕ) → is_finished history k ≡ true
       → run_values job history k ≡ meaning_at job k
   run_means history run =
-      (run_gives [] history _ (record { in_range = λ j t. absurd (false≢true t); fed =
-          λ j t. absurd (false≢true t); right = λ k f. absurd (false≢true f) }) run).right
+      (run_gives [] history _ (record {
+        in_range = λ j t. absurd (false≢true t);
+        fed =
+            λ j t. absurd (false≢true t);
+        right = λ k f. absurd (false≢true f);
+      }) run).right

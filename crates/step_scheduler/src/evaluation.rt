@@ -1,5 +1,5 @@
 //! The values of tasks' steps.
-ghost use Rattle.std.specs.Prelude.{◌≡◌, ◌<◌, ◌∷◌, List, IfSome, IsTrue, IsFalse, length, map};
+ghost use Rattle.std.specs.Prelude.{◌≡◌, ◌<◌, ◌∷◌, List, IfSome, IsTrue, IsFalse, Ok, length, map};
 ghost use Rattle.std.specs.Arc.{arc_value};
 ghost use Rattle.std.specs.Option.{option_map};
 ghost use Rattle.span_tables.specs.declared.portfolios.Holding.{Holding};
@@ -15,7 +15,7 @@ use plan_ir::in_place::{apply_beside, apply_in_place, changes_nothing, is_in_pla
 use plan_ir::ops::Op;
 use plan_ir::values::Value;
 use span_tables::tables::Tables;
-use std::alloc::Global;
+use std::alloc::{AllocError, Global};
 use std::sync::Arc;
 
 /// The value of a task's step, or the mark that there was no memory for it.
@@ -54,34 +54,76 @@ fn value_of(
     let op = set.plan().op(step as usize);
     match first {
         Some(first) => renewed(alloc, set, op, first, rest),
-        None => match apply(alloc, set.tables(), job.portfolio(), &op, rest) {
-            Ok(value) => Arc::new(alloc, value).ok(),
-            Err(_) => None,
-        },
+        None => as_shared(
+            alloc,
+            apply(alloc, set.tables(), job.portfolio(), &op, rest),
+        ),
     }
 }
 
-// The value of an operation that has inputs: the first of them, where nothing changes; the set's, where nothing is held;
-// the first written over, where nothing else holds it; else a new one. `None` is want of memory.
+// The value of an operation that has inputs. `None` is want of memory.
 fn renewed(
     alloc: Global,
     set: &CompiledSet,
     op: Op,
-    mut first: Arc<Value>,
+    first: Arc<Value>,
     rest: &[Arc<Value>],
 ) -> Option<Arc<Value>>
     requires { Takes set.now.tables op (arc_value first ∷ map arc_value rest.now) }
     ensures { IfSome result (λ v. (holdings : List Holding)
         → arc_value v ≡ value_on set.now.tables holdings op (arc_value first ∷ map arc_value rest.now)) }
 {
-    let tables = set.tables();
-    if changes_nothing(tables, op, &first, rest) {
+    if is_in_place(op) {
+        changed(alloc, set.tables(), op, first, rest)
+    } else {
+        made(alloc, set, op, &first, rest)
+    }
+}
+
+// The value of an operation that changes its first input: that input itself, where nothing changes; written over it, where
+// nothing else holds it; else written over a copy. `None` is want of memory.
+fn changed(
+    alloc: Global,
+    tables: &Tables,
+    op: Op,
+    mut first: Arc<Value>,
+    rest: &[Arc<Value>],
+) -> Option<Arc<Value>>
+    requires in_place { IsInPlace op }
+    requires inputs { Takes tables.now op (arc_value first ∷ map arc_value rest.now) }
+    ensures { IfSome result (λ v. (holdings : List Holding)
+        → arc_value v ≡ value_on tables.now holdings op (arc_value first ∷ map arc_value rest.now)) }
+{
+    if changes_nothing(tables, op, &first, rest) || written(tables, op, &mut first, rest) {
         return Some(first);
     }
-    if is_in_place(op) && written(tables, op, &mut first, rest) {
-        return Some(first);
+    as_shared(alloc, apply_beside(alloc, tables, op, &first, rest))
+}
+
+// The value of an operation that makes another of its inputs: the set's, where nothing is held; else a new one. `None` is
+// want of memory.
+fn made(
+    alloc: Global,
+    set: &CompiledSet,
+    op: Op,
+    first: &Value,
+    rest: &[Arc<Value>],
+) -> Option<Arc<Value>>
+    requires { Takes set.now.tables op (first.now ∷ map arc_value rest.now) }
+    ensures { IfSome result (λ v. (holdings : List Holding)
+        → arc_value v ≡ value_on set.now.tables holdings op (first.now ∷ map arc_value rest.now)) }
+{
+    match set.nothing_held().value_for(op, first) {
+        Some(value) => Arc::try_clone(value).ok(),
+        None => as_shared(alloc, apply_beside(alloc, set.tables(), op, first, rest)),
     }
-    match apply_beside(alloc, tables, op, &first, rest) {
+}
+
+// A value that can be shared. `None` is want of memory, for it or before it.
+fn as_shared(alloc: Global, value: Result<Value, AllocError>) -> Option<Arc<Value>>
+    ensures { IfSome result (λ v. value ≡ Ok (arc_value v)) }
+{
+    match value {
         Ok(value) => Arc::new(alloc, value).ok(),
         Err(_) => None,
     }

@@ -33,10 +33,21 @@ fn as_value(alloc: Global, set: &CompiledSet, held: Held) -> Result<Arc<Value>, 
     }
 }
 
-// The places for the values of a job's steps.
+// The places for the values of a job's steps, with what is found at once: the contracts that are held of each commodity,
+// which are known after one pass over the holdings.
 pub(crate) fn found_values(alloc: Global, job: &Job) -> Result<Vec<Option<Arc<Value>>>, AllocError>
     ensures long { IfOk result (λ v. length v.items ≡ length job.now.set.plan) }
     ensures means { IfOk result (λ v. KeepsMeanings job.now v.items) }
 {
-    empty(alloc, job.set().plan().len())
+    let set = job.set();
+    let _limits = set.tables().commodities();
+    let held = gather_all(alloc, set.tables(), job.portfolio())?;
+    let mut places = empty(alloc, set.plan().len())?;
+    let mut commodity = 0;
+    for of_commodity in held {
+        let step = set.gather_step(commodity);
+        places[step as usize] = Some(as_value(alloc, set, of_commodity)?);
+        commodity += 1;
+    }
+    Ok(places)
 }

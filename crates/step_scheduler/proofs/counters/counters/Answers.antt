@@ -9,7 +9,7 @@ loop-k-preserved c =
     rw c.in_ok-push.ensures.items (elim c.if-inputs-eq0.branch [
       | then-inputs-eq0+in_ok-push-2 w ↦
           rw (w.ready-is, w.in_ok-push-2.ensures.items)
-              (counters_ready _ _ _ _ _ _ _ c.loop-k.invariant e w.if-inputs-eq0.true w.in_ok-push-2.ensures.capacity)
+          (counters_ready _ _ _ _ _ _ _ c.loop-k.invariant e w.if-inputs-eq0.true w.in_ok-push-2.ensures.capacity)
       | else-inputs-eq0 w ↦ rw w.ready-is (counters_waits _ _ _ _ _ _ c.loop-k.invariant e w.if-inputs-eq0.false)
     ])
 

@@ -13,7 +13,7 @@ overflow_sub-left c =
     let some = c.requires.positive u (stands c.args.users.now i c.loop-user-test.true) in
     let at = at_u _ _ _ _ _ _ _ u c.loop-user.invariant fresh h some in
     let read : c.index.result.now ≡ get_or c.loop-user.missing.items u 0 =
-        c.index.ensures ∙ get_or_default c.loop-user.missing.items u _ 0 (let l = c.loop-user.invariant.long in omega arith) in
+    c.index.ensures ∙ get_or_default c.loop-user.missing.items u _ 0 (let l = c.loop-user.invariant.long in omega arith) in
     omega arith
 
 pub loop-user-preserved : goal.loop-user-preserved
@@ -24,7 +24,7 @@ loop-user-preserved c =
     let h : u < length c.args.missing.now.items = c.requires.in_range i 0 c.loop-user-test.true in
     let some = c.requires.positive u (stands c.args.users.now i c.loop-user-test.true) in
     let read : c.index.result.now ≡ get_or c.loop-user.missing.items u 0 =
-        c.index.ensures ∙ get_or_default c.loop-user.missing.items u _ 0 (let l = c.loop-user.invariant.long in omega arith) in
+    c.index.ensures ∙ get_or_default c.loop-user.missing.items u _ 0 (let l = c.loop-user.invariant.long in omega arith) in
     rw (take_more c.args.users.now i 0 c.loop-user-test.true, read)
     (elim c.if-left-eq0.branch [
       | then-left-eq0 w ↦

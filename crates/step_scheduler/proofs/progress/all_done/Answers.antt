@@ -7,5 +7,5 @@ pub returns : goal.returns
 returns c =
     let sum = all_done_sum c.args.steps.now in (
       (λ yes. sum.0 (c.requires ∙ eqb-true _ _ yes)),
-      (λ all. eq-eqb _ _ (sym c.requires ∙ sum.1 all))
+      (λ all. eq-eqb _ _ (sym c.requires ∙ sum.1 all)),
     )

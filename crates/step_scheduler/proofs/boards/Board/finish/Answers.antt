@@ -10,8 +10,11 @@ pub push_reserved-requires : goal.push_reserved-requires
 push_reserved-requires c =
     let under_way = rw c.as_slice.ensures.value at (c.if-not-is_under_way.ensures.0 refl) in
     let job : c.args.finished.job ≡ arc_value c.self.inside.job = c.requires ∙ sym (ap (λ (b : BoardView). b.job) c.self.view_is) in
-    let step = rw (job, ← c.into_parts-step.ensures.step,
-        ← c.self.invariant.counted_board.board.long) at c.into_parts-step.ensures.in_range in
+    let step = rw (
+      job,
+      ← c.into_parts-step.ensures.step,
+      ← c.self.invariant.counted_board.board.long,
+    ) at c.into_parts-step.ensures.in_range in
     let room = has_room _ _ _ _ _ c.self.invariant.counted_board.board step under_way.1 in
     omega arith
 
@@ -19,8 +22,11 @@ pub invariant_of-self : goal.invariant_of-self
 invariant_of-self c =
     let under_way = rw c.as_slice.ensures.value at (c.if-not-is_under_way.ensures.0 refl) in
     let job : c.args.finished.job ≡ arc_value c.self.inside.job = c.requires ∙ sym (ap (λ (b : BoardView). b.job) c.self.view_is) in
-    let step = rw (job, ← c.into_parts-step.ensures.step,
-        ← c.self.invariant.counted_board.board.long) at c.into_parts-step.ensures.in_range in
+    let step = rw (
+      job,
+      ← c.into_parts-step.ensures.step,
+      ← c.self.invariant.counted_board.board.long,
+    ) at c.into_parts-step.ensures.in_range in
     let right = rw (c.in-Some.is, ← c.into_parts-step.ensures.step, job) at c.into_parts-step.ensures.right in
     let users = rw (c.plan.ensures.plan, c.deref.ensures) at c.users.ensures in
     rw (c.push_reserved.ensures.items, c.push_reserved.ensures.capacity)
@@ -40,17 +46,23 @@ pub release-requires-clause-positive : goal.release-requires-clause-positive
 release-requires-clause-positive c =
     let under_way = rw c.as_slice.ensures.value at (c.if-not-is_under_way.ensures.0 refl) in
     let job : c.args.finished.job ≡ arc_value c.self.inside.job = c.requires ∙ sym (ap (λ (b : BoardView). b.job) c.self.view_is) in
-    let step = rw (job, ← c.into_parts-step.ensures.step,
-        ← c.self.invariant.counted_board.board.long) at c.into_parts-step.ensures.in_range in
+    let step = rw (
+      job,
+      ← c.into_parts-step.ensures.step,
+      ← c.self.invariant.counted_board.board.long,
+    ) at c.into_parts-step.ensures.in_range in
     rw (c.users.ensures, c.plan.ensures.plan, c.deref.ensures)
-        (users_miss _ _ _ _ _ _ _ _ _ c.self.invariant.counted_board step under_way.1)
+    (users_miss _ _ _ _ _ _ _ _ _ c.self.invariant.counted_board step under_way.1)
 
 pub release-requires-clause-room : goal.release-requires-clause-room
 release-requires-clause-room c =
     let under_way = rw c.as_slice.ensures.value at (c.if-not-is_under_way.ensures.0 refl) in
     let job : c.args.finished.job ≡ arc_value c.self.inside.job = c.requires ∙ sym (ap (λ (b : BoardView). b.job) c.self.view_is) in
-    let step = rw (job, ← c.into_parts-step.ensures.step,
-        ← c.self.invariant.counted_board.board.long) at c.into_parts-step.ensures.in_range in
+    let step = rw (
+      job,
+      ← c.into_parts-step.ensures.step,
+      ← c.self.invariant.counted_board.board.long,
+    ) at c.into_parts-step.ensures.in_range in
     rw (c.users.ensures, c.plan.ensures.plan, c.deref.ensures) (users_fit _ _ _ _ _ _ _ _ _ c.self.invariant.counted_board step under_way.1)
 
 pub release-requires-clause-in_range : goal.release-requires-clause-in_range

@@ -10,7 +10,7 @@ returns c =
     let b = c.self.invariant.counted_board in
     let here : c.args.k < length (arc_value c.self.inside.job).set.plan = rw (← c.self.view_is) at c.requires in
     let read : c.index.result.now ≡ slice_index c.self.inside.missing.items c.args.k =
-        c.index.ensures ∙ get_or_default c.self.inside.missing.items c.args.k _ 0 (let l = b.counted.long in omega arith) in
+    c.index.ensures ∙ get_or_default c.self.inside.missing.items c.args.k _ 0 (let l = b.counted.long in omega arith) in
     rw (← c.self.view_is) (read ∙ b.counted.missing_is c.args.k here
-        ∙ open_is_unfinished c.self.inside.steps.items c.self.inside.history.items b.board.finished
+    ∙ open_is_unfinished c.self.inside.steps.items c.self.inside.history.items b.board.finished
     (inputs_at (arc_value c.self.inside.job).set.plan c.args.k))
