@@ -1,35 +1,64 @@
 //! The sums of the sixteen scenarios over the held contracts of a commodity (docs/METHOD.md, Scan).
-ghost use Rattle.std.specs.Prelude.{◌≡◌, ℕ, ◌+◌, ◌≤◌, ◌<◌, pos, ◌+ℤ◌, ◌*ℤ◌, slice_index_or, All, nat_abs};
-ghost use Rattle.span_tables.specs.declared.limits.TheConstants.{MAX_ARRAY_VALUE, MAX_NET, MAX_SUM, MAX_TERM, SCENARIOS};
+ghost use Rattle.std.specs.Prelude.{◌≡◌, ◌+◌, ◌≤◌, ◌+ℤ◌, ◌*ℤ◌, map, replicate, All, nat_abs};
+ghost use Rattle.std.specs.Simd.Lanes.{zip2};
+ghost use Rattle.span_tables.specs.declared.limits.TheConstants.{MAX_NET, MAX_SUM, MAX_TERM, SCENARIOS};
 ghost use Rattle.span_tables.specs.Accepted.{IsContract};
-ghost use Rattle.scan_risk.specs.Scenarios.{at_scenario, scenario_sums};
+ghost use Rattle.scan_risk.specs.Scenarios.{scenario_sums};
 
 use span_tables::held::Held;
 use span_tables::limits::SCENARIOS;
 use span_tables::records::Contract;
+use std::simd::i64x16;
 
-// What a net quantity adds to a sum, in minor units, at an array value for one contract.
-fn term(net: i64, value: i64) -> i64
-    requires net { nat_abs net ≤ MAX_NET }
-    requires value { nat_abs value ≤ MAX_ARRAY_VALUE }
-    ensures product { result ≡ net *ℤ value }
-    ensures bound { nat_abs result ≤ MAX_TERM }
+// A net quantity in each lane. The cast shows that it fits 32 bits: of such numbers the processor makes the products of
+// two lanes by one multiplication, and of numbers of 64 bits by three.
+fn net_lanes(net: i64) -> i64x16
+    requires { nat_abs net ≤ MAX_NET }
+    ensures { result ≡ replicate SCENARIOS net }
 {
-    net * value
+    i64x16::splat(i64::from(net as i32))
 }
 
-// Adds a net quantity of a contract to the sum of each scenario.
-fn add_contract(sums: &mut [i64; SCENARIOS], contract: &Contract, net: i64)
+// The array values of a contract, each in its lane. The casts show that they fit 32 bits, as a net quantity does.
+fn value_lanes(contract: &Contract) -> i64x16
+    requires { IsContract contract.now }
+    ensures { result ≡ (contract.now).values }
+{
+    i64x16::from_array(contract.values)
+        .cast::<i32>()
+        .cast::<i64>()
+}
+
+// What a net quantity of a contract adds to the sum of each scenario, in minor units.
+fn terms(contract: &Contract, net: i64) -> i64x16
     requires net { nat_abs net ≤ MAX_NET }
     requires contract { IsContract contract.now }
-    requires room { All (λ s. nat_abs s + MAX_TERM ≤ MAX_SUM) sums.old }
-    ensures added { (k : ℕ) → k < SCENARIOS → slice_index_or sums.new k (pos 0)
-        ≡ slice_index_or sums.old k (pos 0) +ℤ net *ℤ at_scenario (contract.now).values (k + 1) }
-    ensures bound { (b : ℕ) → All (λ s. nat_abs s ≤ b) sums.old → All (λ s. nat_abs s ≤ b + MAX_TERM) sums.new }
+    ensures value { result ≡ map (λ v. net *ℤ v) (contract.now).values }
+    ensures bound { All (λ t. nat_abs t ≤ MAX_TERM) result }
 {
-    for (scenario, sum) in sums.iter_mut().enumerate() {
-        *sum += term(net, contract.values[scenario]);
+    net_lanes(net).strict_mul(value_lanes(contract))
+}
+
+// The sum of each scenario with what a contract adds to it.
+fn with_terms(sums: i64x16, terms: i64x16) -> i64x16
+    requires room { All (λ s. nat_abs s + MAX_TERM ≤ MAX_SUM) sums }
+    requires terms { All (λ t. nat_abs t ≤ MAX_TERM) terms }
+    ensures { result ≡ zip2 (λ s t. s +ℤ t) sums terms }
+{
+    sums.strict_add(terms)
+}
+
+/// The sum of each scenario in a lane of its own, scenario 1 in the first: net quantity times array value over the held
+/// contracts, in minor units, where a loss is positive. A sum is at most `MAX_SUM` either way, so that no lane wraps.
+pub fn lane_sums(held: &Held) -> i64x16
+    ensures value { result ≡ scenario_sums held.now }
+    ensures bound { All (λ s. nat_abs s ≤ MAX_SUM) result }
+{
+    let mut sums = i64x16::splat(0);
+    for place in 0..held.len() {
+        sums = with_terms(sums, terms(held.contract(place), held.net(place)));
     }
+    sums
 }
 
 /// The sum of each scenario, from 1 to 16: net quantity times array value over the held contracts, in minor units, where
@@ -38,9 +67,5 @@ pub fn sums(held: &Held) -> [i64; SCENARIOS]
     ensures value { result ≡ scenario_sums held.now }
     ensures bound { All (λ s. nat_abs s ≤ MAX_SUM) result }
 {
-    let mut sums = [0; SCENARIOS];
-    for place in 0..held.len() {
-        add_contract(&mut sums, held.contract(place), held.net(place));
-    }
-    sums
+    lane_sums(held).to_array()
 }

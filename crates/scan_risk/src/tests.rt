@@ -3,7 +3,7 @@ ghost use Rattle.std.specs.Prelude.{IfSome, IfOk};
 ghost use Rattle.span_tables.specs.Accepted.{IsContract};
 
 use crate::scanning::scan;
-use crate::scenarios::sums;
+use crate::scenarios::{lane_sums, sums};
 use span_money::amounts::{Delta, Scale};
 use span_tables::held::Held;
 use span_tables::limits::SCENARIOS;
@@ -30,6 +30,38 @@ fn future(id: &[u8]) -> Option<Contract>
     })
 }
 
+// A future of the largest array values: a gain in scenarios 1 and 2, and a loss in the others.
+fn largest(id: &[u8]) -> Option<Contract>
+    ensures { IfSome result (λ contract. IsContract contract) }
+{
+    Some(Contract {
+        id: Name::new(id)?,
+        commodity: Name::new(b"AA")?,
+        kind: ProductKind::Future,
+        month: 202_503,
+        delta: Delta::new(10_000),
+        scale: Scale::new(100_000),
+        values: [
+            -100_000_000,
+            -100_000_000,
+            100_000_000,
+            100_000_000,
+            100_000_000,
+            100_000_000,
+            100_000_000,
+            100_000_000,
+            100_000_000,
+            100_000_000,
+            100_000_000,
+            100_000_000,
+            100_000_000,
+            100_000_000,
+            100_000_000,
+            100_000_000,
+        ],
+    })
+}
+
 #[test]
 fn sums_held_contracts(rt: HostRuntime) -> Result<(), Fail> {
     let near = future(b"FA").ok_or("name")?;
@@ -45,13 +77,34 @@ fn sums_held_contracts(rt: HostRuntime) -> Result<(), Fail> {
             net: -4
         },
     ]?;
-    let sums = sums(&Held::new(contracts, holdings));
-    assert_eq!(rt;
-        sums,
-        [
-            0, 0, 400, 400, -400, -400, 800, 800, -800, -800, 1200, 1200, -1200, -1200, 1188, -1188
-        ]
-    );
+    let held = Held::new(contracts, holdings);
+    let wanted = [
+        0, 0, 400, 400, -400, -400, 800, 800, -800, -800, 1200, 1200, -1200, -1200, 1188, -1188,
+    ];
+    assert_eq!(rt; sums(&held), wanted);
+    assert_eq!(rt; lane_sums(&held).to_array(), wanted);
+    Ok(())
+}
+
+#[test]
+fn sums_of_the_largest(rt: HostRuntime) -> Result<(), Fail> {
+    let long = largest(b"LA").ok_or("name")?;
+    let short = largest(b"LB").ok_or("name")?;
+    let contracts = Arc::new(rt.alloc(), vec![in rt.alloc(); long, short]?)?;
+    let holdings = vec![in rt.alloc();
+        Holding {
+            contract: 0,
+            net: -100_000
+        },
+        Holding {
+            contract: 1,
+            net: -99_999
+        },
+    ]?;
+    let held = Held::new(contracts, holdings);
+    let lanes = lane_sums(&held).to_array();
+    assert_eq!(rt; lanes[0], 19_999_900_000_000);
+    assert_eq!(rt; lanes[15], -19_999_900_000_000);
     Ok(())
 }
 
