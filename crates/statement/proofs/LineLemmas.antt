@@ -6,7 +6,7 @@ use Rattle.std.specs.List.{join_with_byte}
 use Rattle.std.proofs.lemmas.List.{append_assoc, append-nil}
 use Rattle.statement.specs.steps.LineForms.{field, figures_form, total_form}
 use Rattle.statement.specs.Statement.{figures_line, total_line}
-use Rattle.statement.specs.declared.rows.CommodityRow.{CommodityRow}
+use Rattle.plan_ir.specs.declared.figures.Figures.{Figures}
 
 -- fields with a comma between each two are the first one, and each other one with its comma in front
 pub joined : (first : List ℕ) (rest : List (List ℕ)) → join_with_byte 44 (first ∷ rest) ≡ first ++ flat_map field rest
@@ -19,14 +19,14 @@ three_and_more x a s c more e = simp append_assoc refl
 two_and_more : (x : ℕ) (a s more e : List ℕ) → (x ∷ (a ++ s)) ++ more ++ e ≡ (x ∷ (a ++ (s ++ (more ++ [])))) ++ e
 two_and_more x a s more e = simp (append_assoc, append-nil) refl
 
-pub figures_form_is : (account set_id : List ℕ) (c : CommodityRow) → figures_form account set_id c ≡ figures_line account set_id c
+pub figures_form_is : (account set_id commodity : List ℕ) (f : Figures)
+    → figures_form account set_id commodity f ≡ figures_line account set_id commodity f
 unfolding figures_form figures_line
-figures_form_is account set_id c =
-    let f = c.figures in
+figures_form_is account set_id commodity f =
     let texts = signed_decimal f.scan ∷ decimal f.active ∷ signed_decimal f.intra ∷ signed_decimal f.delivery
     ∷ signed_decimal f.credit ∷ signed_decimal f.minimum ∷ signed_decimal f.requirement ∷ [] in
-    three_and_more 82 (field account) (field set_id) (field c.commodity) (flat_map field texts) (10 ∷ [])
-    ∙ ap (λ t. t ++ 10 ∷ []) (sym (joined (82 ∷ []) (account ∷ set_id ∷ c.commodity ∷ texts)))
+    three_and_more 82 (field account) (field set_id) (field commodity) (flat_map field texts) (10 ∷ [])
+    ∙ ap (λ t. t ++ 10 ∷ []) (sym (joined (82 ∷ []) (account ∷ set_id ∷ commodity ∷ texts)))
 
 pub total_form_is : (account set_id : List ℕ) (total : ℤ) → total_form account set_id total ≡ total_line account set_id total
 unfolding total_form total_line

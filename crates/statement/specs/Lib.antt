@@ -1,11 +1,8 @@
 pub mod Answers
-pub mod Bounds
 pub mod Counts
 pub mod Listing
 pub mod FaultLines
-pub mod Figures
 pub mod OnLiterals
-pub mod Rows
 pub mod Samples
 pub mod SpanFaults
 pub mod Statement

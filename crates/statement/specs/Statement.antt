@@ -1,18 +1,16 @@
 -- The text of a statement, from the bytes of both files.
-use Rattle.std.specs.Prelude.{ℕ, List, [], ◌∷◌, ◌++◌, map, filter, flat_map, codes, ℤ, decimal, Result, Ok, Err}
-use Rattle.std.specs.List.{enumerate_from, join_with_byte}
+use Rattle.std.specs.Prelude.{ℕ, List, [], ◌∷◌, ◌++◌, flat_map, codes, ℤ, decimal, length, Result, Ok, Err}
+use Rattle.std.specs.Prelude.{if◌then◌else◌}
+use Rattle.std.specs.List.{join_with_byte, range_with_len}
 use Rattle.std.specs.Fmt.{signed_decimal}
-use Rattle.span_money.specs.Numbers.{int_sum_by}
 use Rattle.span_csv.specs.ParamFaults.{params_of}
 use Rattle.span_csv.specs.PositionFaults.{positions_of}
 use Rattle.param_check.specs.CheckFaults.{checked}
 use Rattle.span_tables.specs.Tables.{AcceptedTables}
 use Rattle.span_tables.specs.Net.{AccountHoldings}
 use Rattle.param_check.specs.Binding.{bindings_of}
-use Rattle.statement.specs.Figures.{is_held_in, figures_of}
-use Rattle.statement.specs.Rows.{RowView}
-use Rattle.span_tables.specs.declared.portfolios.Holding.{Holding}
-use Rattle.statement.specs.declared.rows.CommodityRow.{CommodityRow}
+use Rattle.plan_ir.specs.Figures.{commodity_at, figures_of, is_held, total_to}
+use Rattle.plan_ir.specs.declared.figures.Figures.{Figures}
 use Rattle.statement.specs.declared.faults.SpanFault.{SpanFault}
 use Rattle.statement.specs.declared.faults.SpanFault.TheVariants as fault
 
@@ -22,46 +20,35 @@ use Rattle.statement.specs.declared.faults.SpanFault.TheVariants as fault
 abbrev pub line : List (List ℕ) → List ℕ
 line fields = join_with_byte 44 fields ++ (10 ∷ [])
 
--- the line of a commodity's figures, under the ids of the account and of the set
-unfoldable pub figures_line : List ℕ → List ℕ → CommodityRow → List ℕ
-figures_line account set_id c =
-    let f = c.figures in
-    line (codes "R" ∷ account ∷ set_id ∷ c.commodity ∷ signed_decimal f.scan ∷ decimal f.active ∷ signed_decimal f.intra
+-- the line of a commodity's figures, under the ids of the account, the set and the commodity
+unfoldable pub figures_line : List ℕ → List ℕ → List ℕ → Figures → List ℕ
+figures_line account set_id commodity f =
+    line (codes "R" ∷ account ∷ set_id ∷ commodity ∷ signed_decimal f.scan ∷ decimal f.active ∷ signed_decimal f.intra
     ∷ signed_decimal f.delivery ∷ signed_decimal f.credit ∷ signed_decimal f.minimum ∷ signed_decimal f.requirement ∷ [])
 
 -- the line of an account's total
 unfoldable pub total_line : List ℕ → List ℕ → ℤ → List ℕ
 total_line account set_id total = line (codes "T" ∷ account ∷ set_id ∷ signed_decimal total ∷ [])
 
--- the lines of a row: the figures of each commodity that it has, and its total
-unfoldable pub row_text : RowView → List ℕ
-row_text row = flat_map (figures_line row.account row.set_id) row.held ++ total_line row.account row.set_id row.total
-
--- ---- the row of an account
+-- the line of an account for the commodity of a number, where it holds a contract of it
+abbrev pub commodity_text : AcceptedTables → AccountHoldings → ℕ → List ℕ
+commodity_text t p c =
+    if is_held t p.holdings c
+    then figures_line p.account t.set_id (commodity_at t c).id (figures_of t p.holdings c)
+    else []
 
 -- the total of an account: the sum of the requirements of all commodities
-unfoldable pub total_of : AcceptedTables → List Holding → ℤ
-total_of tables holdings =
-    int_sum_by (λ numbered. (figures_of tables holdings numbered).requirement) (enumerate_from 0 tables.commodities)
+abbrev pub total_of : AcceptedTables → AccountHoldings → ℤ
+total_of t p = total_to t p.holdings (length t.commodities)
 
--- the figures of an account in each commodity that it holds, in file order
-unfoldable pub held_figures : AcceptedTables → List Holding → List CommodityRow
-held_figures tables holdings =
-    map (λ numbered. record { commodity = (numbered.1).id; figures = figures_of tables holdings numbered })
-    (filter (λ numbered. is_held_in tables holdings numbered.1) (enumerate_from 0 tables.commodities))
-
--- the row of an account
-abbrev pub row_of : AcceptedTables → AccountHoldings → RowView
-row_of tables p = record {
-  account = p.account;
-  set_id = tables.set_id;
-  held = held_figures tables p.holdings;
-  total = total_of tables p.holdings;
-}
+-- the lines of an account: its figures in each commodity that it holds, in file order, and its total
+unfoldable pub row_text : AcceptedTables → AccountHoldings → List ℕ
+row_text t p =
+    flat_map (commodity_text t p) (range_with_len 0 (length t.commodities)) ++ total_line p.account t.set_id (total_of t p)
 
 -- the statement of some portfolios, in their order
 unfoldable pub statement_text : AcceptedTables → List AccountHoldings → List ℕ
-statement_text tables portfolios = flat_map (λ p. row_text (row_of tables p)) portfolios
+statement_text t portfolios = flat_map (row_text t) portfolios
 
 -- ---- from bytes to bytes
 

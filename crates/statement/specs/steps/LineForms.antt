@@ -2,8 +2,7 @@
 use Rattle.std.specs.Prelude.{ℕ, List, [], ◌∷◌, ◌++◌, codes, flat_map, length, ℤ, pos}
 use Rattle.std.specs.Fmt.{signed_decimal}
 use Rattle.span_tables.specs.Tables.{AcceptedTables}
-use Rattle.statement.specs.declared.rows.CommodityRow.{CommodityRow}
-use Rattle.statement.specs.declared.figures.Figures.{Figures}
+use Rattle.plan_ir.specs.declared.figures.Figures.{Figures}
 
 -- a comma, and the bytes of a field
 abbrev pub field : List ℕ → List ℕ
@@ -18,9 +17,9 @@ abbrev pub figures_fields : Figures → List ℕ
 figures_fields f = flat_map number (f.scan ∷ pos f.active ∷ f.intra ∷ f.delivery ∷ f.credit ∷ f.minimum ∷ f.requirement ∷ [])
 
 -- the line of a commodity's figures: 82 is `R`
-unfoldable pub figures_form : List ℕ → List ℕ → CommodityRow → List ℕ
-figures_form account set_id c =
-    ((82 ∷ (field account ++ field set_id)) ++ field c.commodity) ++ figures_fields c.figures ++ 10 ∷ []
+unfoldable pub figures_form : List ℕ → List ℕ → List ℕ → Figures → List ℕ
+figures_form account set_id commodity f =
+    ((82 ∷ (field account ++ field set_id)) ++ field commodity) ++ figures_fields f ++ 10 ∷ []
 
 -- the line of an account's total: 84 is `T`
 unfoldable pub total_form : List ℕ → List ℕ → ℤ → List ℕ
