@@ -1,0 +1,4 @@
+//! Rows: what a complete run gives for an account.
+#![tactic(auto)]
+
+pub mod rows;
