@@ -2,3 +2,5 @@
 #![tactic(auto)]
 
 pub mod rows;
+#[cfg(test)]
+mod tests;
