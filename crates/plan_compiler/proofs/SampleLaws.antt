@@ -1,4 +1,4 @@
--- The tests' two commodities are readable and keep the rules.
+-- The two commodities of the tests are readable and keep the rules.
 use Rattle.std.proofs.Common.{◌≡◌, true, refl}
 use Rattle.span_tables.specs.Limits.{is_readable}
 use Rattle.span_tables.specs.Rules.{keeps_rules}

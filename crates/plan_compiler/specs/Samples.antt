@@ -1,9 +1,12 @@
--- Parameter files that the worked plans and the tests are of.
-use Rattle.std.specs.Prelude.{ℕ, List, [], ◌∷◌, ◌++◌, codes}
+-- Parameter files and accounts that the worked plans and the tests are of.
+use Rattle.std.specs.Prelude.{ℕ, List, [], ◌∷◌, ◌++◌, codes, neg_ℤ, pos}
+use Rattle.span_tables.specs.Net.{AccountHoldings}
 use Rattle.span_tables.specs.declared.records.MinimumMethod.TheVariants as method
+use Rattle.span_tables.specs.declared.records.ProductKind.TheVariants as product
 use Rattle.span_tables.specs.declared.records.Side.TheVariants as side
 use Rattle.span_tables.specs.declared.records.Record.{Record}
 use Rattle.span_tables.specs.declared.records.Record.TheVariants as record_of
+use Rattle.plan_compiler.specs.declared.samples.TheConstants.{FUTURE_VALUES}
 
 -- a set alone
 abbrev pub set_alone : List Record
@@ -13,12 +16,30 @@ set_alone = record_of.Set (record { id = codes "D1"; currency = codes "USD" }) �
 abbrev pub set_alone_lines : List ℕ
 set_alone_lines = codes "0 InterStart()\n1 TotalStart()\n"
 
--- a set with two commodities, and a spread of one against the other
+-- a set with two commodities, a future of each, and a spread of one against the other
 abbrev pub two_commodities : List Record
 two_commodities =
     record_of.Set (record { id = codes "D1"; currency = codes "USD" })
     ∷ record_of.Commodity (record { id = codes "AA"; minimum_rate = 0; method = method.Sum })
     ∷ record_of.Commodity (record { id = codes "BB"; minimum_rate = 0; method = method.Sum })
+    ∷ record_of.Contract (record {
+      id = codes "FA";
+      commodity = codes "AA";
+      kind = product.Future;
+      month = 202503;
+      delta = pos 10000;
+      scale = 10000;
+      values = FUTURE_VALUES;
+    })
+    ∷ record_of.Contract (record {
+      id = codes "FB";
+      commodity = codes "BB";
+      kind = product.Future;
+      month = 202503;
+      delta = pos 10000;
+      scale = 10000;
+      values = FUTURE_VALUES;
+    })
     ∷ record_of.Inter (record {
       priority = 1;
       basis_points = 5000;
@@ -39,3 +60,13 @@ two_commodities_lines =
     ++ codes "13 Delivery(1) 11 12\n14 Minimum(1) 8\n15 Final(1) 10 12 13 14 19\n"
     ++ codes "16 InterStart()\n17 InterLoad(0) 16 3 2\n18 InterLoad(1) 17 11 10\n19 InterSpread(0) 18\n"
     ++ codes "20 TotalStart()\n21 TotalAdd(0) 20 7\n22 TotalAdd(1) 21 15\n"
+
+-- an account in both futures, and one in the second alone
+abbrev pub two_accounts : List AccountHoldings
+two_accounts =
+    record {
+      account = codes "X";
+      holdings = record { contract = 0; net = pos 3 } ∷ record { contract = 1; net = neg_ℤ (pos 2) } ∷ [];
+    }
+    ∷ record { account = codes "Y"; holdings = record { contract = 1; net = pos 5 } ∷ [] }
+    ∷ []

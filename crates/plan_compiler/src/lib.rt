@@ -5,6 +5,7 @@ pub mod laws;
 pub mod layout;
 pub mod nothing;
 mod operations;
+pub mod samples;
 pub mod set;
 #[cfg(test)]
 mod tests;

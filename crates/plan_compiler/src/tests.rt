@@ -1,107 +1,13 @@
 //! Tests of what no clause says: that the calls succeed where there is memory.
-ghost use Rattle.std.specs.Prelude.{◌≡◌, [], ◌∷◌, codes, IfOk};
-ghost use Rattle.span_tables.specs.Tables.{tables_of};
-ghost use Rattle.span_tables.specs.declared.records.MinimumMethod.TheVariants as method;
-ghost use Rattle.span_tables.specs.declared.records.Side.TheVariants as side;
-ghost use Rattle.span_tables.specs.declared.records.Record.TheVariants as record_of;
-ghost use Rattle.plan_compiler.specs.Samples.{two_commodities};
-
 use crate::nothing::NothingHeld;
-use crate::set::compile;
-use arrayvec::ArrayVec;
+use crate::samples::{two_commodity_set, two_commodity_tables};
 use plan_ir::ops::Op;
-use span_money::amounts::Ratio;
-use span_tables::name::Name;
-use span_tables::raw::RawTables;
-use span_tables::records::{
-    Commodity, InterLeg, InterRecord, MinimumMethod, Record, SetRecord, Side,
-};
-use span_tables::tables::Tables;
-use std::alloc::{AllocError, Global};
-use std::process::Abort;
 use std::test::Fail;
-
-fn name(rt: &impl Abort, text: &[u8]) -> Name
-    ensures { result ≡ text.now }
-{
-    Name::new(text).expect(rt, "a name")
-}
-
-fn set(rt: &impl Abort) -> Record
-    ensures { result ≡ record_of.Set (record { id = codes "D1"; currency = codes "USD" }) }
-{
-    Record::Set(SetRecord {
-        id: name(rt, b"D1"),
-        currency: *b"USD",
-    })
-}
-
-fn commodity(rt: &impl Abort, id: &[u8]) -> Record
-    ensures { result ≡ record_of.Commodity (record { id = id.now; minimum_rate = 0; method = method.Sum }) }
-{
-    Record::Commodity(Commodity {
-        id: name(rt, id),
-        minimum_rate: 0,
-        method: MinimumMethod::Sum,
-    })
-}
-
-fn inter(rt: &impl Abort) -> Record
-    ensures { result ≡ record_of.Inter
-        (record {
-          priority = 1;
-          basis_points = 5000;
-          legs = record {
-            items = record { commodity = codes "AA"; side = side.A; ratio = 10000 }
-                ∷ record { commodity = codes "BB"; side = side.B; ratio = 10000 } ∷ [];
-          };
-        }) }
-{
-    let ratio = Ratio::new(10_000);
-    let mut legs = ArrayVec::new();
-    legs.push(InterLeg {
-        commodity: name(rt, b"AA"),
-        side: Side::A,
-        ratio,
-    });
-    legs.push(InterLeg {
-        commodity: name(rt, b"BB"),
-        side: Side::B,
-        ratio,
-    });
-    Record::Inter(InterRecord {
-        priority: 1,
-        basis_points: 5000,
-        legs,
-    })
-}
-
-fn two_commodities(alloc: Global, rt: &impl Abort) -> Result<Vec<Record>, AllocError>
-    ensures { IfOk result (λ records. records.items ≡ two_commodities) }
-{
-    Ok(Vec::from_array(
-        alloc,
-        [
-            set(rt),
-            commodity(rt, b"AA"),
-            commodity(rt, b"BB"),
-            inter(rt),
-        ],
-    )?)
-}
-
-fn two_commodity_tables(alloc: Global, rt: &impl Abort) -> Result<Tables, AllocError>
-    ensures { IfOk result (λ tables. tables ≡ tables_of two_commodities) }
-{
-    let records = two_commodities(alloc, rt)?;
-    Tables::new(alloc, RawTables::new(records))
-}
 
 #[test]
 fn plan_of_two_commodities(rt: HostRuntime) -> Result<(), Fail> {
     let alloc = rt.alloc();
-    let tables = two_commodity_tables(alloc, &rt)?;
-    let set = compile(alloc, tables)?;
+    let set = two_commodity_set(alloc)?;
     assert_eq!(rt; set.tables().set_id().as_bytes(), b"D1".as_slice());
     assert_eq!(rt; set.tables().commodities().len(), 2);
     assert_eq!(rt; set.gather_step(1), 8);
@@ -126,7 +32,7 @@ fn plan_of_two_commodities(rt: HostRuntime) -> Result<(), Fail> {
 #[test]
 fn nothing_held(rt: HostRuntime) -> Result<(), Fail> {
     let alloc = rt.alloc();
-    let tables = two_commodity_tables(alloc, &rt)?;
+    let tables = two_commodity_tables(alloc)?;
     let nothing = NothingHeld::new(alloc, &tables)?;
     assert!(rt; nothing.held().held().is_empty());
     assert_eq!(rt; nothing.sums().sums(), &[0; 16]);

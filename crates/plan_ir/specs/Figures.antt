@@ -1,5 +1,5 @@
 -- The seven figures of a commodity and the total, of accepted tables and what an account holds.
-use Rattle.std.specs.Prelude.{ℕ, List, [], length, map, slice_index_or, ℤ, pos}
+use Rattle.std.specs.Prelude.{ℕ, Bool, not, ◌==◌, List, [], length, map, slice_index_or, ℤ, pos}
 use Rattle.std.specs.List.{range_with_len}
 use Rattle.span_money.specs.Numbers.{int_sum_by}
 use Rattle.span_tables.specs.Accepted.{commodity_id}
@@ -45,6 +45,10 @@ spots_at t c = spots_of t (commodity_id t c)
 -- the held contracts
 abbrev pub held_at : AcceptedTables → List Holding → ℕ → List HeldContract
 held_at t holdings c = held_of t.contracts holdings (commodity_id t c)
+
+-- the account holds a contract of it
+abbrev pub is_held : AcceptedTables → List Holding → ℕ → Bool
+is_held t holdings c = not (length (held_at t holdings c) == 0)
 
 -- the scan of the scenario sums
 abbrev pub scan_at : AcceptedTables → List Holding → ℕ → Scan

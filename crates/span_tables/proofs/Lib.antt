@@ -23,4 +23,5 @@ pub mod SampleLaws
 pub mod NameLemmas
 pub mod NumberedLaws
 pub mod GatherLemmas
+pub mod HeldFlags
 pub mod BoundLaws

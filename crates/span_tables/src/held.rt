@@ -1,5 +1,6 @@
 //! The contracts of one commodity that an account holds (docs/METHOD.md, "Positions").
-ghost use Rattle.std.specs.Prelude.{[], ◌≡◌, ◌==◌, ◌<◌, ◌≤◌, true, length, map, nat_abs, slice_get, All, IfOk, IfSome};
+ghost use Rattle.std.specs.Prelude.{[], ◌≡◌, ◌==◌, ◌<◌, ◌≤◌, ℕ, false, true, not, length, map, nat_abs, slice_get, slice_index_or};
+ghost use Rattle.std.specs.Prelude.{All, IfOk, IfSome};
 ghost use Rattle.std.specs.Arc.{arc_value};
 ghost use Rattle.span_tables.specs.Accepted.{IsContract, IsWithinLimits, commodity_id};
 ghost use Rattle.span_tables.specs.Holdings.{AreHeld, AreHoldings, fits};
@@ -175,4 +176,19 @@ pub fn gather_all(
 {
     let lists = holdings_by_commodity(alloc, tables, portfolio)?;
     as_held(alloc, tables, lists)
+}
+
+/// Which commodities an account holds a contract of, by the commodities' numbers, in one pass over the holdings. It takes
+/// no memory.
+pub fn held_commodities(tables: &Tables, portfolio: &Portfolio) -> [bool; MAX_COMMODITIES]
+    requires { fits (length tables.now.contracts) portfolio.now.holdings ≡ true }
+    ensures { (c : ℕ) → c < length tables.now.commodities → slice_index_or result c false
+        ≡ not (length (held_of tables.now.contracts portfolio.now.holdings (commodity_id tables.now c)) == 0) }
+{
+    let _limits = tables.commodities();
+    let mut held = [false; MAX_COMMODITIES];
+    for holding in portfolio.holdings() {
+        held[tables.commodity_of(holding.contract)] = true;
+    }
+    held
 }

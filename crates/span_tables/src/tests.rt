@@ -6,7 +6,7 @@ ghost use Rattle.span_tables.specs.declared.records.ProductKind.TheVariants as p
 ghost use Rattle.span_tables.specs.declared.records.Side.TheVariants as side;
 ghost use Rattle.span_tables.specs.declared.records.Record.TheVariants as record_of;
 
-use crate::held::gather;
+use crate::held::{gather, held_commodities};
 use crate::name::Name;
 use crate::portfolios::{Holding, Portfolio};
 use crate::raw::RawTables;
@@ -226,6 +226,8 @@ fn held_of_a_commodity(rt: HostRuntime) -> Result<(), Fail> {
     assert_eq!(rt; held.len(), 1);
     assert_eq!(rt; held.contract(0).id.as_bytes(), b"FB".as_slice());
     assert_eq!(rt; held.net(0), -3);
+    let flags = held_commodities(&tables, &portfolio);
+    assert!(rt; flags[0] && flags[1]);
     Ok(())
 }
 

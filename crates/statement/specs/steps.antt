@@ -1,2 +1,3 @@
 pub mod LineForms
 pub mod LineParts
+pub mod Rows

@@ -1,14 +1,16 @@
 //! The text of a statement.
 ghost use Rattle.statement.specs.steps.LineForms.{field, figures_fields, figures_form, number, total_form};
-ghost use Rattle.statement.specs.Statement.{figures_line, row_text, total_line};
-ghost use Rattle.std.specs.Prelude.{[], ◌++◌, ◌∷◌, ◌≡◌, IfOk, OnOk, flat_map};
+ghost use Rattle.statement.specs.Statement.{commodity_text, figures_line, row_text, total_line};
+ghost use Rattle.std.specs.Arc.{arc_value};
+ghost use Rattle.std.specs.Prelude.{[], ◌++◌, ◌∷◌, ◌≡◌, ◌<◌, IfOk, OnOk, flat_map, length, map};
 
-use crate::figures::Figures;
-use crate::rows::{CommodityRow, Row};
 use itoa::Buffer;
+use plan_ir::figures::Figures;
+use result_book::rows::Row;
 use span_money::amounts::Money;
 use span_tables::name::Name;
 use std::alloc::{AllocError, Global};
+use std::sync::Arc;
 
 // A comma and the bytes of a field.
 pub(crate) fn push_field(out: &mut Vec<u8>, text: &[u8]) -> Result<(), AllocError>
@@ -71,13 +73,15 @@ fn push_commodity_parts(
     out: &mut Vec<u8>,
     account: &Name,
     set_id: &Name,
-    row: &CommodityRow,
+    commodity: &Name,
+    figures: &Figures,
 ) -> Result<(), AllocError>
-    ensures { OnOk result (out.new.items ≡ out.old.items ++ figures_form account.now set_id.now row.now) }
+    ensures { OnOk result (out.new.items
+        ≡ out.old.items ++ figures_form account.now set_id.now commodity.now figures.now) }
 {
     push_start(out, b'R', account, set_id)?;
-    push_field(out, row.commodity.as_bytes())?;
-    push_figures(out, &row.figures)?;
+    push_field(out, commodity.as_bytes())?;
+    push_figures(out, figures)?;
     out.push(b'\n')?;
     Ok(())
 }
@@ -87,11 +91,26 @@ fn push_commodity(
     out: &mut Vec<u8>,
     account: &Name,
     set_id: &Name,
-    row: &CommodityRow,
+    commodity: &Name,
+    figures: &Figures,
 ) -> Result<(), AllocError>
-    ensures { OnOk result (out.new.items ≡ out.old.items ++ figures_line account.now set_id.now row.now) }
+    ensures { OnOk result (out.new.items
+        ≡ out.old.items ++ figures_line account.now set_id.now commodity.now figures.now) }
 {
-    push_commodity_parts(out, account, set_id, row)
+    push_commodity_parts(out, account, set_id, commodity, figures)
+}
+
+// The line of an account for the commodity of a number, where it holds a contract of it.
+fn push_held(out: &mut Vec<u8>, row: &Row, number: usize) -> Result<(), AllocError>
+    requires { number < length row.now.set.tables.commodities }
+    ensures { OnOk result (out.new.items
+        ≡ out.old.items ++ commodity_text row.now.set.tables row.now.portfolio number) }
+{
+    if !row.held(number) {
+        return Ok(());
+    }
+    let commodity = &row.set().tables().commodities()[number].id;
+    push_commodity(out, row.account(), row.set_id(), commodity, row.figures(number))
 }
 
 #[tactic(auto, unfolding(crate::specs::steps::LineForms::total_form))]
@@ -125,17 +144,17 @@ fn push_total(
 /// (docs/FORMATS.md, Statement).
 #[tactic(auto, unfolding(crate::specs::Statement::row_text))]
 pub fn push_row(out: &mut Vec<u8>, row: &Row) -> Result<(), AllocError>
-    ensures { OnOk result (out.new.items ≡ out.old.items ++ row_text row.now) }
+    ensures { OnOk result (out.new.items ≡ out.old.items ++ row_text row.now.set.tables row.now.portfolio) }
 {
-    for commodity in row.held() {
-        push_commodity(out, row.account(), row.set_id(), commodity)?;
+    for number in 0..row.set().tables().commodities().len() {
+        push_held(out, row, number)?;
     }
     push_total(out, row.account(), row.set_id(), row.total())
 }
 
-/// The statement of these accounts, in their order.
-pub fn write(alloc: Global, rows: &[Row]) -> Result<Vec<u8>, AllocError>
-    ensures { IfOk result (λ text. text.items ≡ flat_map row_text rows.now) }
+/// The statement of these rows, in their order. `Err` is want of memory.
+pub fn write(alloc: Global, rows: &[Arc<Row>]) -> Result<Vec<u8>, AllocError>
+    ensures { IfOk result (λ text. text.items ≡ flat_map (λ r. row_text r.set.tables r.portfolio) (map arc_value rows.now)) }
 {
     let mut out = Vec::new(alloc);
     for row in rows {

@@ -1,46 +1,65 @@
 //! From the bytes of both files to the bytes of a statement.
 ghost use Rattle.statement.specs.Answers.{GivesText};
-ghost use Rattle.statement.specs.Statement.{statement_of, statement_text, statement_under};
-ghost use Rattle.span_tables.specs.Holdings.{fits};
-ghost use Rattle.std.specs.Prelude.{◌≡◌, All, IfOk, length, true};
+ghost use Rattle.statement.specs.Statement.{statement_of, statement_under};
+ghost use Rattle.span_tables.specs.Net.{AccountHoldings};
+ghost use Rattle.plan_compiler.specs.Compiled.{SetView};
+ghost use Rattle.plan_compiler.specs.Places.{plan_of};
+ghost use Rattle.worker_pool.specs.Outcomes.{AreOutcomes};
+ghost use Rattle.statement.specs.steps.Rows.{rows_under};
+ghost use Rattle.std.specs.Arc.{arc_value};
+ghost use Rattle.std.specs.Prelude.{◌≡◌, IfOk, List, map};
 
-use crate::account::margin_account;
 use crate::faults::SpanFault;
-use crate::lines::push_row;
+use crate::lines::write;
 use param_check::binding::bind;
 use param_check::check::check;
+use plan_compiler::set::{CompiledSet, compile};
+use result_book::rows::Row;
 use span_csv::params::read_params;
 use span_csv::positions::read_positions;
-use span_tables::portfolios::Portfolios;
 use span_tables::tables::Tables;
 use std::alloc::{AllocError, Global};
+use std::sync::Arc;
+use worker_pool::outcomes::Outcome;
+use worker_pool::plain::run_plain;
 
-/// The statement of portfolios under accepted tables, in their order (docs/FORMATS.md, Statement).
-#[tactic(auto, unfolding(crate::specs::Statement::statement_text))]
-pub fn margin_portfolios(
-    alloc: Global,
-    tables: &Tables,
-    portfolios: &Portfolios,
-) -> Result<Vec<u8>, AllocError>
-    requires { All (λ p. fits (length tables.now.contracts) p.holdings ≡ true) portfolios.now }
-    ensures { IfOk result (λ text. text.items ≡ statement_text tables.now portfolios.now) }
+// Accepted tables with their plan, to be shared.
+fn compiled(alloc: Global, tables: Tables) -> Result<Arc<CompiledSet>, AllocError>
+    ensures { IfOk result (λ set. (arc_value set).tables ≡ tables) }
 {
-    let mut out = Vec::new(alloc);
-    for portfolio in portfolios.as_slice() {
-        let row = margin_account(alloc, tables, portfolio)?;
-        push_row(&mut out, &row)?;
-    }
-    Ok(out)
+    let set = compile(alloc, tables)?;
+    Ok(Arc::new(alloc, set)?)
 }
 
-// The statement of a position file under accepted tables, or its fault.
+// The rows of all outcomes; want of memory, where an account has none: a statement is whole, or not given.
+fn all_rows(alloc: Global, outcomes: Vec<Outcome>) -> Result<Vec<Arc<Row>>, AllocError>
+    ensures { IfOk result (λ rows. (set : SetView) (portfolios : List AccountHoldings)
+        → AreOutcomes set portfolios outcomes.items → map arc_value rows.items ≡ rows_under set portfolios) }
+{
+    let mut rows = Vec::with_capacity(alloc, outcomes.len())?;
+    for outcome in outcomes {
+        match outcome {
+            Outcome::Margined(row) => rows.push(row)?,
+            Outcome::NoMemory(_) => return Err(AllocError),
+        }
+    }
+    Ok(rows)
+}
+
+// The statement of a position file under a compiled set, or its fault.
 #[tactic(auto, unfolding(crate::specs::Statement::statement_under))]
-fn margin_positions(alloc: Global, tables: &Tables, positions: &[u8]) -> Result<Vec<u8>, SpanFault>
-    ensures { GivesText (λ text. text.items) result (statement_under tables.now positions.now) }
+fn margin_positions(
+    alloc: Global,
+    set: &Arc<CompiledSet>,
+    positions: &[u8],
+) -> Result<Vec<u8>, SpanFault>
+    ensures { GivesText (λ text. text.items) result (statement_under (arc_value set.now).tables positions.now) }
 {
     let positions = read_positions(alloc, positions)?;
-    let portfolios = bind(alloc, tables, &positions)?;
-    let text = margin_portfolios(alloc, tables, &portfolios)?;
+    let portfolios = bind(alloc, set.tables(), &positions)?;
+    let outcomes = run_plain(alloc, set, portfolios.into_vec())?;
+    let rows = all_rows(alloc, outcomes)?;
+    let text = write(alloc, &rows)?;
     Ok(text)
 }
 
@@ -52,5 +71,6 @@ pub fn margin_plain(alloc: Global, params: &[u8], positions: &[u8]) -> Result<Ve
 {
     let raw = read_params(alloc, params)?;
     let tables = check(alloc, raw)?;
-    margin_positions(alloc, &tables, positions)
+    let set = compiled(alloc, tables)?;
+    margin_positions(alloc, &set, positions)
 }

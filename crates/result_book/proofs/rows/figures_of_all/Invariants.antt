@@ -1,0 +1,8 @@
+use Rattle.std.proofs.Common.{◌≡◌, length}
+use Rattle.result_book.specs.steps.Kept.{AreFirstFigures}
+use Rattle.result_book.proofs.rows.figures_of_all.Given as goal
+
+abbrev pub invariant-loop-commodity : goal.invariant-loop-commodity
+invariant-loop-commodity l =
+    (length l.figures.items ≡ l.commodity)
+    × AreFirstFigures l.board.job.set.tables l.board.job.portfolio.holdings l.figures.items

@@ -1,0 +1,80 @@
+//! Batches on one thread: one board after another.
+ghost use Rattle.std.specs.Prelude.{◌≡◌, All, IfOk, length, true};
+ghost use Rattle.std.specs.Arc.{arc_value};
+ghost use Rattle.span_tables.specs.Holdings.{fits};
+ghost use Rattle.worker_pool.specs.Outcomes.{AreOutcomes, IsOutcome};
+
+use crate::outcomes::Outcome;
+use plan_compiler::set::CompiledSet;
+use result_book::rows::Row;
+use span_tables::portfolios::Portfolio;
+use std::alloc::{AllocError, Global};
+use std::sync::Arc;
+use step_scheduler::boards::Board;
+use step_scheduler::evaluation::evaluate;
+use step_scheduler::jobs::Job;
+
+// Runs a board until no step can be handed out: until it is complete, or has failed.
+fn run(alloc: Global, board: &mut Board) -> Result<(), AllocError>
+    ensures { board.new.job ≡ board.old.job }
+{
+    for _ in 0..board.job().plan().len() {
+        let Some(task) = board.take_ready(alloc)? else {
+            return Ok(());
+        };
+        if board.finish(evaluate(alloc, task)).is_err() {
+            return Ok(());
+        }
+    }
+    Ok(())
+}
+
+// The row of an account under a set. `Err` is want of memory.
+fn margined(
+    alloc: Global,
+    set: &Arc<CompiledSet>,
+    portfolio: Portfolio,
+    place: usize,
+) -> Result<Arc<Row>, AllocError>
+    requires { fits (length (arc_value set.now).tables.contracts) portfolio.holdings ≡ true }
+    ensures { IfOk result (λ row. arc_value row ≡ record { set = arc_value set.now; portfolio = portfolio }) }
+{
+    let job = Job::new(Arc::try_clone(set)?, portfolio, place);
+    let mut board = Board::new(alloc, Arc::new(alloc, job)?)?;
+    run(alloc, &mut board)?;
+    if !board.is_complete() {
+        return Err(AllocError);
+    }
+    Row::of(alloc, &board)
+}
+
+// The outcome of an account under a set.
+fn outcome_of(alloc: Global, set: &Arc<CompiledSet>, portfolio: Portfolio, place: usize) -> Outcome
+    requires { fits (length (arc_value set.now).tables.contracts) portfolio.holdings ≡ true }
+    ensures { IsOutcome (arc_value set.now) portfolio result }
+{
+    let account = portfolio.account().copied();
+    match margined(alloc, set, portfolio, place) {
+        Ok(row) => Outcome::Margined(row),
+        Err(_) => Outcome::NoMemory(account),
+    }
+}
+
+/// The outcomes of accounts under a set, in their order. The portfolios fit the set's tables.
+///
+/// One board runs after another, and each task is evaluated as soon as it is handed out. An account has `NoMemory` where
+/// its job, its board, a step or its row has no memory. `Err` is want of memory for the list of outcomes alone.
+pub fn run_plain(
+    alloc: Global,
+    set: &Arc<CompiledSet>,
+    portfolios: Vec<Portfolio>,
+) -> Result<Vec<Outcome>, AllocError>
+    requires { All (λ p. fits (length (arc_value set.now).tables.contracts) p.holdings ≡ true) portfolios.items }
+    ensures { IfOk result (λ outcomes. AreOutcomes (arc_value set.now) portfolios.items outcomes.items) }
+{
+    let mut outcomes = Vec::with_capacity(alloc, portfolios.len())?;
+    for (place, portfolio) in portfolios.into_iter().enumerate() {
+        outcomes.push(outcome_of(alloc, set, portfolio, place))?;
+    }
+    Ok(outcomes)
+}
