@@ -1,3 +1,4 @@
 pub mod CountLemmas
 pub mod FitLemmas
 pub mod LineLemmas
+pub mod OutcomeLemmas

@@ -1,9 +1,10 @@
 -- A line in its parts is the line of its fields.
-use Rattle.std.proofs.Common.{◌≡◌, ℕ, ℤ, List, [], ◌∷◌, ◌++◌, refl, sym, ap, ◌∙◌, flat_map}
+use Rattle.std.proofs.Common.{◌≡◌, ℕ, ℤ, List, [], ◌∷◌, ◌++◌, ◌+◌, refl, sym, ap, ◌∙◌, arith, flat_map}
 use Rattle.std.specs.Prelude.{decimal}
 use Rattle.std.specs.Fmt.{signed_decimal}
-use Rattle.std.specs.List.{join_with_byte}
-use Rattle.std.proofs.lemmas.List.{append_assoc, append-nil}
+use Rattle.std.specs.List.{join_with_byte, range_with_len}
+use Rattle.std.proofs.lemmas.List.FromFn.{map-range_with_len_more}
+use Rattle.std.proofs.lemmas.List.{append_assoc, append-nil, map-id}
 use Rattle.statement.specs.steps.LineForms.{field, figures_form, total_form}
 use Rattle.statement.specs.Statement.{figures_line, total_line}
 use Rattle.plan_ir.specs.declared.figures.Figures.{Figures}
@@ -33,3 +34,9 @@ unfolding total_form total_line
 total_form_is account set_id total =
     two_and_more 84 (field account) (field set_id) (field (signed_decimal total)) (10 ∷ [])
     ∙ ap (λ t. t ++ 10 ∷ []) (sym (joined (84 ∷ []) (account ∷ set_id ∷ signed_decimal total ∷ [])))
+
+-- one number more
+pub range_more : (n : ℕ) → range_with_len 0 (n + 1) ≡ range_with_len 0 n ++ n ∷ []
+range_more n =
+    sym (map-id (range_with_len 0 (n + 1))) ∙ map-range_with_len_more (λ k. k) 0 n n (omega arith)
+    ∙ ap (λ ns. ns ++ n ∷ []) (map-id (range_with_len 0 n))

@@ -15,17 +15,18 @@ ghost use Rattle.span_tables.specs.declared.records.PositionRecord.{PositionReco
 ghost use Rattle.span_tables.specs.declared.records.Record.{Record};
 ghost use Rattle.statement.specs.Answers.{is_memory};
 ghost use Rattle.statement.specs.FaultLines.{fault_line, fault_status, memory_line};
-ghost use Rattle.statement.specs.Rows.{RowView};
-ghost use Rattle.statement.specs.Statement.{figures_line, row_of, row_text, statement_of, statement_text, statement_under, total_line};
+ghost use Rattle.statement.specs.Statement.{commodity_text, row_text, statement_of, statement_text, statement_under, total_line, total_of};
 ghost use Rattle.statement.specs.declared.faults.SpanFault.{SpanFault};
 ghost use Rattle.statement.specs.declared.faults.SpanFault.TheVariants as fault;
-ghost use Rattle.std.specs.Prelude.{◌++◌, ◌≡◌, ◌∷◌, Err, List, Ok, [], flat_map, nat_eq, true, ℕ};
+ghost use Rattle.std.specs.Prelude.{◌++◌, ◌≡◌, ◌∷◌, Err, List, Ok, [], flat_map, length, nat_eq, true, ℕ};
+ghost use Rattle.std.specs.List.{range_with_len};
 
-/// An account's lines are those of its commodities and end with the line of its total.
+/// An account's lines are those of the commodities of which it holds a contract, and end with the line of its total.
+#[tactic(auto, unfolding(crate::specs::Statement::row_text))]
 pub fn lines_end_with_the_total()
-    ensures commodities { (row : RowView) → row_text row
-        ≡ flat_map (figures_line row.account row.set_id) row.held ++ total_line row.account row.set_id row.total }
-    ensures total_alone { (row : RowView) → row.held ≡ [] → row_text row ≡ total_line row.account row.set_id row.total }
+    ensures { (t : AcceptedTables) (p : AccountHoldings) → row_text t p
+        ≡ flat_map (commodity_text t p) (range_with_len 0 (length t.commodities))
+        ++ total_line p.account t.set_id (total_of t p) }
 {}
 
 /// No accounts give no bytes, and neither does an empty position file; the lines of some accounts do not depend on the
@@ -33,8 +34,7 @@ pub fn lines_end_with_the_total()
 pub fn accounts_stand_by_themselves()
     ensures none { (tables : AcceptedTables) → statement_text tables [] ≡ [] }
     ensures no_positions { (tables : AcceptedTables) → statement_under tables [] ≡ Ok [] }
-    ensures one { (tables : AcceptedTables) (p : AccountHoldings)
-        → statement_text tables (p ∷ []) ≡ row_text (row_of tables p) }
+    ensures one { (tables : AcceptedTables) (p : AccountHoldings) → statement_text tables (p ∷ []) ≡ row_text tables p }
     ensures in_order { (tables : AcceptedTables) (ps qs : List AccountHoldings)
         → statement_text tables (ps ++ qs) ≡ statement_text tables ps ++ statement_text tables qs }
 {}

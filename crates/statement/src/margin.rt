@@ -1,13 +1,9 @@
 //! From the bytes of both files to the bytes of a statement.
 ghost use Rattle.statement.specs.Answers.{GivesText};
 ghost use Rattle.statement.specs.Statement.{statement_of, statement_under};
-ghost use Rattle.span_tables.specs.Net.{AccountHoldings};
-ghost use Rattle.plan_compiler.specs.Compiled.{SetView};
-ghost use Rattle.plan_compiler.specs.Places.{plan_of};
-ghost use Rattle.worker_pool.specs.Outcomes.{AreOutcomes};
-ghost use Rattle.statement.specs.steps.Rows.{rows_under};
+ghost use Rattle.statement.specs.steps.Rows.{AreRows};
 ghost use Rattle.std.specs.Arc.{arc_value};
-ghost use Rattle.std.specs.Prelude.{◌≡◌, IfOk, List, map};
+ghost use Rattle.std.specs.Prelude.{◌≡◌, IfOk, map};
 
 use crate::faults::SpanFault;
 use crate::lines::write;
@@ -33,8 +29,7 @@ fn compiled(alloc: Global, tables: Tables) -> Result<Arc<CompiledSet>, AllocErro
 
 // The rows of all outcomes; want of memory, where an account has none: a statement is whole, or not given.
 fn all_rows(alloc: Global, outcomes: Vec<Outcome>) -> Result<Vec<Arc<Row>>, AllocError>
-    ensures { IfOk result (λ rows. (set : SetView) (portfolios : List AccountHoldings)
-        → AreOutcomes set portfolios outcomes.items → map arc_value rows.items ≡ rows_under set portfolios) }
+    ensures { IfOk result (λ rows. AreRows outcomes.items (map arc_value rows.items)) }
 {
     let mut rows = Vec::with_capacity(alloc, outcomes.len())?;
     for outcome in outcomes {

@@ -1,12 +1,8 @@
-//! Statements, lines of rows and lines of faults, also where memory or room is refused.
+//! Statements and lines of faults, also where memory or room is refused.
 use crate::faults::{SpanFault, status, tell_fault, write_fault};
-use crate::figures::Figures;
-use crate::lines::write;
 use crate::margin::margin_plain;
-use crate::rows::{CommodityRow, Row};
 use param_check::faults::{BindFault, CheckFault};
 use span_csv::faults::{ParamFault, PositionFault};
-use span_money::amounts::Money;
 use span_tables::name::Name;
 use span_told::Told;
 use std::alloc::Global;
@@ -32,14 +28,17 @@ const POSITIONS: &[u8] = b"\
 X,FA,3
 X,FA2,-2
 X,FB,-3
+Y,FA,1
+Y,FA,-1
 ";
 
 // AA: a net delta of 1 at 1200; two spreads at 250; one month left at 20 and two spreads of it at 10; half of 1200.
-// BB: three deltas at 900, of which one earns half.
+// BB: three deltas at 900, of which one earns half. Y holds nothing in the end.
 const STATEMENT: &[u8] = b"\
 R,X,D1,AA,1200,13,500,40,600,0,1140
 R,X,D1,BB,2700,11,0,0,450,0,2250
 T,X,D1,3390
+T,Y,D1,0
 ";
 
 // The set has a commodity twice.
@@ -90,35 +89,6 @@ fn faults_or_want_of_memory(rt: HostRuntime) {
     assert!(rt; is_refused(alloc, REPEATED, b"?", &repeated));
     assert!(rt; is_refused(alloc, PARAMS, b"X,FZ,1\nX,FA\n", &two_fields));
     assert!(rt; is_refused(alloc, PARAMS, b"X,FA,1\nY,FZ,1\n", &unknown));
-}
-
-// An account with one commodity, and one without any.
-#[test]
-fn lines_of_rows(rt: HostRuntime) -> Result<(), Fail> {
-    let alloc = rt.alloc();
-    let figures = Figures {
-        scan: Money::new(1200),
-        active: 13,
-        intra: Money::new(500),
-        delivery: Money::new(40),
-        credit: Money::new(7),
-        minimum: Money::new(0),
-        requirement: Money::new(1733),
-    };
-    let mut held = Vec::new(alloc);
-    held.push(CommodityRow {
-        commodity: name(b"AA"),
-        figures,
-    })?;
-    let mut rows = Vec::new(alloc);
-    rows.push(Row::new(name(b"X-1"), name(b"D_1"), held, Money::new(1733)))?;
-    rows.push(Row::new(name(b"Y"), name(b"D_1"), Vec::new(alloc), Money::new(-5)))?;
-    let text = write(alloc, rows.as_slice())?;
-    assert_eq!(rt;
-        text.as_slice(),
-        b"R,X-1,D_1,AA,1200,13,500,40,7,0,1733\nT,X-1,D_1,1733\nT,Y,D_1,-5\n".as_slice()
-    );
-    Ok(())
 }
 
 // The line and the exit status of a fault.

@@ -67,17 +67,14 @@ fn statuses()
 
 // The line of a commodity and that of a total.
 fn lines_of_a_row()
-    ensures figures { figures_line (codes "X-1") (codes "D_1") (record {
-      commodity = codes "AA";
-      figures = record {
-        scan = pos 1200;
-        active = 13;
-        intra = pos 500;
-        delivery = pos 40;
-        credit = pos 7;
-        minimum = pos 0;
-        requirement = pos 1733;
-      };
+    ensures figures { figures_line (codes "X-1") (codes "D_1") (codes "AA") (record {
+      scan = pos 1200;
+      active = 13;
+      intra = pos 500;
+      delivery = pos 40;
+      credit = pos 7;
+      minimum = pos 0;
+      requirement = pos 1733;
     })
         ≡ codes "R,X-1,D_1,AA,1200,13,500,40,7,0,1733\n" }
     ensures total { total_line (codes "X-1") (codes "D_1") (pos 1733) ≡ codes "T,X-1,D_1,1733\n" }

@@ -1,0 +1,47 @@
+-- The rows of outcomes, and the statement that they give.
+use Rattle.std.proofs.Common.{◌≡◌, ◌∙◌, List, [], ◌∷◌, ◌++◌, map, flat_map, refl, sym, ap}
+use Rattle.std.specs.Arc.{arc_value}
+use Rattle.std.proofs.lemmas.List.Concat.{flat_map-cons}
+use Rattle.std.specs.declared.alloc.Global.{Global}
+use Rattle.std.specs.declared.sync.Arc.{Arc}
+use Rattle.span_tables.specs.Net.{AccountHoldings}
+use Rattle.plan_compiler.specs.Compiled.{SetView}
+use Rattle.result_book.specs.Rows.{RowView}
+use Rattle.result_book.specs.declared.rows.Row.{Row}
+use Rattle.worker_pool.specs.Outcomes.{AreOutcomes}
+use Rattle.worker_pool.specs.declared.outcomes.Outcome.{Outcome}
+use Rattle.worker_pool.specs.declared.outcomes.Outcome.TheVariants.{Margined, NoMemory}
+use Rattle.statement.specs.Statement.{row_text, statement_text}
+use Rattle.statement.specs.steps.Rows.{AreRows, rows_under}
+
+-- one outcome more
+pub rows_more : (outcomes : List Outcome) (rows : List RowView) (row : Arc RowView Global) → AreRows outcomes rows
+    → AreRows (outcomes ++ Margined row ∷ []) (rows ++ arc_value row ∷ [])
+rows_more [] [] row all = (refl, tt)
+rows_more [] (r ∷ rows) row all = absurd all
+rows_more (Margined first ∷ outcomes) [] row all = absurd all
+rows_more (Margined first ∷ outcomes) (r ∷ rows) row all = (all.0, rows_more outcomes rows row all.1)
+rows_more (NoMemory account ∷ outcomes) rows row all = absurd all
+
+-- the rows of a batch are those of its portfolios
+pub rows_of_batch : (set : SetView) (portfolios : List AccountHoldings) (outcomes : List Outcome) (rows : List RowView)
+    → AreOutcomes set portfolios outcomes → AreRows outcomes rows → rows ≡ rows_under set portfolios
+rows_of_batch set [] [] [] are all = refl
+rows_of_batch set [] [] (r ∷ rows) are all = absurd all
+rows_of_batch set [] (o ∷ outcomes) rows are all = absurd are
+rows_of_batch set (p ∷ portfolios) [] rows are all = absurd are
+rows_of_batch set (p ∷ portfolios) (Margined row ∷ outcomes) [] are all = absurd all
+rows_of_batch set (p ∷ portfolios) (Margined row ∷ outcomes) (r ∷ rows) are all =
+    ap (λ x. x ∷ rows) (sym all.0 ∙ are.0) ∙ ap (λ xs. record { set = set; portfolio = p } ∷ xs)
+    (rows_of_batch set portfolios outcomes rows are.1 all.1)
+rows_of_batch set (p ∷ portfolios) (NoMemory account ∷ outcomes) rows are all = absurd all
+
+-- the text of their rows is the statement
+pub text_of_batch : (set : SetView) (portfolios : List AccountHoldings)
+    → flat_map (λ r. row_text r.set.tables r.portfolio) (rows_under set portfolios) ≡ statement_text set.tables portfolios
+unfolding statement_text
+text_of_batch set [] = refl
+text_of_batch set (p ∷ portfolios) =
+    flat_map-cons (λ (r : RowView). row_text r.set.tables r.portfolio) (record { set = set; portfolio = p }) (rows_under set portfolios)
+    ∙ ap (λ t. row_text set.tables p ++ t) (text_of_batch set portfolios)
+    ∙ sym (flat_map-cons (row_text set.tables) p portfolios)
