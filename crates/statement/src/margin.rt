@@ -1,9 +1,10 @@
 //! From the bytes of both files to the bytes of a statement.
 ghost use Rattle.statement.specs.Answers.{GivesText};
-ghost use Rattle.statement.specs.Statement.{statement_of, statement_under};
+ghost use Rattle.span_tables.specs.Holdings.{fits};
+ghost use Rattle.statement.specs.Statement.{statement_of, statement_text, statement_under};
 ghost use Rattle.statement.specs.steps.Rows.{AreRows};
 ghost use Rattle.std.specs.Arc.{arc_value};
-ghost use Rattle.std.specs.Prelude.{◌≡◌, IfOk, map};
+ghost use Rattle.std.specs.Prelude.{◌≡◌, All, IfOk, length, map, true};
 
 use crate::faults::SpanFault;
 use crate::lines::write;
@@ -13,6 +14,7 @@ use plan_compiler::set::{CompiledSet, compile};
 use result_book::rows::Row;
 use span_csv::params::read_params;
 use span_csv::positions::read_positions;
+use span_tables::portfolios::Portfolios;
 use span_tables::tables::Tables;
 use std::alloc::{AllocError, Global};
 use std::sync::Arc;
@@ -41,6 +43,20 @@ fn all_rows(alloc: Global, outcomes: Vec<Outcome>) -> Result<Vec<Arc<Row>>, Allo
     Ok(rows)
 }
 
+// The statement of portfolios under a compiled set, in their order.
+fn margin_portfolios(
+    alloc: Global,
+    set: &Arc<CompiledSet>,
+    portfolios: Portfolios,
+) -> Result<Vec<u8>, AllocError>
+    requires { All (λ p. fits (length (arc_value set.now).tables.contracts) p.holdings ≡ true) portfolios }
+    ensures { IfOk result (λ text. text.items ≡ statement_text (arc_value set.now).tables portfolios) }
+{
+    let outcomes = run_plain(alloc, set, portfolios.into_vec())?;
+    let rows = all_rows(alloc, outcomes)?;
+    write(alloc, &rows)
+}
+
 // The statement of a position file under a compiled set, or its fault.
 #[tactic(auto, unfolding(crate::specs::Statement::statement_under))]
 fn margin_positions(
@@ -52,9 +68,7 @@ fn margin_positions(
 {
     let positions = read_positions(alloc, positions)?;
     let portfolios = bind(alloc, set.tables(), &positions)?;
-    let outcomes = run_plain(alloc, set, portfolios.into_vec())?;
-    let rows = all_rows(alloc, outcomes)?;
-    let text = write(alloc, &rows)?;
+    let text = margin_portfolios(alloc, set, portfolios)?;
     Ok(text)
 }
 
