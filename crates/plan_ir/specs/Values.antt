@@ -45,13 +45,6 @@ abbrev pub IsTotal : Value → Type 0
 IsTotal (value.Total x) = ⊤
 IsTotal v = ⊥
 
--- a value of a kind that some operation writes over
-abbrev pub IsChangeable : Value → Type 0
-IsChangeable (value.Tiers x) = ⊤
-IsChangeable (value.Inter x) = ⊤
-IsChangeable (value.Total x) = ⊤
-IsChangeable v = ⊥
-
 -- ---- what a value holds; a value of another kind holds nothing of it
 
 -- the scan of nothing
