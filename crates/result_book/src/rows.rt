@@ -52,7 +52,9 @@ impl Row {
     {
         let job = Arc::try_clone(board.job())?;
         let figures = figures_of_all(alloc, board)?;
-        let held = held_commodities(job.set().tables(), job.portfolio());
+        let tables = job.set().tables();
+        let _limits = tables.commodities();
+        let held = held_commodities(tables, job.portfolio());
         let total = total_of(board);
         Ok(Arc::new(
             alloc,

@@ -73,7 +73,8 @@ pub fn run_plain(
     ensures { IfOk result (λ outcomes. AreOutcomes (arc_value set.now) portfolios.items outcomes.items) }
 {
     let mut outcomes = Vec::with_capacity(alloc, portfolios.len())?;
-    for (place, portfolio) in portfolios.into_iter().enumerate() {
+    for portfolio in portfolios {
+        let place = outcomes.len();
         outcomes.push(outcome_of(alloc, set, portfolio, place))?;
     }
     Ok(outcomes)
