@@ -1,5 +1,5 @@
 //! Rows of results (docs/METHOD.md, "Minimum and requirement").
-ghost use Rattle.std.specs.Prelude.{◌≡◌, ◌<◌, ◌≤◌, ℕ, IfOk, length};
+ghost use Rattle.std.specs.Prelude.{◌≡◌, ◌<◌, IfOk, length};
 ghost use Rattle.std.specs.Arc.{arc_value};
 ghost use Rattle.plan_ir.specs.Figures.{figures_of, is_held, total_to};
 ghost use Rattle.step_scheduler.specs.Boards.{IsComplete};

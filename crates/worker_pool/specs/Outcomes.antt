@@ -3,13 +3,12 @@ use Rattle.std.specs.Prelude.{◌≡◌, ⊤, List, [], ◌∷◌}
 use Rattle.std.specs.Arc.{arc_value}
 use Rattle.span_tables.specs.Net.{AccountHoldings}
 use Rattle.plan_compiler.specs.Compiled.{SetView}
-use Rattle.result_book.specs.Rows.{RowView}
 use Rattle.worker_pool.specs.declared.outcomes.Outcome.{Outcome}
 use Rattle.worker_pool.specs.declared.outcomes.Outcome.TheVariants.{Margined, NoMemory}
 
 -- a row carries the set and the account's portfolio; want of memory has the account's name
 abbrev pub IsOutcome : SetView → AccountHoldings → Outcome → Type 0
-IsOutcome set portfolio (Margined row) = ◌≡◌ {A = RowView} (arc_value row) (record { set = set; portfolio = portfolio })
+IsOutcome set portfolio (Margined row) = arc_value row ≡ record { set = set; portfolio = portfolio }
 IsOutcome set portfolio (NoMemory account) = account ≡ portfolio.account
 
 -- as many outcomes as portfolios, each that of the portfolio at its place

@@ -1,7 +1,5 @@
 use Rattle.std.proofs.Common.{◌≤◌, ◌<◌, length, nat_abs, arith}
 use Rattle.std.proofs.lemmas.List.Elements.{All-nil}
-use Rattle.span_tables.specs.Accepted.{IsContract}
-use Rattle.std.specs.Prelude.{All}
 use Rattle.span_tables.specs.declared.limits.TheConstants.{MAX_NET}
 use Rattle.span_tables.proofs.held.Held.none.Goals as goal
 
