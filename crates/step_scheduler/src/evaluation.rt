@@ -1,7 +1,8 @@
 //! The values of tasks' steps.
-ghost use Rattle.std.specs.Prelude.{◌≡◌, ◌<◌, ◌∷◌, List, IfSome, IsTrue, IsFalse, Ok, length, map};
+ghost use Rattle.std.specs.Prelude.{◌≡◌, ◌<◌, ◌∷◌, List, IfSome, IsTrue, IsFalse, Ok, length, map, true};
 ghost use Rattle.std.specs.Arc.{arc_value};
 ghost use Rattle.std.specs.Option.{option_map};
+ghost use Rattle.span_tables.specs.Holdings.{fits};
 ghost use Rattle.span_tables.specs.declared.portfolios.Holding.{Holding};
 ghost use Rattle.plan_ir.specs.Apply.{IsInPlace, Takes, value_on};
 ghost use Rattle.step_scheduler.specs.Jobs.{inputs_for, meaning_at};
@@ -14,6 +15,7 @@ use plan_ir::evaluation::apply;
 use plan_ir::in_place::{apply_beside, apply_in_place, changes_nothing, is_in_place};
 use plan_ir::ops::Op;
 use plan_ir::values::Value;
+use span_tables::portfolios::Portfolio;
 use span_tables::tables::Tables;
 use std::alloc::{AllocError, Global};
 use std::sync::Arc;
@@ -54,10 +56,7 @@ fn value_of(
     let op = set.plan().op(step as usize);
     match first {
         Some(first) => renewed(alloc, set, op, first, rest),
-        None => as_shared(
-            alloc,
-            apply(alloc, set.tables(), job.portfolio(), &op, rest),
-        ),
+        None => alone(alloc, set.tables(), job.portfolio(), op, rest),
     }
 }
 
@@ -97,7 +96,7 @@ fn changed(
     if changes_nothing(tables, op, &first, rest) || written(tables, op, &mut first, rest) {
         return Some(first);
     }
-    as_shared(alloc, apply_beside(alloc, tables, op, &first, rest))
+    beside(alloc, tables, op, &first, rest)
 }
 
 // The value of an operation that makes another of its inputs: the set's, where nothing is held; else a new one. `None` is
@@ -115,8 +114,42 @@ fn made(
 {
     match set.nothing_held().value_for(op, first) {
         Some(value) => Arc::try_clone(value).ok(),
-        None => as_shared(alloc, apply_beside(alloc, set.tables(), op, first, rest)),
+        None => beside(alloc, set.tables(), op, first, rest),
     }
+}
+
+// The value of an operation without inputs. `None` is want of memory.
+//
+// Few steps need a new value, so this and the next function stand apart from the steps that need none.
+#[inline(never)]
+fn alone(
+    alloc: Global,
+    tables: &Tables,
+    portfolio: &Portfolio,
+    op: Op,
+    inputs: &[Arc<Value>],
+) -> Option<Arc<Value>>
+    requires fits { fits (length tables.now.contracts) portfolio.now.holdings ≡ true }
+    requires inputs { Takes tables.now op (map arc_value inputs.now) }
+    ensures { IfSome result (λ v. arc_value v ≡ value_on tables.now portfolio.now.holdings op (map arc_value inputs.now)) }
+{
+    as_shared(alloc, apply(alloc, tables, portfolio, &op, inputs))
+}
+
+// A new value of an operation, on inputs of which the first stands apart. `None` is want of memory.
+#[inline(never)]
+fn beside(
+    alloc: Global,
+    tables: &Tables,
+    op: Op,
+    first: &Value,
+    rest: &[Arc<Value>],
+) -> Option<Arc<Value>>
+    requires { Takes tables.now op (first.now ∷ map arc_value rest.now) }
+    ensures { IfSome result (λ v. (holdings : List Holding)
+        → arc_value v ≡ value_on tables.now holdings op (first.now ∷ map arc_value rest.now)) }
+{
+    as_shared(alloc, apply_beside(alloc, tables, op, first, rest))
 }
 
 // A value that can be shared. `None` is want of memory, for it or before it.
