@@ -1,6 +1,6 @@
 -- What is found of the values of a job's steps when its board is opened.
 use Rattle.std.proofs.Common.{◌≡◌, ◌∙◌, ℕ, ◌<◌, ◌+◌, zero, suc, List, [], ◌∷◌, length}
-use Rattle.std.proofs.Common.{drop, map, true, Some, sym, ap}
+use Rattle.std.proofs.Common.{drop, map, Some, sym, ap}
 use Rattle.std.proofs.Common.{arith, slice_index_or, slice_set, length-set, option_map, unwrap_or, Global}
 use Rattle.std.proofs.lemmas.List.{get_or-map, length-map}
 use Rattle.std.proofs.lemmas.Option.{slice_get-get_or}
@@ -48,10 +48,10 @@ held_read : (job : JobView) (c : ℕ) (held : List HeldContract) → c < length 
 held_read job c held h at =
     let commodities : List Commodity = job.set.tables.commodities in
     let id : commodity_id job.set.tables c ≡ (slice_index_or commodities c no_commodity).id =
-        ap (λ o. unwrap_or (option_map (λ (x : Commodity). x.id) o) []) (slice_get-get_or commodities c no_commodity h) in
+    ap (λ o. unwrap_or (option_map (λ (x : Commodity). x.id) o) []) (slice_get-get_or commodities c no_commodity h) in
     ap (held_of job.set.tables.contracts (job.portfolio).holdings) id
     ∙ sym (get_or-map (λ (x : Commodity). held_of job.set.tables.contracts (job.portfolio).holdings x.id) commodities c
-      no_commodity [] h)
+    no_commodity [] h)
     ∙ at []
 
 -- one more commodity
@@ -62,10 +62,10 @@ pub found_more : (job : JobView) (c step : ℕ) (held : List HeldContract) (left
 found_more job c step held left left' places v found e h is_gather right =
     let first = drop_first (all_held job) c held left' (sym found.others ∙ e) in
     let many = length-map job.set.tables.commodities
-        (λ (x : Commodity). held_of job.set.tables.contracts (job.portfolio).holdings x.id) in
+    (λ (x : Commodity). held_of job.set.tables.contracts (job.portfolio).holdings x.id) in
     let read = held_read job c held (omega (arith, first.0, many)) first.1.0 in
     let means : arc_value v ≡ meaning_at job step =
-        right ∙ ap value.Held (sym read) ∙ sym (ap (meaning job.set.tables (job.portfolio).holdings) is_gather) in
+    right ∙ ap value.Held (sym read) ∙ sym (ap (meaning job.set.tables (job.portfolio).holdings) is_gather) in
     record {
       long = length-set places step (Some v) ∙ found.long;
       means = keeps_more job places step v (let l = found.long in omega (arith, l, h)) found.means means;

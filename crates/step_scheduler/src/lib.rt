@@ -7,6 +7,11 @@ pub mod evaluation;
 pub mod events;
 mod handing;
 pub mod jobs;
+pub mod laws;
 mod opening;
 pub mod progress;
+#[cfg(test)]
+mod samples;
 pub mod tasks;
+#[cfg(test)]
+mod tests;
