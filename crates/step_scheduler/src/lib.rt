@@ -5,6 +5,7 @@ pub mod boards;
 mod counters;
 pub mod evaluation;
 pub mod events;
+pub mod finished;
 mod handing;
 pub mod jobs;
 pub mod laws;

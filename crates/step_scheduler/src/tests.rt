@@ -5,9 +5,10 @@ ghost use Rattle.step_scheduler.specs.Samples.{job_of_x};
 
 use crate::boards::{Board, Refused};
 use crate::evaluation::evaluate;
+use crate::finished::Finished;
 use crate::jobs::Job;
 use crate::samples::{job_of_x, set_of_one_future, set_of_three_commodities};
-use crate::tasks::{Finished, Task};
+use crate::tasks::Task;
 use plan_compiler::set::CompiledSet;
 use plan_ir::figures::Figures;
 use span_tables::portfolios::Holding;
