@@ -1,6 +1,6 @@
 -- What is found of the values of a job's steps when its board is opened.
 use Rattle.std.proofs.Common.{◌≡◌, ◌∙◌, ℕ, ◌<◌, ◌+◌, zero, suc, List, [], ◌∷◌, length}
-use Rattle.std.proofs.Common.{drop, map, true, Some, sym, ap}
+use Rattle.std.proofs.Common.{drop, map, Some, sym, ap}
 use Rattle.std.proofs.Common.{arith, slice_index_or, slice_set, length-set, option_map, unwrap_or, Global}
 use Rattle.std.proofs.lemmas.List.{get_or-map, length-map}
 use Rattle.std.proofs.lemmas.Option.{slice_get-get_or}

@@ -1,16 +1,17 @@
--- A board with an unfinished step has one that can go on.
+-- A history in which not every step is finished leaves a step that can go on.
 use Rattle.std.proofs.Common.{◌≡◌, ℕ, zero, suc, ◌<◌, Bool, true, false, List, [], ◌∷◌, length, All}
-use Rattle.std.proofs.Common.{refl, ap, ◌∙◌, ◌⊎◌, inl, inr, arith, get_or}
+use Rattle.std.proofs.Common.{sym, ap, ◌∙◌, ◌⊎◌, inl, inr, arith, get_or}
 use Rattle.std.proofs.lemmas.Bool.{cases_eq}
 use Rattle.std.proofs.lemmas.List.Elements.{All-cons, All-nil}
+use Rattle.plan_compiler.specs.Compiled.{IsCompiled, SetView}
 use Rattle.plan_ir.specs.Plans.{inputs_at}
 use Rattle.step_scheduler.specs.Jobs.{JobView}
 use Rattle.step_scheduler.specs.declared.events.Event.{Event}
 use Rattle.step_scheduler.specs.declared.progress.Progress.{Progress}
-use Rattle.step_scheduler.specs.Runs.{CanGoOn}
-use Rattle.step_scheduler.specs.steps.Steps.{was_taken, is_done, progress_at}
+use Rattle.step_scheduler.specs.Runs.{AllFinished, CanGoOn, is_finished, is_taken}
+use Rattle.step_scheduler.specs.steps.Steps.{is_done, progress_at}
 use Rattle.step_scheduler.specs.steps.Kept.{IsRunBoard}
-use Rattle.step_scheduler.proofs.BoardLemmas.{ready_from_start, true_or_false}
+use Rattle.step_scheduler.proofs.BoardLemmas.{true_or_false}
 
 -- either all numbers pass the test, or one of them fails it
 all_or_one : (p : ℕ → Bool) (xs : List ℕ) → All (λ i. p i ≡ true) xs ⊎
@@ -44,32 +45,37 @@ below_or_one p (suc n) =
           ]
     ]
 
-module _ (job : JobView) (steps : List Progress) (history : List Event) (capacity : ℕ) (b : IsRunBoard job steps history capacity) where
+module _ (set : SetView) (compiled : IsCompiled set) (history : List Event) where
   -- an unfinished step of a rank below the bound leads to one that can go on
-  unfinished_goes_on : (bound k : ℕ) → b.compiled.rank k < bound → k < length steps
-      → is_done (progress_at steps k) ≡ false → (j : ℕ) × CanGoOn job.set.plan history j
+  unfinished_goes_on : (bound k : ℕ) → compiled.rank k < bound → k < length set.plan → is_finished history k ≡ false
+      → (j : ℕ) × CanGoOn set.plan history j
   unfinished_goes_on zero k low h open_k = absurd (omega arith)
   unfinished_goes_on (suc bound) k low h open_k =
-      let in_plan : k < length job.set.plan = let l = b.long in omega arith in
-      elim (true_or_false (was_taken (progress_at steps k))) [
-        | inl taken ↦ (k, inr (record { taken = b.taken k ∙ taken; unfinished = b.finished k ∙ open_k }))
-        | inr waits ↦
-            elim (all_or_one (λ i. is_done (progress_at steps i)) (inputs_at job.set.plan k)) [
-              | inl fed ↦
-                  (k, inl (ready_from_start job steps history capacity k b (record { in_range = in_plan; waits = waits; fed = fed })))
+      elim (true_or_false (is_taken history k)) [
+        | inl taken ↦ (k, inr (record { taken = taken; unfinished = open_k }))
+        | inr fresh ↦
+            elim (all_or_one (is_finished history) (inputs_at set.plan k)) [
+              | inl fed ↦ (k, inl (record { in_range = h; fresh = fresh; fed = fed }))
               | inr one ↦
-                  let i : ℕ = get_or (inputs_at job.set.plan k) one.0 0 in
-                  let lower = b.compiled.lower k in_plan one.0 0 one.1 in
-                  let range = b.compiled.in_range k in_plan one.0 0 one.1 in
-                  unfinished_goes_on bound i (omega arith) (let l = b.long in omega arith) one.2
+                  let i : ℕ = get_or (inputs_at set.plan k) one.0 0 in
+                  let lower = compiled.lower k h one.0 0 one.1 in
+                  let range = compiled.in_range k h one.0 0 one.1 in
+                  unfinished_goes_on bound i (omega arith) range one.2
             ]
       ]
 
-  -- where not all steps have their values, one can go on
-  pub some_goes_on : (((k : ℕ) → k < length steps → is_done (progress_at steps k) ≡ true) → ⊥)
-      → (k : ℕ) × CanGoOn job.set.plan history k
+  -- where not all steps are finished, one can go on
+  pub some_goes_on : (AllFinished set.plan history → ⊥) → (k : ℕ) × CanGoOn set.plan history k
   some_goes_on not_all =
-      elim (below_or_one (λ k. is_done (progress_at steps k)) (length steps)) [
+      elim (below_or_one (is_finished history) (length set.plan)) [
         | inl all ↦ absurd (not_all all)
-        | inr one ↦ unfinished_goes_on (suc (b.compiled.rank one.0)) one.0 (omega arith) one.1 one.2
+        | inr one ↦ unfinished_goes_on (suc (compiled.rank one.0)) one.0 (omega arith) one.1 one.2
       ]
+
+-- a board of which not all steps have their values has one that can go on
+pub board_goes_on : (job : JobView) (steps : List Progress) (history : List Event) (capacity : ℕ)
+    → IsRunBoard job steps history capacity → (((k : ℕ) → k < length steps → is_done (progress_at steps k) ≡ true) → ⊥)
+    → (k : ℕ) × CanGoOn job.set.plan history k
+board_goes_on job steps history capacity b not_all =
+    some_goes_on job.set b.compiled history (λ all. not_all (λ k h.
+    sym (b.finished k) ∙ all k (let l = b.long in omega arith)))

@@ -1,5 +1,5 @@
 -- Lemmas on histories.
-use Rattle.std.proofs.Common.{◌≡◌, ℕ, Bool, true, false, List, [], ◌∷◌, ◌++◌, ◌||◌, refl, ap}
+use Rattle.std.proofs.Common.{◌≡◌, ℕ, List, [], ◌∷◌, ◌++◌, ◌||◌, ap}
 use Rattle.std.proofs.Common.{◌∙◌, sym, append_assoc, append-nil, subst}
 use Rattle.std.proofs.Math.Bool.{or_assoc, or-false}
 use Rattle.plan_ir.specs.Plans.{StepView}

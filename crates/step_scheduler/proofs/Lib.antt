@@ -7,4 +7,6 @@ pub mod UserLemmas
 pub mod Places
 pub mod Counted
 pub mod RunOnce
+pub mod RunOrder
 pub mod FoundLemmas
+pub mod SampleLaws

@@ -1,10 +1,10 @@
 -- The values of a board after each event.
-use Rattle.std.proofs.Common.{◌≡◌, ◌++◌, length-append, ℕ, zero, suc, ◌+◌, ◌<◌, ◌==◌, Bool}
+use Rattle.std.proofs.Common.{◌≡◌, ◌++◌, length-append, ℕ, zero, suc, ◌+◌, ◌<◌, ◌==◌}
 use Rattle.std.proofs.Common.{true, false, Some, None, List, [], ◌∷◌, length, map, All, refl, sym, ap}
-use Rattle.std.proofs.Common.{◌∙◌, subst, ◌⊎◌, inl, inr, arith, get_or, slice_index, slice_set, replicate}
+use Rattle.std.proofs.Common.{◌∙◌, subst, inl, inr, arith, get_or, slice_index, slice_set, replicate}
 use Rattle.std.proofs.Common.{if◌then◌else◌, get_or-set_same, get_or-set_other, length-set, Global}
 use Rattle.std.proofs.lemmas.Bool.{cases_eq, ne_eqb, false≢true}
-use Rattle.std.proofs.lemmas.List.{get_or_default, get_or_append_left, length-replicate}
+use Rattle.std.proofs.lemmas.List.{get_or_default, get_or_append_left}
 use Rattle.std.specs.declared.sync.Arc.{Arc}
 use Rattle.std.specs.Arc.{arc_value}
 use Rattle.plan_ir.specs.Plans.{StepView, inputs_at, users_of}

@@ -1,5 +1,5 @@
 -- The values of a run are the meanings of its steps.
-use Rattle.std.proofs.Common.{◌≡◌, ℕ, ◌<◌, ◌||◌, ◌==◌, Bool, true, false, List, [], ◌∷◌}
+use Rattle.std.proofs.Common.{◌≡◌, ℕ, ◌<◌, ◌==◌, true, List, [], ◌∷◌}
 use Rattle.std.proofs.Common.{◌++◌, length, map, All, refl, sym, ap, ◌∙◌, ◌⊎◌, inl, inr, subst}
 use Rattle.std.proofs.Common.{append_assoc, append-nil, eq-eqb}
 use Rattle.std.proofs.lemmas.Bool.{cases_eq, eqb-true, ne_eqb, or_cases, or_left, false≢true}
@@ -104,3 +104,8 @@ module _ (job : JobView) (compiled : IsCompiled job.set) (fits : Fits job.set.ta
             λ j t. absurd (false≢true t);
         right = λ k f. absurd (false≢true f);
       }) run).right
+
+  -- the values that a run gives to the inputs of a ready step are their meanings
+  pub ready_inputs : (history : List Event) → IsRun job.set.plan history → (k : ℕ) → IsReady job.set.plan history k
+      → map (run_values job history) (inputs_at job.set.plan k) ≡ inputs_for job k
+  ready_inputs history run k ready = map_same _ _ _ (λ i d l. run_means history run _ (ready.fed i d l))

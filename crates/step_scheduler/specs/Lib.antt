@@ -1,4 +1,5 @@
 pub mod Jobs
 pub mod Runs
 pub mod Boards
+pub mod Samples
 pub mod steps

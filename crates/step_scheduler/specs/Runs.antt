@@ -87,6 +87,19 @@ CanGoOn plan history k = IsReady plan history k ⊎ IsUnderWay history k
 abbrev pub AllFinished : List StepView → List Event → Type 0
 AllFinished plan history = (k : ℕ) → k < length plan → is_finished history k ≡ true
 
+-- step k was finished after it was taken
+pub record IsTakenThenFinished (history : List Event) (k : ℕ) : Type 0 where
+  pub before : List Event
+  pub after : List Event
+  pub is : history ≡ before ++ Finish k ∷ after
+  pub taken : is_taken before k ≡ true
+
+-- step k was taken once, and after that finished once
+pub record IsDoneOnce (history : List Event) (k : ℕ) : Type 0 where
+  pub taken : times_taken history k ≡ 1
+  pub finished : times_finished history k ≡ 1
+  pub in_order : IsTakenThenFinished history k
+
 -- ---- the values of steps
 
 -- the values of steps after an event: a finished step gets the value of its operation on its inputs' values

@@ -11,11 +11,12 @@ ghost use Rattle.step_scheduler.specs.declared.events.Event.TheVariants.{Take, F
 
 use crate::counters::{counters, last_of, release};
 use crate::events::Event;
+use crate::finished::Finished;
 use crate::handing::{keep_hold, kept, task_of};
 use crate::jobs::Job;
 use crate::opening::found_values;
 use crate::progress::{Progress, all_done, is_under_way};
-use crate::tasks::{Finished, Task};
+use crate::tasks::Task;
 use plan_ir::figures::Figures;
 use plan_ir::values::Value;
 use span_money::amounts::Money;

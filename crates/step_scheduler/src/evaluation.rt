@@ -8,8 +8,9 @@ ghost use Rattle.plan_ir.specs.Apply.{IsInPlace, Takes, value_on};
 ghost use Rattle.step_scheduler.specs.Jobs.{inputs_for, meaning_at};
 ghost use Rattle.step_scheduler.specs.steps.Tasks.{inputs_of};
 
+use crate::finished::Finished;
 use crate::jobs::Job;
-use crate::tasks::{Finished, Task};
+use crate::tasks::Task;
 use plan_compiler::set::CompiledSet;
 use plan_ir::evaluation::apply;
 use plan_ir::in_place::{apply_beside, apply_in_place, changes_nothing, is_in_place};

@@ -5,8 +5,14 @@ pub mod boards;
 mod counters;
 pub mod evaluation;
 pub mod events;
+pub mod finished;
 mod handing;
 pub mod jobs;
+pub mod laws;
 mod opening;
 pub mod progress;
+#[cfg(test)]
+mod samples;
 pub mod tasks;
+#[cfg(test)]
+mod tests;

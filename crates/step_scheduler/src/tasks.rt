@@ -1,4 +1,4 @@
-//! Steps that were handed out, and steps with their values.
+//! Steps that were handed out.
 ghost use Rattle.std.specs.Prelude.{◌≡◌, ◌<◌, IfSome, length, map};
 ghost use Rattle.std.specs.Arc.{arc_value};
 ghost use Rattle.std.specs.Option.{option_map};
@@ -83,58 +83,5 @@ impl Task {
         ensures in_range { result < length self.now.job.set.plan }
     {
         self.step as usize
-    }
-}
-
-/// A step with its value, or with the mark that there was no memory for it. Only `evaluate` makes it.
-#[derive(Drop)]
-pub struct Finished {
-    pub(crate) job: Arc<Job>,
-    pub(crate) value: Option<Arc<Value>>,
-    pub(crate) step: u32,
-}
-
-impl Model for Finished {
-    ghost use Rattle.std.specs.Option.{option_map};
-    ghost use Rattle.std.specs.Arc.{arc_value};
-    ghost use Rattle.step_scheduler.specs.Jobs.{FinishedView, IsFinishedStep};
-
-    ghost Value = { FinishedView };
-
-    ghost view = { λ f. record { job = arc_value f.job; step = f.step; value = option_map arc_value f.value } };
-
-    ghost invariant = { λ f. IsFinishedStep (record {
-      job = arc_value f.job;
-      step = f.step;
-      value = option_map arc_value f.value;
-    }) };
-}
-
-impl Finished {
-    /// The job.
-    pub fn job(&self) -> &Arc<Job>
-        ensures { arc_value result.now ≡ self.now.job }
-    {
-        &self.job
-    }
-
-    /// The step's number in the plan.
-    pub fn step(&self) -> usize
-        ensures value { result ≡ self.now.step }
-        ensures in_range { result < length self.now.job.set.plan }
-    {
-        self.step as usize
-    }
-
-    // The step, its value, and the hold on its job.
-    pub(crate) fn into_parts(self) -> (u32, Option<Arc<Value>>, Arc<Job>)
-        ensures step { result.0 ≡ self.step }
-        ensures value { option_map arc_value result.1 ≡ self.value }
-        ensures job { arc_value result.2 ≡ self.job }
-        ensures in_range { self.step < length self.job.set.plan }
-        ensures right { IfSome result.1 (λ v. arc_value v ≡ meaning_at self.job self.step) }
-    {
-        let Finished { job, value, step } = self;
-        (step, value, job)
     }
 }

@@ -1,4 +1,4 @@
-use Rattle.std.proofs.Common.{◌≡◌, ◌∙◌, sym, ◌<◌, length, refl, inl, inr, arith, slice_index}
+use Rattle.std.proofs.Common.{◌≡◌, ◌∙◌, sym, ◌<◌, length, refl, inl, inr, arith}
 use Rattle.std.specs.Arc.{arc_value}
 use Rattle.plan_ir.specs.Plans.{inputs_at}
 use Rattle.step_scheduler.proofs.Places.{only_user, not_none}

@@ -1,4 +1,3 @@
-use Rattle.std.proofs.Common.{◌≡◌}
 use Rattle.step_scheduler.proofs.FoundLemmas.{AreFound}
 use Rattle.step_scheduler.proofs.opening.found_values.Given as goal
 

@@ -2,12 +2,12 @@ use Rattle.std.proofs.Common.{◌∙◌, sym}
 use Rattle.std.specs.Arc.{arc_value}
 use Rattle.step_scheduler.proofs.BoardLemmas.{complete_where_done}
 use Rattle.std.proofs.lemmas.Bool.{false≢true}
-use Rattle.step_scheduler.proofs.GoesOn.{some_goes_on}
+use Rattle.step_scheduler.proofs.GoesOn.{board_goes_on}
 use Rattle.step_scheduler.proofs.boards.Board.is_complete.Goals as goal
 
 pub returns-then-not-self-clause-goes_on : goal.returns-then-not-self-clause-goes_on
 returns-then-not-self-clause-goes_on c =
-    λ no live. rw (← c.self.view_is) (some_goes_on _ _ _ _ c.self.invariant.counted_board.board
+    λ no live. rw (← c.self.view_is) (board_goes_on _ _ _ _ c.self.invariant.counted_board.board
     (λ all. false≢true (sym no ∙ c.all_done.ensures.1 (rw c.as_slice.ensures.value all))))
 
 pub returns-then-not-self-clause-complete : goal.returns-then-not-self-clause-complete
