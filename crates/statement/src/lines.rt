@@ -110,7 +110,13 @@ fn push_held(out: &mut Vec<u8>, row: &Row, number: usize) -> Result<(), AllocErr
         return Ok(());
     }
     let commodity = &row.set().tables().commodities()[number].id;
-    push_commodity(out, row.account(), row.set_id(), commodity, row.figures(number))
+    push_commodity(
+        out,
+        row.account(),
+        row.set_id(),
+        commodity,
+        row.figures(number),
+    )
 }
 
 #[tactic(auto, unfolding(crate::specs::steps::LineForms::total_form))]

@@ -1,10 +1,12 @@
 -- In a run each finished step was taken once, and after that finished once.
-use Rattle.std.proofs.Common.{◌≡◌, ◌<◌, ℕ, length, true, List, [], ◌∷◌, ◌++◌, ap, ◌∙◌, subst, append_assoc, inl, inr, if◌then◌else◌}
+use Rattle.std.proofs.Common.{◌≡◌, ◌<◌, ℕ, length, true, List, [], ◌∷◌, ◌++◌, ap, ◌∙◌}
+use Rattle.std.proofs.Common.{subst, append_assoc, inl, inr, if◌then◌else◌}
 use Rattle.std.proofs.lemmas.Bool.{eqb-true, false≢true, or_cases, or_left, or_right}
 use Rattle.plan_ir.specs.Plans.{StepView}
 use Rattle.step_scheduler.specs.declared.events.Event.{Event}
 use Rattle.step_scheduler.specs.declared.events.Event.TheVariants.{Take, Finish}
-use Rattle.step_scheduler.specs.Runs.{is_taken, is_finished, finishes, takes, IsRunAfter, IsRun, IsTakenThenFinished, IsDoneOnce, AllFinished}
+use Rattle.step_scheduler.specs.Runs.{is_taken, is_finished, finishes, takes, IsRunAfter, IsRun, IsTakenThenFinished}
+use Rattle.step_scheduler.specs.Runs.{IsDoneOnce, AllFinished}
 use Rattle.step_scheduler.proofs.RunOnce.{run_once}
 
 -- the history before its first event, and what comes then

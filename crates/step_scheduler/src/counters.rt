@@ -1,5 +1,6 @@
 //! Counters of missing inputs, and the list of ready steps.
-ghost use Rattle.std.specs.Prelude.{◌≡◌, ℕ, ◌+◌, ◌<◌, ◌≤◌, ◌++◌, ◌∷◌, [], ◌-◌, All, IfOk, MatchOption, length, replicate};
+ghost use Rattle.std.specs.Prelude.{◌≡◌, ℕ, ◌+◌, ◌<◌, ◌≤◌, ◌++◌, ◌∷◌, [], ◌-◌};
+ghost use Rattle.std.specs.Prelude.{All, IfOk, MatchOption, length, replicate};
 ghost use Rattle.std.specs.Prelude.{slice_index, take, vec_capacity};
 ghost use Rattle.plan_ir.specs.Plans.{inputs_at};
 ghost use Rattle.plan_ir.specs.declared.plans.TheConstants.{MAX_INPUTS, MAX_STEPS};

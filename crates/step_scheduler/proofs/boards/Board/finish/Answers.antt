@@ -29,9 +29,10 @@ invariant_of-self c =
     ) at c.into_parts-step.ensures.in_range in
     let right = rw (c.in-Some.is, ← c.into_parts-step.ensures.step, job) at c.into_parts-step.ensures.right in
     let users = rw (c.plan.ensures.plan, c.deref.ensures) at c.users.ensures in
+    let b = c.self.invariant.counted_board in
     rw (c.push_reserved.ensures.items, c.push_reserved.ensures.capacity)
     (record {
-      counted_board = (board_finishes_and_releases _ _ _ _ _ _ _ _ _ _ _ _ _ c.self.invariant.counted_board step under_way.0 under_way.1 right (record {
+      counted_board = (board_finishes_and_releases _ _ _ _ _ _ _ _ _ _ _ _ _ b step under_way.0 under_way.1 right (record {
         long = c.release.ensures.long;
         left = λ k. rw (← users) (c.release.ensures.missing k);
         freed = λ k. rw (← users) (c.release.ensures.ready k);

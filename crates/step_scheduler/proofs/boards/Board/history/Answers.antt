@@ -6,7 +6,7 @@ use Rattle.step_scheduler.proofs.boards.Board.history.Goals as goal
 pub returns-clause-values : goal.returns-clause-values
 returns-clause-values c =
     rw (← c.self.view_is)
-    (run_means (arc_value c.self.inside.job) c.self.invariant.counted_board.board.compiled c.self.invariant.counted_board.board.fits _ c.self.invariant.counted_board.board.run)
+    (let b = c.self.invariant.counted_board.board in run_means (arc_value c.self.inside.job) b.compiled b.fits _ b.run)
 
 pub returns-clause-once : goal.returns-clause-once
 returns-clause-once c = rw (← c.self.view_is) (run_once _ _ c.self.invariant.counted_board.board.run)

@@ -13,6 +13,7 @@ returns-then-not-self-clause-goes_on c =
 pub returns-then-not-self-clause-complete : goal.returns-then-not-self-clause-complete
 returns-then-not-self-clause-complete c =
     let done = rw c.as_slice.ensures.value at c.all_done.ensures in
-    let same = complete_where_done
-    (arc_value c.self.inside.job) _ c.self.inside.history.items _ c.self.inside.failed c.self.invariant.counted_board.board c.if-not-self.true in
+    let board = c.self.invariant.counted_board.board in
+    let same =
+    complete_where_done (arc_value c.self.inside.job) _ c.self.inside.history.items _ c.self.inside.failed board c.if-not-self.true in
     rw (← c.self.view_is) ((λ yes. same.0 (done.0 yes)), (λ complete. done.1 (same.1 complete)))
