@@ -49,7 +49,7 @@ fn nothing_held(rt: HostRuntime) -> Result<(), Fail> {
 #[test]
 fn values_of_nothing_held(rt: HostRuntime) -> Result<(), Fail> {
     let alloc = rt.alloc();
-    let tables = two_commodity_tables(alloc, &rt)?;
+    let tables = two_commodity_tables(alloc)?;
     let nothing = NothingHeld::new(alloc, &tables)?;
     for op in [Op::Sums(0), Op::Months(0), Op::Minimum(0)] {
         assert!(rt; nothing.value_for(op, nothing.held()).is_some());
