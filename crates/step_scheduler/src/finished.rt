@@ -1,5 +1,5 @@
 //! Steps with their values.
-ghost use Rattle.std.specs.Prelude.{◌≡◌, ◌<◌, IfSome, length};
+ghost use Rattle.std.specs.Prelude.{◌≡◌, ◌<◌, IfSome, MatchOption, None, Some, length};
 ghost use Rattle.std.specs.Arc.{arc_value};
 ghost use Rattle.std.specs.Option.{option_map};
 ghost use Rattle.step_scheduler.specs.Jobs.{meaning_at};
@@ -47,6 +47,13 @@ impl Finished {
         ensures in_range { result < length self.now.job.set.plan }
     {
         self.step as usize
+    }
+
+    /// Its value, or `None` where there was no memory for it.
+    pub fn value(&self) -> Option<&Value>
+        ensures { MatchOption result (self.now.value ≡ None) (λ v. self.now.value ≡ Some v.now) }
+    {
+        self.value.as_deref()
     }
 
     // The step, its value, and the hold on its job.

@@ -1,1 +1,4 @@
 pub mod OutcomeLemmas
+pub mod BalanceLemmas
+pub mod QueueLemmas
+pub mod PlaceLemmas

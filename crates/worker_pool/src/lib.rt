@@ -1,7 +1,18 @@
 //! Batches of accounts that are margined under one set.
 #![tactic(auto)]
 
+mod accounts;
+pub mod batch;
+mod coordinator;
+mod ends;
+pub mod gates;
+mod helpers;
+mod idle;
+pub mod laws;
+mod open_boards;
 pub mod outcomes;
+pub mod passes;
 pub mod plain;
+mod queue_ends;
 #[cfg(test)]
 mod tests;

@@ -4,6 +4,7 @@ ghost use Rattle.std.specs.Arc.{arc_value};
 ghost use Rattle.span_tables.specs.Holdings.{fits};
 ghost use Rattle.worker_pool.specs.Outcomes.{AreOutcomes, IsOutcome};
 
+use crate::gates::{Gate, OpenGate};
 use crate::outcomes::Outcome;
 use plan_compiler::set::CompiledSet;
 use result_book::rows::Row;
@@ -14,14 +15,18 @@ use step_scheduler::boards::Board;
 use step_scheduler::evaluation::evaluate;
 use step_scheduler::jobs::Job;
 
+/// The number of the worker that hands out steps, which is the only one where there are no helpers.
+pub(crate) const COORDINATOR: usize = 0;
+
 // Runs a board until no step can be handed out: until it is complete, or has failed.
-fn run(alloc: Global, board: &mut Board) -> Result<(), AllocError>
+fn run<G: Gate>(alloc: Global, board: &mut Board, gate: &G) -> Result<(), AllocError>
     ensures { board.new.job ≡ board.old.job }
 {
     for _ in 0..board.job().plan().len() {
         let Some(task) = board.take_ready(alloc)? else {
             return Ok(());
         };
+        gate.pass(COORDINATOR, task.job().portfolio().account(), task.step());
         if board.finish(evaluate(alloc, task)).is_err() {
             return Ok(());
         }
@@ -30,18 +35,19 @@ fn run(alloc: Global, board: &mut Board) -> Result<(), AllocError>
 }
 
 // The row of an account under a set. `Err` is want of memory.
-fn margined(
+fn margined<G: Gate>(
     alloc: Global,
     set: &Arc<CompiledSet>,
     portfolio: Portfolio,
     place: usize,
+    gate: &G,
 ) -> Result<Arc<Row>, AllocError>
     requires { fits (length (arc_value set.now).tables.contracts) portfolio.holdings ≡ true }
     ensures { IfOk result (λ row. arc_value row ≡ record { set = arc_value set.now; portfolio = portfolio }) }
 {
     let job = Job::new(Arc::try_clone(set)?, portfolio, place);
     let mut board = Board::new(alloc, Arc::new(alloc, job)?)?;
-    run(alloc, &mut board)?;
+    run(alloc, &mut board, gate)?;
     if !board.is_complete() {
         return Err(AllocError);
     }
@@ -49,15 +55,39 @@ fn margined(
 }
 
 // The outcome of an account under a set.
-fn outcome_of(alloc: Global, set: &Arc<CompiledSet>, portfolio: Portfolio, place: usize) -> Outcome
+fn outcome_of<G: Gate>(
+    alloc: Global,
+    set: &Arc<CompiledSet>,
+    portfolio: Portfolio,
+    place: usize,
+    gate: &G,
+) -> Outcome
     requires { fits (length (arc_value set.now).tables.contracts) portfolio.holdings ≡ true }
     ensures { IsOutcome (arc_value set.now) portfolio result }
 {
     let account = portfolio.account().copied();
-    match margined(alloc, set, portfolio, place) {
+    match margined(alloc, set, portfolio, place, gate) {
         Ok(row) => Outcome::Margined(row),
         Err(_) => Outcome::NoMemory(account),
     }
+}
+
+/// The outcomes of accounts under a set, on one worker that passes a gate. Else as [`run_plain`].
+pub(crate) fn run_alone<G: Gate>(
+    alloc: Global,
+    set: &Arc<CompiledSet>,
+    portfolios: Vec<Portfolio>,
+    gate: &G,
+) -> Result<Vec<Outcome>, AllocError>
+    requires { All (λ p. fits (length (arc_value set.now).tables.contracts) p.holdings ≡ true) portfolios.items }
+    ensures { IfOk result (λ outcomes. AreOutcomes (arc_value set.now) portfolios.items outcomes.items) }
+{
+    let mut outcomes = Vec::with_capacity(alloc, portfolios.len())?;
+    for portfolio in portfolios {
+        let place = outcomes.len();
+        outcomes.push(outcome_of(alloc, set, portfolio, place, gate))?;
+    }
+    Ok(outcomes)
 }
 
 /// The outcomes of accounts under a set, in their order. The portfolios fit the set's tables.
@@ -72,10 +102,5 @@ pub fn run_plain(
     requires { All (λ p. fits (length (arc_value set.now).tables.contracts) p.holdings ≡ true) portfolios.items }
     ensures { IfOk result (λ outcomes. AreOutcomes (arc_value set.now) portfolios.items outcomes.items) }
 {
-    let mut outcomes = Vec::with_capacity(alloc, portfolios.len())?;
-    for portfolio in portfolios {
-        let place = outcomes.len();
-        outcomes.push(outcome_of(alloc, set, portfolio, place))?;
-    }
-    Ok(outcomes)
+    run_alone(alloc, set, portfolios, &OpenGate)
 }

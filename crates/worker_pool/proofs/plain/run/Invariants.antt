@@ -2,4 +2,4 @@ use Rattle.std.proofs.Common.{◌≡◌}
 use Rattle.worker_pool.proofs.plain.run.Given as goal
 
 abbrev pub invariant-loop : goal.invariant-loop
-invariant-loop l = l.board.job ≡ l.initial.board.job
+invariant-loop g l = l.board.job ≡ l.initial.board.job

@@ -1,0 +1,80 @@
+-- Jobs and outcomes by their places.
+use Rattle.std.proofs.Common.{◌≡◌, ℕ, zero, suc, ◌+◌, ◌<◌, List, [], ◌∷◌, length, map, drop, Some, slice_get, slice_set}
+use Rattle.std.proofs.Common.{All, refl, ap, ◌∙◌, subst, arith}
+use Rattle.span_tables.specs.Net.{AccountHoldings}
+use Rattle.plan_compiler.specs.Compiled.{SetView}
+use Rattle.step_scheduler.specs.Jobs.{JobView}
+use Rattle.worker_pool.specs.Batches.{job_at, jobs_from}
+use Rattle.worker_pool.specs.Outcomes.{AreOutcomes, IsOutcome}
+use Rattle.worker_pool.specs.declared.outcomes.Outcome.{Outcome}
+use Rattle.worker_pool.specs.declared.outcomes.Outcome.TheVariants.{NoMemory}
+use Rattle.worker_pool.specs.steps.Places.{AreOutcomesOf}
+
+-- want of memory for each account is an outcome for each
+pub no_memory_of : (set : SetView) (place : ℕ) (ps : List AccountHoldings)
+    → AreOutcomesOf (jobs_from set place ps) (map (λ p. NoMemory p.account) ps)
+no_memory_of set place [] = tt
+no_memory_of set place (p ∷ ps) = (refl, no_memory_of set (place + 1) ps)
+
+-- the outcomes of the jobs are those of the portfolios
+pub of_portfolios : (set : SetView) (place : ℕ) (ps : List AccountHoldings) (os : List Outcome)
+    → AreOutcomesOf (jobs_from set place ps) os → AreOutcomes set ps os
+of_portfolios set place [] [] are = tt
+of_portfolios set place [] (o ∷ os) are = absurd are
+of_portfolios set place (p ∷ ps) [] are = absurd are
+of_portfolios set place (p ∷ ps) (o ∷ os) are = (are.0, of_portfolios set (place + 1) ps os are.1)
+
+-- there are as many outcomes as jobs
+pub length_of : (jobs : List JobView) (os : List Outcome) → AreOutcomesOf jobs os → length os ≡ length jobs
+length_of [] [] are = refl
+length_of [] (o ∷ os) are = absurd are
+length_of (j ∷ js) [] are = absurd are
+length_of (j ∷ js) (o ∷ os) are = ap suc (length_of js os are.1)
+
+-- a place with a job is in range
+pub in_range : (jobs : List JobView) (k : ℕ) (job : JobView) → slice_get jobs k ≡ Some job → k < length jobs
+in_range [] k job at = absurd (cc)
+in_range (j ∷ js) zero job at = omega arith
+in_range (j ∷ js) (suc k) job at = let h = in_range js k job at in omega arith
+
+-- another outcome of the job of its place
+pub set_at : (jobs : List JobView) (os : List Outcome) (k : ℕ) (job : JobView) (o : Outcome)
+    → AreOutcomesOf jobs os → slice_get jobs k ≡ Some job → IsOutcome job.set job.portfolio o
+    → AreOutcomesOf jobs (slice_set os k o)
+set_at [] os k job o are at is = absurd (cc)
+set_at (j ∷ js) [] k job o are at is = absurd are
+set_at (j ∷ js) (x ∷ xs) zero job o are at is =
+    let e : job ≡ j = cc in
+    (subst (λ (q : JobView). IsOutcome q.set q.portfolio o) e is, are.1)
+set_at (j ∷ js) (x ∷ xs) (suc k) job o are at is = (are.0, set_at js xs k job o are.1 at is)
+
+-- where a list goes on from a place with x, it has x there
+get_here : (xs : List JobView) (k : ℕ) (x : JobView) (ys : List JobView) → x ∷ ys ≡ drop k xs → slice_get xs k ≡ Some x
+get_here [] zero x ys e = absurd (cc)
+get_here [] (suc k) x ys e = absurd (cc)
+get_here (z ∷ zs) zero x ys e = let f : z ≡ x = cc in ap Some f
+get_here (z ∷ zs) (suc k) x ys e = get_here zs k x ys e
+
+drop_next : (xs : List JobView) (k : ℕ) (x : JobView) (ys : List JobView) → x ∷ ys ≡ drop k xs → ys ≡ drop (k + 1) xs
+drop_next [] zero x ys e = absurd (cc)
+drop_next [] (suc k) x ys e = absurd (cc)
+drop_next (z ∷ zs) zero x ys e = cc
+drop_next (z ∷ zs) (suc k) x ys e =
+    let n : suc (k + 1) ≡ suc k + 1 = omega arith in
+    drop_next zs k x ys e ∙ ap (λ (m : ℕ). drop m (z ∷ zs)) n
+
+-- the next account's job has its place, and the jobs of the rest follow
+pub opened : (set : SetView) (ps rest : List AccountHoldings) (jobs : List JobView) (next : ℕ) (p : AccountHoldings)
+    → ps ≡ p ∷ rest → jobs_from set next ps ≡ drop next jobs
+    → (slice_get jobs next ≡ Some (job_at set p next)) × (jobs_from set (next + 1) rest ≡ drop (next + 1) jobs)
+opened set ps rest jobs next p e h =
+    let d : job_at set p next ∷ jobs_from set (next + 1) rest ≡ drop next jobs =
+        subst (λ (l : List AccountHoldings). jobs_from set next l ≡ drop next jobs) e h in
+    (get_here jobs next _ _ d, drop_next jobs next _ _ d)
+
+-- what is true of all portfolios is true of the first and of the rest
+pub all_rest : (P : AccountHoldings → Type 0) (ps rest : List AccountHoldings) (p : AccountHoldings)
+    → ps ≡ p ∷ rest → All P ps → (P p) × All P rest
+all_rest P ps rest p e h =
+    let a : All P (p ∷ rest) = subst (All P) e h in
+    (a 0 p (omega arith), λ k d below. a (suc k) d (omega arith))

@@ -1,0 +1,10 @@
+use Rattle.std.proofs.Common.{◌≡◌, ◌+◌}
+use Rattle.crossbeam_queue.specs.Passes.{IsPassOf, view}
+use Rattle.worker_pool.proofs.queue_ends.open_results.Given as goal
+
+abbrev pub invariant-loop : goal.invariant-loop
+invariant-loop g l = record {
+  queue : IsPassOf l.queue l.pass;
+  batch : (view l.pass).batch ≡ g.B.Batch.jobs;
+  parts : (view l.pass).parts + l.counter ≡ 1024;
+}

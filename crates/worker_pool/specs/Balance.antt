@@ -1,0 +1,45 @@
+-- The balance rule of a deque or of the result queue: every item is of the batch, and comes out as often as it went in.
+use Rattle.std.specs.Prelude.{◌≡◌, ℕ, ◌+◌, ◌<◌, List, [], ◌∷◌, All}
+use mathlib.Core.Option.{some}
+use lib.ListN.{get_elem?}
+use Rattle.step_scheduler.specs.Jobs.{JobView}
+use Rattle.worker_pool.specs.declared.passes.PassView.{PassView}
+
+-- all parts of the passes of one deque or queue together
+abbrev pub ALL_PARTS : ℕ
+ALL_PARTS = 1024
+
+-- what a pass knows: the batch that it is of, its parts, and what was pushed and taken with it
+abbrev pub knows : {T : Type 0} → List JobView → ℕ → List T → List T → PassView T
+knows batch parts pushed taken = record { batch = batch; parts = parts; pushed = pushed; taken = taken }
+
+module _ {T : Type 0} where
+  -- the weights of the items, added up
+  abbrev pub weigh : (T → ℕ) → List T → ℕ
+  weigh h [] = 0
+  weigh h (x ∷ xs) = h x + weigh h xs
+
+  -- what f gives of each pass, added up
+  abbrev pub total : (PassView T → ℕ) → List (PassView T) → ℕ
+  total f [] = 0
+  total f (v ∷ vs) = f v + total f vs
+
+  -- what was pushed was taken or is left, each item as often as it was pushed: so it is however items are weighed
+  abbrev pub AsOften : List T → List T → List T → Type 0
+  AsOften pushed taken left = (h : T → ℕ) → weigh h pushed ≡ weigh h taken + weigh h left
+
+module _ {T : Type 0} (IsOf : List JobView → T → Type 0) where
+  -- a pass without parts has empty lists; one with parts names the batch; all items of its lists are of the batch
+  pub record IsPassIn (batch : List JobView) (v : PassView T) : Type 0 where
+    pub idle : v.parts ≡ 0 → (v.pushed ≡ []) × (v.taken ≡ [])
+    pub named : 0 < v.parts → v.batch ≡ batch
+    pub pushed : All (IsOf batch) v.pushed
+    pub taken : All (IsOf batch) v.taken
+
+  -- The rule, over what is inside and what all passes know.
+  pub record IsBalanced (items : List T) (views : List (PassView T)) : Type 0 where
+    pub batch : List JobView
+    pub parts : total (λ v. v.parts) views ≡ ALL_PARTS
+    pub balanced : (h : T → ℕ) → total (λ v. weigh h v.pushed) views ≡ total (λ v. weigh h v.taken) views + weigh h items
+    pub inside : All (IsOf batch) items
+    pub passes : (port : ℕ) (v : PassView T) → get_elem? views port ≡ some v → IsPassIn batch v

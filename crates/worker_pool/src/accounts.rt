@@ -1,0 +1,161 @@
+//! The accounts of a batch: those that have no board yet, and what has come of each.
+ghost use Rattle.span_tables.specs.Holdings.{fits};
+ghost use Rattle.std.specs.Arc.{arc_value};
+ghost use Rattle.std.specs.Prelude.{◌≡◌, All, IfOk, IfSome, Some, length, map, slice_get, true};
+ghost use Rattle.worker_pool.specs.Batches.{job_at, jobs_of};
+ghost use Rattle.worker_pool.specs.declared.outcomes.Outcome.TheVariants.{NoMemory};
+ghost use Rattle.worker_pool.specs.steps.Places.{AreOutcomesOf};
+
+use crate::laws::Batch;
+use crate::outcomes::Outcome;
+use plan_compiler::set::CompiledSet;
+use result_book::rows::Row;
+use span_tables::portfolios::Portfolio;
+use std::alloc::{AllocError, Global};
+use std::collections::VecDeque;
+use std::marker::{Model, PhantomData};
+use std::sync::Arc;
+use step_scheduler::jobs::Job;
+
+/// The portfolios that have no board yet, in the order of their accounts.
+#[derive(Drop)]
+pub(crate) struct Waiting<B: Batch> {
+    set: Arc<CompiledSet>,
+    portfolios: VecDeque<Portfolio>,
+    next: usize,
+    batch: PhantomData<B>,
+}
+
+impl<B: Batch> Model for Waiting<B> {
+    ghost use Rattle.span_tables.specs.Holdings.{fits};
+    ghost use Rattle.std.specs.Arc.{arc_value};
+    ghost use Rattle.std.specs.Prelude.{◌≡◌, ◌+◌, ◌<◌, ◌^◌, All, drop, length, true};
+    ghost use Rattle.worker_pool.specs.Batches.{jobs_from};
+
+    ghost Value = { Unit {0} };
+
+    ghost view = { λ _. tt };
+
+    ghost invariant = { λ w. (jobs_from (arc_value w.set) w.next w.portfolios.items ≡ drop w.next B.jobs)
+        × All (λ p. fits (length (arc_value w.set).tables.contracts) p.holdings ≡ true) w.portfolios.items
+        × (w.next + length w.portfolios.items < 2 ^ 64) };
+}
+
+impl<B: Batch> Waiting<B> {
+    pub(crate) fn new(set: Arc<CompiledSet>, portfolios: Vec<Portfolio>) -> Waiting<B>
+        requires jobs { B.jobs ≡ jobs_of (arc_value set) portfolios.items }
+        requires fits { All (λ p. fits (length (arc_value set).tables.contracts) p.holdings ≡ true) portfolios.items }
+    {
+        Waiting {
+            set,
+            portfolios: VecDeque::from(portfolios),
+            next: 0,
+            batch: PhantomData,
+        }
+    }
+
+    /// How many there are.
+    pub(crate) fn len(&self) -> usize {
+        self.portfolios.len()
+    }
+
+    /// The next account's job, if there is one more. `Err` is want of memory.
+    pub(crate) fn next_job(&mut self, alloc: Global) -> Option<Result<Arc<Job>, AllocError>>
+        ensures { IfSome result (λ r. IfOk r (λ job. slice_get B.jobs (arc_value job).place ≡ Some (arc_value job))) }
+    {
+        let portfolio = self.portfolios.pop_front()?;
+        let place = self.next;
+        self.next += 1;
+        Some(job_of(alloc, &self.set, portfolio, place))
+    }
+}
+
+// The job of an account at a place. `Err` is want of memory.
+fn job_of(
+    alloc: Global,
+    set: &Arc<CompiledSet>,
+    portfolio: Portfolio,
+    place: usize,
+) -> Result<Arc<Job>, AllocError>
+    requires { fits (length (arc_value set.now).tables.contracts) portfolio.holdings ≡ true }
+    ensures { IfOk result (λ job. arc_value job ≡ job_at (arc_value set.now) portfolio place) }
+{
+    Ok(Arc::new(
+        alloc,
+        Job::new(Arc::try_clone(set)?, portfolio, place),
+    )?)
+}
+
+// Want of memory for each account.
+fn no_memory(alloc: Global, portfolios: &[Portfolio]) -> Result<Vec<Outcome>, AllocError>
+    ensures { IfOk result (λ outcomes. outcomes.items ≡ map (λ p. NoMemory p.account) portfolios.now) }
+{
+    portfolios
+        .iter()
+        .map(|portfolio| Outcome::NoMemory(portfolio.account().copied()))
+        .collect(alloc)
+}
+
+/// What has come of each account, in their order. At first that is want of memory.
+#[derive(Drop)]
+pub(crate) struct Outcomes<B: Batch> {
+    list: Vec<Outcome>,
+    // How many accounts have not ended.
+    left: usize,
+    batch: PhantomData<B>,
+}
+
+impl<B: Batch> Model for Outcomes<B> {
+    ghost use Rattle.worker_pool.specs.steps.Places.{AreOutcomesOf};
+
+    ghost Value = { Unit {0} };
+
+    ghost view = { λ _. tt };
+
+    ghost invariant = { λ o. AreOutcomesOf B.jobs o.list.items };
+}
+
+impl<B: Batch> Outcomes<B> {
+    pub(crate) fn new(
+        alloc: Global,
+        set: &Arc<CompiledSet>,
+        portfolios: &[Portfolio],
+    ) -> Result<Outcomes<B>, AllocError>
+        requires { B.jobs ≡ jobs_of (arc_value set.now) portfolios.now }
+    {
+        Ok(Outcomes {
+            list: no_memory(alloc, portfolios)?,
+            left: portfolios.len(),
+            batch: PhantomData,
+        })
+    }
+
+    /// Whether every account has ended.
+    pub(crate) fn is_done(&self) -> bool {
+        self.left == 0
+    }
+
+    /// One account more has ended.
+    pub(crate) fn close(&mut self) {
+        self.left = self.left.saturating_sub(1);
+    }
+
+    /// Gives the account at a place its row.
+    pub(crate) fn set(&mut self, place: usize, row: Arc<Row>)
+        requires { slice_get B.jobs place ≡ Some (job_at (arc_value row).set (arc_value row).portfolio place) }
+    {
+        self.list[place] = Outcome::Margined(row);
+    }
+
+    /// The outcomes, in the order of the accounts.
+    pub(crate) fn into_vec(self) -> Vec<Outcome>
+        ensures { AreOutcomesOf B.jobs result.items }
+    {
+        let Outcomes {
+            list,
+            left: _,
+            batch: _,
+        } = self;
+        list
+    }
+}

@@ -1,0 +1,210 @@
+//! Batches on many workers, which steal steps from one another.
+ghost use Rattle.crossbeam_queue.specs.Passes.{IsPassOf, view};
+ghost use Rattle.span_tables.specs.Holdings.{fits};
+ghost use Rattle.std.specs.Arc.{arc_value};
+ghost use Rattle.std.specs.Prelude.{◌≡◌, ◌<◌, ◌⊎◌, ◌↔◌, All, Err, IfOk, length, true};
+ghost use Rattle.worker_pool.specs.Batches.{jobs_of};
+ghost use Rattle.worker_pool.specs.Outcomes.{AreOutcomes};
+ghost use Rattle.worker_pool.specs.declared.batch.PoolFault.TheVariants as fault;
+ghost use Rattle.worker_pool.specs.steps.Places.{AreOutcomesOf};
+
+use crate::accounts::{Outcomes, Waiting};
+use crate::coordinator::{Coordinator, MOST_OPEN};
+use crate::ends::{OwnEnd, ThiefEnd, open_deque};
+use crate::gates::Gate;
+use crate::helpers::Helper;
+use crate::laws::{Batch, new_queue};
+use crate::outcomes::Outcome;
+use crate::plain::run_alone;
+use crate::queue_ends::{ResultEnd, open_results};
+use plan_compiler::set::CompiledSet;
+use span_tables::portfolios::Portfolio;
+use std::alloc::{AllocError, Global};
+use std::marker::Brand;
+use std::sync::atomic::AtomicBool;
+use std::sync::atomic::Ordering::SeqCst;
+use std::sync::{Arc, Wait};
+use std::thread;
+use std::thread::Threads;
+use std::time::Clock;
+
+/// The most workers that a batch can have.
+pub const MAX_WORKERS: usize = 16;
+
+/// The places of a deque at first. It grows.
+const DEQUE_PLACES: usize = 256;
+
+/// Why a batch is not run.
+#[derive(Clone, Copy, PartialEq, Eq, Debug)]
+pub enum PoolFault {
+    /// There are no workers, or more than 16.
+    Workers,
+    /// Memory ran out.
+    OutOfMemory,
+}
+
+impl From<AllocError> for PoolFault {
+    ghost from_gives = { λ _ answer. answer ≡ fault.OutOfMemory };
+
+    fn from(_error: AllocError) -> PoolFault {
+        PoolFault::OutOfMemory
+    }
+}
+
+// What a worker holds of the deques: its own end of its own, and a thief's end of each other.
+type Ends<B> = (OwnEnd<B>, Vec<ThiefEnd<B>>);
+
+// So many empty lists.
+fn empty_lists<T: Drop>(alloc: Global, count: usize) -> Result<Vec<Vec<T>>, AllocError> {
+    let mut lists = Vec::with_capacity(alloc, count)?;
+    for _ in 0..count {
+        lists.push(Vec::new(alloc))?;
+    }
+    Ok(lists)
+}
+
+// Gives each worker but the owner a thief's end.
+fn deal<B: Batch>(
+    thieves: Vec<ThiefEnd<B>>,
+    owner: usize,
+    hands: &mut Vec<Vec<ThiefEnd<B>>>,
+) -> Result<(), AllocError> {
+    let mut thieves = thieves;
+    for (worker, hand) in hands.iter_mut().enumerate() {
+        if worker != owner {
+            if let Some(thief) = thieves.pop() {
+                hand.push(thief)?;
+            }
+        }
+    }
+    Ok(())
+}
+
+// A deque for each worker, and thieves' ends of it for all others. `Err` is want of memory.
+fn open_deques<B: Batch>(alloc: Global, workers: usize) -> Result<Vec<Ends<B>>, AllocError>
+    requires { (0 < workers) × (workers < 17) }
+{
+    let mut owns = Vec::with_capacity(alloc, workers)?;
+    let mut hands = empty_lists(alloc, workers)?;
+    for owner in 0..workers {
+        let (own, thieves) = open_deque::<B>(alloc, DEQUE_PLACES, workers - 1)?;
+        owns.push(own)?;
+        deal(thieves, owner, &mut hands)?;
+    }
+    let mut ends = Vec::with_capacity(alloc, workers)?;
+    for pair in owns.into_iter().zip(hands) {
+        ends.push(pair)?;
+    }
+    Ok(ends)
+}
+
+// The helpers of a batch, numbered from 1. `Err` is want of memory.
+fn helpers_of<'a, B: Batch>(
+    alloc: Global,
+    ends: Vec<Ends<B>>,
+    results: Vec<ResultEnd<'a, B>>,
+) -> Result<Vec<Helper<'a, B>>, AllocError> {
+    let mut helpers = Vec::with_capacity(alloc, results.len())?;
+    let mut number = 0usize;
+    for ((own, thieves), results) in ends.into_iter().zip(results) {
+        number = number.saturating_add(1);
+        helpers.push(Helper {
+            number,
+            own,
+            thieves,
+            results,
+        })?;
+    }
+    Ok(helpers)
+}
+
+// Runs the coordinator here and each helper in a thread of its own. A helper whose thread is not started is done without.
+fn run_all<'a, B: Batch + Send + Sync, R: Threads + Wait + Clock + Sync, G: Gate>(
+    rt: &R,
+    alloc: Global,
+    gate: &G,
+    coordinator: Coordinator<'a, B>,
+    helpers: Vec<Helper<'a, B>>,
+) -> Vec<Outcome>
+    ensures { AreOutcomesOf B.jobs result.items }
+{
+    let stop = AtomicBool::new(false);
+    let stop = &stop;
+    thread::scope(
+        thread::scope_env(),
+        rt,
+        move |scope| -> Vec<Outcome>
+            ensures { AreOutcomesOf B.jobs result.items }
+        {
+            let mut coordinator = coordinator;
+            for helper in helpers {
+                let _ = scope.spawn(move || helper.run(rt, alloc, gate, stop));
+            }
+            coordinator.run(rt, alloc, gate);
+            stop.store(true, SeqCst);
+            coordinator.into_outcomes()
+        },
+    )
+}
+
+// The batch on more than one worker. Its type names the jobs, and no type of the signature does.
+fn run_named<B: Batch + Send + Sync, R: Threads + Wait + Clock + Sync, G: Gate>(
+    rt: &R,
+    alloc: Global,
+    set: &Arc<CompiledSet>,
+    portfolios: Vec<Portfolio>,
+    workers: usize,
+    gate: &G,
+) -> Result<Vec<Outcome>, AllocError>
+    requires jobs { B.jobs ≡ jobs_of (arc_value set.now) portfolios.items }
+    requires workers { (0 < workers) × (workers < 17) }
+    requires fits { All (λ p. fits (length (arc_value set.now).tables.contracts) p.holdings ≡ true) portfolios.items }
+    ensures { IfOk result (λ outcomes. AreOutcomes (arc_value set.now) portfolios.items outcomes.items) }
+{
+    let outcomes = Outcomes::<B>::new(alloc, set, portfolios.as_slice())?;
+    let waiting = Waiting::<B>::new(Arc::try_clone(set)?, portfolios);
+    let (queue, pass) = new_queue::<B>(alloc)?;
+    let (results, theirs) = open_results(alloc, &queue, pass, workers - 1)?;
+    let mut ends = open_deques::<B>(alloc, workers)?;
+    let Some((own, thieves)) = ends.pop() else {
+        return Err(AllocError);
+    };
+    let helpers = helpers_of(alloc, ends, theirs)?;
+    let coordinator = Coordinator {
+        waiting,
+        open: Vec::with_capacity(alloc, MOST_OPEN)?,
+        outcomes,
+        own,
+        thieves,
+        results,
+    };
+    Ok(run_all(rt, alloc, gate, coordinator, helpers))
+}
+
+/// The outcomes of accounts under a set, in their order, on 1 to 16 workers. The portfolios fit the set's tables.
+///
+/// Refused is, first, a number of workers that is 0 or over 16, and then want of memory for the deques, the queue, their
+/// passes or the lists of the batch. An account has `NoMemory` where its job, its board, a step or its row has no memory.
+/// With one worker each task is evaluated as soon as it is handed out, and no thread is started.
+pub fn run_batch<R: Threads + Wait + Clock + Sync, G: Gate>(
+    rt: &R,
+    alloc: Global,
+    set: &Arc<CompiledSet>,
+    portfolios: Vec<Portfolio>,
+    workers: usize,
+    gate: &G,
+) -> Result<Vec<Outcome>, PoolFault>
+    requires { All (λ p. fits (length (arc_value set.now).tables.contracts) p.holdings ≡ true) portfolios.items }
+    ensures workers { (result ≡ Err fault.Workers) ↔ ((workers ≡ 0) ⊎ (16 < workers)) }
+    ensures outcomes { IfOk result (λ outcomes. AreOutcomes (arc_value set.now) portfolios.items outcomes.items) }
+{
+    if workers == 0 || workers > MAX_WORKERS {
+        return Err(PoolFault::Workers);
+    }
+    let outcomes = if workers == 1 {
+        run_alone(alloc, set, portfolios, gate)
+    } else {
+        run_named::<Brand, R, G>(rt, alloc, set, portfolios, workers, gate)
+    };
+    Ok(outcomes?)
+}

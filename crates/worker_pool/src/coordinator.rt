@@ -1,0 +1,172 @@
+//! The thread that opens the boards of a batch, hands out and takes back their steps, and keeps the outcomes.
+ghost use Rattle.std.specs.Arc.{arc_value};
+ghost use Rattle.std.specs.Prelude.{◌≡◌, Some, slice_get};
+ghost use Rattle.worker_pool.specs.steps.Places.{AreOutcomesOf};
+
+use crate::accounts::{Outcomes, Waiting};
+use crate::ends::{OwnEnd, FinishedOf, TaskOf, ThiefEnd};
+use crate::gates::Gate;
+use crate::idle::Patience;
+use crate::laws::Batch;
+use crate::open_boards::OpenBoard;
+use crate::outcomes::Outcome;
+use crate::plain::COORDINATOR;
+use crate::queue_ends::ResultEnd;
+use std::alloc::Global;
+use std::sync::{Arc, Wait};
+use std::time::Clock;
+use step_scheduler::jobs::Job;
+
+/// How many boards are open at one moment, at most.
+pub(crate) const MOST_OPEN: usize = 8;
+
+/// After how many steps of its own the coordinator looks for results.
+const STEPS_BETWEEN_LOOKS: usize = 64;
+
+/// What the coordinator holds.
+#[derive(Drop)]
+pub(crate) struct Coordinator<'a, B: Batch> {
+    pub(crate) waiting: Waiting<B>,
+    pub(crate) open: Vec<OpenBoard<B>>,
+    pub(crate) outcomes: Outcomes<B>,
+    pub(crate) own: OwnEnd<B>,
+    pub(crate) thieves: Vec<ThiefEnd<B>>,
+    pub(crate) results: ResultEnd<'a, B>,
+}
+
+impl<B: Batch> Coordinator<'_, B> {
+    /// Runs until each account has ended.
+    pub(crate) fn run<R: Wait + Clock, G: Gate>(&mut self, rt: &R, alloc: Global, gate: &G) {
+        let mut patience = Patience::new();
+        for _ in rt.forever() {
+            self.open_more(alloc, gate);
+            if self.outcomes.is_done() {
+                return;
+            }
+            if self.goes_on(rt, alloc, gate) {
+                patience.renew();
+            } else {
+                patience.wait(rt);
+            }
+        }
+    }
+
+    /// The outcomes, in the order of the accounts.
+    pub(crate) fn into_outcomes(self) -> Vec<Outcome>
+        ensures { AreOutcomesOf B.jobs result.items }
+    {
+        let Coordinator {
+            waiting: _,
+            open: _,
+            outcomes,
+            own: _,
+            thieves: _,
+            results: _,
+        } = self;
+        outcomes.into_vec()
+    }
+
+    // Takes back a result, or goes on with an open board, or evaluates a task of a deque. Whether there was any.
+    fn goes_on<R: Wait, G: Gate>(&mut self, rt: &R, alloc: Global, gate: &G) -> bool {
+        if let Some(done) = self.results.pop(rt) {
+            self.take_back(alloc, gate, done);
+            return true;
+        }
+        if let Some(at) = self.open.iter().position(|board| board.is_going()) {
+            self.go_on(alloc, gate, at);
+            return true;
+        }
+        match self.find_task() {
+            Some(task) => {
+                self.take_back(alloc, gate, task.evaluate(alloc, gate, COORDINATOR));
+                true
+            }
+            None => false,
+        }
+    }
+
+    // A task of the coordinator's deque, or else one of a helper's.
+    fn find_task(&mut self) -> Option<TaskOf<B>> {
+        if let Some(task) = self.own.pop() {
+            return Some(task);
+        }
+        for thief in self.thieves.iter_mut() {
+            if let Some(task) = thief.steal() {
+                return Some(task);
+            }
+        }
+        None
+    }
+
+    // Opens boards while there may be more of them.
+    fn open_more<G: Gate>(&mut self, alloc: Global, gate: &G) {
+        for _ in 0..self.waiting.len() {
+            if self.open.len() >= MOST_OPEN {
+                return;
+            }
+            match self.waiting.next_job(alloc) {
+                Some(Ok(job)) => self.open_board(alloc, gate, job),
+                Some(Err(_)) => self.outcomes.close(),
+                None => return,
+            }
+        }
+    }
+
+    // Opens the board of a job, and pushes all that it hands out.
+    fn open_board<G: Gate>(&mut self, alloc: Global, gate: &G, job: Arc<Job>)
+        requires { slice_get B.jobs (arc_value job).place ≡ Some (arc_value job) }
+    {
+        let Ok(mut board) = OpenBoard::new(alloc, job) else {
+            self.outcomes.close();
+            return;
+        };
+        board.hand_out(alloc, gate, &mut self.own);
+        if board.has_ended() {
+            self.close(alloc, board);
+        } else if let Err(refused) = self.open.push(board) {
+            self.close(alloc, refused.value);
+        }
+    }
+
+    // Gives a result to the board of its place. One of no open board is dropped.
+    fn take_back<G: Gate>(&mut self, alloc: Global, gate: &G, done: FinishedOf<B>) {
+        let place = done.place();
+        let Some(at) = self.open.iter().position(|board| board.place() == place) else {
+            return;
+        };
+        if let Some(board) = self.open.get_mut(at) {
+            if board.place() == place {
+                board.keep(alloc, gate, &mut self.own, done);
+            }
+        }
+        self.close_ended(alloc, at);
+    }
+
+    // Goes on with an open board, until it waits or it is time to look for results.
+    fn go_on<G: Gate>(&mut self, alloc: Global, gate: &G, at: usize) {
+        if let Some(board) = self.open.get_mut(at) {
+            for _ in 0..STEPS_BETWEEN_LOOKS {
+                if !board.step(alloc, gate, &mut self.own) {
+                    break;
+                }
+            }
+        }
+        self.close_ended(alloc, at);
+    }
+
+    // Closes an open board if it has ended.
+    fn close_ended(&mut self, alloc: Global, at: usize) {
+        if at < self.open.len() && self.open[at].has_ended() {
+            let ended = self.open.swap_remove(at);
+            self.close(alloc, ended);
+        }
+    }
+
+    // Keeps the row of an ended board, where it has one.
+    fn close(&mut self, alloc: Global, ended: OpenBoard<B>) {
+        if let Some(row) = ended.row(alloc) {
+            self.outcomes.set(ended.place(), row);
+        }
+        self.outcomes.close();
+    }
+}

@@ -1,0 +1,177 @@
+//! What a worker holds of the deques of a batch. The types keep that all of it is of the batch, so that the code above
+//! needs no clause.
+ghost use Rattle.crossbeam_deque.specs.Handles.{IsPassOf, stealer_deque, view, worker_deque, worker_view};
+ghost use Rattle.std.specs.Prelude.{◌≡◌, ◌<◌, IfErr};
+ghost use Rattle.worker_pool.specs.Batches.{IsResultOf, IsTaskOf};
+
+use crate::gates::Gate;
+use crate::laws::{
+    Batch, Deque, DequePass, Thief, new_deque, pop_task, push_task, split_deque_pass, steal_task,
+};
+use crossbeam_deque::Steal;
+use plan_ir::values::Value;
+use std::alloc::{AllocError, Global};
+use std::marker::{Model, PhantomData};
+use step_scheduler::evaluation::evaluate;
+use step_scheduler::finished::Finished;
+use step_scheduler::tasks::Task;
+
+/// How many contracts of a commodity are so many that steps on them are worth handing to another worker.
+pub(crate) const LARGE_HELD: usize = 256;
+
+/// A task of the batch.
+#[derive(Drop)]
+pub(crate) struct TaskOf<B: Batch> {
+    pub(crate) task: Task,
+    of: PhantomData<B>,
+    pub(crate) ghost is: { IsTaskOf B.jobs task },
+}
+
+/// A result of the batch.
+#[derive(Drop)]
+pub(crate) struct FinishedOf<B: Batch> {
+    pub(crate) finished: Finished,
+    of: PhantomData<B>,
+    pub(crate) ghost is: { IsResultOf B.jobs finished },
+}
+
+impl<B: Batch> TaskOf<B> {
+    pub(crate) fn new(task: Task) -> TaskOf<B>
+        requires { IsTaskOf B.jobs task }
+        ensures { result.task ≡ task }
+    {
+        TaskOf {
+            task,
+            of: PhantomData,
+        }
+    }
+
+    /// Its result, once the worker of a number has passed the gate with it.
+    pub(crate) fn evaluate<G: Gate>(self, alloc: Global, gate: &G, worker: usize) -> FinishedOf<B>
+        ensures { result.finished.job ≡ self.task.job }
+    {
+        let TaskOf { task, of: _ } = self;
+        gate.pass(worker, task.job().portfolio().account(), task.step());
+        FinishedOf::new(evaluate(alloc, task))
+    }
+}
+
+impl<B: Batch> FinishedOf<B> {
+    pub(crate) fn new(finished: Finished) -> FinishedOf<B>
+        requires { IsResultOf B.jobs finished }
+        ensures { result.finished ≡ finished }
+    {
+        FinishedOf {
+            finished,
+            of: PhantomData,
+        }
+    }
+
+    /// The place of its account.
+    pub(crate) fn place(&self) -> usize
+        ensures { result ≡ self.now.finished.job.place }
+    {
+        self.finished.job().place()
+    }
+
+    /// Whether its value is large: what is then ready is worth handing to another worker.
+    pub(crate) fn is_large(&self) -> bool {
+        match self.finished.value() {
+            Some(Value::Held(held)) => held.len() >= LARGE_HELD,
+            _ => false,
+        }
+    }
+
+    /// The finished step.
+    pub(crate) fn into_finished(self) -> Finished
+        ensures finished { result ≡ self.finished }
+        ensures batch { IsResultOf B.jobs result }
+    {
+        let FinishedOf { finished, of: _ } = self;
+        finished
+    }
+}
+
+/// The owner's end of a deque.
+#[derive(Drop)]
+pub(crate) struct OwnEnd<B: Batch> {
+    deque: Deque<B>,
+}
+
+impl<B: Batch> Model for OwnEnd<B> {
+    ghost use Rattle.std.specs.Prelude.{◌≡◌, ◌<◌};
+    ghost use Rattle.crossbeam_deque.specs.Handles.{worker_view};
+
+    ghost Value = { Unit {0} };
+
+    ghost view = { λ _. tt };
+
+    ghost invariant = { λ e. ((worker_view e.deque).batch ≡ B.jobs) × (0 < (worker_view e.deque).parts) };
+}
+
+/// A thief's end of a deque, with its pass.
+#[derive(Drop)]
+pub(crate) struct ThiefEnd<B: Batch> {
+    thief: Thief<B>,
+    pass: DequePass,
+}
+
+impl<B: Batch> Model for ThiefEnd<B> {
+    ghost use Rattle.std.specs.Prelude.{◌≡◌, ◌<◌};
+    ghost use Rattle.crossbeam_deque.specs.Handles.{IsPassOf, stealer_deque, view as pass_view};
+
+    ghost Value = { Unit {0} };
+
+    ghost view = { λ _. tt };
+
+    ghost invariant = { λ e. IsPassOf (stealer_deque e.thief) e.pass × ((pass_view e.pass).batch ≡ B.jobs)
+        × (0 < (pass_view e.pass).parts) };
+}
+
+/// A deque of so many places at first, with its ends for so many thieves. `Err` is want of memory.
+pub(crate) fn open_deque<B: Batch>(
+    alloc: Global,
+    places: usize,
+    thieves: usize,
+) -> Result<(OwnEnd<B>, Vec<ThiefEnd<B>>), AllocError>
+    requires { thieves < 16 }
+{
+    let mut deque = new_deque::<B>(alloc, places)?;
+    let mut ends = Vec::with_capacity(alloc, thieves)?;
+    for _ in 0..thieves {
+        let thief = deque.stealer()?;
+        let pass = split_deque_pass(&mut deque);
+        ends.push(ThiefEnd { thief, pass })?;
+    }
+    Ok((OwnEnd { deque }, ends))
+}
+
+impl<B: Batch> OwnEnd<B> {
+    /// Adds a task at the back. A refused one comes back.
+    pub(crate) fn push(&mut self, task: TaskOf<B>) -> Result<(), TaskOf<B>>
+        ensures { IfErr result (λ back. back.task ≡ task.task) }
+    {
+        let TaskOf { task, of: _ } = task;
+        match push_task(&mut self.deque, task) {
+            Ok(()) => Ok(()),
+            Err(task) => Err(TaskOf::new(task)),
+        }
+    }
+
+    /// The task at the front.
+    pub(crate) fn pop(&mut self) -> Option<TaskOf<B>> {
+        let task = pop_task(&mut self.deque)?;
+        Some(TaskOf::new(task))
+    }
+}
+
+impl<B: Batch> ThiefEnd<B> {
+    /// The task at the front, unless another worker took it meanwhile.
+    pub(crate) fn steal(&mut self) -> Option<TaskOf<B>> {
+        match steal_task(&self.thief, &mut self.pass) {
+            Steal::Success(task) => Some(TaskOf::new(task)),
+            Steal::Empty => None,
+            Steal::Retry => None,
+        }
+    }
+}

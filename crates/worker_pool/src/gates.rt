@@ -1,0 +1,16 @@
+//! What each evaluation of a batch passes first.
+use span_tables::name::Name;
+
+/// A gate that workers share: a worker passes it before each evaluation, with the account and the step's number in the
+/// plan. Worker 0 is the coordinator. Tests watch and hold workers there.
+pub trait Gate: Sync {
+    fn pass(&self, worker: usize, account: &Name, step: usize);
+}
+
+/// A gate that lets everything pass.
+#[derive(Clone, Copy, Debug, Default)]
+pub struct OpenGate;
+
+impl Gate for OpenGate {
+    fn pass(&self, _worker: usize, _account: &Name, _step: usize) {}
+}

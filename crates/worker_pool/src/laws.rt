@@ -1,0 +1,312 @@
+//! The atomic steps of deques and of the result queue of a batch, each under the balance rule.
+//!
+//! A pass goes with each end: what was pushed and taken with it is known to contracts. The first pass of a deque or of
+//! the queue has all 1024 parts; a pass that is split off has one of them; who has them all knows the whole.
+ghost use Rattle.crossbeam_deque.specs.Handles.{IsPassOf, SamePass, SameWorker, stealer_deque, worker_deque};
+ghost use Rattle.crossbeam_deque.specs.Handles.{view, worker_view};
+ghost use Rattle.crossbeam_deque.specs.Steals.{MatchSteal};
+ghost use Rattle.crossbeam_queue.specs.Passes.{IsPassOf as IsQueuePassOf, IsSamePass, ruled_capacity, view as queue_view};
+ghost use Rattle.std.specs.Prelude.{◌≡◌, ◌+◌, ◌-◌, ◌<◌, [], ◌∷◌, ◌++◌, All, List, length};
+ghost use Rattle.std.specs.Prelude.{IfErr, IfOk, MatchOption, OnErr, OnOk};
+ghost use Rattle.step_scheduler.specs.Jobs.{FinishedView, TaskView};
+ghost use Rattle.worker_pool.specs.Balance.{ALL_PARTS, AsOften, IsBalanced, knows};
+ghost use Rattle.worker_pool.specs.Batches.{IsResultOf, IsTaskOf};
+
+use crate::passes::PassView;
+use crossbeam_deque::protocol::{Join, Lesson, Outcome, Protocol, Split};
+use crossbeam_deque::{Pass, Steal, Stealer, Worker};
+use crossbeam_queue::RuledArrayQueue;
+use crossbeam_queue::protocol as queue;
+use std::alloc::{AllocError, Global};
+use std::marker::{Brand, PhantomData};
+use std::sync::Wait;
+use step_scheduler::finished::Finished;
+use step_scheduler::tasks::Task;
+
+/// The places of the result queue.
+pub const RESULT_PLACES: usize = 256;
+
+/// Names a batch by its jobs.
+pub trait Batch {
+    ghost use Rattle.std.specs.Prelude.{List};
+    ghost use Rattle.step_scheduler.specs.Jobs.{JobView};
+
+    ghost jobs: { List JobView };
+}
+
+impl Batch for Brand {
+    ghost use Rattle.std.specs.Prelude.{[]};
+
+    ghost jobs = { [] };
+}
+
+/// The balance rule of the deques and of the queue of a batch.
+pub struct OfBatch<B> {
+    batch: PhantomData<B>,
+}
+
+impl<B: Batch> Protocol<Task, PassView<Task>> for OfBatch<B> {
+    ghost use Rattle.std.specs.Prelude.{[]};
+    ghost use Rattle.worker_pool.specs.Balance.{ALL_PARTS, IsBalanced, knows};
+    ghost use Rattle.worker_pool.specs.Batches.{IsTaskOf};
+
+    ghost holds = { IsBalanced IsTaskOf };
+
+    ghost first = { knows B.jobs ALL_PARTS [] [] };
+
+    ghost guest = { knows [] 0 [] [] };
+}
+
+impl<B: Batch> queue::Protocol<Finished, PassView<Finished>> for OfBatch<B> {
+    ghost use Rattle.std.specs.Prelude.{[]};
+    ghost use Rattle.worker_pool.specs.Balance.{ALL_PARTS, IsBalanced, knows};
+    ghost use Rattle.worker_pool.specs.Batches.{IsResultOf};
+
+    ghost holds = { IsBalanced IsResultOf };
+
+    ghost first = { knows B.jobs ALL_PARTS [] [] };
+}
+
+// A push adds the item to what was pushed.
+struct Pushed;
+
+impl Outcome<Task, PassView<Task>> for Pushed {
+    ghost then = { λ v xs w. w ≡ knows v.batch v.parts (v.pushed ++ xs) v.taken };
+}
+
+impl queue::Outcome<Finished, PassView<Finished>> for Pushed {
+    ghost then = { λ v x w. w ≡ knows v.batch v.parts (v.pushed ++ x ∷ []) v.taken };
+}
+
+// Nothing is concluded from a refused push but that the queue was full.
+impl queue::Lesson<Finished, PassView<Finished>> for Pushed {
+    ghost fact = { λ _ _. Unit {0} };
+}
+
+// A pop or a steal adds the item to what was taken, and the item is of the batch.
+struct Taken;
+
+impl Outcome<Task, PassView<Task>> for Taken {
+    ghost then = { λ v xs w. (w ≡ knows v.batch v.parts v.pushed (v.taken ++ xs)) × All (IsTaskOf v.batch) xs };
+}
+
+impl queue::Outcome<Finished, PassView<Finished>> for Taken {
+    ghost then = { λ v x w. (w ≡ knows v.batch v.parts v.pushed (v.taken ++ x ∷ [])) × IsResultOf v.batch x };
+}
+
+// Nothing is concluded from a queue where a pop finds nothing.
+impl queue::Lesson<Finished, PassView<Finished>> for Taken {
+    ghost fact = { λ _ _. Unit {0} };
+}
+
+// One part goes to a new pass.
+struct OnePart;
+
+impl Split<PassView<Task>> for OnePart {
+    ghost left = { λ v. knows v.batch (v.parts - 1) v.pushed v.taken };
+
+    ghost right = { λ v. knows v.batch 1 [] [] };
+}
+
+impl queue::Split<PassView<Finished>> for OnePart {
+    ghost left = { λ v. knows v.batch (v.parts - 1) v.pushed v.taken };
+
+    ghost right = { λ v. knows v.batch 1 [] [] };
+}
+
+// The first pass has what both had, and the second nothing.
+struct Merged;
+
+impl Join<PassView<Task>> for Merged {
+    ghost both = { λ v w. knows v.batch (v.parts + w.parts) (v.pushed ++ w.pushed) (v.taken ++ w.taken) };
+
+    ghost spent = { knows [] 0 [] [] };
+}
+
+impl queue::Join<PassView<Finished>> for Merged {
+    ghost both = { λ v w. knows v.batch (v.parts + w.parts) (v.pushed ++ w.pushed) (v.taken ++ w.taken) };
+
+    ghost spent = { knows [] 0 [] [] };
+}
+
+// What the pass with all parts learns.
+struct Settled;
+
+impl Lesson<Task, PassView<Task>> for Settled {
+    ghost fact = { λ v items. AsOften v.pushed v.taken items × All (IsTaskOf v.batch) items × All (IsTaskOf v.batch) v.pushed × All (IsTaskOf v.batch) v.taken };
+}
+
+impl queue::Lesson<Finished, PassView<Finished>> for Settled {
+    ghost fact = { λ v items. AsOften v.pushed v.taken items × All (IsResultOf v.batch) items × All (IsResultOf v.batch) v.pushed × All (IsResultOf v.batch) v.taken };
+}
+
+/// The owner's end of a deque of a batch: tasks come out in the order in which they were pushed.
+pub type Deque<B> = Worker<Task, Global, PassView<Task>, OfBatch<B>>;
+
+/// A thief's end of a deque.
+pub type Thief<B> = Stealer<Task, Global, PassView<Task>, OfBatch<B>>;
+
+/// A pass of a deque.
+pub type DequePass = Pass<Task, PassView<Task>>;
+
+/// The result queue of a batch.
+pub type Results<B> = RuledArrayQueue<Finished, PassView<Finished>, OfBatch<B>>;
+
+/// A pass of the result queue.
+pub type ResultPass = crossbeam_queue::Pass<Finished, PassView<Finished>>;
+
+/// An empty deque, whose pass has all parts. `Err` is want of memory.
+pub fn new_deque<B: Batch>(alloc: Global, capacity: usize) -> Result<Deque<B>, AllocError>
+    ensures { IfOk result (λ w. worker_view w ≡ knows B.jobs ALL_PARTS [] []) }
+{
+    Deque::<B>::fifo_as(alloc, capacity)
+}
+
+/// Splits a new pass with one part off the owner's.
+pub fn split_deque_pass<B: Batch>(owner: &mut Deque<B>) -> DequePass
+    requires { 1 < (worker_view owner.old).parts }
+    ensures same { SameWorker owner.old owner.new × IsPassOf (worker_deque owner.old) result }
+    ensures old { worker_view owner.new ≡ knows (worker_view owner.old).batch ((worker_view owner.old).parts - 1)
+        (worker_view owner.old).pushed (worker_view owner.old).taken }
+    ensures new { view result ≡ knows (worker_view owner.old).batch 1 [] [] }
+{
+    owner.another::<OnePart>()
+}
+
+/// Adds a task of the batch at the back. A refused one comes back, and nothing changes.
+pub fn push_task<B: Batch>(owner: &mut Deque<B>, task: Task) -> Result<(), Task>
+    requires part { 0 < (worker_view owner.old).parts }
+    requires batch { IsTaskOf (worker_view owner.old).batch task }
+    ensures same { SameWorker owner.old owner.new }
+    ensures ok { OnOk result (worker_view owner.new ≡ knows (worker_view owner.old).batch (worker_view owner.old).parts
+        ((worker_view owner.old).pushed ++ task ∷ []) (worker_view owner.old).taken) }
+    ensures err { IfErr result (λ back. (back ≡ task) × (worker_view owner.new ≡ worker_view owner.old)) }
+{
+    owner.push_as::<Pushed>(task)
+}
+
+/// Takes the task at the front, for the owner. It is of the batch. Nothing changes where nothing is found.
+pub fn pop_task<B: Batch>(owner: &mut Deque<B>) -> Option<Task>
+    requires { 0 < (worker_view owner.old).parts }
+    ensures same { SameWorker owner.old owner.new }
+    ensures task { MatchOption result (worker_view owner.new ≡ worker_view owner.old) (λ task.
+        (worker_view owner.new ≡ knows (worker_view owner.old).batch (worker_view owner.old).parts
+            (worker_view owner.old).pushed ((worker_view owner.old).taken ++ task ∷ []))
+        × IsTaskOf (worker_view owner.old).batch task) }
+{
+    owner.pop_as::<Taken>()
+}
+
+/// Takes the task at the front, for a thief. It is of the batch. Nothing changes where nothing is found.
+pub fn steal_task<B: Batch>(thief: &Thief<B>, pass: &mut DequePass) -> Steal<Task>
+    requires deque { IsPassOf (stealer_deque thief.now) pass.old }
+    requires part { 0 < (view pass.old).parts }
+    ensures same { SamePass pass.old pass.new }
+    ensures task { MatchSteal result (view pass.new ≡ view pass.old) (view pass.new ≡ view pass.old) (λ task.
+        (view pass.new ≡ knows (view pass.old).batch (view pass.old).parts
+            (view pass.old).pushed ((view pass.old).taken ++ task ∷ []))
+        × IsTaskOf (view pass.old).batch task) }
+{
+    thief.steal_as::<Taken>(pass)
+}
+
+/// Merges a pass into the owner's, where the two have all parts.
+///
+/// What was pushed with them was taken or is left, as often as it was pushed, and all of it is of the batch.
+pub fn settle_deque<B: Batch>(owner: Deque<B>, pass: DequePass) -> Deque<B>
+    requires deque { IsPassOf (worker_deque owner) pass }
+    requires parts { (worker_view owner).parts + (view pass).parts ≡ ALL_PARTS }
+    requires part { 0 < (worker_view owner).parts }
+    ensures same { worker_deque result ≡ worker_deque owner }
+    ensures merged { worker_view result ≡ knows (worker_view owner).batch ALL_PARTS
+        ((worker_view owner).pushed ++ (view pass).pushed) ((worker_view owner).taken ++ (view pass).taken) }
+    ensures settled { (left : List TaskView) × AsOften (worker_view result).pushed (worker_view result).taken left
+        × All (IsTaskOf (worker_view result).batch) left
+        × All (IsTaskOf (worker_view result).batch) (worker_view result).pushed
+        × All (IsTaskOf (worker_view result).batch) (worker_view result).taken }
+{
+    let mut owner = owner;
+    owner.absorb::<Merged>(pass);
+    owner.len_as::<Settled>();
+    owner
+}
+
+/// An empty result queue of 256 places, with the pass that has all parts. `Err` is want of memory.
+pub fn new_queue<B: Batch>(alloc: Global) -> Result<(Results<B>, ResultPass), AllocError>
+    ensures queue { IfOk result (λ r. IsQueuePassOf r.0 r.1 × (ruled_capacity r.0 ≡ 256)) }
+    ensures view { IfOk result (λ r. queue_view r.1 ≡ knows B.jobs ALL_PARTS [] []) }
+{
+    Results::<B>::ruled(alloc, RESULT_PLACES)
+}
+
+/// Splits a new pass with one part off a pass of the queue.
+pub fn split_queue_pass<B: Batch>(queue: &Results<B>, pass: &mut ResultPass) -> ResultPass
+    requires queue { IsQueuePassOf queue.now pass.old }
+    requires parts { 1 < (queue_view pass.old).parts }
+    ensures same { IsSamePass pass.old pass.new × IsQueuePassOf queue.now result }
+    ensures old { queue_view pass.new ≡ knows (queue_view pass.old).batch ((queue_view pass.old).parts - 1)
+        (queue_view pass.old).pushed (queue_view pass.old).taken }
+    ensures new { queue_view result ≡ knows (queue_view pass.old).batch 1 [] [] }
+{
+    queue.another::<OnePart>(pass)
+}
+
+/// Adds a result of the batch at the back. One comes back only where the queue was full, and then nothing changes.
+pub fn push_result<B: Batch, R: Wait>(
+    rt: &R,
+    queue: &Results<B>,
+    pass: &mut ResultPass,
+    finished: Finished,
+) -> Result<(), Finished>
+    requires queue { IsQueuePassOf queue.now pass.old }
+    requires part { 0 < (queue_view pass.old).parts }
+    requires batch { IsResultOf (queue_view pass.old).batch finished }
+    ensures same { IsSamePass pass.old pass.new }
+    ensures ok { OnOk result (queue_view pass.new ≡ knows (queue_view pass.old).batch (queue_view pass.old).parts
+        ((queue_view pass.old).pushed ++ finished ∷ []) (queue_view pass.old).taken) }
+    ensures err { IfErr result (λ back. (back ≡ finished) × (queue_view pass.new ≡ queue_view pass.old)) }
+    ensures full { OnErr result ((inside : List FinishedView) × (length inside ≡ ruled_capacity queue.now)) }
+{
+    queue.push_as::<Pushed, R>(rt, pass, finished)
+}
+
+/// Takes the result at the front. It is of the batch. Nothing changes where nothing is found.
+pub fn pop_result<B: Batch, R: Wait>(
+    rt: &R,
+    queue: &Results<B>,
+    pass: &mut ResultPass,
+) -> Option<Finished>
+    requires queue { IsQueuePassOf queue.now pass.old }
+    requires part { 0 < (queue_view pass.old).parts }
+    ensures same { IsSamePass pass.old pass.new }
+    ensures finished { MatchOption result (queue_view pass.new ≡ queue_view pass.old) (λ finished.
+        (queue_view pass.new ≡ knows (queue_view pass.old).batch (queue_view pass.old).parts
+            (queue_view pass.old).pushed ((queue_view pass.old).taken ++ finished ∷ []))
+        × IsResultOf (queue_view pass.old).batch finished) }
+{
+    queue.pop_as::<Taken, R>(rt, pass)
+}
+
+/// Merges the second pass of the queue into the first, where the two have all parts.
+///
+/// What was pushed with them was taken or is left, as often as it was pushed, and all of it is of the batch.
+pub fn settle_queue<B: Batch>(
+    queue: Results<B>,
+    mut pass: ResultPass,
+    other: ResultPass,
+) -> (Results<B>, ResultPass)
+    requires queue { IsQueuePassOf queue pass × IsQueuePassOf queue other }
+    requires parts { (queue_view pass).parts + (queue_view other).parts ≡ ALL_PARTS }
+    requires part { 0 < (queue_view pass).parts }
+    ensures same { (result.0 ≡ queue) × IsQueuePassOf result.0 result.1 }
+    ensures merged { queue_view result.1 ≡ knows (queue_view pass).batch ALL_PARTS
+        ((queue_view pass).pushed ++ (queue_view other).pushed) ((queue_view pass).taken ++ (queue_view other).taken) }
+    ensures settled { (left : List FinishedView) × AsOften (queue_view result.1).pushed (queue_view result.1).taken left
+        × All (IsResultOf (queue_view result.1).batch) left
+        × All (IsResultOf (queue_view result.1).batch) (queue_view result.1).pushed
+        × All (IsResultOf (queue_view result.1).batch) (queue_view result.1).taken }
+{
+    queue.absorb::<Merged>(&mut pass, other);
+    queue.learn_as::<Settled>(&mut pass);
+    (queue, pass)
+}
