@@ -13,6 +13,7 @@ is_memory (fault.Params e) = param.is_memory e
 is_memory (fault.Check e) = check.is_memory e
 is_memory (fault.Positions e) = position.is_memory e
 is_memory (fault.Bind e) = bind.is_memory e
+is_memory fault.Workers = false
 is_memory fault.Memory = true
 
 -- The text or the fault of the definition; or `Memory`, which says nothing of the definition. Want of memory is

@@ -14,11 +14,15 @@ use Rattle.param_check.specs.declared.faults.BindFault.TheVariants as bind
 use Rattle.param_check.specs.Binding as bind_fault
 use Rattle.statement.specs.declared.faults.SpanFault.{SpanFault}
 use Rattle.statement.specs.declared.faults.SpanFault.TheVariants as fault
-use Rattle.statement.specs.declared.statuses.TheConstants.{OUT_OF_MEMORY, PARAMETERS_REFUSED, POSITIONS_REFUSED}
+use Rattle.statement.specs.declared.statuses.TheConstants.{OUT_OF_MEMORY, PARAMETERS_REFUSED, POSITIONS_REFUSED, USAGE}
 
 -- want of memory
 abbrev pub memory_line : List ℕ
 memory_line = codes "memory\n"
+
+-- a number of workers that cannot be
+abbrev pub workers_line : List ℕ
+workers_line = codes "workers: L1 Workers\n"
 
 -- a fault of a record of a file: what file, the fault's number and name, and the record's number
 abbrev pub record_line : List ℕ → List ℕ → ℕ → List ℕ
@@ -81,12 +85,14 @@ fault_line (fault.Params e) = param_line e
 fault_line (fault.Check e) = check_line e
 fault_line (fault.Positions e) = position_line e
 fault_line (fault.Bind e) = bind_line e
+fault_line fault.Workers = workers_line
 fault_line fault.Memory = memory_line
 
--- the exit status of a fault: that of refused parameters, of refused positions, or of want of memory
+-- the exit status of a fault: that of refused parameters, of refused positions, of a mistake of usage, or of want of memory
 abbrev pub fault_status : SpanFault → ℕ
 fault_status (fault.Params e) = if param_fault.is_memory e then OUT_OF_MEMORY else PARAMETERS_REFUSED
 fault_status (fault.Check e) = if check_fault.is_memory e then OUT_OF_MEMORY else PARAMETERS_REFUSED
 fault_status (fault.Positions e) = if position_fault.is_memory e then OUT_OF_MEMORY else POSITIONS_REFUSED
 fault_status (fault.Bind e) = if bind_fault.is_memory e then OUT_OF_MEMORY else POSITIONS_REFUSED
+fault_status fault.Workers = USAGE
 fault_status fault.Memory = OUT_OF_MEMORY

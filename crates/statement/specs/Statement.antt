@@ -1,6 +1,6 @@
 -- The text of a statement, from the bytes of both files.
 use Rattle.std.specs.Prelude.{ℕ, List, [], ◌∷◌, ◌++◌, flat_map, codes, ℤ, decimal, length, Result, Ok, Err}
-use Rattle.std.specs.Prelude.{if◌then◌else◌}
+use Rattle.std.specs.Prelude.{if◌then◌else◌, ◌==◌, ◌||◌, nat_lt}
 use Rattle.std.specs.List.{join_with_byte, range_with_len}
 use Rattle.std.specs.Fmt.{signed_decimal}
 use Rattle.span_csv.specs.ParamFaults.{params_of}
@@ -13,6 +13,7 @@ use Rattle.plan_ir.specs.Figures.{commodity_at, figures_of, is_held, total_to}
 use Rattle.plan_ir.specs.declared.figures.Figures.{Figures}
 use Rattle.statement.specs.declared.faults.SpanFault.{SpanFault}
 use Rattle.statement.specs.declared.faults.SpanFault.TheVariants as fault
+use Rattle.worker_pool.specs.declared.batch.TheConstants.{MAX_WORKERS}
 
 -- ---- the lines of an account
 
@@ -71,3 +72,9 @@ statement_of params positions =
     and_then fault.Params (params_of params) (λ records.
     and_then fault.Check (checked records) (λ tables.
     statement_under tables positions))
+
+-- The statement of two files on so many workers: whatever they are, that of the two files. A number of workers that is 0
+-- or over the most is refused before anything else.
+unfoldable pub margin_of : ℕ → List ℕ → List ℕ → Result (List ℕ) SpanFault
+margin_of workers params positions =
+    if workers == 0 || nat_lt MAX_WORKERS workers then Err fault.Workers else statement_of params positions

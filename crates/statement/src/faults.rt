@@ -8,7 +8,7 @@ ghost use Rattle.span_told.specs.Streams.{Says};
 ghost use Rattle.std.specs.Io.KnownBytes.{Appends};
 ghost use Rattle.std.specs.Prelude.{◌++◌, ◌≡◌, OnOk, codes};
 
-use crate::statuses::{OUT_OF_MEMORY, PARAMETERS_REFUSED, POSITIONS_REFUSED};
+use crate::statuses::{OUT_OF_MEMORY, PARAMETERS_REFUSED, POSITIONS_REFUSED, USAGE};
 use param_check::faults::{BindFault, CheckFault};
 use span_csv::faults::{ParamFault, PositionFault};
 use span_tables::name::Name;
@@ -33,6 +33,9 @@ pub enum SpanFault {
     /// The positions do not fit the tables.
     #[error("positions: {0}")]
     Bind(BindFault),
+    /// The number of workers is 0 or over 16.
+    #[error("workers: there can be 1 to 16")]
+    Workers,
     /// Memory ran out.
     #[error("out of memory")]
     Memory,
@@ -105,6 +108,8 @@ enum Line<'a> {
         at: usize,
         account: &'a Name,
     },
+    // A number of workers that cannot be.
+    Workers,
     // Memory ran out.
     Memory,
 }
@@ -210,6 +215,7 @@ fn line_of(fault: &SpanFault) -> Line<'_>
         SpanFault::Check(fault) => check_line(fault),
         SpanFault::Positions(fault) => position_line(fault),
         SpanFault::Bind(fault) => bind_line(fault),
+        SpanFault::Workers => Line::Workers,
         SpanFault::Memory => Line::Memory,
     }
 }
@@ -244,6 +250,7 @@ fn write_line<W: Write>(line: &Line<'_>, out: &mut W) -> io::Result<()>
     match line {
         Line::Record { file, code, at } => writeln!(out, "{file}: {code} at record {at}"),
         Line::Account { code, at, account } => write_place(code, *at, account, out),
+        Line::Workers => writeln!(out, "workers: L1 Workers"),
         Line::Memory => writeln!(out, "memory"),
     }
 }
@@ -288,6 +295,9 @@ fn tell_line<W: Write>(line: &Line<'_>, out: &mut Told<W>)
             let _ = writeln!(out, "{file}: {code} at record {at}");
         }
         Line::Account { code, at, account } => tell_place(code, *at, account, out),
+        Line::Workers => {
+            let _ = writeln!(out, "workers: L1 Workers");
+        }
         Line::Memory => {
             let _ = writeln!(out, "memory");
         }
@@ -302,7 +312,8 @@ pub fn tell_fault<W: Write>(fault: &SpanFault, out: &mut Told<W>)
     tell_line(&line, out);
 }
 
-/// The exit status of a fault: that of refused parameters, of refused positions, or of want of memory.
+/// The exit status of a fault: that of refused parameters, of refused positions, of a mistake of usage, or of want of
+/// memory.
 pub fn status(fault: &SpanFault) -> u8
     ensures { result ≡ fault_status fault.now }
 {
@@ -314,5 +325,6 @@ pub fn status(fault: &SpanFault) -> u8
         | SpanFault::Memory => OUT_OF_MEMORY,
         SpanFault::Params(_) | SpanFault::Check(_) => PARAMETERS_REFUSED,
         SpanFault::Positions(_) | SpanFault::Bind(_) => POSITIONS_REFUSED,
+        SpanFault::Workers => USAGE,
     }
 }

@@ -1,10 +1,14 @@
 //! From the bytes of both files to the bytes of a statement.
 ghost use Rattle.statement.specs.Answers.{GivesText};
 ghost use Rattle.span_tables.specs.Holdings.{fits};
-ghost use Rattle.statement.specs.Statement.{statement_of, statement_text, statement_under};
+ghost use Rattle.span_tables.specs.Net.{AccountHoldings};
+ghost use Rattle.plan_compiler.specs.Compiled.{SetView};
+ghost use Rattle.statement.specs.Statement.{margin_of, statement_of, statement_text, statement_under};
 ghost use Rattle.statement.specs.steps.Rows.{AreRows};
 ghost use Rattle.std.specs.Arc.{arc_value};
-ghost use Rattle.std.specs.Prelude.{◌≡◌, All, IfOk, length, map, true};
+ghost use Rattle.std.specs.Prelude.{◌≡◌, ◌<◌, ◌⊎◌, ◌↔◌, All, Err, IfOk, List, length, map, true};
+ghost use Rattle.statement.specs.declared.faults.SpanFault.TheVariants as fault;
+ghost use Rattle.worker_pool.specs.Outcomes.{AreOutcomes};
 
 use crate::faults::SpanFault;
 use crate::lines::write;
@@ -17,7 +21,11 @@ use span_csv::positions::read_positions;
 use span_tables::portfolios::Portfolios;
 use span_tables::tables::Tables;
 use std::alloc::{AllocError, Global};
-use std::sync::Arc;
+use std::sync::{Arc, Wait};
+use std::thread::Threads;
+use std::time::Clock;
+use worker_pool::batch::{MAX_WORKERS, run_batch};
+use worker_pool::gates::Gate;
 use worker_pool::outcomes::Outcome;
 use worker_pool::plain::run_plain;
 
@@ -43,8 +51,49 @@ fn all_rows(alloc: Global, outcomes: Vec<Outcome>) -> Result<Vec<Arc<Row>>, Allo
     Ok(rows)
 }
 
-// The statement of portfolios under a compiled set, in their order.
-fn margin_portfolios(
+// The statement of the outcomes of a batch. `Err` is want of memory, in writing it or for an account.
+fn text_of(alloc: Global, outcomes: Vec<Outcome>) -> Result<Vec<u8>, AllocError>
+    ensures { IfOk result (λ text. (set : SetView) (portfolios : List AccountHoldings)
+        → AreOutcomes set portfolios outcomes.items → text.items ≡ statement_text set.tables portfolios) }
+{
+    let rows = all_rows(alloc, outcomes)?;
+    write(alloc, &rows)
+}
+
+// The portfolios of a position file under a compiled set, or its fault.
+#[tactic(auto, unfolding(crate::specs::Statement::statement_under))]
+fn bound(alloc: Global, set: &Arc<CompiledSet>, positions: &[u8]) -> Result<Portfolios, SpanFault>
+    ensures text { GivesText (λ portfolios. statement_text (arc_value set.now).tables portfolios)
+        result (statement_under (arc_value set.now).tables positions.now) }
+    ensures fits { IfOk result (λ portfolios.
+        All (λ p. fits (length (arc_value set.now).tables.contracts) p.holdings ≡ true) portfolios) }
+{
+    let positions = read_positions(alloc, positions)?;
+    let portfolios = bind(alloc, set.tables(), &positions)?;
+    Ok(portfolios)
+}
+
+// The compiled set and the portfolios of two files, or the first fault.
+#[tactic(auto, unfolding(crate::specs::Statement::statement_of))]
+fn accepted(
+    alloc: Global,
+    params: &[u8],
+    positions: &[u8],
+) -> Result<(Arc<CompiledSet>, Portfolios), SpanFault>
+    ensures text { GivesText (λ batch. statement_text (arc_value batch.0).tables batch.1)
+        result (statement_of params.now positions.now) }
+    ensures fits { IfOk result (λ batch.
+        All (λ p. fits (length (arc_value batch.0).tables.contracts) p.holdings ≡ true) batch.1) }
+{
+    let raw = read_params(alloc, params)?;
+    let tables = check(alloc, raw)?;
+    let set = compiled(alloc, tables)?;
+    let portfolios = bound(alloc, &set, positions)?;
+    Ok((set, portfolios))
+}
+
+// The statement of portfolios under a compiled set, on one thread.
+fn margin_alone(
     alloc: Global,
     set: &Arc<CompiledSet>,
     portfolios: Portfolios,
@@ -53,33 +102,57 @@ fn margin_portfolios(
     ensures { IfOk result (λ text. text.items ≡ statement_text (arc_value set.now).tables portfolios) }
 {
     let outcomes = run_plain(alloc, set, portfolios.into_vec())?;
-    let rows = all_rows(alloc, outcomes)?;
-    write(alloc, &rows)
+    text_of(alloc, outcomes)
 }
 
-// The statement of a position file under a compiled set, or its fault.
-#[tactic(auto, unfolding(crate::specs::Statement::statement_under))]
-fn margin_positions(
+// The statement of portfolios under a compiled set, on 1 to 16 workers.
+fn margin_together<R: Threads + Wait + Clock + Sync, G: Gate>(
+    rt: &R,
     alloc: Global,
     set: &Arc<CompiledSet>,
-    positions: &[u8],
-) -> Result<Vec<u8>, SpanFault>
-    ensures { GivesText (λ text. text.items) result (statement_under (arc_value set.now).tables positions.now) }
+    portfolios: Portfolios,
+    workers: usize,
+    gate: &G,
+) -> Result<Vec<u8>, AllocError>
+    requires { All (λ p. fits (length (arc_value set.now).tables.contracts) p.holdings ≡ true) portfolios }
+    ensures { IfOk result (λ text. text.items ≡ statement_text (arc_value set.now).tables portfolios) }
 {
-    let positions = read_positions(alloc, positions)?;
-    let portfolios = bind(alloc, set.tables(), &positions)?;
-    let text = margin_portfolios(alloc, set, portfolios)?;
-    Ok(text)
+    match run_batch(rt, alloc, set, portfolios.into_vec(), workers, gate) {
+        Ok(outcomes) => text_of(alloc, outcomes),
+        Err(_) => Err(AllocError),
+    }
 }
 
 /// The statement of two files, or the first fault in reading the parameters, checking them, reading the positions and
 /// binding them; or want of memory (docs/METHOD.md has the figures, docs/FORMATS.md the faults).
-#[tactic(auto, unfolding(crate::specs::Statement::statement_of))]
 pub fn margin_plain(alloc: Global, params: &[u8], positions: &[u8]) -> Result<Vec<u8>, SpanFault>
     ensures { GivesText (λ text. text.items) result (statement_of params.now positions.now) }
 {
-    let raw = read_params(alloc, params)?;
-    let tables = check(alloc, raw)?;
-    let set = compiled(alloc, tables)?;
-    margin_positions(alloc, &set, positions)
+    let (set, portfolios) = accepted(alloc, params, positions)?;
+    let text = margin_alone(alloc, &set, portfolios)?;
+    Ok(text)
+}
+
+/// The statement of two files on so many workers, in whatever order they finish the steps: the very text, or the very
+/// fault, of [`margin_plain`]; or want of memory.
+///
+/// A number of workers that is 0 or over 16 is refused before anything else. The workers pass the gate before each step.
+#[tactic(auto, unfolding(crate::specs::Statement::margin_of))]
+pub fn margin<R: Threads + Wait + Clock + Sync, G: Gate>(
+    rt: &R,
+    alloc: Global,
+    params: &[u8],
+    positions: &[u8],
+    workers: usize,
+    gate: &G,
+) -> Result<Vec<u8>, SpanFault>
+    ensures workers { (result ≡ Err fault.Workers) ↔ ((workers ≡ 0) ⊎ (16 < workers)) }
+    ensures text { GivesText (λ text. text.items) result (margin_of workers params.now positions.now) }
+{
+    if workers == 0 || workers > MAX_WORKERS {
+        return Err(SpanFault::Workers);
+    }
+    let (set, portfolios) = accepted(alloc, params, positions)?;
+    let text = margin_together(rt, alloc, &set, portfolios, workers, gate)?;
+    Ok(text)
 }

@@ -3,7 +3,7 @@
 /// Done.
 pub const DONE: u8 = 0;
 
-/// The words of the command line are no request.
+/// The words of the command line are no request, or there cannot be so many workers.
 pub const USAGE: u8 = 2;
 
 /// The parameters are refused.

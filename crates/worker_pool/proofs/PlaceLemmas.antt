@@ -69,7 +69,7 @@ pub opened : (set : SetView) (ps rest : List AccountHoldings) (jobs : List JobVi
     → (slice_get jobs next ≡ Some (job_at set p next)) × (jobs_from set (next + 1) rest ≡ drop (next + 1) jobs)
 opened set ps rest jobs next p e h =
     let d : job_at set p next ∷ jobs_from set (next + 1) rest ≡ drop next jobs =
-        subst (λ (l : List AccountHoldings). jobs_from set next l ≡ drop next jobs) e h in
+    subst (λ (l : List AccountHoldings). jobs_from set next l ≡ drop next jobs) e h in
     (get_here jobs next _ _ d, drop_next jobs next _ _ d)
 
 -- what is true of all portfolios is true of the first and of the rest

@@ -80,10 +80,7 @@ fn job_of(
     requires { fits (length (arc_value set.now).tables.contracts) portfolio.holdings ≡ true }
     ensures { IfOk result (λ job. arc_value job ≡ job_at (arc_value set.now) portfolio place) }
 {
-    Ok(Arc::new(
-        alloc,
-        Job::new(Arc::try_clone(set)?, portfolio, place),
-    )?)
+    Ok(Arc::new(alloc, Job::new(Arc::try_clone(set)?, portfolio, place))?)
 }
 
 // Want of memory for each account.

@@ -4,7 +4,7 @@ ghost use Rattle.std.specs.Prelude.{◌≡◌, Some, slice_get};
 ghost use Rattle.worker_pool.specs.steps.Places.{AreOutcomesOf};
 
 use crate::accounts::{Outcomes, Waiting};
-use crate::ends::{OwnEnd, FinishedOf, TaskOf, ThiefEnd};
+use crate::ends::{FinishedOf, OwnEnd, TaskOf, ThiefEnd};
 use crate::gates::Gate;
 use crate::idle::Patience;
 use crate::laws::Batch;

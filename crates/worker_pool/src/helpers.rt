@@ -1,5 +1,5 @@
 //! Threads that help a coordinator.
-use crate::ends::{OwnEnd, FinishedOf, TaskOf, ThiefEnd};
+use crate::ends::{FinishedOf, OwnEnd, TaskOf, ThiefEnd};
 use crate::gates::Gate;
 use crate::idle::Patience;
 use crate::laws::Batch;

@@ -7,6 +7,7 @@ const YIELDS: u32 = 16;
 
 /// The shortest and the longest time for which a worker sleeps, in microseconds.
 const SHORTEST: u64 = 10;
+
 const LONGEST: u64 = 1_000;
 
 /// A worker's patience: it yields at first, and then sleeps, longer the longer it finds nothing.

@@ -15,8 +15,7 @@ ghost use Rattle.worker_pool.specs.Batches.{IsResultOf, IsTaskOf};
 use crate::passes::PassView;
 use crossbeam_deque::protocol::{Join, Lesson, Outcome, Protocol, Split};
 use crossbeam_deque::{Pass, Steal, Stealer, Worker};
-use crossbeam_queue::RuledArrayQueue;
-use crossbeam_queue::protocol as queue;
+use crossbeam_queue::{RuledArrayQueue, protocol as queue};
 use std::alloc::{AllocError, Global};
 use std::marker::{Brand, PhantomData};
 use std::sync::Wait;
@@ -191,7 +190,7 @@ pub fn pop_task<B: Batch>(owner: &mut Deque<B>) -> Option<Task>
     ensures same { SameWorker owner.old owner.new }
     ensures task { MatchOption result (worker_view owner.new ≡ worker_view owner.old) (λ task.
         (worker_view owner.new ≡ knows (worker_view owner.old).batch (worker_view owner.old).parts
-            (worker_view owner.old).pushed ((worker_view owner.old).taken ++ task ∷ []))
+        (worker_view owner.old).pushed ((worker_view owner.old).taken ++ task ∷ []))
         × IsTaskOf (worker_view owner.old).batch task) }
 {
     owner.pop_as::<Taken>()
@@ -204,7 +203,7 @@ pub fn steal_task<B: Batch>(thief: &Thief<B>, pass: &mut DequePass) -> Steal<Tas
     ensures same { SamePass pass.old pass.new }
     ensures task { MatchSteal result (view pass.new ≡ view pass.old) (view pass.new ≡ view pass.old) (λ task.
         (view pass.new ≡ knows (view pass.old).batch (view pass.old).parts
-            (view pass.old).pushed ((view pass.old).taken ++ task ∷ []))
+        (view pass.old).pushed ((view pass.old).taken ++ task ∷ []))
         × IsTaskOf (view pass.old).batch task) }
 {
     thief.steal_as::<Taken>(pass)
@@ -281,7 +280,7 @@ pub fn pop_result<B: Batch, R: Wait>(
     ensures same { IsSamePass pass.old pass.new }
     ensures finished { MatchOption result (queue_view pass.new ≡ queue_view pass.old) (λ finished.
         (queue_view pass.new ≡ knows (queue_view pass.old).batch (queue_view pass.old).parts
-            (queue_view pass.old).pushed ((queue_view pass.old).taken ++ finished ∷ []))
+        (queue_view pass.old).pushed ((queue_view pass.old).taken ++ finished ∷ []))
         × IsResultOf (queue_view pass.old).batch finished) }
 {
     queue.pop_as::<Taken, R>(rt, pass)

@@ -3,7 +3,7 @@ ghost use Rattle.std.specs.Arc.{arc_value};
 ghost use Rattle.std.specs.Prelude.{◌≡◌, IfOk, IfSome, Some, slice_get};
 ghost use Rattle.worker_pool.specs.Batches.{job_at};
 
-use crate::ends::{OwnEnd, FinishedOf, TaskOf};
+use crate::ends::{FinishedOf, OwnEnd, TaskOf};
 use crate::gates::Gate;
 use crate::laws::Batch;
 use crate::plain::COORDINATOR;

@@ -49,7 +49,11 @@ pub(crate) fn open_results<'a, B: Batch>(
 
 impl<B: Batch> ResultEnd<'_, B> {
     /// Adds a result at the back. It comes back only where the queue was full.
-    pub(crate) fn push<R: Wait>(&mut self, rt: &R, done: FinishedOf<B>) -> Result<(), FinishedOf<B>> {
+    pub(crate) fn push<R: Wait>(
+        &mut self,
+        rt: &R,
+        done: FinishedOf<B>,
+    ) -> Result<(), FinishedOf<B>> {
         match push_result(rt, self.queue, &mut self.pass, done.into_finished()) {
             Ok(()) => Ok(()),
             Err(finished) => Err(FinishedOf::new(finished)),
