@@ -2,3 +2,4 @@ pub mod CountLemmas
 pub mod FitLemmas
 pub mod LineLemmas
 pub mod OutcomeLemmas
+pub mod WorkerLemmas

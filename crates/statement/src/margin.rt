@@ -8,6 +8,7 @@ ghost use Rattle.statement.specs.steps.Rows.{AreRows};
 ghost use Rattle.std.specs.Arc.{arc_value};
 ghost use Rattle.std.specs.Prelude.{◌≡◌, ◌<◌, ◌⊎◌, ◌↔◌, All, Err, IfOk, List, length, map, true};
 ghost use Rattle.statement.specs.declared.faults.SpanFault.TheVariants as fault;
+ghost use Rattle.statement.specs.declared.margin.Accepted.{Accepted};
 ghost use Rattle.worker_pool.specs.Outcomes.{AreOutcomes};
 
 use crate::faults::SpanFault;
@@ -53,8 +54,8 @@ fn all_rows(alloc: Global, outcomes: Vec<Outcome>) -> Result<Vec<Arc<Row>>, Allo
 
 // The statement of the outcomes of a batch. `Err` is want of memory, in writing it or for an account.
 fn text_of(alloc: Global, outcomes: Vec<Outcome>) -> Result<Vec<u8>, AllocError>
-    ensures { IfOk result (λ text. (set : SetView) (portfolios : List AccountHoldings)
-        → AreOutcomes set portfolios outcomes.items → text.items ≡ statement_text set.tables portfolios) }
+    ensures { (set : SetView) (portfolios : List AccountHoldings) → AreOutcomes set portfolios outcomes.items
+        → IfOk result (λ text. text.items ≡ statement_text set.tables portfolios) }
 {
     let rows = all_rows(alloc, outcomes)?;
     write(alloc, &rows)
@@ -73,23 +74,26 @@ fn bound(alloc: Global, set: &Arc<CompiledSet>, positions: &[u8]) -> Result<Port
     Ok(portfolios)
 }
 
-// The compiled set and the portfolios of two files, or the first fault.
+// What two accepted files say: a compiled set, and the portfolios that are to be margined under it.
+#[derive(Drop)]
+struct Accepted {
+    set: Arc<CompiledSet>,
+    portfolios: Portfolios,
+}
+
+// What two files say, or the first fault.
 #[tactic(auto, unfolding(crate::specs::Statement::statement_of))]
-fn accepted(
-    alloc: Global,
-    params: &[u8],
-    positions: &[u8],
-) -> Result<(Arc<CompiledSet>, Portfolios), SpanFault>
-    ensures text { GivesText (λ batch. statement_text (arc_value batch.0).tables batch.1)
+fn accept(alloc: Global, params: &[u8], positions: &[u8]) -> Result<Accepted, SpanFault>
+    ensures text { GivesText (λ (a : Accepted). statement_text (arc_value a.set).tables a.portfolios)
         result (statement_of params.now positions.now) }
-    ensures fits { IfOk result (λ batch.
-        All (λ p. fits (length (arc_value batch.0).tables.contracts) p.holdings ≡ true) batch.1) }
+    ensures fits { IfOk result (λ a.
+        All (λ p. fits (length (arc_value a.set).tables.contracts) p.holdings ≡ true) a.portfolios) }
 {
     let raw = read_params(alloc, params)?;
     let tables = check(alloc, raw)?;
     let set = compiled(alloc, tables)?;
     let portfolios = bound(alloc, &set, positions)?;
-    Ok((set, portfolios))
+    Ok(Accepted { set, portfolios })
 }
 
 // The statement of portfolios under a compiled set, on one thread.
@@ -128,7 +132,7 @@ fn margin_together<R: Threads + Wait + Clock + Sync, G: Gate>(
 pub fn margin_plain(alloc: Global, params: &[u8], positions: &[u8]) -> Result<Vec<u8>, SpanFault>
     ensures { GivesText (λ text. text.items) result (statement_of params.now positions.now) }
 {
-    let (set, portfolios) = accepted(alloc, params, positions)?;
+    let Accepted { set, portfolios } = accept(alloc, params, positions)?;
     let text = margin_alone(alloc, &set, portfolios)?;
     Ok(text)
 }
@@ -152,7 +156,7 @@ pub fn margin<R: Threads + Wait + Clock + Sync, G: Gate>(
     if workers == 0 || workers > MAX_WORKERS {
         return Err(SpanFault::Workers);
     }
-    let (set, portfolios) = accepted(alloc, params, positions)?;
+    let Accepted { set, portfolios } = accept(alloc, params, positions)?;
     let text = margin_together(rt, alloc, &set, portfolios, workers, gate)?;
     Ok(text)
 }

@@ -1,5 +1,6 @@
 -- Each step keeps the rule.
-use Rattle.std.proofs.Common.{◌≡◌, ◌≢◌, ℕ, zero, suc, ◌+◌, ◌-◌, ◌<◌, All, List, [], ◌∷◌, ◌++◌, length, set, sym, refl, ap, subst, ⊎_elim, arith}
+use Rattle.std.proofs.Common.{◌≡◌, ◌≢◌, ℕ, zero, suc, ◌+◌, ◌-◌, ◌<◌, All, List, [], ◌∷◌}
+use Rattle.std.proofs.Common.{◌++◌, length, set, sym, refl, ap, subst, ⊎_elim, arith}
 use mathlib.Core.Option.{some, some-ne-none, some-injective}
 use lib.ListN.{get_elem?}
 use lib.Seq.{take-append_seam, drop-append_seam}
@@ -15,7 +16,8 @@ module _ {T : Type 0} where
   weigh-append h [] ys = omega arith
   weigh-append h (x ∷ xs) ys = omega (arith, weigh-append h xs ys)
 
-  total_set : (f : PassView T → ℕ) (views : List (PassView T)) (port : ℕ) (v w : PassView T) → get_elem? views port ≡ some v → total f (set views port w) + f v ≡ total f views + f w
+  total_set : (f : PassView T → ℕ) (views : List (PassView T)) (port : ℕ) (v w : PassView T) → get_elem? views port ≡ some v
+      → total f (set views port w) + f v ≡ total f views + f w
   total_set f [] port v w at = absurd (some-ne-none v (sym at))
   total_set f (x ∷ xs) zero v w at = let e = ap f (some-injective x v at) in omega arith
   total_set f (x ∷ xs) (suc j) v w at = omega (arith, total_set f xs j v w at)
@@ -24,7 +26,8 @@ module _ {T : Type 0} where
   total_snoc f [] w = omega arith
   total_snoc f (x ∷ xs) w = omega (arith, total_snoc f xs w)
 
-  part_of : (f : PassView T → ℕ) (views : List (PassView T)) (port : ℕ) (v : PassView T) → get_elem? views port ≡ some v → f v < total f views + 1
+  part_of : (f : PassView T → ℕ) (views : List (PassView T)) (port : ℕ) (v : PassView T) → get_elem? views port ≡ some v
+      → f v < total f views + 1
   part_of f [] port v at = absurd (some-ne-none v (sym at))
   part_of f (x ∷ xs) zero v at = let e = ap f (some-injective x v at) in omega arith
   part_of f (x ∷ xs) (suc j) v at = omega (arith, part_of f xs j v at)
@@ -33,12 +36,14 @@ module _ {T : Type 0} where
   abbrev IsIdle : (PassView T → ℕ) → List (PassView T) → Type 0
   IsIdle f views = (port : ℕ) (v : PassView T) → get_elem? views port ≡ some v → v.parts ≡ 0 → f v ≡ 0
 
-  none : (f : PassView T → ℕ) (views : List (PassView T)) → total (λ v. v.parts) views ≡ 0 → IsIdle f views → total f views ≡ 0
+  none : (f : PassView T → ℕ) (views : List (PassView T)) → total (λ v. v.parts) views ≡ 0 → IsIdle f views
+      → total f views ≡ 0
   none f [] parts idle = refl
   none f (x ∷ xs) parts idle = let e = idle 0 x refl (omega arith) in omega (arith, none f xs (omega arith) (λ j. idle (suc j)))
 
   -- the view with all parts has all
-  whole : (f : PassView T → ℕ) (views : List (PassView T)) (port : ℕ) (v : PassView T) → get_elem? views port ≡ some v → total (λ u. u.parts) views ≡ v.parts → IsIdle f views → total f views ≡ f v
+  whole : (f : PassView T → ℕ) (views : List (PassView T)) (port : ℕ) (v : PassView T) → get_elem? views port ≡ some v
+      → total (λ u. u.parts) views ≡ v.parts → IsIdle f views → total f views ≡ f v
   whole f [] port v at parts idle = absurd (some-ne-none v (sym at))
   whole f (x ∷ xs) zero v at parts idle =
       let e = some-injective x v at in let p = ap (λ (u : PassView T). u.parts) e in
@@ -54,15 +59,19 @@ module _ {T : Type 0} where
   back P xs ys h = subst (All P) (drop-append_seam xs ys) (All-drop P (length xs) (xs ++ ys) h)
 
 module _ {T : Type 0} (IsOf : List JobView → T → Type 0) where
-  fits_set : (batch : List JobView) (views : List (PassView T)) (port : ℕ) (w : PassView T) → IsPassIn IsOf batch w
-      → ((j : ℕ) (u : PassView T) → get_elem? views j ≡ some u → IsPassIn IsOf batch u) → (j : ℕ) (u : PassView T) → get_elem? (set views port w) j ≡ some u → IsPassIn IsOf batch u
-  fits_set batch views port w mine others j u at = ⊎_elim (λ (t : (j ≡ port) × (w ≡ u)). subst (IsPassIn IsOf batch) t.1 mine) (λ (t : (j ≢ port) × (get_elem? views j ≡ some u)). others j u t.1)
+  passes_set : (batch : List JobView) (views : List (PassView T)) (port : ℕ) (w : PassView T) → IsPassIn IsOf batch w
+      → ((j : ℕ) (u : PassView T) → get_elem? views j ≡ some u → IsPassIn IsOf batch u) → (j : ℕ) (u : PassView T)
+      → get_elem? (set views port w) j ≡ some u → IsPassIn IsOf batch u
+  passes_set batch views port w mine others j u at = ⊎_elim (λ (t : (j ≡ port) × (w ≡ u)). subst (IsPassIn IsOf batch) t.1 mine)
+      (λ (t : (j ≢ port) × (get_elem? views j ≡ some u)). others j u t.1)
       (at_set views port j w u at)
 
   -- a step of one pass, which keeps its parts
-  step : (items left : List T) (views : List (PassView T)) (port : ℕ) (v w : PassView T) (k : IsBalanced IsOf items views) → get_elem? views port ≡ some v → w.parts ≡ v.parts
-      → ((h : T → ℕ) → weigh h items + weigh h w.pushed + weigh h v.taken ≡ weigh h w.taken + weigh h left + weigh h v.pushed) → All (IsOf k.batch) left → IsPassIn IsOf k.batch w → IsBalanced IsOf left (set views port w)
-  step items left views port v w k at parts even inside fits = record {
+  step : (items left : List T) (views : List (PassView T)) (port : ℕ) (v w : PassView T) (k : IsBalanced IsOf items views)
+      → get_elem? views port ≡ some v → w.parts ≡ v.parts
+      → ((h : T → ℕ) → weigh h items + weigh h w.pushed + weigh h v.taken ≡ weigh h w.taken + weigh h left + weigh h v.pushed)
+      → All (IsOf k.batch) left → IsPassIn IsOf k.batch w → IsBalanced IsOf left (set views port w)
+  step items left views port v w k at parts even inside pass = record {
     batch = k.batch;
     parts = (let s = total_set (λ u. u.parts) views port v w at in let p = k.parts in omega arith);
     balanced = λ h.
@@ -72,7 +81,7 @@ module _ {T : Type 0} (IsOf : List JobView → T → Type 0) where
         let e = even h in
         omega arith;
     inside = inside;
-    passes = fits_set k.batch views port w fits k.passes;
+    passes = passes_set k.batch views port w pass k.passes;
   }
 
   fresh : (batch : List JobView) (parts : ℕ) → IsPassIn IsOf batch (knows batch parts [] [])
@@ -91,7 +100,8 @@ module _ {T : Type 0} (IsOf : List JobView → T → Type 0) where
     taken = λ k d h. absurd (omega arith);
   }
 
-  alone : (batch : List JobView) (port : ℕ) (v : PassView T) → get_elem? (knows batch 1024 [] [] ∷ []) port ≡ some v → IsPassIn IsOf batch v
+  alone : (batch : List JobView) (port : ℕ) (v : PassView T) → get_elem? (knows batch 1024 [] [] ∷ []) port ≡ some v
+      → IsPassIn IsOf batch v
   alone batch zero v at = subst (IsPassIn IsOf batch) (some-injective (knows batch 1024 [] []) v at) (fresh batch 1024)
   alone batch (suc j) v at = absurd (some-ne-none v (sym at))
 
@@ -109,54 +119,89 @@ module _ {T : Type 0} (IsOf : List JobView → T → Type 0) where
   single P x p zero d h = p
   single P x p (suc k) d h = absurd (omega arith)
 
-  pub pushes : (port : ℕ) (v : PassView T) (x : T) → 0 < v.parts → IsOf v.batch x → Pushes (IsBalanced IsOf) port v (x ∷ []) (λ w. w ≡ knows v.batch v.parts (v.pushed ++ x ∷ []) v.taken)
+  pub pushes : (port : ℕ) (v : PassView T) (x : T) → 0 < v.parts → IsOf v.batch x
+      → Pushes (IsBalanced IsOf) port v (x ∷ []) (λ w. w ≡ knows v.batch v.parts (v.pushed ++ x ∷ []) v.taken)
   pushes port v x some_part of items views k at =
       let w : PassView T = knows v.batch v.parts (v.pushed ++ x ∷ []) v.taken in
       let f : IsPassIn IsOf k.batch v = k.passes port v at in
       let b : v.batch ≡ k.batch = f.named some_part in
       let new : All (IsOf k.batch) (x ∷ []) = single (IsOf k.batch) x (subst (λ (l : List JobView). IsOf l x) b of) in (
         w,
-        step items (items ++ x ∷ []) views port v w k at refl (λ h. omega (arith, weigh-append h v.pushed (x ∷ []), weigh-append h items (x ∷ []))) (All-append (IsOf k.batch) items (x ∷ []) k.inside new)
-            (record { idle = λ no_part. absurd (omega arith); named = λ _. b; pushed = All-append (IsOf k.batch) v.pushed (x ∷ []) f.pushed new; taken = f.taken }),
+        step items (items ++ x ∷ []) views port v w k at refl
+            (λ h. omega (arith, weigh-append h v.pushed (x ∷ []), weigh-append h items (x ∷ [])))
+            (All-append (IsOf k.batch) items (x ∷ []) k.inside new)
+            (record {
+              idle = λ no_part. absurd (omega arith);
+              named = λ _. b;
+              pushed =
+                  All-append (IsOf k.batch) v.pushed (x ∷ []) f.pushed new;
+              taken = f.taken;
+            }),
         refl,
       )
 
-  pub takes : (port : ℕ) (v : PassView T) (most : ℕ) → 0 < v.parts → Takes (IsBalanced IsOf) port v most (λ xs w. (w ≡ knows v.batch v.parts v.pushed (v.taken ++ xs)) × All (IsOf v.batch) xs)
+  pub takes : (port : ℕ) (v : PassView T) (most : ℕ) → 0 < v.parts
+      → Takes (IsBalanced IsOf) port v most (λ xs w. (w ≡ knows v.batch v.parts v.pushed (v.taken ++ xs)) × All (IsOf v.batch) xs)
   takes port v most some_part xs items views _ _ k at =
       let w : PassView T = knows v.batch v.parts v.pushed (v.taken ++ xs) in
       let f : IsPassIn IsOf k.batch v = k.passes port v at in
       let b : v.batch ≡ k.batch = f.named some_part in
       let gone : All (IsOf k.batch) xs = front (IsOf k.batch) xs items k.inside in (
         w,
-        step (xs ++ items) items views port v w k at refl (λ h. omega (arith, weigh-append h v.taken xs, weigh-append h xs items)) (back (IsOf k.batch) xs items k.inside)
-            (record { idle = λ no_part. absurd (omega arith); named = λ _. b; pushed = f.pushed; taken = All-append (IsOf k.batch) v.taken xs f.taken gone }),
+        step (xs ++ items) items views port v w k at refl (λ h. omega (arith, weigh-append h v.taken xs, weigh-append h xs items))
+            (back (IsOf k.batch) xs items k.inside)
+            (record {
+              idle = λ no_part. absurd (omega arith);
+              named = λ _. b;
+              pushed = f.pushed;
+              taken =
+                  All-append (IsOf k.batch) v.taken xs f.taken gone;
+            }),
         (refl, subst (λ (l : List JobView). All (IsOf l) xs) (sym b) gone),
       )
 
-  pub pops : (port : ℕ) (v : PassView T) → 0 < v.parts → Pops (IsBalanced IsOf) port v (λ xs w. (w ≡ knows v.batch v.parts v.pushed (v.taken ++ xs)) × All (IsOf v.batch) xs)
+  pub pops : (port : ℕ) (v : PassView T) → 0 < v.parts
+      → Pops (IsBalanced IsOf) port v (λ xs w. (w ≡ knows v.batch v.parts v.pushed (v.taken ++ xs)) × All (IsOf v.batch) xs)
   pops port v some_part x items views k at =
       let w : PassView T = knows v.batch v.parts v.pushed (v.taken ++ x ∷ []) in
       let f : IsPassIn IsOf k.batch v = k.passes port v at in
       let b : v.batch ≡ k.batch = f.named some_part in
       let gone : All (IsOf k.batch) (x ∷ []) = back (IsOf k.batch) items (x ∷ []) k.inside in (
         w,
-        step (items ++ x ∷ []) items views port v w k at refl (λ h. omega (arith, weigh-append h v.taken (x ∷ []), weigh-append h items (x ∷ []))) (front (IsOf k.batch) items (x ∷ []) k.inside)
-            (record { idle = λ no_part. absurd (omega arith); named = λ _. b; pushed = f.pushed; taken = All-append (IsOf k.batch) v.taken (x ∷ []) f.taken gone }),
+        step (items ++ x ∷ []) items views port v w k at refl
+            (λ h. omega (arith, weigh-append h v.taken (x ∷ []), weigh-append h items (x ∷ [])))
+            (front (IsOf k.batch) items (x ∷ []) k.inside)
+            (record {
+              idle = λ no_part. absurd (omega arith);
+              named = λ _. b;
+              pushed = f.pushed;
+              taken =
+                  All-append (IsOf k.batch) v.taken (x ∷ []) f.taken gone;
+            }),
         (refl, subst (λ (l : List JobView). All (IsOf l) (x ∷ [])) (sym b) gone),
       )
 
-  pub forks : (port : ℕ) (v : PassView T) → 1 < v.parts → Forks (IsBalanced IsOf) port v (knows v.batch (v.parts - 1) v.pushed v.taken) (knows v.batch 1 [] [])
+  pub forks : (port : ℕ) (v : PassView T) → 1 < v.parts
+      → Forks (IsBalanced IsOf) port v (knows v.batch (v.parts - 1) v.pushed v.taken) (knows v.batch 1 [] [])
   forks port v parts items views k at =
       let l : PassView T = knows v.batch (v.parts - 1) v.pushed v.taken in
       let r : PassView T = knows v.batch 1 [] [] in
       let f : IsPassIn IsOf k.batch v = k.passes port v at in
       let b : v.batch ≡ k.batch = f.named (omega arith) in
       let vs : List (PassView T) = set views port l in
-      let left : IsPassIn IsOf k.batch l = record { idle = λ no_part. absurd (omega arith); named = λ _. b; pushed = f.pushed; taken = f.taken } in
-      let right : IsPassIn IsOf k.batch r = subst (λ (z : List JobView). IsPassIn IsOf k.batch (knows z 1 [] [])) (sym b) (fresh k.batch 1) in
+      let left : IsPassIn IsOf k.batch l = record {
+        idle = λ no_part. absurd (omega arith);
+        named = λ _. b;
+        pushed = f.pushed;
+        taken =
+            f.taken;
+      } in
+      let right : IsPassIn IsOf k.batch r = subst (λ (z : List JobView). IsPassIn IsOf k.batch (knows z 1 [] [])) (sym b)
+      (fresh k.batch 1) in
       record {
         batch = k.batch;
-        parts = (let s = total_set (λ u. u.parts) views port v l at in let n = total_snoc (λ u. u.parts) vs r in let p = k.parts in omega arith);
+        parts = (let s = total_set (λ u. u.parts) views port v l at in let n = total_snoc (λ u. u.parts) vs r in let p = k.parts in
+            omega arith);
         balanced = λ h.
             let s = total_set (λ u. weigh h u.pushed) views port v l at in
             let t = total_set (λ u. weigh h u.taken) views port v l at in
@@ -165,16 +210,19 @@ module _ {T : Type 0} (IsOf : List JobView → T → Type 0) where
             let e = k.balanced h in
             omega arith;
         inside = k.inside;
-        passes = λ j u e. ⊎_elim (fits_set k.batch views port l left k.passes j u) (λ (is : r ≡ u). subst (IsPassIn IsOf k.batch) is right) (at_snoc vs r u j e);
+        passes = λ j u e. ⊎_elim (passes_set k.batch views port l left k.passes j u)
+            (λ (is : r ≡ u). subst (IsPassIn IsOf k.batch) is right) (at_snoc vs r u j e);
       }
 
   pub merges : (port : ℕ) (v : PassView T) (other : ℕ) (w : PassView T) → 0 < v.parts
-      → Merges (IsBalanced IsOf) port v other w (knows v.batch (v.parts + w.parts) (v.pushed ++ w.pushed) (v.taken ++ w.taken)) (knows [] 0 [] [])
+      → Merges (IsBalanced IsOf) port v other w (knows v.batch (v.parts + w.parts) (v.pushed ++ w.pushed) (v.taken ++ w.taken))
+      (knows [] 0 [] [])
   merges port v other w some_part items views k at apart there =
       let both : PassView T = knows v.batch (v.parts + w.parts) (v.pushed ++ w.pushed) (v.taken ++ w.taken) in
       let gone : PassView T = knows [] 0 [] [] in
       let vs : List (PassView T) = set views port both in
-      let was : get_elem? views other ≡ some w = ⊎_elim (λ (t : (other ≡ port) × (both ≡ w)). absurd (apart t.0)) (λ (t : (other ≢ port) × (get_elem? views other ≡ some w)). t.1) (at_set views port other both w there) in
+      let was : get_elem? views other ≡ some w = ⊎_elim (λ (t : (other ≡ port) × (both ≡ w)). absurd (apart t.0))
+      (λ (t : (other ≢ port) × (get_elem? views other ≡ some w)). t.1) (at_set views port other both w there) in
       let f : IsPassIn IsOf k.batch v = k.passes port v at in
       let g : IsPassIn IsOf k.batch w = k.passes other w was in
       let b : v.batch ≡ k.batch = f.named some_part in
@@ -186,7 +234,8 @@ module _ {T : Type 0} (IsOf : List JobView → T → Type 0) where
       } in
       record {
         batch = k.batch;
-        parts = (let s = total_set (λ u. u.parts) views port v both at in let t = total_set (λ u. u.parts) vs other w gone there in let p = k.parts in omega arith);
+        parts = (let s = total_set (λ u. u.parts) views port v both at in let t = total_set (λ u. u.parts) vs other w gone there in
+            let p = k.parts in omega arith);
         balanced = λ h.
             let s = total_set (λ u. weigh h u.pushed) views port v both at in
             let t = total_set (λ u. weigh h u.pushed) vs other w gone there in
@@ -195,11 +244,12 @@ module _ {T : Type 0} (IsOf : List JobView → T → Type 0) where
             let e = k.balanced h in
             omega (arith, weigh-append h v.pushed w.pushed, weigh-append h v.taken w.taken);
         inside = k.inside;
-        passes = fits_set k.batch vs other gone (spent k.batch) (fits_set k.batch views port both mine k.passes);
+        passes = passes_set k.batch vs other gone (spent k.batch) (passes_set k.batch views port both mine k.passes);
       }
 
   pub learns : (port : ℕ) (v : PassView T) → v.parts ≡ 1024
-      → Learns (IsBalanced IsOf) port v (λ items. AsOften v.pushed v.taken items × All (IsOf v.batch) items × All (IsOf v.batch) v.pushed × All (IsOf v.batch) v.taken)
+      → Learns (IsBalanced IsOf) port v (λ items. AsOften v.pushed v.taken items × All (IsOf v.batch) items
+      × All (IsOf v.batch) v.pushed × All (IsOf v.batch) v.taken)
   learns port v all items views k at =
       let f : IsPassIn IsOf k.batch v = k.passes port v at in
       let b : k.batch ≡ v.batch = sym (f.named (omega arith)) in

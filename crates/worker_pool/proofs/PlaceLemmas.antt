@@ -1,5 +1,6 @@
 -- Jobs and outcomes by their places.
-use Rattle.std.proofs.Common.{◌≡◌, ℕ, zero, suc, ◌+◌, ◌<◌, List, [], ◌∷◌, length, map, drop, Some, slice_get, slice_set}
+use Rattle.std.proofs.Common.{◌≡◌, ℕ, zero, suc, ◌+◌, ◌<◌, List, [], ◌∷◌, length, map, drop, Some}
+use Rattle.std.proofs.Common.{slice_get, slice_set}
 use Rattle.std.proofs.Common.{All, refl, ap, ◌∙◌, subst, arith}
 use Rattle.span_tables.specs.Net.{AccountHoldings}
 use Rattle.plan_compiler.specs.Compiled.{SetView}

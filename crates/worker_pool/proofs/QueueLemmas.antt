@@ -7,10 +7,12 @@ use Rattle.worker_pool.specs.Balance.{IsBalanced, knows}
 use Rattle.worker_pool.proofs.BalanceLemmas.{pushes, takes}
 
 module _ {T : Type 0} (IsOf : List JobView → T → Type 0) where
-  pub queue_pushes : (n pass : ℕ) (v : PassView T) (x : T) → 0 < v.parts → IsOf v.batch x → Pushes (IsBalanced IsOf) n pass v x (λ w. w ≡ knows v.batch v.parts (v.pushed ++ x ∷ []) v.taken)
+  pub queue_pushes : (n pass : ℕ) (v : PassView T) (x : T) → 0 < v.parts → IsOf v.batch x
+      → Pushes (IsBalanced IsOf) n pass v x (λ w. w ≡ knows v.batch v.parts (v.pushed ++ x ∷ []) v.taken)
   queue_pushes n pass v x some_part of items views _ k at = pushes IsOf pass v x some_part of items views k at
 
-  pub queue_pops : (pass : ℕ) (v : PassView T) → 0 < v.parts → Pops (IsBalanced IsOf) pass v (λ x w. (w ≡ knows v.batch v.parts v.pushed (v.taken ++ x ∷ [])) × IsOf v.batch x)
+  pub queue_pops : (pass : ℕ) (v : PassView T) → 0 < v.parts
+      → Pops (IsBalanced IsOf) pass v (λ x w. (w ≡ knows v.batch v.parts v.pushed (v.taken ++ x ∷ [])) × IsOf v.batch x)
   queue_pops pass v some_part x items views k at =
       let t = takes IsOf pass v 1 some_part (x ∷ []) items views (omega arith) (omega arith) k at in
       (t.0, t.1, (t.2.0, t.2.1 0 x (omega arith)))

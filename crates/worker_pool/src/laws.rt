@@ -3,7 +3,7 @@
 //! A pass goes with each end: what was pushed and taken with it is known to contracts. The first pass of a deque or of
 //! the queue has all 1024 parts; a pass that is split off has one of them; who has them all knows the whole.
 ghost use Rattle.crossbeam_deque.specs.Handles.{IsPassOf, SamePass, SameWorker, stealer_deque, worker_deque};
-ghost use Rattle.crossbeam_deque.specs.Handles.{view, worker_view};
+ghost use Rattle.crossbeam_deque.specs.Handles.{view, worker_flavor, worker_view};
 ghost use Rattle.crossbeam_deque.specs.Steals.{MatchSteal};
 ghost use Rattle.crossbeam_queue.specs.Passes.{IsPassOf as IsQueuePassOf, IsSamePass, ruled_capacity, view as queue_view};
 ghost use Rattle.std.specs.Prelude.{◌≡◌, ◌+◌, ◌-◌, ◌<◌, [], ◌∷◌, ◌++◌, All, List, length};
@@ -132,11 +132,13 @@ impl queue::Join<PassView<Finished>> for Merged {
 struct Settled;
 
 impl Lesson<Task, PassView<Task>> for Settled {
-    ghost fact = { λ v items. AsOften v.pushed v.taken items × All (IsTaskOf v.batch) items × All (IsTaskOf v.batch) v.pushed × All (IsTaskOf v.batch) v.taken };
+    ghost fact = { λ v items. AsOften v.pushed v.taken items × All (IsTaskOf v.batch) items
+        × All (IsTaskOf v.batch) v.pushed × All (IsTaskOf v.batch) v.taken };
 }
 
 impl queue::Lesson<Finished, PassView<Finished>> for Settled {
-    ghost fact = { λ v items. AsOften v.pushed v.taken items × All (IsResultOf v.batch) items × All (IsResultOf v.batch) v.pushed × All (IsResultOf v.batch) v.taken };
+    ghost fact = { λ v items. AsOften v.pushed v.taken items × All (IsResultOf v.batch) items
+        × All (IsResultOf v.batch) v.pushed × All (IsResultOf v.batch) v.taken };
 }
 
 /// The owner's end of a deque of a batch: tasks come out in the order in which they were pushed.
@@ -154,9 +156,11 @@ pub type Results<B> = RuledArrayQueue<Finished, PassView<Finished>, OfBatch<B>>;
 /// A pass of the result queue.
 pub type ResultPass = crossbeam_queue::Pass<Finished, PassView<Finished>>;
 
-/// An empty deque, whose pass has all parts. `Err` is want of memory.
+/// An empty deque, out of which tasks come in the order in which they went in (its flavor is 0). Its pass has all parts.
+/// `Err` is want of memory.
 pub fn new_deque<B: Batch>(alloc: Global, capacity: usize) -> Result<Deque<B>, AllocError>
-    ensures { IfOk result (λ w. worker_view w ≡ knows B.jobs ALL_PARTS [] []) }
+    ensures view { IfOk result (λ w. worker_view w ≡ knows B.jobs ALL_PARTS [] []) }
+    ensures in_order { IfOk result (λ w. worker_flavor w ≡ 0) }
 {
     Deque::<B>::fifo_as(alloc, capacity)
 }

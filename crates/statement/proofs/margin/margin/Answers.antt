@@ -1,0 +1,9 @@
+use Rattle.std.proofs.Common.{◌≡◌, Err, rules, arith}
+use Rattle.statement.specs.declared.faults.SpanFault.TheVariants as fault
+use Rattle.statement.proofs.WorkerLemmas.{never_workers}
+use Rattle.statement.proofs.margin.margin.Goals as goal
+
+pub returns-in_err-set-clause-workers : goal.returns-in_err-set-clause-workers
+returns-in_err-set-clause-workers g c =
+    let refused : c.from_residual.result ≡ Err fault.Workers → c.accept.result ≡ Err fault.Workers = search rules in
+    (λ e. absurd (never_workers _ c.accept.result _ _ c.accept.ensures.text (refused e)), λ w. absurd (omega arith))
