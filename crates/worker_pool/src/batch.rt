@@ -172,7 +172,7 @@ fn run_named<B: Batch + Send + Sync, R: Threads + Wait + Clock + Sync, G: Gate>(
     let helpers = helpers_of(alloc, ends, theirs)?;
     let coordinator = Coordinator {
         waiting,
-        open: Vec::with_capacity(alloc, MOST_OPEN)?,
+        boards: Vec::with_capacity(alloc, MOST_OPEN)?,
         outcomes,
         own,
         thieves,

@@ -1,6 +1,6 @@
 //! The thread that opens the boards of a batch, hands out and takes back their steps, and keeps the outcomes.
 ghost use Rattle.std.specs.Arc.{arc_value};
-ghost use Rattle.std.specs.Prelude.{◌≡◌, Some, slice_get};
+ghost use Rattle.std.specs.Prelude.{◌≡◌, ◌<◌, Some, slice_get, vec_len};
 ghost use Rattle.worker_pool.specs.steps.Places.{AreOutcomesOf};
 
 use crate::accounts::{Outcomes, Waiting};
@@ -27,7 +27,7 @@ const STEPS_BETWEEN_LOOKS: usize = 64;
 #[derive(Drop)]
 pub(crate) struct Coordinator<'a, B: Batch> {
     pub(crate) waiting: Waiting<B>,
-    pub(crate) open: Vec<OpenBoard<B>>,
+    pub(crate) boards: Vec<OpenBoard<B>>,
     pub(crate) outcomes: Outcomes<B>,
     pub(crate) own: OwnEnd<B>,
     pub(crate) thieves: Vec<ThiefEnd<B>>,
@@ -57,7 +57,7 @@ impl<B: Batch> Coordinator<'_, B> {
     {
         let Coordinator {
             waiting: _,
-            open: _,
+            boards: _,
             outcomes,
             own: _,
             thieves: _,
@@ -72,7 +72,7 @@ impl<B: Batch> Coordinator<'_, B> {
             self.take_back(alloc, gate, done);
             return true;
         }
-        if let Some(at) = self.open.iter().position(|board| board.is_going()) {
+        if let Some(at) = self.boards.iter().position(|board| board.is_going()) {
             self.go_on(alloc, gate, at);
             return true;
         }
@@ -101,7 +101,7 @@ impl<B: Batch> Coordinator<'_, B> {
     // Opens boards while there may be more of them.
     fn open_more<G: Gate>(&mut self, alloc: Global, gate: &G) {
         for _ in 0..self.waiting.len() {
-            if self.open.len() >= MOST_OPEN {
+            if self.boards.len() >= MOST_OPEN {
                 return;
             }
             match self.waiting.next_job(alloc) {
@@ -123,7 +123,7 @@ impl<B: Batch> Coordinator<'_, B> {
         board.hand_out(alloc, gate, &mut self.own);
         if board.has_ended() {
             self.close(alloc, board);
-        } else if let Err(refused) = self.open.push(board) {
+        } else if let Err(refused) = self.boards.push(board) {
             self.close(alloc, refused.value);
         }
     }
@@ -131,33 +131,31 @@ impl<B: Batch> Coordinator<'_, B> {
     // Gives a result to the board of its place. One of no open board is dropped.
     fn take_back<G: Gate>(&mut self, alloc: Global, gate: &G, done: FinishedOf<B>) {
         let place = done.place();
-        let Some(at) = self.open.iter().position(|board| board.place() == place) else {
+        let Some(at) = self.boards.iter().position(|board| board.place() == place) else {
             return;
         };
-        if let Some(board) = self.open.get_mut(at) {
-            if board.place() == place {
-                board.keep(alloc, gate, &mut self.own, done);
-            }
-        }
+        self.boards[at].keep(alloc, gate, &mut self.own, done);
         self.close_ended(alloc, at);
     }
 
     // Goes on with an open board, until it waits or it is time to look for results.
-    fn go_on<G: Gate>(&mut self, alloc: Global, gate: &G, at: usize) {
-        if let Some(board) = self.open.get_mut(at) {
-            for _ in 0..STEPS_BETWEEN_LOOKS {
-                if !board.step(alloc, gate, &mut self.own) {
-                    break;
-                }
+    fn go_on<G: Gate>(&mut self, alloc: Global, gate: &G, at: usize)
+        requires { at < vec_len self.old.boards }
+    {
+        for _ in 0..STEPS_BETWEEN_LOOKS {
+            if !self.boards[at].step(alloc, gate, &mut self.own) {
+                break;
             }
         }
         self.close_ended(alloc, at);
     }
 
     // Closes an open board if it has ended.
-    fn close_ended(&mut self, alloc: Global, at: usize) {
-        if at < self.open.len() && self.open[at].has_ended() {
-            let ended = self.open.swap_remove(at);
+    fn close_ended(&mut self, alloc: Global, at: usize)
+        requires { at < vec_len self.old.boards }
+    {
+        if self.boards[at].has_ended() {
+            let ended = self.boards.swap_remove(at);
             self.close(alloc, ended);
         }
     }
