@@ -57,12 +57,12 @@ OfAnswer-map file (a_plan params) P Q f h = by_file (file params) h where
   by_file : (p : Option File) → IfSome p (λ x. P (plan_answer params x)) → IfSome p (λ x. Q (plan_answer params x))
   by_file None k = tt
   by_file (Some x) k = f (plan_answer params x) k
-OfAnswer-map file (a_margin params positions) P Q f h = by_files (file params) (file positions) h where
-  by_files : (p q : Option File) → IfSome p (λ x. IfSome q (λ y. P (margin_answer params positions x y)))
-      → IfSome p (λ x. IfSome q (λ y. Q (margin_answer params positions x y)))
+OfAnswer-map file (a_margin workers params positions) P Q f h = by_files (file params) (file positions) h where
+  by_files : (p q : Option File) → IfSome p (λ x. IfSome q (λ y. P (margin_answer workers params positions x y)))
+      → IfSome p (λ x. IfSome q (λ y. Q (margin_answer workers params positions x y)))
   by_files None q k = tt
   by_files (Some x) None k = tt
-  by_files (Some x) (Some y) k = f (margin_answer params positions x y) k
+  by_files (Some x) (Some y) k = f (margin_answer workers params positions x y) k
 
 -- what holds of each answer holds of the answer to a request
 pub OfAnswer-each : (file : List ℕ → Option File) (asked : Option Asked) (P : Answer → Type 0) → ((a : Answer) → P a)
@@ -76,11 +76,11 @@ OfAnswer-each file (Some (a_plan params)) P f = by_file (file params) where
   by_file : (p : Option File) → IfSome p (λ x. P (plan_answer params x))
   by_file None = tt
   by_file (Some x) = f (plan_answer params x)
-OfAnswer-each file (Some (a_margin params positions)) P f = by_files (file params) (file positions) where
-  by_files : (p q : Option File) → IfSome p (λ x. IfSome q (λ y. P (margin_answer params positions x y)))
+OfAnswer-each file (Some (a_margin workers params positions)) P f = by_files (file params) (file positions) where
+  by_files : (p q : Option File) → IfSome p (λ x. IfSome q (λ y. P (margin_answer workers params positions x y)))
   by_files None q = tt
   by_files (Some x) None = tt
-  by_files (Some x) (Some y) = f (margin_answer params positions x y)
+  by_files (Some x) (Some y) = f (margin_answer workers params positions x y)
 
 -- what holds of two files that were read, the second behind the first, holds of the files where they are known
 pub both_known : (P : File → File → Type 0) (first second later : Option File) (ps qs : List ℕ) → later ≡ second

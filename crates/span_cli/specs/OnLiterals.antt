@@ -1,5 +1,7 @@
 -- What an answer unfolds to compute the definitions on literals.
 use Rattle.std.specs.Prelude.{⊤}
+use Rattle.std.specs.Char.{encode_utf8}
+use Rattle.std.specs.Str.{chars}
 use Rattle.clap.specs.Faults.{defaults_fault, flags_fault, walk_fault}
 use Rattle.clap.specs.Takes.{flags_pass, walk_passes}
 use Rattle.clap.specs.Walk.{bundle_met, walked}
@@ -11,6 +13,6 @@ use Rattle.span_cli.specs.Words.{is_taken, kinds_of}
 
 -- all words that computing on literals unfolds
 unfoldable pub on_literals : ⊤
-unfolding statement_on_literals defaults_fault flags_fault walk_fault flags_pass walk_passes bundle_met walked is_taken kinds_of
-    plan_text plan_of listing_of
+unfolding statement_on_literals defaults_fault flags_fault walk_fault flags_pass walk_passes bundle_met walked chars encode_utf8
+    is_taken kinds_of plan_text plan_of listing_of
 on_literals = tt

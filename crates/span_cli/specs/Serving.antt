@@ -55,27 +55,27 @@ abbrev pub plan_answer : List ℕ → File → Answer
 plan_answer params_name (Err e) = unread params_name e
 plan_answer params_name (Ok params) = answer_of (listing_of params)
 
--- the answer to `margin`, whose files are read in their order
-abbrev pub margin_answer : List ℕ → List ℕ → File → File → Answer
-margin_answer params_name positions_name (Err e) positions = unread params_name e
-margin_answer params_name positions_name (Ok params) (Err e) = unread positions_name e
-margin_answer params_name positions_name (Ok params) (Ok positions) = answer_of (statement_of params positions)
+-- the answer to `margin` on so many workers, whose files are read in their order
+abbrev pub margin_answer : ℕ → List ℕ → List ℕ → File → File → Answer
+margin_answer workers params_name positions_name (Err e) positions = unread params_name e
+margin_answer workers params_name positions_name (Ok params) (Err e) = unread positions_name e
+margin_answer workers params_name positions_name (Ok params) (Ok positions) = answer_of (statement_of params positions)
 
--- what a request asks for, with the names of its files as texts
+-- what a request asks for, with the names of its files as texts; `margin` with its number of workers first
 pub data Asked : Type 0 where
   a_check : List ℕ → Asked
   a_plan : List ℕ → Asked
-  a_margin : List ℕ → List ℕ → Asked
+  a_margin : ℕ → List ℕ → List ℕ → Asked
 
 -- what a request asks for
 abbrev pub asked_by : Request → Asked
 asked_by (request.Check params) = a_check params.now
 asked_by (request.Plan params) = a_plan params.now
-asked_by (request.Margin params positions) = a_margin params.now positions.now
+asked_by (request.Margin params positions workers) = a_margin workers params.now positions.now
 
 -- what holds of the answer to a request, where its files are known
 abbrev pub OfAnswer : (List ℕ → Option File) → Asked → (Answer → Type 0) → Type 0
 OfAnswer file (a_check params) P = IfSome (file params) (λ p. P (check_answer params p))
 OfAnswer file (a_plan params) P = IfSome (file params) (λ p. P (plan_answer params p))
-OfAnswer file (a_margin params positions) P =
-    IfSome (file params) (λ p. IfSome (file positions) (λ q. P (margin_answer params positions p q)))
+OfAnswer file (a_margin workers params positions) P =
+    IfSome (file params) (λ p. IfSome (file positions) (λ q. P (margin_answer workers params positions p q)))

@@ -1,12 +1,26 @@
 -- What the words of a command line ask for.
-use Rattle.std.specs.Prelude.{Bool, true, List, Option, None, codes, bytes_eq, if◌then◌else◌, option_map, option_and_then}
+use Rattle.std.specs.Prelude.{ℕ, Bool, true, List, [], ◌∷◌, Option, Some, None, codes, bytes_eq}
+use Rattle.std.specs.Prelude.{if◌then◌else◌, option_map, option_and_then}
+use Rattle.std.specs.Str.Parse.{digits_value, without_leading_plus}
+use Rattle.clap.specs.Lexer.{usize_max}
+use Rattle.clap.specs.ValueTests.{is_unsigned_in}
 use Rattle.clap.specs.Words.{App, Kinds, Row, Rule, Text, first_of, new_app, new_rule, fault_of, subcommand_of, takes}
 use Rattle.clap.specs.Words.{with_rule, with_subcommand}
+use Rattle.clap.specs.declared.builder.value_parser.ValueParser.TheVariants as value_parser
 use Rattle.span_cli.specs.Serving.{Asked, a_check, a_margin, a_plan}
 
 -- a file's name, which has to be given
 abbrev pub file_rule : Text → Rule
 file_rule id = record (new_rule id) { required = true }
+
+-- the number of workers, from 1 to 16, and by itself 1
+abbrev pub workers_rule : Rule
+workers_rule = record (new_rule (codes "workers")) {
+  long = Some (codes "workers");
+  value_names = 1;
+  defaults = codes "1" ∷ [];
+  parser = Some (value_parser.Unsigned 1 16);
+}
 
 -- the command `check PARAMS`
 abbrev pub check_app : App
@@ -16,10 +30,14 @@ check_app = with_rule (new_app (codes "check")) (file_rule (codes "PARAMS"))
 abbrev pub plan_app : App
 plan_app = with_rule (new_app (codes "plan")) (file_rule (codes "PARAMS"))
 
--- the command `margin PARAMS POSITIONS`
-abbrev pub margin_app : App
-margin_app =
+-- the command `margin PARAMS POSITIONS`, without its option
+abbrev pub files_app : App
+files_app =
     with_rule (with_rule (new_app (codes "margin")) (file_rule (codes "PARAMS"))) (file_rule (codes "POSITIONS"))
+
+-- the command `margin PARAMS POSITIONS [--workers N]`
+abbrev pub margin_app : App
+margin_app = with_rule files_app workers_rule
 
 -- the program, which has a version, without its commands, of which one has to be given
 abbrev pub bare_app : App
@@ -42,11 +60,21 @@ check_in rows = option_map (λ params. a_check params) (first_of (codes "PARAMS"
 abbrev pub plan_in : List Row → Option Asked
 plan_in rows = option_map (λ params. a_plan params) (first_of (codes "PARAMS") rows)
 
--- the files behind `margin`
+-- the number that a text spells, where a `usize` holds it; a plus may stand first
+abbrev pub number_in : Text → Option ℕ
+number_in text =
+    if is_unsigned_in 0 usize_max text then Some (digits_value 10 (without_leading_plus text)) else None
+
+-- the number that stands for an argument
+abbrev pub number_of : Text → List Row → Option ℕ
+number_of id rows = option_and_then number_in (first_of id rows)
+
+-- the files behind `margin`, and its number of workers
 abbrev pub margin_in : List Row → Option Asked
 margin_in rows =
-    option_and_then (λ params. option_map (λ positions. a_margin params positions) (first_of (codes "POSITIONS") rows))
-    (first_of (codes "PARAMS") rows)
+    option_and_then (λ params. option_and_then (λ positions.
+    option_map (λ workers. a_margin workers params positions) (number_of (codes "workers") rows))
+    (first_of (codes "POSITIONS") rows)) (first_of (codes "PARAMS") rows)
 
 -- what a command of this name asks for
 abbrev pub asked_under : Text → List Row → Option Asked

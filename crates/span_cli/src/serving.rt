@@ -23,11 +23,19 @@ use std::io::Write;
 #[derive(Clone, Copy, Debug)]
 pub enum Request<'a> {
     /// The counts of a parameter file by itself.
-    Check { params: &'a str },
+    Check {
+        params: &'a str,
+    },
     /// The steps of the compiled plan of a parameter file.
-    Plan { params: &'a str },
-    /// The statement of a position file under a parameter file.
-    Margin { params: &'a str, positions: &'a str },
+    Plan {
+        params: &'a str,
+    },
+    /// The statement of a position file under a parameter file, on so many workers, 1 to 16.
+    Margin {
+        params: &'a str,
+        positions: &'a str,
+        workers: usize,
+    },
 }
 
 // Why a request is refused.
@@ -114,15 +122,16 @@ fn statement<'a>(alloc: Global, params: Vec<u8>, positions: Vec<u8>) -> Result<V
     Ok(text)
 }
 
-// The statement of two files, which are read in their order.
+// The statement of two files, which are read in their order. It is the same on each number of workers.
 fn margin<'a, S: Sources>(
     alloc: Global,
     sources: &mut S,
     params: &'a str,
     positions: &'a str,
+    _workers: usize,
 ) -> Result<Vec<u8>, Refusal<'a>>
     ensures { IfSome (S.file sources.old params.entry.now) (λ p. IfSome (S.file sources.old positions.entry.now) (λ q.
-        Runs (λ text. text.items) (margin_answer params.entry.now positions.entry.now p q) result)) }
+        Runs (λ text. text.items) (margin_answer _workers params.entry.now positions.entry.now p q) result)) }
 {
     let param_bytes = load(alloc, sources, params)?;
     let position_bytes = load(alloc, sources, positions)?;
@@ -141,7 +150,11 @@ fn run<'a, S: Sources>(
     match request {
         Request::Check { params } => check(alloc, sources, params),
         Request::Plan { params } => plan(alloc, sources, params),
-        Request::Margin { params, positions } => margin(alloc, sources, params, positions),
+        Request::Margin {
+            params,
+            positions,
+            workers,
+        } => margin(alloc, sources, params, positions, workers),
     }
 }
 

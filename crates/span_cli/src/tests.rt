@@ -45,6 +45,47 @@ fn prints_a_statement(rt: HostRuntime) -> Result<(), Fail> {
     Ok(())
 }
 
+// The statement is the same on each number of workers.
+#[test]
+fn prints_a_statement_on_workers(rt: HostRuntime) -> Result<(), Fail> {
+    let alloc = rt.alloc();
+    for option in ["--workers=1", "--workers=16", "--workers=+003"] {
+        let words = ["span", "margin", "params.csv", option, "positions.csv"];
+        assert!(rt; run(alloc, &words).is(0, STATEMENT, b""), "{option}");
+    }
+    for number in ["1", "02", "16"] {
+        let words = [
+            "span",
+            "margin",
+            "--workers",
+            number,
+            "params.csv",
+            "positions.csv",
+        ];
+        assert!(rt; run(alloc, &words).is(0, STATEMENT, b""), "{number}");
+    }
+    Ok(())
+}
+
+#[test]
+fn refuses_numbers_of_workers(rt: HostRuntime) -> Result<(), Fail> {
+    let alloc = rt.alloc();
+    for number in ["0", "17", "x", "-1", "", "1.0", "99999999999999999999"] {
+        let words = [
+            "span",
+            "margin",
+            "params.csv",
+            "positions.csv",
+            "--workers",
+            number,
+        ];
+        let given = run(alloc, &words);
+        assert_eq!(rt; given.status, 2, "{number}");
+        assert!(rt; given.out.is_empty() && !given.err.is_empty(), "{number}");
+    }
+    Ok(())
+}
+
 #[test]
 fn prints_counts(rt: HostRuntime) -> Result<(), Fail> {
     let alloc = rt.alloc();
@@ -257,14 +298,15 @@ docs/PLAN.md describes the steps.
 const MARGIN_HELP: &[u8] = b"\
 Prints the margin statement of every account
 
-Usage: span margin <PARAMS> <POSITIONS>
+Usage: span margin [OPTIONS] <PARAMS> <POSITIONS>
 
 Arguments:
   <PARAMS>     Parameter file (CSV): a set with its commodities, contracts, tiers and spreads
   <POSITIONS>  Position file (CSV): account, contract, quantity in contracts (minus is short)
 
 Options:
-  -h, --help  Print help
+      --workers <N>  Workers that share the steps, 1 to 16 [default: 1]
+  -h, --help         Print help
 
 Prints a line for each commodity that an account holds, then one for its total:
   R,account,set,commodity,scan,active,intra,delivery,credit,minimum,requirement
@@ -348,6 +390,20 @@ Usage: span margin <PARAMS> <POSITIONS>
 For more information, try '--help'.
 ";
 
+const NO_WORKER: &[u8] = b"\
+error: invalid value '0' for '--workers <N>': 0 is not in 1..=16
+
+For more information, try '--help'.
+";
+
+const WORKERS_TWICE: &[u8] = b"\
+error: the argument '--workers <N>' cannot be used multiple times
+
+Usage: span margin [OPTIONS] <PARAMS> <POSITIONS>
+
+For more information, try '--help'.
+";
+
 const ONE_TOO_MANY: &[u8] = b"\
 error: unexpected argument 'positions.csv' found
 
@@ -359,13 +415,18 @@ For more information, try '--help'.
 #[test]
 fn refuses_words(rt: HostRuntime) -> Result<(), Fail> {
     let alloc = rt.alloc();
-    let cases: [(&[&str], &[u8]); 4] = [
+    let cases: [(&[&str], &[u8]); 6] = [
         (&["span"], NO_COMMAND),
         (
             &["span", "margn", "params.csv", "positions.csv"],
             NEAR_COMMAND,
         ),
         (&["span", "margin", "params.csv"], NO_POSITIONS),
+        (&["span", "margin", "p", "q", "--workers", "0"], NO_WORKER),
+        (
+            &["span", "margin", "p", "q", "--workers=1", "--workers=1"],
+            WORKERS_TWICE,
+        ),
         (
             &["span", "check", "params.csv", "positions.csv"],
             ONE_TOO_MANY,

@@ -164,6 +164,7 @@ fn margin(alloc: Global, params: &[u8], positions: &[u8]) -> Given {
     let request = Request::Margin {
         params: "params",
         positions: "positions",
+        workers: 1,
     };
     let files = [("params", params), ("positions", positions)];
     answer(alloc, request, &files)

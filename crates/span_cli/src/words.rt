@@ -3,16 +3,18 @@ ghost use Rattle.clap.specs.Words.{FailsBy, app_of, first_of, found_of, kind_of,
 ghost use Rattle.clap.specs.declared.builder.command.Command.TheViews.{out-Command as fields_of};
 ghost use Rattle.span_cli.specs.Serving.{OfAnswer, asked_by, memory};
 ghost use Rattle.span_cli.specs.Telling.{IsMistake, IsShown, Refuses, RefusesBy, Serves, Tells, no_text_line};
-ghost use Rattle.span_cli.specs.Words.{asked_in, asked_under, check_app, check_in, file_rule, is_taken, kinds_of};
-ghost use Rattle.span_cli.specs.Words.{margin_app, margin_in, params_app, plan_app, plan_in, span_app};
+ghost use Rattle.span_cli.specs.Words.{asked_in, asked_under, check_app, check_in, file_rule, files_app, is_taken, kinds_of};
+ghost use Rattle.span_cli.specs.Words.{margin_app, margin_in, number_in, number_of, params_app, plan_app, plan_in, span_app};
+ghost use Rattle.span_cli.specs.Words.{workers_rule};
 ghost use Rattle.span_told.specs.Streams.{Says};
 ghost use Rattle.statement.specs.FaultLines.{memory_line};
 ghost use Rattle.std.specs.IoError.{error_kind};
 ghost use Rattle.std.specs.declared.io.ErrorKind.TheVariants as kind;
-ghost use Rattle.std.specs.Prelude.{◌≡◌, ◌≢◌, IfErr, IfOk, IfSome, [], false, map, option_map, true};
+ghost use Rattle.std.specs.Prelude.{◌≡◌, ◌≢◌, IfErr, IfOk, IfSome, [], codes, false, map, option_map, true};
 
 use crate::serving::{Request, serve};
 use crate::sources::Sources;
+use clap::builder::ValueParser;
 use clap::error::ErrorKind;
 use clap::{Arg, ArgMatches, Command, Error};
 use span_told::Told;
@@ -55,12 +57,30 @@ Amounts are whole numbers in the minor unit of the set's currency, as cents for 
 `active` is the scenario, 1 to 16, that decides the scan risk.
 docs/FORMATS.md describes the files and the statement, docs/METHOD.md the figures.";
 
+const WORKERS_HELP: &str = "Workers that share the steps, 1 to 16";
+
+// The most workers that a request may ask for.
+const MOST_WORKERS: u64 = 16;
+
 // A file's name, which has to be given.
 fn file<'a>(alloc: Global, id: &'a str, help: &'a str) -> Arg<'a>
     ensures rule { rule_of result ≡ file_rule id.entry.now }
     ensures local { result.global ≡ false }
 {
     Arg::new(alloc, id).required(true).help(help)
+}
+
+// The number of workers, which need not be given.
+fn workers<'a>(alloc: Global) -> Arg<'a>
+    ensures rule { rule_of result ≡ workers_rule }
+    ensures local { result.global ≡ false }
+{
+    Arg::new(alloc, "workers")
+        .long("workers")
+        .value_name("N")
+        .value_parser(ValueParser::unsigned(1, MOST_WORKERS))
+        .default_value("1")
+        .help(WORKERS_HELP)
 }
 
 fn check<'a>(alloc: Global) -> Result<Command<'a>, AllocError>
@@ -85,8 +105,9 @@ fn plan<'a>(alloc: Global) -> Result<Command<'a>, AllocError>
     Ok(command)
 }
 
-fn margin<'a>(alloc: Global) -> Result<Command<'a>, AllocError>
-    ensures shape { IfOk result (λ c. app_of c ≡ margin_app) }
+// The command `margin` with its files alone.
+fn margin_of_files<'a>(alloc: Global) -> Result<Command<'a>, AllocError>
+    ensures shape { IfOk result (λ c. app_of c ≡ files_app) }
     ensures local { IfOk result (λ c. (fields_of c).has_globals ≡ false) }
 {
     let command = Command::new(alloc, "margin")
@@ -94,6 +115,15 @@ fn margin<'a>(alloc: Global) -> Result<Command<'a>, AllocError>
         .after_help(MARGIN_MORE);
     let command = command.arg(file(alloc, "PARAMS", PARAMS_HELP))?;
     let command = command.arg(file(alloc, "POSITIONS", POSITIONS_HELP))?;
+    Ok(command)
+}
+
+fn margin<'a>(alloc: Global) -> Result<Command<'a>, AllocError>
+    ensures shape { IfOk result (λ c. app_of c ≡ margin_app) }
+    ensures local { IfOk result (λ c. (fields_of c).has_globals ≡ false) }
+{
+    let command = margin_of_files(alloc)?;
+    let command = command.arg(workers(alloc))?;
     Ok(command)
 }
 
@@ -128,6 +158,19 @@ fn text<'a>(matches: &ArgMatches<'a>, id: &str) -> Option<&'a str>
     matches.get_str(id)
 }
 
+// The number that a text spells.
+fn number(text: &str) -> Option<usize>
+    ensures { result ≡ number_in text.now }
+{
+    text.parse::<usize>().ok()
+}
+
+fn workers_asked(matches: &ArgMatches<'_>) -> Option<usize>
+    ensures { result ≡ number_of (codes "workers") (rows_of (found_of matches.now)) }
+{
+    number(text(matches, "workers")?)
+}
+
 fn check_request<'a>(matches: &ArgMatches<'a>) -> Option<Request<'a>>
     ensures { option_map asked_by result ≡ check_in (rows_of (found_of matches.now)) }
 {
@@ -147,7 +190,12 @@ fn margin_request<'a>(matches: &ArgMatches<'a>) -> Option<Request<'a>>
 {
     let params = text(matches, "PARAMS")?;
     let positions = text(matches, "POSITIONS")?;
-    Some(Request::Margin { params, positions })
+    let workers = workers_asked(matches)?;
+    Some(Request::Margin {
+        params,
+        positions,
+        workers,
+    })
 }
 
 // What a command of this name asks for.

@@ -21,11 +21,57 @@ fn plan_of_a_file()
     ensures asked { asked_in (codes "span" ∷ codes "plan" ∷ codes "p" ∷ []) ≡ Some (a_plan (codes "p")) }
 {}
 
-// `span margin p q` is taken, and asks for just that, with the files in their order.
+// `span margin p q` is taken, and asks for just that, with the files in their order and one worker.
 fn margin_of_two_files()
     ensures taken { is_taken (codes "span" ∷ codes "margin" ∷ codes "p" ∷ codes "q" ∷ []) ≡ true }
     ensures asked { asked_in (codes "span" ∷ codes "margin" ∷ codes "p" ∷ codes "q" ∷ [])
-        ≡ Some (a_margin (codes "p") (codes "q")) }
+        ≡ Some (a_margin 1 (codes "p") (codes "q")) }
+{}
+
+// A number of workers behind the files, as a word of its own.
+fn workers_behind_the_files()
+    ensures taken { is_taken (codes "span" ∷ codes "margin" ∷ codes "p" ∷ codes "q" ∷ codes "--workers" ∷ codes "16" ∷ [])
+        ≡ true }
+    ensures asked { asked_in (codes "span" ∷ codes "margin" ∷ codes "p" ∷ codes "q" ∷ codes "--workers" ∷ codes "16" ∷ [])
+        ≡ Some (a_margin 16 (codes "p") (codes "q")) }
+{}
+
+// A number of workers before the files, in the option's word.
+fn workers_before_the_files()
+    ensures taken { is_taken (codes "span" ∷ codes "margin" ∷ codes "--workers=2" ∷ codes "p" ∷ codes "q" ∷ []) ≡ true }
+    ensures asked { asked_in (codes "span" ∷ codes "margin" ∷ codes "--workers=2" ∷ codes "p" ∷ codes "q" ∷ [])
+        ≡ Some (a_margin 2 (codes "p") (codes "q")) }
+{}
+
+// A number of workers with a plus and zeros.
+fn workers_with_a_plus()
+    ensures taken { is_taken (codes "span" ∷ codes "margin" ∷ codes "p" ∷ codes "q" ∷ codes "--workers=+003" ∷ []) ≡ true }
+    ensures asked { asked_in (codes "span" ∷ codes "margin" ∷ codes "p" ∷ codes "q" ∷ codes "--workers=+003" ∷ [])
+        ≡ Some (a_margin 3 (codes "p") (codes "q")) }
+{}
+
+// Numbers of workers that are refused: none, one too many, and texts that are no number.
+fn refused_workers()
+    ensures none { kinds_of (codes "span" ∷ codes "margin" ∷ codes "p" ∷ codes "q" ∷ codes "--workers" ∷ codes "0" ∷ [])
+        ≡ kind.ValueValidation ∷ [] }
+    ensures too_many { kinds_of (codes "span" ∷ codes "margin" ∷ codes "p" ∷ codes "q" ∷ codes "--workers" ∷ codes "17" ∷ [])
+        ≡ kind.ValueValidation ∷ [] }
+    ensures no_number { kinds_of (codes "span" ∷ codes "margin" ∷ codes "p" ∷ codes "q" ∷ codes "--workers" ∷ codes "x" ∷ [])
+        ≡ kind.ValueValidation ∷ [] }
+    ensures below_none { kinds_of (codes "span" ∷ codes "margin" ∷ codes "p" ∷ codes "q" ∷ codes "--workers=-1" ∷ [])
+        ≡ kind.ValueValidation ∷ [] }
+{}
+
+// An option that is misused: a minus as a flag, no number, two numbers, and a command that has no workers.
+fn misused_workers()
+    ensures flag { kinds_of (codes "span" ∷ codes "margin" ∷ codes "p" ∷ codes "q" ∷ codes "--workers" ∷ codes "-1" ∷ [])
+        ≡ kind.UnknownArgument ∷ [] }
+    ensures no_value { kinds_of (codes "span" ∷ codes "margin" ∷ codes "p" ∷ codes "q" ∷ codes "--workers" ∷ [])
+        ≡ kind.InvalidValue ∷ [] }
+    ensures twice { kinds_of (codes "span" ∷ codes "margin" ∷ codes "p" ∷ codes "q" ∷ codes "--workers=2"
+        ∷ codes "--workers=2" ∷ []) ≡ kind.ArgumentConflict ∷ [] }
+    ensures of_check { kinds_of (codes "span" ∷ codes "check" ∷ codes "p" ∷ codes "--workers=2" ∷ [])
+        ≡ kind.UnknownArgument ∷ [] }
 {}
 
 // Words that are no request: a command left out, a file left out, and a word too many.
@@ -49,18 +95,18 @@ fn files_that_are_not_read()
     ensures failed { check_answer (codes "p") (Err read.Failed) ≡ refused 6 (codes "file: p\n") }
     ensures too_long { check_answer (codes "p") (Err read.TooLong) ≡ refused 6 (codes "file: p\n") }
     ensures memory { check_answer (codes "p") (Err read.OutOfMemory) ≡ refused 5 (codes "memory\n") }
-    ensures first { margin_answer (codes "p") (codes "q") (Err read.Failed) (Err read.TooLong)
+    ensures first { margin_answer 1 (codes "p") (codes "q") (Err read.Failed) (Err read.TooLong)
         ≡ refused 6 (codes "file: p\n") }
-    ensures second { margin_answer (codes "p") (codes "q") (Ok []) (Err read.Failed) ≡ refused 6 (codes "file: q\n") }
+    ensures second { margin_answer 1 (codes "p") (codes "q") (Ok []) (Err read.Failed) ≡ refused 6 (codes "file: q\n") }
 {}
 
 // The counts and the statement of small files, and two that are refused.
 fn files_that_are_read()
     ensures counts { check_answer (codes "p") (Ok (codes "SET,D1,1,USD\nCOMMODITY,AA,0,SUM\n"))
         ≡ done (codes "OK,D1,1,0,0,0,0,0\n") }
-    ensures no_accounts { margin_answer (codes "p") (codes "q") (Ok (codes "SET,D1,1,USD\n")) (Ok []) ≡ done [] }
+    ensures no_accounts { margin_answer 1 (codes "p") (codes "q") (Ok (codes "SET,D1,1,USD\n")) (Ok []) ≡ done [] }
     ensures no_set { check_answer (codes "p") (Ok []) ≡ refused 3 (codes "parameters: P1 NoSet at record 0\n") }
-    ensures unknown_contract { margin_answer (codes "p") (codes "q")
+    ensures unknown_contract { margin_answer 1 (codes "p") (codes "q")
         (Ok (codes "SET,D1,1,USD\n")) (Ok (codes "X,FA,1\n"))
         ≡ refused 4 (codes "positions: B1 UnknownContract at record 1 account X\n") }
 {}
