@@ -7,6 +7,7 @@ use span_told::Told;
 use std::alloc::Global;
 use std::process::ExitCode;
 use std::{env, io};
+use worker_pool::gates::OpenGate;
 
 fn words_of(rt: &HostRuntime, alloc: Global) -> io::Result<Vec<String>> {
     let words = env::args(rt)?.collect(alloc)?;
@@ -20,7 +21,15 @@ fn main(rt: HostRuntime) -> ExitCode {
     let status = match words_of(&rt, alloc) {
         Ok(words) => {
             let mut disk = Disk::new(&rt);
-            run_words(alloc, words.as_slice(), &mut disk, &mut out, &mut err)
+            run_words(
+                &rt,
+                alloc,
+                words.as_slice(),
+                &mut disk,
+                &OpenGate,
+                &mut out,
+                &mut err,
+            )
         }
         Err(error) => refuse_words(&error, &mut err),
     };

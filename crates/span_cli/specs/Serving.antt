@@ -3,7 +3,7 @@ use Rattle.std.specs.Prelude.{ℕ, List, [], ◌++◌, codes, Option, IfSome, Re
 use Rattle.statement.specs.Counts.{counts_of}
 use Rattle.statement.specs.Listing.{listing_of}
 use Rattle.statement.specs.FaultLines.{fault_line, fault_status, memory_line}
-use Rattle.statement.specs.Statement.{statement_of}
+use Rattle.statement.specs.Statement.{margin_of}
 use Rattle.statement.specs.declared.faults.SpanFault.{SpanFault}
 use Rattle.statement.specs.declared.statuses.TheConstants.{DONE, FILE_FAILED, OUT_OF_MEMORY}
 use Rattle.span_cli.specs.Sources.{File}
@@ -59,7 +59,7 @@ plan_answer params_name (Ok params) = answer_of (listing_of params)
 abbrev pub margin_answer : ℕ → List ℕ → List ℕ → File → File → Answer
 margin_answer workers params_name positions_name (Err e) positions = unread params_name e
 margin_answer workers params_name positions_name (Ok params) (Err e) = unread positions_name e
-margin_answer workers params_name positions_name (Ok params) (Ok positions) = answer_of (statement_of params positions)
+margin_answer workers params_name positions_name (Ok params) (Ok positions) = answer_of (margin_of workers params positions)
 
 -- what a request asks for, with the names of its files as texts; `margin` with its number of workers first
 pub data Asked : Type 0 where

@@ -7,6 +7,10 @@ use span_told::Told;
 use std::alloc::Global;
 use std::io;
 use std::io::{ErrorKind, Write};
+use std::sync::Wait;
+use std::thread::Threads;
+use std::time::Clock;
+use worker_pool::gates::OpenGate;
 
 /// A set with one future.
 pub const ONE_FUTURE: &[u8] = b"\
@@ -30,10 +34,15 @@ impl Given {
 }
 
 /// What a command line gives over these sources.
-pub fn run_on<S: Sources>(alloc: Global, words: &[&str], sources: &mut S) -> Given {
+pub fn run_on<S: Sources, R: Threads + Wait + Clock + Sync>(
+    rt: &R,
+    alloc: Global,
+    words: &[&str],
+    sources: &mut S,
+) -> Given {
     let mut out = Told::new(Vec::new(alloc));
     let mut err = Told::new(Vec::new(alloc));
-    let status = run_words(alloc, words, sources, &mut out, &mut err);
+    let status = run_words(rt, alloc, words, sources, &OpenGate, &mut out, &mut err);
     Given {
         status,
         out: out.into_inner(),
@@ -42,11 +51,24 @@ pub fn run_on<S: Sources>(alloc: Global, words: &[&str], sources: &mut S) -> Giv
 }
 
 /// What a request gives over files in memory.
-pub fn answer(alloc: Global, request: Request<'_>, files: &[(&str, &[u8])]) -> Given {
+pub fn answer<R: Threads + Wait + Clock + Sync>(
+    rt: &R,
+    alloc: Global,
+    request: Request<'_>,
+    files: &[(&str, &[u8])],
+) -> Given {
     let mut sources = InMemory { files };
     let mut out = Told::new(Vec::new(alloc));
     let mut err = Told::new(Vec::new(alloc));
-    let status = serve(alloc, request, &mut sources, &mut out, &mut err);
+    let status = serve(
+        rt,
+        alloc,
+        request,
+        &mut sources,
+        &OpenGate,
+        &mut out,
+        &mut err,
+    );
     Given {
         status,
         out: out.into_inner(),

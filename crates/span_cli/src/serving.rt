@@ -6,18 +6,22 @@ ghost use Rattle.span_cli.specs.declared.serving.Refusal.TheVariants as refusal;
 ghost use Rattle.span_told.specs.Streams.{Says};
 ghost use Rattle.statement.specs.Counts.{counts_of};
 ghost use Rattle.statement.specs.Listing.{listing_of};
-ghost use Rattle.statement.specs.Statement.{statement_of};
+ghost use Rattle.statement.specs.Statement.{margin_of};
 ghost use Rattle.std.specs.Prelude.{◌≡◌, IfSome, List, false, ℕ};
 
 use crate::sources::{ReadFault, Sources};
 use span_told::Told;
 use statement::counts::check_plain;
 use statement::faults::{SpanFault, status, tell_fault};
-use statement::margin::margin_plain;
+use statement::margin::margin;
 use statement::plans::plan_plain;
 use statement::statuses::{DONE, FILE_FAILED};
 use std::alloc::Global;
 use std::io::Write;
+use std::sync::Wait;
+use std::thread::Threads;
+use std::time::Clock;
+use worker_pool::gates::Gate;
 
 /// What the program is asked for, with the names of its files.
 #[derive(Clone, Copy, Debug)]
@@ -89,8 +93,8 @@ fn check<'a, S: Sources>(
     ensures { IfSome (S.file sources.old params.entry.now) (λ p.
         Runs (λ text. text.items) (check_answer params.entry.now p) result) }
 {
-    let param_bytes = load(alloc, sources, params)?;
-    counts(alloc, param_bytes)
+    let bytes = load(alloc, sources, params)?;
+    counts(alloc, bytes)
 }
 
 // The plan of the bytes of a file.
@@ -110,39 +114,57 @@ fn plan<'a, S: Sources>(
     ensures { IfSome (S.file sources.old params.entry.now) (λ p.
         Runs (λ text. text.items) (plan_answer params.entry.now p) result) }
 {
-    let param_bytes = load(alloc, sources, params)?;
-    listing(alloc, param_bytes)
+    let bytes = load(alloc, sources, params)?;
+    listing(alloc, bytes)
 }
 
-// The statement of the bytes of two files.
-fn statement<'a>(alloc: Global, params: Vec<u8>, positions: Vec<u8>) -> Result<Vec<u8>, Refusal<'a>>
-    ensures { Runs (λ text. text.items) (answer_of (statement_of params.items positions.items)) result }
+// The statement of the bytes of two files, on so many workers.
+fn statement<'a, R: Threads + Wait + Clock + Sync, G: Gate>(
+    rt: &R,
+    alloc: Global,
+    params: Vec<u8>,
+    positions: Vec<u8>,
+    workers: usize,
+    gate: &G,
+) -> Result<Vec<u8>, Refusal<'a>>
+    ensures { Runs (λ text. text.items) (answer_of (margin_of workers params.items positions.items)) result }
 {
-    let text = margin_plain(alloc, params.as_slice(), positions.as_slice())?;
+    let text = margin(
+        rt,
+        alloc,
+        params.as_slice(),
+        positions.as_slice(),
+        workers,
+        gate,
+    )?;
     Ok(text)
 }
 
-// The statement of two files, which are read in their order. It is the same on each number of workers.
-fn margin<'a, S: Sources>(
+// The statement of two files, which are read in their order, on so many workers.
+fn margin_files<'a, S: Sources, R: Threads + Wait + Clock + Sync, G: Gate>(
+    rt: &R,
     alloc: Global,
     sources: &mut S,
     params: &'a str,
     positions: &'a str,
-    _workers: usize,
+    workers: usize,
+    gate: &G,
 ) -> Result<Vec<u8>, Refusal<'a>>
     ensures { IfSome (S.file sources.old params.entry.now) (λ p. IfSome (S.file sources.old positions.entry.now) (λ q.
-        Runs (λ text. text.items) (margin_answer _workers params.entry.now positions.entry.now p q) result)) }
+        Runs (λ text. text.items) (margin_answer workers params.entry.now positions.entry.now p q) result)) }
 {
     let param_bytes = load(alloc, sources, params)?;
     let position_bytes = load(alloc, sources, positions)?;
-    statement(alloc, param_bytes, position_bytes)
+    statement(rt, alloc, param_bytes, position_bytes, workers, gate)
 }
 
 // What a request gives.
-fn run<'a, S: Sources>(
+fn run<'a, S: Sources, R: Threads + Wait + Clock + Sync, G: Gate>(
+    rt: &R,
     alloc: Global,
     request: Request<'a>,
     sources: &mut S,
+    gate: &G,
 ) -> Result<Vec<u8>, Refusal<'a>>
     ensures { OfAnswer (S.file sources.old) (asked_by request.entry) (λ answer.
         Runs (λ text. text.items) answer result) }
@@ -154,7 +176,7 @@ fn run<'a, S: Sources>(
             params,
             positions,
             workers,
-        } => margin(alloc, sources, params, positions, workers),
+        } => margin_files(rt, alloc, sources, params, positions, workers, gate),
     }
 }
 
@@ -206,11 +228,13 @@ fn give<W: Write, E: Write>(text: Vec<u8>, out: &mut Told<W>, err: &mut Told<E>)
 /// Answers a request and gives the status. Where no write fails, just the bytes of the answer go to each stream and the
 /// status is the answer's; where a write of the output fails, the status is that of a file that failed and the line on
 /// `err` is `file: output`; where a write of the line fails, the status stands. To `out` no write may have failed
-/// before.
-pub fn serve<S: Sources, W: Write, E: Write>(
+/// before. The workers of a statement pass the gate before each step.
+pub fn serve<S: Sources, W: Write, E: Write, R: Threads + Wait + Clock + Sync, G: Gate>(
+    rt: &R,
     alloc: Global,
     request: Request<'_>,
     sources: &mut S,
+    gate: &G,
     out: &mut Told<W>,
     err: &mut Told<E>,
 ) -> u8
@@ -218,7 +242,7 @@ pub fn serve<S: Sources, W: Write, E: Write>(
     ensures { OfAnswer (S.file sources.old) (asked_by request.entry) (λ answer.
         Serves answer result out.old out.new err.old err.new) }
 {
-    match run(alloc, request, sources) {
+    match run(rt, alloc, request, sources, gate) {
         Ok(text) => give(text, out, err),
         Err(refusal) => refuse(refusal, err),
     }

@@ -7,7 +7,11 @@ use span_told::Told;
 use std::alloc::Global;
 use std::io;
 use std::io::{ErrorKind, Write};
+use std::sync::Wait;
 use std::test::Fail;
+use std::thread::Threads;
+use std::time::Clock;
+use worker_pool::gates::OpenGate;
 
 const POSITIONS: &[u8] = b"X,FA,1\n";
 
@@ -27,21 +31,26 @@ const FILES: [(&str, &[u8]); 7] = [
 ];
 
 // Answers a command line over `FILES`.
-fn run(alloc: Global, words: &[&str]) -> Given {
+fn run<R: Threads + Wait + Clock + Sync>(rt: &R, alloc: Global, words: &[&str]) -> Given {
     let files = FILES;
     let mut sources = InMemory { files: &files };
-    run_on(alloc, words, &mut sources)
+    run_on(rt, alloc, words, &mut sources)
 }
 
-fn margin(alloc: Global, params: &str, positions: &str) -> Given {
-    run(alloc, &["span", "margin", params, positions])
+fn margin<R: Threads + Wait + Clock + Sync>(
+    rt: &R,
+    alloc: Global,
+    params: &str,
+    positions: &str,
+) -> Given {
+    run(rt, alloc, &["span", "margin", params, positions])
 }
 
 #[test]
 fn prints_a_statement(rt: HostRuntime) -> Result<(), Fail> {
     let alloc = rt.alloc();
-    assert!(rt; margin(alloc, "params.csv", "positions.csv").is(0, STATEMENT, b""));
-    assert!(rt; margin(alloc, "params.csv", "empty.csv").is(0, b"", b""));
+    assert!(rt; margin(&rt, alloc, "params.csv", "positions.csv").is(0, STATEMENT, b""));
+    assert!(rt; margin(&rt, alloc, "params.csv", "empty.csv").is(0, b"", b""));
     Ok(())
 }
 
@@ -51,7 +60,7 @@ fn prints_a_statement_on_workers(rt: HostRuntime) -> Result<(), Fail> {
     let alloc = rt.alloc();
     for option in ["--workers=1", "--workers=16", "--workers=+003"] {
         let words = ["span", "margin", "params.csv", option, "positions.csv"];
-        assert!(rt; run(alloc, &words).is(0, STATEMENT, b""), "{option}");
+        assert!(rt; run(&rt, alloc, &words).is(0, STATEMENT, b""), "{option}");
     }
     for number in ["1", "02", "16"] {
         let words = [
@@ -62,7 +71,7 @@ fn prints_a_statement_on_workers(rt: HostRuntime) -> Result<(), Fail> {
             "params.csv",
             "positions.csv",
         ];
-        assert!(rt; run(alloc, &words).is(0, STATEMENT, b""), "{number}");
+        assert!(rt; run(&rt, alloc, &words).is(0, STATEMENT, b""), "{number}");
     }
     Ok(())
 }
@@ -79,7 +88,7 @@ fn refuses_numbers_of_workers(rt: HostRuntime) -> Result<(), Fail> {
             "--workers",
             number,
         ];
-        let given = run(alloc, &words);
+        let given = run(&rt, alloc, &words);
         assert_eq!(rt; given.status, 2, "{number}");
         assert!(rt; given.out.is_empty() && !given.err.is_empty(), "{number}");
     }
@@ -89,7 +98,9 @@ fn refuses_numbers_of_workers(rt: HostRuntime) -> Result<(), Fail> {
 #[test]
 fn prints_counts(rt: HostRuntime) -> Result<(), Fail> {
     let alloc = rt.alloc();
-    assert!(rt; run(alloc, &["span", "check", "params.csv"]).is(0, b"OK,D1,1,1,0,0,0,0\n", b""));
+    assert!(rt;
+        run(&rt, alloc, &["span", "check", "params.csv"]).is(0, b"OK,D1,1,1,0,0,0,0\n", b"")
+    );
     Ok(())
 }
 
@@ -135,7 +146,7 @@ fn refuses_files(rt: HostRuntime) -> Result<(), Fail> {
     let cases = REFUSED;
     for (params, positions, status, line) in cases {
         assert!(rt;
-            margin(alloc, params, positions).is(status, b"", line),
+            margin(&rt, alloc, params, positions).is(status, b"", line),
             "{params} {positions}"
         );
     }
@@ -146,8 +157,8 @@ fn refuses_files(rt: HostRuntime) -> Result<(), Fail> {
 fn refuses_a_file_alone(rt: HostRuntime) -> Result<(), Fail> {
     let alloc = rt.alloc();
     let line = b"parameters: C1 DuplicateCommodity at record 3\n";
-    assert!(rt; run(alloc, &["span", "check", "twice.csv"]).is(3, b"", line));
-    assert!(rt; run(alloc, &["span", "check", "none"]).is(6, b"", b"file: none\n"));
+    assert!(rt; run(&rt, alloc, &["span", "check", "twice.csv"]).is(3, b"", line));
+    assert!(rt; run(&rt, alloc, &["span", "check", "none"]).is(6, b"", b"file: none\n"));
     Ok(())
 }
 
@@ -176,20 +187,34 @@ fn refuses_what_cannot_be_read(rt: HostRuntime) -> Result<(), Fail> {
     let alloc = rt.alloc();
     let margin = ["span", "margin", "p", "q"];
     let check = ["span", "check", "p"];
-    assert!(rt; run_on(alloc, &margin, &mut Long).is(6, b"", b"file: p\n"));
-    assert!(rt; run_on(alloc, &check, &mut Long).is(6, b"", b"file: p\n"));
-    assert!(rt; run_on(alloc, &margin, &mut Cramped).is(5, b"", b"memory\n"));
-    assert!(rt; run_on(alloc, &check, &mut Cramped).is(5, b"", b"memory\n"));
+    assert!(rt; run_on(&rt, alloc, &margin, &mut Long).is(6, b"", b"file: p\n"));
+    assert!(rt; run_on(&rt, alloc, &check, &mut Long).is(6, b"", b"file: p\n"));
+    assert!(rt; run_on(&rt, alloc, &margin, &mut Cramped).is(5, b"", b"memory\n"));
+    assert!(rt; run_on(&rt, alloc, &check, &mut Cramped).is(5, b"", b"memory\n"));
     Ok(())
 }
 
 // The status of a command line over `FILES`, and what a writer of the output and one of the lines hold in the end.
-fn run_into<W: Write, E: Write>(alloc: Global, words: &[&str], out: W, err: E) -> (u8, W, E) {
+fn run_into<W: Write, E: Write, R: Threads + Wait + Clock + Sync>(
+    rt: &R,
+    alloc: Global,
+    words: &[&str],
+    out: W,
+    err: E,
+) -> (u8, W, E) {
     let files = FILES;
     let mut sources = InMemory { files: &files };
     let mut out = Told::new(out);
     let mut err = Told::new(err);
-    let status = run_words(alloc, words, &mut sources, &mut out, &mut err);
+    let status = run_words(
+        rt,
+        alloc,
+        words,
+        &mut sources,
+        &OpenGate,
+        &mut out,
+        &mut err,
+    );
     (status, out.into_inner(), err.into_inner())
 }
 
@@ -203,7 +228,7 @@ fn says_that_the_output_failed(rt: HostRuntime) -> Result<(), Fail> {
     ];
     for words in lines {
         for room in [0usize, 3] {
-            let (status, _, err) = run_into(alloc, words, Breaking { room }, Vec::new(alloc));
+            let (status, _, err) = run_into(&rt, alloc, words, Breaking { room }, Vec::new(alloc));
             assert_eq!(rt; status, 6);
             assert!(rt; err.as_slice() == b"file: output\n".as_slice());
         }
@@ -222,7 +247,7 @@ fn keeps_its_status_where_the_error_stream_fails(rt: HostRuntime) -> Result<(), 
         (&["span", "margin", "params.csv", "positions.csv"], 0),
     ];
     for (words, status) in lines {
-        let (given, out, _) = run_into(alloc, words, Vec::new(alloc), Breaking { room: 3 });
+        let (given, out, _) = run_into(&rt, alloc, words, Vec::new(alloc), Breaking { room: 3 });
         assert_eq!(rt; given, status);
         assert_eq!(rt; out.is_empty(), status != 0);
     }
@@ -329,7 +354,7 @@ fn helps(rt: HostRuntime) -> Result<(), Fail> {
         (&["span", "margin", "params.csv", "--help"], MARGIN_HELP),
     ];
     for (words, text) in cases {
-        assert!(rt; run(alloc, words).is(0, text, b""));
+        assert!(rt; run(&rt, alloc, words).is(0, text, b""));
     }
     Ok(())
 }
@@ -338,7 +363,7 @@ fn helps(rt: HostRuntime) -> Result<(), Fail> {
 fn names_its_version(rt: HostRuntime) -> Result<(), Fail> {
     let alloc = rt.alloc();
     for word in ["--version", "-V"] {
-        assert!(rt; run(alloc, &["span", word]).is(0, b"span 1.0.0 (profile 1)\n", b""));
+        assert!(rt; run(&rt, alloc, &["span", word]).is(0, b"span 1.0.0 (profile 1)\n", b""));
     }
     Ok(())
 }
@@ -433,7 +458,7 @@ fn refuses_words(rt: HostRuntime) -> Result<(), Fail> {
         ),
     ];
     for (words, text) in cases {
-        assert!(rt; run(alloc, words).is(2, b"", text));
+        assert!(rt; run(&rt, alloc, words).is(2, b"", text));
     }
     Ok(())
 }

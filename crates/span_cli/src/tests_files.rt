@@ -2,7 +2,10 @@
 use crate::builders::{Given, ONE_FUTURE, answer};
 use crate::serving::Request;
 use std::alloc::Global;
+use std::sync::Wait;
 use std::test::Fail;
+use std::thread::Threads;
+use std::time::Clock;
 
 // The second commodity stands behind a contract that names it.
 const FILE_ORDER: &[u8] = b"\
@@ -147,31 +150,37 @@ const CALENDAR_PLAN: &[u8] = b"\
 12 TotalAdd(0) 11 8
 ";
 
-fn plan(alloc: Global, params: &[u8]) -> Given {
+fn plan<R: Threads + Wait + Clock + Sync>(rt: &R, alloc: Global, params: &[u8]) -> Given {
     let request = Request::Plan { params: "params" };
-    answer(alloc, request, &[("params", params)])
+    answer(rt, alloc, request, &[("params", params)])
 }
 
 #[test]
 fn lists_plans(rt: HostRuntime) -> Result<(), Fail> {
     let alloc = rt.alloc();
-    assert!(rt; plan(alloc, ODD_CREDIT).is(0, TWO_COMMODITIES_PLAN, b""));
-    assert!(rt; plan(alloc, CALENDAR).is(0, CALENDAR_PLAN, b""));
+    assert!(rt; plan(&rt, alloc, ODD_CREDIT).is(0, TWO_COMMODITIES_PLAN, b""));
+    assert!(rt; plan(&rt, alloc, CALENDAR).is(0, CALENDAR_PLAN, b""));
     Ok(())
 }
 
-fn margin(alloc: Global, params: &[u8], positions: &[u8]) -> Given {
+fn margin<R: Threads + Wait + Clock + Sync>(
+    rt: &R,
+    alloc: Global,
+    params: &[u8],
+    positions: &[u8],
+) -> Given {
     let request = Request::Margin {
         params: "params",
         positions: "positions",
         workers: 1,
     };
     let files = [("params", params), ("positions", positions)];
-    answer(alloc, request, &files)
+    answer(rt, alloc, request, &files)
 }
 
-fn check(alloc: Global, params: &[u8]) -> Given {
+fn check<R: Threads + Wait + Clock + Sync>(rt: &R, alloc: Global, params: &[u8]) -> Given {
     answer(
+        rt,
         alloc,
         Request::Check { params: "params" },
         &[("params", params)],
@@ -204,7 +213,7 @@ fn margins_futures(rt: HostRuntime) -> Result<(), Fail> {
         (ONE_FUTURE, b"\n\n", b""),
     ];
     for (params, positions, statement) in cases {
-        assert!(rt; margin(alloc, params, positions).is(0, statement, b""));
+        assert!(rt; margin(&rt, alloc, params, positions).is(0, statement, b""));
     }
     Ok(())
 }
@@ -243,7 +252,7 @@ fn margins_spreads_and_options(rt: HostRuntime) -> Result<(), Fail> {
         ),
     ];
     for (params, positions, statement) in cases {
-        assert!(rt; margin(alloc, params, positions).is(0, statement, b""));
+        assert!(rt; margin(&rt, alloc, params, positions).is(0, statement, b""));
     }
     Ok(())
 }
@@ -251,36 +260,42 @@ fn margins_spreads_and_options(rt: HostRuntime) -> Result<(), Fail> {
 #[test]
 fn gives_credits(rt: HostRuntime) -> Result<(), Fail> {
     let alloc = rt.alloc();
-    assert!(rt; margin(alloc, CREDITS, CREDITED_POSITIONS).is(0, CREDITED_STATEMENT, b""));
+    assert!(rt; margin(&rt, alloc, CREDITS, CREDITED_POSITIONS).is(0, CREDITED_STATEMENT, b""));
     // 399.96 and 299.97.
     let odd = b"\
 R,X,D1,AA,1200,13,0,0,399,0,801
 R,X,D1,BB,1800,11,0,0,299,0,1501
 T,X,D1,2302
 ";
-    assert!(rt; margin(alloc, ODD_CREDIT, b"X,FA,1\nX,FB,-2\n").is(0, odd, b""));
+    assert!(rt; margin(&rt, alloc, ODD_CREDIT, b"X,FA,1\nX,FB,-2\n").is(0, odd, b""));
     Ok(())
 }
 
 #[test]
 fn counts_and_refuses(rt: HostRuntime) -> Result<(), Fail> {
     let alloc = rt.alloc();
-    assert!(rt; check(alloc, CALENDAR).is(0, b"OK,D1,1,2,2,1,1,0\n", b""));
-    assert!(rt; check(alloc, CREDITS).is(0, b"OK,D1,3,3,0,0,0,2\n", b""));
-    assert!(rt; check(alloc, b"SET,D1,1,USD\n").is(0, b"OK,D1,0,0,0,0,0,0\n", b""));
+    assert!(rt; check(&rt, alloc, CALENDAR).is(0, b"OK,D1,1,2,2,1,1,0\n", b""));
+    assert!(rt; check(&rt, alloc, CREDITS).is(0, b"OK,D1,3,3,0,0,0,2\n", b""));
+    assert!(rt; check(&rt, alloc, b"SET,D1,1,USD\n").is(0, b"OK,D1,0,0,0,0,0,0\n", b""));
     let line = b"parameters: C3 DuplicateContract at record 7\n";
-    assert!(rt; check(alloc, MANY_FAULTS).is(3, b"", line));
-    assert!(rt; margin(alloc, MANY_FAULTS, b"x").is(3, b"", line));
+    assert!(rt; check(&rt, alloc, MANY_FAULTS).is(3, b"", line));
+    assert!(rt; margin(&rt, alloc, MANY_FAULTS, b"x").is(3, b"", line));
     // An unknown contract counts before a net over the limit.
     assert!(rt;
-        margin(alloc, ONE_FUTURE, b"X,FA,100001\nX,FZ,1\n").is(
+        margin(&rt, alloc, ONE_FUTURE, b"X,FA,100001\nX,FZ,1\n").is(
             4,
             b"",
             b"positions: B1 UnknownContract at record 2 account X\n"
         )
     );
     assert!(rt;
-        margin(alloc, ONE_FUTURE, b"Y,FA,1\nX,FA,1\nY,FA,-1\nX,FA,100000\n").is(
+        margin(
+            &rt,
+            alloc,
+            ONE_FUTURE,
+            b"Y,FA,1\nX,FA,1\nY,FA,-1\nX,FA,100000\n"
+        )
+        .is(
             4,
             b"",
             b"positions: B2 NetOutOfRange at record 2 account X\n"
@@ -293,7 +308,7 @@ fn counts_and_refuses(rt: HostRuntime) -> Result<(), Fail> {
 #[test]
 fn says_where_memory_is_wanted(rt: HostRuntime) -> Result<(), Fail> {
     let alloc = rt.alloc();
-    let Given { status, out, err } = margin(alloc, CREDITS, CREDITED_POSITIONS);
+    let Given { status, out, err } = margin(&rt, alloc, CREDITS, CREDITED_POSITIONS);
     if status == 0 {
         assert!(rt; out.as_slice() == CREDITED_STATEMENT);
         assert!(rt; err.is_empty());

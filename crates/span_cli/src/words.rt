@@ -23,6 +23,10 @@ use std::alloc::{AllocError, Global};
 use std::convert::AsStr;
 use std::io;
 use std::io::Write;
+use std::sync::Wait;
+use std::thread::Threads;
+use std::time::Clock;
+use worker_pool::gates::Gate;
 
 /// The program's version, and that of the profile of the method that it follows (docs/METHOD.md).
 const VERSION: &str = "1.0.0 (profile 1)";
@@ -290,10 +294,19 @@ fn refuse<W: Write, E: Write>(error: Error, out: &mut Told<W>, err: &mut Told<E>
 /// Answers a command line, of which the first word is the program's name, and gives the status. A request is answered
 /// as by `serve`; help and the version go to `out` alone and a mistake to `err` alone. To `out` no write may have
 /// failed before.
-pub fn run_words<T: AsStr, S: Sources, W: Write, E: Write>(
+pub fn run_words<
+    T: AsStr,
+    S: Sources,
+    W: Write,
+    E: Write,
+    R: Threads + Wait + Clock + Sync,
+    G: Gate,
+>(
+    rt: &R,
     alloc: Global,
     words: &[T],
     sources: &mut S,
+    gate: &G,
     out: &mut Told<W>,
     err: &mut Told<E>,
 ) -> u8
@@ -304,7 +317,7 @@ pub fn run_words<T: AsStr, S: Sources, W: Write, E: Write>(
         RefusesBy (kinds_of (map T.text words.now)) result out.old out.new err.old err.new }
 {
     match request(alloc, words) {
-        Ok(Some(request)) => serve(alloc, request, sources, out, err),
+        Ok(Some(request)) => serve(rt, alloc, request, sources, gate, out, err),
         Ok(None) => say_nothing_asked(err),
         Err(error) => refuse(error, out, err),
     }

@@ -15,10 +15,10 @@ ghost use Rattle.span_tables.specs.declared.records.PositionRecord.{PositionReco
 ghost use Rattle.span_tables.specs.declared.records.Record.{Record};
 ghost use Rattle.statement.specs.Answers.{is_memory};
 ghost use Rattle.statement.specs.FaultLines.{fault_line, fault_status, memory_line};
-ghost use Rattle.statement.specs.Statement.{commodity_text, row_text, statement_of, statement_text, statement_under, total_line, total_of};
+ghost use Rattle.statement.specs.Statement.{commodity_text, margin_of, row_text, statement_of, statement_text, statement_under, total_line, total_of};
 ghost use Rattle.statement.specs.declared.faults.SpanFault.{SpanFault};
 ghost use Rattle.statement.specs.declared.faults.SpanFault.TheVariants as fault;
-ghost use Rattle.std.specs.Prelude.{◌++◌, ◌≡◌, ◌∷◌, Err, List, Ok, [], flat_map, length, nat_eq, true, ℕ};
+ghost use Rattle.std.specs.Prelude.{◌++◌, ◌≡◌, ◌<◌, ◌≤◌, ◌∷◌, Err, List, Ok, [], flat_map, length, nat_eq, true, ℕ};
 ghost use Rattle.std.specs.List.{range_with_len};
 
 /// An account's lines are those of the commodities of which it holds a contract, and end with the line of its total.
@@ -59,6 +59,17 @@ pub fn faults_come_in_order()
         → params_of params ≡ Ok records → checked records ≡ Ok tables → positions_of positions ≡ Ok held
         → bindings_of tables.contracts held ≡ Ok accounts
         → statement_of params positions ≡ Ok (statement_text tables accounts) }
+{}
+
+/// A number of workers that is 0 or over 16 is refused, whatever the files hold; on any other the statement, or the fault, is
+/// that of the two files.
+#[tactic(auto, unfolding(crate::specs::Statement::margin_of))]
+pub fn workers_change_nothing()
+    ensures none { (params positions : List ℕ) → margin_of 0 params positions ≡ Err fault.Workers }
+    ensures many { (workers : ℕ) (params positions : List ℕ) → 16 < workers
+        → margin_of workers params positions ≡ Err fault.Workers }
+    ensures some { (workers : ℕ) (params positions : List ℕ) → 0 < workers → workers ≤ 16
+        → margin_of workers params positions ≡ statement_of params positions }
 {}
 
 /// Want of memory has one line and one status, wherever it arises; and no other fault has that status.
