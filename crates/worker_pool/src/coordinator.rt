@@ -128,14 +128,14 @@ impl<B: Batch> Coordinator<'_, B> {
         }
     }
 
-    // Gives a result to the board of its place. One of no open board is dropped.
+    // Gives a result to the board of its place, and goes on with that. A result of no open board is dropped.
     fn take_back<G: Gate>(&mut self, alloc: Global, gate: &G, done: FinishedOf<B>) {
         let place = done.place();
         let Some(at) = self.boards.iter().position(|board| board.place() == place) else {
             return;
         };
         self.boards[at].keep(alloc, gate, &mut self.own, done);
-        self.close_ended(alloc, at);
+        self.go_on(alloc, gate, at);
     }
 
     // Goes on with an open board, until it waits or it is time to look for results.
