@@ -18,7 +18,7 @@ use std::time::Clock;
 use step_scheduler::jobs::Job;
 
 /// How many boards are open at one moment, at most.
-pub(crate) const MOST_OPEN: usize = 8;
+pub(crate) const MOST_OPEN: usize = 4;
 
 /// After how many steps of its own the coordinator looks for results.
 const STEPS_BETWEEN_LOOKS: usize = 64;

@@ -6,7 +6,7 @@ use std::time::{Clock, Duration};
 const YIELDS: u32 = 16;
 
 /// The shortest and the longest time for which a worker sleeps, in microseconds.
-const SHORTEST: u64 = 10;
+const SHORTEST: u64 = 100;
 
 const LONGEST: u64 = 1_000;
 
