@@ -10,4 +10,6 @@ pub mod plans;
 pub mod statuses;
 #[cfg(test)]
 mod tests;
+#[cfg(test)]
+mod tests_workers;
 pub mod worked;

@@ -142,6 +142,7 @@ fn lines_of_faults(rt: HostRuntime) -> Result<(), Fail> {
         "positions: B2 NetOutOfRange at record 3 account ACC-1\n",
         4,
     )?;
+    says(&rt, alloc, SpanFault::Workers, "workers: L1 Workers\n", 2)?;
     says(&rt, alloc, SpanFault::Memory, "memory\n", 5)
 }
 

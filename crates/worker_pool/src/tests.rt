@@ -98,19 +98,22 @@ fn numbers_of_workers(rt: HostRuntime) -> Result<(), Fail> {
     Ok(())
 }
 
-// Each pass waits until three workers have entered, or its turns are used up; and each is counted.
+// Each pass waits until three workers have entered, or its turns are used up. It is noted which steps passed, and whether
+// one passed twice.
 #[derive(Drop)]
 struct ThreeAtOnce {
     entered: AtomicU64,
-    passes: AtomicU64,
+    steps: AtomicU64,
+    twice: AtomicU64,
     late: AtomicU64,
 }
 
 impl Gate for ThreeAtOnce {
-    fn pass(&self, worker: usize, _account: &Name, _step: usize) {
-        self.passes.fetch_add(1, SeqCst);
-        if worker < 16 {
+    fn pass(&self, worker: usize, _account: &Name, step: usize) {
+        if worker < 16 && step < 64 {
             self.entered.fetch_or(1 << worker, SeqCst);
+            let before = self.steps.fetch_or(1 << step, SeqCst);
+            self.twice.fetch_or(before & (1 << step), SeqCst);
         }
         for _ in 0..10_000_000 {
             if self.entered.load(SeqCst).count_ones() >= 3 {
@@ -128,17 +131,24 @@ fn three_workers_at_once(rt: HostRuntime) -> Result<(), Fail> {
     let set = Arc::new(alloc, two_commodity_set(alloc)?)?;
     let gate = ThreeAtOnce {
         entered: AtomicU64::new(0),
-        passes: AtomicU64::new(0),
+        steps: AtomicU64::new(0),
+        twice: AtomicU64::new(0),
         late: AtomicU64::new(0),
     };
-    let accounts = two_accounts(alloc)?;
-    assert!(rt; accounts.iter().all(|account| account.fits(set.tables())));
-    match run_batch(&rt, alloc, &set, accounts, 3, &gate) {
-        Ok(outcomes) => assert!(rt; are_right(&outcomes) == Some(true)),
+    let mut account = two_accounts(alloc)?;
+    account.truncate(1);
+    assert!(rt; account.iter().all(|account| account.fits(set.tables())));
+    match run_batch(&rt, alloc, &set, account, 3, &gate) {
+        Ok(outcomes) => {
+            let row = outcomes.first().and_then(row_in).ok_or("a row")?;
+            assert_eq!(rt; row.total().get(), 3600);
+        }
         Err(_) => assert!(rt; false),
     }
     assert_eq!(rt; gate.late.load(SeqCst), 0);
-    assert_eq!(rt; gate.passes.load(SeqCst), 2 * set.plan().len() as u64);
+    assert_eq!(rt; gate.twice.load(SeqCst), 0);
+    assert_eq!(rt; set.plan().len(), 23);
+    assert_eq!(rt; gate.steps.load(SeqCst), (1 << 23) - 1);
     Ok(())
 }
 
