@@ -258,6 +258,7 @@ fn keeps_its_status_where_the_error_stream_fails(rt: HostRuntime) -> Result<(), 
 fn keeps_its_status_where_both_streams_fail(rt: HostRuntime) -> Result<(), Fail> {
     let words = ["span", "margin", "params.csv", "positions.csv"];
     let (status, _, _) = run_into(
+        &rt,
         rt.alloc(),
         &words,
         Breaking { room: 5 },
