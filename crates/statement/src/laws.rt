@@ -15,10 +15,12 @@ ghost use Rattle.span_tables.specs.declared.records.PositionRecord.{PositionReco
 ghost use Rattle.span_tables.specs.declared.records.Record.{Record};
 ghost use Rattle.statement.specs.Answers.{is_memory};
 ghost use Rattle.statement.specs.FaultLines.{fault_line, fault_status, memory_line};
-ghost use Rattle.statement.specs.Statement.{commodity_text, margin_of, row_text, statement_of, statement_text, statement_under, total_line, total_of};
+ghost use Rattle.statement.specs.Statement.{commodity_text, margin_of, row_text, statement_of, statement_text};
+ghost use Rattle.statement.specs.Statement.{statement_under, total_line, total_of};
 ghost use Rattle.statement.specs.declared.faults.SpanFault.{SpanFault};
 ghost use Rattle.statement.specs.declared.faults.SpanFault.TheVariants as fault;
-ghost use Rattle.std.specs.Prelude.{◌++◌, ◌≡◌, ◌<◌, ◌≤◌, ◌∷◌, Err, List, Ok, [], flat_map, length, nat_eq, true, ℕ};
+ghost use Rattle.std.specs.Prelude.{◌++◌, ◌≡◌, ◌<◌, ◌≤◌, ◌∷◌, Err, List, Ok, [], flat_map};
+ghost use Rattle.std.specs.Prelude.{length, nat_eq, true, ℕ};
 ghost use Rattle.std.specs.List.{range_with_len};
 
 /// An account's lines are those of the commodities of which it holds a contract, and end with the line of its total.
