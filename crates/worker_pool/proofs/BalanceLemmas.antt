@@ -5,7 +5,7 @@ use mathlib.Core.Option.{some, some-ne-none, some-injective}
 use lib.ListN.{get_elem?}
 use lib.Seq.{take-append_seam, drop-append_seam}
 use Rattle.std.proofs.lemmas.List.Elements.{All-append, All-take, All-drop}
-use Rattle.crossbeam_deque.specs.Tasks.{Pushes, Takes, Pops, Forks, Merges, Learns}
+use Rattle.crossbeam_deque.specs.Tasks.{Pushes, Takes, Pops, Forks, Merges, Learns, Finds}
 use Rattle.crossbeam_deque.proofs.Lists.{at_set, at_snoc}
 use Rattle.step_scheduler.specs.Jobs.{JobView}
 use Rattle.worker_pool.specs.declared.passes.PassView.{PassView}
@@ -263,3 +263,12 @@ module _ {T : Type 0} (IsOf : List JobView → T → Type 0) where
         subst (λ (l : List JobView). All (IsOf l) v.pushed) b f.pushed,
         subst (λ (l : List JobView). All (IsOf l) v.taken) b f.taken,
       )
+
+  -- with all parts, what was pushed was taken or is inside
+  pub counted : (port : ℕ) (v : PassView T)
+      → Learns (IsBalanced IsOf) port v (λ items. v.parts ≡ 1024 → AsOften v.pushed v.taken items)
+  counted port v items views k at all = (learns port v all items views k at).0
+
+  -- with all parts, and nothing inside, all that was pushed was taken
+  pub finds : (port : ℕ) (v : PassView T) → Finds (IsBalanced IsOf) port v (v.parts ≡ 1024 → AsOften v.pushed v.taken [])
+  finds port v views k at all = (learns port v all [] views k at).0

@@ -3,10 +3,11 @@
 //! A pass goes with each end: what was pushed and taken with it is known to contracts. The first pass of a deque or of
 //! the queue has all 1024 parts; a pass that is split off has one of them; who has them all knows the whole.
 ghost use Rattle.crossbeam_deque.specs.Handles.{IsPassOf, SamePass, SameWorker, stealer_deque, worker_deque};
-ghost use Rattle.crossbeam_deque.specs.Handles.{view, worker_flavor, worker_view};
+ghost use Rattle.crossbeam_deque.specs.Handles.{view, worker_capacity, worker_flavor, worker_index, worker_view};
+ghost use Rattle.std.specs.Int.{IsNextPowerOfTwo};
 ghost use Rattle.crossbeam_deque.specs.Steals.{MatchSteal};
 ghost use Rattle.crossbeam_queue.specs.Passes.{IsPassOf as IsQueuePassOf, IsSamePass, ruled_capacity, view as queue_view};
-ghost use Rattle.std.specs.Prelude.{◌≡◌, ◌+◌, ◌-◌, ◌<◌, [], ◌∷◌, ◌++◌, All, List, length};
+ghost use Rattle.std.specs.Prelude.{◌≡◌, ◌+◌, ◌-◌, ◌<◌, ◌≤◌, [], ◌∷◌, ◌++◌, All, List, length};
 ghost use Rattle.std.specs.Prelude.{IfErr, IfOk, MatchOption, OnErr, OnOk};
 ghost use Rattle.step_scheduler.specs.Jobs.{FinishedView, TaskView};
 ghost use Rattle.worker_pool.specs.Balance.{ALL_PARTS, AsOften, IsBalanced, knows};
@@ -77,9 +78,9 @@ impl queue::Outcome<Finished, PassView<Finished>> for Pushed {
     ghost then = { λ v x w. w ≡ knows v.batch v.parts (v.pushed ++ x ∷ []) v.taken };
 }
 
-// Nothing is concluded from a refused push but that the queue was full.
+// Where a push is refused the queue was full: with all parts, what was pushed was taken or is in it.
 impl queue::Lesson<Finished, PassView<Finished>> for Pushed {
-    ghost fact = { λ _ _. Unit {0} };
+    ghost fact = { λ v items. v.parts ≡ ALL_PARTS → AsOften v.pushed v.taken items };
 }
 
 // A pop or a steal adds the item to what was taken, and the item is of the batch.
@@ -89,13 +90,22 @@ impl Outcome<Task, PassView<Task>> for Taken {
     ghost then = { λ v xs w. (w ≡ knows v.batch v.parts v.pushed (v.taken ++ xs)) × All (IsTaskOf v.batch) xs };
 }
 
+// So does a pop of a deque; where that finds nothing, with all parts, all that was pushed was taken.
+struct Popped;
+
+impl Outcome<Task, PassView<Task>> for Popped {
+    ghost then = { λ v xs w. (w ≡ knows v.batch v.parts v.pushed (v.taken ++ xs)) × All (IsTaskOf v.batch) xs };
+
+    ghost empty = { λ v. v.parts ≡ ALL_PARTS → AsOften v.pushed v.taken [] };
+}
+
 impl queue::Outcome<Finished, PassView<Finished>> for Taken {
     ghost then = { λ v x w. (w ≡ knows v.batch v.parts v.pushed (v.taken ++ x ∷ [])) × IsResultOf v.batch x };
 }
 
-// Nothing is concluded from a queue where a pop finds nothing.
+// Where a pop finds nothing: with all parts, all that was pushed was taken.
 impl queue::Lesson<Finished, PassView<Finished>> for Taken {
-    ghost fact = { λ _ _. Unit {0} };
+    ghost fact = { λ v items. v.parts ≡ ALL_PARTS → AsOften v.pushed v.taken items };
 }
 
 // One part goes to a new pass.
@@ -161,6 +171,7 @@ pub type ResultPass = crossbeam_queue::Pass<Finished, PassView<Finished>>;
 pub fn new_deque<B: Batch>(alloc: Global, capacity: usize) -> Result<Deque<B>, AllocError>
     ensures view { IfOk result (λ w. worker_view w ≡ knows B.jobs ALL_PARTS [] []) }
     ensures in_order { IfOk result (λ w. worker_flavor w ≡ 0) }
+    ensures places { IfOk result (λ w. IsNextPowerOfTwo capacity (worker_capacity w) × (worker_index w ≡ 0)) }
 {
     Deque::<B>::fifo_as(alloc, capacity)
 }
@@ -184,6 +195,8 @@ pub fn push_task<B: Batch>(owner: &mut Deque<B>, task: Task) -> Result<(), Task>
     ensures ok { OnOk result (worker_view owner.new ≡ knows (worker_view owner.old).batch (worker_view owner.old).parts
         ((worker_view owner.old).pushed ++ task ∷ []) (worker_view owner.old).taken) }
     ensures err { IfErr result (λ back. (back ≡ task) × (worker_view owner.new ≡ worker_view owner.old)) }
+    ensures next { OnOk result (worker_index owner.new ≡ worker_index owner.old + 1) }
+    ensures refused { OnErr result (worker_capacity owner.old ≤ worker_index owner.old) }
 {
     owner.push_as::<Pushed>(task)
 }
@@ -192,12 +205,14 @@ pub fn push_task<B: Batch>(owner: &mut Deque<B>, task: Task) -> Result<(), Task>
 pub fn pop_task<B: Batch>(owner: &mut Deque<B>) -> Option<Task>
     requires { 0 < (worker_view owner.old).parts }
     ensures same { SameWorker owner.old owner.new }
+    ensures none { MatchOption result ((worker_view owner.old).parts ≡ ALL_PARTS
+        → AsOften (worker_view owner.old).pushed (worker_view owner.old).taken []) (λ _. Unit {0}) }
     ensures task { MatchOption result (worker_view owner.new ≡ worker_view owner.old) (λ task.
         (worker_view owner.new ≡ knows (worker_view owner.old).batch (worker_view owner.old).parts
         (worker_view owner.old).pushed ((worker_view owner.old).taken ++ task ∷ []))
         × IsTaskOf (worker_view owner.old).batch task) }
 {
-    owner.pop_as::<Taken>()
+    owner.pop_as::<Popped>()
 }
 
 /// Takes the task at the front, for a thief. It is of the batch. Nothing changes where nothing is found.
@@ -268,7 +283,9 @@ pub fn push_result<B: Batch, R: Wait>(
     ensures ok { OnOk result (queue_view pass.new ≡ knows (queue_view pass.old).batch (queue_view pass.old).parts
         ((queue_view pass.old).pushed ++ finished ∷ []) (queue_view pass.old).taken) }
     ensures err { IfErr result (λ back. (back ≡ finished) × (queue_view pass.new ≡ queue_view pass.old)) }
-    ensures full { OnErr result ((inside : List FinishedView) × (length inside ≡ ruled_capacity queue.now)) }
+    ensures full { OnErr result ((inside : List FinishedView) × (length inside ≡ ruled_capacity queue.now)
+        × ((queue_view pass.old).parts ≡ ALL_PARTS
+        → AsOften (queue_view pass.old).pushed (queue_view pass.old).taken inside)) }
 {
     queue.push_as::<Pushed, R>(rt, pass, finished)
 }
@@ -282,6 +299,9 @@ pub fn pop_result<B: Batch, R: Wait>(
     requires queue { IsQueuePassOf queue.now pass.old }
     requires part { 0 < (queue_view pass.old).parts }
     ensures same { IsSamePass pass.old pass.new }
+    ensures none { MatchOption result ((inside : List FinishedView) × (length inside ≡ 0)
+        × ((queue_view pass.old).parts ≡ ALL_PARTS
+        → AsOften (queue_view pass.old).pushed (queue_view pass.old).taken inside)) (λ _. Unit {0}) }
     ensures finished { MatchOption result (queue_view pass.new ≡ queue_view pass.old) (λ finished.
         (queue_view pass.new ≡ knows (queue_view pass.old).batch (queue_view pass.old).parts
         (queue_view pass.old).pushed ((queue_view pass.old).taken ++ finished ∷ []))
