@@ -1,5 +1,6 @@
 //! The contracts of one commodity that an account holds (docs/METHOD.md, "Positions").
-ghost use Rattle.std.specs.Prelude.{[], ◌≡◌, ◌==◌, ◌<◌, ◌≤◌, ℕ, false, true, not, length, map, nat_abs, slice_get, slice_index_or};
+ghost use Rattle.std.specs.Prelude.{[], ◌≡◌, ◌==◌, ◌<◌, ◌≤◌, ℕ, false, true, not};
+ghost use Rattle.std.specs.Prelude.{length, map, nat_abs, slice_get, slice_index_or};
 ghost use Rattle.std.specs.Prelude.{All, IfOk, IfSome};
 ghost use Rattle.std.specs.Arc.{arc_value};
 ghost use Rattle.span_tables.specs.Accepted.{IsContract, IsWithinLimits, commodity_id};
