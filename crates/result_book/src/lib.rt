@@ -1,6 +1,12 @@
-//! Rows: what a complete run gives for an account.
+//! Rows, which are what a complete run gives for an account, and the book that keeps the rows of all batches.
 #![tactic(auto)]
 
+mod batches;
+#[cfg(test)]
+mod book_tests;
+pub mod books;
+pub mod laws;
 pub mod rows;
 #[cfg(test)]
 mod tests;
+mod worked;

@@ -1,0 +1,3 @@
+pub mod BeginningLemmas
+pub mod HistoryLemmas
+pub mod SampleLaws

@@ -1,0 +1,3 @@
+pub mod Publications
+pub mod Samples
+pub mod steps

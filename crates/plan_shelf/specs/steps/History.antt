@@ -1,0 +1,21 @@
+-- The rule of a history, and what its step tells.
+use Rattle.std.specs.Prelude.{ℕ, ◌≡◌, ◌==◌, ◌<◌, true, List, [], ◌∷◌, ◌++◌, length, MatchBool}
+use mathlib.Core.List.{IsPrefix}
+use Rattle.logbook.specs.Pages.{Book, Cell, Named, Step, View}
+use Rattle.plan_compiler.specs.Compiled.{SetView}
+
+-- the first word of a book is the number of sets in its history; the second stays 0
+pub record IsCounted (words : List Cell) (sets : List SetView) : Type 0 where
+  pub are : words ≡ (length sets, true) ∷ (0, true) ∷ []
+
+-- the first word of a book
+abbrev pub counter_of : Book → Named
+counter_of book = record { tracked = true; key = 0; book = book }
+
+-- the set was added to all that had been seen; or the history was longer, and then all of it was seen
+abbrev pub Adds : Step SetView → View SetView ℕ → ℕ → View SetView ℕ → Type 0
+Adds s old found new = MatchBool (found == s.old) (new.0 ≡ old.0 ++ s.ask ∷ []) (length new.0 ≡ found)
+
+-- the second list goes on where the first ends
+abbrev pub IsLonger : List SetView → List SetView → Type 0
+IsLonger xs ys = IsPrefix xs ys × (length xs < length ys)

@@ -1,0 +1,118 @@
+//! Publishing a set.
+ghost use Rattle.plan_shelf.specs.declared.faults.ShelfFault.TheVariants as fault;
+ghost use Rattle.std.specs.Arc.{arc_value};
+ghost use Rattle.std.specs.Prelude.{◌≡◌, ◌-◌, ◌^◌, ◌⊎◌, ◌↔◌, [], ◌∷◌, ◌++◌};
+ghost use Rattle.std.specs.Prelude.{IfErr, IfOk, IsErrAnd, length};
+
+use crate::faults::{NotPublished, ShelfFault};
+use crate::history::{Beginning, Counter, ShelfName};
+use crate::slots::{Place, Publication, Published, Slot};
+use left_right::{Absorb, WriteHandle};
+use plan_compiler::set::CompiledSet;
+use std::alloc::{AllocError, Global};
+use std::marker::Model;
+use std::sync::{Arc, OnceLock, Wait};
+
+/// What a publication tells, for readers to learn. Contracts see the sets that were published up to it, in order.
+#[derive(Drop)]
+pub struct Told<S: ShelfName> {
+    pub(crate) beginning: Beginning<S>,
+}
+
+impl<S: ShelfName> Model for Told<S> {
+    ghost use Rattle.plan_compiler.specs.Compiled.{SetView};
+    ghost use Rattle.std.specs.Prelude.{List};
+
+    ghost Value = { List SetView };
+
+    ghost view = { λ t. t.beginning };
+}
+
+impl<S: ShelfName> Told<S> {
+    /// The publication's number. They are numbered from 1.
+    pub fn number(&self) -> u64
+        ensures { result ≡ length self.now }
+    {
+        self.beginning.len()
+    }
+}
+
+/// The publisher of a shelf. Contracts see the sets that were published, in order.
+///
+/// Readers find nothing any more once it is dropped.
+#[derive(Drop)]
+pub struct Publisher<S: ShelfName, R: Wait + Drop>
+where
+    Slot<S>: Absorb<Publication<S>, State = ()>,
+{
+    pub(crate) alloc: Global,
+    pub(crate) slots: WriteHandle<Slot<S>, Publication<S>, R>,
+    pub(crate) counter: Counter<S>,
+    pub(crate) beginning: Beginning<S>,
+}
+
+impl<S: ShelfName, R: Wait + Drop> Model for Publisher<S, R>
+where
+    Slot<S>: Absorb<Publication<S>, State = ()>,
+{
+    ghost use Rattle.plan_compiler.specs.Compiled.{SetView};
+    ghost use Rattle.std.specs.Prelude.{List};
+
+    ghost Value = { List SetView };
+
+    ghost view = { λ p. p.beginning };
+}
+
+impl<S: ShelfName, R: Wait + Drop> Publisher<S, R>
+where
+    Slot<S>: Absorb<Publication<S>, State = ()>,
+{
+    /// Publishes a set, and tells its publication.
+    ///
+    /// Refused is a publication past number 2^64 - 1, and want of memory. The set then comes back, and nothing was published.
+    pub fn publish(&mut self, set: Arc<CompiledSet>) -> Result<Told<S>, NotPublished>
+        ensures ok { IfOk result (λ told. (self.new ≡ self.old ++ arc_value set ∷ []) × (told ≡ self.new)) }
+        ensures err { IfErr result (λ refused. (self.new ≡ self.old) × (refused.set ≡ set)) }
+        ensures last { IsErrAnd result (λ refused. refused.cause ≡ fault.Last) ↔ (length self.old ≡ 2 ^ 64 - 1) }
+        ensures cause { IfErr result (λ refused. (refused.cause ≡ fault.Last) ⊎ (refused.cause ≡ fault.OutOfMemory)) }
+    {
+        if self.beginning.is_full() {
+            let cause = ShelfFault::Last;
+            return Err(NotPublished { cause, set });
+        }
+        let Ok(place) = self.new_place() else {
+            let cause = ShelfFault::OutOfMemory;
+            return Err(NotPublished { cause, set });
+        };
+        let mut beginning = self.beginning.copied();
+        if !beginning.add(&self.counter, &set) {
+            // This never comes: nobody else has the counter.
+            let cause = ShelfFault::OutOfMemory;
+            return Err(NotPublished { cause, set });
+        }
+        let told = Told {
+            beginning: beginning.copied(),
+        };
+        let _ = place.try_set(Published {
+            set,
+            beginning: beginning.copied(),
+        });
+        self.beginning = beginning;
+        let _ = self.slots.publish();
+        Ok(told)
+    }
+
+    // The place of a publication, which both slots are to be told of. All of its growths are here. `Err` is want of memory.
+    fn new_place(&mut self) -> Result<Place<S>, AllocError>
+        ensures { self.new ≡ self.old }
+    {
+        let place = Arc::new(self.alloc, OnceLock::new())?;
+        let publication = Publication {
+            place: Arc::try_clone(&place)?,
+        };
+        match self.slots.append(publication) {
+            Ok(()) => Ok(place),
+            Err(_) => Err(AllocError),
+        }
+    }
+}

@@ -1,0 +1,104 @@
+//! Reading the current set.
+ghost use Rattle.plan_shelf.specs.Publications.{IsLast};
+ghost use Rattle.plan_shelf.specs.steps.Looks.{Finds};
+ghost use Rattle.std.specs.Arc.{arc_value};
+ghost use Rattle.std.specs.Prelude.{◌≡◌, IfOk, IfSome, None, Ok, length};
+ghost use mathlib.Core.List.{IsPrefix};
+
+use crate::history::{Beginning, ShelfName};
+use crate::publishers::Told;
+use crate::slots::Slot;
+use left_right::ReadHandle;
+use plan_compiler::set::CompiledSet;
+use std::alloc::AllocError;
+use std::marker::Model;
+use std::sync::{Arc, Wait};
+use std::thread;
+
+/// A reader of a shelf. Contracts see the sets of which it knows that they were published, in order: they begin those of
+/// the shelf.
+#[derive(Drop)]
+pub struct Reader<S: ShelfName> {
+    slots: ReadHandle<Slot<S>>,
+    beginning: Beginning<S>,
+}
+
+impl<S: ShelfName> Model for Reader<S> {
+    ghost use Rattle.plan_compiler.specs.Compiled.{SetView};
+    ghost use Rattle.std.specs.Prelude.{List};
+
+    ghost Value = { List SetView };
+
+    ghost view = { λ r. r.beginning };
+}
+
+/// What one look finds.
+pub(crate) enum Look {
+    /// Nothing is published, or the publisher was dropped.
+    Nothing,
+    /// A publication before one that the reader knows of.
+    Older,
+    /// The last publication, its number and its set.
+    Last(u64, Arc<CompiledSet>),
+}
+
+impl<S: ShelfName> Reader<S> {
+    /// A reader that knows of these publications.
+    pub(crate) fn new(slots: ReadHandle<Slot<S>>, beginning: Beginning<S>) -> Reader<S>
+        ensures { result ≡ beginning }
+    {
+        Reader { slots, beginning }
+    }
+
+    /// Learns what a publication told: from now on the reader finds that publication or a later one.
+    pub fn learn(&mut self, told: Told<S>)
+        ensures told { IsPrefix told self.new }
+        ensures old { IsPrefix self.old self.new }
+    {
+        self.beginning = self.beginning.longer(&told.beginning);
+    }
+
+    /// The current set, with the number of its publication. It is none before one that the reader found or learned of.
+    ///
+    /// `None` is given where nothing is published, and where the publisher was dropped. `Err` is want of memory.
+    pub fn current<R: Wait>(
+        &mut self,
+        rt: &R,
+    ) -> Result<Option<(u64, Arc<CompiledSet>)>, AllocError>
+        ensures old { IsPrefix self.old self.new }
+        ensures some { IfOk result (λ found. IfSome found (λ current.
+            (current.0 ≡ length self.new) × IsLast self.new (arc_value current.1))) }
+        ensures none { result ≡ Ok None → self.new ≡ self.old }
+    {
+        for _ in rt.forever() {
+            match self.look()? {
+                Look::Nothing => return Ok(None),
+                Look::Older => thread::yield_now(),
+                Look::Last(number, set) => return Ok(Some((number, set))),
+            }
+        }
+        unreachable!()
+    }
+
+    // Looks once. `Err` is want of memory.
+    fn look(&mut self) -> Result<Look, AllocError>
+        ensures old { IsPrefix self.old self.new }
+        ensures found { IfOk result (Finds self.old self.new) }
+    {
+        let Some(slot) = self.slots.enter() else {
+            return Ok(Look::Nothing);
+        };
+        let Some(place) = &slot.last else {
+            return Ok(Look::Nothing);
+        };
+        let Some(published) = place.get() else {
+            return Ok(Look::Older);
+        };
+        if published.beginning.len() < self.beginning.len() {
+            return Ok(Look::Older);
+        }
+        self.beginning = self.beginning.longer(&published.beginning);
+        let set = Arc::try_clone(&published.set)?;
+        Ok(Look::Last(self.beginning.len(), set))
+    }
+}

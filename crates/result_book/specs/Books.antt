@@ -1,0 +1,58 @@
+-- What contracts see of a book, what a book is, and when a row is not put.
+use Rattle.std.specs.Prelude.{◌≡◌, ℕ, ◌<◌, ◌^◌, Bool, false, true, ◌&&◌, List, [], map, nat_eq, nat_le, nat_lt}
+use Rattle.std.specs.Prelude.{Option, None, Some, bytes_eq, if◌then◌else◌, is_some}
+use Rattle.std.specs.List.{IsDistinct, find}
+use Rattle.std.specs.Map.{lookup}
+use Rattle.std.specs.Option.{unwrap_or}
+use Rattle.result_book.specs.Rows.{RowView}
+use Rattle.result_book.specs.declared.books.BookFault.{BookFault}
+use Rattle.result_book.specs.declared.books.BookFault.TheVariants as fault
+
+-- how many batches were opened, and the rows of each batch that has some, by the batch's number
+pub record BookView : Type 0 where
+  pub opened : ℕ
+  pub batches : List (ℕ × List RowView)
+
+-- the rows under a number among batches, none where no batch has it
+abbrev pub rows_under : List (ℕ × List RowView) → ℕ → List RowView
+rows_under batches number = unwrap_or (lookup (nat_eq number) batches) []
+
+-- the rows of a batch, in the order in which they were put
+abbrev pub rows_of : BookView → ℕ → List RowView
+rows_of book number = rows_under book.batches number
+
+-- whether a number is one of those that were opened, 1 and on
+abbrev pub is_opened : BookView → ℕ → Bool
+is_opened book number = nat_lt 0 number && nat_le number book.opened
+
+-- the account of a row
+abbrev pub account_of : RowView → List ℕ
+account_of row = row.portfolio.account
+
+-- the row of an account among rows
+abbrev pub row_for : List RowView → List ℕ → Option RowView
+row_for rows account = find (λ row. bytes_eq account (account_of row)) rows
+
+-- no account has two of the rows
+abbrev pub HasNoAccountTwice : List RowView → Type 0
+HasNoAccountTwice rows = IsDistinct bytes_eq (map account_of rows)
+
+-- a book: there are no more batches than numbers, no rows under a number that was not opened, and no account twice in a batch
+pub record IsBook (book : BookView) : Type 0 where
+  pub few : book.opened < 2 ^ 64
+  pub opened_only : (number : ℕ) → is_opened book number ≡ false → rows_of book number ≡ []
+  pub once : (number : ℕ) → HasNoAccountTwice (rows_of book number)
+
+-- the fault is want of memory
+abbrev pub is_memory : BookFault → Bool
+is_memory fault.NoSuchBatch = false
+is_memory fault.AlreadyThere = false
+is_memory fault.OutOfMemory = true
+is_memory fault.NoMoreBatches = false
+
+-- why the row of an account is not put under a number, where want of memory is no reason
+abbrev pub put_fault : BookView → ℕ → List ℕ → Option BookFault
+put_fault book number account =
+    if is_opened book number
+    then (if is_some (row_for (rows_of book number) account) then Some fault.AlreadyThere else None)
+    else Some fault.NoSuchBatch

@@ -1,0 +1,15 @@
+-- What a batch keeps: its rows, each under its account.
+use Rattle.std.specs.Prelude.{◌≡◌, ℕ, List, map}
+use Rattle.std.specs.List.{AllByRecursion}
+use Rattle.std.specs.Map.{values_of}
+use Rattle.result_book.specs.Books.{account_of}
+use Rattle.result_book.specs.Rows.{RowView}
+
+module _ {Kept : Type 0} (row_of : Kept → RowView) where
+  -- the rows, in order
+  abbrev pub kept_rows : List (List ℕ × Kept) → List RowView
+  kept_rows entries = map row_of (values_of entries)
+
+  -- each row is kept under its account
+  abbrev pub AreUnderAccounts : List (List ℕ × Kept) → Type 0
+  AreUnderAccounts entries = AllByRecursion (λ entry. entry.0 ≡ account_of (row_of entry.1)) entries

@@ -1,0 +1,76 @@
+//! The rows of one batch.
+ghost use Rattle.std.specs.Prelude.{◌≡◌, ◌++◌, ◌∷◌, [], map, None, IfOk, IfErr, OnOk, option_copied};
+ghost use Rattle.std.specs.Arc.{arc_value};
+ghost use Rattle.result_book.specs.Books.{HasNoAccountTwice, account_of, row_for};
+
+use crate::rows::Row;
+use indexmap::IndexMap;
+use span_tables::name::Name;
+use std::alloc::{AllocError, Global};
+use std::marker::Model;
+use std::sync::Arc;
+
+/// The rows of a batch, in the order in which they were put, and found by their accounts.
+#[derive(Drop)]
+pub(crate) struct BatchRows {
+    by_account: IndexMap<Name, Arc<Row>>,
+}
+
+impl Model for BatchRows {
+    ghost use Rattle.std.specs.Prelude.{List};
+    ghost use Rattle.std.specs.Arc.{arc_value};
+    ghost use Rattle.result_book.specs.Rows.{RowView};
+    ghost use Rattle.result_book.specs.steps.Batches.{AreUnderAccounts, kept_rows};
+
+    ghost Value = { List RowView };
+
+    ghost view = { λ b. kept_rows arc_value b.by_account.entries };
+
+    ghost invariant = { λ b. AreUnderAccounts arc_value b.by_account.entries };
+}
+
+impl BatchRows {
+    /// No row.
+    pub(crate) fn new(alloc: Global) -> BatchRows
+        ensures { result ≡ [] }
+    {
+        BatchRows {
+            by_account: IndexMap::new(alloc),
+        }
+    }
+
+    /// Puts a row last, of an account that has none. `Err` is want of memory: the row comes back, and nothing was put.
+    pub(crate) fn put(&mut self, row: Arc<Row>) -> Result<(), Arc<Row>>
+        requires { row_for self.old (account_of (arc_value row)) ≡ None }
+        ensures put { OnOk result (self.new ≡ self.old ++ arc_value row ∷ []) }
+        ensures once { HasNoAccountTwice self.new }
+        ensures refused { IfErr result (λ back. (back ≡ row) × (self.new ≡ self.old)) }
+    {
+        let account = row.account().copied();
+        match self.by_account.insert(account, row) {
+            Ok(_) => Ok(()),
+            Err(refused) => Err(refused.value.1),
+        }
+    }
+
+    /// The row of an account.
+    pub(crate) fn get(&self, account: &Name) -> Option<&Row>
+        ensures { option_copied result ≡ row_for self.now account.now }
+    {
+        match self.by_account.get(account) {
+            Some(row) => Some(&**row),
+            None => None,
+        }
+    }
+
+    /// A further hold on each row, in order. `Err` is want of memory.
+    pub(crate) fn rows(&self, alloc: Global) -> Result<Vec<Arc<Row>>, AllocError>
+        ensures { IfOk result (λ rows. map arc_value rows.items ≡ self.now) }
+    {
+        let mut rows = Vec::with_capacity(alloc, self.by_account.len())?;
+        for row in self.by_account.values() {
+            rows.push(Arc::try_clone(row)?)?;
+        }
+        Ok(rows)
+    }
+}
