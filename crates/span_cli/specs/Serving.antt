@@ -3,6 +3,7 @@ use Rattle.std.specs.Prelude.{ℕ, List, [], ◌++◌, codes, Option, IfSome, Re
 use Rattle.statement.specs.Counts.{counts_of}
 use Rattle.statement.specs.Listing.{listing_of}
 use Rattle.statement.specs.FaultLines.{fault_line, fault_status, memory_line}
+use Rattle.statement.specs.Rolls.{GivesRoll}
 use Rattle.statement.specs.Statement.{margin_of}
 use Rattle.statement.specs.declared.faults.SpanFault.{SpanFault}
 use Rattle.statement.specs.declared.statuses.TheConstants.{DONE, FILE_FAILED, OUT_OF_MEMORY}
@@ -61,17 +62,34 @@ margin_answer workers params_name positions_name (Err e) positions = unread para
 margin_answer workers params_name positions_name (Ok params) (Err e) = unread positions_name e
 margin_answer workers params_name positions_name (Ok params) (Ok positions) = answer_of (margin_of workers params positions)
 
--- what a request asks for, with the names of its files as texts; `margin` with its number of workers first
+-- The answer that P holds of is one that a roll of these bytes on so many workers may have: that of its text, of the first
+-- fault of the files, of memory, of a book or of a shelf that refused.
+pub record OfRoll (workers : ℕ) (params next positions : List ℕ) (P : Answer → Type 0) : Type 0 where
+  pub given : Result (List ℕ) SpanFault
+  pub gives : GivesRoll (λ text. text) workers params next positions given
+  pub holds : P (answer_of given)
+
+-- what holds of the answer to `roll` on so many workers, whose files are read in their order
+abbrev pub OfRollFiles : ℕ → List ℕ → List ℕ → List ℕ → File → File → File → (Answer → Type 0) → Type 0
+OfRollFiles workers params_name next_name positions_name (Err e) next positions P = P (unread params_name e)
+OfRollFiles workers params_name next_name positions_name (Ok params) (Err e) positions P = P (unread next_name e)
+OfRollFiles workers params_name next_name positions_name (Ok params) (Ok next) (Err e) P = P (unread positions_name e)
+OfRollFiles workers params_name next_name positions_name (Ok params) (Ok next) (Ok positions) P =
+    OfRoll workers params next positions P
+
+-- what a request asks for, with the names of its files as texts; `margin` and `roll` with their number of workers first
 pub data Asked : Type 0 where
   a_check : List ℕ → Asked
   a_plan : List ℕ → Asked
   a_margin : ℕ → List ℕ → List ℕ → Asked
+  a_roll : ℕ → List ℕ → List ℕ → List ℕ → Asked
 
 -- what a request asks for
 abbrev pub asked_by : Request → Asked
 asked_by (request.Check params) = a_check params.now
 asked_by (request.Plan params) = a_plan params.now
 asked_by (request.Margin params positions workers) = a_margin workers params.now positions.now
+asked_by (request.Roll params next positions workers) = a_roll workers params.now next.now positions.now
 
 -- what holds of the answer to a request, where its files are known
 abbrev pub OfAnswer : (List ℕ → Option File) → Asked → (Answer → Type 0) → Type 0
@@ -79,3 +97,6 @@ OfAnswer file (a_check params) P = IfSome (file params) (λ p. P (check_answer p
 OfAnswer file (a_plan params) P = IfSome (file params) (λ p. P (plan_answer params p))
 OfAnswer file (a_margin workers params positions) P =
     IfSome (file params) (λ p. IfSome (file positions) (λ q. P (margin_answer workers params positions p q)))
+OfAnswer file (a_roll workers params next positions) P =
+    IfSome (file params) (λ p. IfSome (file next) (λ n. IfSome (file positions) (λ q.
+    OfRollFiles workers params next positions p n q P)))

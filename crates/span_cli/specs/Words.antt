@@ -7,19 +7,20 @@ use Rattle.clap.specs.ValueTests.{is_unsigned_in}
 use Rattle.clap.specs.Words.{App, Kinds, Row, Rule, Text, first_of, new_app, new_rule, fault_of, subcommand_of, takes}
 use Rattle.clap.specs.Words.{with_rule, with_subcommand}
 use Rattle.clap.specs.declared.builder.value_parser.ValueParser.TheVariants as value_parser
-use Rattle.span_cli.specs.Serving.{Asked, a_check, a_margin, a_plan}
+use Rattle.worker_pool.specs.declared.batch.TheConstants.{MAX_WORKERS}
+use Rattle.span_cli.specs.Serving.{Asked, a_check, a_margin, a_plan, a_roll}
 
 -- a file's name, which has to be given
 abbrev pub file_rule : Text → Rule
 file_rule id = record (new_rule id) { required = true }
 
--- the number of workers, from 1 to 16, and by itself 1
+-- the number of workers, from 1 to the most that there can be, and by itself 1
 abbrev pub workers_rule : Rule
 workers_rule = record (new_rule (codes "workers")) {
   long = Some (codes "workers");
   value_names = 1;
   defaults = codes "1" ∷ [];
-  parser = Some (value_parser.Unsigned 1 16);
+  parser = Some (value_parser.Unsigned 1 MAX_WORKERS);
 }
 
 -- the command `check PARAMS`
@@ -39,6 +40,16 @@ files_app =
 abbrev pub margin_app : App
 margin_app = with_rule files_app workers_rule
 
+-- the command `roll PARAMS NEXT POSITIONS`, without its option
+abbrev pub sets_app : App
+sets_app =
+    with_rule (with_rule (with_rule (new_app (codes "roll")) (file_rule (codes "PARAMS"))) (file_rule (codes "NEXT")))
+    (file_rule (codes "POSITIONS"))
+
+-- the command `roll PARAMS NEXT POSITIONS [--workers N]`
+abbrev pub roll_app : App
+roll_app = with_rule sets_app workers_rule
+
 -- the program, which has a version, without its commands, of which one has to be given
 abbrev pub bare_app : App
 bare_app =
@@ -50,7 +61,7 @@ params_app = with_subcommand (with_subcommand bare_app check_app.top) plan_app.t
 
 -- the program
 abbrev pub span_app : App
-span_app = with_subcommand params_app margin_app.top
+span_app = with_subcommand (with_subcommand params_app margin_app.top) roll_app.top
 
 -- the file behind `check`
 abbrev pub check_in : List Row → Option Asked
@@ -76,12 +87,20 @@ margin_in rows =
     option_map (λ workers. a_margin workers params positions) (number_of (codes "workers") rows))
     (first_of (codes "POSITIONS") rows)) (first_of (codes "PARAMS") rows)
 
+-- the files behind `roll`, and its number of workers
+abbrev pub roll_in : List Row → Option Asked
+roll_in rows =
+    option_and_then (λ params. option_and_then (λ next. option_and_then (λ positions.
+    option_map (λ workers. a_roll workers params next positions) (number_of (codes "workers") rows))
+    (first_of (codes "POSITIONS") rows)) (first_of (codes "NEXT") rows)) (first_of (codes "PARAMS") rows)
+
 -- what a command of this name asks for
 abbrev pub asked_under : Text → List Row → Option Asked
 asked_under name rows =
     if bytes_eq name (codes "check") then check_in rows
     else if bytes_eq name (codes "plan") then plan_in rows
     else if bytes_eq name (codes "margin") then margin_in rows
+    else if bytes_eq name (codes "roll") then roll_in rows
     else None
 
 -- what the words ask for, if anything

@@ -1,5 +1,6 @@
 //! Requests, and the bytes that answer them.
-ghost use Rattle.span_cli.specs.Serving.{OfAnswer, answer_of, asked_by, check_answer, done, margin_answer, plan_answer};
+ghost use Rattle.span_cli.specs.Serving.{OfAnswer, OfRoll, OfRollFiles, answer_of, asked_by, check_answer, done};
+ghost use Rattle.span_cli.specs.Serving.{margin_answer, plan_answer};
 ghost use Rattle.span_cli.specs.Telling.{Serves, Tells};
 ghost use Rattle.span_cli.specs.steps.Refusals.{Loads, Runs, refusal_line, refusal_status};
 ghost use Rattle.span_cli.specs.declared.serving.Refusal.TheVariants as refusal;
@@ -10,15 +11,18 @@ ghost use Rattle.statement.specs.Statement.{margin_of};
 ghost use Rattle.std.specs.Prelude.{◌≡◌, IfSome, List, false, ℕ};
 
 use crate::sources::{ReadFault, Sources};
+use result_book::books::ResultBook;
 use span_told::Told;
 use statement::counts::check_plain;
-use statement::faults::{SpanFault, status, tell_fault};
+use statement::fault_lines::tell_fault;
+use statement::faults::{SpanFault, status};
 use statement::margin::margin;
 use statement::plans::plan_plain;
+use statement::roll::roll;
 use statement::statuses::{DONE, FILE_FAILED};
 use std::alloc::Global;
 use std::io::Write;
-use std::sync::Wait;
+use std::sync::{Mutex, Wait};
 use std::thread::Threads;
 use std::time::Clock;
 use worker_pool::gates::Gate;
@@ -37,6 +41,13 @@ pub enum Request<'a> {
     /// The statement of a position file under a parameter file, on so many workers, 1 to 16.
     Margin {
         params: &'a str,
+        positions: &'a str,
+        workers: usize,
+    },
+    /// The statement of a position file under a parameter file, and after it that under the next, on so many workers.
+    Roll {
+        params: &'a str,
+        next: &'a str,
         positions: &'a str,
         workers: usize,
     },
@@ -158,6 +169,54 @@ fn margin_files<'a, S: Sources, R: Threads + Wait + Clock + Sync, G: Gate>(
     statement(rt, alloc, param_bytes, position_bytes, workers, gate)
 }
 
+// The statements of the bytes of a position file under those of two parameter files. The book of the two batches is a new
+// one, which nobody reads.
+fn statements<'a, R: Threads + Wait + Clock + Sync, G: Gate>(
+    rt: &R,
+    alloc: Global,
+    params: &[u8],
+    next: &[u8],
+    positions: &[u8],
+    workers: usize,
+    gate: &G,
+) -> Result<Vec<u8>, Refusal<'a>>
+    ensures { OfRoll workers params.now next.now positions.now (λ answer. Runs (λ text. text.items) answer result) }
+{
+    let book = Mutex::new(ResultBook::new(alloc));
+    let text = roll(rt, alloc, params, next, positions, workers, gate, &book)?;
+    Ok(text)
+}
+
+// The statements of three files, which are read in their order, on so many workers.
+fn roll_files<'a, S: Sources, R: Threads + Wait + Clock + Sync, G: Gate>(
+    rt: &R,
+    alloc: Global,
+    sources: &mut S,
+    params: &'a str,
+    next: &'a str,
+    positions: &'a str,
+    workers: usize,
+    gate: &G,
+) -> Result<Vec<u8>, Refusal<'a>>
+    ensures { IfSome (S.file sources.old params.entry.now) (λ p. IfSome (S.file sources.old next.entry.now) (λ n.
+        IfSome (S.file sources.old positions.entry.now) (λ q.
+        OfRollFiles workers params.entry.now next.entry.now positions.entry.now p n q (λ answer.
+        Runs (λ text. text.items) answer result)))) }
+{
+    let params_read = load(alloc, sources, params)?;
+    let next_read = load(alloc, sources, next)?;
+    let positions_read = load(alloc, sources, positions)?;
+    statements(
+        rt,
+        alloc,
+        &params_read,
+        &next_read,
+        &positions_read,
+        workers,
+        gate,
+    )
+}
+
 // What a request gives.
 fn run<'a, S: Sources, R: Threads + Wait + Clock + Sync, G: Gate>(
     rt: &R,
@@ -177,6 +236,12 @@ fn run<'a, S: Sources, R: Threads + Wait + Clock + Sync, G: Gate>(
             positions,
             workers,
         } => margin_files(rt, alloc, sources, params, positions, workers, gate),
+        Request::Roll {
+            params,
+            next,
+            positions,
+            workers,
+        } => roll_files(rt, alloc, sources, params, next, positions, workers, gate),
     }
 }
 

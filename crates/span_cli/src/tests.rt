@@ -17,8 +17,23 @@ const POSITIONS: &[u8] = b"X,FA,1\n";
 
 const STATEMENT: &[u8] = b"R,X,D1,AA,1200,13,0,0,0,0,1200\nT,X,D1,1200\n";
 
-const FILES: [(&str, &[u8]); 7] = [
+// As ONE_FUTURE, with another id and half of the range.
+const NEXT: &[u8] = b"\
+SET,D2,1,USD
+COMMODITY,AA,0,SUM
+CONTRACT,FA,AA,F,202503,1,1,0,0,-200,-200,200,200,-400,-400,400,400,-600,-600,600,600,-594,594
+";
+
+const STATEMENTS: &[u8] = b"\
+R,X,D1,AA,1200,13,0,0,0,0,1200
+T,X,D1,1200
+R,X,D2,AA,600,13,0,0,0,0,600
+T,X,D2,600
+";
+
+const FILES: [(&str, &[u8]); 9] = [
     ("params.csv", ONE_FUTURE),
+    ("next.csv", NEXT),
     ("positions.csv", POSITIONS),
     ("no-set.csv", b"COMMODITY,AA,0,SUM\n"),
     (
@@ -28,6 +43,7 @@ const FILES: [(&str, &[u8]); 7] = [
     ("space.csv", b"X,FA,1\nX,F A,1\n"),
     ("unknown.csv", b"X,FA,1\nY,FZ,1\n"),
     ("empty.csv", b""),
+    ("bare.csv", b"SET,D2,1,USD\n"),
 ];
 
 // Answers a command line over `FILES`.
@@ -72,6 +88,81 @@ fn prints_a_statement_on_workers(rt: HostRuntime) -> Result<(), Fail> {
             "positions.csv",
         ];
         assert!(rt; run(&rt, alloc, &words).is(0, STATEMENT, b""), "{number}");
+    }
+    Ok(())
+}
+
+#[test]
+fn prints_two_statements(rt: HostRuntime) -> Result<(), Fail> {
+    let alloc = rt.alloc();
+    let words = ["span", "roll", "params.csv", "next.csv", "positions.csv"];
+    assert!(rt; run(&rt, alloc, &words).is(0, STATEMENTS, b""));
+    let words = [
+        "span",
+        "roll",
+        "--workers",
+        "4",
+        "params.csv",
+        "next.csv",
+        "positions.csv",
+    ];
+    assert!(rt; run(&rt, alloc, &words).is(0, STATEMENTS, b""));
+    Ok(())
+}
+
+// Two parameter files and a position file of `FILES`, with the status and the line that a roll is refused with.
+const REFUSED_ROLLS: [(&str, &str, &str, u8, &[u8]); 6] = [
+    (
+        "empty.csv",
+        "no-set.csv",
+        "positions.csv",
+        3,
+        b"parameters: P1 NoSet at record 0\n",
+    ),
+    (
+        "params.csv",
+        "no-set.csv",
+        "space.csv",
+        4,
+        b"positions: Q2 BadName at record 2\n",
+    ),
+    (
+        "params.csv",
+        "no-set.csv",
+        "positions.csv",
+        3,
+        b"next parameters: P1 NoSet at record 1\n",
+    ),
+    (
+        "params.csv",
+        "twice.csv",
+        "positions.csv",
+        3,
+        b"next parameters: C1 DuplicateCommodity at record 3\n",
+    ),
+    (
+        "params.csv",
+        "bare.csv",
+        "positions.csv",
+        4,
+        b"next positions: B1 UnknownContract at record 1 account X\n",
+    ),
+    (
+        "params.csv",
+        "missing.csv",
+        "missing-too.csv",
+        6,
+        b"file: missing.csv\n",
+    ),
+];
+
+#[test]
+fn refuses_rolls(rt: HostRuntime) -> Result<(), Fail> {
+    let alloc = rt.alloc();
+    let cases = REFUSED_ROLLS;
+    for (params, next, positions, status, line) in cases {
+        let given = run(&rt, alloc, &["span", "roll", params, next, positions]);
+        assert!(rt; given.is(status, b"", line), "{params} {next} {positions}");
     }
     Ok(())
 }
@@ -277,6 +368,7 @@ Commands:
   check   Checks a parameter file and counts its records
   plan    Prints the steps of the compiled plan of a parameter file
   margin  Prints the margin statement of every account
+  roll    Prints the margin statements under a set and under the next
   help    Print this message or the help of the given subcommand(s)
 
 Options:
@@ -342,10 +434,29 @@ Amounts are whole numbers in the minor unit of the set's currency, as cents for 
 docs/FORMATS.md describes the files and the statement, docs/METHOD.md the figures.
 ";
 
+const ROLL_HELP: &[u8] = b"\
+Prints the margin statements under a set and under the next
+
+Usage: span roll [OPTIONS] <PARAMS> <NEXT> <POSITIONS>
+
+Arguments:
+  <PARAMS>     Parameter file (CSV): a set with its commodities, contracts, tiers and spreads
+  <NEXT>       Parameter file (CSV) of the next set
+  <POSITIONS>  Position file (CSV): account, contract, quantity in contracts (minus is short)
+
+Options:
+      --workers <N>  Workers that share the steps, 1 to 16 [default: 1]
+  -h, --help         Print help
+
+Prints the statement under PARAMS, as `margin` does, and after it that under NEXT, for the same positions.
+NEXT is made ready beside the first batch. The lines of the two statements have the ids of their sets.
+docs/ROLL.md has a day's roll in commands.
+";
+
 #[test]
 fn helps(rt: HostRuntime) -> Result<(), Fail> {
     let alloc = rt.alloc();
-    let cases: [(&[&str], &[u8]); 7] = [
+    let cases: [(&[&str], &[u8]); 8] = [
         (&["span", "--help"], SPAN_HELP),
         (&["span", "help"], SPAN_HELP),
         (&["span", "help", "check"], CHECK_HELP),
@@ -353,6 +464,7 @@ fn helps(rt: HostRuntime) -> Result<(), Fail> {
         (&["span", "help", "plan"], PLAN_HELP),
         (&["span", "help", "margin"], MARGIN_HELP),
         (&["span", "margin", "params.csv", "--help"], MARGIN_HELP),
+        (&["span", "help", "roll"], ROLL_HELP),
     ];
     for (words, text) in cases {
         assert!(rt; run(&rt, alloc, words).is(0, text, b""));
@@ -390,7 +502,7 @@ fn refuses_words_that_cannot_be_read(rt: HostRuntime) -> Result<(), Fail> {
 
 const NO_COMMAND: &[u8] = b"\
 error: 'span' requires a subcommand but one was not provided
-  [subcommands: check, plan, margin, help]
+  [subcommands: check, plan, margin, roll, help]
 
 Usage: span <COMMAND>
 

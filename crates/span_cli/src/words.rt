@@ -5,7 +5,7 @@ ghost use Rattle.span_cli.specs.Serving.{OfAnswer, asked_by, memory};
 ghost use Rattle.span_cli.specs.Telling.{IsMistake, IsShown, Refuses, RefusesBy, Serves, Tells, no_text_line};
 ghost use Rattle.span_cli.specs.Words.{asked_in, asked_under, check_app, check_in, file_rule, files_app, is_taken, kinds_of};
 ghost use Rattle.span_cli.specs.Words.{margin_app, margin_in, number_in, number_of, params_app, plan_app, plan_in, span_app};
-ghost use Rattle.span_cli.specs.Words.{workers_rule};
+ghost use Rattle.span_cli.specs.Words.{roll_app, roll_in, sets_app, workers_rule};
 ghost use Rattle.span_told.specs.Streams.{Says};
 ghost use Rattle.statement.specs.FaultLines.{memory_line};
 ghost use Rattle.std.specs.IoError.{error_kind};
@@ -26,6 +26,7 @@ use std::io::Write;
 use std::sync::Wait;
 use std::thread::Threads;
 use std::time::Clock;
+use worker_pool::batch::MAX_WORKERS;
 use worker_pool::gates::Gate;
 
 /// The program's version, and that of the profile of the method that it follows (docs/METHOD.md).
@@ -61,10 +62,14 @@ Amounts are whole numbers in the minor unit of the set's currency, as cents for 
 `active` is the scenario, 1 to 16, that decides the scan risk.
 docs/FORMATS.md describes the files and the statement, docs/METHOD.md the figures.";
 
-const WORKERS_HELP: &str = "Workers that share the steps, 1 to 16";
+const NEXT_HELP: &str = "Parameter file (CSV) of the next set";
 
-// The most workers that a request may ask for.
-const MOST_WORKERS: u64 = 16;
+const ROLL_MORE: &str = "\
+Prints the statement under PARAMS, as `margin` does, and after it that under NEXT, for the same positions.
+NEXT is made ready beside the first batch. The lines of the two statements have the ids of their sets.
+docs/ROLL.md has a day's roll in commands.";
+
+const WORKERS_HELP: &str = "Workers that share the steps, 1 to 16";
 
 // A file's name, which has to be given.
 fn file<'a>(alloc: Global, id: &'a str, help: &'a str) -> Arg<'a>
@@ -82,7 +87,7 @@ fn workers<'a>(alloc: Global) -> Arg<'a>
     Arg::new(alloc, "workers")
         .long("workers")
         .value_name("N")
-        .value_parser(ValueParser::unsigned(1, MOST_WORKERS))
+        .value_parser(ValueParser::unsigned(1, MAX_WORKERS as u64))
         .default_value("1")
         .help(WORKERS_HELP)
 }
@@ -131,6 +136,29 @@ fn margin<'a>(alloc: Global) -> Result<Command<'a>, AllocError>
     Ok(command)
 }
 
+// The command `roll` with its files alone.
+fn roll_of_sets<'a>(alloc: Global) -> Result<Command<'a>, AllocError>
+    ensures shape { IfOk result (λ c. app_of c ≡ sets_app) }
+    ensures local { IfOk result (λ c. (fields_of c).has_globals ≡ false) }
+{
+    let command = Command::new(alloc, "roll")
+        .about("Prints the margin statements under a set and under the next")
+        .after_help(ROLL_MORE);
+    let command = command.arg(file(alloc, "PARAMS", PARAMS_HELP))?;
+    let command = command.arg(file(alloc, "NEXT", NEXT_HELP))?;
+    let command = command.arg(file(alloc, "POSITIONS", POSITIONS_HELP))?;
+    Ok(command)
+}
+
+fn roll<'a>(alloc: Global) -> Result<Command<'a>, AllocError>
+    ensures shape { IfOk result (λ c. app_of c ≡ roll_app) }
+    ensures local { IfOk result (λ c. (fields_of c).has_globals ≡ false) }
+{
+    let command = roll_of_sets(alloc)?;
+    let command = command.arg(workers(alloc))?;
+    Ok(command)
+}
+
 // The program with the commands that take a parameter file alone.
 fn span_of_params<'a>(alloc: Global) -> Result<Command<'a>, AllocError>
     ensures shape { IfOk result (λ c. app_of c ≡ params_app) }
@@ -151,8 +179,10 @@ fn span<'a>(alloc: Global) -> Result<Command<'a>, AllocError>
     ensures shape { IfOk result (λ c. app_of c ≡ span_app) }
 {
     let margin = margin(alloc)?;
+    let roll = roll(alloc)?;
     let command = span_of_params(alloc)?;
     let command = command.subcommand(margin)?;
+    let command = command.subcommand(roll)?;
     Ok(command)
 }
 
@@ -202,6 +232,17 @@ fn margin_request<'a>(matches: &ArgMatches<'a>) -> Option<Request<'a>>
     })
 }
 
+fn roll_request<'a>(matches: &ArgMatches<'a>) -> Option<Request<'a>>
+    ensures { option_map asked_by result ≡ roll_in (rows_of (found_of matches.now)) }
+{
+    Some(Request::Roll {
+        params: text(matches, "PARAMS")?,
+        next: text(matches, "NEXT")?,
+        positions: text(matches, "POSITIONS")?,
+        workers: workers_asked(matches)?,
+    })
+}
+
 // What a command of this name asks for.
 fn request_under<'a>(name: &str, matches: &ArgMatches<'a>) -> Option<Request<'a>>
     ensures { option_map asked_by result ≡ asked_under name.now (rows_of (found_of matches.now)) }
@@ -212,6 +253,8 @@ fn request_under<'a>(name: &str, matches: &ArgMatches<'a>) -> Option<Request<'a>
         plan_request(matches)
     } else if name == "margin" {
         margin_request(matches)
+    } else if name == "roll" {
+        roll_request(matches)
     } else {
         None
     }

@@ -2,7 +2,8 @@
 #![tactic(auto, unfolding(crate::specs::OnLiterals::on_literals))]
 
 ghost use Rattle.clap.specs.declared.error.kind.ErrorKind.TheVariants as kind;
-ghost use Rattle.span_cli.specs.Serving.{a_check, a_margin, a_plan, check_answer, done, margin_answer, memory, plan_answer, refused};
+ghost use Rattle.span_cli.specs.Serving.{a_check, a_margin, a_plan, a_roll, check_answer, done, margin_answer, memory, plan_answer};
+ghost use Rattle.span_cli.specs.Serving.{refused};
 ghost use Rattle.span_cli.specs.Words.{asked_in, is_taken, kinds_of};
 ghost use Rattle.span_cli.specs.declared.sources.ReadFault.TheVariants as read;
 ghost use Rattle.span_cli.specs.declared.disk.TheConstants.{MAX_TURNS};
@@ -26,6 +27,16 @@ fn margin_of_two_files()
     ensures taken { is_taken (codes "span" ∷ codes "margin" ∷ codes "p" ∷ codes "q" ∷ []) ≡ true }
     ensures asked { asked_in (codes "span" ∷ codes "margin" ∷ codes "p" ∷ codes "q" ∷ [])
         ≡ Some (a_margin 1 (codes "p") (codes "q")) }
+{}
+
+// `span roll p n q` is taken, and asks for just that, with the files in their order and one worker; and with three.
+fn roll_of_three_files()
+    ensures taken { is_taken (codes "span" ∷ codes "roll" ∷ codes "p" ∷ codes "n" ∷ codes "q" ∷ []) ≡ true }
+    ensures asked { asked_in (codes "span" ∷ codes "roll" ∷ codes "p" ∷ codes "n" ∷ codes "q" ∷ [])
+        ≡ Some (a_roll 1 (codes "p") (codes "n") (codes "q")) }
+    ensures workers { asked_in (codes "span" ∷ codes "roll" ∷ codes "p" ∷ codes "n" ∷ codes "--workers=3" ∷ codes "q" ∷ [])
+        ≡ Some (a_roll 3 (codes "p") (codes "n") (codes "q")) }
+    ensures no_next { kinds_of (codes "span" ∷ codes "roll" ∷ codes "p" ∷ codes "q" ∷ []) ≡ kind.MissingRequiredArgument ∷ [] }
 {}
 
 // A number of workers behind the files, as a word of its own.

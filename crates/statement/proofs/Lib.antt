@@ -2,4 +2,5 @@ pub mod CountLemmas
 pub mod FitLemmas
 pub mod LineLemmas
 pub mod OutcomeLemmas
-pub mod WorkerLemmas
+pub mod RollLemmas
+pub mod FaultLemmas

@@ -1,9 +1,10 @@
 -- What a call answers for a definition that may name a fault of both files.
-use Rattle.std.specs.Prelude.{◌≡◌, ◌⊎◌, ℕ, List, Bool, true, false, Result, Ok, Err}
+use Rattle.std.specs.Prelude.{◌≡◌, ◌⊎◌, Bool, true, false, Result, Ok, Err}
 use Rattle.span_csv.specs.ParamFaults as param
 use Rattle.span_csv.specs.PositionFaults as position
 use Rattle.param_check.specs.CheckFaults as check
 use Rattle.param_check.specs.Binding as bind
+use Rattle.result_book.specs.Books as book
 use Rattle.statement.specs.declared.faults.SpanFault.{SpanFault}
 use Rattle.statement.specs.declared.faults.SpanFault.TheVariants as fault
 
@@ -13,11 +14,16 @@ is_memory (fault.Params e) = param.is_memory e
 is_memory (fault.Check e) = check.is_memory e
 is_memory (fault.Positions e) = position.is_memory e
 is_memory (fault.Bind e) = bind.is_memory e
+is_memory (fault.NextParams e) = param.is_memory e
+is_memory (fault.NextCheck e) = check.is_memory e
+is_memory (fault.NextBind e) = bind.is_memory e
 is_memory fault.Workers = false
+is_memory (fault.Book e) = book.is_memory e
+is_memory fault.Shelf = false
 is_memory fault.Memory = true
 
--- The text or the fault of the definition; or `Memory`, which says nothing of the definition. Want of memory is
--- answered by no other fault.
-abbrev pub GivesText : {Y : Type 0} → (Y → List ℕ) → Result Y SpanFault → Result (List ℕ) SpanFault → Type 0
-GivesText text (Ok y) answer = answer ≡ Ok (text y)
-GivesText text (Err e) answer = (e ≡ fault.Memory) ⊎ ((is_memory e ≡ false) × (answer ≡ Err e))
+-- What the definition has, or its fault; or `Memory`, which says nothing of the definition. Want of memory is answered by
+-- no other fault. Contracts see of what a call gives what is said of it.
+abbrev pub Gives : {Y Z : Type 0} → (Y → Z) → Result Y SpanFault → Result Z SpanFault → Type 0
+Gives said (Ok y) answer = answer ≡ Ok (said y)
+Gives said (Err e) answer = (e ≡ fault.Memory) ⊎ ((is_memory e ≡ false) × (answer ≡ Err e))

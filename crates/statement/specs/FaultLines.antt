@@ -12,9 +12,13 @@ use Rattle.param_check.specs.CheckFaults as check_fault
 use Rattle.param_check.specs.declared.faults.BindFault.{BindFault}
 use Rattle.param_check.specs.declared.faults.BindFault.TheVariants as bind
 use Rattle.param_check.specs.Binding as bind_fault
+use Rattle.result_book.specs.declared.books.BookFault.{BookFault}
+use Rattle.result_book.specs.declared.books.BookFault.TheVariants as book
+use Rattle.result_book.specs.Books as book_fault
 use Rattle.statement.specs.declared.faults.SpanFault.{SpanFault}
 use Rattle.statement.specs.declared.faults.SpanFault.TheVariants as fault
-use Rattle.statement.specs.declared.statuses.TheConstants.{OUT_OF_MEMORY, PARAMETERS_REFUSED, POSITIONS_REFUSED, USAGE}
+use Rattle.statement.specs.declared.statuses.TheConstants.{BOOK_REFUSED, OUT_OF_MEMORY}
+use Rattle.statement.specs.declared.statuses.TheConstants.{PARAMETERS_REFUSED, POSITIONS_REFUSED, USAGE}
 
 -- want of memory
 abbrev pub memory_line : List ℕ
@@ -29,39 +33,39 @@ abbrev pub record_line : List ℕ → List ℕ → ℕ → List ℕ
 record_line file code at = file ++ (codes ": " ++ (code ++ (codes " at record " ++ (decimal at ++ codes "\n"))))
 
 -- the line of positions that do not fit the tables, up to the account
-abbrev pub place_text : List ℕ → ℕ → List ℕ
-place_text code at = codes "positions: " ++ (code ++ (codes " at record " ++ (decimal at ++ codes " account ")))
+abbrev pub place_text : List ℕ → List ℕ → ℕ → List ℕ
+place_text file code at = file ++ (codes ": " ++ (code ++ (codes " at record " ++ (decimal at ++ codes " account "))))
 
 -- that line, with the record's account
-abbrev pub account_line : List ℕ → ℕ → List ℕ → List ℕ
-account_line code at account = place_text code at ++ (account ++ codes "\n")
+abbrev pub account_line : List ℕ → List ℕ → ℕ → List ℕ → List ℕ
+account_line file code at account = place_text file code at ++ (account ++ codes "\n")
 
 -- the line of a parameter file's fault
-abbrev pub param_line : ParamFault → List ℕ
-param_line (param.NoSet at) = record_line (codes "parameters") (codes "P1 NoSet") at
-param_line (param.SecondSet at) = record_line (codes "parameters") (codes "P2 SecondSet") at
-param_line (param.UnknownKind at) = record_line (codes "parameters") (codes "P3 UnknownKind") at
-param_line (param.FieldCount at) = record_line (codes "parameters") (codes "P4 FieldCount") at
-param_line (param.BadName at) = record_line (codes "parameters") (codes "P5 BadName") at
-param_line (param.BadNumber at) = record_line (codes "parameters") (codes "P6 BadNumber") at
-param_line (param.OutOfRange at) = record_line (codes "parameters") (codes "P7 OutOfRange") at
-param_line (param.TooMany at) = record_line (codes "parameters") (codes "P8 TooMany") at
-param_line param.OutOfMemory = memory_line
+abbrev pub param_line : List ℕ → ParamFault → List ℕ
+param_line file (param.NoSet at) = record_line file (codes "P1 NoSet") at
+param_line file (param.SecondSet at) = record_line file (codes "P2 SecondSet") at
+param_line file (param.UnknownKind at) = record_line file (codes "P3 UnknownKind") at
+param_line file (param.FieldCount at) = record_line file (codes "P4 FieldCount") at
+param_line file (param.BadName at) = record_line file (codes "P5 BadName") at
+param_line file (param.BadNumber at) = record_line file (codes "P6 BadNumber") at
+param_line file (param.OutOfRange at) = record_line file (codes "P7 OutOfRange") at
+param_line file (param.TooMany at) = record_line file (codes "P8 TooMany") at
+param_line file param.OutOfMemory = memory_line
 
 -- the line of a broken rule
-abbrev pub check_line : CheckFault → List ℕ
-check_line (check.DuplicateCommodity at) = record_line (codes "parameters") (codes "C1 DuplicateCommodity") at
-check_line (check.UnknownCommodity at) = record_line (codes "parameters") (codes "C2 UnknownCommodity") at
-check_line (check.DuplicateContract at) = record_line (codes "parameters") (codes "C3 DuplicateContract") at
-check_line (check.DuplicateTier at) = record_line (codes "parameters") (codes "C4 DuplicateTier") at
-check_line (check.TierBackwards at) = record_line (codes "parameters") (codes "C5 TierBackwards") at
-check_line (check.TierOverlap at) = record_line (codes "parameters") (codes "C6 TierOverlap") at
-check_line (check.UnknownTier at) = record_line (codes "parameters") (codes "C7 UnknownTier") at
-check_line (check.RepeatedLeg at) = record_line (codes "parameters") (codes "C8 RepeatedLeg") at
-check_line (check.OneSided at) = record_line (codes "parameters") (codes "C9 OneSided") at
-check_line (check.DuplicatePriority at) = record_line (codes "parameters") (codes "C10 DuplicatePriority") at
-check_line (check.DuplicateSpot at) = record_line (codes "parameters") (codes "C11 DuplicateSpot") at
-check_line check.OutOfMemory = memory_line
+abbrev pub check_line : List ℕ → CheckFault → List ℕ
+check_line file (check.DuplicateCommodity at) = record_line file (codes "C1 DuplicateCommodity") at
+check_line file (check.UnknownCommodity at) = record_line file (codes "C2 UnknownCommodity") at
+check_line file (check.DuplicateContract at) = record_line file (codes "C3 DuplicateContract") at
+check_line file (check.DuplicateTier at) = record_line file (codes "C4 DuplicateTier") at
+check_line file (check.TierBackwards at) = record_line file (codes "C5 TierBackwards") at
+check_line file (check.TierOverlap at) = record_line file (codes "C6 TierOverlap") at
+check_line file (check.UnknownTier at) = record_line file (codes "C7 UnknownTier") at
+check_line file (check.RepeatedLeg at) = record_line file (codes "C8 RepeatedLeg") at
+check_line file (check.OneSided at) = record_line file (codes "C9 OneSided") at
+check_line file (check.DuplicatePriority at) = record_line file (codes "C10 DuplicatePriority") at
+check_line file (check.DuplicateSpot at) = record_line file (codes "C11 DuplicateSpot") at
+check_line file check.OutOfMemory = memory_line
 
 -- the line of a position file's fault
 abbrev pub position_line : PositionFault → List ℕ
@@ -73,26 +77,52 @@ position_line (position.TooManyAccounts at) = record_line (codes "positions") (c
 position_line position.OutOfMemory = memory_line
 
 -- the line of positions that do not fit the tables
-abbrev pub bind_line : BindFault → List ℕ
-bind_line (bind.UnknownContract at account) = account_line (codes "B1 UnknownContract") at account
-bind_line (bind.NetOutOfRange at account) = account_line (codes "B2 NetOutOfRange") at account
-bind_line (bind.TooManyHeld at account) = account_line (codes "B3 TooManyHeld") at account
-bind_line bind.OutOfMemory = memory_line
+abbrev pub bind_line : List ℕ → BindFault → List ℕ
+bind_line file (bind.UnknownContract at account) = account_line file (codes "B1 UnknownContract") at account
+bind_line file (bind.NetOutOfRange at account) = account_line file (codes "B2 NetOutOfRange") at account
+bind_line file (bind.TooManyHeld at account) = account_line file (codes "B3 TooManyHeld") at account
+bind_line file bind.OutOfMemory = memory_line
+
+-- what a book refused
+abbrev pub refused_line : List ℕ → List ℕ
+refused_line code = codes "book: " ++ (code ++ codes "\n")
+
+-- the line of what a book refused
+abbrev pub book_line : BookFault → List ℕ
+book_line book.NoSuchBatch = refused_line (codes "K1 NoSuchBatch")
+book_line book.AlreadyThere = refused_line (codes "K2 AlreadyThere")
+book_line book.OutOfMemory = memory_line
+book_line book.NoMoreBatches = refused_line (codes "K4 NoMoreBatches")
+
+-- a next set that is not on the shelf
+abbrev pub shelf_line : List ℕ
+shelf_line = codes "shelf\n"
 
 -- the line of a fault
 abbrev pub fault_line : SpanFault → List ℕ
-fault_line (fault.Params e) = param_line e
-fault_line (fault.Check e) = check_line e
+fault_line (fault.Params e) = param_line (codes "parameters") e
+fault_line (fault.Check e) = check_line (codes "parameters") e
 fault_line (fault.Positions e) = position_line e
-fault_line (fault.Bind e) = bind_line e
+fault_line (fault.Bind e) = bind_line (codes "positions") e
+fault_line (fault.NextParams e) = param_line (codes "next parameters") e
+fault_line (fault.NextCheck e) = check_line (codes "next parameters") e
+fault_line (fault.NextBind e) = bind_line (codes "next positions") e
 fault_line fault.Workers = workers_line
+fault_line (fault.Book e) = book_line e
+fault_line fault.Shelf = shelf_line
 fault_line fault.Memory = memory_line
 
--- the exit status of a fault: that of refused parameters, of refused positions, of a mistake of usage, or of want of memory
+-- the exit status of a fault: that of refused parameters, of refused positions, of a mistake of usage, of a book or a shelf
+-- that refused, or of want of memory
 abbrev pub fault_status : SpanFault → ℕ
 fault_status (fault.Params e) = if param_fault.is_memory e then OUT_OF_MEMORY else PARAMETERS_REFUSED
 fault_status (fault.Check e) = if check_fault.is_memory e then OUT_OF_MEMORY else PARAMETERS_REFUSED
 fault_status (fault.Positions e) = if position_fault.is_memory e then OUT_OF_MEMORY else POSITIONS_REFUSED
 fault_status (fault.Bind e) = if bind_fault.is_memory e then OUT_OF_MEMORY else POSITIONS_REFUSED
+fault_status (fault.NextParams e) = if param_fault.is_memory e then OUT_OF_MEMORY else PARAMETERS_REFUSED
+fault_status (fault.NextCheck e) = if check_fault.is_memory e then OUT_OF_MEMORY else PARAMETERS_REFUSED
+fault_status (fault.NextBind e) = if bind_fault.is_memory e then OUT_OF_MEMORY else POSITIONS_REFUSED
 fault_status fault.Workers = USAGE
+fault_status (fault.Book e) = if book_fault.is_memory e then OUT_OF_MEMORY else BOOK_REFUSED
+fault_status fault.Shelf = BOOK_REFUSED
 fault_status fault.Memory = OUT_OF_MEMORY

@@ -4,6 +4,7 @@ pub mod Listing
 pub mod FaultLines
 pub mod OnLiterals
 pub mod Samples
+pub mod Rolls
 pub mod SpanFaults
 pub mod Statement
 pub mod steps

@@ -8,6 +8,10 @@ use Rattle.param_check.specs.declared.faults.CheckFault.{CheckFault}
 use Rattle.param_check.specs.CheckFaults as check
 use Rattle.param_check.specs.declared.faults.BindFault.{BindFault}
 use Rattle.param_check.specs.Binding as bind
+use Rattle.plan_shelf.specs.declared.faults.ShelfFault.{ShelfFault}
+use Rattle.plan_shelf.specs.declared.faults.ShelfFault.TheVariants as shelf
+use Rattle.result_book.specs.declared.books.BookFault.{BookFault}
+use Rattle.result_book.specs.Books as book
 use Rattle.statement.specs.declared.faults.SpanFault.{SpanFault}
 use Rattle.statement.specs.declared.faults.SpanFault.TheVariants as fault
 
@@ -26,3 +30,20 @@ of_positions e = if position.is_memory e then fault.Memory else fault.Positions 
 -- a fault in binding them
 abbrev pub of_bind : BindFault → SpanFault
 of_bind e = if bind.is_memory e then fault.Memory else fault.Bind e
+
+-- what a book refused
+abbrev pub of_book : BookFault → SpanFault
+of_book e = if book.is_memory e then fault.Memory else fault.Book e
+
+-- what a shelf refused
+abbrev pub of_shelf : ShelfFault → SpanFault
+of_shelf shelf.OutOfMemory = fault.Memory
+of_shelf shelf.Readers = fault.Shelf
+of_shelf shelf.Last = fault.Shelf
+
+-- a fault that arises under the next set has a name of its own
+abbrev pub of_next : SpanFault → SpanFault
+of_next (fault.Params e) = fault.NextParams e
+of_next (fault.Check e) = fault.NextCheck e
+of_next (fault.Bind e) = fault.NextBind e
+of_next e = e

@@ -8,6 +8,7 @@ use Rattle.span_csv.specs.PositionFaults.{positions_of}
 use Rattle.param_check.specs.CheckFaults.{checked}
 use Rattle.span_tables.specs.Tables.{AcceptedTables}
 use Rattle.span_tables.specs.Net.{AccountHoldings}
+use Rattle.span_tables.specs.declared.records.PositionRecord.{PositionRecord}
 use Rattle.param_check.specs.Binding.{bindings_of}
 use Rattle.plan_ir.specs.Figures.{commodity_at, figures_of, is_held, total_to}
 use Rattle.plan_ir.specs.declared.figures.Figures.{Figures}
@@ -58,20 +59,30 @@ abbrev pub and_then : {A B F : Type 0} → (F → SpanFault) → Result A F → 
 and_then named (Ok x) next = next x
 and_then named (Err fault) next = Err (named fault)
 
+-- a fault that is one of the statement's already
+abbrev pub same : SpanFault → SpanFault
+same e = e
+
+-- the accepted tables of a parameter file, or the first fault: in reading it, in checking it
+unfoldable pub accepted_of : List ℕ → Result AcceptedTables SpanFault
+accepted_of params =
+    and_then fault.Params (params_of params) (λ records.
+    and_then fault.Check (checked records) (λ tables. Ok tables))
+
+-- the statement of position records under accepted tables, or the first fault in binding them
+unfoldable pub statement_bound : AcceptedTables → List PositionRecord → Result (List ℕ) SpanFault
+statement_bound tables records =
+    and_then fault.Bind (bindings_of tables.contracts records) (λ portfolios. Ok (statement_text tables portfolios))
+
 -- the statement of the positions of a file under accepted tables, or the first fault: in reading them, in binding them
 unfoldable pub statement_under : AcceptedTables → List ℕ → Result (List ℕ) SpanFault
 statement_under tables positions =
-    and_then fault.Positions (positions_of positions) (λ records.
-    and_then fault.Bind (bindings_of tables.contracts records) (λ portfolios.
-    Ok (statement_text tables portfolios)))
+    and_then fault.Positions (positions_of positions) (λ records. statement_bound tables records)
 
 -- The statement of two files, or the first fault: in reading the parameters, in checking them, in reading the
 -- positions, in binding them.
 unfoldable pub statement_of : List ℕ → List ℕ → Result (List ℕ) SpanFault
-statement_of params positions =
-    and_then fault.Params (params_of params) (λ records.
-    and_then fault.Check (checked records) (λ tables.
-    statement_under tables positions))
+statement_of params positions = and_then same (accepted_of params) (λ tables. statement_under tables positions)
 
 -- The statement of two files on so many workers: whatever they are, that of the two files. A number of workers that is 0
 -- or over the most is refused before anything else.

@@ -1,3 +1,4 @@
 pub mod LineForms
 pub mod LineParts
 pub mod Rows
+pub mod Seconds

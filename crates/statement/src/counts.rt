@@ -1,5 +1,5 @@
 //! What is said of a parameter file by itself.
-ghost use Rattle.statement.specs.Answers.{GivesText};
+ghost use Rattle.statement.specs.Answers.{Gives};
 ghost use Rattle.statement.specs.Counts.{counts_line, counts_of};
 ghost use Rattle.statement.specs.steps.LineForms.{counts_form};
 ghost use Rattle.std.specs.Prelude.{◌≡◌, IfOk};
@@ -42,7 +42,7 @@ pub fn write_counts(alloc: Global, tables: &Tables) -> Result<Vec<u8>, AllocErro
 /// The counts of a parameter file, or the first fault in reading it and checking it; or want of memory.
 #[tactic(auto, unfolding(crate::specs::Counts::counts_of))]
 pub fn check_plain(alloc: Global, params: &[u8]) -> Result<Vec<u8>, SpanFault>
-    ensures { GivesText (λ text. text.items) result (counts_of params.now) }
+    ensures { Gives (λ text. text.items) result (counts_of params.now) }
 {
     let raw = read_params(alloc, params)?;
     let tables = check(alloc, raw)?;

@@ -1,15 +1,21 @@
 //! Statements: from the bytes of a parameter file and a position file to the bytes of a statement.
 #![tactic(auto)]
 
+mod accepting;
+mod batches;
 pub mod counts;
+pub mod fault_lines;
 pub mod faults;
 pub mod laws;
 pub mod lines;
 pub mod margin;
 pub mod plans;
+pub mod roll;
 pub mod statuses;
 #[cfg(test)]
 mod tests;
+#[cfg(test)]
+mod tests_roll;
 #[cfg(test)]
 mod tests_workers;
 pub mod worked;

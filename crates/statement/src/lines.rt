@@ -158,13 +158,22 @@ pub fn push_row(out: &mut Vec<u8>, row: &Row) -> Result<(), AllocError>
     push_total(out, row.account(), row.set_id(), row.total())
 }
 
+/// Appends the lines of these rows, in their order. `Err` is want of memory.
+pub(crate) fn push_rows(out: &mut Vec<u8>, rows: &[Arc<Row>]) -> Result<(), AllocError>
+    ensures { OnOk result (out.new.items
+        ≡ out.old.items ++ flat_map (λ r. row_text r.set.tables r.portfolio) (map arc_value rows.now)) }
+{
+    for row in rows {
+        push_row(out, row)?;
+    }
+    Ok(())
+}
+
 /// The statement of these rows, in their order. `Err` is want of memory.
 pub fn write(alloc: Global, rows: &[Arc<Row>]) -> Result<Vec<u8>, AllocError>
     ensures { IfOk result (λ text. text.items ≡ flat_map (λ r. row_text r.set.tables r.portfolio) (map arc_value rows.now)) }
 {
     let mut out = Vec::new(alloc);
-    for row in rows {
-        push_row(&mut out, row)?;
-    }
+    push_rows(&mut out, rows)?;
     Ok(out)
 }

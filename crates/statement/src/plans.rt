@@ -1,5 +1,5 @@
 //! The compiled plan of a parameter file, as text (docs/FORMATS.md, "Plan listing").
-ghost use Rattle.statement.specs.Answers.{GivesText};
+ghost use Rattle.statement.specs.Answers.{Gives};
 ghost use Rattle.statement.specs.Listing.{listing_of};
 
 use crate::faults::SpanFault;
@@ -13,7 +13,7 @@ use std::alloc::Global;
 /// of memory.
 #[tactic(auto, unfolding(crate::specs::Listing::listing_of))]
 pub fn plan_plain(alloc: Global, params: &[u8]) -> Result<Vec<u8>, SpanFault>
-    ensures { GivesText (λ text. text.items) result (listing_of params.now) }
+    ensures { Gives (λ text. text.items) result (listing_of params.now) }
 {
     let raw = read_params(alloc, params)?;
     let tables = check(alloc, raw)?;

@@ -17,3 +17,6 @@ pub const OUT_OF_MEMORY: u8 = 5;
 
 /// A file cannot be read, or the output cannot be written.
 pub const FILE_FAILED: u8 = 6;
+
+/// A book or a shelf refused what a roll asks of it.
+pub const BOOK_REFUSED: u8 = 7;

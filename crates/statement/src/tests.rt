@@ -1,5 +1,6 @@
 //! Statements and lines of faults, also where memory or room is refused.
-use crate::faults::{SpanFault, status, tell_fault, write_fault};
+use crate::fault_lines::{tell_fault, write_fault};
+use crate::faults::{SpanFault, status};
 use crate::margin::margin_plain;
 use param_check::faults::{BindFault, CheckFault};
 use span_csv::faults::{ParamFault, PositionFault};

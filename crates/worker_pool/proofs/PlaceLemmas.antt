@@ -2,6 +2,7 @@
 use Rattle.std.proofs.Common.{◌≡◌, ℕ, zero, suc, ◌+◌, ◌<◌, List, [], ◌∷◌, length, map, drop, Some}
 use Rattle.std.proofs.Common.{slice_get, slice_set}
 use Rattle.std.proofs.Common.{All, refl, ap, ◌∙◌, subst, arith}
+use Rattle.std.proofs.lemmas.List.{drop-drop}
 use Rattle.span_tables.specs.Net.{AccountHoldings}
 use Rattle.plan_compiler.specs.Compiled.{SetView}
 use Rattle.step_scheduler.specs.Jobs.{JobView}
@@ -32,12 +33,6 @@ length_of [] (o ∷ os) are = absurd are
 length_of (j ∷ js) [] are = absurd are
 length_of (j ∷ js) (o ∷ os) are = ap suc (length_of js os are.1)
 
--- a place with a job is in range
-pub in_range : (jobs : List JobView) (k : ℕ) (job : JobView) → slice_get jobs k ≡ Some job → k < length jobs
-in_range [] k job at = absurd (cc)
-in_range (j ∷ js) zero job at = omega arith
-in_range (j ∷ js) (suc k) job at = let h = in_range js k job at in omega arith
-
 -- another outcome of the job of its place
 pub set_at : (jobs : List JobView) (os : List Outcome) (k : ℕ) (job : JobView) (o : Outcome)
     → AreOutcomesOf jobs os → slice_get jobs k ≡ Some job → IsOutcome job.set job.portfolio o
@@ -57,12 +52,7 @@ get_here (z ∷ zs) zero x ys e = let f : z ≡ x = cc in ap Some f
 get_here (z ∷ zs) (suc k) x ys e = get_here zs k x ys e
 
 drop_next : (xs : List JobView) (k : ℕ) (x : JobView) (ys : List JobView) → x ∷ ys ≡ drop k xs → ys ≡ drop (k + 1) xs
-drop_next [] zero x ys e = absurd (cc)
-drop_next [] (suc k) x ys e = absurd (cc)
-drop_next (z ∷ zs) zero x ys e = cc
-drop_next (z ∷ zs) (suc k) x ys e =
-    let n : suc (k + 1) ≡ suc k + 1 = omega arith in
-    drop_next zs k x ys e ∙ ap (λ (m : ℕ). drop m (z ∷ zs)) n
+drop_next xs k x ys e = ap (λ (l : List JobView). drop 1 l) e ∙ drop-drop 1 k xs
 
 -- the next account's job has its place, and the jobs of the rest follow
 pub opened : (set : SetView) (ps rest : List AccountHoldings) (jobs : List JobView) (next : ℕ) (p : AccountHoldings)

@@ -54,24 +54,29 @@ impl From<AllocError> for PoolFault {
 // What a worker holds of the deques: its own end of its own, and a thief's end of each other.
 type Ends<B> = (OwnEnd<B>, Vec<ThiefEnd<B>>);
 
-// So many empty lists.
-fn empty_lists<T: Drop>(alloc: Global, count: usize) -> Result<Vec<Vec<T>>, AllocError> {
-    let mut lists = Vec::with_capacity(alloc, count)?;
-    for _ in 0..count {
-        lists.push(Vec::new(alloc))?;
+// A list of thieves' ends for each helper, begun with one.
+fn hands_of<B: Batch>(
+    alloc: Global,
+    thieves: Vec<ThiefEnd<B>>,
+) -> Result<Vec<Vec<ThiefEnd<B>>>, AllocError> {
+    let mut hands = Vec::with_capacity(alloc, thieves.len())?;
+    for thief in thieves {
+        let mut hand = Vec::new(alloc);
+        hand.push(thief)?;
+        hands.push(hand)?;
     }
-    Ok(lists)
+    Ok(hands)
 }
 
-// Gives each worker but the owner a thief's end.
+// Gives each helper but the owner a thief's end.
 fn deal<B: Batch>(
     thieves: Vec<ThiefEnd<B>>,
     owner: usize,
     hands: &mut Vec<Vec<ThiefEnd<B>>>,
 ) -> Result<(), AllocError> {
     let mut thieves = thieves;
-    for (worker, hand) in hands.iter_mut().enumerate() {
-        if worker != owner {
+    for (helper, hand) in hands.iter_mut().enumerate() {
+        if helper != owner {
             if let Some(thief) = thieves.pop() {
                 hand.push(thief)?;
             }
@@ -80,22 +85,30 @@ fn deal<B: Batch>(
     Ok(())
 }
 
-// A deque for each worker, and thieves' ends of it for all others. `Err` is want of memory.
-fn open_deques<B: Batch>(alloc: Global, workers: usize) -> Result<Vec<Ends<B>>, AllocError>
-    requires { (0 < workers) × (workers < 17) }
+// A deque for the coordinator and one for each helper, and thieves' ends of each for all others. `Err` is want of memory.
+fn open_deques<B: Batch>(
+    alloc: Global,
+    helpers: usize,
+) -> Result<(Ends<B>, Vec<Ends<B>>), AllocError>
+    requires { helpers < 16 }
 {
-    let mut owns = Vec::with_capacity(alloc, workers)?;
-    let mut hands = empty_lists(alloc, workers)?;
-    for owner in 0..workers {
-        let (own, thieves) = open_deque::<B>(alloc, DEQUE_PLACES, workers - 1)?;
+    let (own, thieves) = open_deque::<B>(alloc, DEQUE_PLACES, helpers)?;
+    let mut hands = hands_of(alloc, thieves)?;
+    let mut hand = Vec::with_capacity(alloc, helpers)?;
+    let mut owns = Vec::with_capacity(alloc, helpers)?;
+    for owner in 0..helpers {
+        let (own, mut thieves) = open_deque::<B>(alloc, DEQUE_PLACES, helpers)?;
         owns.push(own)?;
+        if let Some(thief) = thieves.pop() {
+            hand.push(thief)?;
+        }
         deal(thieves, owner, &mut hands)?;
     }
-    let mut ends = Vec::with_capacity(alloc, workers)?;
+    let mut ends = Vec::with_capacity(alloc, helpers)?;
     for pair in owns.into_iter().zip(hands) {
         ends.push(pair)?;
     }
-    Ok(ends)
+    Ok(((own, hand), ends))
 }
 
 // The helpers of a batch, numbered from 1. `Err` is want of memory.
@@ -165,10 +178,7 @@ fn run_named<B: Batch + Send + Sync, R: Threads + Wait + Clock + Sync, G: Gate>(
     let waiting = Waiting::<B>::new(Arc::try_clone(set)?, portfolios);
     let (queue, pass) = new_queue::<B>(alloc)?;
     let (results, theirs) = open_results(alloc, &queue, pass, workers - 1)?;
-    let mut ends = open_deques::<B>(alloc, workers)?;
-    let Some((own, thieves)) = ends.pop() else {
-        return Err(AllocError);
-    };
+    let ((own, thieves), ends) = open_deques::<B>(alloc, workers - 1)?;
     let helpers = helpers_of(alloc, ends, theirs)?;
     let coordinator = Coordinator {
         waiting,

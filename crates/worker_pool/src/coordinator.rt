@@ -37,7 +37,7 @@ pub(crate) struct Coordinator<'a, B: Batch> {
 impl<B: Batch> Coordinator<'_, B> {
     /// Runs until each account has ended.
     pub(crate) fn run<R: Wait + Clock, G: Gate>(&mut self, rt: &R, alloc: Global, gate: &G) {
-        let mut patience = Patience::new();
+        let mut patience = Patience::of_coordinator();
         for _ in rt.forever() {
             self.open_more(alloc, gate);
             if self.outcomes.is_done() {

@@ -5,6 +5,9 @@ use span_tables::name::Name;
 /// plan. Worker 0 is the coordinator. Tests watch and hold workers there.
 pub trait Gate: Sync {
     fn pass(&self, worker: usize, account: &Name, step: usize);
+
+    /// Passed by the thread that makes the next set of a roll ready, before it begins.
+    fn beside(&self) {}
 }
 
 /// A gate that lets everything pass.

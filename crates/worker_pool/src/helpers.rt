@@ -31,7 +31,7 @@ impl<B: Batch> Helper<'_, B> {
         gate: &G,
         stop: &AtomicBool,
     ) {
-        let mut patience = Patience::new();
+        let mut patience = Patience::of_helper();
         for _ in rt.forever() {
             if stop.load(SeqCst) {
                 return;
@@ -102,7 +102,7 @@ impl<B: Batch> Helper<'_, B> {
 
     // Hands a result in, trying again while the queue is full and the stop word is not set.
     fn hand_in<R: Wait + Clock>(&mut self, rt: &R, stop: &AtomicBool, done: FinishedOf<B>) {
-        let mut patience = Patience::new();
+        let mut patience = Patience::of_helper();
         let mut left = done;
         for _ in rt.forever() {
             match self.results.push(rt, left) {

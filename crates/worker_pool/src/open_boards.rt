@@ -146,6 +146,7 @@ impl<B: Batch> OpenBoard<B> {
     }
 
     // Keeps the result of a step. It is of this board's job, since both are of the batch and of one place.
+    // A board refuses only results that it has no use for.
     fn finish(&mut self, done: FinishedOf<B>)
         requires { done.finished.job.place ≡ self.old.board.job.place }
         ensures { self.new.board.job ≡ self.old.board.job }

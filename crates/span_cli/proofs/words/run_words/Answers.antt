@@ -1,8 +1,17 @@
-use Rattle.std.proofs.Common.{map}
-use Rattle.span_cli.specs.Words.{kinds_of}
-use Rattle.span_cli.proofs.ServingLemmas.{refused_by}
+use Rattle.std.proofs.Common.{inr, map, subst}
+use Rattle.span_cli.specs.Words.{asked_in, kinds_of}
+use Rattle.clap.specs.declared.error.kind.ErrorKind.{ErrorKind}
+use Rattle.span_cli.specs.Telling.{Refuses, Serves}
+use Rattle.span_cli.proofs.ServingLemmas.{OfAnswer-each, refused_by}
 use Rattle.span_cli.proofs.words.run_words.Goals as goal
 
 pub returns-in-Err-clause-refused : goal.returns-in-Err-clause-refused
 returns-in-Err-clause-refused g c = λ some. refused_by (kinds_of (map g.T.AsStr.text c.args.words.now)) c.in-Err.error _ _ _ _ _
     c.in-Err.ensures.kinds c.refuse.ensures
+
+pub returns-in-Err-clause-taken : goal.returns-in-Err-clause-taken
+returns-in-Err-clause-taken g c = λ taken.
+    let told = subst (λ (k : ErrorKind). Refuses k c.refuse.result c.args.out.now c.refuse.new.out c.args.err.now c.refuse.new.err)
+    (c.in-Err.ensures.err taken) c.refuse.ensures in
+    OfAnswer-each (g.S.Sources.file c.args.sources.now) (asked_in (map g.T.AsStr.text c.args.words.now))
+    (λ answer. Serves answer c.refuse.result c.args.out.now c.refuse.new.out c.args.err.now c.refuse.new.err) (λ a. inr told)

@@ -1,0 +1,56 @@
+-- The faults of the statement of two files are those of the files: a call that gives it names no other.
+use Rattle.std.proofs.Common.{◌≡◌, ℕ, List, Bool, true, false, true≢false, Ok, Err, Result, refl, sym, subst, inl, inr}
+use Rattle.span_csv.specs.ParamFaults.{params_of}
+use Rattle.span_csv.specs.PositionFaults.{positions_of}
+use Rattle.span_tables.specs.Tables.{AcceptedTables}
+use Rattle.span_tables.specs.declared.records.PositionRecord.{PositionRecord}
+use Rattle.param_check.specs.CheckFaults.{checked}
+use Rattle.param_check.specs.Binding.{bindings_of}
+use Rattle.statement.specs.Answers.{Gives}
+use Rattle.statement.specs.Statement.{accepted_of, and_then, same, statement_bound, statement_of, statement_under}
+use Rattle.statement.specs.declared.faults.SpanFault.{SpanFault}
+use Rattle.statement.specs.declared.faults.SpanFault.TheVariants as fault
+
+-- a fault of two files
+abbrev pub is_of_files : SpanFault → Bool
+is_of_files (fault.Params e) = true
+is_of_files (fault.Check e) = true
+is_of_files (fault.Positions e) = true
+is_of_files (fault.Bind e) = true
+is_of_files e = false
+
+-- what follows an outcome has such faults alone, where its fault and what follows it have
+and_then_of_files : {A B F : Type 0} (named : F → SpanFault) (r : Result A F) (next : A → Result B SpanFault) (e : SpanFault)
+    → ((f : F) → r ≡ Err f → is_of_files (named f) ≡ true) → ((x : A) → next x ≡ Err e → is_of_files e ≡ true)
+    → and_then named r next ≡ Err e → is_of_files e ≡ true
+and_then_of_files named (Ok x) next e first rest is = rest x is
+and_then_of_files named (Err f) next e first rest is = let same_fault : named f ≡ e = cc in rw (← same_fault) (first f refl)
+
+pub accepted_of_files : (params : List ℕ) (e : SpanFault) → accepted_of params ≡ Err e → is_of_files e ≡ true
+unfolding accepted_of
+accepted_of_files params e is =
+    and_then_of_files fault.Params (params_of params) _ e (λ f h. refl) (λ records.
+    and_then_of_files fault.Check (checked records) _ e (λ f h. refl) (λ tables h. cc)) is
+
+pub bound_of_files : (tables : AcceptedTables) (records : List PositionRecord) (e : SpanFault)
+    → statement_bound tables records ≡ Err e → is_of_files e ≡ true
+unfolding statement_bound
+bound_of_files tables records e is =
+    and_then_of_files fault.Bind (bindings_of tables.contracts records) _ e (λ f h. refl) (λ portfolios h. cc) is
+
+pub statement_of_files : (params positions : List ℕ) (e : SpanFault) → statement_of params positions ≡ Err e
+    → is_of_files e ≡ true
+unfolding statement_of statement_under
+statement_of_files params positions e is =
+    and_then_of_files same (accepted_of params) _ e (accepted_of_files params) (λ tables.
+    and_then_of_files fault.Positions (positions_of positions) _ e (λ f h. refl) (λ records.
+    bound_of_files tables records e)) is
+
+-- so a call that gives its text never says that there are too many workers
+pub never_workers : {Y : Type 0} (text : Y → List ℕ) (r : Result Y SpanFault) (params positions : List ℕ)
+    → Gives text r (statement_of params positions) → r ≡ Err fault.Workers → ⊥
+never_workers text (Ok y) params positions gives e = cc
+never_workers text (Err x) params positions (inl memory) e = cc
+never_workers text (Err x) params positions (inr named) e =
+    let is : x ≡ fault.Workers = cc in
+    true≢false (sym (subst (λ (f : SpanFault). is_of_files f ≡ true) is (statement_of_files params positions x named.1)))

@@ -1,0 +1,35 @@
+-- What a roll answers: two statements for the same positions, under a set and under the next.
+use Rattle.std.specs.Prelude.{◌≡◌, ⊤, ℕ, List, ◌++◌, Bool, true, false, Result, Ok, Err}
+use Rattle.statement.specs.Answers.{is_memory}
+use Rattle.statement.specs.SpanFaults.{of_next}
+use Rattle.statement.specs.Statement.{accepted_of, and_then, margin_of, same, statement_of}
+use Rattle.statement.specs.declared.faults.SpanFault.{SpanFault}
+use Rattle.statement.specs.declared.faults.SpanFault.TheVariants as fault
+
+-- The statement of the positions under the parameters, and after it that under the next ones; or the first fault, in the
+-- number of workers, in the parameters, in the positions, in the next parameters, in the positions under them.
+unfoldable pub roll_of : ℕ → List ℕ → List ℕ → List ℕ → Result (List ℕ) SpanFault
+roll_of workers params next positions =
+    and_then same (margin_of workers params positions) (λ first.
+    and_then of_next (statement_of next positions) (λ second. Ok (first ++ second)))
+
+-- there is no fault
+abbrev pub is_ok : {A : Type 0} → Result A SpanFault → Bool
+is_ok (Ok x) = true
+is_ok (Err e) = false
+
+-- Why a roll is refused. Want of memory says nothing of the files. A book can refuse where the first statement stands, and
+-- a shelf where the next set is accepted too. Any other fault is the first one.
+abbrev pub RefusesRoll : ℕ → List ℕ → List ℕ → List ℕ → SpanFault → Type 0
+RefusesRoll workers params next positions fault.Memory = ⊤
+RefusesRoll workers params next positions (fault.Book e) =
+    (is_memory (fault.Book e) ≡ false) × (is_ok (margin_of workers params positions) ≡ true)
+RefusesRoll workers params next positions fault.Shelf =
+    (is_ok (margin_of workers params positions) ≡ true) × (is_ok (accepted_of next) ≡ true)
+RefusesRoll workers params next positions e =
+    (is_memory e ≡ false) × (roll_of workers params next positions ≡ Err e)
+
+-- the text of both statements, or why it is refused
+abbrev pub GivesRoll : {Y : Type 0} → (Y → List ℕ) → ℕ → List ℕ → List ℕ → List ℕ → Result Y SpanFault → Type 0
+GivesRoll said workers params next positions (Ok y) = roll_of workers params next positions ≡ Ok (said y)
+GivesRoll said workers params next positions (Err e) = RefusesRoll workers params next positions e

@@ -1,0 +1,52 @@
+-- The second half of a roll, where the first statement is known and the positions are read.
+use Rattle.std.specs.Prelude.{◌≡◌, ⊤, ℕ, List, [], ◌∷◌, ◌++◌, true, false, Result, Ok, Err}
+use Rattle.span_tables.specs.Tables.{AcceptedTables}
+use Rattle.span_tables.specs.declared.records.PositionRecord.{PositionRecord}
+use Rattle.plan_compiler.specs.Compiled.{SetView}
+use Rattle.statement.specs.Answers.{is_memory}
+use Rattle.statement.specs.Rolls.{is_ok}
+use Rattle.statement.specs.SpanFaults.{of_next}
+use Rattle.statement.specs.Statement.{accepted_of, and_then, same, statement_bound}
+use Rattle.statement.specs.declared.faults.SpanFault.{SpanFault}
+use Rattle.statement.specs.declared.faults.SpanFault.TheVariants as fault
+
+-- the statement of position records under the next parameters, or the first fault, under the name that it has there
+unfoldable pub second_of : List ℕ → List PositionRecord → Result (List ℕ) SpanFault
+second_of next records =
+    and_then of_next (accepted_of next) (λ tables.
+    and_then of_next (statement_bound tables records) (λ text. Ok text))
+
+-- why there is no second statement
+abbrev pub RefusesSecond : List ℕ → List PositionRecord → SpanFault → Type 0
+RefusesSecond next records fault.Memory = ⊤
+RefusesSecond next records (fault.Book e) = is_memory (fault.Book e) ≡ false
+RefusesSecond next records fault.Shelf = is_ok (accepted_of next) ≡ true
+RefusesSecond next records e = (is_memory e ≡ false) × (second_of next records ≡ Err e)
+
+-- why there is no next set
+abbrev pub RefusesNext : List ℕ → SpanFault → Type 0
+RefusesNext next fault.Memory = ⊤
+RefusesNext next fault.Shelf = is_ok (accepted_of next) ≡ true
+RefusesNext next e = (is_memory e ≡ false) × (and_then of_next (accepted_of next) (λ tables. Ok tables) ≡ Err e)
+
+-- why there is no statement under the tables of the next set
+abbrev pub RefusesUnder : AcceptedTables → List PositionRecord → SpanFault → Type 0
+RefusesUnder tables records fault.Memory = ⊤
+RefusesUnder tables records (fault.Book e) = is_memory (fault.Book e) ≡ false
+RefusesUnder tables records e =
+    (is_memory e ≡ false) × (and_then of_next (statement_bound tables records) (λ text. Ok text) ≡ Err e)
+
+-- the second statement comes after what was there
+abbrev pub Rolls : List ℕ → List PositionRecord → List ℕ → List ℕ → Type 0
+Rolls next records first text = and_then same (second_of next records) (λ second. Ok (first ++ second)) ≡ Ok text
+
+-- the same of the tables of the next set
+abbrev pub RollsUnder : AcceptedTables → List PositionRecord → List ℕ → List ℕ → Type 0
+RollsUnder tables records first text =
+    and_then of_next (statement_bound tables records) (λ second. Ok (first ++ second)) ≡ Ok text
+
+-- the next set was published after others
+pub record IsPublished (next : List ℕ) (before after : List SetView) : Type 0 where
+  pub set : SetView
+  pub added : after ≡ before ++ set ∷ []
+  pub accepted : accepted_of next ≡ Ok set.tables

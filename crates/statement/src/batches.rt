@@ -1,0 +1,92 @@
+//! Batches of accounts under a compiled set: their rows, and the statement of these.
+ghost use Rattle.plan_compiler.specs.Compiled.{SetView};
+ghost use Rattle.span_tables.specs.Holdings.{fits};
+ghost use Rattle.span_tables.specs.Net.{AccountHoldings};
+ghost use Rattle.statement.specs.Statement.{statement_text};
+ghost use Rattle.statement.specs.steps.Rows.{AreRows, rows_under};
+ghost use Rattle.std.specs.Arc.{arc_value};
+ghost use Rattle.std.specs.Prelude.{◌≡◌, ◌++◌, All, IfOk, List, OnOk, length, map, true};
+ghost use Rattle.worker_pool.specs.Outcomes.{AreOutcomes};
+
+use crate::lines::{push_rows, write};
+use plan_compiler::set::CompiledSet;
+use result_book::rows::Row;
+use span_tables::portfolios::Portfolios;
+use std::alloc::{AllocError, Global};
+use std::sync::{Arc, Wait};
+use std::thread::Threads;
+use std::time::Clock;
+use worker_pool::batch::run_batch;
+use worker_pool::gates::Gate;
+use worker_pool::outcomes::Outcome;
+use worker_pool::plain::run_plain;
+
+// The rows of all outcomes; want of memory, where an account has none: a statement is whole, or not given.
+fn all_rows(alloc: Global, outcomes: Vec<Outcome>) -> Result<Vec<Arc<Row>>, AllocError>
+    ensures { IfOk result (λ rows. AreRows outcomes.items (map arc_value rows.items)) }
+{
+    let mut rows = Vec::with_capacity(alloc, outcomes.len())?;
+    for outcome in outcomes {
+        match outcome {
+            Outcome::Margined(row) => rows.push(row)?,
+            Outcome::NoMemory(_) => return Err(AllocError),
+        }
+    }
+    Ok(rows)
+}
+
+// The rows of the outcomes of a batch. `Err` is want of memory, here or for an account.
+fn rows_of(alloc: Global, outcomes: Vec<Outcome>) -> Result<Vec<Arc<Row>>, AllocError>
+    ensures { (set : SetView) (portfolios : List AccountHoldings) → AreOutcomes set portfolios outcomes.items
+        → IfOk result (λ rows. map arc_value rows.items ≡ rows_under set portfolios) }
+{
+    let rows = all_rows(alloc, outcomes)?;
+    Ok(rows)
+}
+
+/// The rows of portfolios under a compiled set, on one thread. `Err` is want of memory, also for an account alone.
+pub(crate) fn rows_alone(
+    alloc: Global,
+    set: &Arc<CompiledSet>,
+    portfolios: Portfolios,
+) -> Result<Vec<Arc<Row>>, AllocError>
+    requires { All (λ p. fits (length (arc_value set.now).tables.contracts) p.holdings ≡ true) portfolios }
+    ensures { IfOk result (λ rows. map arc_value rows.items ≡ rows_under (arc_value set.now) portfolios) }
+{
+    let outcomes = run_plain(alloc, set, portfolios.into_vec())?;
+    rows_of(alloc, outcomes)
+}
+
+/// The same on 1 to 16 workers.
+pub(crate) fn rows_together<R: Threads + Wait + Clock + Sync, G: Gate>(
+    rt: &R,
+    alloc: Global,
+    set: &Arc<CompiledSet>,
+    portfolios: Portfolios,
+    workers: usize,
+    gate: &G,
+) -> Result<Vec<Arc<Row>>, AllocError>
+    requires { All (λ p. fits (length (arc_value set.now).tables.contracts) p.holdings ≡ true) portfolios }
+    ensures { IfOk result (λ rows. map arc_value rows.items ≡ rows_under (arc_value set.now) portfolios) }
+{
+    match run_batch(rt, alloc, set, portfolios.into_vec(), workers, gate) {
+        Ok(outcomes) => rows_of(alloc, outcomes),
+        Err(_) => Err(AllocError),
+    }
+}
+
+/// The statement of the rows of a batch. `Err` is want of memory.
+pub(crate) fn text_of(alloc: Global, rows: &[Arc<Row>]) -> Result<Vec<u8>, AllocError>
+    ensures { (set : SetView) (portfolios : List AccountHoldings) → map arc_value rows.now ≡ rows_under set portfolios
+        → IfOk result (λ text. text.items ≡ statement_text set.tables portfolios) }
+{
+    write(alloc, rows)
+}
+
+/// Appends the statement of the rows of a batch. `Err` is want of memory.
+pub(crate) fn append_text(out: &mut Vec<u8>, rows: &[Arc<Row>]) -> Result<(), AllocError>
+    ensures { (set : SetView) (portfolios : List AccountHoldings) → map arc_value rows.now ≡ rows_under set portfolios
+        → OnOk result (out.new.items ≡ out.old.items ++ statement_text set.tables portfolios) }
+{
+    push_rows(out, rows)
+}

@@ -1,0 +1,292 @@
+//! The lines that say why there is no statement (docs/FORMATS.md, Fault lines and statuses).
+ghost use Rattle.statement.specs.FaultLines.{account_line, bind_line, book_line, check_line, fault_line, param_line};
+ghost use Rattle.statement.specs.FaultLines.{place_text, position_line, record_line};
+ghost use Rattle.statement.specs.steps.LineParts.{text_of};
+ghost use Rattle.span_told.specs.Streams.{Says};
+ghost use Rattle.std.specs.Io.KnownBytes.{Appends};
+ghost use Rattle.std.specs.Prelude.{◌++◌, ◌≡◌, OnOk, codes};
+
+use crate::faults::SpanFault;
+use param_check::faults::{BindFault, CheckFault};
+use result_book::books::BookFault;
+use span_csv::faults::{ParamFault, PositionFault};
+use span_tables::name::Name;
+use span_told::Told;
+use std::io;
+use std::io::Write;
+
+// What the line of a fault says.
+#[derive(Clone, Copy)]
+enum Line<'a> {
+    // A fault of a record: the file that it stands in, the fault's number and name, and the record's number.
+    Record {
+        file: &'static str,
+        code: &'static str,
+        at: usize,
+    },
+    // Positions that do not fit the tables: the file that they are named after, the fault's number and name, the record's
+    // number and its account.
+    Account {
+        file: &'static str,
+        code: &'static str,
+        at: usize,
+        account: &'a Name,
+    },
+    // A number of workers that cannot be.
+    Workers,
+    // What a book refused: the fault's number and name.
+    Book {
+        code: &'static str,
+    },
+    // The next set is not on the shelf.
+    Shelf,
+    // Memory ran out.
+    Memory,
+}
+
+// A fault of a record of a file.
+fn in_file(file: &'static str, code: &'static str, at: usize) -> Line<'static>
+    ensures { text_of result ≡ record_line file.entry.now code.entry.now at }
+{
+    Line::Record { file, code, at }
+}
+
+// A fault of a record of the positions.
+fn in_positions(code: &'static str, at: usize) -> Line<'static>
+    ensures { text_of result ≡ record_line (codes "positions") code.entry.now at }
+{
+    in_file("positions", code, at)
+}
+
+// Positions that do not fit the tables.
+fn of_account<'a>(file: &'static str, code: &'static str, at: usize, account: &'a Name) -> Line<'a>
+    ensures { text_of result ≡ account_line file.entry.now code.entry.now at account.entry.now }
+{
+    Line::Account {
+        file,
+        code,
+        at,
+        account,
+    }
+}
+
+fn param_line(file: &'static str, fault: &ParamFault) -> Line<'static>
+    ensures { text_of result ≡ param_line file.entry.now fault.now }
+{
+    match fault {
+        ParamFault::NoSet { at } => in_file(file, "P1 NoSet", *at),
+        ParamFault::SecondSet { at } => in_file(file, "P2 SecondSet", *at),
+        ParamFault::UnknownKind { at } => in_file(file, "P3 UnknownKind", *at),
+        ParamFault::FieldCount { at } => in_file(file, "P4 FieldCount", *at),
+        ParamFault::BadName { at } => in_file(file, "P5 BadName", *at),
+        ParamFault::BadNumber { at } => in_file(file, "P6 BadNumber", *at),
+        ParamFault::OutOfRange { at } => in_file(file, "P7 OutOfRange", *at),
+        ParamFault::TooMany { at } => in_file(file, "P8 TooMany", *at),
+        ParamFault::OutOfMemory => Line::Memory,
+    }
+}
+
+fn check_line(file: &'static str, fault: &CheckFault) -> Line<'static>
+    ensures { text_of result ≡ check_line file.entry.now fault.now }
+{
+    match fault {
+        CheckFault::DuplicateCommodity { at } => in_file(file, "C1 DuplicateCommodity", *at),
+        CheckFault::UnknownCommodity { at } => in_file(file, "C2 UnknownCommodity", *at),
+        CheckFault::DuplicateContract { at } => in_file(file, "C3 DuplicateContract", *at),
+        CheckFault::DuplicateTier { at } => in_file(file, "C4 DuplicateTier", *at),
+        CheckFault::TierBackwards { at } => in_file(file, "C5 TierBackwards", *at),
+        CheckFault::TierOverlap { at } => in_file(file, "C6 TierOverlap", *at),
+        CheckFault::UnknownTier { at } => in_file(file, "C7 UnknownTier", *at),
+        CheckFault::RepeatedLeg { at } => in_file(file, "C8 RepeatedLeg", *at),
+        CheckFault::OneSided { at } => in_file(file, "C9 OneSided", *at),
+        CheckFault::DuplicatePriority { at } => in_file(file, "C10 DuplicatePriority", *at),
+        CheckFault::DuplicateSpot { at } => in_file(file, "C11 DuplicateSpot", *at),
+        CheckFault::OutOfMemory => Line::Memory,
+    }
+}
+
+fn position_line(fault: &PositionFault) -> Line<'static>
+    ensures { text_of result ≡ position_line fault.now }
+{
+    match fault {
+        PositionFault::FieldCount { at } => in_positions("Q1 FieldCount", *at),
+        PositionFault::BadName { at } => in_positions("Q2 BadName", *at),
+        PositionFault::BadNumber { at } => in_positions("Q3 BadNumber", *at),
+        PositionFault::OutOfRange { at } => in_positions("Q4 OutOfRange", *at),
+        PositionFault::TooManyAccounts { at } => in_positions("Q5 TooManyAccounts", *at),
+        PositionFault::OutOfMemory => Line::Memory,
+    }
+}
+
+fn bind_line<'a>(file: &'static str, fault: &'a BindFault) -> Line<'a>
+    ensures { text_of result ≡ bind_line file.entry.now fault.entry.now }
+{
+    match fault {
+        BindFault::UnknownContract { at, account } => of_account(
+            file,
+            "B1 UnknownContract",
+            *at,
+            account,
+        ),
+        BindFault::NetOutOfRange { at, account } => of_account(
+            file,
+            "B2 NetOutOfRange",
+            *at,
+            account,
+        ),
+        BindFault::TooManyHeld { at, account } => of_account(file, "B3 TooManyHeld", *at, account),
+        BindFault::OutOfMemory => Line::Memory,
+    }
+}
+
+fn book_line(fault: BookFault) -> Line<'static>
+    ensures { text_of result ≡ book_line fault }
+{
+    match fault {
+        BookFault::NoSuchBatch => Line::Book {
+            code: "K1 NoSuchBatch",
+        },
+        BookFault::AlreadyThere => Line::Book {
+            code: "K2 AlreadyThere",
+        },
+        BookFault::OutOfMemory => Line::Memory,
+        BookFault::NoMoreBatches => Line::Book {
+            code: "K4 NoMoreBatches",
+        },
+    }
+}
+
+// What the line of a fault says.
+fn line_of(fault: &SpanFault) -> Line<'_>
+    ensures { text_of result ≡ fault_line fault.now }
+{
+    match fault {
+        SpanFault::Params(fault) => param_line("parameters", fault),
+        SpanFault::Check(fault) => check_line("parameters", fault),
+        SpanFault::Positions(fault) => position_line(fault),
+        SpanFault::Bind(fault) => bind_line("positions", fault),
+        SpanFault::NextParams(fault) => param_line("next parameters", fault),
+        SpanFault::NextCheck(fault) => check_line("next parameters", fault),
+        SpanFault::NextBind(fault) => bind_line("next positions", fault),
+        SpanFault::Workers => Line::Workers,
+        SpanFault::Book(fault) => book_line(*fault),
+        SpanFault::Shelf => Line::Shelf,
+        SpanFault::Memory => Line::Memory,
+    }
+}
+
+// Writes the line of positions that do not fit, up to the account.
+fn write_start<W: Write>(file: &str, code: &str, at: usize, out: &mut W) -> io::Result<()>
+    ensures { OnOk result (Appends (W.contents out.old) (W.contents out.new) (place_text file.now code.now at)) }
+{
+    write!(out, "{file}: {code} at record {at} account ")
+}
+
+// Writes the rest of it.
+fn write_account<W: Write>(account: &Name, out: &mut W) -> io::Result<()>
+    ensures { OnOk result (Appends (W.contents out.old) (W.contents out.new) (account.now ++ codes "\n")) }
+{
+    out.write_all(account.as_bytes())?;
+    out.write_all(b"\n")
+}
+
+// Writes that line.
+fn write_place<W: Write>(
+    file: &str,
+    code: &str,
+    at: usize,
+    account: &Name,
+    out: &mut W,
+) -> io::Result<()>
+    ensures { OnOk result (Appends (W.contents out.old) (W.contents out.new) (account_line file.now code.now at account.now)) }
+{
+    write_start(file, code, at, out)?;
+    write_account(account, out)
+}
+
+// Writes a line.
+fn write_line<W: Write>(line: &Line<'_>, out: &mut W) -> io::Result<()>
+    ensures { OnOk result (Appends (W.contents out.old) (W.contents out.new) (text_of line.now)) }
+{
+    match line {
+        Line::Record { file, code, at } => writeln!(out, "{file}: {code} at record {at}"),
+        Line::Account {
+            file,
+            code,
+            at,
+            account,
+        } => write_place(file, code, *at, account, out),
+        Line::Workers => writeln!(out, "workers: L1 Workers"),
+        Line::Book { code } => writeln!(out, "book: {code}"),
+        Line::Shelf => writeln!(out, "shelf"),
+        Line::Memory => writeln!(out, "memory"),
+    }
+}
+
+/// Writes the line of a fault.
+pub fn write_fault<W: Write>(fault: &SpanFault, out: &mut W) -> io::Result<()>
+    ensures { OnOk result (Appends (W.contents out.old) (W.contents out.new) (fault_line fault.now)) }
+{
+    let line = line_of(fault);
+    write_line(&line, out)
+}
+
+// Tells the line of positions that do not fit, up to the account.
+fn tell_start<W: Write>(file: &str, code: &str, at: usize, out: &mut Told<W>)
+    ensures { Says out.old out.new (place_text file.now code.now at) }
+{
+    let _ = write!(out, "{file}: {code} at record {at} account ");
+}
+
+// Tells the rest of it.
+fn tell_account<W: Write>(account: &Name, out: &mut Told<W>)
+    ensures { Says out.old out.new (account.now ++ codes "\n") }
+{
+    let _ = out.write_all(account.as_bytes());
+    let _ = out.write_all(b"\n");
+}
+
+// Tells that line.
+fn tell_place<W: Write>(file: &str, code: &str, at: usize, account: &Name, out: &mut Told<W>)
+    ensures { Says out.old out.new (account_line file.now code.now at account.now) }
+{
+    tell_start(file, code, at, out);
+    tell_account(account, out);
+}
+
+// Tells a line.
+fn tell_line<W: Write>(line: &Line<'_>, out: &mut Told<W>)
+    ensures { Says out.old out.new (text_of line.now) }
+{
+    match line {
+        Line::Record { file, code, at } => {
+            let _ = writeln!(out, "{file}: {code} at record {at}");
+        }
+        Line::Account {
+            file,
+            code,
+            at,
+            account,
+        } => tell_place(file, code, *at, account, out),
+        Line::Workers => {
+            let _ = writeln!(out, "workers: L1 Workers");
+        }
+        Line::Book { code } => {
+            let _ = writeln!(out, "book: {code}");
+        }
+        Line::Shelf => {
+            let _ = writeln!(out, "shelf");
+        }
+        Line::Memory => {
+            let _ = writeln!(out, "memory");
+        }
+    }
+}
+
+/// Writes the line of a fault to a writer that remembers a failed write.
+pub fn tell_fault<W: Write>(fault: &SpanFault, out: &mut Told<W>)
+    ensures { Says out.old out.new (fault_line fault.now) }
+{
+    let line = line_of(fault);
+    tell_line(&line, out);
+}

@@ -1,0 +1,286 @@
+//! Two statements for the same positions: under a set, and under the next, which is made ready beside the first batch.
+ghost use Rattle.plan_shelf.specs.Publications.{IsLast};
+ghost use Rattle.result_book.specs.Books.{rows_of};
+ghost use Rattle.span_tables.specs.Holdings.{fits};
+ghost use Rattle.span_csv.specs.PositionFaults.{positions_of};
+ghost use Rattle.statement.specs.Answers.{Gives};
+ghost use Rattle.statement.specs.Rolls.{GivesRoll};
+ghost use Rattle.statement.specs.Statement.{accepted_of, statement_bound, statement_of, statement_text};
+ghost use Rattle.statement.specs.declared.faults.SpanFault.TheVariants as fault;
+ghost use Rattle.statement.specs.declared.roll.Today.{Today};
+ghost use Rattle.statement.specs.steps.Rows.{rows_under};
+ghost use Rattle.statement.specs.steps.Seconds.{IsPublished, RefusesNext, RefusesSecond, RefusesUnder, Rolls, RollsUnder};
+ghost use Rattle.std.specs.Arc.{arc_value};
+ghost use Rattle.std.specs.Prelude.{◌≡◌, ◌≢◌, ◌<◌, ◌+◌, ◌∷◌, ◌⊎◌, ◌↔◌, [], All, Err, IfErr, IfOk, Ok};
+ghost use Rattle.std.specs.Prelude.{OnOk, length, map, true, ℕ};
+
+use crate::accepting::{bound, set_of};
+use crate::batches::{append_text, rows_together, text_of};
+use crate::faults::SpanFault;
+use plan_compiler::set::CompiledSet;
+use plan_shelf::history::{History, ShelfName};
+use plan_shelf::publishers::{Publisher, Told};
+use plan_shelf::readers::Reader;
+use plan_shelf::shelves::shelf;
+use result_book::books::{BookFault, ResultBook};
+use result_book::rows::Row;
+use span_csv::positions::read_positions;
+use span_tables::portfolios::Portfolios;
+use span_tables::raw::RawPositions;
+use std::alloc::{AllocError, Global};
+use std::marker::Brand;
+use std::sync::{Arc, Mutex, Wait};
+use std::thread;
+use std::thread::Threads;
+use std::time::Clock;
+use worker_pool::batch::MAX_WORKERS;
+use worker_pool::gates::Gate;
+
+// What a roll begins with: today's set, the positions, and the portfolios that they are under it.
+#[derive(Drop)]
+struct Today {
+    set: Arc<CompiledSet>,
+    positions: RawPositions,
+    portfolios: Portfolios,
+}
+
+// The compiled set of the next parameters, or their first fault under the name that it has there.
+fn next_set(alloc: Global, next: &[u8]) -> Result<Arc<CompiledSet>, SpanFault>
+    ensures set { IfOk result (λ set. accepted_of next.now ≡ Ok (arc_value set).tables) }
+    ensures fault { IfErr result (λ e. RefusesNext next.now e) }
+{
+    match set_of(alloc, next) {
+        Ok(set) => Ok(set),
+        Err(fault) => Err(fault.of_next()),
+    }
+}
+
+// Makes the next set ready and publishes it, without waiting for the batch.
+fn publish_next<S: ShelfName, R: Wait, G: Gate>(
+    alloc: Global,
+    publisher: &mut Publisher<S, &R>,
+    next: &[u8],
+    gate: &G,
+) -> Result<Told<S>, SpanFault>
+    ensures told { IfOk result (λ told. IsPublished next.now publisher.old told) }
+    ensures fault { IfErr result (λ e. RefusesNext next.now e) }
+{
+    gate.beside();
+    let set = next_set(alloc, next)?;
+    let told = publisher.publish(set)?;
+    Ok(told)
+}
+
+// The rows of the first batch, computed here, and beside it the next set in a thread. Where no thread is started the two are
+// done one after the other.
+fn both<S: ShelfName + Send + Sync, R: Threads + Wait + Clock + Sync, G: Gate>(
+    rt: &R,
+    alloc: Global,
+    publisher: &mut Publisher<S, &R>,
+    set: &Arc<CompiledSet>,
+    portfolios: Portfolios,
+    next: &[u8],
+    workers: usize,
+    gate: &G,
+) -> (
+    Result<Vec<Arc<Row>>, AllocError>,
+    Result<Told<S>, SpanFault>,
+)
+    requires { All (λ p. fits (length (arc_value set.now).tables.contracts) p.holdings ≡ true) portfolios }
+    ensures rows { IfOk result.0 (λ rows. map arc_value rows.items ≡ rows_under (arc_value set.now) portfolios) }
+    ensures told { IfOk result.1 (λ told. IsPublished next.now publisher.old told) }
+    ensures fault { IfErr result.1 (λ e. RefusesNext next.now e) }
+{
+    let (told, rows) = thread::join(
+        rt,
+        move || publish_next(alloc, publisher, next, gate),
+        move || -> Result<Vec<Arc<Row>>, AllocError>
+            requires { All (λ p. fits (length (arc_value set.now).tables.contracts) p.holdings ≡ true) portfolios }
+            ensures { IfOk result (λ rows. map arc_value rows.items ≡ rows_under (arc_value set.entry.now) portfolios) }
+        { rows_together(rt, alloc, set, portfolios, workers, gate) },
+    );
+    (rows, told)
+}
+
+// The set that a reader finds once it has learned of the second publication.
+fn second_set<S: ShelfName, R: Wait>(
+    rt: &R,
+    reader: Reader<S>,
+    told: Told<S>,
+) -> Result<Arc<CompiledSet>, SpanFault>
+    requires { length told ≡ 2 }
+    ensures set { IfOk result (λ set. IsLast told (arc_value set)) }
+    ensures fault { IfErr result (λ e. (e ≡ fault.Memory) ⊎ (e ≡ fault.Shelf)) }
+{
+    let mut reader = reader;
+    reader.learn(told);
+    match reader.current(rt)? {
+        Some((2, set)) => Ok(set),
+        _ => Err(SpanFault::Shelf),
+    }
+}
+
+// Opens a batch of a book and puts its rows there, in their order.
+fn keep(book: &mut ResultBook, rows: &[Arc<Row>]) -> Result<(), BookFault>
+    ensures opened { OnOk result (book.new.opened ≡ book.old.opened + 1) }
+    ensures rows { OnOk result (rows_of book.new (book.old.opened + 1) ≡ map arc_value rows.now) }
+    ensures others { (n : ℕ) → n ≢ book.old.opened + 1 → rows_of book.new n ≡ rows_of book.old n }
+{
+    let batch = book.open_batch()?;
+    for row in rows {
+        let row = Arc::try_clone(row).map_err(|_| BookFault::OutOfMemory)?;
+        if let Err(refused) = book.put(batch, row) {
+            return Err(refused.fault);
+        }
+    }
+    Ok(())
+}
+
+// The portfolios of positions under the next set, or their fault under the name that it has there.
+fn bound_next(
+    alloc: Global,
+    set: &Arc<CompiledSet>,
+    positions: &RawPositions,
+) -> Result<Portfolios, SpanFault>
+    ensures text { IfOk result (λ portfolios. statement_bound (arc_value set.now).tables positions.now
+        ≡ Ok (statement_text (arc_value set.now).tables portfolios)) }
+    ensures fits { IfOk result (λ portfolios.
+        All (λ p. fits (length (arc_value set.now).tables.contracts) p.holdings ≡ true) portfolios) }
+    ensures fault { IfErr result (λ e. RefusesUnder (arc_value set.now).tables positions.now e) }
+{
+    match bound(alloc, set, positions) {
+        Ok(portfolios) => Ok(portfolios),
+        Err(fault) => Err(fault.of_next()),
+    }
+}
+
+// Margins the positions under the next set, keeps the rows in a book and appends their statement.
+fn finish<R: Threads + Wait + Clock + Sync, G: Gate>(
+    rt: &R,
+    alloc: Global,
+    set: &Arc<CompiledSet>,
+    positions: &RawPositions,
+    workers: usize,
+    gate: &G,
+    book: &Mutex<ResultBook>,
+    out: &mut Vec<u8>,
+) -> Result<(), SpanFault>
+    ensures text { OnOk result (RollsUnder (arc_value set.now).tables positions.now out.old.items out.new.items) }
+    ensures fault { IfErr result (λ e. RefusesUnder (arc_value set.now).tables positions.now e) }
+{
+    let portfolios = bound_next(alloc, set, positions)?;
+    let rows = rows_together(rt, alloc, set, portfolios, workers, gate)?;
+    keep(&mut book.lock(rt), &rows)?;
+    append_text(out, &rows)?;
+    Ok(())
+}
+
+// A shelf with a reader, on which a set is the first publication.
+fn shelf_with<S: ShelfName, R: Wait + Drop>(
+    rt: R,
+    alloc: Global,
+    history: History,
+    set: &Arc<CompiledSet>,
+) -> Result<(Publisher<S, R>, Reader<S>), SpanFault>
+    requires { history ≡ S.book }
+    ensures first { IfOk result (λ made. made.0 ≡ arc_value set.now ∷ []) }
+    ensures fault { IfErr result (λ e. e ≡ fault.Memory) }
+{
+    let (mut publisher, mut readers) = shelf::<S, R>(rt, alloc, history, 1)?;
+    let Some(reader) = readers.pop() else {
+        return Err(SpanFault::Memory);
+    };
+    publisher.publish(Arc::try_clone(set)?)?;
+    Ok((publisher, reader))
+}
+
+// The roll on a shelf of its own. Its type names the shelf, and no type of the signature does.
+fn roll_named<S: ShelfName + Send + Sync, R: Threads + Wait + Clock + Sync, G: Gate>(
+    rt: &R,
+    alloc: Global,
+    history: History,
+    today: Today,
+    next: &[u8],
+    workers: usize,
+    gate: &G,
+    book: &Mutex<ResultBook>,
+) -> Result<Vec<u8>, SpanFault>
+    requires history { history ≡ S.book }
+    requires fits { All (λ p. fits (length (arc_value today.set).tables.contracts) p.holdings ≡ true) today.portfolios }
+    ensures text { IfOk result (λ text. Rolls next.now today.positions
+        (statement_text (arc_value today.set).tables today.portfolios) text.items) }
+    ensures fault { IfErr result (λ e. RefusesSecond next.now today.positions e) }
+{
+    let Today {
+        set,
+        positions,
+        portfolios,
+    } = today;
+    let (mut publisher, reader) = shelf_with::<S, &R>(rt, alloc, history, &set)?;
+    let (rows, told) = both(
+        rt,
+        alloc,
+        &mut publisher,
+        &set,
+        portfolios,
+        next,
+        workers,
+        gate,
+    );
+    let rows = rows?;
+    keep(&mut book.lock(rt), &rows)?;
+    let mut text = text_of(alloc, &rows)?;
+    let second = second_set(rt, reader, told?)?;
+    finish(
+        rt, alloc, &second, &positions, workers, gate, book, &mut text,
+    )?;
+    Ok(text)
+}
+
+// What a roll begins with, or the first fault of the parameters and the positions.
+#[tactic(auto, unfolding(crate::specs::Statement::statement_of, crate::specs::Statement::statement_under))]
+fn accepted_today(alloc: Global, params: &[u8], positions: &[u8]) -> Result<Today, SpanFault>
+    ensures text { Gives (λ (t : Today). statement_text (arc_value t.set).tables t.portfolios)
+        result (statement_of params.now positions.now) }
+    ensures positions { IfOk result (λ today. positions_of positions.now ≡ Ok today.positions) }
+    ensures fits { IfOk result (λ today.
+        All (λ p. fits (length (arc_value today.set).tables.contracts) p.holdings ≡ true) today.portfolios) }
+{
+    let set = set_of(alloc, params)?;
+    let positions = read_positions(alloc, positions)?;
+    let portfolios = bound(alloc, &set, &positions)?;
+    Ok(Today {
+        set,
+        positions,
+        portfolios,
+    })
+}
+
+/// The statement of the positions under a set, and after it that under the next; or the first fault in the number of
+/// workers, in the parameters, in the positions under them, in the next parameters, in the positions under these; or want
+/// of memory (docs/FORMATS.md, "Faults").
+///
+/// The next parameters are read, checked, compiled and published on a shelf by a thread of its own, which begins with
+/// `beside` of the gate, while the first batch runs; where no thread is started, after it. The second batch runs under the
+/// set that the shelf then has. The rows of each batch are kept in the book, as the batch of a number that is opened then,
+/// in the order of the accounts; nothing is opened where an account has no row. A book that has no number left refuses after
+/// the faults of the positions, and before those of the next parameters. Rows that were put stay in the book.
+pub fn roll<R: Threads + Wait + Clock + Sync, G: Gate>(
+    rt: &R,
+    alloc: Global,
+    params: &[u8],
+    next: &[u8],
+    positions: &[u8],
+    workers: usize,
+    gate: &G,
+    book: &Mutex<ResultBook>,
+) -> Result<Vec<u8>, SpanFault>
+    ensures workers { (result ≡ Err fault.Workers) ↔ ((workers ≡ 0) ⊎ (16 < workers)) }
+    ensures text { GivesRoll (λ text. text.items) workers params.now next.now positions.now result }
+{
+    if workers == 0 || workers > MAX_WORKERS {
+        return Err(SpanFault::Workers);
+    }
+    let today = accepted_today(alloc, params, positions)?;
+    roll_named::<Brand, R, G>(rt, alloc, History::new(), today, next, workers, gate, book)
+}
