@@ -7,6 +7,4 @@ pub mod laws;
 pub mod requirement;
 pub mod spreads;
 pub mod state;
-#[cfg(test)]
-mod tests;
 mod worked;

@@ -61,8 +61,8 @@ fn settle(
     Ok(all)
 }
 
-// What each account holds of these contracts, or the fault of the records.
-pub(crate) fn bind_positions(
+/// What each account holds of these contracts, or the fault of the records; the ids of the contracts are apart.
+pub fn bind_positions(
     alloc: Global,
     contracts: &[Contract],
     positions: &RawPositions,

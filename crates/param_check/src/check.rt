@@ -73,12 +73,10 @@ fn spread_fault(alloc: Global, records: &[Record]) -> Result<Option<CheckFault>,
     Ok(None)
 }
 
-// The lowest-numbered rule that a record breaks, with the first record that breaks it.
+/// The lowest-numbered rule that a record breaks, with the first record that breaks it (docs/METHOD.md, "Rules"). `Err` is
+/// want of memory.
 #[tactic(auto, using(crate::proofs::GroupLemmas::check_fault_in_groups))]
-pub(crate) fn check_fault(
-    alloc: Global,
-    records: &[Record],
-) -> Result<Option<CheckFault>, AllocError>
+pub fn check_fault(alloc: Global, records: &[Record]) -> Result<Option<CheckFault>, AllocError>
     ensures { IfOk result (λ fault. fault ≡ check_fault records.now) }
 {
     if let Some(fault) = name_fault(alloc, records)? {

@@ -2,8 +2,6 @@
 #![tactic(auto)]
 
 pub mod binding;
-#[cfg(test)]
-mod binding_tests;
 pub mod check;
 pub mod faults;
 mod keys;
@@ -14,7 +12,5 @@ mod numbers;
 mod overlaps;
 mod rules;
 mod sums;
-#[cfg(test)]
-mod tests;
 mod unfit;
 mod worked;

@@ -7,6 +7,4 @@ pub mod nothing;
 mod operations;
 pub mod samples;
 pub mod set;
-#[cfg(test)]
-mod tests;
 mod worked;

@@ -9,8 +9,6 @@ pub mod listing;
 pub mod lists;
 pub mod ops;
 pub mod plans;
-#[cfg(test)]
-mod tests;
 mod users;
 pub mod values;
 mod worked;

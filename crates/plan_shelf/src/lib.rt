@@ -7,5 +7,3 @@ pub mod publishers;
 pub mod readers;
 pub mod shelves;
 mod slots;
-#[cfg(test)]
-mod tests;

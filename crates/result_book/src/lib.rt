@@ -2,11 +2,7 @@
 #![tactic(auto)]
 
 mod batches;
-#[cfg(test)]
-mod book_tests;
 pub mod books;
 pub mod laws;
 pub mod rows;
-#[cfg(test)]
-mod tests;
 mod worked;

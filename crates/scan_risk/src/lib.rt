@@ -5,8 +5,6 @@
 pub mod laws;
 pub mod scanning;
 pub mod scenarios;
-#[cfg(test)]
-mod tests;
 pub mod worked;
 
 use span_money::amounts::Money;

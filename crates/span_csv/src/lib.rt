@@ -13,8 +13,4 @@ pub mod positions;
 pub mod readable;
 mod rows;
 mod tally;
-#[cfg(test)]
-mod tests_params;
-#[cfg(test)]
-mod tests_positions;
 mod worked;

@@ -4,7 +4,5 @@
 pub mod amounts;
 pub mod division;
 pub mod laws;
-#[cfg(test)]
-mod tests;
 pub mod texts;
 pub mod worked;

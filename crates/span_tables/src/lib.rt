@@ -16,6 +16,4 @@ pub mod slots;
 mod sorting;
 mod spreads;
 pub mod tables;
-#[cfg(test)]
-mod tests;
 pub mod tiers;

@@ -9,9 +9,6 @@ use std::io;
 use std::io::Write;
 use std::marker::Model;
 
-#[cfg(test)]
-mod tests;
-
 /// A writer, and whether a write to it failed. Only a write that failed sets the mark, and nothing takes it back, so
 /// that a caller who promises its bytes `Says` has to try to write them.
 #[derive(Drop)]

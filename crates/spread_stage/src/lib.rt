@@ -7,7 +7,5 @@ pub mod deltas;
 pub mod laws;
 pub mod months;
 mod slots;
-#[cfg(test)]
-mod tests;
 pub mod tiers;
 mod worked;

@@ -12,10 +12,4 @@ pub mod margin;
 pub mod plans;
 pub mod roll;
 pub mod statuses;
-#[cfg(test)]
-mod tests;
-#[cfg(test)]
-mod tests_roll;
-#[cfg(test)]
-mod tests_workers;
 pub mod worked;

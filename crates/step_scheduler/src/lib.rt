@@ -11,8 +11,4 @@ pub mod jobs;
 pub mod laws;
 mod opening;
 pub mod progress;
-#[cfg(test)]
-mod samples;
 pub mod tasks;
-#[cfg(test)]
-mod tests;

@@ -14,5 +14,3 @@ pub mod outcomes;
 pub mod passes;
 pub mod plain;
 mod queue_ends;
-#[cfg(test)]
-mod tests;

@@ -1,5 +1,0 @@
-use Rattle.plan_shelf.proofs.tests.one_reader.Given as goal
-
--- the shelf has the new history
-abbrev pub ghosts-learns : goal.ghosts-learns
-ghosts-learns g a = record { book = a.history }

@@ -1,0 +1,10 @@
+use Rattle.std.proofs.Common.{[], ◌∷◌}
+use Rattle.std.specs.Arc.{arc_value}
+use Rattle.plan_tests.proofs.batches.front_and_back.Given as goal
+
+-- the batch is the one job
+abbrev pub ghosts-tasks_in_order : goal.ghosts-tasks_in_order
+ghosts-tasks_in_order g a = record { jobs = arc_value a.job.now ∷ [] }
+
+abbrev pub ghosts-results_in_order : goal.ghosts-results_in_order
+ghosts-results_in_order g a = record { jobs = arc_value a.job.now ∷ [] }

@@ -1,0 +1,50 @@
+//! Writers that fail, and writers that do not.
+use span_told::Told;
+use std::fmt;
+use std::fmt::{Display, Formatter};
+use std::io::Write;
+use std::test::Fail;
+
+// A text that cannot be formatted.
+#[derive(Drop)]
+struct Unsayable;
+
+impl Display for Unsayable {
+    fn fmt<W: fmt::Write>(&self, _f: &mut Formatter<W>) -> fmt::Result {
+        Err(fmt::Error)
+    }
+}
+
+#[test]
+fn keeps_the_bytes_in_order(rt: HostRuntime) -> Result<(), Fail> {
+    let mut told = Told::new(Vec::new(rt.alloc()));
+    told.write_all(b"one,")?;
+    writeln!(told, "{} {}", 2, "three")?;
+    assert!(rt; !told.failed());
+    assert!(rt; told.into_inner().as_slice() == b"one,2 three\n".as_slice());
+    Ok(())
+}
+
+#[test]
+fn remembers_a_failed_write(rt: HostRuntime) -> Result<(), Fail> {
+    let mut room = [0; 5];
+    let mut told = Told::new(&mut room[..]);
+    assert!(rt; told.write_all(b"1234").is_ok() && !told.failed());
+    assert!(rt; told.write_all(b"56").is_err() && told.failed());
+    // A write of nothing succeeds, and takes nothing back.
+    assert!(rt; told.write_all(b"").is_ok() && told.failed());
+    assert!(rt; writeln!(told, "7").is_err() && told.failed());
+    Ok(())
+}
+
+#[test]
+fn remembers_a_failed_text(rt: HostRuntime) -> Result<(), Fail> {
+    let mut room = [0; 2];
+    let mut told = Told::new(&mut room[..]);
+    assert!(rt; write!(told, "{}", 12).is_ok() && !told.failed());
+    assert!(rt; write!(told, "{}", 3).is_err() && told.failed());
+    let mut room = [0; 2];
+    let mut told = Told::new(&mut room[..]);
+    assert!(rt; write!(told, "{}", Unsayable).is_err() && told.failed());
+    Ok(())
+}
