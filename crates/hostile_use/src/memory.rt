@@ -1,0 +1,367 @@
+//! What calls answer where one growth of memory is refused: what they answer with ample memory, or that memory was refused.
+//! Nothing is lost then, and the next call works: a case that was refused is run once more, and has to come to its end.
+ghost use Rattle.std.specs.Arc.{arc_value};
+ghost use Rattle.std.specs.Prelude.{◌≡◌, IfOk, length, true};
+ghost use Rattle.span_tables.specs.Holdings.{fits};
+
+use crate::files::{ONE_FUTURE, PARAMS, POSITIONS, STATEMENT, portfolios_of, set_of};
+use param_check::binding::bind;
+use param_check::check::check;
+use plan_compiler::set::{CompiledSet, compile};
+use plan_shelf::faults::ShelfFault;
+use plan_shelf::history::{History, ShelfName};
+use plan_shelf::shelves::shelf;
+use result_book::books::{BookFault, ResultBook};
+use result_book::rows::Row;
+use span_csv::params::read_params;
+use span_csv::positions::read_positions;
+use span_tables::name::Name;
+use span_tables::portfolios::Portfolio;
+use statement::faults::SpanFault;
+use statement::margin::{margin, margin_plain};
+use statement::roll::roll;
+use std::alloc::{AllocError, Global};
+use std::marker::Brand;
+use std::process::Abort;
+use std::sync::{Arc, Mutex, Wait};
+use std::test::Fail;
+use std::thread::Threads;
+use std::time::Clock;
+use step_scheduler::boards::{Board, Refused};
+use step_scheduler::evaluation::evaluate;
+use step_scheduler::jobs::Job;
+use step_scheduler::tasks::Task;
+use worker_pool::batch::{PoolFault, run_batch};
+use worker_pool::gates::OpenGate;
+use worker_pool::outcomes::Outcome;
+use worker_pool::plain::run_plain;
+
+// Whether a case is to be run once more: it was refused memory, and nothing else went wrong.
+fn was_refused(answer: Result<(), SpanFault>) -> Result<bool, SpanFault> {
+    match answer {
+        Ok(()) => Ok(false),
+        Err(SpanFault::Memory) => Ok(true),
+        Err(fault) => Err(fault),
+    }
+}
+
+// Reading, checking, binding and compiling.
+fn each_stage<R: Abort>(rt: &R, alloc: Global) -> Result<(), SpanFault> {
+    let tables = check(alloc, read_params(alloc, PARAMS)?)?;
+    let positions = read_positions(alloc, POSITIONS)?;
+    let portfolios = bind(alloc, &tables, &positions)?;
+    assert_eq!(rt; portfolios.as_slice().len(), 1);
+    let set = compile(alloc, tables)?;
+    assert_eq!(rt; set.plan().len(), 34);
+    Ok(())
+}
+
+#[test]
+fn stages(rt: HostRuntime) -> Result<(), Fail> {
+    let alloc = rt.alloc();
+    if was_refused(each_stage(&rt, alloc))? {
+        each_stage(&rt, alloc)?;
+    }
+    Ok(())
+}
+
+// The answer is the statement of the files, or a fault.
+fn is_statement<R: Abort>(rt: &R, answer: Result<Vec<u8>, SpanFault>) -> Result<(), SpanFault> {
+    let text = answer?;
+    assert_eq!(rt; text.as_slice(), STATEMENT);
+    Ok(())
+}
+
+#[test]
+fn statement_alone(rt: HostRuntime) -> Result<(), Fail> {
+    let alloc = rt.alloc();
+    if was_refused(is_statement(&rt, margin_plain(alloc, PARAMS, POSITIONS)))? {
+        is_statement(&rt, margin_plain(alloc, PARAMS, POSITIONS))?;
+    }
+    Ok(())
+}
+
+fn statement_on<R: Threads + Wait + Clock + Sync + Abort>(
+    rt: &R,
+    alloc: Global,
+    workers: usize,
+) -> Result<(), SpanFault> {
+    is_statement(rt, margin(rt, alloc, PARAMS, POSITIONS, workers, &OpenGate))
+}
+
+#[test]
+fn statement_on_one_worker(rt: HostRuntime) -> Result<(), Fail> {
+    let alloc = rt.alloc();
+    if was_refused(statement_on(&rt, alloc, 1))? {
+        statement_on(&rt, alloc, 1)?;
+    }
+    Ok(())
+}
+
+#[test]
+fn statement_on_four_workers(rt: HostRuntime) -> Result<(), Fail> {
+    let alloc = rt.alloc();
+    if was_refused(statement_on(&rt, alloc, 4))? {
+        statement_on(&rt, alloc, 4)?;
+    }
+    Ok(())
+}
+
+// The word for an outcome of this account, which has this total where it has a row.
+fn word_of(outcome: &Outcome, account: &[u8], total: i128) -> Option<&'static str> {
+    match outcome {
+        Outcome::Margined(row) => {
+            let is_right = row.account().as_bytes() == account && row.total().get() == total;
+            is_right.then_some("a row")
+        }
+        Outcome::NoMemory(name) => (name.as_bytes() == account).then_some("no memory"),
+    }
+}
+
+// What a batch of two accounts gives for each of them.
+fn two_accounts<R: Threads + Wait + Clock + Sync + Abort>(
+    rt: &R,
+    alloc: Global,
+) -> Result<(&'static str, &'static str), SpanFault> {
+    let set = set_of(alloc, ONE_FUTURE)?;
+    let portfolios = portfolios_of(alloc, &set, b"Y,FA,1\nX,FA,-1\nY,FA,1\n")?;
+    let outcomes = match run_batch(rt, alloc, &set, portfolios, 1, &OpenGate) {
+        Ok(outcomes) => outcomes,
+        Err(fault) => {
+            assert!(rt; fault == PoolFault::OutOfMemory);
+            return Err(SpanFault::Memory);
+        }
+    };
+    assert_eq!(rt; outcomes.len(), 2);
+    let first = word_of(&outcomes[0], b"Y", 2400).expect(rt, "Y comes first");
+    let second = word_of(&outcomes[1], b"X", 1200).expect(rt, "X comes second");
+    Ok((first, second))
+}
+
+// It says what each account has, so that one can see that an account without memory does not take the next one's row.
+#[test]
+fn batch_of_two_accounts(rt: HostRuntime) -> Result<(), Fail> {
+    let alloc = rt.alloc();
+    let words = match two_accounts(&rt, alloc) {
+        Ok(words) => words,
+        Err(SpanFault::Memory) => ("no batch", "no batch"),
+        Err(fault) => return Err(Fail::from(fault)),
+    };
+    let (first, second) = words;
+    let _ = rt.stdout().println(format_args!("Y: {first}, X: {second}"));
+    if words != ("a row", "a row") {
+        assert!(rt; two_accounts(&rt, alloc)? == ("a row", "a row"));
+    }
+    Ok(())
+}
+
+// The row of an account that is short one future, which loses 1200.
+fn short_row(alloc: Global) -> Result<Arc<Row>, SpanFault> {
+    let set = set_of(alloc, ONE_FUTURE)?;
+    let portfolios = portfolios_of(alloc, &set, b"X,FA,-1\n")?;
+    match run_plain(alloc, &set, portfolios)?.pop() {
+        Some(Outcome::Margined(row)) => Ok(row),
+        _ => Err(SpanFault::Memory),
+    }
+}
+
+// A put, and where it is refused the same put again.
+fn put_row<R: Abort>(rt: &R, alloc: Global) -> Result<(), SpanFault> {
+    let row = short_row(alloc)?;
+    let account = Name::new(b"X").expect(rt, "a name");
+    let mut book = ResultBook::new(alloc);
+    let batch = book.open_batch()?;
+    if let Err(refused) = book.put(batch, row) {
+        assert!(rt; refused.fault == BookFault::OutOfMemory);
+        assert_eq!(rt; refused.row.total().get(), 1200);
+        assert!(rt; book.get(batch, &account).is_none());
+        assert!(rt; book.rows(batch)?.is_empty());
+        assert!(rt; book.put(batch, refused.row).is_ok());
+    }
+    assert_eq!(rt; book.rows(batch)?.len(), 1);
+    let row = book.get(batch, &account).expect(rt, "the row");
+    assert_eq!(rt; row.total().get(), 1200);
+    Ok(())
+}
+
+#[test]
+fn put(rt: HostRuntime) -> Result<(), Fail> {
+    let alloc = rt.alloc();
+    if was_refused(put_row(&rt, alloc))? {
+        put_row(&rt, alloc)?;
+    }
+    Ok(())
+}
+
+// A publication, and where it is refused the same again.
+fn publish_set<S: ShelfName, R: Wait + Abort>(
+    rt: &R,
+    alloc: Global,
+    history: History,
+) -> Result<(), SpanFault>
+    requires { history ≡ S.book }
+{
+    let (mut publisher, mut readers) = shelf::<S, &R>(rt, alloc, history, 1)?;
+    let mut reader = readers.pop().expect(rt, "a reader");
+    let told = match publisher.publish(set_of(alloc, ONE_FUTURE)?) {
+        Ok(told) => told,
+        Err(refused) => {
+            assert!(rt; refused.cause == ShelfFault::OutOfMemory);
+            assert!(rt; reader.current(rt)?.is_none());
+            publisher.publish(refused.set)?
+        }
+    };
+    assert_eq!(rt; told.number(), 1);
+    reader.learn(told);
+    let (number, set) = reader.current(rt)?.expect(rt, "a current set");
+    assert_eq!(rt; number, 1);
+    assert_eq!(rt; set.plan().len(), 12);
+    Ok(())
+}
+
+#[test]
+fn publish(rt: HostRuntime) -> Result<(), Fail> {
+    let alloc = rt.alloc();
+    if was_refused(publish_set::<Brand, _>(&rt, alloc, History::new()))? {
+        publish_set::<Brand, _>(&rt, alloc, History::new())?;
+    }
+    Ok(())
+}
+
+const NEXT: &[u8] = b"\
+SET,D2,1,USD
+COMMODITY,AA,0,SUM
+CONTRACT,FA,AA,F,202503,1,1,0,0,-500,-500,500,500,-1000,-1000,1000,1000,-1500,-1500,1500,1500,-1485,1485
+";
+
+const STATEMENTS: &[u8] = b"\
+R,X,D1,AA,1200,11,0,0,0,0,1200
+T,X,D1,1200
+R,X,D2,AA,1500,11,0,0,0,0,1500
+T,X,D2,1500
+";
+
+// The total of X in a batch, if it has a row there.
+fn total_in(book: &ResultBook, batch: u64) -> Option<i128> {
+    let name = Name::new(b"X")?;
+    Some(book.get(batch, &name)?.total().get())
+}
+
+// Two statements, or the rows that were put before memory was refused. A shelf that cannot be read for want of memory is
+// answered as a shelf without the set.
+fn roll_once<R: Threads + Wait + Clock + Sync + Abort>(
+    rt: &R,
+    alloc: Global,
+) -> Result<(), SpanFault> {
+    let book = Mutex::new(ResultBook::new(alloc));
+    let answer = roll(
+        rt,
+        alloc,
+        ONE_FUTURE,
+        NEXT,
+        b"X,FA,-1\n",
+        1,
+        &OpenGate,
+        &book,
+    );
+    let book = book.into_inner();
+    let totals = [total_in(&book, 1), total_in(&book, 2)];
+    assert!(rt; totals[0] == Some(1200) || totals == [None, None]);
+    assert!(rt; totals[1] == Some(1500) || totals[1] == None);
+    match answer {
+        Ok(text) => {
+            assert_eq!(rt; text.as_slice(), STATEMENTS);
+            assert!(rt; totals == [Some(1200), Some(1500)]);
+            Ok(())
+        }
+        Err(SpanFault::Shelf) => Err(SpanFault::Memory),
+        Err(fault) => Err(fault),
+    }
+}
+
+#[test]
+fn rolled(rt: HostRuntime) -> Result<(), Fail> {
+    let alloc = rt.alloc();
+    if was_refused(roll_once(&rt, alloc))? {
+        roll_once(&rt, alloc)?;
+    }
+    Ok(())
+}
+
+// The next task of a board that has one. Where it is refused memory, the board is as it was and gives it then.
+fn next_task<R: Abort>(rt: &R, alloc: Global, board: &mut Board) -> Result<Task, SpanFault>
+    ensures board { board.new.job ≡ board.old.job }
+    ensures task { IfOk result (λ task. task.job ≡ board.old.job) }
+{
+    let before = board.history().len();
+    if let Ok(task) = board.take_ready(alloc) {
+        return Ok(task.expect(rt, "a task"));
+    }
+    assert_eq!(rt; board.history().len(), before);
+    Ok(board.take_ready(alloc)?.expect(rt, "a task"))
+}
+
+// A board that has failed takes no result, of this job's first task, and hands nothing out.
+fn is_failed<R: Abort>(
+    rt: &R,
+    alloc: Global,
+    job: &Arc<Job>,
+    board: &mut Board,
+) -> Result<(), SpanFault>
+    requires { board.old.job ≡ arc_value job.now }
+    ensures { board.new.job ≡ board.old.job }
+{
+    let mut other = Board::new(alloc, Arc::try_clone(job)?)?;
+    let task = next_task(rt, alloc, &mut other)?;
+    let finished = evaluate(alloc, task);
+    assert!(rt; board.finish(finished) == Err(Refused::Failed));
+    assert!(rt; board.take_ready(alloc)?.is_none());
+    assert!(rt; !board.is_complete() && board.total().is_none());
+    Ok(())
+}
+
+fn job_of(alloc: Global, set: Arc<CompiledSet>, account: Portfolio) -> Result<Arc<Job>, AllocError>
+    requires { fits (length (arc_value set).tables.contracts) account.holdings ≡ true }
+{
+    Ok(Arc::new(alloc, Job::new(set, account, 0))?)
+}
+
+// Each step of a board of this job: a value is kept, and the mark that memory was refused makes the board fail.
+fn run<R: Abort>(rt: &R, alloc: Global, job: &Arc<Job>, board: &mut Board) -> Result<(), SpanFault>
+    requires { board.old.job ≡ arc_value job.now }
+    ensures { board.new.job ≡ board.old.job }
+{
+    for _ in 0..job.plan().len() {
+        let task = next_task(rt, alloc, board)?;
+        let finished = evaluate(alloc, task);
+        let has_value = finished.value().is_some();
+        assert!(rt; board.finish(finished) == Ok(()));
+        if !has_value {
+            is_failed(rt, alloc, job, board)?;
+            return Err(SpanFault::Memory);
+        }
+    }
+    Ok(())
+}
+
+fn run_steps<R: Abort>(rt: &R, alloc: Global) -> Result<(), SpanFault> {
+    let set = set_of(alloc, PARAMS)?;
+    let account = portfolios_of(alloc, &set, POSITIONS)?
+        .pop()
+        .expect(rt, "an account");
+    assert!(rt; account.fits(set.tables()));
+    let job = job_of(alloc, set, account)?;
+    let mut board = Board::new(alloc, Arc::try_clone(&job)?)?;
+    run(rt, alloc, &job, &mut board)?;
+    assert!(rt; board.total().map(|total| total.get()) == Some(3450));
+    Ok(())
+}
+
+#[test]
+fn steps(rt: HostRuntime) -> Result<(), Fail> {
+    let alloc = rt.alloc();
+    if was_refused(run_steps(&rt, alloc))? {
+        run_steps(&rt, alloc)?;
+    }
+    Ok(())
+}

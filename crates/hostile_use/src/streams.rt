@@ -1,0 +1,115 @@
+//! Writers that fail after each number of bytes: of a statement, of a line of counts and of the line of a fault.
+use crate::files::{ONE_FUTURE, PARAMS, POSITIONS, STATEMENT};
+use span_cli::memory::InMemory;
+use span_cli::serving::{Request, serve};
+use span_told::Told;
+use std::alloc::Global;
+use std::io;
+use std::io::{ErrorKind, Write};
+use std::sync::Wait;
+use std::test::Fail;
+use std::thread::Threads;
+use std::time::Clock;
+use worker_pool::gates::OpenGate;
+
+// Keeps what is written, up to a number of bytes, and then fails.
+#[derive(Drop)]
+struct Narrow {
+    room: usize,
+    kept: Vec<u8>,
+}
+
+impl Write for Narrow {
+    fn write(&mut self, buf: &[u8]) -> io::Result<usize> {
+        if self.room == 0 {
+            return Err(io::Error::from(ErrorKind::StorageFull));
+        }
+        let taken = self.room.min(buf.len());
+        self.kept.extend_from_slice(&buf[..taken])?;
+        self.room -= taken;
+        Ok(taken)
+    }
+
+    fn flush(&mut self) -> io::Result<()> {
+        Ok(())
+    }
+}
+
+// The status of a margin of two files in memory, and what went out on both streams, of which each has so much room.
+fn margin_into<R: Threads + Wait + Clock + Sync>(
+    rt: &R,
+    alloc: Global,
+    params: &[u8],
+    room: usize,
+    error_room: usize,
+) -> (u8, Vec<u8>, Vec<u8>) {
+    let mut sources = InMemory {
+        files: &[("params.csv", params), ("positions.csv", POSITIONS)],
+    };
+    let mut out = Told::new(Narrow {
+        room,
+        kept: Vec::new(alloc),
+    });
+    let mut err = Told::new(Narrow {
+        room: error_room,
+        kept: Vec::new(alloc),
+    });
+    let request = Request::Margin {
+        params: "params.csv",
+        positions: "positions.csv",
+        workers: 1,
+    };
+    let status = serve(
+        rt,
+        alloc,
+        request,
+        &mut sources,
+        &OpenGate,
+        &mut out,
+        &mut err,
+    );
+    (status, out.into_inner().kept, err.into_inner().kept)
+}
+
+// What went out is the beginning of the statement, and the error stream says that the output failed.
+#[test]
+fn output_that_fails(rt: HostRuntime) -> Result<(), Fail> {
+    for room in 0..STATEMENT.len() {
+        let (status, out, err) = margin_into(&rt, rt.alloc(), PARAMS, room, 100);
+        assert_eq!(rt; status, 6);
+        assert_eq!(rt; out.as_slice(), &STATEMENT[..room]);
+        assert_eq!(rt; err.as_slice(), b"file: output\n".as_slice());
+    }
+    let (status, out, err) = margin_into(&rt, rt.alloc(), PARAMS, STATEMENT.len(), 0);
+    assert_eq!(rt; status, 0);
+    assert_eq!(rt; out.as_slice(), STATEMENT);
+    assert!(rt; err.is_empty());
+    Ok(())
+}
+
+const LINE: &[u8] = b"positions: B1 UnknownContract at record 2 account X\n";
+
+// The status of a fault stands, and what went out is the beginning of its line.
+#[test]
+fn line_that_fails(rt: HostRuntime) -> Result<(), Fail> {
+    for room in 0..=LINE.len() {
+        let (status, out, err) = margin_into(&rt, rt.alloc(), ONE_FUTURE, 0, room);
+        assert_eq!(rt; status, 4);
+        assert!(rt; out.is_empty());
+        assert_eq!(rt; err.as_slice(), &LINE[..room]);
+    }
+    Ok(())
+}
+
+// Where both streams fail, the status is that of the output.
+#[test]
+fn both_that_fail(rt: HostRuntime) -> Result<(), Fail> {
+    let line = b"file: output\n".as_slice();
+    for room in 0..=line.len() {
+        let (status, out, err) = margin_into(&rt, rt.alloc(), PARAMS, 3, room);
+        assert_eq!(rt; status, 6);
+        assert_eq!(rt; out.as_slice(), &STATEMENT[..3]);
+        assert_eq!(rt; err.as_slice(), &line[..room]);
+    }
+    Ok(())
+}
