@@ -16,7 +16,7 @@ use statement::faults::SpanFault;
 use std::alloc::{AllocError, Global};
 use std::sync::Arc;
 
-/// Three commodities with a future each, two intercommodity spreads, tiers and an intracommodity spread.
+/// Three commodities with a future each, and two intercommodity spreads.
 pub const PARAMS: &[u8] = b"\
 SET,D1,1,USD
 COMMODITY,AA,0,SUM
@@ -56,7 +56,7 @@ fn compiled(alloc: Global, tables: Tables) -> Result<Arc<CompiledSet>, AllocErro
 }
 
 /// The compiled set of a parameter file.
-pub fn set_of(alloc: Global, params: &[u8]) -> Result<Arc<CompiledSet>, SpanFault> {
+pub(crate) fn set_of(alloc: Global, params: &[u8]) -> Result<Arc<CompiledSet>, SpanFault> {
     let tables = check(alloc, read_params(alloc, params)?)?;
     Ok(compiled(alloc, tables)?)
 }
@@ -75,7 +75,7 @@ fn bound(
 }
 
 /// The portfolios of a position file under a set.
-pub fn portfolios_of(
+pub(crate) fn portfolios_of(
     alloc: Global,
     set: &Arc<CompiledSet>,
     positions: &[u8],

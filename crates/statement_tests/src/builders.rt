@@ -28,13 +28,13 @@ pub struct Given {
 }
 
 impl Given {
-    pub fn is(&self, status: u8, out: &[u8], err: &[u8]) -> bool {
+    pub(crate) fn is(&self, status: u8, out: &[u8], err: &[u8]) -> bool {
         self.status == status && self.out.as_slice() == out && self.err.as_slice() == err
     }
 }
 
 /// What a command line gives over these sources.
-pub fn run_on<S: Sources, R: Threads + Wait + Clock + Sync>(
+pub(crate) fn run_on<S: Sources, R: Threads + Wait + Clock + Sync>(
     rt: &R,
     alloc: Global,
     words: &[&str],
@@ -51,7 +51,7 @@ pub fn run_on<S: Sources, R: Threads + Wait + Clock + Sync>(
 }
 
 /// What a request gives over files in memory.
-pub fn answer<R: Threads + Wait + Clock + Sync>(
+pub(crate) fn answer<R: Threads + Wait + Clock + Sync>(
     rt: &R,
     alloc: Global,
     request: Request<'_>,
