@@ -32,7 +32,7 @@ use step_scheduler::evaluation::evaluate;
 use step_scheduler::jobs::Job;
 use step_scheduler::tasks::Task;
 use worker_pool::batch::{PoolFault, run_batch};
-use worker_pool::gates::OpenGate;
+use worker_pool::gates::{Gate, OpenGate};
 use worker_pool::outcomes::Outcome;
 use worker_pool::plain::run_plain;
 
@@ -118,14 +118,19 @@ fn word_of(outcome: &Outcome, account: &[u8], total: i128) -> Option<&'static st
     }
 }
 
-// What a batch of two accounts gives for each of them.
-fn two_accounts<R: Threads + Wait + Clock + Sync + Abort>(
+/// What a batch of two accounts of these names and totals gives for each of them.
+pub(crate) fn two_accounts<R: Threads + Wait + Clock + Sync + Abort, G: Gate>(
     rt: &R,
     alloc: Global,
-) -> Result<(&'static str, &'static str), SpanFault> {
-    let set = set_of(alloc, ONE_FUTURE)?;
-    let portfolios = portfolios_of(alloc, &set, b"Y,FA,1\nX,FA,-1\nY,FA,1\n")?;
-    let outcomes = match run_batch(rt, alloc, &set, portfolios, 1, &OpenGate) {
+    files: (&[u8], &[u8]),
+    workers: usize,
+    gate: &G,
+    wanted: [(&[u8], i128); 2],
+) -> Result<[&'static str; 2], SpanFault> {
+    let (params, positions) = files;
+    let set = set_of(alloc, params)?;
+    let portfolios = portfolios_of(alloc, &set, positions)?;
+    let outcomes = match run_batch(rt, alloc, &set, portfolios, workers, gate) {
         Ok(outcomes) => outcomes,
         Err(fault) => {
             assert!(rt; fault == PoolFault::OutOfMemory);
@@ -133,24 +138,36 @@ fn two_accounts<R: Threads + Wait + Clock + Sync + Abort>(
         }
     };
     assert_eq!(rt; outcomes.len(), 2);
-    let first = word_of(&outcomes[0], b"Y", 2400).expect(rt, "Y comes first");
-    let second = word_of(&outcomes[1], b"X", 1200).expect(rt, "X comes second");
-    Ok((first, second))
+    let [(first, first_total), (second, second_total)] = wanted;
+    Ok([
+        word_of(&outcomes[0], first, first_total).expect(rt, "the first account's outcome"),
+        word_of(&outcomes[1], second, second_total).expect(rt, "the second account's outcome"),
+    ])
+}
+
+// Of two accounts, Y is long two futures and X short one. A batch on one worker.
+fn two_futures<R: Threads + Wait + Clock + Sync + Abort>(
+    rt: &R,
+    alloc: Global,
+) -> Result<[&'static str; 2], SpanFault> {
+    let files = (ONE_FUTURE, b"Y,FA,1\nX,FA,-1\nY,FA,1\n".as_slice());
+    let wanted = [(b"Y".as_slice(), 2400), (b"X".as_slice(), 1200)];
+    two_accounts(rt, alloc, files, 1, &OpenGate, wanted)
 }
 
 // It says what each account has, so that one can see that an account without memory does not take the next one's row.
 #[test]
 fn batch_of_two_accounts(rt: HostRuntime) -> Result<(), Fail> {
     let alloc = rt.alloc();
-    let words = match two_accounts(&rt, alloc) {
+    let words = match two_futures(&rt, alloc) {
         Ok(words) => words,
-        Err(SpanFault::Memory) => ("no batch", "no batch"),
+        Err(SpanFault::Memory) => ["no batch", "no batch"],
         Err(fault) => return Err(Fail::from(fault)),
     };
-    let (first, second) = words;
+    let [first, second] = words;
     let _ = rt.stdout().println(format_args!("Y: {first}, X: {second}"));
-    if words != ("a row", "a row") {
-        assert!(rt; two_accounts(&rt, alloc)? == ("a row", "a row"));
+    if words != ["a row", "a row"] {
+        assert!(rt; two_futures(&rt, alloc)? == ["a row", "a row"]);
     }
     Ok(())
 }

@@ -1,0 +1,116 @@
+//! A result that comes when its account has its outcome already, because another of its steps was refused memory.
+use crate::files::PARAMS;
+use crate::memory::two_accounts;
+use span_tables::name::Name;
+use statement::faults::SpanFault;
+use std::alloc::Global;
+use std::process::Abort;
+use std::sync::Wait;
+use std::sync::atomic::AtomicBool;
+use std::sync::atomic::Ordering::SeqCst;
+use std::test::Fail;
+use std::thread;
+use std::thread::Threads;
+use std::time::Clock;
+use worker_pool::gates::Gate;
+
+const POSITIONS: &[u8] = b"\
+X,FA,3
+X,FB,-1
+X,FC,-1
+Z,FB,2
+";
+
+/// How often a worker looks whether another has come so far.
+const LOOKS: usize = 200_000;
+
+// Holds a helper with a step of X until the coordinator comes with a step of Z. The coordinator comes with its first step when
+// the helper is held, and goes on with Z when the helper has had time to hand its result in.
+#[derive(Drop)]
+struct HeldStep {
+    held: AtomicBool,
+    at_last: AtomicBool,
+    freed: AtomicBool,
+    given_up: AtomicBool,
+}
+
+impl HeldStep {
+    fn new() -> HeldStep {
+        HeldStep {
+            held: AtomicBool::new(false),
+            at_last: AtomicBool::new(false),
+            freed: AtomicBool::new(false),
+            given_up: AtomicBool::new(false),
+        }
+    }
+
+    // Waits for a word. The first that waited in vain lets everything pass.
+    fn wait_for(&self, word: &AtomicBool) {
+        for _ in 0..LOOKS {
+            if word.load(SeqCst) || self.given_up.load(SeqCst) {
+                return;
+            }
+            thread::yield_now();
+        }
+        self.given_up.store(true, SeqCst);
+    }
+
+    // Whether a helper was held, and let go when the coordinator had come to Z.
+    fn was_held(&self) -> bool {
+        self.freed.load(SeqCst) && !self.given_up.load(SeqCst)
+    }
+}
+
+impl Gate for HeldStep {
+    fn pass(&self, worker: usize, account: &Name, _step: usize) {
+        let is_first = account.as_bytes() == b"X".as_slice();
+        match (worker, is_first) {
+            (0, true) => self.wait_for(&self.held),
+            (0, false) => {
+                self.at_last.store(true, SeqCst);
+                self.wait_for(&self.freed);
+                for _ in 0..100 {
+                    thread::yield_now();
+                }
+            }
+            (_, true) => {
+                self.held.store(true, SeqCst);
+                self.wait_for(&self.at_last);
+                self.freed.store(true, SeqCst);
+            }
+            (_, false) => {}
+        }
+    }
+}
+
+// What the two accounts have, and whether a helper was held with a step of X.
+fn both_accounts<R: Threads + Wait + Clock + Sync + Abort>(
+    rt: &R,
+    alloc: Global,
+) -> Result<([&'static str; 2], bool), SpanFault> {
+    let gate = HeldStep::new();
+    let wanted = [(b"X".as_slice(), 3450), (b"Z".as_slice(), 1800)];
+    let words = two_accounts(rt, alloc, (PARAMS, POSITIONS), 2, &gate, wanted)?;
+    Ok((words, gate.was_held()))
+}
+
+// With ample memory a held result is not late, since its account waits for it. Where memory was refused to another step of X,
+// it is: it changes nothing of X, and Z has its row.
+#[test]
+fn result_after_the_outcome(rt: HostRuntime) -> Result<(), Fail> {
+    let alloc = rt.alloc();
+    let (words, held) = match both_accounts(&rt, alloc) {
+        Ok(answer) => answer,
+        Err(SpanFault::Memory) => (["no batch", "no batch"], false),
+        Err(fault) => return Err(Fail::from(fault)),
+    };
+    let [first, second] = words;
+    let step = if held { "held" } else { "not held" };
+    let _ = rt.stdout().println(format_args!("a step of X {step}, X: {first}, Z: {second}"));
+    assert!(rt; words != ["no memory", "no memory"]);
+    if words != ["a row", "a row"] {
+        let (words, _) = both_accounts(&rt, alloc)?;
+        assert!(rt; words == ["a row", "a row"]);
+    }
+    Ok(())
+}
