@@ -24,8 +24,11 @@ Z,FB,2
 /// How often a worker looks whether another has come so far.
 const LOOKS: usize = 200_000;
 
-// Holds a helper with a step of X until the coordinator comes with a step of Z. The coordinator comes with its first step when
-// the helper is held, and goes on with Z when the helper has had time to hand its result in.
+/// How many turns the coordinator leaves a helper to hand its result in.
+const TURNS: usize = 10_000;
+
+// Holds a helper with a step of X until the coordinator comes with its first step of Z. The coordinator goes on with X when the
+// helper is held, and with Z when the helper has had time to hand its result in.
 #[derive(Drop)]
 struct HeldStep {
     held: AtomicBool,
@@ -67,10 +70,11 @@ impl Gate for HeldStep {
         match (worker, is_first) {
             (0, true) => self.wait_for(&self.held),
             (0, false) => {
-                self.at_last.store(true, SeqCst);
-                self.wait_for(&self.freed);
-                for _ in 0..100 {
-                    thread::yield_now();
+                if !self.at_last.swap(true, SeqCst) {
+                    self.wait_for(&self.freed);
+                    for _ in 0..TURNS {
+                        thread::yield_now();
+                    }
                 }
             }
             (_, true) => {
