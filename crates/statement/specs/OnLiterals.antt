@@ -16,6 +16,7 @@ use Rattle.inter_credit.specs.Credits.{inter_both_ways, after_inter_spreads, cre
 use Rattle.inter_credit.specs.Requirement.{minimum_of, requirement_of}
 use Rattle.statement.specs.Counts.{counts_line, counts_of}
 use Rattle.plan_ir.specs.Figures.{inter_lines, figures_of, total_to}
+use Rattle.statement.specs.Rolls.{roll_of}
 use Rattle.statement.specs.Statement.{figures_line, total_line, row_text, statement_text}
 use Rattle.statement.specs.Statement.{accepted_of, statement_bound, statement_under, statement_of, margin_of}
 
@@ -25,5 +26,5 @@ unfolding digits reading_on_literals keeps_rules is_readable check_fault checked
     portfolios_of held_of bind_fault bindings_of scenario_sums scan_of month_deltas spread_both_ways after_spreads intra_charge
     delivery_charge inter_both_ways after_inter_spreads credit_of minimum_of requirement_of inter_lines figures_of total_to
     figures_line total_line row_text statement_text accepted_of statement_bound statement_under statement_of margin_of
-    counts_line counts_of
+    counts_line counts_of roll_of
 on_literals = tt

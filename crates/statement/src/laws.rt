@@ -15,6 +15,8 @@ ghost use Rattle.span_tables.specs.declared.records.PositionRecord.{PositionReco
 ghost use Rattle.span_tables.specs.declared.records.Record.{Record};
 ghost use Rattle.statement.specs.Answers.{is_memory};
 ghost use Rattle.statement.specs.FaultLines.{fault_line, fault_status, memory_line};
+ghost use Rattle.statement.specs.Rolls.{roll_of};
+ghost use Rattle.statement.specs.SpanFaults.{of_next};
 ghost use Rattle.statement.specs.Statement.{commodity_text, margin_of, row_text, statement_of, statement_text};
 ghost use Rattle.statement.specs.Statement.{statement_under, total_line, total_of};
 ghost use Rattle.statement.specs.declared.faults.SpanFault.{SpanFault};
@@ -72,6 +74,20 @@ pub fn workers_change_nothing()
         → margin_of workers params positions ≡ Err fault.Workers }
     ensures some { (workers : ℕ) (params positions : List ℕ) → 0 < workers → workers ≤ 16
         → margin_of workers params positions ≡ statement_of params positions }
+{}
+
+/// A roll is refused for what refuses the first statement, and else for what refuses the second, under the name that this has
+/// in the next set. Where both stand, the second follows the first.
+#[tactic(auto, unfolding(crate::specs::Rolls::roll_of))]
+pub fn a_roll_is_two_statements()
+    ensures first { (workers : ℕ) (params next positions : List ℕ) (e : SpanFault)
+        → margin_of workers params positions ≡ Err e → roll_of workers params next positions ≡ Err e }
+    ensures second { (workers : ℕ) (params next positions first : List ℕ) (e : SpanFault)
+        → margin_of workers params positions ≡ Ok first → statement_of next positions ≡ Err e
+        → roll_of workers params next positions ≡ Err (of_next e) }
+    ensures both { (workers : ℕ) (params next positions first second : List ℕ)
+        → margin_of workers params positions ≡ Ok first → statement_of next positions ≡ Ok second
+        → roll_of workers params next positions ≡ Ok (first ++ second) }
 {}
 
 /// Want of memory has one line and one status, wherever it arises; and no other fault has that status.

@@ -11,7 +11,7 @@ use std::alloc::Global;
 
 /// The steps of the plan of a parameter file, a line each, or the first fault in reading it and checking it; or want
 /// of memory.
-#[tactic(auto, unfolding(crate::specs::Listing::listing_of))]
+#[tactic(auto, unfolding(crate::specs::Listing::listing_of, crate::specs::Statement::accepted_of))]
 pub fn plan_plain(alloc: Global, params: &[u8]) -> Result<Vec<u8>, SpanFault>
     ensures { Gives (λ text. text.items) result (listing_of params.now) }
 {

@@ -187,9 +187,7 @@ fn shelf_with<S: ShelfName, R: Wait + Drop>(
     ensures fault { IfErr result (λ e. e ≡ fault.Memory) }
 {
     let (mut publisher, mut readers) = shelf::<S, R>(rt, alloc, history, 1)?;
-    let Some(reader) = readers.pop() else {
-        return Err(SpanFault::Memory);
-    };
+    let reader = readers.pop().unwrap();
     publisher.publish(Arc::try_clone(set)?)?;
     Ok((publisher, reader))
 }

@@ -4,4 +4,5 @@ pub mod counts;
 pub mod lines;
 pub mod numbers;
 pub mod refusals;
+pub mod rolls;
 pub mod statements;

@@ -1,0 +1,31 @@
+//! Two parameter files and what a roll gives for the same positions, computed by the definitions.
+#![tactic(auto, unfolding(crate::specs::OnLiterals::on_literals))]
+
+ghost use Rattle.std.specs.Prelude.{◌++◌, ◌≡◌, [], codes};
+ghost use Rattle.param_check.specs.declared.faults.BindFault.TheVariants as bind;
+ghost use Rattle.span_csv.specs.declared.faults.ParamFault.TheVariants as params;
+ghost use Rattle.statement.specs.Rolls.{roll_of};
+ghost use Rattle.statement.specs.Samples.{one_future};
+ghost use Rattle.statement.specs.declared.faults.SpanFault.TheVariants as span_fault;
+
+// A short future, which loses more under the next set.
+fn two_statements()
+    ensures { roll_of 1 one_future (
+        codes "SET,D2,1,USD\n"
+        ++ codes "COMMODITY,AA,0,SUM\n"
+        ++ codes "CONTRACT,FA,AA,F,202503,1,1,0,0,-500,-500,500,500,-1000,-1000,1000,1000,-1500,-1500,1500,1500,-1485,1485\n")
+        (codes "X,FA,-1\n")
+        ≡ Ok (codes "R,X,D1,AA,1200,11,0,0,0,0,1200\nT,X,D1,1200\nR,X,D2,AA,1500,11,0,0,0,0,1500\nT,X,D2,1500\n") }
+{}
+
+// A contract that the next set does not have.
+fn unknown_contract_of_next()
+    ensures { roll_of 1 one_future (codes "SET,D2,1,USD\n") (codes "X,FA,-1\n")
+        ≡ Err (span_fault.NextBind (bind.UnknownContract 1 (codes "X"))) }
+{}
+
+// Empty next parameters; and where those of today are empty too, these count.
+fn empty_next_parameters()
+    ensures next { roll_of 1 one_future [] (codes "X,FA,-1\n") ≡ Err (span_fault.NextParams (params.NoSet 0)) }
+    ensures both { roll_of 1 [] [] (codes "X,FA,-1\n") ≡ Err (span_fault.Params (params.NoSet 0)) }
+{}
