@@ -1,6 +1,6 @@
 //! A result that comes when its account has its outcome already, because another of its steps was refused memory.
 use crate::files::PARAMS;
-use crate::memory::two_accounts;
+use crate::memory::{TwoAccounts, words_of_two};
 use span_tables::name::Name;
 use statement::faults::SpanFault;
 use std::alloc::Global;
@@ -13,13 +13,6 @@ use std::thread;
 use std::thread::Threads;
 use std::time::Clock;
 use worker_pool::gates::Gate;
-
-const POSITIONS: &[u8] = b"\
-X,FA,3
-X,FB,-1
-X,FC,-1
-Z,FB,2
-";
 
 /// How often a worker looks whether another has come so far.
 const LOOKS: usize = 200_000;
@@ -87,15 +80,23 @@ impl Gate for HeldStep {
     }
 }
 
-// What the two accounts have, and whether a helper was held with a step of X.
-fn both_accounts<R: Threads + Wait + Clock + Sync + Abort>(
+// X has as in the files of the other tests, and Z is long two of the second future.
+const HELD_AND_LAST: TwoAccounts = TwoAccounts {
+    params: PARAMS,
+    positions: b"X,FA,3\nX,FB,-1\nX,FC,-1\nZ,FB,2\n",
+    first: b"X",
+    first_total: 3450,
+    second: b"Z",
+    second_total: 1800,
+};
+
+// What the two accounts have on two workers.
+fn two_accounts<R: Threads + Wait + Clock + Sync + Abort>(
     rt: &R,
     alloc: Global,
-) -> Result<([&'static str; 2], bool), SpanFault> {
-    let gate = HeldStep::new();
-    let wanted = [(b"X".as_slice(), 3450), (b"Z".as_slice(), 1800)];
-    let words = two_accounts(rt, alloc, (PARAMS, POSITIONS), 2, &gate, wanted)?;
-    Ok((words, gate.was_held()))
+    gate: &HeldStep,
+) -> Result<(&'static str, &'static str), SpanFault> {
+    words_of_two(rt, alloc, &HELD_AND_LAST, 2, gate)
 }
 
 // With ample memory a held result is not late, since its account waits for it. Where memory was refused to another step of X,
@@ -103,18 +104,18 @@ fn both_accounts<R: Threads + Wait + Clock + Sync + Abort>(
 #[test]
 fn result_after_the_outcome(rt: HostRuntime) -> Result<(), Fail> {
     let alloc = rt.alloc();
-    let (words, held) = match both_accounts(&rt, alloc) {
-        Ok(answer) => answer,
-        Err(SpanFault::Memory) => (["no batch", "no batch"], false),
+    let gate = HeldStep::new();
+    let words = match two_accounts(&rt, alloc, &gate) {
+        Ok(words) => words,
+        Err(SpanFault::Memory) => ("no batch", "no batch"),
         Err(fault) => return Err(Fail::from(fault)),
     };
-    let [first, second] = words;
-    let step = if held { "held" } else { "not held" };
+    let (first, second) = words;
+    let step = if gate.was_held() { "held" } else { "not held" };
     let _ = rt.stdout().println(format_args!("a step of X {step}, X: {first}, Z: {second}"));
-    assert!(rt; words != ["no memory", "no memory"]);
-    if words != ["a row", "a row"] {
-        let (words, _) = both_accounts(&rt, alloc)?;
-        assert!(rt; words == ["a row", "a row"]);
+    assert!(rt; words != ("no memory", "no memory"));
+    if words != ("a row", "a row") {
+        assert!(rt; two_accounts(&rt, alloc, &HeldStep::new())? == ("a row", "a row"));
     }
     Ok(())
 }

@@ -118,18 +118,26 @@ fn word_of(outcome: &Outcome, account: &[u8], total: i128) -> Option<&'static st
     }
 }
 
-/// What a batch of two accounts of these names and totals gives for each of them.
-pub(crate) fn two_accounts<R: Threads + Wait + Clock + Sync + Abort, G: Gate>(
+/// Two accounts under a parameter file, with the totals that they have where memory allows.
+pub(crate) struct TwoAccounts {
+    pub(crate) params: &'static [u8],
+    pub(crate) positions: &'static [u8],
+    pub(crate) first: &'static [u8],
+    pub(crate) first_total: i128,
+    pub(crate) second: &'static [u8],
+    pub(crate) second_total: i128,
+}
+
+/// What a batch of two accounts gives for each of them.
+pub(crate) fn words_of_two<R: Threads + Wait + Clock + Sync + Abort, G: Gate>(
     rt: &R,
     alloc: Global,
-    files: (&[u8], &[u8]),
+    accounts: &TwoAccounts,
     workers: usize,
     gate: &G,
-    wanted: [(&[u8], i128); 2],
-) -> Result<[&'static str; 2], SpanFault> {
-    let (params, positions) = files;
-    let set = set_of(alloc, params)?;
-    let portfolios = portfolios_of(alloc, &set, positions)?;
+) -> Result<(&'static str, &'static str), SpanFault> {
+    let set = set_of(alloc, accounts.params)?;
+    let portfolios = portfolios_of(alloc, &set, accounts.positions)?;
     let outcomes = match run_batch(rt, alloc, &set, portfolios, workers, gate) {
         Ok(outcomes) => outcomes,
         Err(fault) => {
@@ -138,36 +146,43 @@ pub(crate) fn two_accounts<R: Threads + Wait + Clock + Sync + Abort, G: Gate>(
         }
     };
     assert_eq!(rt; outcomes.len(), 2);
-    let [(first, first_total), (second, second_total)] = wanted;
-    Ok([
-        word_of(&outcomes[0], first, first_total).expect(rt, "the first account's outcome"),
-        word_of(&outcomes[1], second, second_total).expect(rt, "the second account's outcome"),
-    ])
+    let first = word_of(&outcomes[0], accounts.first, accounts.first_total);
+    let second = word_of(&outcomes[1], accounts.second, accounts.second_total);
+    let first = first.expect(rt, "the first account's outcome");
+    let second = second.expect(rt, "the second account's outcome");
+    Ok((first, second))
 }
 
-// Of two accounts, Y is long two futures and X short one. A batch on one worker.
-fn two_futures<R: Threads + Wait + Clock + Sync + Abort>(
+// Y is long two futures and X short one.
+const LONG_AND_SHORT: TwoAccounts = TwoAccounts {
+    params: ONE_FUTURE,
+    positions: b"Y,FA,1\nX,FA,-1\nY,FA,1\n",
+    first: b"Y",
+    first_total: 2400,
+    second: b"X",
+    second_total: 1200,
+};
+
+fn two_accounts<R: Threads + Wait + Clock + Sync + Abort>(
     rt: &R,
     alloc: Global,
-) -> Result<[&'static str; 2], SpanFault> {
-    let files = (ONE_FUTURE, b"Y,FA,1\nX,FA,-1\nY,FA,1\n".as_slice());
-    let wanted = [(b"Y".as_slice(), 2400), (b"X".as_slice(), 1200)];
-    two_accounts(rt, alloc, files, 1, &OpenGate, wanted)
+) -> Result<(&'static str, &'static str), SpanFault> {
+    words_of_two(rt, alloc, &LONG_AND_SHORT, 1, &OpenGate)
 }
 
 // It says what each account has, so that one can see that an account without memory does not take the next one's row.
 #[test]
 fn batch_of_two_accounts(rt: HostRuntime) -> Result<(), Fail> {
     let alloc = rt.alloc();
-    let words = match two_futures(&rt, alloc) {
+    let words = match two_accounts(&rt, alloc) {
         Ok(words) => words,
-        Err(SpanFault::Memory) => ["no batch", "no batch"],
+        Err(SpanFault::Memory) => ("no batch", "no batch"),
         Err(fault) => return Err(Fail::from(fault)),
     };
-    let [first, second] = words;
+    let (first, second) = words;
     let _ = rt.stdout().println(format_args!("Y: {first}, X: {second}"));
-    if words != ["a row", "a row"] {
-        assert!(rt; two_futures(&rt, alloc)? == ["a row", "a row"]);
+    if words != ("a row", "a row") {
+        assert!(rt; two_accounts(&rt, alloc)? == ("a row", "a row"));
     }
     Ok(())
 }
