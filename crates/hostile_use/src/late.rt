@@ -80,7 +80,7 @@ impl Gate for HeldStep {
     }
 }
 
-// X has as in the files of the other tests, and Z is long two of the second future.
+// X holds the futures of all three commodities, and Z is long two of the second.
 const HELD_AND_LAST: TwoAccounts = TwoAccounts {
     params: PARAMS,
     positions: b"X,FA,3\nX,FB,-1\nX,FC,-1\nZ,FB,2\n",
