@@ -1,4 +1,4 @@
-//! What calls answer where one growth of memory is refused: what they answer with ample memory, or that memory was refused.
+//! What calls answer where one growth of memory is refused: what they answer with ample memory, or want of memory.
 //! Nothing is lost then, and the next call works: a case that was refused is run once more, and has to come to its end.
 ghost use Rattle.std.specs.Arc.{arc_value};
 ghost use Rattle.std.specs.Prelude.{◌≡◌, IfOk, length, true};
@@ -36,7 +36,7 @@ use worker_pool::gates::{Gate, OpenGate};
 use worker_pool::outcomes::Outcome;
 use worker_pool::plain::run_plain;
 
-// Whether a case is to be run once more: it was refused memory, and nothing else went wrong.
+// Whether a case is to be run once more: it ended for want of memory, and nothing else went wrong.
 fn was_refused(answer: Result<(), SpanFault>) -> Result<bool, SpanFault> {
     match answer {
         Ok(()) => Ok(false),
@@ -279,7 +279,7 @@ fn total_in(book: &ResultBook, batch: u64) -> Option<i128> {
     Some(book.get(batch, &name)?.total().get())
 }
 
-// Two statements, or the rows that were put before memory was refused. A shelf that cannot be read for want of memory is
+// Two statements, or the rows that were put before want of memory. A shelf that cannot be read for want of memory is
 // answered as a shelf without the set.
 fn roll_once<R: Threads + Wait + Clock + Sync + Abort>(
     rt: &R,
@@ -320,7 +320,7 @@ fn rolled(rt: HostRuntime) -> Result<(), Fail> {
     Ok(())
 }
 
-// The next task of a board that has one. Where it is refused memory, the board is as it was and gives it then.
+// The next task of a board that has one. For want of memory, the board is as it was and gives it then.
 fn next_task<R: Abort>(rt: &R, alloc: Global, board: &mut Board) -> Result<Task, SpanFault>
     ensures board { board.new.job ≡ board.old.job }
     ensures task { IfOk result (λ task. task.job ≡ board.old.job) }
@@ -358,7 +358,7 @@ fn job_of(alloc: Global, set: Arc<CompiledSet>, account: Portfolio) -> Result<Ar
     Ok(Arc::new(alloc, Job::new(set, account, 0))?)
 }
 
-// Each step of a board of this job: a value is kept, and the mark that memory was refused makes the board fail.
+// Each step of a board of this job: a value is kept, and the mark of want of memory makes the board fail.
 fn run<R: Abort>(rt: &R, alloc: Global, job: &Arc<Job>, board: &mut Board) -> Result<(), SpanFault>
     requires { board.old.job ≡ arc_value job.now }
     ensures { board.new.job ≡ board.old.job }

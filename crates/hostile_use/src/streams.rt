@@ -2,7 +2,7 @@
 use crate::files::{ONE_FUTURE, PARAMS, POSITIONS, STATEMENT};
 use span_cli::memory::InMemory;
 use span_cli::serving::{Request, serve};
-use span_told::Told;
+use span_told::MarkedWriter;
 use std::alloc::Global;
 use std::io;
 use std::io::{ErrorKind, Write};
@@ -46,11 +46,11 @@ fn margin_into<R: Threads + Wait + Clock + Sync>(
     let mut sources = InMemory {
         files: &[("params.csv", params), ("positions.csv", POSITIONS)],
     };
-    let mut out = Told::new(Narrow {
+    let mut out = MarkedWriter::new(Narrow {
         room,
         kept: Vec::new(alloc),
     });
-    let mut err = Told::new(Narrow {
+    let mut err = MarkedWriter::new(Narrow {
         room: error_room,
         kept: Vec::new(alloc),
     });

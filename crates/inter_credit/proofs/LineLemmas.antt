@@ -9,7 +9,7 @@ use Rattle.span_tables.specs.Sides.{market_side, part_on}
 use Rattle.span_tables.specs.declared.sides.Direction.{Direction}
 use Rattle.span_tables.specs.declared.records.CommodityLeg.{CommodityLeg}
 use Rattle.inter_credit.specs.Credits.{change_at, rest_at}
-use Rattle.inter_credit.specs.steps.Rooms.{HaveRoom}
+use Rattle.inter_credit.specs.near.Rooms.{HaveRoom}
 use Rattle.inter_credit.specs.declared.state.InterLine.{InterLine}
 
 -- a change at a place is a write

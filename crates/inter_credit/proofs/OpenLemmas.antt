@@ -15,7 +15,7 @@ use Rattle.span_tables.specs.declared.slots.OpenSides.{OpenSides}
 use Rattle.inter_credit.specs.Credits.{commodity_rooms, inter_one_way, unspread_line, rest_at}
 use Rattle.inter_credit.specs.States.{IsLine, IsNotLoaded, IsUnspread, IsUnspreadLine, line_at}
 use Rattle.inter_credit.specs.declared.state.InterLine.{InterLine}
-use Rattle.inter_credit.specs.steps.Open.{AreOpen}
+use Rattle.inter_credit.specs.near.Open.{AreOpen}
 use Rattle.span_tables.specs.declared.limits.TheConstants.{MAX_PRICE2, MAX_UNITS}
 use Rattle.inter_credit.proofs.NothingFormed.{nothing_formed}
 use Rattle.inter_credit.proofs.RestLaws.{one_way_uses}

@@ -9,7 +9,7 @@ use Rattle.span_tables.specs.declared.sides.Direction.{Direction}
 use Rattle.span_tables.specs.declared.records.CommodityLeg.{CommodityLeg}
 use Rattle.span_tables.specs.declared.records.Inter.{Inter}
 use Rattle.inter_credit.specs.Credits.{commodity_rooms, rest_at}
-use Rattle.inter_credit.specs.steps.Rooms.{HaveRoom}
+use Rattle.inter_credit.specs.near.Rooms.{HaveRoom}
 use Rattle.inter_credit.specs.declared.state.InterLine.{InterLine}
 
 room_of : Direction → List InterLine → CommodityLeg → Room

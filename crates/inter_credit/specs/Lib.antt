@@ -2,4 +2,4 @@ pub mod Credits
 pub mod Requirement
 pub mod Samples
 pub mod States
-pub mod steps
+pub mod near

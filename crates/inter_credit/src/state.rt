@@ -35,7 +35,7 @@ pub struct InterState {
 
 impl Model for InterState {
     ghost use Rattle.std.specs.Prelude.{List, All};
-    ghost use Rattle.inter_credit.specs.steps.Open.{AreLines};
+    ghost use Rattle.inter_credit.specs.near.Open.{AreLines};
     ghost use Rattle.inter_credit.specs.declared.state.InterLine.{InterLine};
 
     ghost Value = { List InterLine };

@@ -13,7 +13,7 @@ use Rattle.std.proofs.lemmas.Slice.Eq.{bytes_eq-Decides}
 use Rattle.span_tables.specs.Names.{has_repeat}
 use Rattle.span_tables.specs.declared.records.PositionRecord.{PositionRecord}
 use Rattle.span_tables.proofs.NameLemmas.{same_name}
-use Rattle.param_check.specs.steps.Nets.{entry_of, entries_of}
+use Rattle.param_check.specs.near.Nets.{entry_of, entries_of}
 use Rattle.param_check.specs.declared.nets.Entry.{Entry}
 
 -- ---- names

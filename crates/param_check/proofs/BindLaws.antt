@@ -16,9 +16,9 @@ use Rattle.span_tables.specs.declared.records.Contract.{Contract}
 use Rattle.span_tables.specs.declared.records.PositionRecord.{PositionRecord}
 use Rattle.param_check.specs.Binding.{first_unfit, is_unknown, is_first_of_contract, is_first_of_account}
 use Rattle.param_check.specs.Binding.{exceeds_net, exceeds_held, bind_fault, bindings_of, is_memory}
-use Rattle.param_check.specs.steps.Holdings.{ids_of, net_fault, held_fault, portfolios_from, portfolios_or_fault}
-use Rattle.param_check.specs.steps.Ledger.{IsLedger, is_foreign, foreign_fault}
-use Rattle.param_check.specs.steps.Nets.{entry_holdings, entries_of}
+use Rattle.param_check.specs.near.Holdings.{ids_of, net_fault, held_fault, portfolios_from, portfolios_or_fault}
+use Rattle.param_check.specs.near.Ledger.{IsLedger, is_foreign, foreign_fault}
+use Rattle.param_check.specs.near.Nets.{entry_holdings, entries_of}
 use Rattle.param_check.specs.declared.faults.BindFault.{BindFault}
 use Rattle.param_check.specs.declared.faults.BindFault.TheVariants as fault
 use Rattle.param_check.specs.declared.nets.Entry.{Entry}

@@ -8,7 +8,7 @@ use Rattle.span_tables.specs.Rules.{first_breaking, repeats_commodity, names_no_
 use Rattle.span_tables.specs.Rules.{overlaps_tier, names_no_tier, repeats_leg, is_one_sided, repeats_priority, repeats_spot}
 use Rattle.span_tables.specs.declared.records.Record.{Record}
 use Rattle.param_check.specs.CheckFaults.{check_fault, checked, is_memory}
-use Rattle.param_check.specs.steps.Groups.{rule_outcome, name_fault, tier_fault, spread_fault}
+use Rattle.param_check.specs.near.Groups.{rule_outcome, name_fault, tier_fault, spread_fault}
 use Rattle.param_check.specs.declared.faults.CheckFault.{CheckFault}
 use Rattle.param_check.specs.declared.faults.CheckFault.TheVariants as fault
 use Rattle.param_check.proofs.FirstFaults.{first_breaking-named}

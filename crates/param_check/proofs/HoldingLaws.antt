@@ -12,8 +12,8 @@ use Rattle.span_tables.specs.declared.records.Contract.{Contract}
 use Rattle.span_tables.specs.declared.records.PositionRecord.{PositionRecord}
 use Rattle.span_tables.proofs.SumLaws.{int_sum_by-if}
 use Rattle.span_tables.proofs.NameLemmas.{same_name}
-use Rattle.param_check.specs.steps.Nets.{entry_of, entries_of, entry_net, entry_holdings}
-use Rattle.param_check.specs.steps.Holdings.{ids_of}
+use Rattle.param_check.specs.near.Nets.{entry_of, entries_of, entry_net, entry_holdings}
+use Rattle.param_check.specs.near.Holdings.{ids_of}
 use Rattle.param_check.specs.declared.nets.Entry.{Entry}
 
 -- ---- contracts by number

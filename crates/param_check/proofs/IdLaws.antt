@@ -9,7 +9,7 @@ use Rattle.std.proofs.lemmas.List.Folds.{list_any_at}
 use Rattle.indexmap.specs.IndexSet.{insert_key}
 use Rattle.span_tables.specs.Names.{has_repeat}
 use Rattle.span_tables.specs.declared.records.Contract.{Contract}
-use Rattle.param_check.specs.steps.Holdings.{ids_of}
+use Rattle.param_check.specs.near.Holdings.{ids_of}
 use Rattle.param_check.proofs.AccountLaws.{bytes_eq-flip}
 
 -- no id before a contract is that contract's

@@ -15,11 +15,11 @@ use Rattle.span_tables.specs.declared.portfolios.Holding.{Holding}
 use Rattle.span_tables.specs.declared.records.Contract.{Contract}
 use Rattle.span_tables.specs.declared.records.PositionRecord.{PositionRecord}
 use Rattle.param_check.specs.Binding.{first_unfit, bindings_of}
-use Rattle.param_check.specs.steps.Holdings.{ids_of, is_over, is_over_at, over_at, net_exceeds, are_many, many_at}
-use Rattle.param_check.specs.steps.Holdings.{held_exceeds, net_fault, held_fault, portfolios_from, portfolios_or_fault}
-use Rattle.param_check.specs.steps.Ledger.{IsLedger}
-use Rattle.param_check.specs.steps.Nets.{entry_holdings}
-use Rattle.param_check.specs.steps.Sums.{kept_holding, kept_holdings}
+use Rattle.param_check.specs.near.Holdings.{ids_of, is_over, is_over_at, over_at, net_exceeds, are_many, many_at}
+use Rattle.param_check.specs.near.Holdings.{held_exceeds, net_fault, held_fault, portfolios_from, portfolios_or_fault}
+use Rattle.param_check.specs.near.Ledger.{IsLedger}
+use Rattle.param_check.specs.near.Nets.{entry_holdings}
+use Rattle.param_check.specs.near.Sums.{kept_holding, kept_holdings}
 use Rattle.param_check.specs.declared.faults.BindFault.{BindFault}
 use Rattle.param_check.specs.declared.faults.BindFault.TheVariants as fault
 use Rattle.param_check.specs.declared.nets.Entry.{Entry}

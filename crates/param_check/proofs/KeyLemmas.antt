@@ -8,7 +8,7 @@ use Rattle.span_tables.specs.Rules.{is_and, first_breaking, as_commodity, as_con
 use Rattle.span_tables.specs.Rules.{repeats_commodity, repeats_contract, repeats_tier, repeats_priority, repeats_spot}
 use Rattle.span_tables.specs.declared.records.Record.{Record}
 use Rattle.span_tables.specs.declared.records.Record.TheVariants as record_of
-use Rattle.param_check.specs.steps.Keys.{name_key, key_of, is_same_key, repeats_key, first_repeat}
+use Rattle.param_check.specs.near.Keys.{name_key, key_of, is_same_key, repeats_key, first_repeat}
 use Rattle.param_check.specs.declared.keys.Key.{Key}
 use Rattle.param_check.specs.declared.keys.Identity.{Identity}
 use Rattle.param_check.specs.declared.keys.Identity.TheVariants as identity

@@ -7,8 +7,8 @@ use Rattle.std.proofs.lemmas.Bool.{or_parts, or_from, and_right}
 use Rattle.std.proofs.lemmas.List.{take_all}
 use Rattle.span_tables.specs.declared.portfolios.Holding.{Holding}
 use Rattle.span_tables.specs.declared.records.PositionRecord.{PositionRecord}
-use Rattle.param_check.specs.steps.Holdings.{is_over, is_over_at, over_at, net_exceeds, are_many}
-use Rattle.param_check.specs.steps.Holdings.{many_at, held_exceeds, net_fault, held_fault}
+use Rattle.param_check.specs.near.Holdings.{is_over, is_over_at, over_at, net_exceeds, are_many}
+use Rattle.param_check.specs.near.Holdings.{many_at, held_exceeds, net_fault, held_fault}
 use Rattle.param_check.specs.declared.faults.BindFault.TheVariants as fault
 use Rattle.param_check.proofs.LedgerLaws.{IsSeen}
 use Rattle.param_check.proofs.UnfitLaws.{unfit_none, unfit_found}

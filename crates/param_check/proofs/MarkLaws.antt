@@ -12,8 +12,8 @@ use Rattle.std.proofs.lemmas.List.FromFn.{get_or-map-range_with_len, length-map-
 use Rattle.std.proofs.lemmas.Nat.Bits.{bit_at-zero, bit_at_set_same, bit_at_set_other}
 use Rattle.std.proofs.lemmas.Nat.Bits.{bit_at_clear_same, bit_at_clear_other, bit_at-trailing_zeros}
 use Rattle.span_tables.specs.Net.{is_held}
-use Rattle.param_check.specs.steps.Nets.{holding_at, holdings_in, held_part}
-use Rattle.param_check.specs.steps.Sums.{is_marked, sum_at, sums_of, AreMarks, held_below, kept_holding}
+use Rattle.param_check.specs.near.Nets.{holding_at, holdings_in, held_part}
+use Rattle.param_check.specs.near.Sums.{is_marked, sum_at, sums_of, AreMarks, held_below, kept_holding}
 use Rattle.span_tables.specs.declared.portfolios.Holding.{Holding}
 use Rattle.param_check.proofs.NetLaws.{is_held-eq}
 

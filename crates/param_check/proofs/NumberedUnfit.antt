@@ -6,7 +6,7 @@ use Rattle.span_tables.specs.Positions.{named_position, named_positions}
 use Rattle.span_tables.specs.declared.portfolios.Holding.{Holding}
 use Rattle.span_tables.specs.declared.records.NumberedPosition.{NumberedPosition}
 use Rattle.span_tables.specs.declared.records.PositionRecord.{PositionRecord}
-use Rattle.param_check.specs.steps.Holdings.{held_exceeds, many_at, net_exceeds, over_at}
+use Rattle.param_check.specs.near.Holdings.{held_exceeds, many_at, net_exceeds, over_at}
 use Rattle.param_check.proofs.AccountLaws.{place_is}
 use Rattle.param_check.proofs.LedgerLaws.{account_at, apart}
 

@@ -14,8 +14,8 @@ use Rattle.std.proofs.lemmas.List.Kept.{AllPairs-filter, AllPairs-from_increasin
 use Rattle.std.proofs.lemmas.List.Sorted.{IsNonDecreasingBy-from_default}
 use Rattle.span_tables.specs.Net.{is_held}
 use Rattle.span_tables.specs.declared.portfolios.Holding.{Holding}
-use Rattle.param_check.specs.steps.Holdings.{is_over, is_over_at}
-use Rattle.param_check.specs.steps.Nets.{entry_net, entry_holdings}
+use Rattle.param_check.specs.near.Holdings.{is_over, is_over_at}
+use Rattle.param_check.specs.near.Nets.{entry_net, entry_holdings}
 use Rattle.param_check.specs.declared.nets.Entry.{Entry}
 
 none : Holding

@@ -9,7 +9,7 @@ use Rattle.span_tables.specs.Rules.{is_and, as_tier, share_month, overlaps_tier}
 use Rattle.span_tables.specs.declared.records.Record.{Record}
 use Rattle.span_tables.specs.declared.records.Record.TheVariants as record_of
 use Rattle.span_tables.proofs.NameLemmas.{same_name}
-use Rattle.param_check.specs.steps.Overlaps.{meet, meets_earlier, months_of, months_under}
+use Rattle.param_check.specs.near.Overlaps.{meet, meets_earlier, months_of, months_under}
 use Rattle.param_check.specs.declared.overlaps.Months.{Months}
 use Rattle.param_check.proofs.FilterMaps.{list_any-filter_map, list_any-same}
 

@@ -14,9 +14,9 @@ use Rattle.span_tables.specs.declared.records.PositionRecord.{PositionRecord}
 use Rattle.span_tables.proofs.NameLaws.{distinct_same}
 use Rattle.span_tables.proofs.NameLemmas.{same_name}
 use Rattle.param_check.specs.Binding.{first_unfit, is_unknown, is_first_of_contract, is_first_of_account, exceeds_net, exceeds_held}
-use Rattle.param_check.specs.steps.Holdings.{ids_of, is_over, is_over_at, over_at, net_exceeds}
-use Rattle.param_check.specs.steps.Holdings.{are_many, many_at, held_exceeds, net_fault, held_fault}
-use Rattle.param_check.specs.steps.Ledger.{is_foreign, foreign_fault}
+use Rattle.param_check.specs.near.Holdings.{ids_of, is_over, is_over_at, over_at, net_exceeds}
+use Rattle.param_check.specs.near.Holdings.{are_many, many_at, held_exceeds, net_fault, held_fault}
+use Rattle.param_check.specs.near.Ledger.{is_foreign, foreign_fault}
 use Rattle.param_check.specs.declared.faults.BindFault.TheVariants as fault
 use Rattle.param_check.proofs.AccountLaws.{bytes_eq-refl, bytes_eq-flip}
 use Rattle.param_check.proofs.KindLaws.{net_of_kind, held_of_kind}

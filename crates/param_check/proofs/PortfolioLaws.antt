@@ -19,7 +19,7 @@ use Rattle.span_tables.specs.declared.records.PositionRecord.{PositionRecord}
 use Rattle.span_tables.proofs.NameLaws.{distinct_same}
 use Rattle.span_tables.proofs.NameLemmas.{same_name}
 use Rattle.param_check.specs.Binding.{exceeds_net, exceeds_held}
-use Rattle.param_check.specs.steps.Holdings.{portfolios_from}
+use Rattle.param_check.specs.near.Holdings.{portfolios_from}
 use Rattle.param_check.proofs.AccountLaws.{bytes_eq-refl}
 use Rattle.param_check.proofs.OrderLaws.{held_rise}
 

@@ -1,4 +1,4 @@
 pub mod Binding
 pub mod CheckFaults
 pub mod Samples
-pub mod steps
+pub mod near

@@ -1,7 +1,7 @@
 //! The binding of positions to tables.
 ghost use Rattle.std.specs.Prelude.{◌≡◌, false, None, length, bytes_eq, All, IfOk};
 ghost use Rattle.param_check.specs.Binding.{bindings_of, is_memory};
-ghost use Rattle.param_check.specs.steps.Holdings.{held_fault, net_fault, portfolios_from, portfolios_or_fault};
+ghost use Rattle.param_check.specs.near.Holdings.{held_fault, net_fault, portfolios_from, portfolios_or_fault};
 ghost use Rattle.span_tables.specs.Gives.{Gives};
 ghost use Rattle.span_tables.specs.Holdings.{ArePortfolio};
 ghost use Rattle.span_tables.specs.Names.{has_repeat};

@@ -1,7 +1,7 @@
 //! The checker of parameter files.
 ghost use Rattle.std.specs.Prelude.{◌≡◌, IfOk};
 ghost use Rattle.param_check.specs.CheckFaults.{check_fault, checked, is_memory};
-ghost use Rattle.param_check.specs.steps.Groups.{name_fault, spread_fault, tier_fault};
+ghost use Rattle.param_check.specs.near.Groups.{name_fault, spread_fault, tier_fault};
 ghost use Rattle.span_tables.specs.Gives.{Gives};
 
 use crate::faults::CheckFault;

@@ -43,7 +43,7 @@ pub enum CheckFault {
     /// C11: the commodity and month of an earlier SPOT.
     #[error("record {at} repeats a spot month")]
     DuplicateSpot { at: usize },
-    /// Memory ran out.
+    /// Want of memory.
     #[error("out of memory")]
     OutOfMemory,
 }
@@ -60,7 +60,7 @@ pub enum BindFault {
     /// B3: too many contracts held.
     #[error("the account of record {at} holds too many contracts")]
     TooManyHeld { at: usize, account: Name },
-    /// Memory ran out.
+    /// Want of memory.
     #[error("out of memory")]
     OutOfMemory,
 }

@@ -1,6 +1,6 @@
 //! What no two records of a kind may share, as keys of a set.
 ghost use Rattle.std.specs.Prelude.{◌≡◌, ◌++◌, ◌||◌, false, option_to_list, IfOk, OnOk};
-ghost use Rattle.param_check.specs.steps.Keys.{first_repeat, has_key, is_among, is_same, key_of};
+ghost use Rattle.param_check.specs.near.Keys.{first_repeat, has_key, is_among, is_same, key_of};
 
 use indexmap::IndexSet;
 use span_tables::name::Name;

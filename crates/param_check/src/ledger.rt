@@ -3,7 +3,7 @@ ghost use Rattle.std.specs.Prelude.{◌≡◌, ◌≤◌, ◌++◌, ◌∷◌, [
 ghost use Rattle.std.specs.Prelude.{nat_abs, replicate, All, IfOk, IfSome, OnOk, MatchBool, MatchResult};
 ghost use Rattle.span_tables.specs.declared.limits.TheConstants.{MAX_QUANTITY};
 ghost use Rattle.param_check.specs.Binding.{is_memory};
-ghost use Rattle.param_check.specs.steps.Ledger.{foreign_fault, known_entry, IsLedger};
+ghost use Rattle.param_check.specs.near.Ledger.{foreign_fault, known_entry, IsLedger};
 
 use crate::faults::BindFault;
 use crate::nets::Entry;

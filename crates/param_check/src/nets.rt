@@ -2,8 +2,8 @@
 ghost use Rattle.std.specs.Prelude.{◌≡◌, ◌<◌, ◌≤◌, ◌+◌, ◌^◌, ◌+ℤ◌, All};
 ghost use Rattle.std.specs.Prelude.{length, map, nat_abs, replicate, pos, slice_index_or, slice_set, IfOk};
 ghost use Rattle.std.specs.List.{range_with_len};
-ghost use Rattle.param_check.specs.steps.Nets.{entry_net};
-ghost use Rattle.param_check.specs.steps.Sums.{kept_holdings};
+ghost use Rattle.param_check.specs.near.Nets.{entry_net};
+ghost use Rattle.param_check.specs.near.Sums.{kept_holdings};
 ghost use Rattle.span_tables.specs.declared.limits.TheConstants.{MAX_QUANTITY};
 
 use crate::ledger::Book;

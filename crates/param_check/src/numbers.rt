@@ -1,7 +1,7 @@
 //! The numbers of contracts by their ids.
 ghost use Rattle.std.specs.Prelude.{◌≡◌, false, bytes_eq, IfOk};
 ghost use Rattle.span_tables.specs.Names.{has_repeat};
-ghost use Rattle.param_check.specs.steps.Holdings.{ids_of};
+ghost use Rattle.param_check.specs.near.Holdings.{ids_of};
 
 use indexmap::IndexSet;
 use span_tables::name::Name;

@@ -5,7 +5,7 @@ ghost use Rattle.std.specs.List.{list_any};
 ghost use Rattle.std.specs.Option.{option_map_or};
 ghost use Rattle.indexmap.specs.IndexMap.{get};
 ghost use Rattle.span_tables.specs.Rules.{first_breaking, overlaps_tier};
-ghost use Rattle.param_check.specs.steps.Overlaps.{meet, meets_earlier, months_under};
+ghost use Rattle.param_check.specs.near.Overlaps.{meet, meets_earlier, months_under};
 
 use indexmap::IndexMap;
 use span_tables::name::Name;

@@ -5,8 +5,8 @@ ghost use Rattle.span_tables.specs.Names.{has_repeat};
 ghost use Rattle.span_tables.specs.Rules.{are_one_sided, first_breaking, is_backwards, is_one_sided, is_side_a};
 ghost use Rattle.span_tables.specs.Rules.{names_no_commodity, names_no_tier, repeats_commodity, repeats_contract};
 ghost use Rattle.span_tables.specs.Rules.{repeats_leg, repeats_priority, repeats_spot, repeats_tier, same_side};
-ghost use Rattle.param_check.specs.steps.Keys.{is_unknown, is_unknown_tier, names_unknown, names_unknown_tier};
-ghost use Rattle.param_check.specs.steps.RecordRules.{breaks};
+ghost use Rattle.param_check.specs.near.Keys.{is_unknown, is_unknown_tier, names_unknown, names_unknown_tier};
+ghost use Rattle.param_check.specs.near.RecordRules.{breaks};
 
 use crate::keys::{Identity, Key, all_keys, first_repeat, name_key};
 use indexmap::IndexSet;

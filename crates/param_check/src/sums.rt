@@ -3,8 +3,8 @@ ghost use Rattle.std.specs.Prelude.{◌≡◌, ◌==◌, ◌<◌, ◌+◌, ◌*�
 ghost use Rattle.std.specs.Prelude.{length, map, nat_abs, replicate, pos, slice_index_or, slice_set, IfOk, OnOk};
 ghost use Rattle.std.specs.Int.{bit_at};
 ghost use Rattle.param_check.specs.declared.sums.TheConstants.{MARKS};
-ghost use Rattle.param_check.specs.steps.Nets.{held_part, holdings_in};
-ghost use Rattle.param_check.specs.steps.Sums.{held_below, kept_holding, kept_net, AreMarks};
+ghost use Rattle.param_check.specs.near.Nets.{held_part, holdings_in};
+ghost use Rattle.param_check.specs.near.Sums.{held_below, kept_holding, kept_net, AreMarks};
 
 use span_tables::limits::MAX_NET;
 use span_tables::portfolios::Holding;
@@ -26,7 +26,7 @@ pub(crate) struct Sums {
 
 impl Model for Sums {
     ghost use Rattle.std.specs.Prelude.{List, length, ℤ};
-    ghost use Rattle.param_check.specs.steps.Sums.{AreMarks, sums_of};
+    ghost use Rattle.param_check.specs.near.Sums.{AreMarks, sums_of};
 
     ghost Value = { List ℤ };
 

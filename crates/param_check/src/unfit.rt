@@ -2,7 +2,7 @@
 ghost use Rattle.std.specs.Prelude.{◌≡◌, Some, bytes_eq, map, position};
 ghost use Rattle.std.specs.List.Sorted.{IsStrictlyIncreasing};
 ghost use Rattle.std.specs.List.{list_any};
-ghost use Rattle.param_check.specs.steps.Holdings.{are_many, held_fault, is_over, is_over_at, many_at, net_fault, over_at};
+ghost use Rattle.param_check.specs.near.Holdings.{are_many, held_fault, is_over, is_over_at, many_at, net_fault, over_at};
 ghost use Rattle.span_tables.specs.Net.{accounts_of};
 
 use crate::faults::BindFault;

@@ -21,8 +21,8 @@ use Rattle.plan_compiler.specs.Compiled.{IsCompiled, IsFirstInput}
 use Rattle.plan_compiler.specs.Meaning.{last_total, meaning, rank_of, wanted}
 use Rattle.plan_compiler.specs.Plan.{IsPlanOf, ops_of}
 use Rattle.plan_compiler.specs.Places.{inputs_of, place_of, plan_of}
-use Rattle.plan_compiler.specs.steps.Layout.{AreFirsts}
-use Rattle.plan_compiler.specs.steps.Sets.{IsSet}
+use Rattle.plan_compiler.specs.near.Layout.{AreFirsts}
+use Rattle.plan_compiler.specs.near.Sets.{IsSet}
 use Rattle.plan_compiler.proofs.FromPlan.{inputs_within, known_before_total, known_ops, known_wanted, wired}
 use Rattle.plan_compiler.proofs.LayoutLemmas.{first_small, length_ops, place_stands}
 use Rattle.plan_compiler.proofs.Meanings.{gives_meaning}

@@ -4,4 +4,4 @@ pub mod Places
 pub mod Compiled
 pub mod Samples
 pub mod OnLiterals
-pub mod steps
+pub mod near

@@ -7,7 +7,7 @@ ghost use Rattle.plan_ir.specs.Figures.{intras_at};
 ghost use Rattle.plan_ir.specs.declared.ops.Op.TheVariants.{Final, InterLoad};
 ghost use Rattle.plan_compiler.specs.declared.layout.TheConstants.{MAX_FIRST};
 ghost use Rattle.plan_compiler.specs.Places.{first_step, inputs_of, inter_step, load_step, tiers_step, total_step};
-ghost use Rattle.plan_compiler.specs.steps.Layout.{AreFirsts};
+ghost use Rattle.plan_compiler.specs.near.Layout.{AreFirsts};
 
 use plan_ir::lists::NumberLists;
 use plan_ir::ops::Op;

@@ -38,7 +38,7 @@ pub struct NothingHeld {
 
 impl Model for NothingHeld {
     ghost use Rattle.std.specs.Arc.{arc_value};
-    ghost use Rattle.plan_compiler.specs.steps.Nothing.{AreNothing};
+    ghost use Rattle.plan_compiler.specs.near.Nothing.{AreNothing};
 
     ghost Value = { Unit {0} };
 

@@ -32,7 +32,7 @@ pub struct CompiledSet {
 
 impl Model for CompiledSet {
     ghost use Rattle.plan_compiler.specs.Compiled.{SetView};
-    ghost use Rattle.plan_compiler.specs.steps.Sets.{IsSet};
+    ghost use Rattle.plan_compiler.specs.near.Sets.{IsSet};
 
     ghost Value = { SetView };
 

@@ -3,7 +3,7 @@ use Rattle.std.proofs.Common.{◌≡◌, ℕ, zero, suc, ◌+◌, ◌-◌, ◌�
 use Rattle.std.proofs.Common.{◌++◌, length, take, drop, slice_index_or, refl, sym, ap, ◌∙◌, arith}
 use Rattle.std.proofs.lemmas.List.{drop-append-le, length-append, length-drop, take-append-le, take_all}
 use Rattle.std.proofs.Math.Seq.{drop-append_seam}
-use Rattle.plan_ir.specs.steps.Packing.{AreEnds, lists_between, start_of}
+use Rattle.plan_ir.specs.near.Packing.{AreEnds, lists_between, start_of}
 
 -- as many lists as ends
 pub length_lists : (numbers : List ℕ) (start : ℕ) (ends : List ℕ) → length (lists_between numbers start ends) ≡ length ends

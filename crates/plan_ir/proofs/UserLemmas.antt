@@ -12,7 +12,7 @@ use Rattle.std.proofs.lemmas.Bool.{cases_eq, eq-eqb, ne_eqb, or_parts}
 use Rattle.span_tables.specs.Names.{has_repeat}
 use Rattle.plan_ir.specs.Plans.{is_among, places_from, steps_with, inputs_in, op_at, inputs_at, ops_in}
 use Rattle.plan_ir.specs.declared.ops.Op.{Op}
-use Rattle.plan_ir.specs.steps.Noting.{noted, places_of_all}
+use Rattle.plan_ir.specs.near.Noting.{noted, places_of_all}
 
 -- the operation and the inputs of a step
 pub op_is : (ops : List Op) (lists : List (List ℕ)) (k : ℕ) (d : Op) → length lists ≡ length ops → k < length ops

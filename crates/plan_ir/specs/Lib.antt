@@ -2,7 +2,7 @@ pub mod Figures
 pub mod Values
 pub mod Apply
 pub mod Plans
-pub mod steps
+pub mod near
 pub mod Listing
 pub mod Samples
 pub mod OnLiterals

@@ -13,7 +13,7 @@ ghost use Rattle.inter_credit.specs.States.{IsNotLoaded, IsUnspread};
 ghost use Rattle.inter_credit.specs.declared.state.InterLine.{InterLine};
 ghost use Rattle.plan_ir.specs.Apply.{IsInPlace, Takes, value_on};
 ghost use Rattle.plan_ir.specs.Values.{IsInter as IsLines, IsTiers, IsTotal, lines_in, tiers_in, total_in};
-ghost use Rattle.plan_ir.specs.steps.Copying.{IsChangeable};
+ghost use Rattle.plan_ir.specs.near.Copying.{IsChangeable};
 ghost use Rattle.plan_ir.specs.declared.values.Value.TheVariants as value;
 
 use crate::evaluation::{final_figures, inter_at, intra_at, minimum_at, sum};

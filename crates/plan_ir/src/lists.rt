@@ -1,7 +1,7 @@
 //! Lists of numbers, kept one behind the other.
 ghost use Rattle.std.specs.Prelude.{◌≡◌, ◌-◌, ◌<◌, ◌≤◌, [], ◌∷◌, ◌++◌};
 ghost use Rattle.std.specs.Prelude.{drop, length, slice_index_or, take, OnOk, OnErr};
-ghost use Rattle.plan_ir.specs.steps.Packing.{AreEnds, lists_between, start_of};
+ghost use Rattle.plan_ir.specs.near.Packing.{AreEnds, lists_between, start_of};
 
 use std::alloc::{AllocError, Global};
 use std::marker::Model;
@@ -15,7 +15,7 @@ pub struct NumberLists {
 
 impl Model for NumberLists {
     ghost use Rattle.std.specs.Prelude.{List, ℕ};
-    ghost use Rattle.plan_ir.specs.steps.Packing.{AreEnds, lists_between};
+    ghost use Rattle.plan_ir.specs.near.Packing.{AreEnds, lists_between};
 
     ghost Value = { List (List ℕ) };
 

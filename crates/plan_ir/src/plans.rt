@@ -26,7 +26,7 @@ pub struct Plan {
 impl Model for Plan {
     ghost use Rattle.std.specs.Prelude.{List};
     ghost use Rattle.plan_ir.specs.Plans.{StepView, steps_with};
-    ghost use Rattle.plan_ir.specs.steps.Noting.{IsPlan};
+    ghost use Rattle.plan_ir.specs.near.Noting.{IsPlan};
 
     ghost Value = { List StepView };
 

@@ -2,7 +2,7 @@
 ghost use Rattle.std.specs.Prelude.{◌≡◌, ◌==◌, ◌<◌, ◌≤◌, All, IfOk, OnOk, false, length, map};
 ghost use Rattle.span_tables.specs.Names.{has_repeat};
 ghost use Rattle.plan_ir.specs.declared.plans.TheConstants.{MAX_STEPS};
-ghost use Rattle.plan_ir.specs.steps.Noting.{noted, places_of_all};
+ghost use Rattle.plan_ir.specs.near.Noting.{noted, places_of_all};
 
 use crate::lists::NumberLists;
 use span_tables::groups::{empty_lists, push_at};

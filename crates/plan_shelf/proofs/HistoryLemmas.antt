@@ -7,7 +7,7 @@ use mathlib.Core.List.{IsPrefix}
 use prog.Atomic.{either}
 use Rattle.logbook.specs.Pages.{Cell, View, cell, keeps, no_nib, step, Moves, Goes}
 use Rattle.plan_compiler.specs.Compiled.{SetView}
-use Rattle.plan_shelf.specs.steps.History.{IsCounted, Adds}
+use Rattle.plan_shelf.specs.near.History.{IsCounted, Adds}
 use Rattle.plan_shelf.proofs.BeginningLemmas.{IsPrefix-whole}
 
 -- clients see nothing of a history

@@ -1,3 +1,3 @@
 pub mod Publications
 pub mod Samples
-pub mod steps
+pub mod near

@@ -11,7 +11,7 @@ use std::sync::Arc;
 pub enum ShelfFault {
     /// There are no readers, or more than 16.
     Readers,
-    /// Memory ran out.
+    /// Want of memory.
     OutOfMemory,
     /// The last number of a publication, 2^64 - 1, is used.
     Last,

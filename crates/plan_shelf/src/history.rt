@@ -1,6 +1,6 @@
 //! The history of a shelf: its publications, in order. It only grows, and it exists in the proofs alone; what threads share
 //! of it is one word, the number of publications.
-ghost use Rattle.plan_shelf.specs.steps.History.{IsLonger, counter_of};
+ghost use Rattle.plan_shelf.specs.near.History.{IsLonger, counter_of};
 ghost use Rattle.std.specs.Prelude.{◌≡◌, ◌<◌, ◌-◌, ◌^◌, ◌⊎◌, ◌↔◌, [], ◌∷◌, ◌++◌};
 ghost use Rattle.std.specs.Prelude.{IsTrue, MatchBool, length};
 ghost use mathlib.Core.List.{IsPrefix};
@@ -24,7 +24,7 @@ impl ShelfName for Brand {
 struct Counted;
 
 impl Rule<CompiledSet, u64> for Counted {
-    ghost use Rattle.plan_shelf.specs.steps.History.{IsCounted};
+    ghost use Rattle.plan_shelf.specs.near.History.{IsCounted};
     ghost use Rattle.std.specs.Prelude.{[]};
     ghost use base.Fml.{ftrue};
 
@@ -54,7 +54,7 @@ impl Gain<CompiledSet, u64> for Nothing {
 struct Add;
 
 impl Play<CompiledSet, u64> for Add {
-    ghost use Rattle.plan_shelf.specs.steps.History.{Adds};
+    ghost use Rattle.plan_shelf.specs.near.History.{Adds};
 
     ghost then = { Adds };
 }
@@ -76,7 +76,7 @@ pub struct History {
 
 impl Model for History {
     ghost use Rattle.logbook.specs.Pages.{Book};
-    ghost use Rattle.plan_shelf.specs.steps.History.{counter_of};
+    ghost use Rattle.plan_shelf.specs.near.History.{counter_of};
     ghost use Rattle.std.specs.Prelude.{◌≡◌, []};
 
     ghost Value = { Book };

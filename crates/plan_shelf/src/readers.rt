@@ -1,6 +1,6 @@
 //! Reading the current set.
 ghost use Rattle.plan_shelf.specs.Publications.{IsLast};
-ghost use Rattle.plan_shelf.specs.steps.Looks.{Finds};
+ghost use Rattle.plan_shelf.specs.near.Looks.{Finds};
 ghost use Rattle.std.specs.Arc.{arc_value};
 ghost use Rattle.std.specs.Prelude.{◌≡◌, IfOk, IfSome, None, Ok, length};
 ghost use mathlib.Core.List.{IsPrefix};

@@ -9,7 +9,7 @@ use Rattle.indexmap.specs.IndexMap.{IndexMap, insert_entry}
 use Rattle.indexmap.proofs.CallerLemmas.{insert_entry-new}
 use Rattle.result_book.specs.Books.{HasNoAccountTwice, account_of, row_for}
 use Rattle.result_book.specs.Rows.{RowView}
-use Rattle.result_book.specs.steps.Batches.{AreUnderAccounts, kept_rows}
+use Rattle.result_book.specs.near.Batches.{AreUnderAccounts, kept_rows}
 
 chosen : {A B : Type 0} (f : A → B) (b : Bool) (x : A) (y : Option A)
     → option_map f (cond b (Some x) y) ≡ cond b (Some (f x)) (option_map f y)

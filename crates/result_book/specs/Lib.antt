@@ -1,4 +1,4 @@
 pub mod Books
 pub mod Rows
 pub mod Samples
-pub mod steps
+pub mod near

@@ -20,7 +20,7 @@ impl Model for BatchRows {
     ghost use Rattle.std.specs.Prelude.{List};
     ghost use Rattle.std.specs.Arc.{arc_value};
     ghost use Rattle.result_book.specs.Rows.{RowView};
-    ghost use Rattle.result_book.specs.steps.Batches.{AreUnderAccounts, kept_rows};
+    ghost use Rattle.result_book.specs.near.Batches.{AreUnderAccounts, kept_rows};
 
     ghost Value = { List RowView };
 

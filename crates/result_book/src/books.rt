@@ -20,7 +20,7 @@ pub enum BookFault {
     NoSuchBatch,
     /// The batch has a row of this account.
     AlreadyThere,
-    /// Memory was refused.
+    /// Want of memory.
     OutOfMemory,
     /// Each number was given to a batch.
     NoMoreBatches,

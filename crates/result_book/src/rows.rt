@@ -3,7 +3,7 @@ ghost use Rattle.std.specs.Prelude.{◌≡◌, ◌<◌, IfOk, length};
 ghost use Rattle.std.specs.Arc.{arc_value};
 ghost use Rattle.plan_ir.specs.Figures.{figures_of, is_held, total_to};
 ghost use Rattle.step_scheduler.specs.Boards.{IsComplete};
-ghost use Rattle.result_book.specs.steps.Kept.{AreFigures};
+ghost use Rattle.result_book.specs.near.Kept.{AreFigures};
 
 use plan_compiler::set::CompiledSet;
 use plan_ir::figures::Figures;
@@ -33,7 +33,7 @@ pub struct Row {
 impl Model for Row {
     ghost use Rattle.std.specs.Arc.{arc_value};
     ghost use Rattle.result_book.specs.Rows.{RowView};
-    ghost use Rattle.result_book.specs.steps.Kept.{IsRow};
+    ghost use Rattle.result_book.specs.near.Kept.{IsRow};
 
     ghost Value = { RowView };
 

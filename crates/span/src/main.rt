@@ -3,7 +3,7 @@
 
 use span_cli::disk::Disk;
 use span_cli::words::{refuse_words, run_words};
-use span_told::Told;
+use span_told::MarkedWriter;
 use std::alloc::Global;
 use std::process::ExitCode;
 use std::{env, io};
@@ -16,8 +16,8 @@ fn words_of(rt: &HostRuntime, alloc: Global) -> io::Result<Vec<String>> {
 
 fn main(rt: HostRuntime) -> ExitCode {
     let alloc = rt.alloc();
-    let mut out = Told::new(rt.stdout());
-    let mut err = Told::new(rt.stderr());
+    let mut out = MarkedWriter::new(rt.stdout());
+    let mut err = MarkedWriter::new(rt.stderr());
     let status = match words_of(&rt, alloc) {
         Ok(words) => {
             let mut disk = Disk::new(&rt);

@@ -18,7 +18,7 @@ use Rattle.span_cli.specs.Serving.{check_answer, file_line, margin_answer, memor
 use Rattle.span_cli.specs.Sources.{File}
 use Rattle.span_cli.specs.Telling.{RefusesBy, Serves, Tells}
 use Rattle.span_cli.specs.Telling as telling
-use Rattle.span_cli.specs.steps.Refusals.{Loads, Refuses, refusal_line, refusal_status}
+use Rattle.span_cli.specs.near.Refusals.{Loads, Refuses, refusal_line, refusal_status}
 use Rattle.span_cli.specs.declared.sources.ReadFault.{ReadFault}
 use Rattle.span_cli.specs.declared.sources.ReadFault.TheVariants as read
 use Rattle.span_cli.specs.declared.serving.Refusal.{Refusal}

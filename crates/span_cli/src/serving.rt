@@ -2,7 +2,7 @@
 ghost use Rattle.span_cli.specs.Serving.{OfAnswer, OfRoll, OfRollFiles, answer_of, asked_by, check_answer, done};
 ghost use Rattle.span_cli.specs.Serving.{margin_answer, plan_answer};
 ghost use Rattle.span_cli.specs.Telling.{Serves, Tells};
-ghost use Rattle.span_cli.specs.steps.Refusals.{Loads, Runs, refusal_line, refusal_status};
+ghost use Rattle.span_cli.specs.near.Refusals.{Loads, Runs, refusal_line, refusal_status};
 ghost use Rattle.span_cli.specs.declared.serving.Refusal.TheVariants as refusal;
 ghost use Rattle.span_told.specs.Streams.{Says};
 ghost use Rattle.statement.specs.Counts.{counts_of};
@@ -12,7 +12,7 @@ ghost use Rattle.std.specs.Prelude.{◌≡◌, IfSome, List, false, ℕ};
 
 use crate::sources::{ReadFault, Sources};
 use result_book::books::ResultBook;
-use span_told::Told;
+use span_told::MarkedWriter;
 use statement::counts::check_plain;
 use statement::fault_lines::tell_fault;
 use statement::faults::{SpanFault, status};
@@ -256,7 +256,7 @@ fn refusal_status(refusal: &Refusal<'_>) -> u8
 }
 
 // Writes the line of a refusal.
-fn tell_refusal<E: Write>(refusal: &Refusal<'_>, err: &mut Told<E>)
+fn tell_refusal<E: Write>(refusal: &Refusal<'_>, err: &mut MarkedWriter<E>)
     ensures { Says err.old err.new (refusal_line refusal.now) }
 {
     match refusal {
@@ -268,7 +268,7 @@ fn tell_refusal<E: Write>(refusal: &Refusal<'_>, err: &mut Told<E>)
 }
 
 // Writes the line of a refusal and gives its status.
-fn refuse<E: Write>(refusal: Refusal<'_>, err: &mut Told<E>) -> u8
+fn refuse<E: Write>(refusal: Refusal<'_>, err: &mut MarkedWriter<E>) -> u8
     ensures status { result ≡ refusal_status refusal.entry }
     ensures line { Says err.old err.new (refusal_line refusal.entry) }
 {
@@ -277,7 +277,11 @@ fn refuse<E: Write>(refusal: Refusal<'_>, err: &mut Told<E>) -> u8
 }
 
 // Writes what a request gave, or says that it cannot be written.
-fn give<W: Write, E: Write>(text: Vec<u8>, out: &mut Told<W>, err: &mut Told<E>) -> u8
+fn give<W: Write, E: Write>(
+    text: Vec<u8>,
+    out: &mut MarkedWriter<W>,
+    err: &mut MarkedWriter<E>,
+) -> u8
     requires { out.old.failed ≡ false }
     ensures { Tells (done text.items) result out.old out.new err.old err.new }
 {
@@ -300,8 +304,8 @@ pub fn serve<S: Sources, W: Write, E: Write, R: Threads + Wait + Clock + Sync, G
     request: Request<'_>,
     sources: &mut S,
     gate: &G,
-    out: &mut Told<W>,
-    err: &mut Told<E>,
+    out: &mut MarkedWriter<W>,
+    err: &mut MarkedWriter<E>,
 ) -> u8
     requires { out.old.failed ≡ false }
     ensures { OfAnswer (S.file sources.old) (asked_by request.entry) (λ answer.

@@ -14,7 +14,7 @@ pub enum ReadFault {
     Failed,
     /// The file has more than `FILE_CAP` bytes.
     TooLong,
-    /// Memory ran out.
+    /// Want of memory.
     OutOfMemory,
 }
 

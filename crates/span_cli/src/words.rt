@@ -17,7 +17,7 @@ use crate::sources::Sources;
 use clap::builder::ValueParser;
 use clap::error::ErrorKind;
 use clap::{Arg, ArgMatches, Command, Error};
-use span_told::Told;
+use span_told::MarkedWriter;
 use statement::statuses::{DONE, FILE_FAILED, OUT_OF_MEMORY, USAGE};
 use std::alloc::{AllocError, Global};
 use std::convert::AsStr;
@@ -284,7 +284,11 @@ pub fn request<'a, S: AsStr>(alloc: Global, words: &'a [S]) -> Result<Option<Req
 }
 
 // Shows help or the version, and gives the status.
-fn show<W: Write, E: Write>(error: &Error, out: &mut Told<W>, err: &mut Told<E>) -> u8
+fn show<W: Write, E: Write>(
+    error: &Error,
+    out: &mut MarkedWriter<W>,
+    err: &mut MarkedWriter<E>,
+) -> u8
     requires { out.old.failed ≡ false }
     ensures { IsShown result out.new err.old err.new }
 {
@@ -298,7 +302,7 @@ fn show<W: Write, E: Write>(error: &Error, out: &mut Told<W>, err: &mut Told<E>)
 }
 
 // Says what is wrong with the words, and gives the status.
-fn say_mistake<E: Write>(error: &Error, err: &mut Told<E>) -> u8
+fn say_mistake<E: Write>(error: &Error, err: &mut MarkedWriter<E>) -> u8
     ensures { result ≡ USAGE }
 {
     let _ = write!(err, "{error}");
@@ -306,15 +310,15 @@ fn say_mistake<E: Write>(error: &Error, err: &mut Told<E>) -> u8
 }
 
 // Says that the words ask for nothing, and gives the status.
-fn say_nothing_asked<E: Write>(err: &mut Told<E>) -> u8
+fn say_nothing_asked<E: Write>(err: &mut MarkedWriter<E>) -> u8
     ensures { result ≡ USAGE }
 {
     let _ = writeln!(err, "error: nothing is asked for");
     USAGE
 }
 
-// Says that memory was refused in reading the words, and gives the status.
-fn give_up<E: Write>(err: &mut Told<E>) -> u8
+// Tells want of memory in reading the words, and gives the status.
+fn give_up<E: Write>(err: &mut MarkedWriter<E>) -> u8
     ensures status { result ≡ OUT_OF_MEMORY }
     ensures line { Says err.old err.new memory_line }
 {
@@ -323,7 +327,11 @@ fn give_up<E: Write>(err: &mut Told<E>) -> u8
 }
 
 // Answers words that are no request.
-fn refuse<W: Write, E: Write>(error: Error, out: &mut Told<W>, err: &mut Told<E>) -> u8
+fn refuse<W: Write, E: Write>(
+    error: Error,
+    out: &mut MarkedWriter<W>,
+    err: &mut MarkedWriter<E>,
+) -> u8
     requires { out.old.failed ≡ false }
     ensures { Refuses (kind_of error) result out.old out.new err.old err.new }
 {
@@ -350,8 +358,8 @@ pub fn run_words<
     words: &[T],
     sources: &mut S,
     gate: &G,
-    out: &mut Told<W>,
-    err: &mut Told<E>,
+    out: &mut MarkedWriter<W>,
+    err: &mut MarkedWriter<E>,
 ) -> u8
     requires { out.old.failed ≡ false }
     ensures taken { is_taken (map T.text words.now) ≡ true → IfSome (asked_in (map T.text words.now)) (λ asked.
@@ -367,8 +375,8 @@ pub fn run_words<
 }
 
 /// Answers words that cannot be read, and gives the status: a word that is no text is a mistake of usage, and else
-/// memory was refused.
-pub fn refuse_words<E: Write>(error: &io::Error, err: &mut Told<E>) -> u8
+/// want of memory.
+pub fn refuse_words<E: Write>(error: &io::Error, err: &mut MarkedWriter<E>) -> u8
     ensures no_text { error_kind error.now ≡ kind.InvalidData → result ≡ USAGE }
     ensures memory { error_kind error.now ≢ kind.InvalidData → result ≡ OUT_OF_MEMORY }
     ensures no_text_line { error_kind error.now ≡ kind.InvalidData → Says err.old err.new no_text_line }

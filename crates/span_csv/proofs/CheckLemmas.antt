@@ -8,8 +8,8 @@ use Rattle.std.proofs.lemmas.Bool.{cases_Bool, eqb-true}
 use Rattle.std.proofs.lemmas.List.{get_or-take, get_or-drop, length-drop, length-take-le}
 use Rattle.span_money.specs.Numbers.{whole_number, decimal_number, month_number}
 use Rattle.span_tables.specs.Faults.{first_that_holds}
-use Rattle.span_csv.specs.steps.Checks.{IsFree, IsFaultOf, field_faults}
-use Rattle.span_csv.specs.steps.Grammar.{HasForms, HasCount, form_at, longest}
+use Rattle.span_csv.specs.near.Checks.{IsFree, IsFaultOf, field_faults}
+use Rattle.span_csv.specs.near.Grammar.{HasForms, HasCount, form_at, longest}
 use Rattle.span_csv.specs.Records.{Fields, Form, a_name, a_currency, a_method, a_product, a_side, a_whole, a_decimal, a_month}
 use Rattle.span_csv.specs.Records.{RecordKind, a_set, a_commodity, a_contract, a_tier, an_intra, a_spot, an_inter, exactly, forms_of}
 use Rattle.span_csv.specs.Records.{kind_of, layout_of, text_at, is_within, is_in_range, has_number_form, has_word_form, all_have}

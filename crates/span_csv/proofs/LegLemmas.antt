@@ -3,7 +3,7 @@ use Rattle.std.proofs.Common.{◌≡◌, ◌<◌, ◌≤◌, ◌+◌, ◌*◌, s
 use Rattle.std.specs.Prelude.{pos}
 use Rattle.span_tables.specs.Names.{is_name}
 use Rattle.span_tables.specs.declared.limits.TheConstants.{MAX_TIER_NUMBER, MAX_RATIO}
-use Rattle.span_csv.specs.steps.Grammar.{HasForms, form_at}
+use Rattle.span_csv.specs.near.Grammar.{HasForms, form_at}
 use Rattle.span_csv.specs.Records.{Fields, a_name, a_whole, a_decimal, an_intra, an_inter, text_at, count_at, ratio_at}
 use Rattle.span_csv.proofs.NumberLemmas.{name_field, count_field, ratio_field}
 

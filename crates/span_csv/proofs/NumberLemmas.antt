@@ -9,7 +9,7 @@ use Rattle.std.proofs.lemmas.Bool.Decides.{nat_tests}
 use Rattle.span_money.specs.Numbers.{positive_part, whole_number, decimal_number, are_digits}
 use Rattle.span_money.specs.Numbers.{digits_value, has_minus, without_minus, is_month}
 use Rattle.span_tables.specs.Names.{is_name}
-use Rattle.span_csv.specs.steps.Grammar.{HasForms, form_at}
+use Rattle.span_csv.specs.near.Grammar.{HasForms, form_at}
 use Rattle.span_csv.specs.Records.{Fields, RecordKind, a_name, a_whole, a_decimal, a_month, is_within}
 use Rattle.span_csv.specs.Records.{is_in_range, has_word_form, text_at, count_at, ratio_at, decimal_at}
 

@@ -13,7 +13,7 @@ use Rattle.span_csv.specs.PositionFaults.{is_memory}
 use Rattle.span_csv.specs.Records.{Fields, text_at}
 use Rattle.span_csv.specs.declared.faults.PositionFault.{PositionFault}
 use Rattle.span_csv.specs.declared.faults.PositionFault.TheVariants as fault
-use Rattle.span_csv.specs.steps.PositionReading.{is_one_too_many, next_position, quantity_alone, with_account}
+use Rattle.span_csv.specs.near.PositionReading.{is_one_too_many, next_position, quantity_alone, with_account}
 
 -- ---- the limit
 

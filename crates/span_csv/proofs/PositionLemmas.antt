@@ -12,7 +12,7 @@ use Rattle.span_tables.specs.declared.records.PositionRecord.{PositionRecord}
 use Rattle.span_money.specs.Numbers.{whole_number}
 use Rattle.span_csv.specs.Records.{Fields, records_of, text_at, position_record}
 use Rattle.span_csv.specs.PositionFaults.{position_fault, position_faults, positions_of, exceeds_accounts, is_memory}
-use Rattle.span_csv.specs.steps.PositionReading.{is_quantity, next_position, position_behind, positions_after, quantity_alone}
+use Rattle.span_csv.specs.near.PositionReading.{is_quantity, next_position, position_behind, positions_after, quantity_alone}
 use Rattle.span_csv.specs.declared.faults.PositionFault.{PositionFault}
 use Rattle.span_csv.specs.declared.faults.PositionFault.TheVariants as fault
 

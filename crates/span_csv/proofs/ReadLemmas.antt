@@ -7,7 +7,7 @@ use Rattle.std.proofs.lemmas.Bool.{eqb-true, false≢true}
 use Rattle.std.proofs.lemmas.List.{append_assoc, append-nil, map-append, length-map}
 use Rattle.span_tables.specs.Faults.{first_that_holds, first_fault_after, ok_unless}
 use Rattle.span_tables.specs.declared.records.Record.{Record}
-use Rattle.span_csv.specs.steps.Checks.{HasTallied, IsFaultOf, NextIs, Tallies}
+use Rattle.span_csv.specs.near.Checks.{HasTallied, IsFaultOf, NextIs, Tallies}
 use Rattle.span_csv.specs.ParamFaults.{param_faults, param_fault, params_of, is_memory}
 use Rattle.span_csv.specs.Records.{Fields, records_of, param_record}
 use Rattle.span_csv.specs.declared.faults.ParamFault.{ParamFault}

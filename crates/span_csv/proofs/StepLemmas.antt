@@ -3,7 +3,7 @@ use Rattle.std.proofs.Common.{◌≡◌, ◌+◌, ◌∙◌, sym, ap, refl, ℕ,
 use Rattle.std.proofs.Common.{false, List, [], ◌∷◌, ◌++◌, length, Option, Some, None}
 use Rattle.std.specs.Prelude.{⊤, ◌==◌, option_map, unwrap_or, MatchBool}
 use Rattle.span_tables.specs.Faults.{first_that_holds}
-use Rattle.span_csv.specs.steps.Checks.{IsFree, IsFaultOf, kind_faults, field_faults}
+use Rattle.span_csv.specs.near.Checks.{IsFree, IsFaultOf, kind_faults, field_faults}
 use Rattle.span_csv.specs.ParamFaults.{exceeds_limit, param_faults, is_memory}
 use Rattle.span_csv.specs.Records.{Fields, RecordKind, a_set, kind_of, record_of_kind, param_record}
 use Rattle.span_csv.specs.declared.faults.ParamFault.{ParamFault}

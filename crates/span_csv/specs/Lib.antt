@@ -3,4 +3,4 @@ pub mod OnLiterals
 pub mod ParamFaults
 pub mod PositionFaults
 pub mod Rows
-pub mod steps
+pub mod near

@@ -1,8 +1,8 @@
 //! The faults of a single record: its kind, its number of fields, and their forms and ranges.
 ghost use Rattle.std.specs.Prelude.{◌≡◌, ◌++◌, MatchResult, OnOk, Some};
 ghost use Rattle.csv.specs.Records.{fields_of};
-ghost use Rattle.span_csv.specs.steps.Checks.{IsFaultOf, IsFree, field_faults, kind_faults};
-ghost use Rattle.span_csv.specs.steps.Grammar.{HasForms, record_kind};
+ghost use Rattle.span_csv.specs.near.Checks.{IsFaultOf, IsFree, field_faults, kind_faults};
+ghost use Rattle.span_csv.specs.near.Grammar.{HasForms, record_kind};
 ghost use Rattle.span_csv.specs.ParamFaults.{is_set};
 ghost use Rattle.span_csv.specs.Records.{kind_of};
 

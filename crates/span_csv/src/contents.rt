@@ -1,7 +1,7 @@
 //! What a record says, whose fields have their forms.
 ghost use Rattle.std.specs.Prelude.{◌≡◌, ◌+◌, ◌<◌, ◌^◌, drop, length, map, pos, true, unwrap_or};
 ghost use Rattle.csv.specs.Records.{fields_of};
-ghost use Rattle.span_csv.specs.steps.Grammar.{HasForms, leg_at, record_kind};
+ghost use Rattle.span_csv.specs.near.Grammar.{HasForms, leg_at, record_kind};
 ghost use Rattle.span_csv.specs.Records.{a_commodity, a_contract, a_set, a_spot, a_tier, an_inter, an_intra, commodity_record};
 ghost use Rattle.span_csv.specs.Records.{contract_record, count_at, inter_leg, inter_record, intra_leg, intra_record, legs_of};
 ghost use Rattle.span_csv.specs.Records.{ratio_at, record_of_kind, set_record, spot_record, text_at, tier_record};

@@ -33,7 +33,7 @@ pub enum ParamFault {
     /// P8: one record more than the limit.
     #[error("record {at} is one more than the limit of its kind")]
     TooMany { at: usize },
-    /// Memory ran out.
+    /// Want of memory.
     #[error("out of memory")]
     OutOfMemory,
 }
@@ -56,7 +56,7 @@ pub enum PositionFault {
     /// Q5: the first record of one account too many.
     #[error("record {at} is of one account more than the limit")]
     TooManyAccounts { at: usize },
-    /// Memory ran out.
+    /// Want of memory.
     #[error("out of memory")]
     OutOfMemory,
 }

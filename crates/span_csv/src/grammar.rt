@@ -3,7 +3,7 @@ ghost use Rattle.std.specs.Char.{is_ascii_uppercase};
 ghost use Rattle.std.specs.List.{list_all};
 ghost use Rattle.std.specs.Prelude.{◌≡◌, ◌&&◌, ◌==◌, ◌+◌, IfSome, drop, length, map, option_map};
 ghost use Rattle.csv.specs.Records.{fields_of};
-ghost use Rattle.span_csv.specs.steps.Grammar.{form_of, record_kind, test_of};
+ghost use Rattle.span_csv.specs.near.Grammar.{form_of, record_kind, test_of};
 ghost use Rattle.span_csv.specs.Records.{all_have, exactly, forms_of, has_number_form};
 ghost use Rattle.span_csv.specs.Records.{has_word_form, is_in_range, is_within, kind_named, text_at};
 

@@ -1,7 +1,7 @@
 //! The reader of parameter files.
 ghost use Rattle.std.specs.Prelude.{◌≡◌, ◌+◌, ◌<◌, ◌^◌, Err, List, MatchBool, MatchResult, Ok, length, ⊤};
 ghost use Rattle.csv.specs.Records.{fields_of};
-ghost use Rattle.span_csv.specs.steps.Checks.{HasTallied, NextIs, Tallies};
+ghost use Rattle.span_csv.specs.near.Checks.{HasTallied, NextIs, Tallies};
 ghost use Rattle.span_csv.specs.ParamFaults.{is_memory, params_of};
 ghost use Rattle.span_csv.specs.Records.{Fields};
 ghost use Rattle.span_tables.specs.Gives.{Gives};

@@ -1,8 +1,8 @@
 //! How many records of each kind were read, as far as there is a limit.
 ghost use Rattle.std.specs.Prelude.{◌≡◌, ◌+◌, ◌<◌, ◌^◌, List, OnOk, [], ℕ};
 ghost use Rattle.csv.specs.Records.{fields_of};
-ghost use Rattle.span_csv.specs.steps.Checks.{CountsOne, count_in, limit_of};
-ghost use Rattle.span_csv.specs.steps.Grammar.{HasForms, record_kind};
+ghost use Rattle.span_csv.specs.near.Checks.{CountsOne, count_in, limit_of};
+ghost use Rattle.span_csv.specs.near.Grammar.{HasForms, record_kind};
 ghost use Rattle.span_csv.specs.Records.{text_at};
 
 use crate::fields::name_at;
@@ -67,7 +67,7 @@ pub(crate) struct Tally {
 }
 
 impl Tally {
-    ghost use Rattle.span_csv.specs.steps.Checks.{Adds, Tallies, count_for};
+    ghost use Rattle.span_csv.specs.near.Checks.{Adds, Tallies, count_for};
 
     /// No record.
     pub(crate) fn new(alloc: Global) -> Tally

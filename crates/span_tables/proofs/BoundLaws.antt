@@ -9,7 +9,7 @@ use Rattle.span_tables.specs.Holdings.{AreHeld, ArePortfolio, fits}
 use Rattle.span_tables.specs.Net.{held_of}
 use Rattle.span_tables.specs.Tables.{AcceptedTables}
 use Rattle.span_tables.specs.declared.portfolios.Holding.{Holding}
-use Rattle.span_tables.specs.steps.Gathered.{holdings_in}
+use Rattle.span_tables.specs.near.Gathered.{holdings_in}
 use Rattle.span_tables.proofs.HeldLemmas.{are_held, are_holdings, held_in}
 use Rattle.span_tables.proofs.SumLaws.{int_sum_by-cons}
 

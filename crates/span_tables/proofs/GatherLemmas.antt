@@ -13,7 +13,7 @@ use Rattle.span_tables.specs.Tables.{AcceptedTables}
 use Rattle.span_tables.specs.declared.portfolios.Holding.{Holding}
 use Rattle.span_tables.specs.declared.records.Commodity.{Commodity}
 use Rattle.span_tables.specs.declared.records.Contract.{Contract}
-use Rattle.span_tables.specs.steps.Gathered.{commodity_held, holdings_in}
+use Rattle.span_tables.specs.near.Gathered.{commodity_held, holdings_in}
 use Rattle.span_tables.proofs.GroupLemmas.{copies_none, copies_push}
 use Rattle.span_tables.proofs.HeldLemmas.{all_known, are_holdings, held_in}
 

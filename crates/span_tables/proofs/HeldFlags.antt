@@ -11,7 +11,7 @@ use Rattle.span_tables.specs.Net.{held_of}
 use Rattle.span_tables.specs.Tables.{AcceptedTables}
 use Rattle.span_tables.specs.declared.portfolios.Holding.{Holding}
 use Rattle.span_tables.specs.declared.records.Commodity.{Commodity}
-use Rattle.span_tables.specs.steps.Gathered.{holdings_in}
+use Rattle.span_tables.specs.near.Gathered.{holdings_in}
 use Rattle.span_tables.proofs.GatherLemmas.{gathered_none, gathered_some}
 use Rattle.span_tables.proofs.HeldLemmas.{are_holdings, held_in, length_held}
 use Rattle.span_tables.proofs.Places.{place_names}

@@ -13,7 +13,7 @@ use Rattle.span_tables.specs.Tables.{AcceptedTables}
 use Rattle.span_tables.specs.declared.limits.TheConstants.{MAX_HELD, MAX_NET}
 use Rattle.span_tables.specs.declared.portfolios.Holding.{Holding}
 use Rattle.span_tables.specs.declared.records.Contract.{Contract}
-use Rattle.span_tables.specs.steps.Gathered.{commodity_held, holdings_in}
+use Rattle.span_tables.specs.near.Gathered.{commodity_held, holdings_in}
 use Rattle.span_tables.proofs.Places.{place_names}
 
 -- a number made of the element at k passes as the element does

@@ -4,7 +4,7 @@ use Rattle.std.proofs.Common.{length, map, filter, get_or, refl, ap, ◌∙◌, 
 use Rattle.std.specs.Prelude.{bytes_eq, option_map, slice_get, unwrap_or}
 use Rattle.std.proofs.lemmas.List.{length-map}
 use Rattle.span_tables.specs.Accepted.{IsAccepted, IsTables, commodity_id, commodity_number}
-use Rattle.span_tables.specs.steps.ByKind.{AreByKind}
+use Rattle.span_tables.specs.near.ByKind.{AreByKind}
 use Rattle.span_tables.specs.Limits.{is_readable}
 use Rattle.span_tables.specs.Rules.{keeps_rules}
 use Rattle.span_tables.specs.Tables.{AcceptedTables, inter_spread, inters_of, intra_spread}

@@ -7,7 +7,7 @@ use Rattle.std.proofs.lemmas.Nat.Bits.{bit_at-zero, bit_at_and, bit_at_ones}
 use Rattle.span_tables.specs.Slots.{IsMarked, IsTierMarked, month_count, with_slot}
 use Rattle.span_tables.specs.declared.records.MonthLeg.{MonthLeg}
 use Rattle.span_tables.specs.declared.slots.TheConstants.{SLOTS}
-use Rattle.span_tables.specs.steps.Tiers.{HasMonths, HaveMonths}
+use Rattle.span_tables.specs.near.Tiers.{HasMonths, HaveMonths}
 use Rattle.span_tables.proofs.SlotLemmas.{marked_kept, marked_new}
 
 -- a later month has no smaller place

@@ -11,6 +11,6 @@ pub mod Holdings
 pub mod Sides
 pub mod Slots
 pub mod Spreads
-pub mod steps
+pub mod near
 pub mod Laws
 pub mod Samples

@@ -7,7 +7,7 @@ ghost use Rattle.span_tables.specs.Accepted.{IsContract, IsWithinLimits, commodi
 ghost use Rattle.span_tables.specs.Holdings.{AreHeld, AreHoldings, fits};
 ghost use Rattle.span_tables.specs.Net.{held_contracts, held_of};
 ghost use Rattle.span_tables.specs.declared.limits.TheConstants.{MAX_HELD, MAX_NET};
-ghost use Rattle.span_tables.specs.steps.Gathered.{holdings_in};
+ghost use Rattle.span_tables.specs.near.Gathered.{holdings_in};
 
 use crate::groups::{lists_with_room, push_at};
 use crate::limits::MAX_COMMODITIES;

@@ -1,6 +1,6 @@
 //! The records of a file by their kinds.
 ghost use Rattle.std.specs.Prelude.{◌≡◌, ◌++◌, true, IfOk, OnOk, option_to_list};
-ghost use Rattle.span_tables.specs.steps.ByKind.{AreByKind};
+ghost use Rattle.span_tables.specs.near.ByKind.{AreByKind};
 ghost use Rattle.span_tables.specs.Limits.{begins_with_set};
 ghost use Rattle.span_tables.specs.Rules.{as_commodity, as_contract, as_inter, as_intra, as_spot, as_tier};
 ghost use Rattle.span_tables.specs.Tables.{set_id_in};
@@ -22,7 +22,7 @@ pub(crate) struct Kinds {
 
 impl Kinds {
     ghost use Rattle.std.specs.Prelude.{◌≡◌, []};
-    ghost use Rattle.span_tables.specs.steps.ByKind.{AreByKind};
+    ghost use Rattle.span_tables.specs.near.ByKind.{AreByKind};
 
     fn new(alloc: Global) -> Kinds
         ensures { AreByKind [] result.commodities.items result.contracts.items result.tiers.items result.intras.items result.spots.items

@@ -1,7 +1,7 @@
 //! The records of both files (docs/FORMATS.md), and the spreads that the tables make of them: plain data, in the units
 //! of docs/METHOD.md, "Units".
 ghost use Rattle.std.specs.Prelude.{◌≡◌};
-ghost use Rattle.span_tables.specs.steps.Legs.{slots_on};
+ghost use Rattle.span_tables.specs.near.Legs.{slots_on};
 
 use crate::name::Name;
 use crate::sides::{Direction, market_side};
@@ -213,7 +213,7 @@ pub struct Intra {
 
 impl Model for Intra {
     ghost use Rattle.span_tables.specs.Spreads.{IntraSpread};
-    ghost use Rattle.span_tables.specs.steps.Tiers.{HaveMonths};
+    ghost use Rattle.span_tables.specs.near.Tiers.{HaveMonths};
 
     ghost Value = { IntraSpread };
 
@@ -284,7 +284,7 @@ pub struct Inter {
 
 impl Model for Inter {
     ghost use Rattle.span_tables.specs.Spreads.{InterSpread};
-    ghost use Rattle.span_tables.specs.steps.Legs.{AreOfLegs};
+    ghost use Rattle.span_tables.specs.near.Legs.{AreOfLegs};
 
     ghost Value = { InterSpread };
 

@@ -2,7 +2,7 @@
 ghost use Rattle.std.specs.Prelude.{◌≡◌, ◌≤◌, All, length, true};
 ghost use Rattle.span_tables.specs.Sides.{market_side};
 ghost use Rattle.span_tables.specs.Slots.{IsTierMarked, month_count, numbers_on};
-ghost use Rattle.span_tables.specs.steps.Tiers.{HasMonths, HaveMonths};
+ghost use Rattle.span_tables.specs.near.Tiers.{HasMonths, HaveMonths};
 
 use crate::records::MonthLeg;
 use crate::sides::{Direction, market_side};

@@ -12,12 +12,12 @@ use std::marker::Model;
 /// A writer, and whether a write to it failed. Only a write that failed sets the mark, and nothing takes it back, so
 /// that a caller who promises its bytes `Says` has to try to write them.
 #[derive(Drop)]
-pub struct Told<W: Write> {
+pub struct MarkedWriter<W: Write> {
     writer: W,
     failed: bool,
 }
 
-impl<W: Write> Model for Told<W> {
+impl<W: Write> Model for MarkedWriter<W> {
     ghost use Rattle.span_told.specs.Streams.{Stream};
 
     ghost Value = { Stream };
@@ -25,13 +25,13 @@ impl<W: Write> Model for Told<W> {
     ghost view = { λ t. record { held = W.contents t.writer; failed = t.failed } };
 }
 
-impl<W: Write> Told<W> {
+impl<W: Write> MarkedWriter<W> {
     /// A writer to which no write has failed.
-    pub fn new(writer: W) -> Told<W>
+    pub fn new(writer: W) -> MarkedWriter<W>
         ensures held { result.held ≡ W.contents writer }
         ensures failed { result.failed ≡ false }
     {
-        Told {
+        MarkedWriter {
             writer,
             failed: false,
         }

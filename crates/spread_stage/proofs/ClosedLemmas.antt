@@ -21,7 +21,7 @@ use Rattle.spread_stage.specs.Charges.{delivery_charge, spot_charge}
 use Rattle.spread_stage.specs.Months.{IsPartOf, Shrinks}
 use Rattle.spread_stage.specs.Spreads.{after_spreads, is_in_tier, spread_both_ways, spread_one_way, TierRests, tier_rooms, tier_side}
 use Rattle.spread_stage.specs.Spreads.{unspread}
-use Rattle.spread_stage.specs.steps.Sides.{HaveSides}
+use Rattle.spread_stage.specs.near.Sides.{HaveSides}
 use Rattle.spread_stage.specs.declared.months.MonthUnits.{MonthUnits}
 use Rattle.spread_stage.proofs.SpreadLemmas.{legs_none}
 use Rattle.spread_stage.proofs.UseLaws.{side-cons, weight}

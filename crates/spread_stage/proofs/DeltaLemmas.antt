@@ -9,7 +9,7 @@ use Rattle.std.proofs.lemmas.List.Sums.{sum_by-cons}
 use Rattle.span_money.specs.Numbers.{int_sum_by}
 use Rattle.spread_stage.specs.Deltas.{units_of, with_month, months_of, month_delta, month_deltas}
 use Rattle.spread_stage.specs.Months.{total_size}
-use Rattle.spread_stage.specs.steps.Uses.{with_units}
+use Rattle.spread_stage.specs.near.Uses.{with_units}
 use Rattle.span_tables.specs.Net.{HeldContract}
 use Rattle.spread_stage.specs.declared.months.MonthUnits.{MonthUnits}
 use Rattle.span_tables.proofs.SumLaws.{int_sum_by-if}

@@ -8,7 +8,7 @@ use Rattle.std.proofs.lemmas.Bool.Decides.{nat_tests}
 use Rattle.std.proofs.lemmas.List.{take-append-drop, take-set, drop-set}
 use Rattle.std.proofs.lemmas.List.Sums.{fails_before_first}
 use Rattle.std.proofs.lemmas.List.Quantifiers.{position-Some}
-use Rattle.spread_stage.specs.steps.Uses.{with_units}
+use Rattle.spread_stage.specs.near.Uses.{with_units}
 use Rattle.spread_stage.specs.declared.months.MonthUnits.{MonthUnits}
 
 -- what stands at a place does not depend on the value beyond the end

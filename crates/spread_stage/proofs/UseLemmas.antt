@@ -4,7 +4,7 @@ use Rattle.std.proofs.Common.{◌∙◌, subst, arith, append_assoc, map}
 use Rattle.span_tables.specs.Sides.{part_on, less_used}
 use Rattle.span_tables.specs.declared.sides.MarketSide.{MarketSide}
 use Rattle.spread_stage.specs.Spreads.{is_in_tier, tier_side, used_of_month, rests_after_leg}
-use Rattle.spread_stage.specs.steps.Uses.{used_now, used_in_turn}
+use Rattle.spread_stage.specs.near.Uses.{used_now, used_in_turn}
 use Rattle.spread_stage.specs.Months.{MonthsRise}
 use Rattle.span_tables.specs.declared.records.MonthLeg.{MonthLeg}
 use Rattle.spread_stage.specs.declared.months.MonthUnits.{MonthUnits}

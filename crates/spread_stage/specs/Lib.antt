@@ -4,4 +4,4 @@ pub mod Charges
 pub mod Months
 pub mod Laws
 pub mod Samples
-pub mod steps
+pub mod near

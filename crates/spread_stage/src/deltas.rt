@@ -4,7 +4,7 @@ ghost use Rattle.span_tables.specs.Accepted.{IsContract};
 ghost use Rattle.span_tables.specs.declared.limits.TheConstants.{MAX_DELTA, MAX_NET, MAX_SCALE, MAX_UNITS};
 ghost use Rattle.spread_stage.specs.Deltas.{month_deltas, units_of};
 ghost use Rattle.spread_stage.specs.Months.{total_size};
-ghost use Rattle.spread_stage.specs.steps.Uses.{with_units};
+ghost use Rattle.spread_stage.specs.near.Uses.{with_units};
 
 use crate::months::{MonthUnits, Months};
 use span_money::amounts::Units;

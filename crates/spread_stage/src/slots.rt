@@ -1,5 +1,5 @@
 //! The sides of the market on which months may have rests.
-ghost use Rattle.spread_stage.specs.steps.Sides.{HaveSides};
+ghost use Rattle.spread_stage.specs.near.Sides.{HaveSides};
 
 use crate::months::MonthUnits;
 use span_tables::slots::OpenSides;

@@ -6,8 +6,8 @@ ghost use Rattle.span_tables.specs.Sides.{spreads_formed};
 ghost use Rattle.span_tables.specs.declared.limits.TheConstants.{MAX_RATE, MAX_UNITS};
 ghost use Rattle.spread_stage.specs.Months.{AreMonths, AreTierRests, MonthsRise, Shrinks, total_size};
 ghost use Rattle.spread_stage.specs.Spreads.{is_in_tier, rests_after, rests_after_leg, spread_both_ways, tier_rooms, tier_side, unspread};
-ghost use Rattle.spread_stage.specs.steps.Sides.{HaveSides};
-ghost use Rattle.spread_stage.specs.steps.Uses.{used_now};
+ghost use Rattle.spread_stage.specs.near.Sides.{HaveSides};
+ghost use Rattle.spread_stage.specs.near.Uses.{used_now};
 ghost use Rattle.spread_stage.specs.declared.months.MonthUnits.{MonthUnits};
 
 use crate::months::{MonthUnits, Months};
@@ -31,7 +31,7 @@ pub struct TierState {
 
 impl Model for TierState {
     ghost use Rattle.spread_stage.specs.Spreads.{TierRests};
-    ghost use Rattle.spread_stage.specs.steps.Sides.{AreTiers};
+    ghost use Rattle.spread_stage.specs.near.Sides.{AreTiers};
 
     ghost Value = { TierRests };
 

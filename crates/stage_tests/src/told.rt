@@ -1,5 +1,5 @@
 //! Writers that fail, and writers that do not.
-use span_told::Told;
+use span_told::MarkedWriter;
 use std::fmt;
 use std::fmt::{Display, Formatter};
 use std::io::Write;
@@ -17,7 +17,7 @@ impl Display for Unsayable {
 
 #[test]
 fn keeps_the_bytes_in_order(rt: HostRuntime) -> Result<(), Fail> {
-    let mut told = Told::new(Vec::new(rt.alloc()));
+    let mut told = MarkedWriter::new(Vec::new(rt.alloc()));
     told.write_all(b"one,")?;
     writeln!(told, "{} {}", 2, "three")?;
     assert!(rt; !told.failed());
@@ -28,7 +28,7 @@ fn keeps_the_bytes_in_order(rt: HostRuntime) -> Result<(), Fail> {
 #[test]
 fn remembers_a_failed_write(rt: HostRuntime) -> Result<(), Fail> {
     let mut room = [0; 5];
-    let mut told = Told::new(&mut room[..]);
+    let mut told = MarkedWriter::new(&mut room[..]);
     assert!(rt; told.write_all(b"1234").is_ok() && !told.failed());
     assert!(rt; told.write_all(b"56").is_err() && told.failed());
     // A write of nothing succeeds, and takes nothing back.
@@ -40,11 +40,11 @@ fn remembers_a_failed_write(rt: HostRuntime) -> Result<(), Fail> {
 #[test]
 fn remembers_a_failed_text(rt: HostRuntime) -> Result<(), Fail> {
     let mut room = [0; 2];
-    let mut told = Told::new(&mut room[..]);
+    let mut told = MarkedWriter::new(&mut room[..]);
     assert!(rt; write!(told, "{}", 12).is_ok() && !told.failed());
     assert!(rt; write!(told, "{}", 3).is_err() && told.failed());
     let mut room = [0; 2];
-    let mut told = Told::new(&mut room[..]);
+    let mut told = MarkedWriter::new(&mut room[..]);
     assert!(rt; write!(told, "{}", Unsayable).is_err() && told.failed());
     Ok(())
 }

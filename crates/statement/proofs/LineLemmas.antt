@@ -5,7 +5,7 @@ use Rattle.std.specs.Fmt.{signed_decimal}
 use Rattle.std.specs.List.{join_with_byte, range_with_len}
 use Rattle.std.proofs.lemmas.List.FromFn.{map-range_with_len_more}
 use Rattle.std.proofs.lemmas.List.{append_assoc, append-nil, map-id}
-use Rattle.statement.specs.steps.LineForms.{field, figures_form, total_form}
+use Rattle.statement.specs.near.LineForms.{field, figures_form, total_form}
 use Rattle.statement.specs.Statement.{figures_line, total_line}
 use Rattle.plan_ir.specs.declared.figures.Figures.{Figures}
 

@@ -11,7 +11,7 @@ use Rattle.worker_pool.specs.Outcomes.{AreOutcomes}
 use Rattle.worker_pool.specs.declared.outcomes.Outcome.{Outcome}
 use Rattle.worker_pool.specs.declared.outcomes.Outcome.TheVariants.{Margined, NoMemory}
 use Rattle.statement.specs.Statement.{row_text, statement_text}
-use Rattle.statement.specs.steps.Rows.{AreRows, rows_under}
+use Rattle.statement.specs.near.Rows.{AreRows, rows_under}
 
 -- one outcome more
 pub rows_more : (outcomes : List Outcome) (rows : List RowView) (row : Arc RowView Global) → AreRows outcomes rows

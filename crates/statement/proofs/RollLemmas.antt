@@ -14,7 +14,7 @@ use Rattle.statement.specs.Answers.{is_memory}
 use Rattle.statement.specs.Rolls.{GivesRoll, RefusesRoll, is_ok, roll_of}
 use Rattle.statement.specs.SpanFaults.{of_next}
 use Rattle.statement.specs.Statement.{accepted_of, and_then, margin_of, same, statement_bound, statement_of, statement_under}
-use Rattle.statement.specs.steps.Seconds.{IsPublished, RefusesNext, RefusesSecond, RefusesUnder, Rolls, RollsUnder, second_of}
+use Rattle.statement.specs.near.Seconds.{IsPublished, RefusesNext, RefusesSecond, RefusesUnder, Rolls, RollsUnder, second_of}
 use Rattle.statement.specs.declared.faults.SpanFault.{SpanFault}
 use Rattle.statement.specs.declared.faults.SpanFault.TheVariants as fault
 use Rattle.statement.proofs.FaultLemmas.{accepted_of_files, bound_of_files, is_of_files, statement_of_files}

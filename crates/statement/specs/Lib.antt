@@ -7,4 +7,4 @@ pub mod Samples
 pub mod Rolls
 pub mod SpanFaults
 pub mod Statement
-pub mod steps
+pub mod near

@@ -3,7 +3,7 @@ ghost use Rattle.plan_compiler.specs.Compiled.{SetView};
 ghost use Rattle.span_tables.specs.Holdings.{fits};
 ghost use Rattle.span_tables.specs.Net.{AccountHoldings};
 ghost use Rattle.statement.specs.Statement.{statement_text};
-ghost use Rattle.statement.specs.steps.Rows.{AreRows, rows_under};
+ghost use Rattle.statement.specs.near.Rows.{AreRows, rows_under};
 ghost use Rattle.std.specs.Arc.{arc_value};
 ghost use Rattle.std.specs.Prelude.{◌≡◌, ◌++◌, All, IfOk, List, OnOk, length, map, true};
 ghost use Rattle.worker_pool.specs.Outcomes.{AreOutcomes};

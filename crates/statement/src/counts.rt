@@ -1,7 +1,7 @@
 //! What is said of a parameter file by itself.
 ghost use Rattle.statement.specs.Answers.{Gives};
 ghost use Rattle.statement.specs.Counts.{counts_line, counts_of};
-ghost use Rattle.statement.specs.steps.LineForms.{counts_form};
+ghost use Rattle.statement.specs.near.LineForms.{counts_form};
 ghost use Rattle.std.specs.Prelude.{◌≡◌, IfOk};
 
 use crate::faults::SpanFault;

@@ -1,7 +1,7 @@
 //! The lines that say why there is no statement (docs/FORMATS.md, Fault lines and statuses).
 ghost use Rattle.statement.specs.FaultLines.{account_line, bind_line, book_line, check_line, fault_line, param_line};
 ghost use Rattle.statement.specs.FaultLines.{place_text, position_line, record_line};
-ghost use Rattle.statement.specs.steps.LineParts.{text_of};
+ghost use Rattle.statement.specs.near.LineParts.{text_of};
 ghost use Rattle.span_told.specs.Streams.{Says};
 ghost use Rattle.std.specs.Io.KnownBytes.{Appends};
 ghost use Rattle.std.specs.Prelude.{◌++◌, ◌≡◌, OnOk, codes};
@@ -11,7 +11,7 @@ use param_check::faults::{BindFault, CheckFault};
 use result_book::books::BookFault;
 use span_csv::faults::{ParamFault, PositionFault};
 use span_tables::name::Name;
-use span_told::Told;
+use span_told::MarkedWriter;
 use std::io;
 use std::io::Write;
 
@@ -40,7 +40,7 @@ enum Line<'a> {
     },
     // The next set is not on the shelf.
     Shelf,
-    // Memory ran out.
+    // Want of memory.
     Memory,
 }
 
@@ -232,14 +232,14 @@ pub fn write_fault<W: Write>(fault: &SpanFault, out: &mut W) -> io::Result<()>
 }
 
 // Tells the line of positions that do not fit, up to the account.
-fn tell_start<W: Write>(file: &str, code: &str, at: usize, out: &mut Told<W>)
+fn tell_start<W: Write>(file: &str, code: &str, at: usize, out: &mut MarkedWriter<W>)
     ensures { Says out.old out.new (place_text file.now code.now at) }
 {
     let _ = write!(out, "{file}: {code} at record {at} account ");
 }
 
 // Tells the rest of it.
-fn tell_account<W: Write>(account: &Name, out: &mut Told<W>)
+fn tell_account<W: Write>(account: &Name, out: &mut MarkedWriter<W>)
     ensures { Says out.old out.new (account.now ++ codes "\n") }
 {
     let _ = out.write_all(account.as_bytes());
@@ -247,7 +247,13 @@ fn tell_account<W: Write>(account: &Name, out: &mut Told<W>)
 }
 
 // Tells that line.
-fn tell_place<W: Write>(file: &str, code: &str, at: usize, account: &Name, out: &mut Told<W>)
+fn tell_place<W: Write>(
+    file: &str,
+    code: &str,
+    at: usize,
+    account: &Name,
+    out: &mut MarkedWriter<W>,
+)
     ensures { Says out.old out.new (account_line file.now code.now at account.now) }
 {
     tell_start(file, code, at, out);
@@ -255,7 +261,7 @@ fn tell_place<W: Write>(file: &str, code: &str, at: usize, account: &Name, out: 
 }
 
 // Tells a line.
-fn tell_line<W: Write>(line: &Line<'_>, out: &mut Told<W>)
+fn tell_line<W: Write>(line: &Line<'_>, out: &mut MarkedWriter<W>)
     ensures { Says out.old out.new (text_of line.now) }
 {
     match line {
@@ -284,7 +290,7 @@ fn tell_line<W: Write>(line: &Line<'_>, out: &mut Told<W>)
 }
 
 /// Writes the line of a fault to a writer that remembers a failed write.
-pub fn tell_fault<W: Write>(fault: &SpanFault, out: &mut Told<W>)
+pub fn tell_fault<W: Write>(fault: &SpanFault, out: &mut MarkedWriter<W>)
     ensures { Says out.old out.new (fault_line fault.now) }
 {
     let line = line_of(fault);

@@ -45,7 +45,7 @@ pub enum SpanFault {
     /// The next set is not what the shelf has.
     #[error("shelf: the next set is not there")]
     Shelf,
-    /// Memory ran out.
+    /// Want of memory.
     #[error("out of memory")]
     Memory,
 }

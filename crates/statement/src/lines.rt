@@ -1,5 +1,5 @@
 //! The text of a statement.
-ghost use Rattle.statement.specs.steps.LineForms.{field, figures_fields, figures_form, number, total_form};
+ghost use Rattle.statement.specs.near.LineForms.{field, figures_fields, figures_form, number, total_form};
 ghost use Rattle.statement.specs.Statement.{commodity_text, figures_line, row_text, total_line};
 ghost use Rattle.std.specs.Arc.{arc_value};
 ghost use Rattle.std.specs.Prelude.{[], ◌++◌, ◌∷◌, ◌≡◌, ◌<◌, IfOk, OnOk, flat_map, length, map};

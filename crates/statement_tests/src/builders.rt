@@ -3,7 +3,7 @@ use span_cli::memory::InMemory;
 use span_cli::serving::{Request, serve};
 use span_cli::sources::Sources;
 use span_cli::words::run_words;
-use span_told::Told;
+use span_told::MarkedWriter;
 use std::alloc::Global;
 use std::io;
 use std::io::{ErrorKind, Write};
@@ -40,8 +40,8 @@ pub(crate) fn run_on<S: Sources, R: Threads + Wait + Clock + Sync>(
     words: &[&str],
     sources: &mut S,
 ) -> Given {
-    let mut out = Told::new(Vec::new(alloc));
-    let mut err = Told::new(Vec::new(alloc));
+    let mut out = MarkedWriter::new(Vec::new(alloc));
+    let mut err = MarkedWriter::new(Vec::new(alloc));
     let status = run_words(rt, alloc, words, sources, &OpenGate, &mut out, &mut err);
     Given {
         status,
@@ -58,8 +58,8 @@ pub(crate) fn answer<R: Threads + Wait + Clock + Sync>(
     files: &[(&str, &[u8])],
 ) -> Given {
     let mut sources = InMemory { files };
-    let mut out = Told::new(Vec::new(alloc));
-    let mut err = Told::new(Vec::new(alloc));
+    let mut out = MarkedWriter::new(Vec::new(alloc));
+    let mut err = MarkedWriter::new(Vec::new(alloc));
     let status = serve(
         rt,
         alloc,

@@ -2,7 +2,7 @@
 use param_check::faults::{BindFault, CheckFault};
 use span_csv::faults::{ParamFault, PositionFault};
 use span_tables::name::Name;
-use span_told::Told;
+use span_told::MarkedWriter;
 use statement::fault_lines::{tell_fault, write_fault};
 use statement::faults::{SpanFault, status};
 use statement::margin::margin_plain;
@@ -103,7 +103,7 @@ fn says(
     let mut out = Vec::new(alloc);
     write_fault(&fault, &mut out)?;
     assert_eq!(rt; out.as_slice(), line.as_bytes());
-    let mut out = Told::new(Vec::new(alloc));
+    let mut out = MarkedWriter::new(Vec::new(alloc));
     tell_fault(&fault, &mut out);
     assert!(rt; !out.failed());
     assert_eq!(rt; out.into_inner().as_slice(), line.as_bytes());
@@ -176,7 +176,7 @@ fn line_without_room(rt: HostRuntime) {
         b"positions: B3 TooManyHeld at record 9 ac".as_slice()
     );
     let mut room = [0; 40];
-    let mut out = Told::new(&mut room[..]);
+    let mut out = MarkedWriter::new(&mut room[..]);
     tell_fault(&fault, &mut out);
     assert!(rt; out.failed());
 }

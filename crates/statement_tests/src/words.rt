@@ -3,7 +3,7 @@ use crate::builders::{Breaking, Given, ONE_FUTURE, run_on};
 use span_cli::memory::InMemory;
 use span_cli::sources::{ReadFault, Sources};
 use span_cli::words::{refuse_words, run_words};
-use span_told::Told;
+use span_told::MarkedWriter;
 use std::alloc::Global;
 use std::io;
 use std::io::{ErrorKind, Write};
@@ -295,8 +295,8 @@ fn run_into<W: Write, E: Write, R: Threads + Wait + Clock + Sync>(
 ) -> (u8, W, E) {
     let files = FILES;
     let mut sources = InMemory { files: &files };
-    let mut out = Told::new(out);
-    let mut err = Told::new(err);
+    let mut out = MarkedWriter::new(out);
+    let mut err = MarkedWriter::new(err);
     let status = run_words(
         rt,
         alloc,
@@ -493,7 +493,7 @@ fn refuses_words_that_cannot_be_read(rt: HostRuntime) -> Result<(), Fail> {
         (ErrorKind::OutOfMemory, 5, b"memory\n"),
     ];
     for (kind, status, line) in cases {
-        let mut err = Told::new(Vec::new(rt.alloc()));
+        let mut err = MarkedWriter::new(Vec::new(rt.alloc()));
         assert_eq!(rt; refuse_words(&io::Error::from(kind), &mut err), status);
         assert!(rt; err.into_inner().as_slice() == line);
     }

@@ -12,9 +12,9 @@ use Rattle.step_scheduler.specs.declared.events.Event.TheVariants.{Take, Finish}
 use Rattle.step_scheduler.specs.declared.progress.Progress.{Progress}
 use Rattle.step_scheduler.specs.declared.progress.Progress.TheVariants.{Waiting, Taken, Done}
 use Rattle.step_scheduler.specs.Runs.{takes, finishes, is_taken, is_finished, IsReady}
-use Rattle.step_scheduler.specs.steps.Steps.{was_taken, is_done, events_of, progress_at, CanStart}
+use Rattle.step_scheduler.specs.near.Steps.{was_taken, is_done, events_of, progress_at, CanStart}
 use Rattle.step_scheduler.specs.Boards.{IsComplete}
-use Rattle.step_scheduler.specs.steps.Kept.{IsRunBoard}
+use Rattle.step_scheduler.specs.near.Kept.{IsRunBoard}
 use Rattle.step_scheduler.proofs.Histories.{is_taken-push, is_finished-push, run_push}
 
 pub true_or_false : (b : Bool) → (b ≡ true) ⊎ (b ≡ false)

@@ -11,17 +11,17 @@ use Rattle.plan_ir.specs.Plans.{StepView, inputs_at, users_of}
 use Rattle.plan_ir.specs.declared.values.Value.{Value}
 use Rattle.step_scheduler.specs.declared.progress.Progress.{Progress}
 use Rattle.step_scheduler.specs.declared.progress.Progress.TheVariants.{Waiting, Taken, Done}
-use Rattle.step_scheduler.specs.steps.Steps.{was_taken, is_done, progress_at, AreDone, CanStart}
-use Rattle.step_scheduler.specs.steps.Counts.{times, open_inputs, ready_times, freed_times, IsCounted}
+use Rattle.step_scheduler.specs.near.Steps.{was_taken, is_done, progress_at, AreDone, CanStart}
+use Rattle.step_scheduler.specs.near.Counts.{times, open_inputs, ready_times, freed_times, IsCounted}
 use Rattle.std.specs.Arc.{arc_value}
 use Rattle.plan_compiler.specs.Compiled.{IsFirstInput}
 use Rattle.step_scheduler.specs.Jobs.{JobView, meaning_at}
 use Rattle.step_scheduler.specs.Runs.{IsReady, AllFinished, is_finished, unfinished}
-use Rattle.step_scheduler.specs.steps.Kept.{IsCountedBoard}
+use Rattle.step_scheduler.specs.near.Kept.{IsCountedBoard}
 use Rattle.step_scheduler.specs.declared.events.Event.{Event}
 use Rattle.step_scheduler.specs.declared.events.Event.TheVariants.{Take, Finish}
 use Rattle.step_scheduler.proofs.BoardLemmas.{board_takes, board_finishes, waiting_not_done}
-use Rattle.step_scheduler.specs.steps.Keeping.{Place, is_full, place_at, IsHanded}
+use Rattle.step_scheduler.specs.near.Keeping.{Place, is_full, place_at, IsHanded}
 use Rattle.step_scheduler.proofs.Places.{kept_at_end, kept_takes, kept_finishes}
 use Rattle.step_scheduler.proofs.Counting.{times_push_same, times_push_other, Released}
 use Rattle.step_scheduler.proofs.UserLemmas.{HasUsers, has_users}

@@ -6,7 +6,7 @@ use Rattle.std.proofs.Common.{get_or-set_other, length-append, add_assoc, zero-a
 use Rattle.std.proofs.lemmas.Bool.{cases_eq, ne_eqb}
 use Rattle.std.proofs.lemmas.List.{take_more, length-set, take-append-drop}
 use Rattle.std.proofs.lemmas.List.Elements.{All-push}
-use Rattle.step_scheduler.specs.steps.Counts.{times, freed_times}
+use Rattle.step_scheduler.specs.near.Counts.{times, freed_times}
 
 pub times-append : (x : ℕ) (ys zs : List ℕ) → times x (ys ++ zs) ≡ times x ys + times x zs
 times-append x [] zs = sym (zero-add (times x zs))

@@ -13,10 +13,10 @@ use Rattle.plan_compiler.specs.Compiled.{IsFirstInput}
 use Rattle.step_scheduler.specs.declared.progress.Progress.{Progress}
 use Rattle.step_scheduler.specs.declared.progress.Progress.TheVariants.{Waiting, Taken, Done}
 use Rattle.step_scheduler.specs.Jobs.{JobView, inputs_for, meaning_at}
-use Rattle.step_scheduler.specs.steps.Steps.{was_taken, is_done, progress_at, CanStart}
-use Rattle.step_scheduler.specs.steps.Counts.{times}
-use Rattle.step_scheduler.specs.steps.Keeping.{Place, is_full, value_in, place_at, kept_at, AreKept, KeepsMeanings}
-use Rattle.step_scheduler.specs.steps.Keeping.{IsSpent, IsKept, IsOnlyUser, IsHanded}
+use Rattle.step_scheduler.specs.near.Steps.{was_taken, is_done, progress_at, CanStart}
+use Rattle.step_scheduler.specs.near.Counts.{times}
+use Rattle.step_scheduler.specs.near.Keeping.{Place, is_full, value_in, place_at, kept_at, AreKept, KeepsMeanings}
+use Rattle.step_scheduler.specs.near.Keeping.{IsSpent, IsKept, IsOnlyUser, IsHanded}
 use Rattle.step_scheduler.proofs.BoardLemmas.{map_same, true_or_false}
 use Rattle.step_scheduler.proofs.Counting.{stands}
 use Rattle.step_scheduler.proofs.UserLemmas.{HasUsers}

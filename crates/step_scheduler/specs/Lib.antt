@@ -2,4 +2,4 @@ pub mod Jobs
 pub mod Runs
 pub mod Boards
 pub mod Samples
-pub mod steps
+pub mod near

@@ -56,7 +56,7 @@ impl Model for Board {
     ghost use Rattle.std.specs.Prelude.{map, vec_capacity};
     ghost use Rattle.std.specs.Arc.{arc_value};
     ghost use Rattle.step_scheduler.specs.Boards.{BoardView};
-    ghost use Rattle.step_scheduler.specs.steps.Kept.{IsBoard};
+    ghost use Rattle.step_scheduler.specs.near.Kept.{IsBoard};
 
     ghost Value = { BoardView };
 

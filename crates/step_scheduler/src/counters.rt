@@ -5,7 +5,7 @@ ghost use Rattle.std.specs.Prelude.{slice_index, take, vec_capacity};
 ghost use Rattle.plan_ir.specs.Plans.{inputs_at};
 ghost use Rattle.plan_ir.specs.declared.plans.TheConstants.{MAX_INPUTS, MAX_STEPS};
 ghost use Rattle.step_scheduler.specs.declared.progress.Progress.TheVariants.{Waiting};
-ghost use Rattle.step_scheduler.specs.steps.Counts.{times, freed_times, IsCounted};
+ghost use Rattle.step_scheduler.specs.near.Counts.{times, freed_times, IsCounted};
 
 use plan_ir::plans::Plan;
 use std::alloc::{AllocError, Global};

@@ -6,7 +6,7 @@ ghost use Rattle.span_tables.specs.Holdings.{fits};
 ghost use Rattle.span_tables.specs.declared.portfolios.Holding.{Holding};
 ghost use Rattle.plan_ir.specs.Apply.{IsInPlace, Takes, value_on};
 ghost use Rattle.step_scheduler.specs.Jobs.{inputs_for, meaning_at};
-ghost use Rattle.step_scheduler.specs.steps.Tasks.{inputs_of};
+ghost use Rattle.step_scheduler.specs.near.Tasks.{inputs_of};
 
 use crate::finished::Finished;
 use crate::jobs::Job;

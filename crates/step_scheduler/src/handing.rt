@@ -3,8 +3,8 @@ ghost use Rattle.std.specs.Prelude.{◌≡◌, ◌<◌, ◌⊎◌, All, IfOk, If
 ghost use Rattle.std.specs.Arc.{arc_value};
 ghost use Rattle.plan_ir.specs.Plans.{inputs_at, users_of};
 ghost use Rattle.step_scheduler.specs.Jobs.{inputs_for, meaning_at};
-ghost use Rattle.step_scheduler.specs.steps.Keeping.{AreKept, IsHanded, KeepsMeanings, is_full, kept_at, place_at};
-ghost use Rattle.step_scheduler.specs.steps.Kept.{AreHoldsOn};
+ghost use Rattle.step_scheduler.specs.near.Keeping.{AreKept, IsHanded, KeepsMeanings, is_full, kept_at, place_at};
+ghost use Rattle.step_scheduler.specs.near.Kept.{AreHoldsOn};
 
 use crate::jobs::Job;
 use crate::tasks::Task;

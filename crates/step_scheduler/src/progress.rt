@@ -1,6 +1,6 @@
 //! How far the steps of a board are.
 ghost use Rattle.std.specs.Prelude.{◌≡◌, ◌<◌, ◌↔◌, ℕ, IsTrue, length, sum_by, true, false};
-ghost use Rattle.step_scheduler.specs.steps.Steps.{was_taken, is_done, events_of, progress_at};
+ghost use Rattle.step_scheduler.specs.near.Steps.{was_taken, is_done, events_of, progress_at};
 
 /// How far a step is.
 #[derive(Clone, Copy, PartialEq, Eq, Debug)]

@@ -3,7 +3,7 @@ ghost use Rattle.std.specs.Prelude.{◌≡◌, ◌<◌, IfSome, length, map};
 ghost use Rattle.std.specs.Arc.{arc_value};
 ghost use Rattle.std.specs.Option.{option_map};
 ghost use Rattle.step_scheduler.specs.Jobs.{inputs_for, meaning_at};
-ghost use Rattle.step_scheduler.specs.steps.Tasks.{inputs_of};
+ghost use Rattle.step_scheduler.specs.near.Tasks.{inputs_of};
 
 use crate::jobs::Job;
 use plan_ir::values::Value;
@@ -26,7 +26,7 @@ impl Model for Task {
     ghost use Rattle.std.specs.Arc.{arc_value};
     ghost use Rattle.std.specs.Option.{option_map};
     ghost use Rattle.step_scheduler.specs.Jobs.{TaskView};
-    ghost use Rattle.step_scheduler.specs.steps.Tasks.{IsTaskWith, inputs_of};
+    ghost use Rattle.step_scheduler.specs.near.Tasks.{IsTaskWith, inputs_of};
 
     ghost Value = { TaskView };
 

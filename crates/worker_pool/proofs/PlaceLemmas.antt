@@ -10,7 +10,7 @@ use Rattle.worker_pool.specs.Batches.{job_at, jobs_from}
 use Rattle.worker_pool.specs.Outcomes.{AreOutcomes, IsOutcome}
 use Rattle.worker_pool.specs.declared.outcomes.Outcome.{Outcome}
 use Rattle.worker_pool.specs.declared.outcomes.Outcome.TheVariants.{NoMemory}
-use Rattle.worker_pool.specs.steps.Places.{AreOutcomesOf}
+use Rattle.worker_pool.specs.near.Places.{AreOutcomesOf}
 
 -- want of memory for each account is an outcome for each
 pub no_memory_of : (set : SetView) (place : ℕ) (ps : List AccountHoldings)

@@ -4,7 +4,7 @@ ghost use Rattle.std.specs.Arc.{arc_value};
 ghost use Rattle.std.specs.Prelude.{◌≡◌, All, IfOk, IfSome, Some, length, map, slice_get, true};
 ghost use Rattle.worker_pool.specs.Batches.{job_at, jobs_of};
 ghost use Rattle.worker_pool.specs.declared.outcomes.Outcome.TheVariants.{NoMemory};
-ghost use Rattle.worker_pool.specs.steps.Places.{AreOutcomesOf};
+ghost use Rattle.worker_pool.specs.near.Places.{AreOutcomesOf};
 
 use crate::laws::Batch;
 use crate::outcomes::Outcome;
@@ -103,7 +103,7 @@ pub(crate) struct Outcomes<B: Batch> {
 }
 
 impl<B: Batch> Model for Outcomes<B> {
-    ghost use Rattle.worker_pool.specs.steps.Places.{AreOutcomesOf};
+    ghost use Rattle.worker_pool.specs.near.Places.{AreOutcomesOf};
 
     ghost Value = { Unit {0} };
 

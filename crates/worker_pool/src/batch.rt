@@ -6,7 +6,7 @@ ghost use Rattle.std.specs.Prelude.{◌≡◌, ◌<◌, ◌⊎◌, ◌↔◌, Al
 ghost use Rattle.worker_pool.specs.Batches.{jobs_of};
 ghost use Rattle.worker_pool.specs.Outcomes.{AreOutcomes};
 ghost use Rattle.worker_pool.specs.declared.batch.PoolFault.TheVariants as fault;
-ghost use Rattle.worker_pool.specs.steps.Places.{AreOutcomesOf};
+ghost use Rattle.worker_pool.specs.near.Places.{AreOutcomesOf};
 
 use crate::accounts::{Outcomes, Waiting};
 use crate::coordinator::{Coordinator, MOST_OPEN};
@@ -39,7 +39,7 @@ const DEQUE_PLACES: usize = 256;
 pub enum PoolFault {
     /// There are no workers, or more than 16.
     Workers,
-    /// Memory ran out.
+    /// Want of memory.
     OutOfMemory,
 }
 
@@ -55,30 +55,30 @@ impl From<AllocError> for PoolFault {
 type Ends<B> = (OwnEnd<B>, Vec<ThiefEnd<B>>);
 
 // A list of thieves' ends for each helper, begun with one.
-fn hands_of<B: Batch>(
+fn start_shares<B: Batch>(
     alloc: Global,
     thieves: Vec<ThiefEnd<B>>,
 ) -> Result<Vec<Vec<ThiefEnd<B>>>, AllocError> {
-    let mut hands = Vec::with_capacity(alloc, thieves.len())?;
+    let mut shares = Vec::with_capacity(alloc, thieves.len())?;
     for thief in thieves {
-        let mut hand = Vec::new(alloc);
-        hand.push(thief)?;
-        hands.push(hand)?;
+        let mut share = Vec::new(alloc);
+        share.push(thief)?;
+        shares.push(share)?;
     }
-    Ok(hands)
+    Ok(shares)
 }
 
 // Gives each helper but the owner a thief's end.
-fn deal<B: Batch>(
+fn share_out<B: Batch>(
     thieves: Vec<ThiefEnd<B>>,
     owner: usize,
-    hands: &mut Vec<Vec<ThiefEnd<B>>>,
+    shares: &mut Vec<Vec<ThiefEnd<B>>>,
 ) -> Result<(), AllocError> {
     let mut thieves = thieves;
-    for (helper, hand) in hands.iter_mut().enumerate() {
+    for (helper, share) in shares.iter_mut().enumerate() {
         if helper != owner {
             if let Some(thief) = thieves.pop() {
-                hand.push(thief)?;
+                share.push(thief)?;
             }
         }
     }
@@ -93,22 +93,22 @@ fn open_deques<B: Batch>(
     requires { helpers < 16 }
 {
     let (own, thieves) = open_deque::<B>(alloc, DEQUE_PLACES, helpers)?;
-    let mut hands = hands_of(alloc, thieves)?;
-    let mut hand = Vec::with_capacity(alloc, helpers)?;
+    let mut shares = start_shares(alloc, thieves)?;
+    let mut share = Vec::with_capacity(alloc, helpers)?;
     let mut owns = Vec::with_capacity(alloc, helpers)?;
     for owner in 0..helpers {
         let (own, mut thieves) = open_deque::<B>(alloc, DEQUE_PLACES, helpers)?;
         owns.push(own)?;
         if let Some(thief) = thieves.pop() {
-            hand.push(thief)?;
+            share.push(thief)?;
         }
-        deal(thieves, owner, &mut hands)?;
+        share_out(thieves, owner, &mut shares)?;
     }
     let mut ends = Vec::with_capacity(alloc, helpers)?;
-    for pair in owns.into_iter().zip(hands) {
+    for pair in owns.into_iter().zip(shares) {
         ends.push(pair)?;
     }
-    Ok(((own, hand), ends))
+    Ok(((own, share), ends))
 }
 
 // The helpers of a batch, numbered from 1. `Err` is want of memory.

@@ -1,7 +1,7 @@
 //! The thread that opens the boards of a batch, hands out and takes back their steps, and keeps the outcomes.
 ghost use Rattle.std.specs.Arc.{arc_value};
 ghost use Rattle.std.specs.Prelude.{◌≡◌, ◌<◌, Some, slice_get, vec_len};
-ghost use Rattle.worker_pool.specs.steps.Places.{AreOutcomesOf};
+ghost use Rattle.worker_pool.specs.near.Places.{AreOutcomesOf};
 
 use crate::accounts::{Outcomes, Waiting};
 use crate::ends::{FinishedOf, OwnEnd, TaskOf, ThiefEnd};
@@ -43,7 +43,7 @@ impl<B: Batch> Coordinator<'_, B> {
             if self.outcomes.is_done() {
                 return;
             }
-            if self.goes_on(rt, alloc, gate) {
+            if self.make_progress(rt, alloc, gate) {
                 patience.renew();
             } else {
                 patience.wait(rt);
@@ -67,13 +67,13 @@ impl<B: Batch> Coordinator<'_, B> {
     }
 
     // Takes back a result, or goes on with an open board, or evaluates a task of a deque. Whether there was any.
-    fn goes_on<R: Wait, G: Gate>(&mut self, rt: &R, alloc: Global, gate: &G) -> bool {
+    fn make_progress<R: Wait, G: Gate>(&mut self, rt: &R, alloc: Global, gate: &G) -> bool {
         if let Some(done) = self.results.pop(rt) {
             self.take_back(alloc, gate, done);
             return true;
         }
-        if let Some(at) = self.boards.iter().position(|board| board.is_going()) {
-            self.go_on(alloc, gate, at);
+        if let Some(at) = self.boards.iter().position(|board| board.may_be_ready()) {
+            self.run_board(alloc, gate, at);
             return true;
         }
         match self.find_task() {
@@ -135,15 +135,15 @@ impl<B: Batch> Coordinator<'_, B> {
             return;
         };
         self.boards[at].keep(alloc, gate, &mut self.own, done);
-        self.go_on(alloc, gate, at);
+        self.run_board(alloc, gate, at);
     }
 
     // Goes on with an open board, until it waits or it is time to look for results.
-    fn go_on<G: Gate>(&mut self, alloc: Global, gate: &G, at: usize)
+    fn run_board<G: Gate>(&mut self, alloc: Global, gate: &G, at: usize)
         requires { at < vec_len self.old.boards }
     {
         for _ in 0..STEPS_BETWEEN_LOOKS {
-            if !self.boards[at].step(alloc, gate, &mut self.own) {
+            if !self.boards[at].run_step(alloc, gate, &mut self.own) {
                 break;
             }
         }

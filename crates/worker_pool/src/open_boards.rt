@@ -18,10 +18,10 @@ use step_scheduler::jobs::Job;
 #[derive(Clone, Copy, PartialEq, Eq)]
 enum Next {
     // It may have a step that is ready.
-    Goes,
+    MayBeReady,
     // None is ready before a result comes.
     Waits,
-    // Nothing: it is complete, or memory was wanted.
+    // Nothing: it is complete, or ended for want of memory.
     Ends,
 }
 
@@ -42,7 +42,7 @@ impl<B: Batch> OpenBoard<B> {
         let board = Board::new(alloc, job)?;
         Ok(OpenBoard {
             board,
-            next: Next::Goes,
+            next: Next::MayBeReady,
             batch: PhantomData,
         })
     }
@@ -55,11 +55,11 @@ impl<B: Batch> OpenBoard<B> {
     }
 
     /// Whether it may have a step that is ready.
-    pub(crate) fn is_going(&self) -> bool {
-        self.next == Next::Goes
+    pub(crate) fn may_be_ready(&self) -> bool {
+        self.next == Next::MayBeReady
     }
 
-    /// Whether it is complete, or wanted memory.
+    /// Whether it is complete, or ended for want of memory.
     pub(crate) fn has_ended(&self) -> bool {
         self.next == Next::Ends
     }
@@ -79,7 +79,7 @@ impl<B: Batch> OpenBoard<B> {
     }
 
     /// Takes a step that is ready, evaluates it and keeps its value. Whether one was ready.
-    pub(crate) fn step<G: Gate>(&mut self, alloc: Global, gate: &G, own: &mut OwnEnd<B>) -> bool
+    pub(crate) fn run_step<G: Gate>(&mut self, alloc: Global, gate: &G, own: &mut OwnEnd<B>) -> bool
         ensures { self.new.board.job ≡ self.old.board.job }
     {
         match self.take(alloc) {
@@ -154,6 +154,10 @@ impl<B: Batch> OpenBoard<B> {
         let finished = done.into_finished();
         let has_value = finished.value().is_some();
         let _ = self.board.finish(finished);
-        self.next = if has_value { Next::Goes } else { Next::Ends };
+        self.next = if has_value {
+            Next::MayBeReady
+        } else {
+            Next::Ends
+        };
     }
 }

@@ -8,6 +8,6 @@ use std::sync::Arc;
 pub enum Outcome {
     /// The account's row.
     Margined(Arc<Row>),
-    /// The name of an account for which memory was wanted.
+    /// The name of an account that ended for want of memory.
     NoMemory(Name),
 }

@@ -1,6 +1,6 @@
 use Rattle.std.proofs.Common.{◌≡◌, ◌+◌, take}
 use Rattle.std.specs.Prelude.{length}
-use Rattle.param_check.specs.steps.Holdings.{portfolios_from}
+use Rattle.param_check.specs.near.Holdings.{portfolios_from}
 use Rattle.param_check.proofs.binding.portfolios.Given as goal
 
 abbrev pub invariant-loop-held : goal.invariant-loop-held

@@ -1,6 +1,6 @@
 use Rattle.std.proofs.Common.{◌∙◌, ap}
 use Rattle.span_tables.specs.Net.{accounts_of}
-use Rattle.param_check.specs.steps.Holdings.{net_fault, held_fault, portfolios_from}
+use Rattle.param_check.specs.near.Holdings.{net_fault, held_fault, portfolios_from}
 use Rattle.param_check.proofs.BindLaws.{settled_net, settled_held, settled_all}
 use Rattle.param_check.proofs.binding.settle.Goals as goal
 

@@ -1,5 +1,5 @@
 use Rattle.std.proofs.Common.{◌≡◌, Some, take}
-use Rattle.param_check.specs.steps.Keys.{has_key, is_among}
+use Rattle.param_check.specs.near.Keys.{has_key, is_among}
 use Rattle.param_check.specs.declared.keys.Key.{Key}
 use Rattle.param_check.proofs.keys.all_keys.Given as goal
 

@@ -1,5 +1,5 @@
 use Rattle.std.proofs.Common.{◌≡◌, arith, sym, ◌∙◌, false, get_or, take, ◌++◌, option_to_list}
-use Rattle.param_check.specs.steps.Keys.{key_of, repeats_key, is_among}
+use Rattle.param_check.specs.near.Keys.{key_of, repeats_key, is_among}
 use Rattle.param_check.proofs.FilterMaps.{filter_map_more}
 use Rattle.param_check.proofs.FirstFaults.{breaking_from-next}
 use Rattle.param_check.proofs.keys.first_repeat.Goals as goal

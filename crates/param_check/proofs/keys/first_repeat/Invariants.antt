@@ -1,5 +1,5 @@
 use Rattle.std.proofs.Common.{◌≡◌, filter_map, take}
-use Rattle.param_check.specs.steps.Keys.{first_repeat, key_of, repeats_key}
+use Rattle.param_check.specs.near.Keys.{first_repeat, key_of, repeats_key}
 use Rattle.param_check.proofs.FirstFaults.{breaking_from}
 use Rattle.param_check.proofs.keys.first_repeat.Given as goal
 

@@ -2,8 +2,8 @@ use Rattle.std.proofs.Common.{◌<◌, ◌++◌, ◌∷◌, [], ◌∙◌, ap, a
 use Rattle.std.proofs.lemmas.List.{get_or_default, length-map}
 use Rattle.span_tables.specs.Net.{accounts_of}
 use Rattle.span_tables.specs.Positions.{named_position}
-use Rattle.param_check.specs.steps.Ledger.{is_foreign}
-use Rattle.param_check.specs.steps.Nets.{entries_of}
+use Rattle.param_check.specs.near.Ledger.{is_foreign}
+use Rattle.param_check.specs.near.Nets.{entries_of}
 use Rattle.param_check.proofs.LedgerLaws.{books_step, foreign_from_none, foreign_found, known_from_some, no_entries, none_step}
 use Rattle.param_check.proofs.LedgerLaws.{number_within, seen}
 use Rattle.param_check.proofs.ledger.gather.Goals as goal

@@ -1,8 +1,8 @@
 use Rattle.std.proofs.Common.{◌≡◌, false, map, take}
 use Rattle.std.specs.List.{list_any}
 use Rattle.span_tables.specs.Net.{accounts_of}
-use Rattle.param_check.specs.steps.Ledger.{is_foreign}
-use Rattle.param_check.specs.steps.Nets.{entries_of}
+use Rattle.param_check.specs.near.Ledger.{is_foreign}
+use Rattle.param_check.specs.near.Nets.{entries_of}
 use Rattle.param_check.proofs.ledger.gather.Given as goal
 
 abbrev pub invariant-loop-number : goal.invariant-loop-number

@@ -1,7 +1,7 @@
 use Rattle.std.proofs.Common.{◌≡◌, ◌∙◌, ap, sym, subst, length, map}
 use Rattle.std.specs.List.Sorted.{IsStrictlyIncreasing}
-use Rattle.param_check.specs.steps.Nets.{entry_holdings}
-use Rattle.param_check.specs.steps.Sums.{kept_holding, kept_holdings}
+use Rattle.param_check.specs.near.Nets.{entry_holdings}
+use Rattle.param_check.specs.near.Sums.{kept_holding, kept_holdings}
 use Rattle.param_check.proofs.KeptLaws.{kept_rise}
 use Rattle.param_check.proofs.NetLaws.{table_long, table_holds}
 use Rattle.param_check.proofs.OrderLaws.{entry_holdings_rise}

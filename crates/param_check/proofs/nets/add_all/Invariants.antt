@@ -2,7 +2,7 @@ use Rattle.std.proofs.Common.{◌≡◌, ◌≤◌, ◌*◌, ℕ, map, take, get
 use Rattle.std.specs.Prelude.{nat_abs}
 use Rattle.std.specs.List.{range_with_len}
 use Rattle.span_tables.specs.declared.limits.TheConstants.{MAX_QUANTITY}
-use Rattle.param_check.specs.steps.Nets.{entry_net}
+use Rattle.param_check.specs.near.Nets.{entry_net}
 use Rattle.param_check.proofs.nets.add_all.Given as goal
 
 abbrev pub invariant-loop-entry : goal.invariant-loop-entry

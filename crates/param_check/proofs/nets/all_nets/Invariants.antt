@@ -1,5 +1,5 @@
 use Rattle.std.proofs.Common.{◌≡◌, map, length}
-use Rattle.param_check.specs.steps.Sums.{kept_holdings}
+use Rattle.param_check.specs.near.Sums.{kept_holdings}
 use Rattle.param_check.proofs.nets.all_nets.Given as goal
 
 abbrev pub invariant-loop-book : goal.invariant-loop-book

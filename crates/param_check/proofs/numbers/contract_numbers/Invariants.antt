@@ -1,5 +1,5 @@
 use Rattle.std.proofs.Common.{◌≡◌, take}
-use Rattle.param_check.specs.steps.Holdings.{ids_of}
+use Rattle.param_check.specs.near.Holdings.{ids_of}
 use Rattle.param_check.proofs.numbers.contract_numbers.Given as goal
 
 abbrev pub invariant-loop-contract : goal.invariant-loop-contract

@@ -3,7 +3,7 @@ use Rattle.std.proofs.Common.{false, get_or, take, bytes_eq, filter_map, option_
 use Rattle.std.specs.Option.{option_map_or}
 use Rattle.indexmap.specs.IndexMap.{get}
 use Rattle.span_tables.specs.Rules.{overlaps_tier}
-use Rattle.param_check.specs.steps.Overlaps.{months_under}
+use Rattle.param_check.specs.near.Overlaps.{months_under}
 use Rattle.param_check.proofs.FilterMaps.{filter_map_more}
 use Rattle.param_check.proofs.FirstFaults.{breaking_from-here, breaking_from-next}
 use Rattle.param_check.proofs.OverlapLemmas.{overlaps_tier-grouped}

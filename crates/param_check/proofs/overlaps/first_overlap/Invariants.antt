@@ -2,7 +2,7 @@ use Rattle.std.proofs.Common.{◌≡◌, ℕ, List, [], bytes_eq, filter_map, ta
 use Rattle.std.specs.Option.{option_map_or}
 use Rattle.indexmap.specs.IndexMap.{get}
 use Rattle.span_tables.specs.Rules.{first_breaking, overlaps_tier}
-use Rattle.param_check.specs.steps.Overlaps.{months_under}
+use Rattle.param_check.specs.near.Overlaps.{months_under}
 use Rattle.param_check.proofs.FirstFaults.{breaking_from}
 use Rattle.param_check.proofs.overlaps.first_overlap.Given as goal
 

@@ -1,6 +1,6 @@
 use Rattle.std.proofs.Common.{◌≡◌}
 use Rattle.span_tables.specs.Rules.{first_breaking}
-use Rattle.param_check.specs.steps.RecordRules.{breaks}
+use Rattle.param_check.specs.near.RecordRules.{breaks}
 use Rattle.param_check.proofs.FirstFaults.{breaking_from}
 use Rattle.param_check.proofs.rules.first_that_breaks.Given as goal
 

@@ -1,6 +1,6 @@
 use Rattle.std.proofs.Common.{◌≡◌, ◌≤◌, ◌<◌, ◌+◌, ◌*◌, ◌-◌, ℕ, get_or}
 use Rattle.std.specs.Int.{w64, bit_at, trailing_zeros}
-use Rattle.param_check.specs.steps.Sums.{held_below}
+use Rattle.param_check.specs.near.Sums.{held_below}
 use Rattle.param_check.proofs.sums.push_word.Given as goal
 
 abbrev pub invariant-loop-left : goal.invariant-loop-left

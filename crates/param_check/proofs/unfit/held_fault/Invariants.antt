@@ -1,7 +1,7 @@
 use Rattle.std.proofs.Common.{◌≡◌, false, take}
 use Rattle.std.specs.List.{list_any}
 use Rattle.span_tables.specs.Net.{accounts_of}
-use Rattle.param_check.specs.steps.Holdings.{held_exceeds}
+use Rattle.param_check.specs.near.Holdings.{held_exceeds}
 use Rattle.param_check.proofs.unfit.held_fault.Given as goal
 
 abbrev pub invariant-loop-number : goal.invariant-loop-number

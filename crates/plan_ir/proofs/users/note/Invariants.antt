@@ -1,5 +1,5 @@
 use Rattle.std.proofs.Common.{◌≡◌, length, map, take}
-use Rattle.plan_ir.specs.steps.Noting.{noted}
+use Rattle.plan_ir.specs.near.Noting.{noted}
 use Rattle.plan_ir.proofs.users.note.Given as goal
 
 abbrev pub invariant-loop-input : goal.invariant-loop-input

@@ -1,7 +1,7 @@
 use Rattle.std.proofs.Common.{◌∙◌, ◌<◌, arith, ap, sym, length, replicate, take, []}
 use Rattle.std.proofs.lemmas.List.{length-map, length-replicate}
 use Rattle.plan_ir.proofs.UserLemmas.{next_places, no_places}
-use Rattle.plan_ir.specs.steps.Noting.{noted, places_of_all}
+use Rattle.plan_ir.specs.near.Noting.{noted, places_of_all}
 use Rattle.plan_ir.proofs.users.users_by_step.Goals as goal
 
 pub loop-step-init : goal.loop-step-init

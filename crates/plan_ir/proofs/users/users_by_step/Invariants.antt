@@ -1,5 +1,5 @@
 use Rattle.std.proofs.Common.{◌≡◌, length, map, take}
-use Rattle.plan_ir.specs.steps.Noting.{places_of_all}
+use Rattle.plan_ir.specs.near.Noting.{places_of_all}
 use Rattle.plan_ir.proofs.users.users_by_step.Given as goal
 
 abbrev pub invariant-loop-step : goal.invariant-loop-step

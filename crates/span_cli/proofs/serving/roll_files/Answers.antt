@@ -1,6 +1,6 @@
 use Rattle.std.proofs.Common.{◌≡◌, ◌∙◌, ℕ, Err, Global, Vec, rules}
 use Rattle.span_cli.specs.Serving.{OfRollFiles}
-use Rattle.span_cli.specs.steps.Refusals.{Runs}
+use Rattle.span_cli.specs.near.Refusals.{Runs}
 use Rattle.span_cli.proofs.ServingLemmas.{first_unread, second_unread, third_unread, three_known}
 use Rattle.span_cli.proofs.serving.roll_files.Goals as goal
 

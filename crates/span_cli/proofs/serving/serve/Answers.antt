@@ -1,7 +1,7 @@
 use Rattle.std.proofs.Common.{◌≡◌, inl}
 use Rattle.span_cli.specs.Serving.{asked_by, done}
 use Rattle.span_cli.specs.Telling.{Serves}
-use Rattle.span_cli.specs.steps.Refusals.{Refuses}
+use Rattle.span_cli.specs.near.Refusals.{Refuses}
 use Rattle.span_cli.proofs.ServingLemmas.{OfAnswer-map, refusal_serves}
 use Rattle.span_cli.proofs.serving.serve.Goals as goal
 

@@ -1,6 +1,6 @@
 use Rattle.std.proofs.Common.{◌≡◌, ◌-◌, ◌∙◌, sym, true, length, drop, map, Some}
 use Rattle.csv.specs.Records.{fields_of}
-use Rattle.span_csv.specs.steps.Grammar.{form_of, record_kind}
+use Rattle.span_csv.specs.near.Grammar.{form_of, record_kind}
 use Rattle.span_csv.specs.Records.{forms_of, all_have, has_word_form, is_in_range}
 use Rattle.span_csv.proofs.CheckLemmas.{has_forms, none_fails}
 use Rattle.span_csv.proofs.checks.check_fields.Goals as goal

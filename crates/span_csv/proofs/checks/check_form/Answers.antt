@@ -1,5 +1,5 @@
 use Rattle.csv.specs.Records.{fields_of}
-use Rattle.span_csv.specs.steps.Checks.{field_faults, kind_faults}
+use Rattle.span_csv.specs.near.Checks.{field_faults, kind_faults}
 use Rattle.span_csv.proofs.CheckLemmas.{fault_behind}
 use Rattle.span_csv.proofs.checks.check_form.Goals as goal
 

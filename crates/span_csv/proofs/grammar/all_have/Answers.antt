@@ -1,6 +1,6 @@
 use Rattle.std.proofs.Common.{◌∙◌, sym, arith}
 use Rattle.csv.specs.Records.{fields_of}
-use Rattle.span_csv.specs.steps.Grammar.{form_of, test_of}
+use Rattle.span_csv.specs.near.Grammar.{form_of, test_of}
 use Rattle.span_csv.specs.declared.grammar.FieldForm.TheVariants as form
 use Rattle.span_csv.proofs.TestLemmas.{all_have_passed, all_have_failed, all_have_none}
 use Rattle.span_csv.proofs.grammar.all_have.Goals as goal

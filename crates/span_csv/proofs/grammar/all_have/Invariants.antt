@@ -1,6 +1,6 @@
 use Rattle.std.proofs.Common.{◌≡◌, ◌+◌, drop, map}
 use Rattle.csv.specs.Records.{fields_of}
-use Rattle.span_csv.specs.steps.Grammar.{form_of, test_of}
+use Rattle.span_csv.specs.near.Grammar.{form_of, test_of}
 use Rattle.span_csv.specs.Records.{all_have}
 use Rattle.span_csv.proofs.grammar.all_have.Given as goal
 

@@ -1,6 +1,6 @@
 use Rattle.std.proofs.Common.{◌≡◌, ◌∙◌, rules, arith, Err}
 use Rattle.csv.specs.Records.{fields_of}
-use Rattle.span_csv.specs.steps.Grammar.{record_kind}
+use Rattle.span_csv.specs.near.Grammar.{record_kind}
 use Rattle.span_csv.specs.Records.{text_at}
 use Rattle.span_csv.proofs.StepLemmas.{next_fault, next_too_many, next_free, record_of}
 use Rattle.span_csv.proofs.TallyLemmas.{count_full, count_within, count_small, tally_more}

@@ -3,7 +3,7 @@ use Rattle.std.proofs.lemmas.Grind.{common_steps}
 use Rattle.span_tables.specs.Accepted.{commodity_id}
 use Rattle.span_tables.specs.Holdings.{AreHoldings}
 use Rattle.span_tables.specs.Net.{held_contracts}
-use Rattle.span_tables.specs.steps.Gathered.{holdings_in}
+use Rattle.span_tables.specs.near.Gathered.{holdings_in}
 use Rattle.span_tables.specs.declared.records.Contract.{Contract}
 use Rattle.span_tables.proofs.GatherLemmas.{gathered_none, gathered_some}
 use Rattle.span_tables.proofs.HeldLemmas.{are_holdings, held_in}

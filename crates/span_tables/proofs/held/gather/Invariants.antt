@@ -1,6 +1,6 @@
 use Rattle.std.proofs.Common.{◌≡◌, take}
 use Rattle.span_tables.specs.Accepted.{commodity_id}
-use Rattle.span_tables.specs.steps.Gathered.{holdings_in}
+use Rattle.span_tables.specs.near.Gathered.{holdings_in}
 use Rattle.span_tables.proofs.held.gather.Given as goal
 
 abbrev pub invariant-loop-holding : goal.invariant-loop-holding

@@ -1,6 +1,6 @@
 use Rattle.std.proofs.Common.{◌≡◌, ◌∙◌, ap, arith, rules, map, replicate, []}
 use Rattle.std.proofs.lemmas.Grind.{common_steps}
-use Rattle.span_tables.specs.steps.Gathered.{holdings_in}
+use Rattle.span_tables.specs.near.Gathered.{holdings_in}
 use Rattle.span_tables.specs.declared.records.Commodity.{Commodity}
 use Rattle.span_tables.proofs.GroupLemmas.{lengths}
 use Rattle.span_tables.proofs.GatherLemmas.{all_are_holdings, gathered_next, gathered_of_none}

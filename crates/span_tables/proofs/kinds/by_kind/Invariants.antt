@@ -1,4 +1,4 @@
-use Rattle.span_tables.specs.steps.ByKind.{AreByKind}
+use Rattle.span_tables.specs.near.ByKind.{AreByKind}
 use Rattle.span_tables.proofs.kinds.by_kind.Given as goal
 
 abbrev pub invariant-loop-record : goal.invariant-loop-record

@@ -1,5 +1,5 @@
 use Rattle.std.proofs.Common.{◌≡◌, take}
-use Rattle.span_tables.specs.steps.Legs.{slots_on}
+use Rattle.span_tables.specs.near.Legs.{slots_on}
 use Rattle.span_tables.proofs.records.commodities_on.Given as goal
 
 abbrev pub invariant-loop-leg : goal.invariant-loop-leg

@@ -1,5 +1,5 @@
 use Rattle.std.proofs.Common.{take}
-use Rattle.span_tables.specs.steps.Tiers.{HaveMonths}
+use Rattle.span_tables.specs.near.Tiers.{HaveMonths}
 use Rattle.span_tables.proofs.tiers.months_of_legs.Given as goal
 
 abbrev pub invariant-loop-leg : goal.invariant-loop-leg

@@ -7,7 +7,7 @@ use Rattle.span_tables.specs.declared.limits.TheConstants.{MAX_DELTA, MAX_HELD, 
 use Rattle.span_tables.proofs.HeldLemmas.{held_here}
 use Rattle.spread_stage.specs.Months.{total_size, MonthsRise}
 use Rattle.spread_stage.specs.Deltas.{month_deltas, units_of}
-use Rattle.spread_stage.specs.steps.Uses.{with_units}
+use Rattle.spread_stage.specs.near.Uses.{with_units}
 use Rattle.spread_stage.proofs.MonthLaws.{month_deltas_rise}
 use Rattle.spread_stage.proofs.DeltaLemmas.{month_deltas-cons, size-with_units}
 use Rattle.spread_stage.proofs.deltas.month_deltas.Goals as goal

@@ -2,7 +2,7 @@ use Rattle.std.proofs.Common.{◌≡◌, ◌∙◌, ap, arith, length, sym, subs
 use Rattle.std.proofs.Math.Seq.{take-length}
 use Rattle.std.proofs.lemmas.List.{take_more}
 use Rattle.spread_stage.specs.declared.months.MonthUnits.{MonthUnits}
-use Rattle.spread_stage.specs.steps.Sides.{HaveSides}
+use Rattle.spread_stage.specs.near.Sides.{HaveSides}
 use Rattle.spread_stage.proofs.ClosedLemmas.{have_more}
 use Rattle.spread_stage.proofs.slots.open_sides.Goals as goal
 

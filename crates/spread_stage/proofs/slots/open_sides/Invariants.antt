@@ -1,5 +1,5 @@
 use Rattle.std.proofs.Common.{take}
-use Rattle.spread_stage.specs.steps.Sides.{HaveSides}
+use Rattle.spread_stage.specs.near.Sides.{HaveSides}
 use Rattle.spread_stage.proofs.slots.open_sides.Given as goal
 
 abbrev pub invariant-loop-month : goal.invariant-loop-month

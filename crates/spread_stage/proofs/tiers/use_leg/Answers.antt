@@ -6,7 +6,7 @@ use Rattle.std.proofs.lemmas.List.{append-nil}
 use Rattle.std.proofs.lemmas.List.Sums.{sum_by-drop_more, sum_by-take-drop}
 use Rattle.span_tables.specs.declared.limits.TheConstants.{MAX_UNITS}
 use Rattle.spread_stage.specs.Months.{total_size}
-use Rattle.spread_stage.specs.steps.Uses.{used_in_turn}
+use Rattle.spread_stage.specs.near.Uses.{used_in_turn}
 use Rattle.spread_stage.specs.declared.months.MonthUnits.{MonthUnits}
 use Rattle.spread_stage.proofs.UseLemmas.{in_turn_is}
 use Rattle.spread_stage.proofs.tiers.use_leg.Goals as goal

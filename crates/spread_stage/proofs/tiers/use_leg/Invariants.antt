@@ -1,5 +1,5 @@
 use Rattle.std.proofs.Common.{◌≡◌, ◌++◌, take, drop}
-use Rattle.spread_stage.specs.steps.Uses.{used_in_turn}
+use Rattle.spread_stage.specs.near.Uses.{used_in_turn}
 use Rattle.spread_stage.proofs.tiers.use_leg.Given as goal
 
 abbrev pub invariant-loop-rest : goal.invariant-loop-rest

@@ -1,5 +1,5 @@
 use Rattle.std.proofs.Common.{◌≡◌, ◌++◌, flat_map, take}
-use Rattle.statement.specs.steps.LineForms.{number}
+use Rattle.statement.specs.near.LineForms.{number}
 use Rattle.statement.proofs.lines.push_numbers.Given as goal
 
 abbrev pub invariant-loop-n : goal.invariant-loop-n

@@ -1,7 +1,7 @@
 use Rattle.std.proofs.Common.{◌≡◌, Err, map, rules}
 use Rattle.std.specs.Arc.{arc_value}
 use Rattle.statement.proofs.RollLemmas.{next_is_last, next_refuses, under_refuses, under_stands}
-use Rattle.statement.specs.steps.Rows.{rows_under}
+use Rattle.statement.specs.near.Rows.{rows_under}
 use Rattle.statement.proofs.roll.roll_named.Goals as goal
 
 pub returns-in_err-told-clause-fault : goal.returns-in_err-told-clause-fault

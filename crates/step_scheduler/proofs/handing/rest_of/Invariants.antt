@@ -1,6 +1,6 @@
 use Rattle.std.proofs.Common.{◌≡◌, map, take}
 use Rattle.std.specs.Arc.{arc_value}
-use Rattle.step_scheduler.specs.steps.Keeping.{kept_at}
+use Rattle.step_scheduler.specs.near.Keeping.{kept_at}
 use Rattle.step_scheduler.proofs.handing.rest_of.Given as goal
 
 abbrev pub invariant-loop-i : goal.invariant-loop-i

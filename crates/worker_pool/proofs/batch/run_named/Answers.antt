@@ -1,7 +1,7 @@
 use Rattle.std.proofs.Common.{List, subst}
 use Rattle.step_scheduler.specs.Jobs.{JobView}
 use Rattle.worker_pool.proofs.PlaceLemmas.{of_portfolios}
-use Rattle.worker_pool.specs.steps.Places.{AreOutcomesOf}
+use Rattle.worker_pool.specs.near.Places.{AreOutcomesOf}
 use Rattle.worker_pool.proofs.batch.run_named.Goals as goal
 
 pub returns : goal.returns

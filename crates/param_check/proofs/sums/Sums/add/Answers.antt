@@ -3,7 +3,7 @@ use Rattle.std.proofs.Common.{set, length, arith, rules, SFits, pos, ℤ, ◌+�
 use Rattle.std.specs.Int.{w64, w128}
 use Rattle.std.proofs.lemmas.Int.{to_z-of_z}
 use Rattle.std.proofs.lemmas.List.{set_past, length-set, get_or_default}
-use Rattle.param_check.specs.steps.Sums.{sums_of, AreMarks}
+use Rattle.param_check.specs.near.Sums.{sums_of, AreMarks}
 use Rattle.param_check.proofs.MarkLaws.{sums_long, sums_set, mark_set, marks_more}
 use Rattle.param_check.proofs.sums.Sums.add.Goals as goal
 

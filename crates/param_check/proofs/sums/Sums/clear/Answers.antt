@@ -1,6 +1,6 @@
 use Rattle.std.proofs.Common.{◌∙◌, ap, sym, length}
 use Rattle.std.specs.Prelude.{pos, replicate}
-use Rattle.param_check.specs.steps.Sums.{sums_of}
+use Rattle.param_check.specs.near.Sums.{sums_of}
 use Rattle.param_check.proofs.MarkLaws.{sums_clear, sums_long}
 use Rattle.param_check.proofs.sums.Sums.clear.Goals as goal
 

@@ -1,6 +1,6 @@
 use Rattle.std.proofs.Common.{◌≤◌, ◌*◌, ◌∙◌, ap, length, map, arith}
-use Rattle.param_check.specs.steps.Nets.{holdings_in}
-use Rattle.param_check.specs.steps.Sums.{kept_holding}
+use Rattle.param_check.specs.near.Nets.{holdings_in}
+use Rattle.param_check.specs.near.Sums.{kept_holding}
 use Rattle.param_check.proofs.MarkLaws.{all_below}
 use Rattle.param_check.proofs.sums.Sums.holdings.Goals as goal
 

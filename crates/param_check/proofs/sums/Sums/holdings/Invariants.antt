@@ -1,5 +1,5 @@
 use Rattle.std.proofs.Common.{◌≡◌, ◌*◌}
-use Rattle.param_check.specs.steps.Sums.{held_below}
+use Rattle.param_check.specs.near.Sums.{held_below}
 use Rattle.param_check.proofs.sums.Sums.holdings.Given as goal
 
 abbrev pub invariant-loop-word : goal.invariant-loop-word

@@ -1,6 +1,6 @@
 use Rattle.std.proofs.Common.{◌≡◌, ◌+◌, ◌/◌, ◌∙◌, ap, length, arith}
 use Rattle.std.specs.Prelude.{pos, replicate}
-use Rattle.param_check.specs.steps.Sums.{sums_of}
+use Rattle.param_check.specs.near.Sums.{sums_of}
 use Rattle.param_check.proofs.MarkLaws.{sums_clear}
 use Rattle.param_check.proofs.sums.Sums.new.Goals as goal
 

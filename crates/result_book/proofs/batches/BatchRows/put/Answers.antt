@@ -2,7 +2,7 @@ use Rattle.std.proofs.Common.{◌≡◌, ◌++◌, ◌∷◌, ◌∙◌, [], ap,
 use Rattle.std.specs.Arc.{arc_value}
 use Rattle.result_book.specs.Books.{account_of, row_for}
 use Rattle.result_book.proofs.BatchLemmas.{inserted_last, kept-push, once-kept, under-push}
-use Rattle.result_book.specs.steps.Batches.{AreUnderAccounts, kept_rows}
+use Rattle.result_book.specs.near.Batches.{AreUnderAccounts, kept_rows}
 use Rattle.result_book.proofs.batches.BatchRows.put.Goals as goal
 
 -- the row went last, under its account

@@ -1,6 +1,6 @@
 use Rattle.std.proofs.Common.{sym, ◌∙◌, subst}
 use Rattle.spread_stage.specs.Spreads.{TierRests}
-use Rattle.spread_stage.specs.steps.Sides.{HaveSides}
+use Rattle.spread_stage.specs.near.Sides.{HaveSides}
 use Rattle.spread_stage.proofs.ClosedLemmas.{both_ways_closed}
 use Rattle.spread_stage.proofs.tiers.TierState.may_spread.Goals as goal
 

@@ -6,7 +6,7 @@ use Rattle.plan_ir.specs.Plans.{StepView, inputs_at, op_at}
 use Rattle.plan_compiler.specs.Compiled.{IsCompiled}
 use Rattle.plan_compiler.specs.Plan.{IsPlanOf}
 use Rattle.plan_compiler.specs.Places.{inputs_of}
-use Rattle.plan_compiler.specs.steps.Layout.{AreFirsts}
+use Rattle.plan_compiler.specs.near.Layout.{AreFirsts}
 
 -- the plan is that of the tables, each input where it stands, and keeps the plan law; the numbers are those of first steps
 pub record IsSet (t : AcceptedTables) (plan : List StepView) (firsts : List ℕ) : Type 0 where

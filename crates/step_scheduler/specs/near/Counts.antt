@@ -4,7 +4,7 @@ use Rattle.std.specs.Prelude.{length, All, slice_index}
 use Rattle.std.specs.Prelude.{if◌then◌else◌}
 use Rattle.plan_ir.specs.Plans.{StepView, inputs_at}
 use Rattle.step_scheduler.specs.declared.progress.Progress.{Progress}
-use Rattle.step_scheduler.specs.steps.Steps.{was_taken, is_done, progress_at}
+use Rattle.step_scheduler.specs.near.Steps.{was_taken, is_done, progress_at}
 
 -- how often x stands in the list
 abbrev pub times : ℕ → List ℕ → ℕ

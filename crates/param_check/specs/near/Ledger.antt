@@ -7,7 +7,7 @@ use Rattle.param_check.specs.Binding.{first_unfit}
 use Rattle.param_check.specs.declared.faults.BindFault.{BindFault}
 use Rattle.param_check.specs.declared.faults.BindFault.TheVariants as fault
 use Rattle.param_check.specs.declared.nets.Entry.{Entry}
-use Rattle.param_check.specs.steps.Nets.{entries_of}
+use Rattle.param_check.specs.near.Nets.{entries_of}
 
 -- the record is of a contract that is not among the ids
 abbrev pub is_foreign : List (List ℕ) → PositionRecord → Bool

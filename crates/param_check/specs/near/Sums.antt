@@ -5,7 +5,7 @@ use Rattle.std.specs.Int.{bit_at}
 use Rattle.std.specs.List.{range_with_len}
 use Rattle.span_tables.specs.declared.limits.TheConstants.{MAX_NET}
 use Rattle.span_tables.specs.declared.portfolios.Holding.{Holding}
-use Rattle.param_check.specs.steps.Nets.{entry_holdings, holdings_in}
+use Rattle.param_check.specs.near.Nets.{entry_holdings, holdings_in}
 use Rattle.param_check.specs.declared.nets.Entry.{Entry}
 use Rattle.param_check.specs.declared.sums.TheConstants.{MARKS}
 

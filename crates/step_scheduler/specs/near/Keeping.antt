@@ -10,8 +10,8 @@ use Rattle.plan_ir.specs.declared.values.Value.TheVariants as value
 use Rattle.plan_compiler.specs.Compiled.{IsFirstInput}
 use Rattle.step_scheduler.specs.declared.progress.Progress.{Progress}
 use Rattle.step_scheduler.specs.Jobs.{JobView, meaning_at}
-use Rattle.step_scheduler.specs.steps.Steps.{was_taken, is_done, progress_at}
-use Rattle.step_scheduler.specs.steps.Counts.{times}
+use Rattle.step_scheduler.specs.near.Steps.{was_taken, is_done, progress_at}
+use Rattle.step_scheduler.specs.near.Counts.{times}
 
 -- a place for a value, which may be empty
 abbrev pub Place : Type 0

@@ -5,9 +5,9 @@ use Rattle.step_scheduler.specs.Jobs.{JobView}
 use Rattle.step_scheduler.specs.Runs.{IsRun, is_finished, is_taken}
 use Rattle.step_scheduler.specs.declared.events.Event.{Event}
 use Rattle.step_scheduler.specs.declared.progress.Progress.{Progress}
-use Rattle.step_scheduler.specs.steps.Steps.{was_taken, is_done, events_of, progress_at}
-use Rattle.step_scheduler.specs.steps.Counts.{IsCounted}
-use Rattle.step_scheduler.specs.steps.Keeping.{IsKept, Place}
+use Rattle.step_scheduler.specs.near.Steps.{was_taken, is_done, events_of, progress_at}
+use Rattle.step_scheduler.specs.near.Counts.{IsCounted}
+use Rattle.step_scheduler.specs.near.Keeping.{IsKept, Place}
 
 -- the steps are those of the history; there is room for the events to come
 pub record IsRunBoard (job : JobView) (steps : List Progress) (history : List Event) (capacity : ℕ) : Type 0 where
