@@ -17,7 +17,7 @@ use span_tables::tables::Tables;
 use std::alloc::{AllocError, Global};
 
 // Which of C1 to C3 is broken first.
-#[tactic(auto, unfolding(crate::specs::steps::Groups::name_fault))]
+#[tactic(auto, unfolding(crate::specs::near::Groups::name_fault))]
 fn name_fault(alloc: Global, records: &[Record]) -> Result<Option<CheckFault>, AllocError>
     ensures { IfOk result (λ fault. fault ≡ name_fault records.now) }
 {
@@ -34,7 +34,7 @@ fn name_fault(alloc: Global, records: &[Record]) -> Result<Option<CheckFault>, A
 }
 
 // Which of C4 to C7 is broken first.
-#[tactic(auto, unfolding(crate::specs::steps::Groups::tier_fault))]
+#[tactic(auto, unfolding(crate::specs::near::Groups::tier_fault))]
 fn tier_fault(alloc: Global, records: &[Record]) -> Result<Option<CheckFault>, AllocError>
     ensures { IfOk result (λ fault. fault ≡ tier_fault records.now) }
 {
@@ -54,7 +54,7 @@ fn tier_fault(alloc: Global, records: &[Record]) -> Result<Option<CheckFault>, A
 }
 
 // Which of C8 to C11 is broken first.
-#[tactic(auto, unfolding(crate::specs::steps::Groups::spread_fault))]
+#[tactic(auto, unfolding(crate::specs::near::Groups::spread_fault))]
 fn spread_fault(alloc: Global, records: &[Record]) -> Result<Option<CheckFault>, AllocError>
     ensures { IfOk result (λ fault. fault ≡ spread_fault records.now) }
 {

@@ -59,7 +59,7 @@ impl Book {
 }
 
 // The entry of a record, or `None` where its contract is not known.
-#[tactic(auto, unfolding(crate::specs::steps::Ledger::known_entry))]
+#[tactic(auto, unfolding(crate::specs::near::Ledger::known_entry))]
 fn entry(numbers: &IndexSet<Name>, position: &NumberedPosition) -> Option<Entry>
     ensures entry { result ≡ known_entry numbers.now.keys position.now.contract position.now.quantity }
     ensures quantity { IfSome result (λ entry. entry.quantity ≡ position.now.quantity) }
@@ -83,7 +83,7 @@ fn empty_books(alloc: Global, count: usize) -> Result<Vec<Book>, AllocError>
 }
 
 /// The books of the accounts of positions, or the first record whose contract is not among these.
-#[tactic(auto, unfolding(crate::specs::steps::Ledger::known_entry))]
+#[tactic(auto, unfolding(crate::specs::near::Ledger::known_entry))]
 pub(crate) fn gather(
     alloc: Global,
     numbers: &IndexSet<Name>,

@@ -50,7 +50,7 @@ fn quantity_from(at: usize, text: &[u8]) -> Result<i32, PositionFault>
 }
 
 // The quantity of a record of two names.
-#[tactic(auto, unfolding(crate::specs::steps::PositionReading::quantity_alone))]
+#[tactic(auto, unfolding(crate::specs::near::PositionReading::quantity_alone))]
 fn quantity(at: usize, row: &ByteRecord) -> Result<i32, PositionFault>
     ensures value { result ≡ quantity_alone at (fields_of row.now) }
     ensures fields { OnOk result (length (fields_of row.now) ≡ POSITION_FIELDS) }

@@ -11,7 +11,7 @@ use span_csv::params::read_params;
 use span_tables::tables::Tables;
 use std::alloc::{AllocError, Global};
 
-#[tactic(auto, unfolding(crate::specs::steps::LineForms::counts_form))]
+#[tactic(auto, unfolding(crate::specs::near::LineForms::counts_form))]
 fn write_parts(alloc: Global, tables: &Tables) -> Result<Vec<u8>, AllocError>
     ensures { IfOk result (λ text. text.items ≡ counts_form tables.now) }
 {

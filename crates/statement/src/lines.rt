@@ -68,7 +68,7 @@ fn push_figures(out: &mut Vec<u8>, figures: &Figures) -> Result<(), AllocError>
     push_numbers(out, &numbers)
 }
 
-#[tactic(auto, unfolding(crate::specs::steps::LineForms::figures_form))]
+#[tactic(auto, unfolding(crate::specs::near::LineForms::figures_form))]
 fn push_commodity_parts(
     out: &mut Vec<u8>,
     account: &Name,
@@ -119,7 +119,7 @@ fn push_held(out: &mut Vec<u8>, row: &Row, number: usize) -> Result<(), AllocErr
     )
 }
 
-#[tactic(auto, unfolding(crate::specs::steps::LineForms::total_form))]
+#[tactic(auto, unfolding(crate::specs::near::LineForms::total_form))]
 fn push_total_parts(
     out: &mut Vec<u8>,
     account: &Name,
