@@ -1,4 +1,5 @@
 pub mod CreditLaws
+pub mod LegLaws
 pub mod MinimumLaws
 pub mod OnLiterals
 pub mod RestLaws

@@ -28,7 +28,7 @@ length-change_at f zero (x ∷ xs) = refl
 length-change_at f (suc i) (x ∷ xs) = ap suc (length-change_at f i xs)
 
 -- the rests of other commodities stay
-rest_at-change_at : (f : InterLine → InterLine) (i j : ℕ) (lines : List InterLine) → i ≢ j
+pub rest_at-change_at : (f : InterLine → InterLine) (i j : ℕ) (lines : List InterLine) → i ≢ j
     → rest_at (change_at f i lines) j ≡ rest_at lines j
 rest_at-change_at f i j [] ne = refl
 rest_at-change_at f zero zero (x ∷ xs) ne = absurd (ne refl)
@@ -36,11 +36,11 @@ rest_at-change_at f zero (suc j) (x ∷ xs) ne = refl
 rest_at-change_at f (suc i) zero (x ∷ xs) ne = refl
 rest_at-change_at f (suc i) (suc j) (x ∷ xs) ne = rest_at-change_at f i j xs (λ e. ne (ap suc e))
 
-or_left : (a b : Bool) → (a || b) ≡ false → a ≡ false
+pub or_left : (a b : Bool) → (a || b) ≡ false → a ≡ false
 or_left true b e = e
 or_left false b e = refl
 
-or_right : (a b : Bool) → (a || b) ≡ false → b ≡ false
+pub or_right : (a b : Bool) → (a || b) ≡ false → b ≡ false
 or_right true b e = cc
 or_right false b e = e
 
@@ -51,7 +51,7 @@ none_at p [] e k d lt = absurd (omega arith)
 none_at p (x ∷ xs) e zero d lt = or_left (p x) (list_any p xs) e
 none_at p (x ∷ xs) e (suc k) d lt = none_at p xs (or_right (p x) (list_any p xs) e) k d (omega arith)
 
-not_equal : (a b : ℕ) → (a == b) ≡ false → a ≢ b
+pub not_equal : (a b : ℕ) → (a == b) ≡ false → a ≢ b
 not_equal a b e = grind (arith, nat_tests)
 
 -- after one leg's use the others have the room that they had

@@ -1,15 +1,24 @@
 //! Laws of the definitions, in the methodology's words: each is the contract of a function that does nothing.
 ghost use Rattle.std.specs.Prelude.{◌≡◌, ◌≢◌, ℕ, ◌+◌, ◌*◌, ◌^◌, ◌≤◌, max, Bool, ◌&&◌, List, [], length};
 ghost use Rattle.std.specs.Prelude.{filter, sum_by, ℤ, pos, ◌+ℤ◌, ◌-ℤ◌, ◌≤ℤ◌, int_lt, nat_abs};
+ghost use Rattle.std.specs.List.{AllByRecursion};
 ghost use Rattle.span_tables.specs.Accepted.{IsInter};
 ghost use Rattle.span_tables.specs.Net.{HeldContract};
 ghost use Rattle.span_tables.specs.declared.records.Inter.{Inter};
 ghost use Rattle.span_tables.specs.declared.records.MinimumMethod.TheVariants as method;
 ghost use Rattle.span_tables.specs.declared.records.ProductKind.{ProductKind};
-ghost use Rattle.inter_credit.specs.Credits.{after_inter_spreads, credit_of, inter_both_ways};
+ghost use Rattle.span_tables.specs.Sides.{spreads_formed};
+ghost use Rattle.span_tables.specs.declared.sides.Direction.{Direction};
+ghost use Rattle.inter_credit.specs.Credits.{after_inter_spreads, commodity_rooms, credit_of, inter_both_ways, inter_one_way, leg_side};
 ghost use Rattle.inter_credit.specs.Requirement.{is_call, is_put, minimum_of, requirement_of, short_count};
 ghost use Rattle.inter_credit.specs.States.{IsUnspread, UsesLine, credit_at, line_at};
+ghost use Rattle.inter_credit.specs.declared.requirement.TheConstants.{MAX_PART};
 ghost use Rattle.inter_credit.specs.declared.state.InterLine.{InterLine};
+
+/// Each part of a requirement is at most 10^26 minor units either way.
+pub fn part_has_these_digits()
+    ensures { MAX_PART ≡ 100000000000000000000000000 }
+{}
 
 /// The credit is 0 without a net delta, and else the greatest number whose product stays within price risk times weight.
 pub fn credit_is_greatest()
@@ -32,6 +41,17 @@ pub fn spread_uses_rests()
     ensures length { (lines : List InterLine) (spread : Inter) → length (inter_both_ways lines spread) ≡ length lines }
     ensures lines { (lines : List InterLine) (spread : Inter) → IsInter (length lines) spread
         → (k : ℕ) → UsesLine spread.basis_points (line_at lines k) (line_at (inter_both_ways lines spread) k) }
+{}
+
+/// In a direction each leg takes of its commodity's rest just the number of spreads formed times its ratio, and the lines
+/// of commodities that are no leg's stay.
+pub fn each_leg_uses_its_part()
+    ensures legs { (d : Direction) (spread : Inter) (lines : List InterLine) → IsInter (length lines) spread
+        → AllByRecursion (λ leg. leg_side d leg (inter_one_way spread d lines)
+        + spreads_formed (commodity_rooms d spread.legs lines) * leg.ratio ≡ leg_side d leg lines) spread.legs }
+    ensures others { (d : Direction) (spread : Inter) (lines : List InterLine) (k : ℕ)
+        → AllByRecursion (λ leg. leg.commodity ≢ k) spread.legs
+        → line_at (inter_one_way spread d lines) k ≡ line_at lines k }
 {}
 
 /// What is counted of a kind are the sizes of the negative nets; the minimum is the rate times the count of calls and

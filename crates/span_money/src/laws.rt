@@ -1,9 +1,15 @@
-//! Laws of division and of number texts, in plain words: each is the contract of a function that does nothing.
+//! The digits of the largest amount, and laws of division and of number texts, in plain words: each is the contract of a function that does nothing.
 ghost use Rattle.std.specs.Prelude.{◌≡◌, ℕ, ◌*◌, ◌/◌, ◌^◌, ◌<◌, ◌≤◌, ℤ, List, Some, nat_abs};
 ghost use Rattle.std.specs.Fmt.{signed_decimal};
 ghost use Rattle.std.specs.Int.{div_ceil};
 ghost use Rattle.span_money.specs.Forms.{IsDecimal};
+ghost use Rattle.span_money.specs.declared.amounts.TheConstants.{MAX_MONEY};
 ghost use Rattle.span_money.specs.Numbers.{decimal_number, whole_number};
+
+/// An amount of money is at most 10^27 minor units either way.
+pub fn money_has_these_digits()
+    ensures { MAX_MONEY ≡ 1000000000000000000000000000 }
+{}
 
 /// Rounded up, a quotient is the least number that is large enough.
 pub fn rounding_up_is_least()

@@ -203,6 +203,34 @@ impl Tables {
         self.commodity_numbers[contract]
     }
 
+    /// The tiers of all commodities, in file order.
+    pub fn tiers(&self) -> &[Tier]
+        ensures { result.now ≡ self.now.tiers }
+    {
+        &self.tiers
+    }
+
+    /// The records of the intracommodity spreads of all commodities, by rising priority.
+    pub fn intra_records(&self) -> &[IntraRecord]
+        ensures { result.now ≡ self.now.intras }
+    {
+        &self.intra_records
+    }
+
+    /// The spot months of all commodities, in file order.
+    pub fn spot_records(&self) -> &[Spot]
+        ensures { result.now ≡ self.now.spots }
+    {
+        &self.spots
+    }
+
+    /// The records of the intercommodity spreads, by rising priority.
+    pub fn inter_records(&self) -> &[InterRecord]
+        ensures { result.now ≡ self.now.inters }
+    {
+        &self.inter_records
+    }
+
     /// The intracommodity spreads of the commodity of a number, by rising priority.
     pub fn intras(&self, commodity: usize) -> &[Intra]
         requires { commodity < length self.now.commodities }

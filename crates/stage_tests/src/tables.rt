@@ -182,6 +182,14 @@ fn tables_of_a_small_file(rt: HostRuntime) -> Result<(), Fail> {
     assert_eq!(rt; counts.inter, 1);
     assert_eq!(rt; tables.set_id().as_bytes(), b"S-1".as_slice());
 
+    let tiers = tables.tiers();
+    assert_eq!(rt; (tiers[0].number, tiers[1].number), (1, 2));
+    assert_eq!(rt; (tiers[1].first, tiers[1].last), (202_504, 202_512));
+    let records = tables.intra_records();
+    assert_eq!(rt; (records[0].priority, records[1].priority), (1, 2));
+    assert_eq!(rt; tables.spot_records()[0].month, 202_503);
+    assert_eq!(rt; tables.inter_records()[0].legs.len(), 2);
+
     // The spread of priority 1 first, with the months of its tiers.
     let spreads = tables.intras(0);
     assert_eq!(rt; spreads.len(), 2);
