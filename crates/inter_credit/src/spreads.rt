@@ -18,7 +18,7 @@ use span_tables::slots::OpenSides;
 use std::alloc::{AllocError, Global};
 
 // How many spreads a leg's commodity has room for, in 10^-4 spreads.
-fn fit(lines: &[InterLine], leg: &CommodityLeg, direction: Direction) -> u64
+fn room(lines: &[InterLine], leg: &CommodityLeg, direction: Direction) -> u64
     requires known { leg.now.commodity < length lines.now }
     requires ratio { 0 < leg.now.ratio }
     ensures { result ≡ leg_side direction leg.now lines.now / leg.now.ratio }
@@ -39,13 +39,13 @@ fn spreads_formed(lines: &[InterLine], legs: &[CommodityLeg], direction: Directi
 {
     match legs {
         [] => 0,
-        [leg] => fit(lines, leg, direction),
+        [leg] => room(lines, leg, direction),
         [leg, others @ ..] => {
-            let n = fit(lines, leg, direction);
-            if n == 0 {
+            let formed = room(lines, leg, direction);
+            if formed == 0 {
                 return 0;
             }
-            n.min(spreads_formed(lines, others, direction))
+            formed.min(spreads_formed(lines, others, direction))
         }
     }
 }
@@ -65,43 +65,43 @@ fn line_after(line: InterLine, on: MarketSide, used: u64, basis_points: u32) -> 
     }
 }
 
-// The commodities after a leg's use of n spreads.
+// The commodities after a leg's use of so many spreads.
 fn use_leg(
     lines: &mut [InterLine],
     leg: &CommodityLeg,
     direction: Direction,
-    n: u64,
+    formed: u64,
     basis_points: u32,
 )
     requires known { leg.now.commodity < length lines.old }
     requires lines { All IsLine lines.old }
-    requires room { n * leg.now.ratio ≤ leg_side direction leg.now lines.old }
+    requires room { formed * leg.now.ratio ≤ leg_side direction leg.now lines.old }
     requires basis_points { basis_points ≤ MAX_BASIS_POINTS }
     ensures value { lines.new ≡ change_at
-        (line_after (market_side direction leg.now.side) (n * leg.now.ratio) basis_points) leg.now.commodity lines.old }
+        (line_after (market_side direction leg.now.side) (formed * leg.now.ratio) basis_points) leg.now.commodity lines.old }
     ensures lines { All IsLine lines.new }
 {
     let on = market_side(direction, leg.side);
-    let used = n * u64::from(leg.ratio.get());
+    let used = formed * u64::from(leg.ratio.get());
     lines[leg.commodity] = line_after(lines[leg.commodity], on, used, basis_points);
 }
 
-// The commodities after each leg's use of n spreads.
+// The commodities after each leg's use of so many spreads.
 fn use_legs(
     lines: &mut [InterLine],
     legs: &[CommodityLeg],
     direction: Direction,
-    n: u64,
+    formed: u64,
     basis_points: u32,
 )
     requires lines { All IsLine lines.old }
-    requires room { HaveRoom direction n legs.now lines.old }
+    requires room { HaveRoom direction formed legs.now lines.old }
     requires basis_points { basis_points ≤ MAX_BASIS_POINTS }
-    ensures value { lines.new ≡ lines_after direction n basis_points legs.now lines.old }
+    ensures value { lines.new ≡ lines_after direction formed basis_points legs.now lines.old }
     ensures lines { All IsLine lines.new }
 {
     for leg in legs {
-        use_leg(lines, leg, direction, n, basis_points);
+        use_leg(lines, leg, direction, formed, basis_points);
     }
 }
 
@@ -113,9 +113,9 @@ fn form(lines: &mut [InterLine], spread: &Inter, direction: Direction)
     ensures lines { All IsLine lines.new }
 {
     let legs = spread.legs();
-    let n = spreads_formed(lines, legs, direction);
-    if n > 0 {
-        use_legs(lines, legs, direction, n, spread.basis_points());
+    let formed = spreads_formed(lines, legs, direction);
+    if formed > 0 {
+        use_legs(lines, legs, direction, formed, spread.basis_points());
     }
 }
 

@@ -6,6 +6,6 @@ pub mod charges;
 pub mod deltas;
 pub mod laws;
 pub mod months;
-mod slots;
+mod open_months;
 pub mod tiers;
 mod worked;

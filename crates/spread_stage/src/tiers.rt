@@ -11,7 +11,7 @@ ghost use Rattle.spread_stage.specs.near.Uses.{used_now};
 ghost use Rattle.spread_stage.specs.declared.months.MonthUnits.{MonthUnits};
 
 use crate::months::{MonthUnits, Months};
-use crate::slots::open_sides;
+use crate::open_months::open_sides;
 use span_money::division::greatest_fit;
 use span_tables::records::{Intra, MonthLeg};
 use span_tables::sides::{Direction, MarketSide, less_used, market_side, part_on};
@@ -182,7 +182,7 @@ fn use_legs(rests: &mut [MonthUnits], direction: Direction, legs: &[MonthLeg], f
 }
 
 // Forms a spread in one direction, and gives the number of spreads formed, in 10^-4 spreads.
-fn spread_one_way(rests: &mut [MonthUnits], direction: Direction, legs: &[MonthLeg]) -> u64
+fn form(rests: &mut [MonthUnits], direction: Direction, legs: &[MonthLeg]) -> u64
     requires rise { MonthsRise rests.old }
     requires small { total_size rests.old ≤ MAX_UNITS }
     requires legs { 0 < length legs.now }
@@ -200,8 +200,8 @@ fn spread_one_way(rests: &mut [MonthUnits], direction: Direction, legs: &[MonthL
     formed
 }
 
-// The same, where each leg may have something to use on its side.
-fn spread_where_open(
+// The same, looked at where each leg may have something to use on its side.
+fn spread_one_way(
     rests: &mut [MonthUnits],
     sides: &OpenSides,
     direction: Direction,
@@ -220,7 +220,7 @@ fn spread_where_open(
     if !intra.may_form(direction, sides) {
         return 0;
     }
-    spread_one_way(rests, direction, intra.legs())
+    form(rests, direction, intra.legs())
 }
 
 // The charge of so many spreads, in 10^-4 minor units.
@@ -260,8 +260,8 @@ fn spread_rests(rests: &mut [MonthUnits], sides: &OpenSides, intra: &Intra) -> u
     ensures bound { result + MAX_RATE * total_size rests.new ≤ MAX_RATE * total_size rests.old }
     ensures shrinks { (months : List MonthUnits) → Shrinks months rests.old → Shrinks months rests.new }
 {
-    let first = spread_where_open(rests, sides, Direction::ALong, intra);
-    let second = spread_where_open(rests, sides, Direction::AShort, intra);
+    let first = spread_one_way(rests, sides, Direction::ALong, intra);
+    let second = spread_one_way(rests, sides, Direction::AShort, intra);
     charge_of(first, intra.rate()) + charge_of(second, intra.rate())
 }
 

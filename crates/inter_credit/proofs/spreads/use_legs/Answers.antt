@@ -9,7 +9,7 @@ use Rattle.inter_credit.proofs.spreads.use_legs.Goals as goal
 
 pub use_leg-requires-clause-room : goal.use_leg-requires-clause-room
 use_leg-requires-clause-room c =
-    HaveRoom-first c.args.direction c.args.n c.args.legs.now c.loop-leg.leg-index c.leg-item.result c.loop-leg.lines
+    HaveRoom-first c.args.direction c.args.formed c.args.legs.now c.loop-leg.leg-index c.leg-item.result c.loop-leg.lines
     c.loop-leg-test.true c.leg-item.is c.loop-leg.invariant.room
 
 pub loop-leg-preserved : goal.loop-leg-preserved
@@ -19,14 +19,14 @@ loop-leg-preserved c =
     let legs = c.args.legs.now in
     let i = c.loop-leg.leg-index in
     let step : CommodityLeg → List InterLine → List InterLine =
-    λ x ls. change_at (line_after (market_side d x.side) (c.args.n * x.ratio) c.args.basis_points) x.commodity ls in
+    λ x ls. change_at (line_after (market_side d x.side) (c.args.formed * x.ratio) c.args.basis_points) x.commodity ls in
     record {
       so_far =
           c.use_leg.ensures.value ∙ ap (step leg) c.loop-leg.invariant.so_far
-          ∙ ap (λ x. step x (lines_after d c.args.n c.args.basis_points (take i legs) c.args.lines.now)) c.leg-item.is
+          ∙ ap (λ x. step x (lines_after d c.args.formed c.args.basis_points (take i legs) c.args.lines.now)) c.leg-item.is
           ∙ sym (fold_more (λ ls x. step x ls) c.args.lines.now legs i leg c.loop-leg-test.true);
       lines = c.use_leg.ensures.lines;
-      room = HaveRoom-drop d c.args.n c.args.legs.now c.loop-leg.leg-index leg c.loop-leg.lines c.use_leg.new.lines
-          (line_after (market_side d leg.side) (c.args.n * leg.ratio) c.args.basis_points)
+      room = HaveRoom-drop d c.args.formed c.args.legs.now c.loop-leg.leg-index leg c.loop-leg.lines c.use_leg.new.lines
+          (line_after (market_side d leg.side) (c.args.formed * leg.ratio) c.args.basis_points)
           c.loop-leg-test.true c.leg-item.is c.use_leg.ensures.value c.loop-leg.invariant.room;
     }

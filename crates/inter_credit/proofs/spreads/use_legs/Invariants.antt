@@ -6,7 +6,7 @@ use Rattle.inter_credit.proofs.spreads.use_legs.Given as goal
 
 abbrev pub invariant-loop-leg : goal.invariant-loop-leg
 invariant-loop-leg l = record {
-  so_far : l.lines ≡ lines_after l.direction l.n l.basis_points (take l.leg-index l.legs) l.fn.lines;
+  so_far : l.lines ≡ lines_after l.direction l.formed l.basis_points (take l.leg-index l.legs) l.fn.lines;
   lines : All IsLine l.lines;
-  room : HaveRoom l.direction l.n (drop l.leg-index l.legs) l.lines;
+  room : HaveRoom l.direction l.formed (drop l.leg-index l.legs) l.lines;
 }

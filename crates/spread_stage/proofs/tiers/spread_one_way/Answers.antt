@@ -1,24 +1,13 @@
-use Rattle.std.proofs.Common.{sym, arith}
-use Rattle.spread_stage.proofs.SpreadLemmas.{formed_within, formed_falls, legs_rise, legs_shrink, legs_none}
+use Rattle.std.proofs.Common.{refl, sym, ◌∙◌}
+use Rattle.spread_stage.proofs.ClosedLemmas.{formed_closed}
+use Rattle.spread_stage.proofs.SpreadLemmas.{legs_none}
 use Rattle.spread_stage.proofs.tiers.spread_one_way.Goals as goal
 
-pub use_legs-requires-clause-fit : goal.use_legs-requires-clause-fit
-use_legs-requires-clause-fit c =
-    rw c.spreads_formed-formed.ensures (formed_within c.args.direction c.args.legs.now c.args.rests.now c.requires.small)
+pub returns-then-not-may_form-clause-formed : goal.returns-then-not-may_form-clause-formed
+returns-then-not-may_form-clause-formed c =
+    sym (formed_closed c.args.direction c.args.sides.now c.args.rests.now c.requires.have c.args.intra.now.legs
+    (λ marked. sym c.if-not-may_form.true ∙ c.may_form.ensures marked))
 
-pub returns-then-formed-gt0-clause-rise : goal.returns-then-formed-gt0-clause-rise
-returns-then-formed-gt0-clause-rise c =
-    rw c.use_legs.ensures (legs_rise c.args.direction c.spreads_formed-formed.result c.args.legs.now c.args.rests.now c.requires.rise)
-
-pub returns-then-formed-gt0-clause-less : goal.returns-then-formed-gt0-clause-less
-returns-then-formed-gt0-clause-less c =
-    rw (c.use_legs.ensures, c.spreads_formed-formed.ensures)
-    (formed_falls c.args.direction c.args.legs.now c.args.rests.now c.requires.rise c.requires.legs c.requires.ratios)
-
-pub returns-then-formed-gt0-clause-shrinks : goal.returns-then-formed-gt0-clause-shrinks
-returns-then-formed-gt0-clause-shrinks c months h =
-    rw c.use_legs.ensures (legs_shrink c.args.direction c.spreads_formed-formed.result months c.args.legs.now c.args.rests.now h)
-
-pub returns-else-formed-gt0-clause-rests : goal.returns-else-formed-gt0-clause-rests
-returns-else-formed-gt0-clause-rests c =
-    sym (legs_none c.args.direction c.spreads_formed-formed.result c.args.legs.now c.args.rests.now (omega arith))
+pub returns-then-not-may_form-clause-rests : goal.returns-then-not-may_form-clause-rests
+returns-then-not-may_form-clause-rests c =
+    sym (legs_none c.args.direction 0 c.args.intra.now.legs c.args.rests.now refl)

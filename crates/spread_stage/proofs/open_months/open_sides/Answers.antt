@@ -4,7 +4,7 @@ use Rattle.std.proofs.lemmas.List.{take_more}
 use Rattle.spread_stage.specs.declared.months.MonthUnits.{MonthUnits}
 use Rattle.spread_stage.specs.near.Sides.{HaveSides}
 use Rattle.spread_stage.proofs.ClosedLemmas.{have_more}
-use Rattle.spread_stage.proofs.slots.open_sides.Goals as goal
+use Rattle.spread_stage.proofs.open_months.open_sides.Goals as goal
 
 pub loop-month-preserved : goal.loop-month-preserved
 loop-month-preserved c =
