@@ -16,4 +16,4 @@ pub mod slots;
 mod sorting;
 mod spreads;
 pub mod tables;
-pub mod tiers;
+pub mod tier_slots;

@@ -6,7 +6,7 @@ ghost use Rattle.span_tables.specs.near.Legs.{slots_on};
 use crate::name::Name;
 use crate::sides::{Direction, market_side};
 use crate::slots::{OpenSides, Slots};
-use crate::tiers::{may_form, months_of_legs};
+use crate::tier_slots::{may_form, months_of_legs};
 use arrayvec::ArrayVec;
 use span_money::amounts::{Delta, Ratio, Scale};
 use std::marker::Model;

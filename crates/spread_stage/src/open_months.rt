@@ -3,7 +3,7 @@ ghost use Rattle.spread_stage.specs.near.Sides.{HaveSides};
 
 use crate::months::MonthUnits;
 use span_tables::slots::OpenSides;
-use span_tables::tiers::month_count;
+use span_tables::tier_slots::month_count;
 
 /// The sides on which these months have their units.
 pub fn open_sides(months: &[MonthUnits]) -> OpenSides

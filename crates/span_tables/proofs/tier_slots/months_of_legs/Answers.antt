@@ -2,7 +2,7 @@ use Rattle.std.proofs.Common.{◌++◌, ◌∷◌, [], ◌∙◌, ap, sym, arith
 use Rattle.std.proofs.lemmas.List.{take_more, length-take-le}
 use Rattle.span_tables.specs.declared.records.MonthLeg.{MonthLeg}
 use Rattle.span_tables.proofs.TierLemmas.{have_as_many, have_push}
-use Rattle.span_tables.proofs.tiers.months_of_legs.Goals as goal
+use Rattle.span_tables.proofs.tier_slots.months_of_legs.Goals as goal
 
 pub push-requires : goal.push-requires
 push-requires c =

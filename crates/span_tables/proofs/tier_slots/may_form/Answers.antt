@@ -3,7 +3,7 @@ use Rattle.std.proofs.lemmas.Bool.Decides.{nat_tests}
 use Rattle.span_tables.specs.Sides.{market_side}
 use Rattle.span_tables.specs.Slots.{numbers_on}
 use Rattle.span_tables.proofs.TierLemmas.{have_as_many, have_at, never_marked}
-use Rattle.span_tables.proofs.tiers.may_form.Goals as goal
+use Rattle.span_tables.proofs.tier_slots.may_form.Goals as goal
 
 pub bounds-months-i : goal.bounds-months-i
 bounds-months-i c =

@@ -1,7 +1,7 @@
 use Rattle.std.proofs.Common.{◌==◌, refl, arith}
 use Rattle.span_tables.specs.Slots.{month_count}
 use Rattle.span_tables.proofs.TierLemmas.{count_rises, marked_all, marked_more}
-use Rattle.span_tables.proofs.tiers.months_between.Goals as goal
+use Rattle.span_tables.proofs.tier_slots.months_between.Goals as goal
 
 pub returns-then-end-start : goal.returns-then-end-start
 returns-then-end-start c month low high = rw c.all.ensures (marked_all (month_count month))
