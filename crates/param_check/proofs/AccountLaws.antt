@@ -14,7 +14,7 @@ use Rattle.span_tables.specs.Names.{has_repeat}
 use Rattle.span_tables.specs.declared.records.PositionRecord.{PositionRecord}
 use Rattle.span_tables.proofs.NameLemmas.{same_name}
 use Rattle.param_check.specs.near.Nets.{entry_of, entries_of}
-use Rattle.param_check.specs.declared.nets.Entry.{Entry}
+use Rattle.param_check.specs.declared.binding.nets.Entry.{Entry}
 
 -- ---- names
 

@@ -21,7 +21,7 @@ use Rattle.param_check.specs.near.Ledger.{IsLedger, is_foreign, foreign_fault}
 use Rattle.param_check.specs.near.Nets.{entry_holdings, entries_of}
 use Rattle.param_check.specs.declared.faults.BindFault.{BindFault}
 use Rattle.param_check.specs.declared.faults.BindFault.TheVariants as fault
-use Rattle.param_check.specs.declared.nets.Entry.{Entry}
+use Rattle.param_check.specs.declared.binding.nets.Entry.{Entry}
 use Rattle.param_check.proofs.HoldingLaws.{all_holdings_are}
 use Rattle.param_check.proofs.PlaceLaws.{net_fault_any, held_fault_any, net_fault_is, held_fault_is, foreign_fault_is}
 use Rattle.param_check.proofs.PortfolioLaws.{portfolios_hold, paired_is}

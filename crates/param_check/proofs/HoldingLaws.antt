@@ -14,7 +14,7 @@ use Rattle.span_tables.proofs.SumLaws.{int_sum_by-if}
 use Rattle.span_tables.proofs.NameLemmas.{same_name}
 use Rattle.param_check.specs.near.Nets.{entry_of, entries_of, entry_net, entry_holdings}
 use Rattle.param_check.specs.near.Holdings.{ids_of}
-use Rattle.param_check.specs.declared.nets.Entry.{Entry}
+use Rattle.param_check.specs.declared.binding.nets.Entry.{Entry}
 
 -- ---- contracts by number
 

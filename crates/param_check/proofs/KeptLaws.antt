@@ -22,7 +22,7 @@ use Rattle.param_check.specs.near.Nets.{entry_holdings}
 use Rattle.param_check.specs.near.Sums.{kept_holding, kept_holdings}
 use Rattle.param_check.specs.declared.faults.BindFault.{BindFault}
 use Rattle.param_check.specs.declared.faults.BindFault.TheVariants as fault
-use Rattle.param_check.specs.declared.nets.Entry.{Entry}
+use Rattle.param_check.specs.declared.binding.nets.Entry.{Entry}
 use Rattle.param_check.proofs.BindLaws.{bound_settled, nets_hold}
 
 -- the contracts are the same

@@ -9,9 +9,9 @@ use Rattle.span_tables.specs.Rules.{repeats_commodity, repeats_contract, repeats
 use Rattle.span_tables.specs.declared.records.Record.{Record}
 use Rattle.span_tables.specs.declared.records.Record.TheVariants as record_of
 use Rattle.param_check.specs.near.Keys.{name_key, key_of, is_same_key, repeats_key, first_repeat}
-use Rattle.param_check.specs.declared.keys.Key.{Key}
-use Rattle.param_check.specs.declared.keys.Identity.{Identity}
-use Rattle.param_check.specs.declared.keys.Identity.TheVariants as identity
+use Rattle.param_check.specs.declared.check.keys.Key.{Key}
+use Rattle.param_check.specs.declared.check.keys.Identity.{Identity}
+use Rattle.param_check.specs.declared.check.keys.Identity.TheVariants as identity
 use Rattle.param_check.proofs.AccountLaws.{bytes_eq-flip}
 use Rattle.param_check.proofs.FilterMaps.{list_any-filter_map, list_any-same}
 use Rattle.param_check.proofs.FirstFaults.{first_breaking-same}

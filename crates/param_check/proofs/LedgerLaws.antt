@@ -15,7 +15,7 @@ use Rattle.span_tables.proofs.NameLaws.{distinct_once}
 use Rattle.param_check.specs.near.Ledger.{is_foreign, known_entry, foreign_fault}
 use Rattle.param_check.specs.near.Nets.{entry_of, entries_of}
 use Rattle.param_check.specs.declared.faults.BindFault.TheVariants as fault
-use Rattle.param_check.specs.declared.nets.Entry.{Entry}
+use Rattle.param_check.specs.declared.binding.nets.Entry.{Entry}
 use Rattle.param_check.proofs.AccountLaws.{entered_known, entries_push}
 use Rattle.param_check.proofs.UnfitLaws.{unfit_found}
 

@@ -16,7 +16,7 @@ use Rattle.span_tables.specs.Net.{is_held}
 use Rattle.span_tables.specs.declared.portfolios.Holding.{Holding}
 use Rattle.param_check.specs.near.Holdings.{is_over, is_over_at}
 use Rattle.param_check.specs.near.Nets.{entry_net, entry_holdings}
-use Rattle.param_check.specs.declared.nets.Entry.{Entry}
+use Rattle.param_check.specs.declared.binding.nets.Entry.{Entry}
 
 none : Holding
 none = record { contract = 0; net = pos 0 }

@@ -10,7 +10,7 @@ use Rattle.span_tables.specs.declared.records.Record.{Record}
 use Rattle.span_tables.specs.declared.records.Record.TheVariants as record_of
 use Rattle.span_tables.proofs.NameLemmas.{same_name}
 use Rattle.param_check.specs.near.Overlaps.{meet, meets_earlier, months_of, months_under}
-use Rattle.param_check.specs.declared.overlaps.Months.{Months}
+use Rattle.param_check.specs.declared.check.overlaps.Months.{Months}
 use Rattle.param_check.proofs.FilterMaps.{list_any-filter_map, list_any-same}
 
 -- a new group under k, where there was none

@@ -8,8 +8,8 @@ use Rattle.span_tables.specs.declared.records.Record.{Record}
 use Rattle.span_tables.specs.declared.records.Record.TheVariants as record_of
 use Rattle.param_check.specs.near.Keys.{name_key, key_of, is_same, is_among, has_key, is_unknown}
 use Rattle.param_check.specs.near.Keys.{names_unknown, is_unknown_tier, names_unknown_tier}
-use Rattle.param_check.specs.declared.keys.Key.{Key}
-use Rattle.param_check.specs.declared.keys.Identity.TheVariants as identity
+use Rattle.param_check.specs.declared.check.keys.Key.{Key}
+use Rattle.param_check.specs.declared.check.keys.Identity.TheVariants as identity
 use Rattle.param_check.proofs.FilterMaps.{list_any-filter_map, list_any-map, list_any-same}
 use Rattle.param_check.proofs.FirstFaults.{first_breaking-same}
 

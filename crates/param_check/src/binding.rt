@@ -1,4 +1,10 @@
 //! The binding of positions to tables.
+mod books;
+mod contract_ids;
+mod contract_sums;
+mod nets;
+mod over_limits;
+
 ghost use Rattle.std.specs.Prelude.{◌≡◌, false, None, length, bytes_eq, All, IfOk};
 ghost use Rattle.param_check.specs.Binding.{bindings_of, is_memory};
 ghost use Rattle.param_check.specs.near.Holdings.{held_fault, net_fault, portfolios_from, portfolios_or_fault};
@@ -7,11 +13,11 @@ ghost use Rattle.span_tables.specs.Holdings.{ArePortfolio};
 ghost use Rattle.span_tables.specs.Names.{has_repeat};
 ghost use Rattle.span_tables.specs.Net.{accounts_of};
 
+use crate::binding::books::books_of;
+use crate::binding::contract_ids::contract_numbers;
+use crate::binding::nets::{AccountNets, all_nets};
+use crate::binding::over_limits::{held_fault, net_fault};
 use crate::faults::BindFault;
-use crate::ledger::gather;
-use crate::nets::{AccountNets, all_nets};
-use crate::numbers::contract_numbers;
-use crate::unfit::{held_fault, net_fault};
 use indexmap::IndexSet;
 use span_tables::name::Name;
 use span_tables::portfolios::{Portfolio, Portfolios};
@@ -71,7 +77,7 @@ pub fn bind_positions(
     ensures { Gives is_memory result (bindings_of contracts.now positions.now) }
 {
     let numbers = contract_numbers(alloc, contracts)?;
-    let books = gather(alloc, &numbers, positions)?;
+    let books = books_of(alloc, &numbers, positions)?;
     let nets = all_nets(alloc, contracts.len(), books)?;
     settle(alloc, &numbers, nets, positions)
 }

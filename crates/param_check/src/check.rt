@@ -1,16 +1,20 @@
 //! The checker of parameter files.
+mod keys;
+mod overlaps;
+mod rules;
+
 ghost use Rattle.std.specs.Prelude.{◌≡◌, IfOk};
 ghost use Rattle.param_check.specs.CheckFaults.{check_fault, checked, is_memory};
 ghost use Rattle.param_check.specs.near.Groups.{name_fault, spread_fault, tier_fault};
 ghost use Rattle.span_tables.specs.Gives.{Gives};
 
-use crate::faults::CheckFault;
-use crate::overlaps::first_overlap;
-use crate::rules::{
+use crate::check::overlaps::first_overlap;
+use crate::check::rules::{
     first_backwards, first_one_sided, first_repeated_commodity, first_repeated_contract,
     first_repeated_leg, first_repeated_priority, first_repeated_spot, first_repeated_tier,
     first_unknown_commodity, first_unknown_tier,
 };
+use crate::faults::CheckFault;
 use span_tables::raw::RawTables;
 use span_tables::records::Record;
 use span_tables::tables::Tables;

@@ -4,9 +4,9 @@ use Rattle.std.specs.List.{list_any}
 use Rattle.span_tables.specs.Rules.{is_and, as_intra, first_breaking}
 use Rattle.span_tables.specs.declared.records.Record.{Record}
 use Rattle.span_tables.specs.declared.records.Record.TheVariants as record_of
-use Rattle.param_check.specs.declared.keys.Identity.{Identity}
-use Rattle.param_check.specs.declared.keys.Identity.TheVariants as identity
-use Rattle.param_check.specs.declared.keys.Key.{Key}
+use Rattle.param_check.specs.declared.check.keys.Identity.{Identity}
+use Rattle.param_check.specs.declared.check.keys.Identity.TheVariants as identity
+use Rattle.param_check.specs.declared.check.keys.Key.{Key}
 
 -- the key of a name and a number
 abbrev pub name_key : List ℕ → ℕ → Key

@@ -6,7 +6,7 @@ use Rattle.span_tables.specs.declared.records.PositionRecord.{PositionRecord}
 use Rattle.param_check.specs.Binding.{first_unfit}
 use Rattle.param_check.specs.declared.faults.BindFault.{BindFault}
 use Rattle.param_check.specs.declared.faults.BindFault.TheVariants as fault
-use Rattle.param_check.specs.declared.nets.Entry.{Entry}
+use Rattle.param_check.specs.declared.binding.nets.Entry.{Entry}
 use Rattle.param_check.specs.near.Nets.{entries_of}
 
 -- the record is of a contract that is not among the ids

@@ -4,7 +4,7 @@ use Rattle.std.specs.List.{list_any}
 use Rattle.span_tables.specs.declared.records.Tier.{Tier}
 use Rattle.span_tables.specs.declared.records.Record.{Record}
 use Rattle.span_tables.specs.declared.records.Record.TheVariants as record_of
-use Rattle.param_check.specs.declared.overlaps.Months.{Months}
+use Rattle.param_check.specs.declared.check.overlaps.Months.{Months}
 
 -- the months of a tier
 abbrev pub months_of : Tier → Months

@@ -2,8 +2,8 @@
 use Rattle.std.specs.Prelude.{Bool}
 use Rattle.span_tables.specs.Rules.{is_backwards, is_one_sided, repeats_leg}
 use Rattle.span_tables.specs.declared.records.Record.{Record}
-use Rattle.param_check.specs.declared.rules.RecordRule.{RecordRule}
-use Rattle.param_check.specs.declared.rules.RecordRule.TheVariants as rule
+use Rattle.param_check.specs.declared.check.rules.RecordRule.{RecordRule}
+use Rattle.param_check.specs.declared.check.rules.RecordRule.TheVariants as rule
 use Rattle.param_check.specs.near.Keys.{names_unknown, names_unknown_tier}
 
 -- a record breaks a rule

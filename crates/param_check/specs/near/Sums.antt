@@ -6,8 +6,8 @@ use Rattle.std.specs.List.{range_with_len}
 use Rattle.span_tables.specs.declared.limits.TheConstants.{MAX_NET}
 use Rattle.span_tables.specs.declared.portfolios.Holding.{Holding}
 use Rattle.param_check.specs.near.Nets.{entry_holdings, holdings_in}
-use Rattle.param_check.specs.declared.nets.Entry.{Entry}
-use Rattle.param_check.specs.declared.sums.TheConstants.{MARKS}
+use Rattle.param_check.specs.declared.binding.nets.Entry.{Entry}
+use Rattle.param_check.specs.declared.binding.contract_sums.TheConstants.{MARKS}
 
 -- the bit of a number is set
 abbrev pub is_marked : List ℕ → ℕ → Bool

@@ -1,9 +1,0 @@
-use Rattle.std.proofs.Common.{◌≡◌, map, length}
-use Rattle.param_check.specs.near.Sums.{kept_holdings}
-use Rattle.param_check.proofs.nets.all_nets.Given as goal
-
-abbrev pub invariant-loop-book : goal.invariant-loop-book
-invariant-loop-book l = record {
-  nets : l.nets.items ≡ map (kept_holdings l.contracts) l.yielded;
-  places : length l.sums ≡ l.contracts;
-}

@@ -1,0 +1,109 @@
+//! The entries of each account, gathered from the records of a position file.
+ghost use Rattle.std.specs.Prelude.{◌≡◌, ◌≤◌, ◌++◌, ◌∷◌, [], ⊤, Some, bytes_eq};
+ghost use Rattle.std.specs.Prelude.{nat_abs, replicate, All, IfOk, IfSome, OnOk, MatchBool, MatchResult};
+ghost use Rattle.span_tables.specs.declared.limits.TheConstants.{MAX_QUANTITY};
+ghost use Rattle.param_check.specs.Binding.{is_memory};
+ghost use Rattle.param_check.specs.near.Ledger.{foreign_fault, known_entry, IsLedger};
+
+use crate::binding::nets::Entry;
+use crate::faults::BindFault;
+use indexmap::IndexSet;
+use span_tables::name::Name;
+use span_tables::raw::RawPositions;
+use span_tables::records::NumberedPosition;
+use std::alloc::{AllocError, Global};
+use std::marker::Model;
+
+/// The entries of one account, in file order.
+#[derive(Drop)]
+pub(crate) struct Book {
+    entries: Vec<Entry>,
+}
+
+impl Model for Book {
+    ghost use Rattle.std.specs.Prelude.{◌≤◌, All, List, nat_abs};
+    ghost use Rattle.param_check.specs.declared.binding.nets.Entry.{Entry};
+    ghost use Rattle.span_tables.specs.declared.limits.TheConstants.{MAX_QUANTITY};
+
+    ghost Value = { List Entry };
+
+    ghost view = { λ b. b.entries.items };
+
+    ghost invariant = { λ b. All (λ e. nat_abs e.quantity ≤ MAX_QUANTITY) b.entries.items };
+}
+
+impl Book {
+    fn new(alloc: Global) -> Book
+        ensures { result ≡ [] }
+    {
+        Book {
+            entries: Vec::new(alloc),
+        }
+    }
+
+    fn push(&mut self, entry: Entry) -> Result<(), AllocError>
+        requires { nat_abs entry.quantity ≤ MAX_QUANTITY }
+        ensures { OnOk result (self.new ≡ self.old ++ entry ∷ []) }
+    {
+        self.entries.push(entry)?;
+        Ok(())
+    }
+
+    /// The entries in their order.
+    pub(crate) fn as_slice(&self) -> &[Entry]
+        ensures value { result.now ≡ self.now }
+        ensures quantities { All (λ e. nat_abs e.quantity ≤ MAX_QUANTITY) self.now }
+    {
+        &self.entries
+    }
+}
+
+// The entry of a record, or `None` where its contract is not known.
+#[tactic(auto, unfolding(crate::specs::near::Ledger::known_entry))]
+fn entry(numbers: &IndexSet<Name>, position: &NumberedPosition) -> Option<Entry>
+    ensures entry { result ≡ known_entry numbers.now.keys position.now.contract position.now.quantity }
+    ensures quantity { IfSome result (λ entry. entry.quantity ≡ position.now.quantity) }
+{
+    let contract = numbers.get_index_of(&position.contract)?;
+    Some(Entry {
+        contract,
+        quantity: i64::from(position.quantity),
+    })
+}
+
+// So many books without an entry.
+fn empty_books(alloc: Global, count: usize) -> Result<Vec<Book>, AllocError>
+    ensures { IfOk result (λ books. books.items ≡ replicate count []) }
+{
+    let mut books = Vec::with_capacity(alloc, count)?;
+    for _ in 0..count {
+        books.push(Book::new(alloc))?;
+    }
+    Ok(books)
+}
+
+/// The books of the accounts of positions, or the first record whose contract is not among these.
+#[tactic(auto, unfolding(crate::specs::near::Ledger::known_entry))]
+pub(crate) fn books_of(
+    alloc: Global,
+    numbers: &IndexSet<Name>,
+    positions: &RawPositions,
+) -> Result<Vec<Book>, BindFault>
+    ensures { MatchResult result
+        (λ books. IsLedger numbers.now.keys positions.now books.items)
+        (λ e. MatchBool (is_memory e) ⊤ (foreign_fault numbers.now.keys positions.now ≡ Some e)) }
+{
+    let accounts = positions.accounts();
+    let mut books = empty_books(alloc, accounts.len())?;
+    for (number, position) in positions.records().iter().enumerate() {
+        let account = position.account as usize;
+        let Some(entry) = entry(numbers, position) else {
+            return Err(BindFault::UnknownContract {
+                at: number + 1,
+                account: accounts[account].copied(),
+            });
+        };
+        books[account].push(entry)?;
+    }
+    Ok(books)
+}

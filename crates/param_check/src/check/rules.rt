@@ -1,0 +1,353 @@
+//! What each rule forbids of one record, and the first record that breaks it, rule by rule.
+ghost use Rattle.std.specs.Prelude.{◌≡◌, ◌&&◌, ◌==◌, bytes_eq, map, IfOk};
+ghost use Rattle.std.specs.List.{list_all, list_any};
+ghost use Rattle.span_tables.specs.Names.{has_repeat};
+ghost use Rattle.span_tables.specs.Rules.{are_one_sided, first_breaking, is_backwards, is_one_sided, is_side_a};
+ghost use Rattle.span_tables.specs.Rules.{names_no_commodity, names_no_tier, repeats_commodity, repeats_contract};
+ghost use Rattle.span_tables.specs.Rules.{repeats_leg, repeats_priority, repeats_spot, repeats_tier, same_side};
+ghost use Rattle.param_check.specs.near.Keys.{is_unknown, is_unknown_tier, names_unknown, names_unknown_tier};
+ghost use Rattle.param_check.specs.near.RecordRules.{breaks};
+
+use crate::check::keys::{Identity, Key, all_keys, first_repeat, name_key};
+use indexmap::IndexSet;
+use span_tables::name::Name;
+use span_tables::records::{InterLeg, IntraLeg, Record, Side};
+use std::alloc::{AllocError, Global};
+
+/// A rule that a record breaks by itself, or by what it names among the keys of the file.
+#[derive(Drop)]
+enum RecordRule {
+    /// C2: the commodities that a record names are among these.
+    KnownCommodities(IndexSet<Key>),
+    /// C5: a tier does not end before it begins.
+    NotBackwards,
+    /// C7: the tiers that a record names are among these.
+    KnownTiers(IndexSet<Key>),
+    /// C8: no two legs are of one tier and side, or of one commodity.
+    LegsApart,
+    /// C9: some leg is on A, and some on B.
+    TwoSided,
+}
+
+// Whether a record breaks a rule.
+fn breaks(rule: &RecordRule, item: &Record) -> bool
+    ensures { result ≡ breaks rule.now item.now }
+{
+    match rule {
+        RecordRule::KnownCommodities(commodities) => names_unknown(commodities, item),
+        RecordRule::NotBackwards => is_backwards(item),
+        RecordRule::KnownTiers(tiers) => names_unknown_tier(tiers, item),
+        RecordRule::LegsApart => repeats_leg(item),
+        RecordRule::TwoSided => is_one_sided(item),
+    }
+}
+
+// The number of the first record that breaks a rule.
+fn first_that_breaks(rule: &RecordRule, records: &[Record]) -> Option<usize>
+    ensures { result ≡ first_breaking (λ at. at) (λ earlier r. breaks rule.now r) records.now }
+{
+    for (index, item) in records.iter().enumerate() {
+        if breaks(rule, item) {
+            return Some(index + 1);
+        }
+    }
+    None
+}
+
+// ---- C1
+
+/// The number of the first record that breaks C1.
+#[tactic(auto, using(crate::proofs::KeyLemmas::first_repeated_commodity))]
+pub(crate) fn first_repeated_commodity(
+    alloc: Global,
+    records: &[Record],
+) -> Result<Option<usize>, AllocError>
+    ensures { IfOk result (λ at. at ≡ first_breaking (λ at. at) repeats_commodity records.now) }
+{
+    first_repeat(alloc, Identity::Commodity, records)
+}
+
+// ---- C2
+
+// Whether no COMMODITY record has this id.
+fn is_unknown(commodities: &IndexSet<Key>, id: &Name) -> bool
+    ensures { result ≡ is_unknown commodities.now.keys id.now }
+{
+    !commodities.contains(&name_key(id, 0))
+}
+
+// Whether a leg is of an unknown commodity.
+fn has_unknown_leg(commodities: &IndexSet<Key>, legs: &[InterLeg]) -> bool
+    ensures { result ≡ list_any (λ leg. is_unknown commodities.now.keys leg.commodity) legs.now }
+{
+    legs.iter()
+        .any(|leg| is_unknown(commodities, &leg.commodity))
+}
+
+// Whether it names an unknown commodity.
+fn names_unknown(commodities: &IndexSet<Key>, item: &Record) -> bool
+    ensures { result ≡ names_unknown commodities.now.keys item.now }
+{
+    match item {
+        Record::Set(_) | Record::Commodity(_) => false,
+        Record::Contract(contract) => is_unknown(commodities, &contract.commodity),
+        Record::Tier(tier) => is_unknown(commodities, &tier.commodity),
+        Record::Intra(spread) => is_unknown(commodities, &spread.commodity),
+        Record::Spot(spot) => is_unknown(commodities, &spot.commodity),
+        Record::Inter(spread) => has_unknown_leg(commodities, &spread.legs),
+    }
+}
+
+/// The number of the first record that breaks C2.
+pub(crate) fn first_unknown_commodity(
+    alloc: Global,
+    records: &[Record],
+) -> Result<Option<usize>, AllocError>
+    ensures { IfOk result (λ at. at
+        ≡ first_breaking (λ at. at) (λ earlier r. names_no_commodity records.now r) records.now) }
+{
+    let commodities = all_keys(alloc, Identity::Commodity, records)?;
+    Ok(first_that_breaks(&RecordRule::KnownCommodities(commodities), records))
+}
+
+// ---- C3
+
+/// The number of the first record that breaks C3.
+#[tactic(auto, using(crate::proofs::KeyLemmas::first_repeated_contract))]
+pub(crate) fn first_repeated_contract(
+    alloc: Global,
+    records: &[Record],
+) -> Result<Option<usize>, AllocError>
+    ensures { IfOk result (λ at. at ≡ first_breaking (λ at. at) repeats_contract records.now) }
+{
+    first_repeat(alloc, Identity::Contract, records)
+}
+
+// ---- C4
+
+/// The number of the first record that breaks C4.
+#[tactic(auto, using(crate::proofs::KeyLemmas::first_repeated_tier))]
+pub(crate) fn first_repeated_tier(
+    alloc: Global,
+    records: &[Record],
+) -> Result<Option<usize>, AllocError>
+    ensures { IfOk result (λ at. at ≡ first_breaking (λ at. at) repeats_tier records.now) }
+{
+    first_repeat(alloc, Identity::Tier, records)
+}
+
+// ---- C5
+
+// Whether it is a TIER whose first month is after its last.
+fn is_backwards(item: &Record) -> bool
+    ensures { result ≡ is_backwards item.now }
+{
+    match item {
+        Record::Tier(tier) => tier.last < tier.first,
+        _ => false,
+    }
+}
+
+/// The number of the first record that breaks C5.
+pub(crate) fn first_backwards(records: &[Record]) -> Option<usize>
+    ensures { result ≡ first_breaking (λ at. at) (λ earlier r. is_backwards r) records.now }
+{
+    first_that_breaks(&RecordRule::NotBackwards, records)
+}
+
+// ---- C6: in `overlaps`
+
+// ---- C7
+
+// Whether no TIER record has this commodity and number.
+fn is_unknown_tier(tiers: &IndexSet<Key>, commodity: &Name, number: u32) -> bool
+    ensures { result ≡ is_unknown_tier tiers.now.keys commodity.now number }
+{
+    !tiers.contains(&name_key(commodity, number))
+}
+
+// Whether a leg is of an unknown tier.
+fn has_unknown_tier(tiers: &IndexSet<Key>, commodity: &Name, legs: &[IntraLeg]) -> bool
+    ensures { result ≡ list_any (λ leg. is_unknown_tier tiers.now.keys commodity.now leg.tier) legs.now }
+{
+    legs.iter()
+        .any(|leg| is_unknown_tier(tiers, commodity, leg.tier))
+}
+
+// Whether it is an INTRA with a leg of an unknown tier.
+fn names_unknown_tier(tiers: &IndexSet<Key>, item: &Record) -> bool
+    ensures { result ≡ names_unknown_tier tiers.now.keys item.now }
+{
+    match item {
+        Record::Intra(spread) => has_unknown_tier(tiers, &spread.commodity, &spread.legs),
+        _ => false,
+    }
+}
+
+/// The number of the first record that breaks C7.
+pub(crate) fn first_unknown_tier(
+    alloc: Global,
+    records: &[Record],
+) -> Result<Option<usize>, AllocError>
+    ensures { IfOk result (λ at. at
+        ≡ first_breaking (λ at. at) (λ earlier r. names_no_tier records.now r) records.now) }
+{
+    let tiers = all_keys(alloc, Identity::Tier, records)?;
+    Ok(first_that_breaks(&RecordRule::KnownTiers(tiers), records))
+}
+
+// ---- C8
+
+// Whether the leg is on A.
+fn is_side_a(side: Side) -> bool
+    ensures { result ≡ is_side_a side }
+{
+    match side {
+        Side::A => true,
+        Side::B => false,
+    }
+}
+
+// Whether two legs are on the same side.
+fn same_side(one: Side, other: Side) -> bool
+    ensures { result ≡ same_side one other }
+{
+    match one {
+        Side::A => is_side_a(other),
+        Side::B => !is_side_a(other),
+    }
+}
+
+// Whether some leg has this tier and side.
+fn has_tier_leg(leg: &IntraLeg, legs: &[IntraLeg]) -> bool
+    ensures { result ≡ list_any (λ other. (leg.now.tier == other.tier) && same_side leg.now.side other.side) legs.now }
+{
+    legs.iter().any(|other| leg.tier == other.tier && same_side(leg.side, other.side))
+}
+
+// Whether two legs have the same tier and side.
+fn repeats_tier_leg(legs: &[IntraLeg]) -> bool
+    ensures { result ≡ has_repeat (λ a b. (a.tier == b.tier) && same_side a.side b.side) legs.now }
+{
+    for (index, leg) in legs.iter().enumerate() {
+        if has_tier_leg(leg, &legs[index + 1..]) {
+            return true;
+        }
+    }
+    false
+}
+
+// Whether some leg has this commodity.
+fn has_commodity_leg(leg: &InterLeg, legs: &[InterLeg]) -> bool
+    ensures { result ≡ list_any (λ other. bytes_eq leg.now.commodity other.commodity) legs.now }
+{
+    legs.iter().any(|other| leg.commodity == other.commodity)
+}
+
+// Whether two legs have the same commodity.
+fn repeats_commodity_leg(legs: &[InterLeg]) -> bool
+    ensures { result ≡ has_repeat (λ a b. bytes_eq a.commodity b.commodity) legs.now }
+{
+    for (index, leg) in legs.iter().enumerate() {
+        if has_commodity_leg(leg, &legs[index + 1..]) {
+            return true;
+        }
+    }
+    false
+}
+
+// Whether it is a spread with two legs of one tier and side, or of one commodity.
+fn repeats_leg(item: &Record) -> bool
+    ensures { result ≡ repeats_leg item.now }
+{
+    match item {
+        Record::Intra(spread) => repeats_tier_leg(&spread.legs),
+        Record::Inter(spread) => repeats_commodity_leg(&spread.legs),
+        _ => false,
+    }
+}
+
+/// The number of the first record that breaks C8.
+pub(crate) fn first_repeated_leg(records: &[Record]) -> Option<usize>
+    ensures { result ≡ first_breaking (λ at. at) (λ earlier r. repeats_leg r) records.now }
+{
+    first_that_breaks(&RecordRule::LegsApart, records)
+}
+
+// ---- C9
+
+// Whether the legs are all on a side.
+fn tier_legs_on(legs: &[IntraLeg], side: Side) -> bool
+    ensures { result ≡ list_all (same_side side) (map (λ leg. leg.side) legs.now) }
+{
+    legs.iter()
+        .map(|leg| leg.side)
+        .all(|other| same_side(side, other))
+}
+
+// Whether no leg is on A, or none on B.
+fn tier_legs_one_sided(legs: &[IntraLeg]) -> bool
+    ensures { result ≡ are_one_sided (map (λ leg. leg.side) legs.now) }
+{
+    tier_legs_on(legs, Side::A) || tier_legs_on(legs, Side::B)
+}
+
+// Whether the legs are all on a side.
+fn commodity_legs_on(legs: &[InterLeg], side: Side) -> bool
+    ensures { result ≡ list_all (same_side side) (map (λ leg. leg.side) legs.now) }
+{
+    legs.iter()
+        .map(|leg| leg.side)
+        .all(|other| same_side(side, other))
+}
+
+// Whether no leg is on A, or none on B.
+fn commodity_legs_one_sided(legs: &[InterLeg]) -> bool
+    ensures { result ≡ are_one_sided (map (λ leg. leg.side) legs.now) }
+{
+    commodity_legs_on(legs, Side::A) || commodity_legs_on(legs, Side::B)
+}
+
+// Whether it is a spread with no leg on A or none on B.
+fn is_one_sided(item: &Record) -> bool
+    ensures { result ≡ is_one_sided item.now }
+{
+    match item {
+        Record::Intra(spread) => tier_legs_one_sided(&spread.legs),
+        Record::Inter(spread) => commodity_legs_one_sided(&spread.legs),
+        _ => false,
+    }
+}
+
+/// The number of the first record that breaks C9.
+pub(crate) fn first_one_sided(records: &[Record]) -> Option<usize>
+    ensures { result ≡ first_breaking (λ at. at) (λ earlier r. is_one_sided r) records.now }
+{
+    first_that_breaks(&RecordRule::TwoSided, records)
+}
+
+// ---- C10
+
+/// The number of the first record that breaks C10.
+#[tactic(auto, using(crate::proofs::KeyLemmas::first_repeated_priority))]
+pub(crate) fn first_repeated_priority(
+    alloc: Global,
+    records: &[Record],
+) -> Result<Option<usize>, AllocError>
+    ensures { IfOk result (λ at. at ≡ first_breaking (λ at. at) repeats_priority records.now) }
+{
+    first_repeat(alloc, Identity::Priority, records)
+}
+
+// ---- C11
+
+/// The number of the first record that breaks C11.
+#[tactic(auto, using(crate::proofs::KeyLemmas::first_repeated_spot))]
+pub(crate) fn first_repeated_spot(
+    alloc: Global,
+    records: &[Record],
+) -> Result<Option<usize>, AllocError>
+    ensures { IfOk result (λ at. at ≡ first_breaking (λ at. at) repeats_spot records.now) }
+{
+    first_repeat(alloc, Identity::SpotMonth, records)
+}
