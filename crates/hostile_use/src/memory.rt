@@ -321,16 +321,16 @@ fn rolled(rt: HostRuntime) -> Result<(), Fail> {
 }
 
 // The next task of a board that has one. For want of memory, the board is as it was and gives it then.
-fn next_task<R: Abort>(rt: &R, alloc: Global, board: &mut Board) -> Result<Task, SpanFault>
+fn next_task<R: Abort>(rt: &R, board: &mut Board) -> Result<Task, SpanFault>
     ensures board { board.new.job ≡ board.old.job }
     ensures task { IfOk result (λ task. task.job ≡ board.old.job) }
 {
     let before = board.history().len();
-    if let Ok(task) = board.take_ready(alloc) {
+    if let Ok(task) = board.take_ready() {
         return Ok(task.expect(rt, "a task"));
     }
     assert_eq!(rt; board.history().len(), before);
-    Ok(board.take_ready(alloc)?.expect(rt, "a task"))
+    Ok(board.take_ready()?.expect(rt, "a task"))
 }
 
 // A board that has failed takes no result, of this job's first task, and hands nothing out.
@@ -344,10 +344,10 @@ fn is_failed<R: Abort>(
     ensures { board.new.job ≡ board.old.job }
 {
     let mut other = Board::new(alloc, Arc::try_clone(job)?)?;
-    let task = next_task(rt, alloc, &mut other)?;
+    let task = next_task(rt, &mut other)?;
     let finished = evaluate(alloc, task);
     assert!(rt; board.finish(finished) == Err(Refused::Failed));
-    assert!(rt; board.take_ready(alloc)?.is_none());
+    assert!(rt; board.take_ready()?.is_none());
     assert!(rt; !board.is_complete() && board.total().is_none());
     Ok(())
 }
@@ -364,7 +364,7 @@ fn run<R: Abort>(rt: &R, alloc: Global, job: &Arc<Job>, board: &mut Board) -> Re
     ensures { board.new.job ≡ board.old.job }
 {
     for _ in 0..job.plan().len() {
-        let task = next_task(rt, alloc, board)?;
+        let task = next_task(rt, board)?;
         let finished = evaluate(alloc, task);
         let has_value = finished.value().is_some();
         assert!(rt; board.finish(finished) == Ok(()));

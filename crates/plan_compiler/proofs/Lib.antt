@@ -5,4 +5,3 @@ pub mod FromPlan
 pub mod Wiring
 pub mod PlanLaw
 pub mod SampleLaws
-pub mod NothingLemmas

@@ -20,7 +20,7 @@ use Rattle.std.proofs.lemmas.List.Elements.{All-append, All-map, All-replicate}
 use Rattle.std.proofs.lemmas.List.FromFn.{length-map-range_with_len}
 use Rattle.inter_credit.specs.States.{IsNotLoaded, IsUnspread, IsUnspreadLine}
 use Rattle.inter_credit.specs.declared.requirement.TheConstants.{MAX_PART}
-use Rattle.plan_ir.specs.Apply.{IsOp, Takes}
+use Rattle.plan_ir.specs.Apply.{IsOp, Takes, inter_at, no_inter}
 use Rattle.plan_ir.specs.Figures.{deltas_at, delivery_at, held_at, intras_at, line_of, loaded_lines, minimum_at, scan_at}
 use Rattle.plan_ir.specs.declared.ops.Op.{Op}
 use Rattle.plan_ir.specs.declared.ops.Op.TheVariants as op
@@ -65,6 +65,12 @@ module _ (t : AcceptedTables) (holdings : List Holding) (limits : IsWithinLimits
         length-map-range_with_len (line_of t holdings) 0 c,
         length-replicate (length t.commodities - c) (unspread_line (pos 0) 0),
       )
+
+  legs_among : (j : ℕ) → j < length (inters_of t)
+      → All (λ leg. leg.commodity < length (lines_after t holdings j)) (inter_at t j).legs
+  legs_among j lt =
+      let known = (limits.inters_in_range j no_inter lt).known in
+      λ i d in_range. let among = known i d in_range in omega (arith, among, length_lines j)
 
   not_loaded : (c : ℕ) → c < length t.commodities → IsNotLoaded (lines_loaded t holdings c) c
   not_loaded c lt =
@@ -132,7 +138,7 @@ module _ (t : AcceptedTables) (holdings : List Holding) (limits : IsWithinLimits
   })
   takes_meanings (op.InterSpread j) is = rw (meaning-before_inter t holdings j) (record {
     known = is;
-    taken = record { count = refl; lines = tt; many = length_lines j };
+    taken = record { count = refl; lines = tt; among = legs_among j is };
   })
   takes_meanings op.TotalStart is = record { known = tt; taken = record { count = refl } }
   takes_meanings (op.TotalAdd c) is = rw (meaning-before_total t holdings c) (record {

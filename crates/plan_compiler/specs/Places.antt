@@ -5,6 +5,7 @@ use Rattle.plan_ir.specs.Figures.{intras_at}
 use Rattle.plan_ir.specs.Plans.{StepView, steps_with}
 use Rattle.plan_ir.specs.declared.ops.Op.{Op}
 use Rattle.plan_ir.specs.declared.ops.Op.TheVariants as op
+use Rattle.plan_compiler.specs.declared.layout.TheConstants.{DELIVERY, FINAL, MINIMUM, MONTHS, SCAN, SUMS, TIERS, TOTAL}
 use Rattle.plan_compiler.specs.Meaning.{wanted}
 use Rattle.plan_compiler.specs.Plan.{commodity_ops, each, ops_of}
 
@@ -14,7 +15,7 @@ first_step t c = length (each (commodity_ops t) c)
 
 -- the number of the step of a commodity's state behind its first spreads
 abbrev pub tiers_step : AcceptedTables → ℕ → ℕ → ℕ
-tiers_step t c spreads = first_step t c + 4 + spreads
+tiers_step t c spreads = first_step t c + TIERS + spreads
 
 -- the number of the step of the state between commodities with the first of them loaded
 abbrev pub load_step : AcceptedTables → ℕ → ℕ
@@ -26,19 +27,19 @@ inter_step t spreads = load_step t (length t.commodities) + spreads
 
 -- the number of the step of the total of the first commodities
 abbrev pub total_step : AcceptedTables → ℕ → ℕ
-total_step t commodities = inter_step t (length (inters_of t)) + 1 + commodities
+total_step t commodities = inter_step t (length (inters_of t)) + TOTAL + commodities
 
 -- the number of an operation's step
 abbrev pub place_of : AcceptedTables → Op → ℕ
 place_of t (op.Gather c) = first_step t c
-place_of t (op.Sums c) = first_step t c + 1
-place_of t (op.ScanMax c) = first_step t c + 2
-place_of t (op.Months c) = first_step t c + 3
+place_of t (op.Sums c) = first_step t c + SUMS
+place_of t (op.ScanMax c) = first_step t c + SCAN
+place_of t (op.Months c) = first_step t c + MONTHS
 place_of t (op.TierStart c) = tiers_step t c 0
 place_of t (op.Spread c j) = tiers_step t c (j + 1)
-place_of t (op.Delivery c) = tiers_step t c (length (intras_at t c)) + 1
-place_of t (op.Minimum c) = tiers_step t c (length (intras_at t c)) + 2
-place_of t (op.Final c) = tiers_step t c (length (intras_at t c)) + 3
+place_of t (op.Delivery c) = tiers_step t c (length (intras_at t c)) + DELIVERY
+place_of t (op.Minimum c) = tiers_step t c (length (intras_at t c)) + MINIMUM
+place_of t (op.Final c) = tiers_step t c (length (intras_at t c)) + FINAL
 place_of t op.InterStart = load_step t 0
 place_of t (op.InterLoad c) = load_step t (c + 1)
 place_of t (op.InterSpread j) = inter_step t (j + 1)

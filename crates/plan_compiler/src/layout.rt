@@ -5,7 +5,7 @@ ghost use Rattle.span_tables.specs.declared.limits.TheConstants.{MAX_COMMODITIES
 ghost use Rattle.plan_ir.specs.Apply.{IsOp};
 ghost use Rattle.plan_ir.specs.Figures.{intras_at};
 ghost use Rattle.plan_ir.specs.declared.ops.Op.TheVariants.{Final, InterLoad};
-ghost use Rattle.plan_compiler.specs.declared.layout.TheConstants.{MAX_FIRST};
+ghost use Rattle.plan_compiler.specs.declared.layout.TheConstants.{MAX_FIRST, TIERS};
 ghost use Rattle.plan_compiler.specs.Places.{first_step, inputs_of, inter_step, load_step, tiers_step, total_step};
 ghost use Rattle.plan_compiler.specs.near.Layout.{AreFirsts};
 
@@ -17,6 +17,22 @@ use std::alloc::{AllocError, Global};
 
 /// How many steps a commodity has beside those of its spreads.
 pub const COMMODITY_STEPS: usize = 8;
+/// Where the step of the scenario sums stands, counted from the first of its commodity's steps.
+pub const SUMS: u32 = 1;
+/// Where the step of the scan stands, counted from the first.
+pub const SCAN: u32 = 2;
+/// Where the step of the held months stands, counted from the first.
+pub const MONTHS: u32 = 3;
+/// Where the step of the months before any spread stands, counted from the first. Those of spreads follow.
+pub const TIERS: u32 = 4;
+/// Where the step of the delivery charge stands, counted from that of the months after all spreads.
+pub const DELIVERY: u32 = 1;
+/// Where the step of the short option minimum stands, counted from that of the months after all spreads.
+pub const MINIMUM: u32 = 2;
+/// Where the step of the figures stands, counted from that of the months after all spreads.
+pub const FINAL: u32 = 3;
+/// Where the step of the total of no commodity stands, counted from that of the commodities after all spreads.
+pub const TOTAL: u32 = 1;
 /// The number of the first step between commodities, at most.
 pub const MAX_FIRST: usize = MAX_COMMODITIES * (COMMODITY_STEPS + MAX_INTRA_SPREADS);
 
@@ -41,6 +57,7 @@ pub(crate) fn first_step(tables: &Tables, firsts: &[u32], c: u32) -> u32
     ensures value { result ≡ first_step tables.now c }
     ensures bound { result ≤ MAX_FIRST }
 {
+    // Called for its clause: the tables are within their limits.
     let _limits = tables.commodities();
     firsts[c as usize]
 }
@@ -51,10 +68,11 @@ fn tiers_step(tables: &Tables, firsts: &[u32], c: u32, spreads: u32) -> u32
     requires among { c < length tables.now.commodities }
     requires few { spreads ≤ length (intras_at tables.now c) }
     ensures value { result ≡ tiers_step tables.now c spreads }
-    ensures bound { result ≤ MAX_FIRST + 4 + MAX_INTRA_SPREADS }
+    ensures bound { result ≤ MAX_FIRST + TIERS + MAX_INTRA_SPREADS }
 {
+    // Called for its clause: a commodity has few spreads.
     let _few = tables.intras(c as usize);
-    first_step(tables, firsts, c) + 4 + spreads
+    first_step(tables, firsts, c) + TIERS + spreads
 }
 
 // The number of the step of a commodity's state behind all of its spreads.
@@ -62,7 +80,7 @@ pub(crate) fn last_tiers_step(tables: &Tables, firsts: &[u32], c: u32) -> u32
     requires firsts { AreFirsts tables.now firsts.now }
     requires among { c < length tables.now.commodities }
     ensures value { result ≡ tiers_step tables.now c (length (intras_at tables.now c)) }
-    ensures bound { result ≤ MAX_FIRST + 4 + MAX_INTRA_SPREADS }
+    ensures bound { result ≤ MAX_FIRST + TIERS + MAX_INTRA_SPREADS }
 {
     let spreads = tables.intras(c as usize).len();
     tiers_step(tables, firsts, c, spreads as u32)
@@ -87,6 +105,7 @@ fn inter_step(tables: &Tables, firsts: &[u32], spreads: u32) -> u32
     ensures bound { result ≤ MAX_FIRST + MAX_COMMODITIES + MAX_INTER_SPREADS }
 {
     let all = tables.commodities().len();
+    // Called for its clause: there are few intercommodity spreads.
     let _few = tables.inters();
     load_step(tables, firsts, all as u32) + spreads
 }
@@ -106,8 +125,9 @@ pub(crate) fn total_step(tables: &Tables, firsts: &[u32], commodities: u32) -> u
     requires among { commodities ≤ length tables.now.commodities }
     ensures { result ≡ total_step tables.now commodities }
 {
+    // Called for its clause: the tables are within their limits.
     let _limits = tables.commodities();
-    last_inter_step(tables, firsts) + 1 + commodities
+    last_inter_step(tables, firsts) + TOTAL + commodities
 }
 
 // Appends the inputs of an operation's step.
@@ -126,11 +146,11 @@ fn push_inputs(
         Op::Sums(c) | Op::Months(c) | Op::Minimum(c) => {
             lists.push(&[first_step(tables, firsts, c)])
         }
-        Op::ScanMax(c) => lists.push(&[first_step(tables, firsts, c) + 1]),
-        Op::TierStart(c) => lists.push(&[first_step(tables, firsts, c) + 3]),
+        Op::ScanMax(c) => lists.push(&[first_step(tables, firsts, c) + SUMS]),
+        Op::TierStart(c) => lists.push(&[first_step(tables, firsts, c) + MONTHS]),
         Op::Spread(c, j) => lists.push(&[tiers_step(tables, firsts, c, j)]),
         Op::Delivery(c) => lists.push(&[
-            first_step(tables, firsts, c) + 3,
+            first_step(tables, firsts, c) + MONTHS,
             last_tiers_step(tables, firsts, c),
         ]),
         Op::Final(c) => push_final(lists, tables, firsts, c),
@@ -138,7 +158,7 @@ fn push_inputs(
         Op::InterSpread(j) => lists.push(&[inter_step(tables, firsts, j)]),
         Op::TotalAdd(c) => lists.push(&[
             total_step(tables, firsts, c),
-            last_tiers_step(tables, firsts, c) + 3,
+            last_tiers_step(tables, firsts, c) + FINAL,
         ]),
     }
 }
@@ -156,10 +176,10 @@ fn push_final(
 {
     let tiers = last_tiers_step(tables, firsts, c);
     lists.push(&[
-        first_step(tables, firsts, c) + 2,
+        first_step(tables, firsts, c) + SCAN,
         tiers,
-        tiers + 1,
-        tiers + 2,
+        tiers + DELIVERY,
+        tiers + MINIMUM,
         last_inter_step(tables, firsts),
     ])
 }
@@ -176,7 +196,7 @@ fn push_load(
     ensures { OnOk result (lists.new ≡ lists.old ++ inputs_of tables.now (InterLoad c) ∷ []) }
 {
     let first = first_step(tables, firsts, c);
-    lists.push(&[load_step(tables, firsts, c), first + 3, first + 2])
+    lists.push(&[load_step(tables, firsts, c), first + MONTHS, first + SCAN])
 }
 
 // The inputs of the step of each of these operations.

@@ -3,7 +3,6 @@
 
 pub mod laws;
 pub mod layout;
-pub mod nothing;
 mod operations;
 pub mod samples;
 pub mod set;

@@ -10,9 +10,9 @@ ghost use Rattle.plan_compiler.specs.Meaning.{last_total};
 ghost use Rattle.plan_compiler.specs.Places.{plan_of};
 ghost use Rattle.plan_compiler.specs.Plan.{IsPlanOf};
 
-use crate::layout::{first_step, first_steps, inputs_of_all, last_tiers_step, total_step};
-use crate::nothing::NothingHeld;
+use crate::layout::{FINAL, first_step, first_steps, inputs_of_all, last_tiers_step, total_step};
 use crate::operations::ops_of;
+use plan_ir::nothing::NothingHeld;
 use plan_ir::plans::Plan;
 use span_tables::tables::Tables;
 use std::alloc::{AllocError, Global};
@@ -81,7 +81,7 @@ impl CompiledSet {
         ensures op { op_at self.now.plan result ≡ operation.Final commodity }
         ensures stays { IsFirstInput self.now.plan result → ⊥ }
     {
-        last_tiers_step(&self.tables, &self.firsts, commodity) + 3
+        last_tiers_step(&self.tables, &self.firsts, commodity) + FINAL
     }
 
     /// The number of the step that has the total. It is no step's first input.
@@ -102,6 +102,7 @@ pub fn compile(alloc: Global, tables: Tables) -> Result<CompiledSet, AllocError>
     ensures tables { IfOk result (λ set. set.tables ≡ tables) }
     ensures plan { IfOk result (λ set. set.plan ≡ plan_of tables) }
 {
+    // Called for its clause: the tables are within their limits.
     let _limits = tables.commodities();
     let ops = ops_of(alloc, &tables)?;
     let firsts = first_steps(alloc, &tables)?;

@@ -4,3 +4,5 @@ pub mod UserLaws
 pub mod PlaceLemmas
 pub mod BoundLaws
 pub mod SampleLaws
+pub mod LegLemmas
+pub mod NothingLemmas

@@ -122,11 +122,11 @@ pub record TakesLoad (c : ℕ) (inputs : List Value) : Type 0 where
   pub unspread : IsUnspread (lines_in (input inputs 0))
   pub price2_small : (scan_in (input inputs 2)).price2 ≤ MAX_PRICE2
 
--- so many commodities
-pub record TakesLines (commodities : ℕ) (inputs : List Value) : Type 0 where
+-- commodities with those of the legs of a spread
+pub record TakesLegs (spread : Inter) (inputs : List Value) : Type 0 where
   pub count : length inputs ≡ 1
   pub lines : IsInter (input inputs 0)
-  pub many : length (lines_in (input inputs 0)) ≡ commodities
+  pub among : All (λ leg. leg.commodity < length (lines_in (input inputs 0))) spread.legs
 
 -- a total, and the figures of a commodity with whose requirement the sum is an amount of money
 pub record TakesTotal (inputs : List Value) : Type 0 where
@@ -148,7 +148,7 @@ TakesInputs t (op.Minimum c) inputs = TakesHeld inputs
 TakesInputs t (op.Final c) inputs = TakesFinal c inputs
 TakesInputs t op.InterStart inputs = TakesNothing inputs
 TakesInputs t (op.InterLoad c) inputs = TakesLoad c inputs
-TakesInputs t (op.InterSpread j) inputs = TakesLines (length t.commodities) inputs
+TakesInputs t (op.InterSpread j) inputs = TakesLegs (inter_at t j) inputs
 TakesInputs t op.TotalStart inputs = TakesNothing inputs
 TakesInputs t (op.TotalAdd c) inputs = TakesTotal inputs
 

@@ -1,3 +1,4 @@
 pub mod Copying
 pub mod Packing
 pub mod Noting
+pub mod Nothing

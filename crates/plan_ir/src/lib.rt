@@ -3,10 +3,11 @@
 
 pub mod evaluation;
 pub mod figures;
-pub mod in_place;
 pub mod laws;
+pub mod limit_digits;
 pub mod listing;
 pub mod lists;
+pub mod nothing;
 pub mod ops;
 pub mod plans;
 mod users;

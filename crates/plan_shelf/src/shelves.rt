@@ -1,6 +1,7 @@
 //! Making a shelf.
 ghost use Rattle.plan_shelf.specs.declared.faults.ShelfFault.TheVariants as fault;
-ghost use Rattle.std.specs.Prelude.{◌≡◌, ◌<◌, ◌⊎◌, ◌↔◌, [], All, Err, IfErr, IfOk, vec_len};
+ghost use Rattle.plan_shelf.specs.declared.shelves.TheConstants.{MAX_READERS};
+ghost use Rattle.std.specs.Prelude.{◌≡◌, ◌<◌, ◌≤◌, ◌⊎◌, ◌↔◌, [], All, Err, IfErr, IfOk, vec_len};
 
 use crate::faults::ShelfFault;
 use crate::history::{History, ShelfName};
@@ -45,7 +46,7 @@ fn empty_shelf<S: ShelfName, R: Wait + Drop>(
     readers: usize,
 ) -> Result<(Publisher<S, R>, Vec<Reader<S>>), AllocError>
     requires book { history ≡ S.book }
-    requires readers { (0 < readers) × (readers < 17) }
+    requires readers { (0 < readers) × (readers ≤ MAX_READERS) }
     ensures { IfOk result (λ made. (made.0 ≡ []) × (vec_len made.1 ≡ readers) × All (λ reader. reader ≡ []) made.1.items) }
 {
     let (counter, beginning) = history.named::<S>();

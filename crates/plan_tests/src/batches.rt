@@ -168,11 +168,11 @@ fn a_hundred_batches(rt: HostRuntime) -> Result<(), Fail> {
 }
 
 // The next task of a board.
-fn next_task(alloc: Global, board: &mut Board) -> Result<Task, Fail>
+fn next_task(board: &mut Board) -> Result<Task, Fail>
     ensures job { board.new.job ≡ board.old.job }
     ensures task { IfOk result (λ task. task.job ≡ board.old.job) }
 {
-    match board.take_ready(alloc)? {
+    match board.take_ready()? {
         Some(task) => Ok(task),
         None => Err(Fail::from("nothing is ready")),
     }
@@ -227,9 +227,9 @@ fn tasks_in_order<B: Batch, R: Abort>(rt: &R, alloc: Global, job: &Arc<Job>) -> 
     requires job { (arc_value job.now).place ≡ 0 }
 {
     let mut board = Board::new(alloc, Arc::try_clone(job)?)?;
-    let first = next_task(alloc, &mut board)?;
-    let second = next_task(alloc, &mut board)?;
-    let third = next_task(alloc, &mut board)?;
+    let first = next_task(&mut board)?;
+    let second = next_task(&mut board)?;
+    let third = next_task(&mut board)?;
     let steps = [first.step(), second.step(), third.step()];
     let mut owner = new_deque::<B>(alloc, 4)?;
     let thief = owner.stealer()?;
@@ -260,8 +260,8 @@ fn results_in_order<B: Batch, R: Abort + Wait>(
     requires job { (arc_value job.now).place ≡ 0 }
 {
     let mut board = Board::new(alloc, Arc::try_clone(job)?)?;
-    let first = next_task(alloc, &mut board)?;
-    let second = next_task(alloc, &mut board)?;
+    let first = next_task(&mut board)?;
+    let second = next_task(&mut board)?;
     let steps = [first.step(), second.step()];
     let (queue, mut pass) = new_queue::<B>(alloc)?;
     let mut other = split_queue_pass(&queue, &mut pass);

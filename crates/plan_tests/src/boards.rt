@@ -46,18 +46,18 @@ fn three_futures(
 }
 
 // The task of the first step, of the three that a new board of one future hands out.
-fn first_task(alloc: Global, rt: &impl Abort, board: &mut Board) -> Result<Option<Task>, AllocError>
+fn first_task(rt: &impl Abort, board: &mut Board) -> Result<Option<Task>, AllocError>
     ensures board { board.new.job ≡ board.old.job }
     ensures task { IfOk result (λ r. IfSome r (λ task. task.job ≡ board.old.job)) }
 {
     let mut first = None;
     for _ in 0..3 {
-        let task = board.take_ready(alloc)?.expect(rt, "a task");
+        let task = board.take_ready()?.expect(rt, "a task");
         if task.step() == 0 {
             first = Some(task);
         }
     }
-    assert!(rt; board.take_ready(alloc)?.is_none());
+    assert!(rt; board.take_ready()?.is_none());
     assert_eq!(rt; board.history().len(), 3);
     Ok(first)
 }
@@ -68,7 +68,7 @@ fn result_of(alloc: Global, job: &Arc<Job>, step: usize) -> Result<Option<Finish
 {
     let mut board = Board::new(alloc, Arc::try_clone(job)?)?;
     for _ in 0..job.plan().len() {
-        let Some(task) = board.take_ready(alloc)? else {
+        let Some(task) = board.take_ready()? else {
             return Ok(None);
         };
         let finished = evaluate(alloc, task);
@@ -86,8 +86,8 @@ fn results_on_other_boards(rt: HostRuntime) -> Result<(), Fail> {
     let job = one_future(alloc, &rt)?;
     let mut a = Board::new(alloc, Arc::try_clone(&job)?)?;
     let mut b = Board::new(alloc, Arc::try_clone(&job)?)?;
-    let of_a = first_task(alloc, &rt, &mut a)?.ok_or("a's first step")?;
-    let of_b = first_task(alloc, &rt, &mut b)?.ok_or("b's first step")?;
+    let of_a = first_task(&rt, &mut a)?.ok_or("a's first step")?;
+    let of_b = first_task(&rt, &mut b)?.ok_or("b's first step")?;
     assert_eq!(rt; a.finish(evaluate(alloc, of_a)), Ok(()));
     assert_eq!(rt; a.history().len(), 4);
     assert_eq!(rt; a.finish(evaluate(alloc, of_b)), Err(Refused::NotTaken));
@@ -100,7 +100,7 @@ fn results_on_other_boards(rt: HostRuntime) -> Result<(), Fail> {
     a.fail();
     let of_another = result_of(alloc, &job, 10)?.ok_or("a result")?;
     assert_eq!(rt; a.finish(of_another), Err(Refused::Failed));
-    assert!(rt; a.take_ready(alloc)?.is_none());
+    assert!(rt; a.take_ready()?.is_none());
     assert_eq!(rt; a.history().len(), 4);
     Ok(())
 }
@@ -110,7 +110,7 @@ fn run(alloc: Global, board: &mut Board) -> Result<(), AllocError>
     ensures { board.new.job ≡ board.old.job }
 {
     for _ in 0..board.job().plan().len() {
-        let Some(task) = board.take_ready(alloc)? else {
+        let Some(task) = board.take_ready()? else {
             return Ok(());
         };
         let _kept = board.finish(evaluate(alloc, task));
@@ -137,7 +137,7 @@ fn run_of_one_future(rt: HostRuntime) -> Result<(), Fail> {
     assert!(rt; board.figures(0).is_none());
     assert!(rt; board.total().is_none());
 
-    let task = board.take_ready(alloc)?.ok_or("a task")?;
+    let task = board.take_ready()?.ok_or("a task")?;
     let step = task.step();
     assert_eq!(rt; task.job().place(), 0);
     let finished = evaluate(alloc, task);
@@ -199,7 +199,7 @@ fn results_of_strangers(rt: HostRuntime) -> Result<(), Fail> {
     let mut board = Board::new(alloc, three_futures(alloc, &rt, &set)?)?;
     for _ in 0..equal.plan().len() {
         offer_strangers(alloc, &rt, &mut board, &equal)?;
-        let task = board.take_ready(alloc)?.ok_or("a task")?;
+        let task = board.take_ready()?.ok_or("a task")?;
         assert_eq!(rt; board.finish(evaluate(alloc, task)), Ok(()));
     }
     offer_strangers(alloc, &rt, &mut board, &equal)?;

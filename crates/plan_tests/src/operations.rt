@@ -9,9 +9,8 @@ ghost use Rattle.plan_ir.specs.Samples.{small_file, small_plan};
 ghost use Rattle.plan_ir.specs.declared.values.Value.TheVariants as value;
 
 use inter_credit::state::empty;
-use plan_ir::evaluation::apply;
+use plan_ir::evaluation::{apply, changes_nothing};
 use plan_ir::figures::Figures;
-use plan_ir::in_place::changes_nothing;
 use plan_ir::listing::list;
 use plan_ir::lists::NumberLists;
 use plan_ir::ops::Op;

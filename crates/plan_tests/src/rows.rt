@@ -21,7 +21,7 @@ pub(crate) fn row_of(
     }
     let mut board = Board::new(alloc, Arc::new(alloc, Job::new(set, account, 0))?)?;
     for _ in 0..board.job().plan().len() {
-        let task = board.take_ready(alloc)?.ok_or("a task")?;
+        let task = board.take_ready()?.ok_or("a task")?;
         board.finish(evaluate(alloc, task))?;
     }
     if !board.is_complete() {

@@ -53,6 +53,7 @@ impl Row {
         let job = Arc::try_clone(board.job())?;
         let figures = figures_of_all(alloc, board)?;
         let tables = job.set().tables();
+        // Called for its clause: the tables are within their limits.
         let _limits = tables.commodities();
         let held = held_commodities(tables, job.portfolio());
         let total = total_of(board);

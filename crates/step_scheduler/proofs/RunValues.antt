@@ -11,7 +11,7 @@ use Rattle.plan_compiler.specs.Compiled.{IsCompiled}
 use Rattle.step_scheduler.specs.Jobs.{JobView, inputs_for, meaning_at}
 use Rattle.step_scheduler.specs.declared.events.Event.{Event}
 use Rattle.step_scheduler.specs.declared.events.Event.TheVariants.{Take, Finish}
-use Rattle.step_scheduler.specs.Runs.{is_taken, is_finished, IsRunAfter, IsRun, IsReady, IsUnderWay, values_after, values_along, run_values}
+use Rattle.step_scheduler.specs.Runs.{AllFinished, is_taken, is_finished, IsRunAfter, IsRun, IsReady, IsUnderWay, values_after, values_along, run_values}
 use Rattle.step_scheduler.proofs.Histories.{is_taken-push, is_finished-push}
 use Rattle.step_scheduler.proofs.BoardLemmas.{map_same}
 
@@ -109,3 +109,10 @@ module _ (job : JobView) (compiled : IsCompiled job.set) (fits : Fits job.set.ta
   pub ready_inputs : (history : List Event) → IsRun job.set.plan history → (k : ℕ) → IsReady job.set.plan history k
       → map (run_values job history) (inputs_at job.set.plan k) ≡ inputs_for job k
   ready_inputs history run k ready = map_same _ _ _ (λ i d l. run_means history run _ (ready.fed i d l))
+
+  -- two runs that finished every step give each step one value
+  pub complete_runs_agree : (one other : List Event) → IsRun job.set.plan one → IsRun job.set.plan other
+      → AllFinished job.set.plan one → AllFinished job.set.plan other → (k : ℕ) → k < length job.set.plan
+      → run_values job one k ≡ run_values job other k
+  complete_runs_agree one other run_of_one run_of_other all_of_one all_of_other k lt =
+      run_means one run_of_one k (all_of_one k lt) ∙ sym (run_means other run_of_other k (all_of_other k lt))

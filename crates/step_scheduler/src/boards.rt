@@ -101,7 +101,7 @@ impl Board {
     /// Hands out a ready step, with the values of its inputs.
     ///
     /// `None` where no step is ready or the board has failed. `Err` is want of memory. After either the board is as it was.
-    pub fn take_ready(&mut self, alloc: Global) -> Result<Option<Task>, AllocError>
+    pub fn take_ready(&mut self) -> Result<Option<Task>, AllocError>
         ensures same_job { self.new.job ≡ self.old.job }
         ensures ready { IfOk result (λ r. IfSome r (λ task. IsReady self.old.job.set.plan self.old.history task.step)) }
         ensures live { IfOk result (λ r. IfSome r (λ task. self.old.failed ≡ false)) }
@@ -120,7 +120,7 @@ impl Board {
         let Some(step) = last_of(self.ready.as_slice()) else {
             return Ok(None);
         };
-        let task = task_of(alloc, &self.job, &mut self.spare, &mut self.places, step)?;
+        let task = task_of(&self.job, &mut self.spare, &mut self.places, step)?;
         self.ready.truncate(self.ready.len() - 1);
         self.steps[step as usize] = Progress::Taken;
         self.history.push_reserved(Event::Take(step));

@@ -12,8 +12,7 @@ use crate::finished::Finished;
 use crate::jobs::Job;
 use crate::tasks::Task;
 use plan_compiler::set::CompiledSet;
-use plan_ir::evaluation::apply;
-use plan_ir::in_place::{apply_beside, apply_in_place, changes_nothing, is_in_place};
+use plan_ir::evaluation::{apply, apply_beside, apply_in_place, changes_nothing, is_in_place};
 use plan_ir::ops::Op;
 use plan_ir::values::Value;
 use span_tables::portfolios::Portfolio;
@@ -56,13 +55,13 @@ fn value_of(
     let set = job.set();
     let op = set.plan().op(step as usize);
     match first {
-        Some(first) => renewed(alloc, set, op, first, rest),
-        None => alone(alloc, set.tables(), job.portfolio(), op, rest),
+        Some(first) => computed(alloc, set, op, first, rest),
+        None => new_without_inputs(alloc, set.tables(), job.portfolio(), op, rest),
     }
 }
 
 // The value of an operation that has inputs. `None` is want of memory.
-fn renewed(
+fn computed(
     alloc: Global,
     set: &CompiledSet,
     op: Op,
@@ -74,15 +73,15 @@ fn renewed(
         → arc_value v ≡ value_on set.now.tables holdings op (arc_value first ∷ map arc_value rest.now)) }
 {
     if is_in_place(op) {
-        changed(alloc, set.tables(), op, first, rest)
+        updated(alloc, set.tables(), op, first, rest)
     } else {
-        made(alloc, set, op, &first, rest)
+        constant_or_new(alloc, set, op, &first, rest)
     }
 }
 
 // The value of an operation that changes its first input: that input itself, where nothing changes; written over it, where
 // nothing else holds it; else written over a copy. `None` is want of memory.
-fn changed(
+fn updated(
     alloc: Global,
     tables: &Tables,
     op: Op,
@@ -94,15 +93,15 @@ fn changed(
     ensures { IfSome result (λ v. (holdings : List Holding)
         → arc_value v ≡ value_on tables.now holdings op (arc_value first ∷ map arc_value rest.now)) }
 {
-    if changes_nothing(tables, op, &first, rest) || written(tables, op, &mut first, rest) {
+    if changes_nothing(tables, op, &first, rest) || update_in_place(tables, op, &mut first, rest) {
         return Some(first);
     }
-    beside(alloc, tables, op, &first, rest)
+    new_with_inputs(alloc, tables, op, &first, rest)
 }
 
 // The value of an operation that makes another of its inputs: the set's, where nothing is held; else a new one. `None` is
 // want of memory.
-fn made(
+fn constant_or_new(
     alloc: Global,
     set: &CompiledSet,
     op: Op,
@@ -115,7 +114,7 @@ fn made(
 {
     match set.nothing_held().value_for(op, first) {
         Some(value) => Arc::try_clone(value).ok(),
-        None => beside(alloc, set.tables(), op, first, rest),
+        None => new_with_inputs(alloc, set.tables(), op, first, rest),
     }
 }
 
@@ -123,7 +122,7 @@ fn made(
 //
 // Few steps need a new value, so this and the next function stand apart from the steps that need none.
 #[inline(never)]
-fn alone(
+fn new_without_inputs(
     alloc: Global,
     tables: &Tables,
     portfolio: &Portfolio,
@@ -139,7 +138,7 @@ fn alone(
 
 // A new value of an operation, on inputs of which the first stands apart. `None` is want of memory.
 #[inline(never)]
-fn beside(
+fn new_with_inputs(
     alloc: Global,
     tables: &Tables,
     op: Op,
@@ -164,7 +163,7 @@ fn as_shared(alloc: Global, value: Result<Value, AllocError>) -> Option<Arc<Valu
 }
 
 // Writes an operation's value over its first input, where nothing else holds that. Whether it did.
-fn written(tables: &Tables, op: Op, first: &mut Arc<Value>, rest: &[Arc<Value>]) -> bool
+fn update_in_place(tables: &Tables, op: Op, first: &mut Arc<Value>, rest: &[Arc<Value>]) -> bool
     requires in_place { IsInPlace op }
     requires inputs { Takes tables.now op (arc_value first.old ∷ map arc_value rest.now) }
     ensures alone { IsTrue result → (holdings : List Holding)

@@ -2,22 +2,24 @@
 ghost use Rattle.std.specs.Prelude.{◌≡◌, ◌<◌, ◌⊎◌, All, IfOk, IfSome, OnOk, OnErr, None, length, map, true, slice_set};
 ghost use Rattle.std.specs.Arc.{arc_value};
 ghost use Rattle.plan_ir.specs.Plans.{inputs_at, users_of};
+ghost use Rattle.plan_ir.specs.declared.plans.TheConstants.{MAX_INPUTS};
 ghost use Rattle.step_scheduler.specs.Jobs.{inputs_for, meaning_at};
 ghost use Rattle.step_scheduler.specs.near.Keeping.{AreKept, IsHanded, KeepsMeanings, is_full, kept_at, place_at};
 ghost use Rattle.step_scheduler.specs.near.Kept.{AreHoldsOn};
+ghost use Rattle.step_scheduler.specs.near.Tasks.{items_of};
 
+use crate::inputs::Rest;
 use crate::jobs::Job;
 use crate::tasks::Task;
 use plan_ir::plans::Plan;
 use plan_ir::values::Value;
-use std::alloc::{AllocError, Global};
+use std::alloc::AllocError;
 use std::sync::Arc;
 
 // The task of a step that can be handed out.
 //
 // The value of its first input is moved to it, where it is the only user, and so is what was found of its own value.
 pub(crate) fn task_of(
-    alloc: Global,
     job: &Arc<Job>,
     spare: &mut Vec<Arc<Job>>,
     places: &mut Vec<Option<Arc<Value>>>,
@@ -41,9 +43,9 @@ pub(crate) fn task_of(
     let hold = hold_on(job, spare)?;
     if inputs.is_empty() {
         let found = places[step as usize].take();
-        return Ok(Task::new(hold, step, None, Vec::new(alloc), found));
+        return Ok(Task::new(hold, step, None, Rest::Nothing, found));
     }
-    let rest = rest_of(alloc, places.as_slice(), &inputs[1..])?;
+    let rest = rest_of(places.as_slice(), &inputs[1..])?;
     let first = first_of(plan, places, inputs[0] as usize)?;
     Ok(Task::new(hold, step, Some(first), rest, None))
 }
@@ -115,21 +117,39 @@ fn full(places: &[Option<Arc<Value>>], step: usize) -> &Arc<Value>
     }
 }
 
+// A further hold on the value of a step.
+fn hold_at(places: &[Option<Arc<Value>>], step: u32) -> Result<Arc<Value>, AllocError>
+    requires in_range { step < length places.now }
+    requires kept { is_full (place_at places.now step) ≡ true }
+    ensures { IfOk result (λ v. arc_value v ≡ kept_at places.now step) }
+{
+    Arc::try_clone(full(places, step as usize))
+}
+
 // Further holds on the values of these steps.
-fn rest_of(
-    alloc: Global,
-    places: &[Option<Arc<Value>>],
-    inputs: &[u32],
-) -> Result<Vec<Arc<Value>>, AllocError>
+fn rest_of(places: &[Option<Arc<Value>>], inputs: &[u32]) -> Result<Rest, AllocError>
+    requires few { length inputs.now < MAX_INPUTS }
     requires in_range { All (λ i. i < length places.now) inputs.now }
     requires kept { AreKept places.now inputs.now }
-    ensures { IfOk result (λ v. map arc_value v.items ≡ map (kept_at places.now) inputs.now) }
+    ensures { IfOk result (λ rest. map arc_value (items_of rest) ≡ map (kept_at places.now) inputs.now) }
 {
-    let mut values = Vec::with_capacity(alloc, inputs.len())?;
-    for i in inputs {
-        values.push(Arc::try_clone(full(places, *i as usize))?)?;
-    }
-    Ok(values)
+    Ok(match inputs {
+        [] => Rest::Nothing,
+        [a] => Rest::One([hold_at(places, *a)?]),
+        [a, b] => Rest::Two([hold_at(places, *a)?, hold_at(places, *b)?]),
+        [a, b, c] => Rest::Three([
+            hold_at(places, *a)?,
+            hold_at(places, *b)?,
+            hold_at(places, *c)?,
+        ]),
+        [a, b, c, d] => Rest::Four([
+            hold_at(places, *a)?,
+            hold_at(places, *b)?,
+            hold_at(places, *c)?,
+            hold_at(places, *d)?,
+        ]),
+        _ => unreachable!(),
+    })
 }
 
 // The value of a step that is kept.

@@ -1,9 +1,9 @@
 //! The laws of runs (docs/METHOD.md, "The plan of steps"), each the contract of a function with an empty body.
-ghost use Rattle.std.specs.Prelude.{◌≡◌, ◌<◌, ℕ, List, length, map};
+ghost use Rattle.std.specs.Prelude.{◌≡◌, ◌<◌, ℕ, List, length, map, true};
 ghost use Rattle.plan_compiler.specs.Compiled.{Fits, IsCompiled, SetView};
 ghost use Rattle.plan_ir.specs.Plans.{StepView, inputs_at};
-ghost use Rattle.step_scheduler.specs.Jobs.{JobView, inputs_for};
-ghost use Rattle.step_scheduler.specs.Runs.{AllFinished, CanGoOn, IsDoneOnce, IsReady, IsRun, run_values};
+ghost use Rattle.step_scheduler.specs.Jobs.{JobView, inputs_for, meaning_at};
+ghost use Rattle.step_scheduler.specs.Runs.{AllFinished, CanGoOn, IsDoneOnce, IsReady, IsRun, is_finished, run_values};
 ghost use Rattle.step_scheduler.specs.declared.events.Event.{Event};
 
 /// No step meets a missing input: what a run gives to the inputs of a step that is ready is what they mean.
@@ -12,6 +12,23 @@ pub fn ready_steps_have_their_inputs()
     ensures { (job : JobView) → IsCompiled job.set → Fits job.set.tables job.portfolio.holdings → (history : List Event)
         → IsRun job.set.plan history → (k : ℕ) → IsReady job.set.plan history k
         → map (run_values job history) (inputs_at job.set.plan k) ≡ inputs_for job k }
+{}
+
+/// The value that a run gives to a step that it finished is what the step means.
+#[tactic(auto, using(crate::proofs::RunValues::run_means))]
+pub fn finished_steps_have_their_meanings()
+    ensures { (job : JobView) → IsCompiled job.set → Fits job.set.tables job.portfolio.holdings → (history : List Event)
+        → IsRun job.set.plan history → (k : ℕ) → is_finished history k ≡ true
+        → run_values job history k ≡ meaning_at job k }
+{}
+
+/// Two runs of a job that finished every step give each step the same value, whatever the order of their events.
+#[tactic(auto, using(crate::proofs::RunValues::complete_runs_agree))]
+pub fn complete_runs_give_equal_values()
+    ensures { (job : JobView) → IsCompiled job.set → Fits job.set.tables job.portfolio.holdings
+        → (one other : List Event) → IsRun job.set.plan one → IsRun job.set.plan other
+        → AllFinished job.set.plan one → AllFinished job.set.plan other → (k : ℕ) → k < length job.set.plan
+        → run_values job one k ≡ run_values job other k }
 {}
 
 /// Whatever has happened, where not every step is finished, some step can go on.

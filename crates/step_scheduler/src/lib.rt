@@ -7,6 +7,7 @@ pub mod evaluation;
 pub mod events;
 pub mod finished;
 mod handing;
+mod inputs;
 pub mod jobs;
 pub mod laws;
 mod opening;

@@ -40,6 +40,7 @@ pub(crate) fn found_values(alloc: Global, job: &Job) -> Result<Vec<Option<Arc<Va
     ensures means { IfOk result (λ v. KeepsMeanings job.now v.items) }
 {
     let set = job.set();
+    // Called for its clause: the tables are within their limits.
     let _limits = set.tables().commodities();
     let held = gather_all(alloc, set.tables(), job.portfolio())?;
     let mut places = empty(alloc, set.plan().len())?;

@@ -3,8 +3,9 @@ ghost use Rattle.std.specs.Prelude.{◌≡◌, ◌<◌, IfSome, length, map};
 ghost use Rattle.std.specs.Arc.{arc_value};
 ghost use Rattle.std.specs.Option.{option_map};
 ghost use Rattle.step_scheduler.specs.Jobs.{inputs_for, meaning_at};
-ghost use Rattle.step_scheduler.specs.near.Tasks.{inputs_of};
+ghost use Rattle.step_scheduler.specs.near.Tasks.{inputs_of, items_of};
 
+use crate::inputs::Rest;
 use crate::jobs::Job;
 use plan_ir::values::Value;
 use std::marker::Model;
@@ -15,7 +16,7 @@ use std::sync::Arc;
 pub struct Task {
     pub(crate) job: Arc<Job>,
     pub(crate) first: Option<Arc<Value>>,
-    pub(crate) rest: Vec<Arc<Value>>,
+    pub(crate) rest: Rest,
     // The step's own value, where it was found when the board was opened.
     pub(crate) found: Option<Arc<Value>>,
     pub(crate) step: u32,
@@ -26,20 +27,20 @@ impl Model for Task {
     ghost use Rattle.std.specs.Arc.{arc_value};
     ghost use Rattle.std.specs.Option.{option_map};
     ghost use Rattle.step_scheduler.specs.Jobs.{TaskView};
-    ghost use Rattle.step_scheduler.specs.near.Tasks.{IsTaskWith, inputs_of};
+    ghost use Rattle.step_scheduler.specs.near.Tasks.{IsTaskWith, inputs_of, items_of};
 
     ghost Value = { TaskView };
 
     ghost view = { λ t. record {
       job = arc_value t.job;
       step = t.step;
-      inputs = inputs_of (option_map arc_value t.first) (map arc_value t.rest.items);
+      inputs = inputs_of (option_map arc_value t.first) (map arc_value (items_of t.rest));
     } };
 
     ghost invariant = { λ t. IsTaskWith (option_map arc_value t.found) (record {
       job = arc_value t.job;
       step = t.step;
-      inputs = inputs_of (option_map arc_value t.first) (map arc_value t.rest.items);
+      inputs = inputs_of (option_map arc_value t.first) (map arc_value (items_of t.rest));
     }) };
 }
 
@@ -49,16 +50,16 @@ impl Task {
         job: Arc<Job>,
         step: u32,
         first: Option<Arc<Value>>,
-        rest: Vec<Arc<Value>>,
+        rest: Rest,
         found: Option<Arc<Value>>,
     ) -> Task
         requires in_range { step < length (arc_value job).set.plan }
-        requires fed { inputs_of (option_map arc_value first) (map arc_value rest.items) ≡ inputs_for (arc_value job) step }
+        requires fed { inputs_of (option_map arc_value first) (map arc_value (items_of rest)) ≡ inputs_for (arc_value job) step }
         requires found { IfSome found (λ v. arc_value v ≡ meaning_at (arc_value job) step) }
         ensures { result ≡ record {
           job = arc_value job;
           step = step;
-          inputs = inputs_of (option_map arc_value first) (map arc_value rest.items);
+          inputs = inputs_of (option_map arc_value first) (map arc_value (items_of rest));
         } }
     {
         Task {

@@ -2,10 +2,11 @@
 ghost use Rattle.crossbeam_queue.specs.Passes.{IsPassOf, view};
 ghost use Rattle.span_tables.specs.Holdings.{fits};
 ghost use Rattle.std.specs.Arc.{arc_value};
-ghost use Rattle.std.specs.Prelude.{◌≡◌, ◌<◌, ◌⊎◌, ◌↔◌, All, Err, IfOk, length, true};
+ghost use Rattle.std.specs.Prelude.{◌≡◌, ◌<◌, ◌≤◌, ◌⊎◌, ◌↔◌, All, Err, IfOk, length, true};
 ghost use Rattle.worker_pool.specs.Batches.{jobs_of};
 ghost use Rattle.worker_pool.specs.Outcomes.{AreOutcomes};
 ghost use Rattle.worker_pool.specs.declared.batch.PoolFault.TheVariants as fault;
+ghost use Rattle.worker_pool.specs.declared.batch.TheConstants.{MAX_WORKERS};
 ghost use Rattle.worker_pool.specs.near.Places.{AreOutcomesOf};
 
 use crate::accounts::{Outcomes, Waiting};
@@ -90,7 +91,7 @@ fn open_deques<B: Batch>(
     alloc: Global,
     helpers: usize,
 ) -> Result<(Ends<B>, Vec<Ends<B>>), AllocError>
-    requires { helpers < 16 }
+    requires { helpers < MAX_WORKERS }
 {
     let (own, thieves) = open_deque::<B>(alloc, DEQUE_PLACES, helpers)?;
     let mut shares = start_shares(alloc, thieves)?;
@@ -170,7 +171,7 @@ fn run_named<B: Batch + Send + Sync, R: Threads + Wait + Clock + Sync, G: Gate>(
     gate: &G,
 ) -> Result<Vec<Outcome>, AllocError>
     requires jobs { B.jobs ≡ jobs_of (arc_value set.now) portfolios.items }
-    requires workers { (0 < workers) × (workers < 17) }
+    requires workers { (0 < workers) × (workers ≤ MAX_WORKERS) }
     requires fits { All (λ p. fits (length (arc_value set.now).tables.contracts) p.holdings ≡ true) portfolios.items }
     ensures { IfOk result (λ outcomes. AreOutcomes (arc_value set.now) portfolios.items outcomes.items) }
 {

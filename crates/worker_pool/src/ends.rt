@@ -3,6 +3,7 @@
 ghost use Rattle.crossbeam_deque.specs.Handles.{IsPassOf, stealer_deque, view, worker_deque, worker_view};
 ghost use Rattle.std.specs.Prelude.{◌≡◌, ◌<◌, IfErr};
 ghost use Rattle.worker_pool.specs.Batches.{IsResultOf, IsTaskOf};
+ghost use Rattle.worker_pool.specs.declared.batch.TheConstants.{MAX_WORKERS};
 
 use crate::gates::Gate;
 use crate::laws::{
@@ -134,7 +135,7 @@ pub(crate) fn open_deque<B: Batch>(
     places: usize,
     thieves: usize,
 ) -> Result<(OwnEnd<B>, Vec<ThiefEnd<B>>), AllocError>
-    requires { thieves < 16 }
+    requires { thieves < MAX_WORKERS }
 {
     let mut deque = new_deque::<B>(alloc, places)?;
     let mut ends = Vec::with_capacity(alloc, thieves)?;

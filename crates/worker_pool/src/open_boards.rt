@@ -69,7 +69,7 @@ impl<B: Batch> OpenBoard<B> {
         ensures { self.new.board.job ≡ self.old.board.job }
     {
         for _ in 0..=self.board.job().plan().len() {
-            let Some(task) = self.take(alloc) else {
+            let Some(task) = self.take() else {
                 return;
             };
             if let Err(task) = own.push(task) {
@@ -82,7 +82,7 @@ impl<B: Batch> OpenBoard<B> {
     pub(crate) fn run_step<G: Gate>(&mut self, alloc: Global, gate: &G, own: &mut OwnEnd<B>) -> bool
         ensures { self.new.board.job ≡ self.old.board.job }
     {
-        match self.take(alloc) {
+        match self.take() {
             Some(task) => {
                 self.keep(alloc, gate, own, task.evaluate(alloc, gate, COORDINATOR));
                 true
@@ -121,14 +121,14 @@ impl<B: Batch> OpenBoard<B> {
     }
 
     // Takes a step that is ready.
-    fn take(&mut self, alloc: Global) -> Option<TaskOf<B>>
+    fn take(&mut self) -> Option<TaskOf<B>>
         ensures same { self.new.board.job ≡ self.old.board.job }
         ensures job { IfSome result (λ task. task.task.job ≡ self.old.board.job) }
     {
         if self.next == Next::Ends {
             return None;
         }
-        match self.board.take_ready(alloc) {
+        match self.board.take_ready() {
             Ok(Some(task)) => Some(TaskOf::new(task)),
             Ok(None) => {
                 self.next = if self.board.is_complete() {

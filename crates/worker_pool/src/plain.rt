@@ -23,7 +23,7 @@ fn run<G: Gate>(alloc: Global, board: &mut Board, gate: &G) -> Result<(), AllocE
     ensures { board.new.job ≡ board.old.job }
 {
     for _ in 0..board.job().plan().len() {
-        let Some(task) = board.take_ready(alloc)? else {
+        let Some(task) = board.take_ready()? else {
             return Ok(());
         };
         gate.pass(COORDINATOR, task.job().portfolio().account(), task.step());

@@ -2,6 +2,7 @@
 ghost use Rattle.crossbeam_queue.specs.Passes.{IsPassOf, view};
 ghost use Rattle.std.specs.Prelude.{◌≡◌, ◌<◌, []};
 ghost use Rattle.worker_pool.specs.Balance.{ALL_PARTS, knows};
+ghost use Rattle.worker_pool.specs.declared.batch.TheConstants.{MAX_WORKERS};
 
 use crate::ends::FinishedOf;
 use crate::laws::{Batch, ResultPass, Results, pop_result, push_result, split_queue_pass};
@@ -36,7 +37,7 @@ pub(crate) fn open_results<'a, B: Batch>(
 ) -> Result<(ResultEnd<'a, B>, Vec<ResultEnd<'a, B>>), AllocError>
     requires queue { IsPassOf queue.now pass }
     requires view { view pass ≡ knows B.jobs ALL_PARTS [] [] }
-    requires helpers { helpers < 16 }
+    requires helpers { helpers < MAX_WORKERS }
 {
     let mut pass = pass;
     let mut ends = Vec::with_capacity(alloc, helpers)?;

@@ -3,7 +3,7 @@ use Rattle.std.proofs.lemmas.Bool.Decides.{nat_tests}
 use Rattle.std.proofs.lemmas.Int.{ints}
 use Rattle.spread_stage.specs.Deltas.{net_delta}
 use Rattle.inter_credit.proofs.OpenLemmas.{nothing_loaded}
-use Rattle.plan_ir.proofs.in_place.loads_nothing.Goals as goal
+use Rattle.plan_ir.proofs.evaluation.loads_nothing.Goals as goal
 
 pub returns-then-scan-eq0 : goal.returns-then-scan-eq0
 returns-then-scan-eq0 c = λ none lines commodity not_loaded unspread.

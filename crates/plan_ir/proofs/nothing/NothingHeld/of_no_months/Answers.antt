@@ -1,8 +1,8 @@
 use Rattle.std.proofs.Common.{◌∙◌, ap, pos, sym}
 use Rattle.plan_ir.specs.declared.values.Value.TheVariants as value
 use Rattle.spread_stage.specs.Spreads.{unspread}
-use Rattle.plan_compiler.proofs.NothingLemmas.{delivery_of_no_months, month_deltas_of_nothing}
-use Rattle.plan_compiler.proofs.nothing.NothingHeld.of_no_months.Goals as goal
+use Rattle.plan_ir.proofs.NothingLemmas.{delivery_of_no_months, month_deltas_of_nothing}
+use Rattle.plan_ir.proofs.nothing.NothingHeld.of_no_months.Goals as goal
 
 pub returns-in-TierStart : goal.returns-in-TierStart
 returns-in-TierStart c = λ t holdings rest takes.

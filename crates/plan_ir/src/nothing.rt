@@ -10,8 +10,8 @@ ghost use Rattle.scan_risk.specs.Scenarios.{scan_of, scenario_sums};
 ghost use Rattle.spread_stage.specs.Deltas.{month_deltas};
 ghost use Rattle.spread_stage.specs.Spreads.{unspread};
 
-use plan_ir::ops::Op;
-use plan_ir::values::Value;
+use crate::ops::Op;
+use crate::values::Value;
 use scan_risk::scanning::scan;
 use scan_risk::scenarios::sums;
 use span_money::amounts::Money;
@@ -38,7 +38,7 @@ pub struct NothingHeld {
 
 impl Model for NothingHeld {
     ghost use Rattle.std.specs.Arc.{arc_value};
-    ghost use Rattle.plan_compiler.specs.near.Nothing.{AreNothing};
+    ghost use Rattle.plan_ir.specs.near.Nothing.{AreNothing};
 
     ghost Value = { Unit {0} };
 
@@ -57,7 +57,7 @@ fn are_of_nothing(sums: &[i64; SCENARIOS]) -> bool
 
 impl NothingHeld {
     /// The values of a commodity of these tables of which nothing is held. `Err` is want of memory.
-    pub(crate) fn new(alloc: Global, tables: &Tables) -> Result<NothingHeld, AllocError> {
+    pub fn new(alloc: Global, tables: &Tables) -> Result<NothingHeld, AllocError> {
         let held = Held::none(alloc, tables)?;
         let sums = sums(&held);
         let months = month_deltas(alloc, &held)?;
