@@ -5,63 +5,69 @@ ghost use Rattle.std.specs.Prelude.{◌≡◌};
 
 use span_tables::name::Name;
 use std::alloc::{AllocError, AllocFailed};
+use std::str;
 use thiserror::Error;
 
 /// Which rule the records of a parameter file break.
 #[derive(Clone, Copy, Debug, Drop, PartialEq, Eq, Error)]
 pub enum CheckFault {
     /// C1: the id of an earlier COMMODITY.
-    #[error("record {at} repeats a commodity")]
+    #[error("C1 DuplicateCommodity at record {at}")]
     DuplicateCommodity { at: usize },
     /// C2: a commodity that no COMMODITY record has.
-    #[error("record {at} names an unknown commodity")]
+    #[error("C2 UnknownCommodity at record {at}")]
     UnknownCommodity { at: usize },
     /// C3: the id of an earlier CONTRACT.
-    #[error("record {at} repeats a contract")]
+    #[error("C3 DuplicateContract at record {at}")]
     DuplicateContract { at: usize },
     /// C4: the commodity and number of an earlier TIER.
-    #[error("record {at} repeats a tier")]
+    #[error("C4 DuplicateTier at record {at}")]
     DuplicateTier { at: usize },
     /// C5: a first month after the last.
-    #[error("record {at} is a tier that ends before it begins")]
+    #[error("C5 TierBackwards at record {at}")]
     TierBackwards { at: usize },
     /// C6: a month of an earlier TIER of its commodity.
-    #[error("record {at} is a tier that shares a month with another")]
+    #[error("C6 TierOverlap at record {at}")]
     TierOverlap { at: usize },
     /// C7: a leg whose tier its commodity does not have.
-    #[error("record {at} names an unknown tier")]
+    #[error("C7 UnknownTier at record {at}")]
     UnknownTier { at: usize },
     /// C8: two legs of one tier and side, or of one commodity.
-    #[error("record {at} repeats a leg")]
+    #[error("C8 RepeatedLeg at record {at}")]
     RepeatedLeg { at: usize },
     /// C9: no leg on A, or none on B.
-    #[error("record {at} has no leg on one of its sides")]
+    #[error("C9 OneSided at record {at}")]
     OneSided { at: usize },
     /// C10: the priority of an earlier spread of its kind (and commodity).
-    #[error("record {at} repeats a priority")]
+    #[error("C10 DuplicatePriority at record {at}")]
     DuplicatePriority { at: usize },
     /// C11: the commodity and month of an earlier SPOT.
-    #[error("record {at} repeats a spot month")]
+    #[error("C11 DuplicateSpot at record {at}")]
     DuplicateSpot { at: usize },
     /// Want of memory.
-    #[error("out of memory")]
+    #[error("memory")]
     OutOfMemory,
+}
+
+// An account as a text, which the bytes of a name are.
+fn account_text(account: &Name) -> &str {
+    str::from_utf8(account.as_bytes()).unwrap_or_default()
 }
 
 /// Why positions do not fit the tables.
 #[derive(Debug, Drop, PartialEq, Eq, Error)]
 pub enum BindFault {
     /// B1: a contract that the tables do not have.
-    #[error("record {at} names an unknown contract")]
+    #[error("B1 UnknownContract at record {at} account {}", account_text(.account))]
     UnknownContract { at: usize, account: Name },
     /// B2: a net quantity out of range.
-    #[error("the net quantity that begins at record {at} is out of range")]
+    #[error("B2 NetOutOfRange at record {at} account {}", account_text(.account))]
     NetOutOfRange { at: usize, account: Name },
     /// B3: too many contracts held.
-    #[error("the account of record {at} holds too many contracts")]
+    #[error("B3 TooManyHeld at record {at} account {}", account_text(.account))]
     TooManyHeld { at: usize, account: Name },
     /// Want of memory.
-    #[error("out of memory")]
+    #[error("memory")]
     OutOfMemory,
 }
 

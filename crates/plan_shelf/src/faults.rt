@@ -5,15 +5,19 @@ ghost use Rattle.std.specs.Prelude.{◌≡◌};
 use plan_compiler::set::CompiledSet;
 use std::alloc::AllocError;
 use std::sync::Arc;
+use thiserror::Error;
 
 /// Why there is no shelf, or no publication.
-#[derive(Clone, Copy, PartialEq, Eq, Debug)]
+#[derive(Clone, Copy, Debug, Drop, PartialEq, Eq, Error)]
 pub enum ShelfFault {
     /// There are no readers, or more than 16.
+    #[error("Readers")]
     Readers,
     /// Want of memory.
+    #[error("memory")]
     OutOfMemory,
     /// The last number of a publication, 2^64 - 1, is used.
+    #[error("Last")]
     Last,
 }
 

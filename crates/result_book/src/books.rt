@@ -12,17 +12,22 @@ use span_tables::name::Name;
 use std::alloc::{AllocError, Global};
 use std::marker::Model;
 use std::sync::Arc;
+use thiserror::Error;
 
 /// Why a book does not do what was asked.
-#[derive(Clone, Copy, PartialEq, Eq, Debug)]
+#[derive(Clone, Copy, Debug, Drop, PartialEq, Eq, Error)]
 pub enum BookFault {
     /// No batch of this number was opened.
+    #[error("K1 NoSuchBatch")]
     NoSuchBatch,
     /// The batch has a row of this account.
+    #[error("K2 AlreadyThere")]
     AlreadyThere,
     /// Want of memory.
+    #[error("memory")]
     OutOfMemory,
     /// Each number was given to a batch.
+    #[error("K4 NoMoreBatches")]
     NoMoreBatches,
 }
 

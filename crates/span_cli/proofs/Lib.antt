@@ -1,3 +1,4 @@
 pub mod NumberLemmas
 pub mod ParseLemmas
 pub mod ServingLemmas
+pub mod WordsLaws

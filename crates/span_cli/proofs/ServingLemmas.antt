@@ -13,10 +13,10 @@ use Rattle.statement.specs.FaultLines.{fault_line, fault_status}
 use Rattle.statement.specs.declared.faults.SpanFault.{SpanFault}
 use Rattle.statement.specs.declared.faults.SpanFault.TheVariants as fault
 use Rattle.statement.specs.declared.statuses.TheConstants.{FILE_FAILED}
-use Rattle.span_cli.specs.Serving.{Answer, Asked, a_check, a_margin, a_plan, a_roll, OfAnswer, OfRollFiles}
-use Rattle.span_cli.specs.Serving.{check_answer, file_line, margin_answer, memory, plan_answer, refused, unread}
+use Rattle.span_cli.specs.Serving.{Answer, Asked, a_check, a_margin, a_plan, a_roll, OfAnswer, OfFile, OfRoll}
+use Rattle.span_cli.specs.Serving.{file_line, memory, refused, unread}
 use Rattle.span_cli.specs.Sources.{File}
-use Rattle.span_cli.specs.Telling.{RefusesBy, Serves, Tells}
+use Rattle.span_cli.specs.Telling.{AnswersWords, RefusesBy, Serves, Tells}
 use Rattle.span_cli.specs.Telling as telling
 use Rattle.span_cli.specs.near.Refusals.{Loads, Refuses, refusal_line, refusal_status}
 use Rattle.span_cli.specs.declared.sources.ReadFault.{ReadFault}
@@ -52,111 +52,55 @@ refusal_serves answer (refusal.Fault e) given out old_err new_err fresh status l
 refusal_serves answer (refusal.Fault e) given out old_err new_err fresh status line (inr run) =
     inl (rw run (refused_tells _ _ given out old_err new_err fresh status line))
 
--- what follows from a fact about the answer to `roll`
-OfRollFiles-map : (workers : ℕ) (params next positions : List ℕ) (p n q : File) (P Q : Answer → Type 0)
-    → ((a : Answer) → P a → Q a) → OfRollFiles workers params next positions p n q P
-    → OfRollFiles workers params next positions p n q Q
-OfRollFiles-map workers params next positions (Err e) n q P Q f h = f _ h
-OfRollFiles-map workers params next positions (Ok x) (Err e) q P Q f h = f _ h
-OfRollFiles-map workers params next positions (Ok x) (Ok y) (Err e) P Q f h = f _ h
-OfRollFiles-map workers params next positions (Ok x) (Ok y) (Ok z) P Q f h =
-    record { given = h.given; gives = h.gives; holds = f _ h.holds }
+-- what follows from a fact about a file and what is read behind it
+OfFile-map : (name : List ℕ) (file : Option File) (P Q : Answer → Type 0) (next more : List ℕ → Type 0)
+    → ((a : Answer) → P a → Q a) → ((bytes : List ℕ) → next bytes → more bytes) → OfFile name file P next
+    → OfFile name file Q more
+OfFile-map name None P Q next more f g h = tt
+OfFile-map name (Some (Err e)) P Q next more f g h = f _ h
+OfFile-map name (Some (Ok bytes)) P Q next more f g h = g bytes h
 
 -- what follows from a fact about the answer
 pub OfAnswer-map : (file : List ℕ → Option File) (asked : Asked) (P Q : Answer → Type 0) → ((a : Answer) → P a → Q a)
     → OfAnswer file asked P → OfAnswer file asked Q
-OfAnswer-map file (a_check params) P Q f h = by_file (file params) h where
-  by_file : (p : Option File) → IfSome p (λ x. P (check_answer params x)) → IfSome p (λ x. Q (check_answer params x))
-  by_file None k = tt
-  by_file (Some x) k = f (check_answer params x) k
-OfAnswer-map file (a_plan params) P Q f h = by_file (file params) h where
-  by_file : (p : Option File) → IfSome p (λ x. P (plan_answer params x)) → IfSome p (λ x. Q (plan_answer params x))
-  by_file None k = tt
-  by_file (Some x) k = f (plan_answer params x) k
-OfAnswer-map file (a_margin workers params positions) P Q f h = by_files (file params) (file positions) h where
-  by_files : (p q : Option File) → IfSome p (λ x. IfSome q (λ y. P (margin_answer workers params positions x y)))
-      → IfSome p (λ x. IfSome q (λ y. Q (margin_answer workers params positions x y)))
-  by_files None q k = tt
-  by_files (Some x) None k = tt
-  by_files (Some x) (Some y) k = f (margin_answer workers params positions x y) k
+OfAnswer-map file (a_check params) P Q f h = OfFile-map params (file params) P Q _ _ f (λ p. f _) h
+OfAnswer-map file (a_plan params) P Q f h = OfFile-map params (file params) P Q _ _ f (λ p. f _) h
+OfAnswer-map file (a_margin workers params positions) P Q f h =
+    OfFile-map params (file params) P Q _ _ f (λ p. OfFile-map positions (file positions) P Q _ _ f (λ q. f _)) h
 OfAnswer-map file (a_roll workers params next positions) P Q f h =
-    by_files (file params) (file next) (file positions) h where
-      by_files : (p n q : Option File)
-          → IfSome p (λ x. IfSome n (λ y. IfSome q (λ z. OfRollFiles workers params next positions x y z P)))
-          → IfSome p (λ x. IfSome n (λ y. IfSome q (λ z. OfRollFiles workers params next positions x y z Q)))
-      by_files None n q k = tt
-      by_files (Some x) None q k = tt
-      by_files (Some x) (Some y) None k = tt
-      by_files (Some x) (Some y) (Some z) k = OfRollFiles-map workers params next positions x y z P Q f k
+    OfFile-map params (file params) P Q _ _ f (λ p. OfFile-map next (file next) P Q _ _ f (λ n.
+    OfFile-map positions (file positions) P Q _ _ f (λ q k.
+    record { given = k.given; gives = k.gives; holds = f _ k.holds }))) h
 
--- what holds of each answer holds of the answer to `roll`
-OfRollFiles-each : (workers : ℕ) (params next positions : List ℕ) (p n q : File) (P : Answer → Type 0) → ((a : Answer) → P a)
-    → OfRollFiles workers params next positions p n q P
-OfRollFiles-each workers params next positions (Err e) n q P f = f _
-OfRollFiles-each workers params next positions (Ok x) (Err e) q P f = f _
-OfRollFiles-each workers params next positions (Ok x) (Ok y) (Err e) P f = f _
-OfRollFiles-each workers params next positions (Ok x) (Ok y) (Ok z) P f =
-    record { given = Err fault.Memory; gives = tt; holds = f _ }
+-- what holds of each answer, and of all bytes, holds of a file
+OfFile-each : (name : List ℕ) (file : Option File) (P : Answer → Type 0) (next : List ℕ → Type 0) → ((a : Answer) → P a)
+    → ((bytes : List ℕ) → next bytes) → OfFile name file P next
+OfFile-each name None P next f g = tt
+OfFile-each name (Some (Err e)) P next f g = f _
+OfFile-each name (Some (Ok bytes)) P next f g = g bytes
+
+-- what holds of each answer holds of the answer to a roll
+OfRoll-each : (workers : ℕ) (params next positions : List ℕ) (P : Answer → Type 0) → ((a : Answer) → P a)
+    → OfRoll workers params next positions P
+OfRoll-each workers params next positions P f = record { given = Err fault.Memory; gives = tt; holds = f _ }
 
 -- what holds of each answer holds of the answer to a request
+OfAsked-each : (file : List ℕ → Option File) (asked : Asked) (P : Answer → Type 0) → ((a : Answer) → P a)
+    → OfAnswer file asked P
+OfAsked-each file (a_check params) P f = OfFile-each params (file params) P _ f (λ p. f _)
+OfAsked-each file (a_plan params) P f = OfFile-each params (file params) P _ f (λ p. f _)
+OfAsked-each file (a_margin workers params positions) P f =
+    OfFile-each params (file params) P _ f (λ p. OfFile-each positions (file positions) P _ f (λ q. f _))
+OfAsked-each file (a_roll workers params next positions) P f =
+    OfFile-each params (file params) P _ f (λ p. OfFile-each next (file next) P _ f (λ n.
+    OfFile-each positions (file positions) P _ f (λ q. OfRoll-each workers p n q P f)))
+
 pub OfAnswer-each : (file : List ℕ → Option File) (asked : Option Asked) (P : Answer → Type 0) → ((a : Answer) → P a)
     → IfSome asked (λ q. OfAnswer file q P)
 OfAnswer-each file None P f = tt
-OfAnswer-each file (Some (a_check params)) P f = by_file (file params) where
-  by_file : (p : Option File) → IfSome p (λ x. P (check_answer params x))
-  by_file None = tt
-  by_file (Some x) = f (check_answer params x)
-OfAnswer-each file (Some (a_plan params)) P f = by_file (file params) where
-  by_file : (p : Option File) → IfSome p (λ x. P (plan_answer params x))
-  by_file None = tt
-  by_file (Some x) = f (plan_answer params x)
-OfAnswer-each file (Some (a_margin workers params positions)) P f = by_files (file params) (file positions) where
-  by_files : (p q : Option File) → IfSome p (λ x. IfSome q (λ y. P (margin_answer workers params positions x y)))
-  by_files None q = tt
-  by_files (Some x) None = tt
-  by_files (Some x) (Some y) = f (margin_answer workers params positions x y)
-OfAnswer-each file (Some (a_roll workers params next positions)) P f =
-    by_files (file params) (file next) (file positions) where
-      by_files : (p n q : Option File)
-          → IfSome p (λ x. IfSome n (λ y. IfSome q (λ z. OfRollFiles workers params next positions x y z P)))
-      by_files None n q = tt
-      by_files (Some x) None q = tt
-      by_files (Some x) (Some y) None = tt
-      by_files (Some x) (Some y) (Some z) = OfRollFiles-each workers params next positions x y z P f
+OfAnswer-each file (Some asked) P f = OfAsked-each file asked P f
 
--- what holds of two files that were read, the second behind the first, holds of the files where they are known
-pub both_known : (P : File → File → Type 0) (first second later : Option File) (ps qs : List ℕ) → later ≡ second
-    → IfSome first (λ f. f ≡ Ok ps) → IfSome later (λ f. f ≡ Ok qs) → P (Ok ps) (Ok qs)
-    → IfSome first (λ p. IfSome second (λ q. P p q))
-both_known P None second later ps qs same h k holds = tt
-both_known P (Some p) None later ps qs same h k holds = tt
-both_known P (Some p) (Some q) later ps qs same h k holds =
-    let known : IfSome (Some q) (λ f. f ≡ Ok qs) = subst (λ o. IfSome o (λ f. f ≡ Ok qs)) same k in
-    rw (h, known) holds
-
--- the same of three files
-pub three_known : (P : File → File → File → Type 0) (first second third later last : Option File) (ps ns qs : List ℕ)
-    → later ≡ second → last ≡ third → IfSome first (λ f. f ≡ Ok ps) → IfSome later (λ f. f ≡ Ok ns)
-    → IfSome last (λ f. f ≡ Ok qs) → P (Ok ps) (Ok ns) (Ok qs)
-    → IfSome first (λ p. IfSome second (λ n. IfSome third (λ q. P p n q)))
-three_known P None second third later last ps ns qs same again h k l holds = tt
-three_known P (Some p) None third later last ps ns qs same again h k l holds = tt
-three_known P (Some p) (Some n) None later last ps ns qs same again h k l holds = tt
-three_known P (Some p) (Some n) (Some q) later last ps ns qs same again h k l holds =
-    let second_known : IfSome (Some n) (λ f. f ≡ Ok ns) = subst (λ o. IfSome o (λ f. f ≡ Ok ns)) same k in
-    let third_known : IfSome (Some q) (λ f. f ≡ Ok qs) = subst (λ o. IfSome o (λ f. f ≡ Ok qs)) again l in
-    rw (h, second_known, third_known) holds
-
--- ---- files of a roll that are not read
-
--- want of memory is an answer whatever the files are
-roll_wants : (workers : ℕ) (params next positions : List ℕ) (p n q : File)
-    → OfRollFiles workers params next positions p n q (λ answer. Refuses answer (refusal.Fault fault.Memory))
-roll_wants workers params next positions (Err e) n q = inl refl
-roll_wants workers params next positions (Ok x) (Err e) q = inl refl
-roll_wants workers params next positions (Ok x) (Ok y) (Err e) = inl refl
-roll_wants workers params next positions (Ok x) (Ok y) (Ok z) =
-    record { given = Err fault.Memory; gives = tt; holds = inl refl }
+-- ---- files that are read one behind another
 
 -- a load that is refused found want of memory, or a file that is not read
 unread_refuses : {X : Type 0} (view : X → List ℕ) (name : List ℕ) (file : File) (r : Refusal) → Loads view name file (Err r)
@@ -167,58 +111,69 @@ unread_refuses view name file (refusal.File n) (same, inr long) =
     inr (read.TooLong, (long, ap (λ (l : List ℕ). refused FILE_FAILED (file_line l)) (sym same)))
 unread_refuses view name file (refusal.Fault e) memory = inl (ap refusal.Fault memory)
 
--- the first of three files is not read
-pub first_unread : {X : Type 0} (view : X → List ℕ) (workers : ℕ) (params next positions : List ℕ)
-    (first second third : Option File) (r : Refusal) → IfSome first (λ f. Loads view params f (Err r))
-    → IfSome first (λ p. IfSome second (λ n. IfSome third (λ q.
-    OfRollFiles workers params next positions p n q (λ answer. Refuses answer r))))
-first_unread view workers params next positions None second third r h = tt
-first_unread view workers params next positions (Some p) None third r h = tt
-first_unread view workers params next positions (Some p) (Some n) None r h = tt
-first_unread view workers params next positions (Some p) (Some n) (Some q) r h = by_reason (unread_refuses view params p r h)
-  where
-    by_reason : (r ≡ refusal.Fault fault.Memory) ⊎ ((e : ReadFault) × ((p ≡ Err e) × Refuses (unread params e) r))
-        → OfRollFiles workers params next positions p n q (λ answer. Refuses answer r)
-    by_reason (inl memory) = rw (memory) (roll_wants workers params next positions p n q)
-    by_reason (inr found) = rw (found.1.0) found.1.1
+-- the file that was read stands first
+pub file_read : (name : List ℕ) (file later : Option File) (bytes : List ℕ) (P : Answer → Type 0) (next : List ℕ → Type 0)
+    → later ≡ file → IfSome later (λ f. f ≡ Ok bytes) → next bytes → OfFile name file P next
+file_read name None later bytes P next same h holds = tt
+file_read name (Some f) later bytes P next same h holds =
+    let known : IfSome (Some f) (λ f. f ≡ Ok bytes) = subst (λ o. IfSome o (λ f. f ≡ Ok bytes)) same h in
+    rw (known) holds
 
--- the second is not
-pub second_unread : {X : Type 0} (view : X → List ℕ) (workers : ℕ) (params next positions ps : List ℕ)
-    (first second third later : Option File) (r : Refusal) → later ≡ second → IfSome first (λ f. f ≡ Ok ps)
-    → IfSome later (λ f. Loads view next f (Err r))
-    → IfSome first (λ p. IfSome second (λ n. IfSome third (λ q.
-    OfRollFiles workers params next positions p n q (λ answer. Refuses answer r))))
-second_unread view workers params next positions ps None second third later r same h k = tt
-second_unread view workers params next positions ps (Some p) None third later r same h k = tt
-second_unread view workers params next positions ps (Some p) (Some n) None later r same h k = tt
-second_unread view workers params next positions ps (Some p) (Some n) (Some q) later r same h k =
-    by_reason (unread_refuses view next n r (subst (λ o. IfSome o (λ f. Loads view next f (Err r))) same k)) where
-      by_reason : (r ≡ refusal.Fault fault.Memory) ⊎ ((e : ReadFault) × ((n ≡ Err e) × Refuses (unread next e) r))
-          → OfRollFiles workers params next positions p n q (λ answer. Refuses answer r)
-      by_reason (inl memory) = rw (memory) (roll_wants workers params next positions p n q)
-      by_reason (inr found) = rw (h, found.1.0) found.1.1
+-- the file that was not read stands first; for want of memory what stands behind it holds as well
+pub file_unread : {X : Type 0} (view : X → List ℕ) (name : List ℕ) (file later : Option File) (r : Refusal)
+    (next : List ℕ → Type 0) → later ≡ file → IfSome later (λ f. Loads view name f (Err r))
+    → (((a : Answer) → Refuses a r) → (bytes : List ℕ) → next bytes) → OfFile name file (λ a. Refuses a r) next
+file_unread view name None later r next same h rest = tt
+file_unread view name (Some f) later r next same h rest =
+    by_reason (unread_refuses view name f r (subst (λ o. IfSome o (λ f. Loads view name f (Err r))) same h)) where
+      by_reason : (r ≡ refusal.Fault fault.Memory) ⊎ ((e : ReadFault) × ((f ≡ Err e) × Refuses (unread name e) r))
+          → OfFile name (Some f) (λ a. Refuses a r) next
+      by_reason (inl memory) =
+          let wants : (a : Answer) → Refuses a r = λ a. rw (memory) (inl refl) in
+          OfFile-each name (Some f) (λ a. Refuses a r) next wants (rest wants)
+      by_reason (inr found) = rw (found.1.0) found.1.1
 
--- the third is not
-pub third_unread : {X : Type 0} (view : X → List ℕ) (workers : ℕ) (params next positions ps ns : List ℕ)
-    (first second third later last : Option File) (r : Refusal) → later ≡ second → last ≡ third
-    → IfSome first (λ f. f ≡ Ok ps) → IfSome later (λ f. f ≡ Ok ns) → IfSome last (λ f. Loads view positions f (Err r))
-    → IfSome first (λ p. IfSome second (λ n. IfSome third (λ q.
-    OfRollFiles workers params next positions p n q (λ answer. Refuses answer r))))
-third_unread view workers params next positions ps ns None second third later last r same again h k l = tt
-third_unread view workers params next positions ps ns (Some p) None third later last r same again h k l = tt
-third_unread view workers params next positions ps ns (Some p) (Some n) None later last r same again h k l = tt
-third_unread view workers params next positions ps ns (Some p) (Some n) (Some q) later last r same again h k l =
-    by_reason (unread_refuses view positions q r (subst (λ o. IfSome o (λ f. Loads view positions f (Err r))) again l)) where
-      read_second : n ≡ Ok ns
-      read_second = subst (λ o. IfSome o (λ f. f ≡ Ok ns)) same k
+-- a file by itself that is not read
+pub alone_unread : {X : Type 0} (view : X → List ℕ) (name : List ℕ) (file : Option File) (r : Refusal)
+    (answer : List ℕ → Answer) → IfSome file (λ f. Loads view name f (Err r))
+    → OfFile name file (λ a. Refuses a r) (λ p. Refuses (answer p) r)
+alone_unread view name file r answer h = file_unread view name file file r _ refl h (λ wants p. wants _)
 
-      by_reason : (r ≡ refusal.Fault fault.Memory) ⊎ ((e : ReadFault) × ((q ≡ Err e) × Refuses (unread positions e) r))
-          → OfRollFiles workers params next positions p n q (λ answer. Refuses answer r)
-      by_reason (inl memory) = rw (memory) (roll_wants workers params next positions p n q)
-      by_reason (inr found) = rw (h, read_second, found.1.0) found.1.1
+-- the first of two
+pub first_of_two_unread : {X : Type 0} (view : X → List ℕ) (first second : List ℕ) (file other : Option File) (r : Refusal)
+    (answer : List ℕ → List ℕ → Answer) → IfSome file (λ f. Loads view first f (Err r))
+    → OfFile first file (λ a. Refuses a r) (λ p. OfFile second other (λ a. Refuses a r) (λ q. Refuses (answer p q) r))
+first_of_two_unread view first second file other r answer h =
+    file_unread view first file file r _ refl h (λ wants p.
+    OfFile-each second other (λ a. Refuses a r) _ wants (λ q. wants _))
+
+-- and of three, of a roll
+pub two_unread : {X : Type 0} (view : X → List ℕ) (workers : ℕ) (second third ps : List ℕ) (file later other : Option File)
+    (r : Refusal) → later ≡ file → IfSome later (λ f. Loads view second f (Err r))
+    → OfFile second file (λ a. Refuses a r) (λ n. OfFile third other (λ a. Refuses a r) (λ q.
+    OfRoll workers ps n q (λ a. Refuses a r)))
+two_unread view workers second third ps file later other r same h =
+    file_unread view second file later r _ same h (λ wants n.
+    OfFile-each third other (λ a. Refuses a r) _ wants (λ q. OfRoll-each workers ps n q _ wants))
+
+pub three_unread : {X : Type 0} (view : X → List ℕ) (workers : ℕ) (first second third : List ℕ)
+    (file other last : Option File) (r : Refusal) → IfSome file (λ f. Loads view first f (Err r))
+    → OfFile first file (λ a. Refuses a r) (λ p. OfFile second other (λ a. Refuses a r) (λ n.
+    OfFile third last (λ a. Refuses a r) (λ q. OfRoll workers p n q (λ a. Refuses a r))))
+three_unread view workers first second third file other last r h =
+    file_unread view first file file r _ refl h (λ wants p. OfFile-each second other (λ a. Refuses a r) _ wants (λ n.
+    OfFile-each third last (λ a. Refuses a r) _ wants (λ q. OfRoll-each workers p n q _ wants)))
+
+pub last_unread : {X : Type 0} (view : X → List ℕ) (workers : ℕ) (name ps ns : List ℕ) (file later : Option File)
+    (r : Refusal) → later ≡ file → IfSome later (λ f. Loads view name f (Err r))
+    → OfFile name file (λ a. Refuses a r) (λ q. OfRoll workers ps ns q (λ a. Refuses a r))
+last_unread view workers name ps ns file later r same h =
+    file_unread view name file later r _ same h (λ wants q. OfRoll-each workers ps ns q _ wants)
+
+-- ---- words
 
 -- words that are refused for one of these kinds of reason, or for want of memory
-pub refused_by : (kinds : Kinds) (e : Error) (given : ℕ) (old_out new_out old_err new_err : Stream) → HasKind kinds e
+refused_by : (kinds : Kinds) (e : Error) (given : ℕ) (old_out new_out old_err new_err : Stream) → HasKind kinds e
     → telling.Refuses (kind_of e) given old_out new_out old_err new_err → RefusesBy kinds given old_out new_out old_err new_err
 refused_by kinds e given old_out new_out old_err new_err (inl wanted) told = of_memory kinds where
   memory_told : Tells memory given old_out new_out old_err new_err
@@ -232,3 +187,20 @@ refused_by kinds e given old_out new_out old_err new_err (inr among) told = of_k
   of_kind [] among = absurd among
   of_kind (k ∷ ks) (inl is) = inl (subst (λ (x : ErrorKind). telling.Refuses x given old_out new_out old_err new_err) is told)
   of_kind (k ∷ ks) (inr later) = inr (of_kind ks later)
+
+-- words that nothing refuses
+pub words_answered : (kinds : Kinds) (answered : Type 0) (given : ℕ) (old_out new_out old_err new_err : Stream) → kinds ≡ []
+    → answered → AnswersWords kinds answered given old_out new_out old_err new_err
+words_answered [] answered given old_out new_out old_err new_err none holds = holds
+words_answered (k ∷ ks) answered given old_out new_out old_err new_err none holds = cc
+
+-- words that may be refused, where what is told is want of memory or the kind's
+pub words_refused : (kinds : Kinds) (answered : Type 0) (e : Error) (given : ℕ) (old_out new_out old_err new_err : Stream)
+    → HasKind kinds e → telling.Refuses (kind_of e) given old_out new_out old_err new_err
+    → (Tells memory given old_out new_out old_err new_err → answered)
+    → AnswersWords kinds answered given old_out new_out old_err new_err
+words_refused [] answered e given old_out new_out old_err new_err (inl wanted) told holds =
+    holds (subst (λ (k : ErrorKind). telling.Refuses k given old_out new_out old_err new_err) wanted told)
+words_refused [] answered e given old_out new_out old_err new_err (inr among) told holds = absurd among
+words_refused (k ∷ ks) answered e given old_out new_out old_err new_err h told holds =
+    refused_by (k ∷ ks) e given old_out new_out old_err new_err h told

@@ -1,5 +1,5 @@
 -- What is answered to a request.
-use Rattle.std.specs.Prelude.{ℕ, List, [], ◌++◌, codes, Option, IfSome, Result, Ok, Err}
+use Rattle.std.specs.Prelude.{ℕ, List, [], ◌++◌, codes, Option, Some, None, Result, Ok, Err, ⊤}
 use Rattle.statement.specs.Counts.{counts_of}
 use Rattle.statement.specs.Listing.{listing_of}
 use Rattle.statement.specs.FaultLines.{fault_line, fault_status, memory_line}
@@ -46,21 +46,12 @@ unread name read.Failed = refused FILE_FAILED (file_line name)
 unread name read.TooLong = refused FILE_FAILED (file_line name)
 unread name read.OutOfMemory = memory
 
--- the answer to `check`
-abbrev pub check_answer : List ℕ → File → Answer
-check_answer params_name (Err e) = unread params_name e
-check_answer params_name (Ok params) = answer_of (counts_of params)
-
--- the answer to `plan`
-abbrev pub plan_answer : List ℕ → File → Answer
-plan_answer params_name (Err e) = unread params_name e
-plan_answer params_name (Ok params) = answer_of (listing_of params)
-
--- the answer to `margin` on so many workers, whose files are read in their order
-abbrev pub margin_answer : ℕ → List ℕ → List ℕ → File → File → Answer
-margin_answer workers params_name positions_name (Err e) positions = unread params_name e
-margin_answer workers params_name positions_name (Ok params) (Err e) = unread positions_name e
-margin_answer workers params_name positions_name (Ok params) (Ok positions) = answer_of (margin_of workers params positions)
+-- What is said where a file is read and then more is done: of a file that cannot be read, that P holds of the answer that
+-- names it, whatever else is asked for; of one that can, what is said of its bytes; and nothing of a file that is unknown.
+abbrev pub OfFile : List ℕ → Option File → (Answer → Type 0) → (List ℕ → Type 0) → Type 0
+OfFile name None P next = ⊤
+OfFile name (Some (Err e)) P next = P (unread name e)
+OfFile name (Some (Ok bytes)) P next = next bytes
 
 -- The answer that P holds of is one that a roll of these bytes on so many workers may have: that of its text, of the first
 -- fault of the files, of memory, of a book or of a shelf that refused.
@@ -68,14 +59,6 @@ pub record OfRoll (workers : ℕ) (params next positions : List ℕ) (P : Answer
   pub given : Result (List ℕ) SpanFault
   pub gives : GivesRoll (λ text. text) workers params next positions given
   pub holds : P (answer_of given)
-
--- what holds of the answer to `roll` on so many workers, whose files are read in their order
-abbrev pub OfRollFiles : ℕ → List ℕ → List ℕ → List ℕ → File → File → File → (Answer → Type 0) → Type 0
-OfRollFiles workers params_name next_name positions_name (Err e) next positions P = P (unread params_name e)
-OfRollFiles workers params_name next_name positions_name (Ok params) (Err e) positions P = P (unread next_name e)
-OfRollFiles workers params_name next_name positions_name (Ok params) (Ok next) (Err e) P = P (unread positions_name e)
-OfRollFiles workers params_name next_name positions_name (Ok params) (Ok next) (Ok positions) P =
-    OfRoll workers params next positions P
 
 -- what a request asks for, with the names of its files as texts; `margin` and `roll` with their number of workers first
 pub data Asked : Type 0 where
@@ -91,12 +74,12 @@ asked_by (request.Plan params) = a_plan params.now
 asked_by (request.Margin params positions workers) = a_margin workers params.now positions.now
 asked_by (request.Roll params next positions workers) = a_roll workers params.now next.now positions.now
 
--- what holds of the answer to a request, where its files are known
+-- what holds of the answer to a request, whose files are read in their order
 abbrev pub OfAnswer : (List ℕ → Option File) → Asked → (Answer → Type 0) → Type 0
-OfAnswer file (a_check params) P = IfSome (file params) (λ p. P (check_answer params p))
-OfAnswer file (a_plan params) P = IfSome (file params) (λ p. P (plan_answer params p))
+OfAnswer file (a_check params) P = OfFile params (file params) P (λ p. P (answer_of (counts_of p)))
+OfAnswer file (a_plan params) P = OfFile params (file params) P (λ p. P (answer_of (listing_of p)))
 OfAnswer file (a_margin workers params positions) P =
-    IfSome (file params) (λ p. IfSome (file positions) (λ q. P (margin_answer workers params positions p q)))
+    OfFile params (file params) P (λ p. OfFile positions (file positions) P (λ q. P (answer_of (margin_of workers p q))))
 OfAnswer file (a_roll workers params next positions) P =
-    IfSome (file params) (λ p. IfSome (file next) (λ n. IfSome (file positions) (λ q.
-    OfRollFiles workers params next positions p n q P)))
+    OfFile params (file params) P (λ p. OfFile next (file next) P (λ n. OfFile positions (file positions) P (λ q.
+    OfRoll workers p n q P)))

@@ -55,6 +55,12 @@ RefusesBy [] given old_out new_out old_err new_err = Tells memory given old_out 
 RefusesBy (k ∷ ks) given old_out new_out old_err new_err =
     Refuses k given old_out new_out old_err new_err ⊎ RefusesBy ks given old_out new_out old_err new_err
 
+-- What is told of words that may be refused for these kinds of reason: where there is none their request is answered.
+abbrev pub AnswersWords : Kinds → Type 0 → ℕ → Stream → Stream → Stream → Stream → Type 0
+AnswersWords [] answered given old_out new_out old_err new_err = answered
+AnswersWords (k ∷ ks) answered given old_out new_out old_err new_err =
+    RefusesBy (k ∷ ks) given old_out new_out old_err new_err
+
 -- the line for words that are no text
 abbrev pub no_text_line : List ℕ
 no_text_line = codes "error: a word of the command line is not UTF-8\n"

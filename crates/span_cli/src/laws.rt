@@ -1,11 +1,13 @@
-//! Laws of what is told: each is the contract of a function that does nothing.
+//! Laws of words and of what is told: each is the contract of a function that does nothing.
+ghost use Rattle.clap.specs.Words.{subcommand_of};
 ghost use Rattle.span_cli.specs.Serving.{Answer, answer_of, done, file_line, refused};
 ghost use Rattle.span_cli.specs.Telling.{Tells};
+ghost use Rattle.span_cli.specs.Words.{is_taken, span_app};
 ghost use Rattle.span_told.specs.Streams.{Stream};
 ghost use Rattle.statement.specs.FaultLines.{fault_line, fault_status};
 ghost use Rattle.statement.specs.declared.faults.SpanFault.{SpanFault};
 ghost use Rattle.std.specs.Io.KnownBytes.{Appends};
-ghost use Rattle.std.specs.Prelude.{◌≡◌, ◌≢◌, Err, List, [], codes, false, true, ℕ};
+ghost use Rattle.std.specs.Prelude.{◌≡◌, ◌≢◌, Err, List, [], codes, false, is_some, true, ℕ};
 
 /// Where an answer that is done was told and no write failed, the status is 0, just its bytes went to the output, and
 /// nothing to the error stream.
@@ -40,4 +42,9 @@ pub fn status_stands()
         → Tells answer given old_out new_out old_err new_err → new_out.failed ≡ false → given ≡ answer.status }
     ensures refused { (answer : Answer) (given : ℕ) (old_out new_out old_err new_err : Stream)
         → Tells answer given old_out new_out old_err new_err → answer.status ≢ 0 → new_out.failed ≡ false }
+{}
+
+/// Words that are taken name a command.
+pub fn taken_words_name_a_command()
+    ensures { (words : List (List ℕ)) → is_taken words ≡ true → is_some (subcommand_of span_app words) ≡ true }
 {}

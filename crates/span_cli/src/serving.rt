@@ -1,6 +1,5 @@
 //! Requests, and the bytes that answer them.
-ghost use Rattle.span_cli.specs.Serving.{OfAnswer, OfRoll, OfRollFiles, answer_of, asked_by, check_answer, done};
-ghost use Rattle.span_cli.specs.Serving.{margin_answer, plan_answer};
+ghost use Rattle.span_cli.specs.Serving.{OfAnswer, OfRoll, a_check, a_margin, a_plan, a_roll, answer_of, asked_by, done};
 ghost use Rattle.span_cli.specs.Telling.{Serves, Tells};
 ghost use Rattle.span_cli.specs.near.Refusals.{Loads, Runs, refusal_line, refusal_status};
 ghost use Rattle.span_cli.specs.declared.serving.Refusal.TheVariants as refusal;
@@ -14,7 +13,7 @@ use crate::sources::{ReadFault, Sources};
 use result_book::books::ResultBook;
 use span_told::MarkedWriter;
 use statement::counts::check_plain;
-use statement::fault_lines::tell_fault;
+use statement::fault_lines::write_fault;
 use statement::faults::{SpanFault, status};
 use statement::margin::margin;
 use statement::plans::plan_plain;
@@ -101,8 +100,8 @@ fn check<'a, S: Sources>(
     sources: &mut S,
     params: &'a str,
 ) -> Result<Vec<u8>, Refusal<'a>>
-    ensures { IfSome (S.file sources.old params.entry.now) (λ p.
-        Runs (λ text. text.items) (check_answer params.entry.now p) result) }
+    ensures { OfAnswer (S.file sources.old) (a_check params.entry.now) (λ answer.
+        Runs (λ text. text.items) answer result) }
 {
     let bytes = load(alloc, sources, params)?;
     counts(alloc, bytes)
@@ -122,8 +121,8 @@ fn plan<'a, S: Sources>(
     sources: &mut S,
     params: &'a str,
 ) -> Result<Vec<u8>, Refusal<'a>>
-    ensures { IfSome (S.file sources.old params.entry.now) (λ p.
-        Runs (λ text. text.items) (plan_answer params.entry.now p) result) }
+    ensures { OfAnswer (S.file sources.old) (a_plan params.entry.now) (λ answer.
+        Runs (λ text. text.items) answer result) }
 {
     let bytes = load(alloc, sources, params)?;
     listing(alloc, bytes)
@@ -161,8 +160,8 @@ fn margin_files<'a, S: Sources, R: Threads + Wait + Clock + Sync, G: Gate>(
     workers: usize,
     gate: &G,
 ) -> Result<Vec<u8>, Refusal<'a>>
-    ensures { IfSome (S.file sources.old params.entry.now) (λ p. IfSome (S.file sources.old positions.entry.now) (λ q.
-        Runs (λ text. text.items) (margin_answer workers params.entry.now positions.entry.now p q) result)) }
+    ensures { OfAnswer (S.file sources.old) (a_margin workers params.entry.now positions.entry.now) (λ answer.
+        Runs (λ text. text.items) answer result) }
 {
     let param_bytes = load(alloc, sources, params)?;
     let position_bytes = load(alloc, sources, positions)?;
@@ -198,10 +197,8 @@ fn roll_files<'a, S: Sources, R: Threads + Wait + Clock + Sync, G: Gate>(
     workers: usize,
     gate: &G,
 ) -> Result<Vec<u8>, Refusal<'a>>
-    ensures { IfSome (S.file sources.old params.entry.now) (λ p. IfSome (S.file sources.old next.entry.now) (λ n.
-        IfSome (S.file sources.old positions.entry.now) (λ q.
-        OfRollFiles workers params.entry.now next.entry.now positions.entry.now p n q (λ answer.
-        Runs (λ text. text.items) answer result)))) }
+    ensures { OfAnswer (S.file sources.old) (a_roll workers params.entry.now next.entry.now positions.entry.now) (λ answer.
+        Runs (λ text. text.items) answer result) }
 {
     let params_read = load(alloc, sources, params)?;
     let next_read = load(alloc, sources, next)?;
@@ -263,7 +260,9 @@ fn tell_refusal<E: Write>(refusal: &Refusal<'_>, err: &mut MarkedWriter<E>)
         Refusal::File(name) => {
             let _ = writeln!(err, "file: {name}");
         }
-        Refusal::Fault(fault) => tell_fault(fault, err),
+        Refusal::Fault(fault) => {
+            let _ = write_fault(fault, err);
+        }
     }
 }
 
@@ -294,7 +293,8 @@ fn give<W: Write, E: Write>(
     }
 }
 
-/// Answers a request and gives the status. Where no write fails, just the bytes of the answer go to each stream and the
+/// Answers a request and gives the status. Its files are read in their order, and the first that cannot be read is named,
+/// whatever those behind it are. Where no write fails, just the bytes of the answer go to each stream and the
 /// status is the answer's; where a write of the output fails, the status is that of a file that failed and the line on
 /// `err` is `file: output`; where a write of the line fails, the status stands. To `out` no write may have failed
 /// before. The workers of a statement pass the gate before each step.

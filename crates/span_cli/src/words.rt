@@ -2,7 +2,7 @@
 ghost use Rattle.clap.specs.Words.{FailsBy, app_of, first_of, found_of, kind_of, rows_of, rule_of, subcommand_of, subcommand_rows_of};
 ghost use Rattle.clap.specs.declared.builder.command.Command.TheViews.{out-Command as fields_of};
 ghost use Rattle.span_cli.specs.Serving.{OfAnswer, asked_by, memory};
-ghost use Rattle.span_cli.specs.Telling.{IsMistake, IsShown, Refuses, RefusesBy, Serves, Tells, no_text_line};
+ghost use Rattle.span_cli.specs.Telling.{AnswersWords, IsMistake, IsShown, Refuses, Serves, Tells, no_text_line};
 ghost use Rattle.span_cli.specs.Words.{asked_in, asked_under, check_app, check_in, file_rule, files_app, is_taken, kinds_of};
 ghost use Rattle.span_cli.specs.Words.{margin_app, margin_in, number_in, number_of, params_app, plan_app, plan_in, span_app};
 ghost use Rattle.span_cli.specs.Words.{roll_app, roll_in, sets_app, workers_rule};
@@ -10,7 +10,7 @@ ghost use Rattle.span_told.specs.Streams.{Says};
 ghost use Rattle.statement.specs.FaultLines.{memory_line};
 ghost use Rattle.std.specs.IoError.{error_kind};
 ghost use Rattle.std.specs.declared.io.ErrorKind.TheVariants as kind;
-ghost use Rattle.std.specs.Prelude.{◌≡◌, ◌≢◌, IfErr, IfOk, IfSome, [], codes, false, map, option_map, true};
+ghost use Rattle.std.specs.Prelude.{◌≡◌, ◌≢◌, IfErr, IfOk, IfSome, codes, false, map, option_map, true};
 
 use crate::serving::{Request, serve};
 use crate::sources::Sources;
@@ -364,8 +364,9 @@ pub fn run_words<
     requires { out.old.failed ≡ false }
     ensures taken { is_taken (map T.text words.now) ≡ true → IfSome (asked_in (map T.text words.now)) (λ asked.
         OfAnswer (S.file sources.old) asked (λ answer. Serves answer result out.old out.new err.old err.new)) }
-    ensures refused { kinds_of (map T.text words.now) ≢ [] →
-        RefusesBy (kinds_of (map T.text words.now)) result out.old out.new err.old err.new }
+    ensures words { AnswersWords (kinds_of (map T.text words.now)) (IfSome (asked_in (map T.text words.now)) (λ asked.
+        OfAnswer (S.file sources.old) asked (λ answer. Serves answer result out.old out.new err.old err.new)))
+        result out.old out.new err.old err.new }
 {
     match request(alloc, words) {
         Ok(Some(request)) => serve(rt, alloc, request, sources, gate, out, err),

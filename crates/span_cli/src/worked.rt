@@ -2,13 +2,12 @@
 #![tactic(auto, unfolding(crate::specs::OnLiterals::on_literals))]
 
 ghost use Rattle.clap.specs.declared.error.kind.ErrorKind.TheVariants as kind;
-ghost use Rattle.span_cli.specs.Serving.{a_check, a_margin, a_plan, a_roll, check_answer, done, margin_answer, memory, plan_answer};
-ghost use Rattle.span_cli.specs.Serving.{refused};
+ghost use Rattle.span_cli.specs.Serving.{OfAnswer, a_check, a_margin, a_plan, a_roll, done, refused};
 ghost use Rattle.span_cli.specs.Words.{asked_in, is_taken, kinds_of};
 ghost use Rattle.span_cli.specs.declared.sources.ReadFault.TheVariants as read;
 ghost use Rattle.span_cli.specs.declared.disk.TheConstants.{MAX_TURNS};
 ghost use Rattle.span_cli.specs.declared.sources.TheConstants.{FILE_CAP};
-ghost use Rattle.std.specs.Prelude.{◌≡◌, ◌∷◌, Err, None, Ok, Some, [], codes, true};
+ghost use Rattle.std.specs.Prelude.{◌≡◌, ◌∷◌, Err, None, Ok, Some, [], bytes_eq, codes, if◌then◌else◌, true};
 
 // `span check p` is taken, and asks for just that.
 fn check_of_a_file()
@@ -101,32 +100,52 @@ fn shown()
     ensures version { kinds_of (codes "span" ∷ codes "--version" ∷ []) ≡ kind.DisplayVersion ∷ [] }
 {}
 
-// A file that cannot be read, or is too long, is named; the first one of two.
+// A file that cannot be read, or is too long, is named.
 fn files_that_are_not_read()
-    ensures failed { check_answer (codes "p") (Err read.Failed) ≡ refused 6 (codes "file: p\n") }
-    ensures too_long { check_answer (codes "p") (Err read.TooLong) ≡ refused 6 (codes "file: p\n") }
-    ensures memory { check_answer (codes "p") (Err read.OutOfMemory) ≡ refused 5 (codes "memory\n") }
-    ensures first { margin_answer 1 (codes "p") (codes "q") (Err read.Failed) (Err read.TooLong)
-        ≡ refused 6 (codes "file: p\n") }
-    ensures second { margin_answer 1 (codes "p") (codes "q") (Ok []) (Err read.Failed) ≡ refused 6 (codes "file: q\n") }
+    ensures failed { OfAnswer (λ _. Some (Err read.Failed)) (a_check (codes "p"))
+        (λ answer. answer ≡ refused 6 (codes "file: p\n")) }
+    ensures too_long { OfAnswer (λ _. Some (Err read.TooLong)) (a_check (codes "p"))
+        (λ answer. answer ≡ refused 6 (codes "file: p\n")) }
+    ensures memory { OfAnswer (λ _. Some (Err read.OutOfMemory)) (a_check (codes "p"))
+        (λ answer. answer ≡ refused 5 (codes "memory\n")) }
+    ensures of_a_plan { OfAnswer (λ _. Some (Err read.Failed)) (a_plan (codes "p"))
+        (λ answer. answer ≡ refused 6 (codes "file: p\n")) }
+{}
+
+// The first of several is named, also where those behind it are unknown.
+fn first_that_is_not_read()
+    ensures first { OfAnswer (λ _. Some (Err read.Failed)) (a_margin 1 (codes "p") (codes "q"))
+        (λ answer. answer ≡ refused 6 (codes "file: p\n")) }
+    ensures second_unknown { OfAnswer (λ name. if bytes_eq name (codes "p") then Some (Err read.Failed) else None)
+        (a_margin 1 (codes "p") (codes "q")) (λ answer. answer ≡ refused 6 (codes "file: p\n")) }
+    ensures second { OfAnswer (λ name. if bytes_eq name (codes "p") then Some (Ok []) else Some (Err read.Failed))
+        (a_margin 1 (codes "p") (codes "q")) (λ answer. answer ≡ refused 6 (codes "file: q\n")) }
+    ensures of_a_roll { OfAnswer (λ name. if bytes_eq name (codes "p") then Some (Err read.TooLong) else None)
+        (a_roll 1 (codes "p") (codes "n") (codes "q")) (λ answer. answer ≡ refused 6 (codes "file: p\n")) }
+    ensures next_of_a_roll { OfAnswer (λ name. if bytes_eq name (codes "p") then Some (Ok [])
+        else if bytes_eq name (codes "n") then Some (Err read.Failed) else None)
+        (a_roll 1 (codes "p") (codes "n") (codes "q")) (λ answer. answer ≡ refused 6 (codes "file: n\n")) }
 {}
 
 // The counts and the statement of small files, and two that are refused.
 fn files_that_are_read()
-    ensures counts { check_answer (codes "p") (Ok (codes "SET,D1,1,USD\nCOMMODITY,AA,0,SUM\n"))
-        ≡ done (codes "OK,D1,1,0,0,0,0,0\n") }
-    ensures no_accounts { margin_answer 1 (codes "p") (codes "q") (Ok (codes "SET,D1,1,USD\n")) (Ok []) ≡ done [] }
-    ensures no_set { check_answer (codes "p") (Ok []) ≡ refused 3 (codes "parameters: P1 NoSet at record 0\n") }
-    ensures unknown_contract { margin_answer 1 (codes "p") (codes "q")
-        (Ok (codes "SET,D1,1,USD\n")) (Ok (codes "X,FA,1\n"))
-        ≡ refused 4 (codes "positions: B1 UnknownContract at record 1 account X\n") }
+    ensures counts { OfAnswer (λ _. Some (Ok (codes "SET,D1,1,USD\nCOMMODITY,AA,0,SUM\n"))) (a_check (codes "p"))
+        (λ answer. answer ≡ done (codes "OK,D1,1,0,0,0,0,0\n")) }
+    ensures no_accounts { OfAnswer (λ name. if bytes_eq name (codes "p") then Some (Ok (codes "SET,D1,1,USD\n"))
+        else Some (Ok [])) (a_margin 1 (codes "p") (codes "q")) (λ answer. answer ≡ done []) }
+    ensures no_set { OfAnswer (λ _. Some (Ok [])) (a_check (codes "p"))
+        (λ answer. answer ≡ refused 3 (codes "parameters: P1 NoSet at record 0\n")) }
+    ensures unknown_contract { OfAnswer (λ name. if bytes_eq name (codes "p") then Some (Ok (codes "SET,D1,1,USD\n"))
+        else Some (Ok (codes "X,FA,1\n"))) (a_margin 1 (codes "p") (codes "q"))
+        (λ answer. answer ≡ refused 4 (codes "positions: B1 UnknownContract at record 1 account X\n")) }
 {}
 
-// The plan of a set alone, and the refusals of files that are no set.
+// The plan of a set alone, and the refusal of a file that is no set.
 fn plans()
-    ensures alone { plan_answer (codes "p") (Ok (codes "SET,D1,1,USD\n")) ≡ done (codes "0 InterStart()\n1 TotalStart()\n") }
-    ensures no_set { plan_answer (codes "p") (Ok []) ≡ refused 3 (codes "parameters: P1 NoSet at record 0\n") }
-    ensures failed { plan_answer (codes "p") (Err read.Failed) ≡ refused 6 (codes "file: p\n") }
+    ensures alone { OfAnswer (λ _. Some (Ok (codes "SET,D1,1,USD\n"))) (a_plan (codes "p"))
+        (λ answer. answer ≡ done (codes "0 InterStart()\n1 TotalStart()\n")) }
+    ensures no_set { OfAnswer (λ _. Some (Ok [])) (a_plan (codes "p"))
+        (λ answer. answer ≡ refused 3 (codes "parameters: P1 NoSet at record 0\n")) }
 {}
 
 // How long a file may be, and how many turns a reading of it has.

@@ -10,31 +10,31 @@ use thiserror::Error;
 #[derive(Clone, Copy, Debug, Drop, PartialEq, Eq, Error)]
 pub enum ParamFault {
     /// P1: the first record is no SET, or there is none (`at` is then 0).
-    #[error("record {at} is no SET, which begins a parameter file")]
+    #[error("P1 NoSet at record {at}")]
     NoSet { at: usize },
     /// P2: a SET that is not the first record.
-    #[error("record {at} is a second SET")]
+    #[error("P2 SecondSet at record {at}")]
     SecondSet { at: usize },
     /// P3: none of the kinds.
-    #[error("record {at} is of an unknown kind")]
+    #[error("P3 UnknownKind at record {at}")]
     UnknownKind { at: usize },
     /// P4: a number of fields that its kind does not have.
-    #[error("record {at} has a wrong number of fields")]
+    #[error("P4 FieldCount at record {at}")]
     FieldCount { at: usize },
     /// P5: a name, currency, method, type or side that is none.
-    #[error("record {at} has a malformed name or word")]
+    #[error("P5 BadName at record {at}")]
     BadName { at: usize },
     /// P6: a whole number, decimal or month that is none.
-    #[error("record {at} has a malformed number")]
+    #[error("P6 BadNumber at record {at}")]
     BadNumber { at: usize },
     /// P7: a number or month outside its range.
-    #[error("record {at} has a number out of range")]
+    #[error("P7 OutOfRange at record {at}")]
     OutOfRange { at: usize },
     /// P8: one record more than the limit.
-    #[error("record {at} is one more than the limit of its kind")]
+    #[error("P8 TooMany at record {at}")]
     TooMany { at: usize },
     /// Want of memory.
-    #[error("out of memory")]
+    #[error("memory")]
     OutOfMemory,
 }
 
@@ -42,22 +42,22 @@ pub enum ParamFault {
 #[derive(Clone, Copy, Debug, Drop, PartialEq, Eq, Error)]
 pub enum PositionFault {
     /// Q1: not three fields.
-    #[error("record {at} has a wrong number of fields")]
+    #[error("Q1 FieldCount at record {at}")]
     FieldCount { at: usize },
     /// Q2: an account or contract that is no name.
-    #[error("record {at} has a malformed name")]
+    #[error("Q2 BadName at record {at}")]
     BadName { at: usize },
     /// Q3: a quantity that is no whole number.
-    #[error("record {at} has a malformed quantity")]
+    #[error("Q3 BadNumber at record {at}")]
     BadNumber { at: usize },
     /// Q4: a quantity outside its range.
-    #[error("record {at} has a quantity out of range")]
+    #[error("Q4 OutOfRange at record {at}")]
     OutOfRange { at: usize },
     /// Q5: the first record of one account too many.
-    #[error("record {at} is of one account more than the limit")]
+    #[error("Q5 TooManyAccounts at record {at}")]
     TooManyAccounts { at: usize },
     /// Want of memory.
-    #[error("out of memory")]
+    #[error("memory")]
     OutOfMemory,
 }
 

@@ -6,3 +6,4 @@ pub mod numbers;
 pub mod refusals;
 pub mod rolls;
 pub mod statements;
+pub mod statuses;

@@ -3,6 +3,7 @@ use param_check::faults::{BindFault, CheckFault};
 use result_book::books::{BookFault, ResultBook};
 use span_csv::faults::{ParamFault, PositionFault};
 use span_tables::name::Name;
+use span_told::MarkedWriter;
 use statement::fault_lines::write_fault;
 use statement::faults::{SpanFault, status};
 use statement::roll::roll;
@@ -249,9 +250,9 @@ fn lines_of_books_and_shelves(rt: HostRuntime) -> Result<(), Fail> {
         ),
     ];
     for (fault, line, number) in lines {
-        let mut out = Vec::new(rt.alloc());
+        let mut out = MarkedWriter::new(Vec::new(rt.alloc()));
         write_fault(&fault, &mut out)?;
-        assert_eq!(rt; out.as_slice(), line);
+        assert_eq!(rt; out.into_inner().as_slice(), line);
         assert_eq!(rt; status(&fault), number);
     }
     Ok(())

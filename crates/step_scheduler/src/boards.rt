@@ -24,16 +24,19 @@ use span_money::amounts::Money;
 use std::alloc::{AllocError, Global};
 use std::marker::Model;
 use std::sync::Arc;
+use thiserror::Error;
 
 /// How many holds on its job a board keeps for tasks to come, at most.
 const SPARE_HOLDS: usize = 4;
 
 /// Why a board does not take a finished step.
-#[derive(Clone, Copy, PartialEq, Eq, Debug)]
+#[derive(Clone, Copy, Debug, Drop, PartialEq, Eq, Error)]
 pub enum Refused {
     /// The step waits, is ready, or has its value.
+    #[error("NotTaken")]
     NotTaken,
     /// The board has failed.
+    #[error("Failed")]
     Failed,
 }
 

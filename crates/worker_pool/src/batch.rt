@@ -28,6 +28,7 @@ use std::sync::{Arc, Wait};
 use std::thread;
 use std::thread::Threads;
 use std::time::Clock;
+use thiserror::Error;
 
 /// The most workers that a batch can have.
 pub const MAX_WORKERS: usize = 16;
@@ -36,11 +37,13 @@ pub const MAX_WORKERS: usize = 16;
 const DEQUE_PLACES: usize = 256;
 
 /// Why a batch is not run.
-#[derive(Clone, Copy, PartialEq, Eq, Debug)]
+#[derive(Clone, Copy, Debug, Drop, PartialEq, Eq, Error)]
 pub enum PoolFault {
     /// There are no workers, or more than 16.
+    #[error("L1 Workers")]
     Workers,
     /// Want of memory.
+    #[error("memory")]
     OutOfMemory,
 }
 

@@ -1,11 +1,12 @@
-//! The line and the exit status of each fault, and the lines of a row, computed by the definitions.
+//! The line of each fault, and the lines of a row, computed by the definitions.
 #![tactic(auto, unfolding(crate::specs::OnLiterals::on_literals))]
 
 ghost use Rattle.param_check.specs.declared.faults.BindFault.TheVariants as bind;
 ghost use Rattle.param_check.specs.declared.faults.CheckFault.TheVariants as check;
+ghost use Rattle.result_book.specs.declared.books.BookFault.TheVariants as book;
 ghost use Rattle.span_csv.specs.declared.faults.ParamFault.TheVariants as params;
 ghost use Rattle.span_csv.specs.declared.faults.PositionFault.TheVariants as positions;
-ghost use Rattle.statement.specs.FaultLines.{fault_line, fault_status};
+ghost use Rattle.statement.specs.FaultLines.{fault_line};
 ghost use Rattle.statement.specs.Statement.{figures_line, total_line};
 ghost use Rattle.statement.specs.declared.faults.SpanFault.TheVariants as span_fault;
 ghost use Rattle.std.specs.Prelude.{◌≡◌, codes, neg_ℤ, pos};
@@ -53,16 +54,63 @@ fn lines_of_positions()
         ≡ codes "positions: B3 TooManyHeld at record 258 account A_B\n" }
 {}
 
-// Want of memory, and the exit statuses.
-fn statuses()
+// Parameters of the next set that are not read.
+fn lines_of_next_parameters()
+    ensures p1 { fault_line (span_fault.NextParams (params.NoSet 0)) ≡ codes "next parameters: P1 NoSet at record 0\n" }
+    ensures p2 { fault_line (span_fault.NextParams (params.SecondSet 3)) ≡ codes "next parameters: P2 SecondSet at record 3\n" }
+    ensures p3 { fault_line (span_fault.NextParams (params.UnknownKind 3)) ≡ codes "next parameters: P3 UnknownKind at record 3\n" }
+    ensures p4 { fault_line (span_fault.NextParams (params.FieldCount 3)) ≡ codes "next parameters: P4 FieldCount at record 3\n" }
+    ensures p5 { fault_line (span_fault.NextParams (params.BadName 3)) ≡ codes "next parameters: P5 BadName at record 3\n" }
+    ensures p6 { fault_line (span_fault.NextParams (params.BadNumber 3)) ≡ codes "next parameters: P6 BadNumber at record 3\n" }
+    ensures p7 { fault_line (span_fault.NextParams (params.OutOfRange 3)) ≡ codes "next parameters: P7 OutOfRange at record 3\n" }
+    ensures p8 { fault_line (span_fault.NextParams (params.TooMany 1234567)) ≡ codes "next parameters: P8 TooMany at record 1234567\n" }
+    ensures memory { fault_line (span_fault.NextParams params.OutOfMemory) ≡ codes "memory\n" }
+{}
+
+// Parameters of the next set that break a rule.
+fn lines_of_next_rules()
+    ensures c1 { fault_line (span_fault.NextCheck (check.DuplicateCommodity 12)) ≡ codes "next parameters: C1 DuplicateCommodity at record 12\n" }
+    ensures c2 { fault_line (span_fault.NextCheck (check.UnknownCommodity 12)) ≡ codes "next parameters: C2 UnknownCommodity at record 12\n" }
+    ensures c3 { fault_line (span_fault.NextCheck (check.DuplicateContract 12)) ≡ codes "next parameters: C3 DuplicateContract at record 12\n" }
+    ensures c4 { fault_line (span_fault.NextCheck (check.DuplicateTier 12)) ≡ codes "next parameters: C4 DuplicateTier at record 12\n" }
+    ensures c5 { fault_line (span_fault.NextCheck (check.TierBackwards 12)) ≡ codes "next parameters: C5 TierBackwards at record 12\n" }
+    ensures c6 { fault_line (span_fault.NextCheck (check.TierOverlap 12)) ≡ codes "next parameters: C6 TierOverlap at record 12\n" }
+    ensures c7 { fault_line (span_fault.NextCheck (check.UnknownTier 12)) ≡ codes "next parameters: C7 UnknownTier at record 12\n" }
+    ensures c8 { fault_line (span_fault.NextCheck (check.RepeatedLeg 12)) ≡ codes "next parameters: C8 RepeatedLeg at record 12\n" }
+    ensures c9 { fault_line (span_fault.NextCheck (check.OneSided 12)) ≡ codes "next parameters: C9 OneSided at record 12\n" }
+    ensures c10 { fault_line (span_fault.NextCheck (check.DuplicatePriority 12)) ≡ codes "next parameters: C10 DuplicatePriority at record 12\n" }
+    ensures c11 { fault_line (span_fault.NextCheck (check.DuplicateSpot 12)) ≡ codes "next parameters: C11 DuplicateSpot at record 12\n" }
+    ensures memory { fault_line (span_fault.NextCheck check.OutOfMemory) ≡ codes "memory\n" }
+{}
+
+// Positions that do not fit the tables of the next set.
+fn lines_of_next_positions()
+    ensures b1 { fault_line (span_fault.NextBind (bind.UnknownContract 2 (codes "X")))
+        ≡ codes "next positions: B1 UnknownContract at record 2 account X\n" }
+    ensures b2 { fault_line (span_fault.NextBind (bind.NetOutOfRange 3 (codes "ACC-1")))
+        ≡ codes "next positions: B2 NetOutOfRange at record 3 account ACC-1\n" }
+    ensures b3 { fault_line (span_fault.NextBind (bind.TooManyHeld 4 (codes "A_B")))
+        ≡ codes "next positions: B3 TooManyHeld at record 4 account A_B\n" }
+    ensures memory { fault_line (span_fault.NextBind bind.OutOfMemory) ≡ codes "memory\n" }
+{}
+
+// What a book refused.
+fn lines_of_a_book()
+    ensures k1 { fault_line (span_fault.Book book.NoSuchBatch) ≡ codes "book: K1 NoSuchBatch\n" }
+    ensures k2 { fault_line (span_fault.Book book.AlreadyThere) ≡ codes "book: K2 AlreadyThere\n" }
+    ensures k4 { fault_line (span_fault.Book book.NoMoreBatches) ≡ codes "book: K4 NoMoreBatches\n" }
+    ensures memory { fault_line (span_fault.Book book.OutOfMemory) ≡ codes "memory\n" }
+{}
+
+// Workers, a shelf and want of memory, also of a stage.
+fn lines_of_the_rest()
+    ensures workers { fault_line span_fault.Workers ≡ codes "workers: L1 Workers\n" }
+    ensures shelf { fault_line span_fault.Shelf ≡ codes "shelf\n" }
     ensures memory { fault_line span_fault.Memory ≡ codes "memory\n" }
-    ensures params { fault_status (span_fault.Params (params.BadName 3)) ≡ 3 }
-    ensures check { fault_status (span_fault.Check (check.OneSided 3)) ≡ 3 }
-    ensures positions { fault_status (span_fault.Positions (positions.BadName 3)) ≡ 4 }
-    ensures bind { fault_status (span_fault.Bind (bind.TooManyHeld 3 (codes "X"))) ≡ 4 }
-    ensures memory_status { fault_status span_fault.Memory ≡ 5 }
-    ensures memory_of_parameters { fault_status (span_fault.Params params.OutOfMemory) ≡ 5 }
-    ensures memory_of_binding { fault_status (span_fault.Bind bind.OutOfMemory) ≡ 5 }
+    ensures memory_of_parameters { fault_line (span_fault.Params params.OutOfMemory) ≡ codes "memory\n" }
+    ensures memory_of_rules { fault_line (span_fault.Check check.OutOfMemory) ≡ codes "memory\n" }
+    ensures memory_of_positions { fault_line (span_fault.Positions positions.OutOfMemory) ≡ codes "memory\n" }
+    ensures memory_of_binding { fault_line (span_fault.Bind bind.OutOfMemory) ≡ codes "memory\n" }
 {}
 
 // The line of a commodity and that of a total.
