@@ -41,16 +41,18 @@ none_left name (x ∷ xs) =
       false_if true e = sym e
       false_if false e = refl
 
+apart_if : (b : Bool) (x : List ℕ) (xs : List (List ℕ)) → IsNew x xs → IsDistinct bytes_eq xs
+    → IsDistinct bytes_eq (cond b (x ∷ xs) xs)
+unfolding IsNew
+apart_if true x xs new apart = IsDistinct-cons bytes_eq x xs new apart
+apart_if false x xs new apart = apart
+
 apart_of_some : (test : List ℕ → Bool) (xs : List (List ℕ)) → IsDistinct bytes_eq xs → IsDistinct bytes_eq (filter test xs)
 unfolding IsNew
 apart_of_some test [] apart = apart
-apart_of_some test (x ∷ xs) apart = by_test (test x) where
-  rest : IsDistinct bytes_eq (filter test xs)
-  rest = apart_of_some test xs (IsDistinct-tail bytes_eq x xs apart)
-
-  by_test : (b : Bool) → IsDistinct bytes_eq (cond b (x ∷ filter test xs) (filter test xs))
-  by_test true = IsDistinct-cons bytes_eq x (filter test xs) (new_of_some test x xs (IsDistinct-head bytes_eq x xs apart)) rest
-  by_test false = rest
+apart_of_some test (x ∷ xs) apart =
+    apart_if (test x) x (filter test xs) (new_of_some test x xs (IsDistinct-head bytes_eq x xs apart))
+    (apart_of_some test xs (IsDistinct-tail bytes_eq x xs apart))
 
 distinct_apart : (names : List (List ℕ)) → IsDistinct bytes_eq (distinct names)
 unfolding IsDistinct IsNew
@@ -87,23 +89,28 @@ pub rows_once : (set : SetView) (portfolios : List AccountHoldings) (rows : List
 rows_once set portfolios rows is once =
     rw (is) (subst (IsDistinct bytes_eq) (sym (accounts_of_rows set portfolios)) once)
 
--- none of the rows before one has its account
-pub none_before : (rows : List RowView) (i : ℕ) (d : RowView) → HasNoAccountTwice rows → i < length rows
-    → row_for (take i rows) (account_of (get_or rows i d)) ≡ None
-none_before [] i d once lt = absurd (omega (arith, lt))
-none_before (row ∷ rows) zero d once lt = refl
-none_before (row ∷ rows) (suc i) d once lt =
-    by_test (bytes_eq (account_of (get_or rows i d)) (account_of row))
-    (bytes_eq-flip (account_of (get_or rows i d)) (account_of row)
-    ∙ at rows i (omega (arith, lt)) (IsDistinct-head bytes_eq (account_of row) (map account_of rows) once)) where
-      at : (rs : List RowView) (k : ℕ) → k < length rs → IsNew (account_of row) (map account_of rs)
-          → bytes_eq (account_of row) (account_of (get_or rs k d)) ≡ false
-      unfolding IsNew
-      at [] k lt new = absurd (omega (arith, lt))
-      at (r ∷ rs) zero lt new = new.0
-      at (r ∷ rs) (suc k) lt new = at rs k (omega (arith, lt)) new.1
+module _ {R : Type 0} (row_of : R → RowView) where
+  new_at : (account : List ℕ) (xs : List R) (i : ℕ) (d : R) → IsNew account (map account_of (map row_of xs)) → i < length xs
+      → bytes_eq account (account_of (row_of (get_or xs i d))) ≡ false
+  unfolding IsNew
+  new_at account [] i d new lt = absurd (omega (arith, lt))
+  new_at account (x ∷ xs) zero d new lt = new.0
+  new_at account (x ∷ xs) (suc i) d new lt = new_at account xs i d new.1 (omega (arith, lt))
 
-      by_test : (b : Bool) → b ≡ false
-          → cond b (Some row) (row_for (take i rows) (account_of (get_or rows i d))) ≡ None
-      by_test true e = cc
-      by_test false e = none_before rows i d (IsDistinct-tail bytes_eq (account_of row) (map account_of rows) once) (omega (arith, lt))
+  not_first : (b : Bool) (row : RowView) (found : Option RowView) → b ≡ false → found ≡ None → cond b (Some row) found ≡ None
+  not_first true row found other none = cc
+  not_first false row found other none = none
+
+  -- none of the rows before one has its account
+  pub none_before : (xs : List R) (i : ℕ) (d : R) → HasNoAccountTwice (map row_of xs) → i < length xs
+      → row_for (map row_of (take i xs)) (account_of (row_of (get_or xs i d))) ≡ None
+  unfolding IsNew
+  none_before [] i d once lt = absurd (omega (arith, lt))
+  none_before (x ∷ xs) zero d once lt = refl
+  none_before (x ∷ xs) (suc i) d once lt =
+      not_first (bytes_eq (account_of (row_of (get_or xs i d))) (account_of (row_of x))) (row_of x) _
+      (bytes_eq-flip (account_of (row_of (get_or xs i d))) (account_of (row_of x))
+      ∙ new_at (account_of (row_of x)) xs i d
+      (IsDistinct-head bytes_eq (account_of (row_of x)) (map account_of (map row_of xs)) once) (omega (arith, lt)))
+      (none_before xs i d (IsDistinct-tail bytes_eq (account_of (row_of x)) (map account_of (map row_of xs)) once)
+      (omega (arith, lt)))

@@ -11,9 +11,12 @@ use Rattle.plan_shelf.specs.Publications.{IsLast}
 use Rattle.span_tables.specs.Tables.{AcceptedTables}
 use Rattle.span_tables.specs.declared.records.PositionRecord.{PositionRecord}
 use Rattle.statement.specs.Answers.{is_memory}
-use Rattle.statement.specs.Rolls.{GivesRoll, RefusesRoll, is_ok, roll_of}
-use Rattle.statement.specs.SpanFaults.{of_next}
-use Rattle.statement.specs.Statement.{accepted_of, and_then, margin_of, portfolios_under, same, statement_bound, statement_of, statement_under}
+use Rattle.result_book.specs.declared.books.BookFault.{BookFault}
+use Rattle.result_book.specs.declared.books.BookFault.TheVariants as book
+use Rattle.span_tables.specs.Net.{AccountHoldings}
+use Rattle.statement.specs.Rolls.{GivesRoll, Refuses, RefusesRoll, is_ok, roll_of}
+use Rattle.statement.specs.SpanFaults.{of_book, of_next}
+use Rattle.statement.specs.Statement.{accepted_of, and_then, margin_of, portfolios_under, same, statement_bound, statement_of, statement_text, statement_under}
 use Rattle.statement.specs.near.Seconds.{IsPublished, RefusesNext, RefusesSecond, RefusesUnder, Rolls, RollsUnder, second_of}
 use Rattle.statement.specs.declared.faults.SpanFault.{SpanFault}
 use Rattle.statement.specs.declared.faults.SpanFault.TheVariants as fault
@@ -234,6 +237,19 @@ under_stands next records tables first text accepted stands =
           (λ second. Ok (first ++ second)) ≡ and_then of_next r (λ second. Ok (first ++ second))
       by_text (Ok second) = refl
       by_text (Err e) = refl
+
+-- it is that of the portfolios
+pub under_portfolios : (tables : AcceptedTables) (records : List PositionRecord) (portfolios : List AccountHoldings)
+    (first : List ℕ) → portfolios_under tables records ≡ Ok portfolios
+    → RollsUnder tables records first (first ++ statement_text tables portfolios)
+unfolding statement_bound
+under_portfolios tables records portfolios first is = rw (is) refl
+
+-- a book refuses rows where it has no number left, or for want of memory
+pub refused_rows : {A X Y : Type 0} (answer : Result A SpanFault) (may_publish : Bool) (e : BookFault)
+    → ((e ≡ book.NoMoreBatches) × X) ⊎ ((e ≡ book.OutOfMemory) × Y) → Refuses answer true may_publish (of_book e)
+refused_rows answer may_publish e (inl full) = rw (full.0) (refl, refl)
+refused_rows answer may_publish e (inr memory) = rw (memory.0) tt
 
 -- the last of two publications is the next set
 pub next_is_last : (next : List ℕ) (first set : SetView) (told : List SetView) → IsPublished next (first ∷ []) told

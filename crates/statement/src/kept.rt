@@ -23,6 +23,8 @@ pub(crate) struct KeptRows {
 
 impl Model for KeptRows {
     ghost use Rattle.result_book.specs.Rows.{RowView};
+    ghost use Rattle.std.specs.Arc.{arc_value};
+    ghost use Rattle.std.specs.Prelude.{List, map};
 
     ghost Value = { List RowView };
 

@@ -199,7 +199,8 @@ fn roll_named<S: ShelfName + Send + Sync, R: Threads + Wait + Clock + Sync, G: G
         workers,
         gate,
     );
-    let first = keep_rows(&mut book.lock(rt), rows?)?;
+    let rows = rows?;
+    let first = keep_rows(&mut book.lock(rt), rows)?;
     let mut text = first.text(alloc)?;
     let second = second_set(rt, reader, told?)?;
     second_statement(

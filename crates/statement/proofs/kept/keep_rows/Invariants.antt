@@ -12,4 +12,4 @@ pub record IsKept (before now : BookView) (batch : ℕ) (rows : List RowView) : 
   pub others : (n : ℕ) → n ≢ before.opened + 1 → rows_of now n ≡ rows_of before n
 
 abbrev pub invariant-loop-row : goal.invariant-loop-row
-invariant-loop-row l = IsKept l.fn.book l.book l.batch (map arc_value (take l.row-index l.rows.items))
+invariant-loop-row l = IsKept l.fn.book l.book l.batch (map arc_value (take l.row-index l.fn.rows.items))
