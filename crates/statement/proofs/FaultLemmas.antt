@@ -7,7 +7,7 @@ use Rattle.span_tables.specs.declared.records.PositionRecord.{PositionRecord}
 use Rattle.param_check.specs.CheckFaults.{checked}
 use Rattle.param_check.specs.Binding.{bindings_of}
 use Rattle.statement.specs.Answers.{Gives}
-use Rattle.statement.specs.Statement.{accepted_of, and_then, same, statement_bound, statement_of, statement_under}
+use Rattle.statement.specs.Statement.{accepted_of, and_then, portfolios_under, same, statement_bound, statement_of, statement_under}
 use Rattle.statement.specs.declared.faults.SpanFault.{SpanFault}
 use Rattle.statement.specs.declared.faults.SpanFault.TheVariants as fault
 
@@ -32,11 +32,17 @@ accepted_of_files params e is =
     and_then_of_files fault.Params (params_of params) _ e (λ f h. refl) (λ records.
     and_then_of_files fault.Check (checked records) _ e (λ f h. refl) (λ tables h. cc)) is
 
+pub portfolios_of_files : (tables : AcceptedTables) (records : List PositionRecord) (e : SpanFault)
+    → portfolios_under tables records ≡ Err e → is_of_files e ≡ true
+unfolding portfolios_under
+portfolios_of_files tables records e is =
+    and_then_of_files fault.Bind (bindings_of tables.contracts records) _ e (λ f h. refl) (λ portfolios h. cc) is
+
 pub bound_of_files : (tables : AcceptedTables) (records : List PositionRecord) (e : SpanFault)
     → statement_bound tables records ≡ Err e → is_of_files e ≡ true
 unfolding statement_bound
 bound_of_files tables records e is =
-    and_then_of_files fault.Bind (bindings_of tables.contracts records) _ e (λ f h. refl) (λ portfolios h. cc) is
+    and_then_of_files same (portfolios_under tables records) _ e (portfolios_of_files tables records) (λ portfolios h. cc) is
 
 pub statement_of_files : (params positions : List ℕ) (e : SpanFault) → statement_of params positions ≡ Err e
     → is_of_files e ≡ true

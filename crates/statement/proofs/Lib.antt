@@ -1,3 +1,4 @@
+pub mod AccountLemmas
 pub mod CountLemmas
 pub mod FitLemmas
 pub mod LineLemmas

@@ -1,7 +1,7 @@
 -- What a roll gives, from what its halves give.
 use Rattle.std.proofs.Common.{◌≡◌, ◌∙◌, ◌⊎◌, ◌<◌, ℕ, List, [], ◌∷◌, Bool, true, false, ◌++◌}
 use Rattle.std.proofs.Common.{Ok, Err, Result, length}
-use Rattle.std.proofs.Common.{refl, ap, subst, inl, inr, arith}
+use Rattle.std.proofs.Common.{refl, sym, ap, subst, inl, inr, arith, true≢false}
 use Rattle.std.specs.Prelude.{IfErr, IfOk, if◌then◌else◌, ◌==◌, ◌||◌, nat_lt}
 use Rattle.std.proofs.lemmas.Bool.Decides.{nat_tests}
 use Rattle.worker_pool.specs.declared.batch.TheConstants.{MAX_WORKERS}
@@ -11,13 +11,16 @@ use Rattle.plan_shelf.specs.Publications.{IsLast}
 use Rattle.span_tables.specs.Tables.{AcceptedTables}
 use Rattle.span_tables.specs.declared.records.PositionRecord.{PositionRecord}
 use Rattle.statement.specs.Answers.{is_memory}
-use Rattle.statement.specs.Rolls.{GivesRoll, RefusesRoll, is_ok, roll_of}
-use Rattle.statement.specs.SpanFaults.{of_next}
-use Rattle.statement.specs.Statement.{accepted_of, and_then, margin_of, same, statement_bound, statement_of, statement_under}
+use Rattle.result_book.specs.declared.books.BookFault.{BookFault}
+use Rattle.result_book.specs.declared.books.BookFault.TheVariants as book
+use Rattle.span_tables.specs.Net.{AccountHoldings}
+use Rattle.statement.specs.Rolls.{GivesRoll, Refuses, RefusesRoll, is_ok, roll_of}
+use Rattle.statement.specs.SpanFaults.{of_book, of_next}
+use Rattle.statement.specs.Statement.{accepted_of, and_then, margin_of, portfolios_under, same, statement_bound, statement_of, statement_text, statement_under}
 use Rattle.statement.specs.near.Seconds.{IsPublished, RefusesNext, RefusesSecond, RefusesUnder, Rolls, RollsUnder, second_of}
 use Rattle.statement.specs.declared.faults.SpanFault.{SpanFault}
 use Rattle.statement.specs.declared.faults.SpanFault.TheVariants as fault
-use Rattle.statement.proofs.FaultLemmas.{accepted_of_files, bound_of_files, is_of_files, statement_of_files}
+use Rattle.statement.proofs.FaultLemmas.{accepted_of_files, bound_of_files, is_of_files, portfolios_of_files, statement_of_files}
 
 -- positions that were read are bound to the tables
 under_read : (tables : AcceptedTables) (positions : List ℕ) (records : List PositionRecord) → positions_of positions ≡ Ok records
@@ -70,8 +73,8 @@ refused_second workers params next positions first records e stands read refused
 
   by_fault : (x : SpanFault) → RefusesSecond next records x → RefusesRoll workers params next positions x
   by_fault fault.Memory h = tt
-  by_fault (fault.Book f) h = (h, is)
-  by_fault fault.Shelf h = (is, h)
+  by_fault (fault.Book f) h = (h.0, is)
+  by_fault fault.Shelf h = rw (is) h
   by_fault fault.Workers h = of_second fault.Workers h
   by_fault (fault.Params f) h = of_second (fault.Params f) h
   by_fault (fault.Check f) h = of_second (fault.Check f) h
@@ -154,12 +157,13 @@ refused_set next e (inr named) = by_fault e named.0 named.1 (accepted_of_files n
 
 -- the positions are refused under the next set
 pub refused_bound : (tables : AcceptedTables) (records : List PositionRecord) (e : SpanFault)
-    → (e ≡ fault.Memory) ⊎ ((is_memory e ≡ false) × (statement_bound tables records ≡ Err e))
+    → (e ≡ fault.Memory) ⊎ ((is_memory e ≡ false) × (portfolios_under tables records ≡ Err e))
     → RefusesUnder tables records (of_next e)
+unfolding statement_bound
 refused_bound tables records e (inl memory) = rw (memory) tt
 refused_bound tables records e (inr named) =
-    by_fault e named.0 named.1 (bound_of_files tables records e named.1) where
-      by_fault : (x : SpanFault) → is_memory x ≡ false → statement_bound tables records ≡ Err x → is_of_files x ≡ true
+    by_fault e named.0 named.1 (portfolios_of_files tables records e named.1) where
+      by_fault : (x : SpanFault) → is_memory x ≡ false → portfolios_under tables records ≡ Err x → is_of_files x ≡ true
           → RefusesUnder tables records (of_next x)
       by_fault (fault.Params f) m h of_files = (m, rw (h) refl)
       by_fault (fault.Check f) m h of_files = (m, rw (h) refl)
@@ -189,7 +193,7 @@ next_refuses next records e refused = by_fault e refused where
 
   by_fault : (x : SpanFault) → RefusesNext next x → RefusesSecond next records x
   by_fault fault.Memory h = tt
-  by_fault (fault.Book f) h = h.0
+  by_fault (fault.Book f) h = absurd (true≢false (sym h.1))
   by_fault fault.Shelf h = h
   by_fault fault.Workers h = named fault.Workers h
   by_fault (fault.Params f) h = named (fault.Params f) h
@@ -233,6 +237,19 @@ under_stands next records tables first text accepted stands =
           (λ second. Ok (first ++ second)) ≡ and_then of_next r (λ second. Ok (first ++ second))
       by_text (Ok second) = refl
       by_text (Err e) = refl
+
+-- it is that of the portfolios
+pub under_portfolios : (tables : AcceptedTables) (records : List PositionRecord) (portfolios : List AccountHoldings)
+    (first : List ℕ) → portfolios_under tables records ≡ Ok portfolios
+    → RollsUnder tables records first (first ++ statement_text tables portfolios)
+unfolding statement_bound
+under_portfolios tables records portfolios first is = rw (is) refl
+
+-- a book refuses rows where it has no number left, or for want of memory
+pub refused_rows : {A X Y : Type 0} (answer : Result A SpanFault) (may_publish : Bool) (e : BookFault)
+    → ((e ≡ book.NoMoreBatches) × X) ⊎ ((e ≡ book.OutOfMemory) × Y) → Refuses answer true may_publish (of_book e)
+refused_rows answer may_publish e (inl full) = rw (full.0) (refl, refl)
+refused_rows answer may_publish e (inr memory) = rw (memory.0) tt
 
 -- the last of two publications is the next set
 pub next_is_last : (next : List ℕ) (first set : SetView) (told : List SetView) → IsPublished next (first ∷ []) told

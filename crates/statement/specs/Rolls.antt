@@ -1,5 +1,6 @@
 -- What a roll answers: two statements for the same positions, under a set and under the next.
-use Rattle.std.specs.Prelude.{◌≡◌, ⊤, ℕ, List, ◌++◌, Bool, true, false, Result, Ok, Err}
+use Rattle.std.specs.Prelude.{◌≡◌, ⊤, ℕ, List, ◌++◌, ◌&&◌, Bool, true, false, Result, Ok, Err}
+use Rattle.result_book.specs.declared.books.BookFault.TheVariants as book
 use Rattle.statement.specs.Answers.{is_memory}
 use Rattle.statement.specs.SpanFaults.{of_next}
 use Rattle.statement.specs.Statement.{accepted_of, and_then, margin_of, same, statement_of}
@@ -18,16 +19,21 @@ abbrev pub is_ok : {A : Type 0} → Result A SpanFault → Bool
 is_ok (Ok x) = true
 is_ok (Err e) = false
 
--- Why a roll is refused. Want of memory says nothing of the files. A book can refuse where the first statement stands, and
--- a shelf where the next set is accepted too. Any other fault is the first one.
+-- Why a call that is to give an answer gives none. Want of memory says nothing of the files. A book that was opened as often
+-- as there are numbers refuses, where a batch may be kept there; a shelf, where a set may be published there. Any other
+-- fault is the answer's own.
+abbrev pub Refuses : {A : Type 0} → Result A SpanFault → Bool → Bool → SpanFault → Type 0
+Refuses answer may_keep may_publish fault.Memory = ⊤
+Refuses answer may_keep may_publish (fault.Book e) = (e ≡ book.NoMoreBatches) × (may_keep ≡ true)
+Refuses answer may_keep may_publish fault.Shelf = may_publish ≡ true
+Refuses answer may_keep may_publish e = (is_memory e ≡ false) × (answer ≡ Err e)
+
+-- why a roll is refused: a batch is kept where the first statement stands, and a set is published where the next one is
+-- accepted too
 abbrev pub RefusesRoll : ℕ → List ℕ → List ℕ → List ℕ → SpanFault → Type 0
-RefusesRoll workers params next positions fault.Memory = ⊤
-RefusesRoll workers params next positions (fault.Book e) =
-    (is_memory (fault.Book e) ≡ false) × (is_ok (margin_of workers params positions) ≡ true)
-RefusesRoll workers params next positions fault.Shelf =
-    (is_ok (margin_of workers params positions) ≡ true) × (is_ok (accepted_of next) ≡ true)
 RefusesRoll workers params next positions e =
-    (is_memory e ≡ false) × (roll_of workers params next positions ≡ Err e)
+    Refuses (roll_of workers params next positions) (is_ok (margin_of workers params positions))
+    (is_ok (margin_of workers params positions) && is_ok (accepted_of next)) e
 
 -- the text of both statements, or why it is refused
 abbrev pub GivesRoll : {Y : Type 0} → (Y → List ℕ) → ℕ → List ℕ → List ℕ → List ℕ → Result Y SpanFault → Type 0

@@ -69,10 +69,15 @@ accepted_of params =
     and_then fault.Params (params_of params) (λ records.
     and_then fault.Check (checked records) (λ tables. Ok tables))
 
+-- the portfolios that position records are under accepted tables, or the first fault in binding them
+unfoldable pub portfolios_under : AcceptedTables → List PositionRecord → Result (List AccountHoldings) SpanFault
+portfolios_under tables records =
+    and_then fault.Bind (bindings_of tables.contracts records) (λ portfolios. Ok portfolios)
+
 -- the statement of position records under accepted tables, or the first fault in binding them
 unfoldable pub statement_bound : AcceptedTables → List PositionRecord → Result (List ℕ) SpanFault
 statement_bound tables records =
-    and_then fault.Bind (bindings_of tables.contracts records) (λ portfolios. Ok (statement_text tables portfolios))
+    and_then same (portfolios_under tables records) (λ portfolios. Ok (statement_text tables portfolios))
 
 -- the statement of the positions of a file under accepted tables, or the first fault: in reading them, in binding them
 unfoldable pub statement_under : AcceptedTables → List ℕ → Result (List ℕ) SpanFault

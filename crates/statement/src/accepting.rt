@@ -1,10 +1,15 @@
-//! What files say: a compiled set, and the portfolios that positions are under it.
+//! What two files say, or their first fault: accepted tables, a compiled set, and the portfolios of positions under it.
 ghost use Rattle.plan_compiler.specs.Compiled.{SetView};
+ghost use Rattle.span_csv.specs.PositionFaults.{positions_of};
 ghost use Rattle.span_tables.specs.Holdings.{fits};
+ghost use Rattle.span_tables.specs.Net.{AccountHoldings};
+ghost use Rattle.span_tables.specs.Tables.{AcceptedTables};
 ghost use Rattle.statement.specs.Answers.{Gives};
-ghost use Rattle.statement.specs.Statement.{accepted_of, statement_bound, statement_text};
+ghost use Rattle.statement.specs.Statement.{accepted_of, portfolios_under, statement_of, statement_text};
+ghost use Rattle.statement.specs.declared.accepting.Accepted.{Accepted};
+ghost use Rattle.statement.specs.near.Rows.{AreOnce};
 ghost use Rattle.std.specs.Arc.{arc_value};
-ghost use Rattle.std.specs.Prelude.{◌≡◌, All, IfOk, length, true};
+ghost use Rattle.std.specs.Prelude.{◌≡◌, All, IfOk, List, Ok, length, true};
 ghost use Rattle.std.specs.declared.alloc.Global.{Global};
 ghost use Rattle.std.specs.declared.sync.Arc.{Arc};
 
@@ -13,11 +18,22 @@ use param_check::binding::bind;
 use param_check::check::check;
 use plan_compiler::set::{CompiledSet, compile};
 use span_csv::params::read_params;
+use span_csv::positions::read_positions;
 use span_tables::portfolios::Portfolios;
 use span_tables::raw::RawPositions;
 use span_tables::tables::Tables;
 use std::alloc::{AllocError, Global};
 use std::sync::Arc;
+
+/// The accepted tables of a parameter file, or the first fault in reading it and checking it.
+#[tactic(auto, unfolding(crate::specs::Statement::accepted_of))]
+pub(crate) fn tables_of(alloc: Global, params: &[u8]) -> Result<Tables, SpanFault>
+    ensures { Gives (λ (tables : AcceptedTables). tables) result (accepted_of params.now) }
+{
+    let raw = read_params(alloc, params)?;
+    let tables = check(alloc, raw)?;
+    Ok(tables)
+}
 
 // Accepted tables with their plan, to be shared.
 fn compiled(alloc: Global, tables: Tables) -> Result<Arc<CompiledSet>, AllocError>
@@ -28,28 +44,56 @@ fn compiled(alloc: Global, tables: Tables) -> Result<Arc<CompiledSet>, AllocErro
 }
 
 /// The compiled set of a parameter file, to be shared, or the first fault in reading it and checking it.
-#[tactic(auto, unfolding(crate::specs::Statement::accepted_of))]
 pub(crate) fn set_of(alloc: Global, params: &[u8]) -> Result<Arc<CompiledSet>, SpanFault>
     ensures { Gives (λ (set : Arc SetView Global). (arc_value set).tables) result (accepted_of params.now) }
 {
-    let raw = read_params(alloc, params)?;
-    let tables = check(alloc, raw)?;
+    let tables = tables_of(alloc, params)?;
     let set = compiled(alloc, tables)?;
     Ok(set)
 }
 
 /// The portfolios of positions under a compiled set, or their fault.
-#[tactic(auto, unfolding(crate::specs::Statement::statement_bound))]
-pub(crate) fn bound(
+#[tactic(auto, unfolding(crate::specs::Statement::portfolios_under))]
+pub(crate) fn portfolios_of(
     alloc: Global,
     set: &Arc<CompiledSet>,
     positions: &RawPositions,
 ) -> Result<Portfolios, SpanFault>
-    ensures text { Gives (λ portfolios. statement_text (arc_value set.now).tables portfolios)
-        result (statement_bound (arc_value set.now).tables positions.now) }
+    ensures portfolios { Gives (λ (portfolios : List AccountHoldings). portfolios)
+        result (portfolios_under (arc_value set.now).tables positions.now) }
     ensures fits { IfOk result (λ portfolios.
         All (λ p. fits (length (arc_value set.now).tables.contracts) p.holdings ≡ true) portfolios) }
+    ensures once { IfOk result (λ portfolios. AreOnce portfolios) }
 {
     let portfolios = bind(alloc, set.tables(), positions)?;
     Ok(portfolios)
+}
+
+/// What two accepted files say: a compiled set, the positions, and the portfolios that these are under it.
+#[derive(Drop)]
+pub(crate) struct Accepted {
+    pub(crate) set: Arc<CompiledSet>,
+    pub(crate) positions: RawPositions,
+    pub(crate) portfolios: Portfolios,
+}
+
+/// What two files say, or the first fault: in reading the parameters, in checking them, in reading the positions, in
+/// binding them.
+#[tactic(auto, unfolding(crate::specs::Statement::statement_of, crate::specs::Statement::statement_under, crate::specs::Statement::statement_bound))]
+pub(crate) fn accept(alloc: Global, params: &[u8], positions: &[u8]) -> Result<Accepted, SpanFault>
+    ensures text { Gives (λ (a : Accepted). statement_text (arc_value a.set).tables a.portfolios)
+        result (statement_of params.now positions.now) }
+    ensures positions { IfOk result (λ a. positions_of positions.now ≡ Ok a.positions) }
+    ensures fits { IfOk result (λ a.
+        All (λ p. fits (length (arc_value a.set).tables.contracts) p.holdings ≡ true) a.portfolios) }
+    ensures once { IfOk result (λ a. AreOnce a.portfolios) }
+{
+    let set = set_of(alloc, params)?;
+    let positions = read_positions(alloc, positions)?;
+    let portfolios = portfolios_of(alloc, &set, &positions)?;
+    Ok(Accepted {
+        set,
+        positions,
+        portfolios,
+    })
 }

@@ -4,10 +4,9 @@ ghost use Rattle.statement.specs.Counts.{counts_line, counts_of};
 ghost use Rattle.statement.specs.near.LineForms.{counts_form};
 ghost use Rattle.std.specs.Prelude.{◌≡◌, IfOk};
 
+use crate::accepting::tables_of;
 use crate::faults::SpanFault;
 use crate::lines::{push_field, push_numbers};
-use param_check::check::check;
-use span_csv::params::read_params;
 use span_tables::tables::Tables;
 use std::alloc::{AllocError, Global};
 
@@ -40,12 +39,11 @@ pub fn write_counts(alloc: Global, tables: &Tables) -> Result<Vec<u8>, AllocErro
 }
 
 /// The counts of a parameter file, or the first fault in reading it and checking it; or want of memory.
-#[tactic(auto, unfolding(crate::specs::Counts::counts_of, crate::specs::Statement::accepted_of))]
+#[tactic(auto, unfolding(crate::specs::Counts::counts_of))]
 pub fn check_plain(alloc: Global, params: &[u8]) -> Result<Vec<u8>, SpanFault>
     ensures { Gives (λ text. text.items) result (counts_of params.now) }
 {
-    let raw = read_params(alloc, params)?;
-    let tables = check(alloc, raw)?;
+    let tables = tables_of(alloc, params)?;
     let text = write_counts(alloc, &tables)?;
     Ok(text)
 }

@@ -6,6 +6,7 @@ mod batches;
 pub mod counts;
 pub mod fault_lines;
 pub mod faults;
+mod kept;
 pub mod laws;
 pub mod lines;
 pub mod margin;

@@ -2,21 +2,19 @@
 ghost use Rattle.statement.specs.Answers.{Gives};
 ghost use Rattle.statement.specs.Listing.{listing_of};
 
+use crate::accepting::tables_of;
 use crate::faults::SpanFault;
-use param_check::check::check;
 use plan_compiler::set::compile;
 use plan_ir::listing::list;
-use span_csv::params::read_params;
 use std::alloc::Global;
 
 /// The steps of the plan of a parameter file, a line each, or the first fault in reading it and checking it; or want
 /// of memory.
-#[tactic(auto, unfolding(crate::specs::Listing::listing_of, crate::specs::Statement::accepted_of))]
+#[tactic(auto, unfolding(crate::specs::Listing::listing_of))]
 pub fn plan_plain(alloc: Global, params: &[u8]) -> Result<Vec<u8>, SpanFault>
     ensures { Gives (λ text. text.items) result (listing_of params.now) }
 {
-    let raw = read_params(alloc, params)?;
-    let tables = check(alloc, raw)?;
+    let tables = tables_of(alloc, params)?;
     let set = compile(alloc, tables)?;
     let text = list(alloc, set.plan())?;
     Ok(text)

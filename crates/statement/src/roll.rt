@@ -1,30 +1,26 @@
 //! Two statements for the same positions: under a set, and under the next, which is made ready beside the first batch.
 ghost use Rattle.plan_shelf.specs.Publications.{IsLast};
-ghost use Rattle.result_book.specs.Books.{rows_of};
 ghost use Rattle.span_tables.specs.Holdings.{fits};
-ghost use Rattle.span_csv.specs.PositionFaults.{positions_of};
-ghost use Rattle.statement.specs.Answers.{Gives};
 ghost use Rattle.statement.specs.Rolls.{GivesRoll};
-ghost use Rattle.statement.specs.Statement.{accepted_of, statement_bound, statement_of, statement_text};
+ghost use Rattle.statement.specs.Statement.{accepted_of, portfolios_under, statement_text};
 ghost use Rattle.statement.specs.declared.faults.SpanFault.TheVariants as fault;
-ghost use Rattle.statement.specs.declared.roll.Today.{Today};
-ghost use Rattle.statement.specs.near.Rows.{rows_under};
+ghost use Rattle.statement.specs.near.Rows.{AreOnce, rows_under};
 ghost use Rattle.statement.specs.near.Seconds.{IsPublished, RefusesNext, RefusesSecond, RefusesUnder, Rolls, RollsUnder};
 ghost use Rattle.std.specs.Arc.{arc_value};
-ghost use Rattle.std.specs.Prelude.{◌≡◌, ◌≢◌, ◌<◌, ◌+◌, ◌∷◌, ◌⊎◌, ◌↔◌, [], All, Err, IfErr, IfOk, Ok};
-ghost use Rattle.std.specs.Prelude.{OnOk, length, map, true, ℕ};
+ghost use Rattle.std.specs.Prelude.{◌≡◌, ◌<◌, ◌∷◌, ◌⊎◌, ◌↔◌, [], All, Err, IfErr, IfOk, Ok};
+ghost use Rattle.std.specs.Prelude.{OnOk, length, map, true};
 
-use crate::accepting::{bound, set_of};
-use crate::batches::{append_text, rows_together, text_of};
+use crate::accepting::{Accepted, accept, portfolios_of, set_of};
+use crate::batches::rows_together;
 use crate::faults::SpanFault;
+use crate::kept::keep_rows;
 use plan_compiler::set::CompiledSet;
 use plan_shelf::history::{History, ShelfName};
 use plan_shelf::publishers::{Publisher, Told};
 use plan_shelf::readers::Reader;
 use plan_shelf::shelves::shelf;
-use result_book::books::{BookFault, ResultBook};
+use result_book::books::ResultBook;
 use result_book::rows::Row;
-use span_csv::positions::read_positions;
 use span_tables::portfolios::Portfolios;
 use span_tables::raw::RawPositions;
 use std::alloc::{AllocError, Global};
@@ -35,14 +31,6 @@ use std::thread::Threads;
 use std::time::Clock;
 use worker_pool::batch::MAX_WORKERS;
 use worker_pool::gates::Gate;
-
-// What a roll begins with: today's set, the positions, and the portfolios that they are under it.
-#[derive(Drop)]
-struct Today {
-    set: Arc<CompiledSet>,
-    positions: RawPositions,
-    portfolios: Portfolios,
-}
 
 // The compiled set of the next parameters, or their first fault under the name that it has there.
 fn next_set(alloc: Global, next: &[u8]) -> Result<Arc<CompiledSet>, SpanFault>
@@ -73,7 +61,7 @@ fn publish_next<S: ShelfName, R: Wait, G: Gate>(
 
 // The rows of the first batch, computed here, and beside it the next set in a thread. Where no thread is started the two are
 // done one after the other.
-fn both<S: ShelfName + Send + Sync, R: Threads + Wait + Clock + Sync, G: Gate>(
+fn first_rows_and_next_set<S: ShelfName + Send + Sync, R: Threads + Wait + Clock + Sync, G: Gate>(
     rt: &R,
     alloc: Global,
     publisher: &mut Publisher<S, &R>,
@@ -120,42 +108,27 @@ fn second_set<S: ShelfName, R: Wait>(
     }
 }
 
-// Opens a batch of a book and puts its rows there, in their order.
-fn keep(book: &mut ResultBook, rows: &[Arc<Row>]) -> Result<(), BookFault>
-    ensures opened { OnOk result (book.new.opened ≡ book.old.opened + 1) }
-    ensures rows { OnOk result (rows_of book.new (book.old.opened + 1) ≡ map arc_value rows.now) }
-    ensures others { (n : ℕ) → n ≢ book.old.opened + 1 → rows_of book.new n ≡ rows_of book.old n }
-{
-    let batch = book.open_batch()?;
-    for row in rows {
-        let row = Arc::try_clone(row).map_err(|_| BookFault::OutOfMemory)?;
-        if let Err(refused) = book.put(batch, row) {
-            return Err(refused.fault);
-        }
-    }
-    Ok(())
-}
-
 // The portfolios of positions under the next set, or their fault under the name that it has there.
-fn bound_next(
+fn portfolios_of_next(
     alloc: Global,
     set: &Arc<CompiledSet>,
     positions: &RawPositions,
 ) -> Result<Portfolios, SpanFault>
-    ensures text { IfOk result (λ portfolios. statement_bound (arc_value set.now).tables positions.now
-        ≡ Ok (statement_text (arc_value set.now).tables portfolios)) }
+    ensures portfolios { IfOk result (λ portfolios.
+        portfolios_under (arc_value set.now).tables positions.now ≡ Ok portfolios) }
     ensures fits { IfOk result (λ portfolios.
         All (λ p. fits (length (arc_value set.now).tables.contracts) p.holdings ≡ true) portfolios) }
+    ensures once { IfOk result (λ portfolios. AreOnce portfolios) }
     ensures fault { IfErr result (λ e. RefusesUnder (arc_value set.now).tables positions.now e) }
 {
-    match bound(alloc, set, positions) {
+    match portfolios_of(alloc, set, positions) {
         Ok(portfolios) => Ok(portfolios),
         Err(fault) => Err(fault.of_next()),
     }
 }
 
 // Margins the positions under the next set, keeps the rows in a book and appends their statement.
-fn finish<R: Threads + Wait + Clock + Sync, G: Gate>(
+fn second_statement<R: Threads + Wait + Clock + Sync, G: Gate>(
     rt: &R,
     alloc: Global,
     set: &Arc<CompiledSet>,
@@ -168,10 +141,10 @@ fn finish<R: Threads + Wait + Clock + Sync, G: Gate>(
     ensures text { OnOk result (RollsUnder (arc_value set.now).tables positions.now out.old.items out.new.items) }
     ensures fault { IfErr result (λ e. RefusesUnder (arc_value set.now).tables positions.now e) }
 {
-    let portfolios = bound_next(alloc, set, positions)?;
+    let portfolios = portfolios_of_next(alloc, set, positions)?;
     let rows = rows_together(rt, alloc, set, portfolios, workers, gate)?;
-    keep(&mut book.lock(rt), &rows)?;
-    append_text(out, &rows)?;
+    let kept = keep_rows(&mut book.lock(rt), rows)?;
+    kept.append_to(out)?;
     Ok(())
 }
 
@@ -197,7 +170,7 @@ fn roll_named<S: ShelfName + Send + Sync, R: Threads + Wait + Clock + Sync, G: G
     rt: &R,
     alloc: Global,
     history: History,
-    today: Today,
+    today: Accepted,
     next: &[u8],
     workers: usize,
     gate: &G,
@@ -205,17 +178,18 @@ fn roll_named<S: ShelfName + Send + Sync, R: Threads + Wait + Clock + Sync, G: G
 ) -> Result<Vec<u8>, SpanFault>
     requires history { history ≡ S.book }
     requires fits { All (λ p. fits (length (arc_value today.set).tables.contracts) p.holdings ≡ true) today.portfolios }
+    requires once { AreOnce today.portfolios }
     ensures text { IfOk result (λ text. Rolls next.now today.positions
         (statement_text (arc_value today.set).tables today.portfolios) text.items) }
     ensures fault { IfErr result (λ e. RefusesSecond next.now today.positions e) }
 {
-    let Today {
+    let Accepted {
         set,
         positions,
         portfolios,
     } = today;
     let (mut publisher, reader) = shelf_with::<S, &R>(rt, alloc, history, &set)?;
-    let (rows, told) = both(
+    let (rows, told) = first_rows_and_next_set(
         rt,
         alloc,
         &mut publisher,
@@ -226,32 +200,13 @@ fn roll_named<S: ShelfName + Send + Sync, R: Threads + Wait + Clock + Sync, G: G
         gate,
     );
     let rows = rows?;
-    keep(&mut book.lock(rt), &rows)?;
-    let mut text = text_of(alloc, &rows)?;
+    let first = keep_rows(&mut book.lock(rt), rows)?;
+    let mut text = first.text(alloc)?;
     let second = second_set(rt, reader, told?)?;
-    finish(
+    second_statement(
         rt, alloc, &second, &positions, workers, gate, book, &mut text,
     )?;
     Ok(text)
-}
-
-// What a roll begins with, or the first fault of the parameters and the positions.
-#[tactic(auto, unfolding(crate::specs::Statement::statement_of, crate::specs::Statement::statement_under))]
-fn accepted_today(alloc: Global, params: &[u8], positions: &[u8]) -> Result<Today, SpanFault>
-    ensures text { Gives (λ (t : Today). statement_text (arc_value t.set).tables t.portfolios)
-        result (statement_of params.now positions.now) }
-    ensures positions { IfOk result (λ today. positions_of positions.now ≡ Ok today.positions) }
-    ensures fits { IfOk result (λ today.
-        All (λ p. fits (length (arc_value today.set).tables.contracts) p.holdings ≡ true) today.portfolios) }
-{
-    let set = set_of(alloc, params)?;
-    let positions = read_positions(alloc, positions)?;
-    let portfolios = bound(alloc, &set, &positions)?;
-    Ok(Today {
-        set,
-        positions,
-        portfolios,
-    })
 }
 
 /// The statement of the positions under a set, and after it that under the next; or the first fault in the number of
@@ -262,7 +217,8 @@ fn accepted_today(alloc: Global, params: &[u8], positions: &[u8]) -> Result<Toda
 /// `beside` of the gate, while the first batch runs; where no thread is started, after it. The second batch runs under the
 /// set that the shelf then has. The rows of each batch are kept in the book, as the batch of a number that is opened then,
 /// in the order of the accounts; nothing is opened where an account has no row. A book that has no number left refuses after
-/// the faults of the positions, and before those of the next parameters. Rows that were put stay in the book.
+/// the faults of the positions, and before those of the next parameters; it refuses for nothing else but want of memory. Rows
+/// that were put stay in the book.
 pub fn roll<R: Threads + Wait + Clock + Sync, G: Gate>(
     rt: &R,
     alloc: Global,
@@ -279,6 +235,6 @@ pub fn roll<R: Threads + Wait + Clock + Sync, G: Gate>(
     if workers == 0 || workers > MAX_WORKERS {
         return Err(SpanFault::Workers);
     }
-    let today = accepted_today(alloc, params, positions)?;
+    let today = accept(alloc, params, positions)?;
     roll_named::<Brand, R, G>(rt, alloc, History::new(), today, next, workers, gate, book)
 }

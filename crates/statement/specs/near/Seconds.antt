@@ -1,10 +1,9 @@
 -- The second half of a roll, where the first statement is known and the positions are read.
-use Rattle.std.specs.Prelude.{◌≡◌, ⊤, ℕ, List, [], ◌∷◌, ◌++◌, true, false, Result, Ok, Err}
+use Rattle.std.specs.Prelude.{◌≡◌, ℕ, List, [], ◌∷◌, ◌++◌, true, false, Result, Ok, Err}
 use Rattle.span_tables.specs.Tables.{AcceptedTables}
 use Rattle.span_tables.specs.declared.records.PositionRecord.{PositionRecord}
 use Rattle.plan_compiler.specs.Compiled.{SetView}
-use Rattle.statement.specs.Answers.{is_memory}
-use Rattle.statement.specs.Rolls.{is_ok}
+use Rattle.statement.specs.Rolls.{Refuses, is_ok}
 use Rattle.statement.specs.SpanFaults.{of_next}
 use Rattle.statement.specs.Statement.{accepted_of, and_then, same, statement_bound}
 use Rattle.statement.specs.declared.faults.SpanFault.{SpanFault}
@@ -18,23 +17,17 @@ second_of next records =
 
 -- why there is no second statement
 abbrev pub RefusesSecond : List ℕ → List PositionRecord → SpanFault → Type 0
-RefusesSecond next records fault.Memory = ⊤
-RefusesSecond next records (fault.Book e) = is_memory (fault.Book e) ≡ false
-RefusesSecond next records fault.Shelf = is_ok (accepted_of next) ≡ true
-RefusesSecond next records e = (is_memory e ≡ false) × (second_of next records ≡ Err e)
+RefusesSecond next records e = Refuses (second_of next records) true (is_ok (accepted_of next)) e
 
 -- why there is no next set
 abbrev pub RefusesNext : List ℕ → SpanFault → Type 0
-RefusesNext next fault.Memory = ⊤
-RefusesNext next fault.Shelf = is_ok (accepted_of next) ≡ true
-RefusesNext next e = (is_memory e ≡ false) × (and_then of_next (accepted_of next) (λ tables. Ok tables) ≡ Err e)
+RefusesNext next e =
+    Refuses (and_then of_next (accepted_of next) (λ tables. Ok tables)) false (is_ok (accepted_of next)) e
 
 -- why there is no statement under the tables of the next set
 abbrev pub RefusesUnder : AcceptedTables → List PositionRecord → SpanFault → Type 0
-RefusesUnder tables records fault.Memory = ⊤
-RefusesUnder tables records (fault.Book e) = is_memory (fault.Book e) ≡ false
 RefusesUnder tables records e =
-    (is_memory e ≡ false) × (and_then of_next (statement_bound tables records) (λ text. Ok text) ≡ Err e)
+    Refuses (and_then of_next (statement_bound tables records) (λ text. Ok text)) true false e
 
 -- the second statement comes after what was there
 abbrev pub Rolls : List ℕ → List PositionRecord → List ℕ → List ℕ → Type 0

@@ -3,9 +3,11 @@
 
 ghost use Rattle.std.specs.Prelude.{◌++◌, ◌≡◌, [], codes};
 ghost use Rattle.param_check.specs.declared.faults.BindFault.TheVariants as bind;
+ghost use Rattle.param_check.specs.declared.faults.CheckFault.TheVariants as check;
 ghost use Rattle.span_csv.specs.declared.faults.ParamFault.TheVariants as params;
+ghost use Rattle.span_csv.specs.declared.faults.PositionFault.TheVariants as positions;
 ghost use Rattle.statement.specs.Rolls.{roll_of};
-ghost use Rattle.statement.specs.Samples.{one_future};
+ghost use Rattle.statement.specs.Samples.{one_future, spread_and_spot};
 ghost use Rattle.statement.specs.declared.faults.SpanFault.TheVariants as span_fault;
 
 // A short future, which loses more under the next set.
@@ -28,4 +30,27 @@ fn unknown_contract_of_next()
 fn empty_next_parameters()
     ensures next { roll_of 1 one_future [] (codes "X,FA,-1\n") ≡ Err (span_fault.NextParams (params.NoSet 0)) }
     ensures both { roll_of 1 [] [] (codes "X,FA,-1\n") ≡ Err (span_fault.Params (params.NoSet 0)) }
+{}
+
+// A spread in two tiers with a spot month, at a higher rate under the next set.
+fn higher_rate()
+    ensures { roll_of 1 (spread_and_spot (codes "D1") (codes "250")) (spread_and_spot (codes "D2") (codes "300"))
+        (codes "X,FA,3\nX,FA2,-2\n")
+        ≡ Ok (codes "R,X,D1,AA,1200,13,500,40,0,0,1740\nT,X,D1,1740\n"
+        ++ codes "R,X,D2,AA,1200,13,600,40,0,0,1840\nT,X,D2,1840\n") }
+{}
+
+// Positions that are not read count before the next parameters.
+fn positions_before_the_next_set()
+    ensures { roll_of 1 one_future [] (codes "X,FA\n") ≡ Err (span_fault.Positions (positions.FieldCount 1)) }
+{}
+
+// Next parameters that break a rule.
+fn next_set_breaks_a_rule()
+    ensures { roll_of 1 one_future (
+        codes "SET,D2,1,USD\n"
+        ++ codes "COMMODITY,AA,0,SUM\n"
+        ++ codes "COMMODITY,AA,0,SUM\n")
+        (codes "X,FA,-1\n")
+        ≡ Err (span_fault.NextCheck (check.DuplicateCommodity 3)) }
 {}

@@ -1,7 +1,11 @@
+use Rattle.statement.proofs.AccountLemmas.{bound_once}
 use Rattle.statement.proofs.FitLemmas.{bound_fits}
-use Rattle.statement.proofs.accepting.bound.Goals as goal
+use Rattle.statement.proofs.accepting.portfolios_of.Goals as goal
 
 pub returns-clause-fits : goal.returns-clause-fits
 returns-clause-fits c =
     let tables = rw c.deref.ensures at c.tables.ensures.tables in
     rw tables at (bound_fits _ _ c.in_ok-portfolios.portfolios c.in_ok-portfolios.ensures)
+
+pub returns-clause-once : goal.returns-clause-once
+returns-clause-once c = bound_once _ _ c.in_ok-portfolios.portfolios c.in_ok-portfolios.ensures

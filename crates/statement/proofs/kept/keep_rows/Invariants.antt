@@ -1,8 +1,8 @@
-use Rattle.std.proofs.Common.{◌≡◌, ◌≢◌, ◌+◌, ℕ, List, map, take}
+use Rattle.std.proofs.Common.{◌≡◌, ◌≢◌, ◌+◌, ◌<◌, ◌^◌, ℕ, List, map, take}
 use Rattle.std.specs.Arc.{arc_value}
 use Rattle.result_book.specs.Books.{BookView, rows_of}
 use Rattle.result_book.specs.Rows.{RowView}
-use Rattle.statement.proofs.roll.keep.Given as goal
+use Rattle.statement.proofs.kept.keep_rows.Given as goal
 
 -- the rows so far are those of the new batch, and all other batches are as they were
 pub record IsKept (before now : BookView) (batch : ℕ) (rows : List RowView) : Type 0 where
@@ -12,4 +12,4 @@ pub record IsKept (before now : BookView) (batch : ℕ) (rows : List RowView) : 
   pub others : (n : ℕ) → n ≢ before.opened + 1 → rows_of now n ≡ rows_of before n
 
 abbrev pub invariant-loop-row : goal.invariant-loop-row
-invariant-loop-row l = IsKept l.fn.book l.book l.batch (map arc_value (take l.row-index l.rows))
+invariant-loop-row l = IsKept l.fn.book l.book l.batch (map arc_value (take l.row-index l.fn.rows.items))

@@ -1,0 +1,54 @@
+use Rattle.std.proofs.Common.{rules, ◌≡◌, ◌∙◌, ◌+◌, ◌<◌, ℕ, Err, List, Bool, true, false, Option, None, map, take, length, get_or, refl, sym, ap, inl, inr, arith}
+use Rattle.std.specs.Prelude.{◌&&◌, nat_le, nat_lt, if◌then◌else◌, is_some}
+use Rattle.std.specs.Option.{unwrap_or}
+use Rattle.std.specs.Arc.{arc_value}
+use Rattle.std.proofs.lemmas.Bool.Decides.{nat_tests}
+use Rattle.std.proofs.lemmas.List.{take-map}
+use Rattle.result_book.specs.Books.{BookView, is_opened, put_fault, row_for, rows_of}
+use Rattle.result_book.specs.Rows.{RowView}
+use Rattle.result_book.specs.declared.books.BookFault.TheVariants as fault
+use Rattle.statement.proofs.AccountLemmas.{none_before}
+use Rattle.statement.proofs.kept.keep_rows.Invariants.{IsKept}
+use Rattle.statement.specs.near.Rows.{IsPartlyKept}
+use Rattle.statement.proofs.kept.keep_rows.Goals as goal
+
+-- a book with the first of the rows has kept a part of them
+partly : (before now : BookView) (batch i : ℕ) (rows first_rows : List RowView) → first_rows ≡ take i rows
+    → IsKept before now batch first_rows → IsPartlyKept before now rows
+partly before now batch i rows first_rows are kept = record {
+  opened = kept.opened;
+  count = i;
+  first_rows = rw (← kept.batch_is) (kept.kept ∙ are);
+}
+
+-- such a book refuses no row that comes next
+not_refused : (before now : BookView) (batch : ℕ) (rows : List RowView) (account : List ℕ) → IsKept before now batch rows
+    → row_for rows account ≡ None → put_fault now batch account ≡ None
+not_refused before now batch rows account kept new =
+    let some : nat_lt 0 batch ≡ true = grind (arith, nat_tests, kept.batch_is) in
+    let few : nat_le batch now.opened ≡ true = grind (arith, nat_tests, kept.batch_is, kept.opened) in
+    rw (some, few, kept.kept, new) refl
+
+pub returns-in_err-row-clause-refused : goal.returns-in_err-row-clause-refused
+returns-in_err-row-clause-refused c =
+    let is : c.from_residual-in_err-row.result ≡ Err fault.OutOfMemory = search rules in
+    rw (is) (inr (
+      refl,
+      partly c.args.book.now c.loop-row.book c.in_ok-batch.batch c.loop-row.row-index _ _
+          (sym (take-map arc_value c.loop-row.row-index c.args.rows.items)) c.loop-row.invariant,
+    ))
+
+pub returns-in-Err-clause-refused : goal.returns-in-Err-clause-refused
+returns-in-Err-clause-refused c =
+    let item = c.row-item.result in
+    let clone : arc_value c.in_ok-row.row ≡ arc_value item = search rules in
+    let row : arc_value c.in_ok-row.row ≡ arc_value (get_or c.args.rows.items c.loop-row.row-index item) =
+    clone ∙ rw c.deref-row-items.ensures.value at (ap arc_value c.row-item.is) in
+    let none = not_refused c.args.book.now c.loop-row.book c.in_ok-batch.batch _ _ c.loop-row.invariant
+    (none_before arc_value c.args.rows.items c.loop-row.row-index item c.requires (omega (arith, c.loop-row-test.true))) in
+    let reason : c.in-Err.refused.fault ≡ fault.OutOfMemory = rw (row, none) at c.in-Err.ensures.fault in
+    rw (c.in-Err.ensures.unchanged.1) (inr (
+      reason,
+      partly c.args.book.now c.loop-row.book c.in_ok-batch.batch c.loop-row.row-index
+          _ _ (sym (take-map arc_value c.loop-row.row-index c.args.rows.items)) c.loop-row.invariant,
+    ))
