@@ -9,7 +9,7 @@ use plan_shelf::faults::ShelfFault;
 use plan_shelf::history::{History, ShelfName};
 use plan_shelf::publishers::Publisher;
 use plan_shelf::readers::Reader;
-use plan_shelf::shelves::shelf;
+use plan_shelf::shelves::{MAX_READERS, shelf};
 use span_tables::name::Name;
 use span_tables::raw::RawTables;
 use span_tables::records::{Record, SetRecord};
@@ -58,7 +58,7 @@ fn is_publication(number: u64, set: &CompiledSet) -> bool {
 
 #[test]
 fn numbers_of_readers(rt: HostRuntime) -> Result<(), Fail> {
-    for readers in [0, 17] {
+    for readers in [0, MAX_READERS + 1] {
         assert!(rt; is_refused::<Brand, _>(&rt, rt.alloc(), History::new(), readers));
     }
     Ok(())

@@ -2,6 +2,7 @@ use arrayvec::ArrayVec;
 use param_check::check::{check, check_fault};
 use param_check::faults::CheckFault;
 use span_money::amounts::{Delta, Ratio, Scale};
+use span_tables::limits::SCENARIOS;
 use span_tables::name::Name;
 use span_tables::raw::RawTables;
 use span_tables::records::{
@@ -38,7 +39,7 @@ fn contract(id: &[u8], commodity: &[u8]) -> Record {
         month: 202503,
         delta: Delta::new(10_000),
         scale: Scale::new(10_000),
-        values: [0; 16],
+        values: [0; SCENARIOS],
     })
 }
 

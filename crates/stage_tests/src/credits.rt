@@ -209,7 +209,8 @@ fn spreads_that_may_be_formed(rt: HostRuntime) -> Result<(), Fail> {
 #[test]
 fn largest_credits(rt: HostRuntime) -> Result<(), Fail> {
     let largest = MAX_UNITS as i64;
-    let after = (0, 256_000_000_000_000_000_000, 5_120_000_000_000_000);
+    let weight = u128::from(MAX_UNITS) * u128::from(MAX_BASIS_POINTS);
+    let after = (0, weight, i128::from(MAX_PRICE2) / 2);
     let commodities = [
         commodity((largest, MAX_PRICE2), after),
         commodity((-largest, MAX_PRICE2), after),
