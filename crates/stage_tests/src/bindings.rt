@@ -9,15 +9,12 @@ use indexmap::IndexSet;
 use param_check::binding::{bind, bind_positions};
 use param_check::check::check;
 use param_check::faults::BindFault;
-use span_money::amounts::{Delta, Scale};
 use span_tables::limits::{MAX_ACCOUNTS, MAX_HELD, MAX_NET, MAX_QUANTITY, SCENARIOS};
 use span_tables::name::Name;
 use span_tables::portfolios::Portfolio;
 use span_tables::raw::{RawPositions, RawTables};
-use span_tables::records::{
-    Commodity, Contract, MinimumMethod, NumberedPosition, PositionRecord, ProductKind, Record,
-    SetRecord,
-};
+use span_tables::records::{Contract, NumberedPosition, PositionRecord, ProductKind, Record};
+use span_tables::samples::{commodity, contract, set};
 use std::alloc::{AllocError, Global};
 use std::process::Abort;
 use std::test::Fail;
@@ -45,25 +42,18 @@ fn numbered(letter: u8, number: u32) -> Name {
     ])
 }
 
-fn contract(id: Name) -> Contract
+fn future(id: &Name) -> Contract
     ensures { contract_in_range result ≡ true }
 {
-    Contract {
-        id,
-        commodity: name(b"CRUDE"),
-        kind: ProductKind::Future,
-        month: 202503,
-        delta: Delta::new(10_000),
-        scale: Scale::new(10_000),
-        values: [0; SCENARIOS],
-    }
+    let values = [0; SCENARIOS];
+    contract(ProductKind::Future, id.as_bytes(), b"CRUDE", 202503, values)
 }
 
 // So many contracts, C00000 and up.
 fn contracts(alloc: Global, count: u32) -> Result<Vec<Contract>, AllocError> {
     let mut all = Vec::new(alloc);
     for number in 0..count {
-        all.push(contract(numbered(b'C', number)))?;
+        all.push(future(&numbered(b'C', number)))?;
     }
     Ok(all)
 }
@@ -262,18 +252,10 @@ fn too_many_held_after_net(rt: HostRuntime) -> Result<(), Fail> {
 // A file of a SET, a COMMODITY and two CONTRACTs.
 #[tactic(auto, unfolding(span_tables::specs::Limits::is_readable))]
 fn two_contracts(alloc: Global) -> Result<RawTables, AllocError> {
-    let (id, commodity) = (name(b"D1"), name(b"CRUDE"));
-    let (first, second) = (contract(numbered(b'C', 0)), contract(numbered(b'C', 1)));
+    let (first, second) = (future(&numbered(b'C', 0)), future(&numbered(b'C', 1)));
     let mut records = Vec::new(alloc);
-    records.push(Record::Set(SetRecord {
-        id,
-        currency: *b"USD",
-    }))?;
-    records.push(Record::Commodity(Commodity {
-        id: commodity,
-        minimum_rate: 0,
-        method: MinimumMethod::Sum,
-    }))?;
+    records.push(set(b"D1"))?;
+    records.push(commodity(b"CRUDE"))?;
     records.push(Record::Contract(first))?;
     records.push(Record::Contract(second))?;
     Ok(RawTables::new(records))
