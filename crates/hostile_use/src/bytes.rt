@@ -1,6 +1,6 @@
 //! Files that are cut short or changed in one byte: one thread and two workers say the same of them, a statement or a fault
 //! of the files.
-use crate::files::ONE_FUTURE;
+use sample_files::one_future::{PARAMS, POSITIONS};
 use statement::faults::SpanFault;
 use statement::margin::{margin, margin_plain};
 use std::alloc::{AllocError, Global};
@@ -10,8 +10,6 @@ use std::test::Fail;
 use std::thread::Threads;
 use std::time::Clock;
 use worker_pool::gates::OpenGate;
-
-const POSITIONS: &[u8] = b"X,FA,1\n";
 
 fn agree<R: Threads + Wait + Clock + Sync>(
     rt: &R,
@@ -27,15 +25,15 @@ fn agree<R: Threads + Wait + Clock + Sync>(
 #[test]
 fn each_prefix(rt: HostRuntime) {
     let alloc = rt.alloc();
-    for end in 0..ONE_FUTURE.len() {
+    for end in 0..PARAMS.len() {
         assert!(rt;
-            agree(&rt, alloc, &ONE_FUTURE[..end], POSITIONS),
+            agree(&rt, alloc, &PARAMS[..end], POSITIONS),
             "{end} bytes of parameters"
         );
     }
     for end in 0..POSITIONS.len() {
         assert!(rt;
-            agree(&rt, alloc, ONE_FUTURE, &POSITIONS[..end]),
+            agree(&rt, alloc, PARAMS, &POSITIONS[..end]),
             "{end} bytes of positions"
         );
     }
@@ -58,7 +56,7 @@ fn agree_at<R: Threads + Wait + Clock + Sync>(
         let agree = if is_params {
             agree(rt, alloc, &changed, POSITIONS)
         } else {
-            agree(rt, alloc, ONE_FUTURE, &changed)
+            agree(rt, alloc, PARAMS, &changed)
         };
         if !agree {
             return Ok(false);
@@ -70,9 +68,9 @@ fn agree_at<R: Threads + Wait + Clock + Sync>(
 #[test]
 fn each_byte(rt: HostRuntime) -> Result<(), Fail> {
     let alloc = rt.alloc();
-    for at in 0..ONE_FUTURE.len() {
+    for at in 0..PARAMS.len() {
         assert!(rt;
-            agree_at(&rt, alloc, ONE_FUTURE, at, true)?,
+            agree_at(&rt, alloc, PARAMS, at, true)?,
             "byte {at} of the parameters"
         );
     }

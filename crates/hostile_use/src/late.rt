@@ -1,6 +1,6 @@
 //! A result that comes when its account has its outcome already, because another of its steps ended for want of memory.
-use crate::files::PARAMS;
 use crate::memory::{TwoAccounts, words_of_two};
+use sample_files::three_commodities::PARAMS;
 use span_tables::name::Name;
 use statement::faults::SpanFault;
 use std::alloc::Global;

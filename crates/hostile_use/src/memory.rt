@@ -4,7 +4,7 @@ ghost use Rattle.std.specs.Arc.{arc_value};
 ghost use Rattle.std.specs.Prelude.{◌≡◌, IfOk, length, true};
 ghost use Rattle.span_tables.specs.Holdings.{fits};
 
-use crate::files::{ONE_FUTURE, PARAMS, POSITIONS, STATEMENT, portfolios_of, set_of};
+use crate::files::{portfolios_of, set_of};
 use param_check::binding::bind;
 use param_check::check::check;
 use plan_compiler::set::{CompiledSet, compile};
@@ -13,6 +13,8 @@ use plan_shelf::history::{History, ShelfName};
 use plan_shelf::shelves::shelf;
 use result_book::books::{BookFault, ResultBook};
 use result_book::rows::Row;
+use sample_files::one_future;
+use sample_files::three_commodities::{PARAMS, POSITIONS, STATEMENT};
 use span_csv::params::read_params;
 use span_csv::positions::read_positions;
 use span_tables::name::Name;
@@ -155,7 +157,7 @@ pub(crate) fn words_of_two<R: Threads + Wait + Clock + Sync + Abort, G: Gate>(
 
 // Y is long two futures and X short one.
 const LONG_AND_SHORT: TwoAccounts = TwoAccounts {
-    params: ONE_FUTURE,
+    params: one_future::PARAMS,
     positions: b"Y,FA,1\nX,FA,-1\nY,FA,1\n",
     first: b"Y",
     first_total: 2400,
@@ -189,7 +191,7 @@ fn batch_of_two_accounts(rt: HostRuntime) -> Result<(), Fail> {
 
 // The row of an account that is short one future, which loses 1200.
 fn short_row(alloc: Global) -> Result<Arc<Row>, SpanFault> {
-    let set = set_of(alloc, ONE_FUTURE)?;
+    let set = set_of(alloc, one_future::PARAMS)?;
     let portfolios = portfolios_of(alloc, &set, b"X,FA,-1\n")?;
     match run_plain(alloc, &set, portfolios)?.pop() {
         Some(Outcome::Margined(row)) => Ok(row),
@@ -235,7 +237,7 @@ fn publish_set<S: ShelfName, R: Wait + Abort>(
 {
     let (mut publisher, mut readers) = shelf::<S, &R>(rt, alloc, history, 1)?;
     let mut reader = readers.pop().expect(rt, "a reader");
-    let told = match publisher.publish(set_of(alloc, ONE_FUTURE)?) {
+    let told = match publisher.publish(set_of(alloc, one_future::PARAMS)?) {
         Ok(told) => told,
         Err(refused) => {
             assert!(rt; refused.cause == ShelfFault::OutOfMemory);
@@ -289,7 +291,7 @@ fn roll_once<R: Threads + Wait + Clock + Sync + Abort>(
     let answer = roll(
         rt,
         alloc,
-        ONE_FUTURE,
+        one_future::PARAMS,
         NEXT,
         b"X,FA,-1\n",
         1,

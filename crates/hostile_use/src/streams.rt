@@ -1,5 +1,6 @@
 //! Writers that fail after each number of bytes: of a statement, of a line of counts and of the line of a fault.
-use crate::files::{ONE_FUTURE, PARAMS, POSITIONS, STATEMENT};
+use sample_files::one_future;
+use sample_files::three_commodities::{PARAMS, POSITIONS, STATEMENT};
 use span_cli::memory::InMemory;
 use span_cli::serving::{Request, serve};
 use span_told::MarkedWriter;
@@ -93,7 +94,7 @@ const LINE: &[u8] = b"positions: B1 UnknownContract at record 2 account X\n";
 #[test]
 fn line_that_fails(rt: HostRuntime) -> Result<(), Fail> {
     for room in 0..=LINE.len() {
-        let (status, out, err) = margin_into(&rt, rt.alloc(), ONE_FUTURE, 0, room);
+        let (status, out, err) = margin_into(&rt, rt.alloc(), one_future::PARAMS, 0, room);
         assert_eq!(rt; status, 4);
         assert!(rt; out.is_empty());
         assert_eq!(rt; err.as_slice(), &LINE[..room]);

@@ -1,7 +1,7 @@
 -- Records of which the worked faults are made.
 use Rattle.std.specs.Prelude.{ℕ, ◌+◌, ◌/◌, ◌%◌, List, [], ◌∷◌, map, codes, ℤ, pos}
 use Rattle.std.specs.List.{range_with_len, repeat}
-use Rattle.span_tables.specs.declared.records.MinimumMethod.TheVariants as method
+use Rattle.span_tables.specs.Samples.{contract}
 use Rattle.span_tables.specs.declared.records.ProductKind.TheVariants as product
 use Rattle.span_tables.specs.declared.records.Side.{Side}
 use Rattle.span_tables.specs.declared.records.Side.TheVariants as side
@@ -13,15 +13,7 @@ use Rattle.span_tables.specs.declared.records.Record.TheVariants as record_of
 
 -- a contract of this id
 abbrev pub contract_of : List ℕ → Contract
-contract_of id = record {
-  id = id;
-  commodity = codes "AA";
-  kind = product.Future;
-  month = 202503;
-  delta = pos 10000;
-  scale = 10000;
-  values = repeat SCENARIOS (pos 0 ∷ []);
-}
+contract_of id = contract product.Future id (codes "AA") 202503 (repeat SCENARIOS (pos 0 ∷ []))
 
 -- a position
 abbrev pub position_of : List ℕ → List ℕ → ℤ → PositionRecord
@@ -38,10 +30,6 @@ many_contracts n = map (λ k. contract_of (letters_of k)) (range_with_len 0 n)
 -- an account that is long one of each of so many contracts
 abbrev pub one_of_each : List ℕ → ℕ → List PositionRecord
 one_of_each account n = map (λ k. position_of account (letters_of k) (pos 1)) (range_with_len 0 n)
-
--- a commodity of this id
-abbrev pub commodity_record : List ℕ → Record
-commodity_record id = record_of.Commodity (record { id = id; minimum_rate = 0; method = method.Sum })
 
 -- a tier of one quarter
 abbrev pub tier_record : List ℕ → ℕ → ℕ → Record

@@ -1,16 +1,15 @@
 -- Parameter files and accounts that the worked plans and the tests are of.
 use Rattle.std.specs.Prelude.{ℕ, List, [], ◌∷◌, ◌++◌, codes, neg_ℤ, pos}
 use Rattle.span_tables.specs.Net.{AccountHoldings}
-use Rattle.span_tables.specs.declared.records.MinimumMethod.TheVariants as method
+use Rattle.span_tables.specs.Samples.{commodity, contract, set, spread}
 use Rattle.span_tables.specs.declared.records.ProductKind.TheVariants as product
-use Rattle.span_tables.specs.declared.records.Side.TheVariants as side
 use Rattle.span_tables.specs.declared.records.Record.{Record}
 use Rattle.span_tables.specs.declared.records.Record.TheVariants as record_of
-use Rattle.plan_compiler.specs.declared.samples.TheConstants.{FUTURE_VALUES}
+use Rattle.span_tables.specs.declared.samples.TheConstants.{FUTURE_VALUES}
 
 -- a set alone
 abbrev pub set_alone : List Record
-set_alone = record_of.Set (record { id = codes "D1"; currency = codes "USD" }) ∷ []
+set_alone = set (codes "D1") ∷ []
 
 -- the lines of its plan
 abbrev pub set_alone_lines : List ℕ
@@ -19,36 +18,12 @@ set_alone_lines = codes "0 InterStart()\n1 TotalStart()\n"
 -- a set with two commodities, a future of each, and a spread of one against the other
 abbrev pub two_commodities : List Record
 two_commodities =
-    record_of.Set (record { id = codes "D1"; currency = codes "USD" })
-    ∷ record_of.Commodity (record { id = codes "AA"; minimum_rate = 0; method = method.Sum })
-    ∷ record_of.Commodity (record { id = codes "BB"; minimum_rate = 0; method = method.Sum })
-    ∷ record_of.Contract (record {
-      id = codes "FA";
-      commodity = codes "AA";
-      kind = product.Future;
-      month = 202503;
-      delta = pos 10000;
-      scale = 10000;
-      values = FUTURE_VALUES;
-    })
-    ∷ record_of.Contract (record {
-      id = codes "FB";
-      commodity = codes "BB";
-      kind = product.Future;
-      month = 202503;
-      delta = pos 10000;
-      scale = 10000;
-      values = FUTURE_VALUES;
-    })
-    ∷ record_of.Inter (record {
-      priority = 1;
-      basis_points = 5000;
-      legs =
-          record {
-            items = record { commodity = codes "AA"; side = side.A; ratio = 10000 }
-                ∷ record { commodity = codes "BB"; side = side.B; ratio = 10000 } ∷ [];
-          };
-    })
+    set (codes "D1")
+    ∷ commodity (codes "AA")
+    ∷ commodity (codes "BB")
+    ∷ record_of.Contract (contract product.Future (codes "FA") (codes "AA") 202503 FUTURE_VALUES)
+    ∷ record_of.Contract (contract product.Future (codes "FB") (codes "BB") 202503 FUTURE_VALUES)
+    ∷ spread 1 5000 (codes "AA") (codes "BB")
     ∷ []
 
 -- the lines of its plan

@@ -1,103 +1,28 @@
 //! A small set and two accounts, on which the tests of this crate and of those above run.
-ghost use Rattle.std.specs.Prelude.{◌≡◌, [], ◌∷◌, codes, pos, true, IfOk};
+ghost use Rattle.std.specs.Prelude.{◌≡◌, true, IfOk};
 ghost use Rattle.span_tables.specs.Names.{is_name};
+ghost use Rattle.span_tables.specs.Samples.{contract};
 ghost use Rattle.span_tables.specs.Tables.{tables_of};
-ghost use Rattle.span_tables.specs.declared.records.MinimumMethod.TheVariants as method;
 ghost use Rattle.span_tables.specs.declared.records.ProductKind.TheVariants as product;
-ghost use Rattle.span_tables.specs.declared.records.Side.TheVariants as side;
 ghost use Rattle.span_tables.specs.declared.records.Record.TheVariants as record_of;
 ghost use Rattle.plan_compiler.specs.Samples.{two_accounts, two_commodities};
 
 use crate::set::{CompiledSet, compile};
-use arrayvec::ArrayVec;
-use span_money::amounts::{Delta, Ratio, Scale};
 use span_tables::name::Name;
 use span_tables::portfolios::{Holding, Portfolio};
 use span_tables::raw::RawTables;
-use span_tables::records::{
-    Commodity, Contract, InterLeg, InterRecord, MinimumMethod, ProductKind, Record, SetRecord, Side,
-};
+use span_tables::records::{ProductKind, Record};
+use span_tables::samples::{FUTURE_VALUES, commodity, contract, set, spread};
 use span_tables::tables::Tables;
 use std::alloc::{AllocError, Global};
 
-/// The risk array of a future that loses 400 for each third of the scan range, in minor units.
-pub const FUTURE_VALUES: [i64; 16] = [
-    0, 0, -400, -400, 400, 400, -800, -800, 800, 800, -1200, -1200, 1200, 1200, -1188, 1188,
-];
-
-fn set() -> Record
-    ensures { result ≡ record_of.Set (record { id = codes "D1"; currency = codes "USD" }) }
-{
-    Record::Set(SetRecord {
-        id: Name::of(b"D1"),
-        currency: *b"USD",
-    })
-}
-
-fn commodity(id: &[u8]) -> Record
-    requires { is_name id.now ≡ true }
-    ensures { result ≡ record_of.Commodity (record { id = id.now; minimum_rate = 0; method = method.Sum }) }
-{
-    Record::Commodity(Commodity {
-        id: Name::of(id),
-        minimum_rate: 0,
-        method: MinimumMethod::Sum,
-    })
-}
-
-fn future(id: &[u8], commodity: &[u8]) -> Record
+// A future for March 2025.
+fn future(id: &[u8], of: &[u8]) -> Record
     requires id { is_name id.now ≡ true }
-    requires commodity { is_name commodity.now ≡ true }
-    ensures { result ≡ record_of.Contract
-        (record {
-          id = id.now;
-          commodity = commodity.now;
-          kind = product.Future;
-          month = 202503;
-          delta = pos 10000;
-          scale = 10000;
-          values = FUTURE_VALUES;
-        }) }
+    requires of { is_name of.now ≡ true }
+    ensures { result ≡ record_of.Contract (contract product.Future id.now of.now 202503 FUTURE_VALUES) }
 {
-    Record::Contract(Contract {
-        id: Name::of(id),
-        commodity: Name::of(commodity),
-        kind: ProductKind::Future,
-        month: 202_503,
-        delta: Delta::new(10_000),
-        scale: Scale::new(10_000),
-        values: FUTURE_VALUES,
-    })
-}
-
-fn inter() -> Record
-    ensures { result ≡ record_of.Inter
-        (record {
-          priority = 1;
-          basis_points = 5000;
-          legs = record {
-            items = record { commodity = codes "AA"; side = side.A; ratio = 10000 }
-                ∷ record { commodity = codes "BB"; side = side.B; ratio = 10000 } ∷ [];
-          };
-        }) }
-{
-    let ratio = Ratio::new(10_000);
-    let mut legs = ArrayVec::new();
-    legs.push(InterLeg {
-        commodity: Name::of(b"AA"),
-        side: Side::A,
-        ratio,
-    });
-    legs.push(InterLeg {
-        commodity: Name::of(b"BB"),
-        side: Side::B,
-        ratio,
-    });
-    Record::Inter(InterRecord {
-        priority: 1,
-        basis_points: 5000,
-        legs,
-    })
+    Record::Contract(contract(ProductKind::Future, id, of, 202_503, FUTURE_VALUES))
 }
 
 fn two_commodities(alloc: Global) -> Result<Vec<Record>, AllocError>
@@ -106,12 +31,12 @@ fn two_commodities(alloc: Global) -> Result<Vec<Record>, AllocError>
     Ok(Vec::from_array(
         alloc,
         [
-            set(),
+            set(b"D1"),
             commodity(b"AA"),
             commodity(b"BB"),
             future(b"FA", b"AA"),
             future(b"FB", b"BB"),
-            inter(),
+            spread(1, 5000, b"AA", b"BB"),
         ],
     )?)
 }

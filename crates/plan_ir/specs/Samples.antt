@@ -1,6 +1,7 @@
 -- A plan, stages and a file that worked values and tests speak of.
 use Rattle.std.specs.Prelude.{ℕ, List, [], ◌∷◌, codes, neg_ℤ, pos}
 use Rattle.std.specs.List.{repeat}
+use Rattle.span_tables.specs.Samples.{contract, set}
 use Rattle.span_tables.specs.declared.records.MinimumMethod.TheVariants as method
 use Rattle.span_tables.specs.declared.records.ProductKind.TheVariants as product
 use Rattle.span_tables.specs.declared.records.Record.{Record}
@@ -35,16 +36,8 @@ tiers = record { rests = []; charge = 833250 }
 -- the records of one commodity with a call, which gains 600 in each scenario, and a spot month
 abbrev pub small_file : List Record
 small_file =
-    record_of.Set (record { id = codes "S-1"; currency = codes "USD" })
+    set (codes "S-1")
     ∷ record_of.Commodity (record { id = codes "AA"; minimum_rate = 100; method = method.Sum })
-    ∷ record_of.Contract (record {
-      id = codes "CA";
-      commodity = codes "AA";
-      kind = product.Call;
-      month = 202503;
-      delta = pos 10000;
-      scale = 10000;
-      values = repeat 16 (neg_ℤ (pos 600) ∷ []);
-    })
+    ∷ record_of.Contract (contract product.Call (codes "CA") (codes "AA") 202503 (repeat 16 (neg_ℤ (pos 600) ∷ [])))
     ∷ record_of.Spot (record { commodity = codes "AA"; month = 202503; spread_rate = 10; outright_rate = 20 })
     ∷ []

@@ -23,7 +23,7 @@ use step_scheduler::boards::Board;
 use step_scheduler::evaluation::evaluate;
 use step_scheduler::jobs::Job;
 use step_scheduler::tasks::Task;
-use worker_pool::batch::{PoolFault, run_batch};
+use worker_pool::batch::{MAX_WORKERS, PoolFault, run_batch};
 use worker_pool::gates::{Gate, OpenGate};
 use worker_pool::laws::{
     Batch, Deque, ResultPass, Results, new_deque, new_queue, pop_result, pop_task, push_result,
@@ -70,7 +70,7 @@ fn no_accounts(rt: HostRuntime) -> Result<(), Fail> {
     let alloc = rt.alloc();
     let set = Arc::new(alloc, two_commodity_set(alloc)?)?;
     assert!(rt; run_plain(alloc, &set, Vec::new(alloc))?.is_empty());
-    for workers in [1, 2, 16] {
+    for workers in [1, 2, MAX_WORKERS] {
         match run_batch(&rt, alloc, &set, Vec::new(alloc), workers, &OpenGate) {
             Ok(outcomes) => assert!(rt; outcomes.is_empty()),
             Err(_) => assert!(rt; false),
@@ -83,7 +83,7 @@ fn no_accounts(rt: HostRuntime) -> Result<(), Fail> {
 fn numbers_of_workers(rt: HostRuntime) -> Result<(), Fail> {
     let alloc = rt.alloc();
     let set = Arc::new(alloc, two_commodity_set(alloc)?)?;
-    for workers in 1..17 {
+    for workers in 1..=MAX_WORKERS {
         let accounts = two_accounts(alloc)?;
         assert!(rt; accounts.iter().all(|account| account.fits(set.tables())));
         match run_batch(&rt, alloc, &set, accounts, workers, &OpenGate) {
@@ -91,7 +91,7 @@ fn numbers_of_workers(rt: HostRuntime) -> Result<(), Fail> {
             Err(_) => assert!(rt; false),
         }
     }
-    for workers in [0, 17] {
+    for workers in [0, MAX_WORKERS + 1] {
         let refused = run_batch(&rt, alloc, &set, Vec::new(alloc), workers, &OpenGate);
         assert!(rt; matches!(refused, Err(PoolFault::Workers)));
     }
@@ -110,7 +110,7 @@ struct ThreeAtOnce {
 
 impl Gate for ThreeAtOnce {
     fn pass(&self, worker: usize, _account: &Name, step: usize) {
-        if worker < 16 && step < 64 {
+        if worker < MAX_WORKERS && step < 64 {
             self.entered.fetch_or(1 << worker, SeqCst);
             let before = self.steps.fetch_or(1 << step, SeqCst);
             self.twice.fetch_or(before & (1 << step), SeqCst);
@@ -159,7 +159,7 @@ fn a_hundred_batches(rt: HostRuntime) -> Result<(), Fail> {
     for _ in 0..100 {
         let accounts = two_accounts(alloc)?;
         assert!(rt; accounts.iter().all(|account| account.fits(set.tables())));
-        match run_batch(&rt, alloc, &set, accounts, 16, &OpenGate) {
+        match run_batch(&rt, alloc, &set, accounts, MAX_WORKERS, &OpenGate) {
             Ok(outcomes) => assert!(rt; are_right(&outcomes) == Some(true)),
             Err(_) => assert!(rt; false),
         }

@@ -19,7 +19,7 @@ use step_scheduler::tasks::Task;
 
 // The job of an account that is long one future.
 fn one_future(alloc: Global, rt: &impl Abort) -> Result<Arc<Job>, AllocError> {
-    let set = set_of_one_future(alloc, rt)?;
+    let set = set_of_one_future(alloc)?;
     let holding = Holding {
         contract: 0,
         net: 1,
@@ -194,7 +194,7 @@ fn offer_strangers(
 #[test]
 fn results_of_strangers(rt: HostRuntime) -> Result<(), Fail> {
     let alloc = rt.alloc();
-    let set = set_of_three_commodities(alloc, &rt)?;
+    let set = set_of_three_commodities(alloc)?;
     let equal = three_futures(alloc, &rt, &set)?;
     let mut board = Board::new(alloc, three_futures(alloc, &rt, &set)?)?;
     for _ in 0..equal.plan().len() {

@@ -1,9 +1,7 @@
 //! Tests of what no clause says: that the calls succeed where there is memory, on values worked by hand.
-ghost use Rattle.std.specs.Prelude.{◌≡◌, ◌≤◌, ◌∷◌, ◌↔◌, [], All, IfOk, IsTrue, codes, nat_abs, neg_ℤ, pos};
-ghost use Rattle.std.specs.List.{repeat};
+ghost use Rattle.std.specs.Prelude.{◌≡◌, ◌≤◌, ◌↔◌, All, IfOk, IsTrue, length, nat_abs, pos, true};
+ghost use Rattle.span_tables.specs.Holdings.{fits};
 ghost use Rattle.span_tables.specs.declared.limits.TheConstants.{MAX_SUM};
-ghost use Rattle.span_tables.specs.declared.records.ProductKind.TheVariants as product;
-ghost use Rattle.span_tables.specs.declared.records.Record.TheVariants as record_of;
 ghost use Rattle.plan_ir.specs.Plans.{inputs_in};
 ghost use Rattle.plan_ir.specs.Samples.{small_file, small_plan};
 ghost use Rattle.plan_ir.specs.declared.values.Value.TheVariants as value;
@@ -17,15 +15,14 @@ use plan_ir::ops::Op;
 use plan_ir::plans::Plan;
 use plan_ir::values::Value;
 use scan_risk::Scan;
-use span_money::amounts::{Delta, Money, Scale};
+use span_money::amounts::Money;
 use span_tables::held::{Held, gather};
-use span_tables::limits::MAX_SUM;
+use span_tables::limits::{MAX_SUM, SCENARIOS};
 use span_tables::name::Name;
 use span_tables::portfolios::{Holding, Portfolio};
 use span_tables::raw::RawTables;
-use span_tables::records::{
-    Commodity, Contract, MinimumMethod, ProductKind, Record, SetRecord, Spot,
-};
+use span_tables::records::{Commodity, MinimumMethod, ProductKind, Record, Spot};
+use span_tables::samples::{contract, set};
 use span_tables::tables::Tables;
 use spread_stage::deltas::month_deltas;
 use spread_stage::tiers::start;
@@ -34,85 +31,60 @@ use std::process::Abort;
 use std::sync::Arc;
 use std::test::Fail;
 
-fn name(rt: &impl Abort, text: &[u8]) -> Name
-    ensures { result ≡ text.now }
-{
-    Name::new(text).expect(rt, "a name")
-}
-
-// A call that gains 600 in each scenario.
-fn contract(rt: &impl Abort) -> Record
-    ensures { result ≡ record_of.Contract
-        (record {
-          id = codes "CA";
-          commodity = codes "AA";
-          kind = product.Call;
-          month = 202503;
-          delta = pos 10000;
-          scale = 10000;
-          values = repeat 16 (neg_ℤ (pos 600) ∷ []);
-        }) }
-{
-    Record::Contract(Contract {
-        id: name(rt, b"CA"),
-        commodity: name(rt, b"AA"),
-        kind: ProductKind::Call,
-        month: 202_503,
-        delta: Delta::new(10_000),
-        scale: Scale::new(10_000),
-        values: [-600; 16],
-    })
-}
-
-// The records of one commodity with a contract and a spot month.
-fn small_file(alloc: Global, rt: &impl Abort) -> Result<Vec<Record>, AllocError>
+// The records of one commodity with a spot month and a call that gains 600 in each scenario.
+fn small_file(alloc: Global) -> Result<Vec<Record>, AllocError>
     ensures { IfOk result (λ records. records.items ≡ small_file) }
 {
-    let set = Record::Set(SetRecord {
-        id: name(rt, b"S-1"),
-        currency: *b"USD",
-    });
     let commodity = Record::Commodity(Commodity {
-        id: name(rt, b"AA"),
+        id: Name::of(b"AA"),
         minimum_rate: 100,
         method: MinimumMethod::Sum,
     });
     let spot = Record::Spot(Spot {
-        commodity: name(rt, b"AA"),
+        commodity: Name::of(b"AA"),
         month: 202_503,
         spread_rate: 10,
         outright_rate: 20,
     });
-    Ok(Vec::from_array(alloc, [set, commodity, contract(rt), spot])?)
+    let values = [-600; SCENARIOS];
+    let call = Record::Contract(contract(ProductKind::Call, b"CA", b"AA", 202_503, values));
+    Ok(Vec::from_array(alloc, [set(b"S-1"), commodity, call, spot])?)
 }
 
-fn small_tables(alloc: Global, rt: &impl Abort) -> Result<Tables, AllocError> {
-    let records = small_file(alloc, rt)?;
-    Tables::new(alloc, RawTables::new(records))
+fn small_tables(alloc: Global, rt: &impl Abort) -> Result<Tables, AllocError>
+    ensures { IfOk result (λ tables. length tables.commodities ≡ 1) }
+{
+    let records = small_file(alloc)?;
+    let tables = Tables::new(alloc, RawTables::new(records))?;
+    assert_eq!(rt; tables.commodities().len(), 1);
+    Ok(tables)
 }
 
-// An account that is short two of the calls.
-fn short_calls(alloc: Global, rt: &impl Abort) -> Result<Portfolio, AllocError> {
+// The small file's tables, and an account that is short two of its calls.
+fn short_calls(alloc: Global, rt: &impl Abort) -> Result<(Tables, Portfolio), AllocError>
+    ensures one { IfOk result (λ r. length r.0.commodities ≡ 1) }
+    ensures fits { IfOk result (λ r. fits (length r.0.contracts) r.1.holdings ≡ true) }
+{
+    let tables = small_tables(alloc, rt)?;
     let mut holdings = Vec::new(alloc);
     holdings.push(Holding {
         contract: 0,
         net: -2,
     })?;
-    Ok(Portfolio::new(name(rt, b"X"), holdings))
+    let portfolio = Portfolio::new(Name::of(b"X"), holdings);
+    assert!(rt; portfolio.fits(&tables));
+    Ok((tables, portfolio))
 }
 
 #[test]
 fn values_of_held_contracts(rt: HostRuntime) -> Result<(), Fail> {
     let alloc = rt.alloc();
-    let tables = small_tables(alloc, &rt)?;
-    let portfolio = short_calls(alloc, &rt)?;
-    assert!(rt; portfolio.fits(&tables));
-    assert_eq!(rt; tables.commodities().len(), 1);
+    let (tables, portfolio) = short_calls(alloc, &rt)?;
     let held = apply(alloc, &tables, &portfolio, &Op::Gather(0), &[])?;
     assert_eq!(rt; held.held().len(), 1);
     let held = [Arc::new(alloc, held)?];
     let sums = apply(alloc, &tables, &portfolio, &Op::Sums(0), &held)?;
-    assert!(rt; *sums.sums() == [1200; 16]);
+    assert!(rt; *sums.sums() == [1200; SCENARIOS]);
     let minimum = apply(alloc, &tables, &portfolio, &Op::Minimum(0), &held)?;
     assert_eq!(rt; minimum.amount().get(), 200);
     let months = apply(alloc, &tables, &portfolio, &Op::Months(0), &held)?;
@@ -121,7 +93,7 @@ fn values_of_held_contracts(rt: HostRuntime) -> Result<(), Fail> {
 }
 
 // Scenario sums that are within their limit.
-fn sums_of(rt: &impl Abort, sums: [i64; 16]) -> Value
+fn sums_of(rt: &impl Abort, sums: [i64; SCENARIOS]) -> Value
     ensures value { result ≡ value.Sums sums }
     ensures small { All (λ s. nat_abs s ≤ MAX_SUM) sums }
 {
@@ -138,10 +110,7 @@ fn are_small(sums: &[i64]) -> bool
 #[test]
 fn scan_of_sums(rt: HostRuntime) -> Result<(), Fail> {
     let alloc = rt.alloc();
-    let tables = small_tables(alloc, &rt)?;
-    let portfolio = short_calls(alloc, &rt)?;
-    assert!(rt; portfolio.fits(&tables));
-    assert_eq!(rt; tables.commodities().len(), 1);
+    let (tables, portfolio) = short_calls(alloc, &rt)?;
     let sums = [0, 0, 1200, 1100, 0, 0, 0, 0, 0, 0, 0, 0, 0, 0, -5, 1200];
     let inputs = [Arc::new(alloc, sums_of(&rt, sums))?];
     let scan = apply(alloc, &tables, &portfolio, &Op::ScanMax(0), &inputs)?;
@@ -155,10 +124,7 @@ fn scan_of_sums(rt: HostRuntime) -> Result<(), Fail> {
 #[test]
 fn delivery_of_months(rt: HostRuntime) -> Result<(), Fail> {
     let alloc = rt.alloc();
-    let tables = small_tables(alloc, &rt)?;
-    let portfolio = short_calls(alloc, &rt)?;
-    assert!(rt; portfolio.fits(&tables));
-    assert_eq!(rt; tables.commodities().len(), 1);
+    let (tables, portfolio) = short_calls(alloc, &rt)?;
     let months = month_deltas(alloc, &gather(alloc, &tables, &portfolio, 0)?)?;
     let tiers = start(alloc, &months)?;
     let inputs = [
@@ -189,10 +155,7 @@ fn small_scan() -> Scan
 #[test]
 fn loaded_commodity(rt: HostRuntime) -> Result<(), Fail> {
     let alloc = rt.alloc();
-    let tables = small_tables(alloc, &rt)?;
-    let portfolio = short_calls(alloc, &rt)?;
-    assert!(rt; portfolio.fits(&tables));
-    assert_eq!(rt; tables.commodities().len(), 1);
+    let (tables, portfolio) = short_calls(alloc, &rt)?;
     let lines = apply(alloc, &tables, &portfolio, &Op::InterStart, &[])?;
     assert_eq!(rt; lines.inter().len(), 1);
     let months = month_deltas(alloc, &gather(alloc, &tables, &portfolio, 0)?)?;
@@ -211,10 +174,7 @@ fn loaded_commodity(rt: HostRuntime) -> Result<(), Fail> {
 #[test]
 fn figures_of_a_commodity(rt: HostRuntime) -> Result<(), Fail> {
     let alloc = rt.alloc();
-    let tables = small_tables(alloc, &rt)?;
-    let portfolio = short_calls(alloc, &rt)?;
-    assert!(rt; portfolio.fits(&tables));
-    assert_eq!(rt; tables.commodities().len(), 1);
+    let (tables, portfolio) = short_calls(alloc, &rt)?;
     let months = month_deltas(alloc, &gather(alloc, &tables, &portfolio, 0)?)?;
     let inputs = [
         Arc::new(alloc, Value::Scan(small_scan()))?,
@@ -233,10 +193,7 @@ fn figures_of_a_commodity(rt: HostRuntime) -> Result<(), Fail> {
 #[test]
 fn totals(rt: HostRuntime) -> Result<(), Fail> {
     let alloc = rt.alloc();
-    let tables = small_tables(alloc, &rt)?;
-    let portfolio = short_calls(alloc, &rt)?;
-    assert!(rt; portfolio.fits(&tables));
-    assert_eq!(rt; tables.commodities().len(), 1);
+    let (tables, portfolio) = short_calls(alloc, &rt)?;
     let none = apply(alloc, &tables, &portfolio, &Op::TotalStart, &[])?;
     assert_eq!(rt; none.total().get(), 0);
     let figures = Figures {
@@ -262,7 +219,6 @@ fn totals(rt: HostRuntime) -> Result<(), Fail> {
 fn load_of_nothing(rt: HostRuntime) -> Result<(), Fail> {
     let alloc = rt.alloc();
     let tables = small_tables(alloc, &rt)?;
-    assert_eq!(rt; tables.commodities().len(), 1);
     let lines = Value::Inter(empty(alloc, 1)?);
     let months = month_deltas(alloc, &Held::none(alloc, &tables)?)?;
     let scan = Scan {
@@ -287,7 +243,6 @@ fn load_of_nothing(rt: HostRuntime) -> Result<(), Fail> {
 fn total_of_nothing(rt: HostRuntime) -> Result<(), Fail> {
     let alloc = rt.alloc();
     let tables = small_tables(alloc, &rt)?;
-    assert_eq!(rt; tables.commodities().len(), 1);
     let none = Figures {
         scan: Money::new(0),
         active: 1,

@@ -9,10 +9,10 @@ use plan_shelf::faults::ShelfFault;
 use plan_shelf::history::{History, ShelfName};
 use plan_shelf::publishers::Publisher;
 use plan_shelf::readers::Reader;
-use plan_shelf::shelves::shelf;
-use span_tables::name::Name;
+use plan_shelf::shelves::{MAX_READERS, shelf};
 use span_tables::raw::RawTables;
-use span_tables::records::{Record, SetRecord};
+use span_tables::records::Record;
+use span_tables::samples::set;
 use span_tables::tables::Tables;
 use std::alloc::{AllocError, Global};
 use std::marker::Brand;
@@ -32,11 +32,7 @@ fn first_set(alloc: Global) -> Result<Arc<CompiledSet>, AllocError> {
 fn set_alone(alloc: Global) -> Result<Vec<Record>, AllocError>
     ensures { IfOk result (λ records. records.items ≡ set_alone) }
 {
-    let set = SetRecord {
-        id: Name::of(b"D2"),
-        currency: *b"USD",
-    };
-    Ok(Vec::from_array(alloc, [Record::Set(set)])?)
+    Ok(Vec::from_array(alloc, [set(b"D2")])?)
 }
 
 // The set D2.
@@ -58,7 +54,7 @@ fn is_publication(number: u64, set: &CompiledSet) -> bool {
 
 #[test]
 fn numbers_of_readers(rt: HostRuntime) -> Result<(), Fail> {
-    for readers in [0, 17] {
+    for readers in [0, MAX_READERS + 1] {
         assert!(rt; is_refused::<Brand, _>(&rt, rt.alloc(), History::new(), readers));
     }
     Ok(())

@@ -9,33 +9,25 @@ use Rattle.span_csv.proofs.NumberLemmas.{name_field, count_field, ratio_field}
 
 -- ---- what the fields of a leg are
 
+-- what holds of each of the four legs
+each_leg : (P : ℕ → Type 0) → P 0 → P 1 → P 2 → P 3 → (i : ℕ) → i < 4 → P i
+each_leg P p0 p1 p2 p3 zero few = p0
+each_leg P p0 p1 p2 p3 (suc zero) few = p1
+each_leg P p0 p1 p2 p3 (suc (suc zero)) few = p2
+each_leg P p0 p1 p2 p3 (suc (suc (suc zero))) few = p3
+each_leg P p0 p1 p2 p3 (suc (suc (suc (suc n)))) few = absurd (omega arith)
+
 tier_form : (i : ℕ) → i < 4 → form_at an_intra (3 + 3 * i) ≡ a_whole (pos 1) (pos MAX_TIER_NUMBER)
-tier_form zero few = refl
-tier_form (suc zero) few = refl
-tier_form (suc (suc zero)) few = refl
-tier_form (suc (suc (suc zero))) few = refl
-tier_form (suc (suc (suc (suc n)))) few = absurd (omega arith)
+tier_form = each_leg (λ i. form_at an_intra (3 + 3 * i) ≡ a_whole (pos 1) (pos MAX_TIER_NUMBER)) refl refl refl refl
 
 intra_ratio_form : (i : ℕ) → i < 4 → form_at an_intra (5 + 3 * i) ≡ a_decimal (pos 1) (pos MAX_RATIO)
-intra_ratio_form zero few = refl
-intra_ratio_form (suc zero) few = refl
-intra_ratio_form (suc (suc zero)) few = refl
-intra_ratio_form (suc (suc (suc zero))) few = refl
-intra_ratio_form (suc (suc (suc (suc n)))) few = absurd (omega arith)
+intra_ratio_form = each_leg (λ i. form_at an_intra (5 + 3 * i) ≡ a_decimal (pos 1) (pos MAX_RATIO)) refl refl refl refl
 
 commodity_form : (i : ℕ) → i < 4 → form_at an_inter (2 + 3 * i) ≡ a_name
-commodity_form zero few = refl
-commodity_form (suc zero) few = refl
-commodity_form (suc (suc zero)) few = refl
-commodity_form (suc (suc (suc zero))) few = refl
-commodity_form (suc (suc (suc (suc n)))) few = absurd (omega arith)
+commodity_form = each_leg (λ i. form_at an_inter (2 + 3 * i) ≡ a_name) refl refl refl refl
 
 inter_ratio_form : (i : ℕ) → i < 4 → form_at an_inter (4 + 3 * i) ≡ a_decimal (pos 1) (pos MAX_RATIO)
-inter_ratio_form zero few = refl
-inter_ratio_form (suc zero) few = refl
-inter_ratio_form (suc (suc zero)) few = refl
-inter_ratio_form (suc (suc (suc zero))) few = refl
-inter_ratio_form (suc (suc (suc (suc n)))) few = absurd (omega arith)
+inter_ratio_form = each_leg (λ i. form_at an_inter (4 + 3 * i) ≡ a_decimal (pos 1) (pos MAX_RATIO)) refl refl refl refl
 
 pub intra_tier : (r : Fields) (i at : ℕ) → HasForms an_intra r → i < 4 → at ≡ 4 + 3 * i → at < length r
     → count_at r at ≤ MAX_TIER_NUMBER

@@ -1,36 +1,53 @@
--- A small file of each kind of record, which the tests read.
-use Rattle.std.specs.Prelude.{List, [], ◌∷◌, codes, pos}
+-- Records of which worked values and tests are made, and a small file of each kind of record.
+use Rattle.std.specs.Prelude.{ℕ, ℤ, List, [], ◌∷◌, codes, pos}
 use Rattle.std.specs.List.{repeat}
+use Rattle.span_tables.specs.declared.records.Contract.{Contract}
 use Rattle.span_tables.specs.declared.records.MinimumMethod.TheVariants as method
+use Rattle.span_tables.specs.declared.records.ProductKind.{ProductKind}
 use Rattle.span_tables.specs.declared.records.ProductKind.TheVariants as product
 use Rattle.span_tables.specs.declared.records.Side.TheVariants as side
 use Rattle.span_tables.specs.declared.records.Record.{Record}
 use Rattle.span_tables.specs.declared.records.Record.TheVariants as record_of
 
+-- a set of this id
+abbrev pub set : List ℕ → Record
+set id = record_of.Set (record { id = id; currency = codes "USD" })
+
+-- a commodity of this id, without a short option minimum
+abbrev pub commodity : List ℕ → Record
+commodity id = record_of.Commodity (record { id = id; minimum_rate = 0; method = method.Sum })
+
+-- a contract of a commodity, with delta 1, scale 1, and these values in the sixteen scenarios
+abbrev pub contract : ProductKind → List ℕ → List ℕ → ℕ → List ℤ → Contract
+contract kind id of month values = record {
+  id = id;
+  commodity = of;
+  kind = kind;
+  month = month;
+  delta = pos 10000;
+  scale = 10000;
+  values = values;
+}
+
+-- a spread of two commodities, one to one, the first on side A
+abbrev pub spread : ℕ → ℕ → List ℕ → List ℕ → Record
+spread priority basis_points first other = record_of.Inter (record {
+  priority = priority;
+  basis_points = basis_points;
+  legs = record {
+    items = record { commodity = first; side = side.A; ratio = 10000 }
+        ∷ record { commodity = other; side = side.B; ratio = 10000 } ∷ [];
+  };
+})
+
 -- the records: two commodities with a contract each, two tiers, spreads not in their order, a spot month
 abbrev pub small_file : List Record
 small_file =
-    record_of.Set (record { id = codes "S-1"; currency = codes "USD" })
+    set (codes "S-1")
     ∷ record_of.Commodity (record { id = codes "AA"; minimum_rate = 100; method = method.Sum })
     ∷ record_of.Commodity (record { id = codes "BB"; minimum_rate = 200; method = method.Max })
-    ∷ record_of.Contract (record {
-      id = codes "FA";
-      commodity = codes "AA";
-      kind = product.Future;
-      month = 202503;
-      delta = pos 10000;
-      scale = 10000;
-      values = repeat 16 (pos 7 ∷ []);
-    })
-    ∷ record_of.Contract (record {
-      id = codes "FB";
-      commodity = codes "BB";
-      kind = product.Future;
-      month = 202506;
-      delta = pos 10000;
-      scale = 10000;
-      values = repeat 16 (pos 7 ∷ []);
-    })
+    ∷ record_of.Contract (contract product.Future (codes "FA") (codes "AA") 202503 (repeat 16 (pos 7 ∷ [])))
+    ∷ record_of.Contract (contract product.Future (codes "FB") (codes "BB") 202506 (repeat 16 (pos 7 ∷ [])))
     ∷ record_of.Tier (record { commodity = codes "AA"; number = 1; first = 202501; last = 202503 })
     ∷ record_of.Tier (record { commodity = codes "AA"; number = 2; first = 202504; last = 202512 })
     ∷ record_of.Intra (record {
@@ -48,13 +65,5 @@ small_file =
           record { items = record { tier = 2; side = side.A; ratio = 10000 } ∷ record { tier = 1; side = side.B; ratio = 10000 } ∷ [] };
     })
     ∷ record_of.Spot (record { commodity = codes "AA"; month = 202503; spread_rate = 10; outright_rate = 20 })
-    ∷ record_of.Inter (record {
-      priority = 1;
-      basis_points = 5000;
-      legs =
-          record {
-            items = record { commodity = codes "BB"; side = side.A; ratio = 10000 }
-                ∷ record { commodity = codes "AA"; side = side.B; ratio = 10000 } ∷ [];
-          };
-    })
+    ∷ spread 1 5000 (codes "BB") (codes "AA")
     ∷ []

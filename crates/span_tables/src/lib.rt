@@ -11,6 +11,7 @@ pub mod name;
 pub mod portfolios;
 pub mod raw;
 pub mod records;
+pub mod samples;
 pub mod sides;
 pub mod slots;
 mod sorting;

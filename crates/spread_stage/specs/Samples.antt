@@ -1,6 +1,7 @@
 -- Contracts and spreads that the worked values speak of.
 use Rattle.std.specs.Prelude.{ℕ, [], ◌∷◌, codes, ℤ, pos}
 use Rattle.std.specs.List.{repeat}
+use Rattle.span_tables.specs.Samples.{contract}
 use Rattle.span_tables.specs.declared.records.ProductKind.TheVariants as product
 use Rattle.span_tables.specs.declared.records.Side.TheVariants as side
 use Rattle.span_tables.specs.declared.records.Contract.{Contract}
@@ -11,15 +12,7 @@ use Rattle.span_tables.specs.declared.records.Spot.{Spot}
 
 -- a future of the month, with delta 1, scale 1, and a risk array of 0
 abbrev pub future : ℕ → Contract
-future month = record {
-  id = codes "FA";
-  commodity = codes "AA";
-  kind = product.Future;
-  month = month;
-  delta = pos 10000;
-  scale = 10000;
-  values = repeat 16 (pos 0 ∷ []);
-}
+future month = contract product.Future (codes "FA") (codes "AA") month (repeat 16 (pos 0 ∷ []))
 
 -- so many of a contract
 abbrev pub held : ℤ → Contract → HeldContract

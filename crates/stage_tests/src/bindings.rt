@@ -9,18 +9,21 @@ use indexmap::IndexSet;
 use param_check::binding::{bind, bind_positions};
 use param_check::check::check;
 use param_check::faults::BindFault;
-use span_money::amounts::{Delta, Scale};
-use span_tables::limits::{MAX_ACCOUNTS, MAX_QUANTITY};
+use span_tables::limits::{MAX_ACCOUNTS, MAX_HELD, MAX_NET, MAX_QUANTITY, SCENARIOS};
 use span_tables::name::Name;
 use span_tables::portfolios::Portfolio;
 use span_tables::raw::{RawPositions, RawTables};
-use span_tables::records::{
-    Commodity, Contract, MinimumMethod, NumberedPosition, PositionRecord, ProductKind, Record,
-    SetRecord,
-};
+use span_tables::records::{Contract, NumberedPosition, PositionRecord, ProductKind, Record};
+use span_tables::samples::{commodity, contract, set};
 use std::alloc::{AllocError, Global};
 use std::process::Abort;
 use std::test::Fail;
+
+// The largest net, as a quantity.
+const NET: i32 = MAX_NET as i32;
+
+// How many contracts an account may hold, as the number of the contract behind them.
+const HELD: u32 = MAX_HELD as u32;
 
 fn name(text: &[u8]) -> Name {
     Name::new(text).unwrap_or(Name::default())
@@ -39,25 +42,18 @@ fn numbered(letter: u8, number: u32) -> Name {
     ])
 }
 
-fn contract(id: Name) -> Contract
+fn future(id: &Name) -> Contract
     ensures { contract_in_range result ≡ true }
 {
-    Contract {
-        id,
-        commodity: name(b"CRUDE"),
-        kind: ProductKind::Future,
-        month: 202503,
-        delta: Delta::new(10_000),
-        scale: Scale::new(10_000),
-        values: [0; 16],
-    }
+    let values = [0; SCENARIOS];
+    contract(ProductKind::Future, id.as_bytes(), b"CRUDE", 202503, values)
 }
 
 // So many contracts, C00000 and up.
 fn contracts(alloc: Global, count: u32) -> Result<Vec<Contract>, AllocError> {
     let mut all = Vec::new(alloc);
     for number in 0..count {
-        all.push(contract(numbered(b'C', number)))?;
+        all.push(future(&numbered(b'C', number)))?;
     }
     Ok(all)
 }
@@ -155,7 +151,7 @@ fn portfolios_in_order_of_appearance(rt: HostRuntime) -> Result<(), Fail> {
     assert!(rt; is_apart(&contracts));
     let records = vec![in alloc;
         record(b"Y", 2, 10),
-        record(b"X", 1, 100_000),
+        record(b"X", 1, NET),
         record(b"Y", 0, -4),
         record(b"X", 1, 1),
         record(b"Y", 2, 5),
@@ -167,7 +163,7 @@ fn portfolios_in_order_of_appearance(rt: HostRuntime) -> Result<(), Fail> {
     let all = bind_positions(alloc, &contracts, &positions(alloc, &records)?)?.into_vec();
     assert_eq!(rt; all.len(), 3);
     assert!(rt; is_holding(&all[0], b"Y", &[(0, -4), (2, 15)]));
-    assert!(rt; is_holding(&all[1], b"X", &[(1, 99_999)]));
+    assert!(rt; is_holding(&all[1], b"X", &[(1, i64::from(NET) - 1)]));
     assert!(rt; is_holding(&all[2], b"Z", &[]));
     Ok(())
 }
@@ -182,7 +178,7 @@ fn no_records(rt: HostRuntime) -> Result<(), Fail> {
 fn unknown_contract_before_net(rt: HostRuntime) -> Result<(), Fail> {
     let alloc = rt.alloc();
     let records = vec![in alloc;
-        record(b"X", 0, 100_001),
+        record(b"X", 0, NET + 1),
         record(b"Y", 0, 1),
         record(b"Y", 1, 1),
         record(b"Z", 2, 1),
@@ -201,10 +197,10 @@ fn unknown_contract_before_net(rt: HostRuntime) -> Result<(), Fail> {
 fn net_out_of_range_at_its_first_record(rt: HostRuntime) -> Result<(), Fail> {
     let alloc = rt.alloc();
     let records = vec![in alloc;
-        record(b"X", 0, 100_000),
+        record(b"X", 0, NET),
         record(b"Y", 1, -1),
         record(b"X", 1, 5),
-        record(b"Y", 1, -100_000),
+        record(b"Y", 1, -NET),
         record(b"X", 0, 1),
     ]?;
     assert_eq!(rt;
@@ -228,25 +224,25 @@ fn net_out_of_range_at_its_first_record(rt: HostRuntime) -> Result<(), Fail> {
 #[test]
 fn too_many_held_after_net(rt: HostRuntime) -> Result<(), Fail> {
     let alloc = rt.alloc();
-    let mut records = vec![in alloc; record(b"Y", 256, 1)]?;
-    for number in 0..257 {
+    let mut records = vec![in alloc; record(b"Y", HELD, 1)]?;
+    for number in 0..HELD + 1 {
         records.push(record(b"X", number, 1))?;
     }
     assert_eq!(rt;
-        fault_of(&rt, alloc, 257, &records)?,
+        fault_of(&rt, alloc, HELD + 1, &records)?,
         Some(BindFault::TooManyHeld {
             at: 2,
             account: name(b"X")
         })
     );
     records.push(record(b"X", 0, -1))?;
-    assert_eq!(rt; fault_of(&rt, alloc, 257, &records)?, None);
-    records.push(record(b"Z", 0, 100_001))?;
+    assert_eq!(rt; fault_of(&rt, alloc, HELD + 1, &records)?, None);
+    records.push(record(b"Z", 0, NET + 1))?;
     records.push(record(b"X", 0, 1))?;
     assert_eq!(rt;
-        fault_of(&rt, alloc, 257, &records)?,
+        fault_of(&rt, alloc, HELD + 1, &records)?,
         Some(BindFault::NetOutOfRange {
-            at: 260,
+            at: MAX_HELD + 4,
             account: name(b"Z")
         })
     );
@@ -256,18 +252,10 @@ fn too_many_held_after_net(rt: HostRuntime) -> Result<(), Fail> {
 // A file of a SET, a COMMODITY and two CONTRACTs.
 #[tactic(auto, unfolding(span_tables::specs::Limits::is_readable))]
 fn two_contracts(alloc: Global) -> Result<RawTables, AllocError> {
-    let (id, commodity) = (name(b"D1"), name(b"CRUDE"));
-    let (first, second) = (contract(numbered(b'C', 0)), contract(numbered(b'C', 1)));
+    let (first, second) = (future(&numbered(b'C', 0)), future(&numbered(b'C', 1)));
     let mut records = Vec::new(alloc);
-    records.push(Record::Set(SetRecord {
-        id,
-        currency: *b"USD",
-    }))?;
-    records.push(Record::Commodity(Commodity {
-        id: commodity,
-        minimum_rate: 0,
-        method: MinimumMethod::Sum,
-    }))?;
+    records.push(set(b"D1"))?;
+    records.push(commodity(b"CRUDE"))?;
     records.push(Record::Contract(first))?;
     records.push(Record::Contract(second))?;
     Ok(RawTables::new(records))

@@ -1,13 +1,17 @@
+ghost use Rattle.std.specs.Prelude.{◌≡◌, true};
+ghost use Rattle.span_tables.specs.Names.{is_name};
+
 use arrayvec::ArrayVec;
 use param_check::check::{check, check_fault};
 use param_check::faults::CheckFault;
-use span_money::amounts::{Delta, Ratio, Scale};
+use span_money::amounts::Ratio;
+use span_tables::limits::SCENARIOS;
 use span_tables::name::Name;
 use span_tables::raw::RawTables;
 use span_tables::records::{
-    Commodity, Contract, InterLeg, InterRecord, IntraLeg, IntraRecord, MinimumMethod, ProductKind,
-    Record, SetRecord, Side, Spot, Tier,
+    InterLeg, InterRecord, IntraLeg, IntraRecord, ProductKind, Record, Side, Spot, Tier,
 };
+use span_tables::samples::{commodity, contract, set};
 use std::alloc::{AllocError, Global};
 use std::test::Fail;
 
@@ -15,31 +19,12 @@ fn name(text: &[u8]) -> Name {
     Name::new(text).unwrap_or(Name::default())
 }
 
-fn set() -> Record {
-    Record::Set(SetRecord {
-        id: name(b"D1"),
-        currency: *b"USD",
-    })
-}
-
-fn commodity(id: &[u8]) -> Record {
-    Record::Commodity(Commodity {
-        id: name(id),
-        minimum_rate: 0,
-        method: MinimumMethod::Sum,
-    })
-}
-
-fn contract(id: &[u8], commodity: &[u8]) -> Record {
-    Record::Contract(Contract {
-        id: name(id),
-        commodity: name(commodity),
-        kind: ProductKind::Future,
-        month: 202503,
-        delta: Delta::new(10_000),
-        scale: Scale::new(10_000),
-        values: [0; 16],
-    })
+fn future(id: &[u8], of: &[u8]) -> Record
+    requires id { is_name id.now ≡ true }
+    requires of { is_name of.now ≡ true }
+{
+    let values = [0; SCENARIOS];
+    Record::Contract(contract(ProductKind::Future, id, of, 202503, values))
 }
 
 fn tier(commodity: &[u8], number: u32, first: u32, last: u32) -> Record {
@@ -104,16 +89,18 @@ fn inter(priority: u32, one: (&[u8], Side), other: (&[u8], Side)) -> Record {
 // Thirteen records that keep every rule, some before what they name.
 fn accepted(alloc: Global) -> Result<Vec<Record>, AllocError> {
     let mut records = Vec::new(alloc);
-    records.push(set())?;
+    records.push(set(b"D1"))?;
     records.push(inter(1, (b"AA", Side::A), (b"BB", Side::B)))?;
-    records.push(contract(b"FA", b"AA"))?;
+    records.push(future(b"FA", b"AA"))?;
     add_commodity(&mut records, b"AA")?;
     add_commodity(&mut records, b"BB")?;
     Ok(records)
 }
 
 // A commodity of two tiers, a spread and a spot month.
-fn add_commodity(records: &mut Vec<Record>, id: &[u8]) -> Result<(), AllocError> {
+fn add_commodity(records: &mut Vec<Record>, id: &[u8]) -> Result<(), AllocError>
+    requires { is_name id.now ≡ true }
+{
     records.push(intra(id, 1, (1, Side::A), (2, Side::B)))?;
     records.push(commodity(id))?;
     records.push(tier(id, 1, 202501, 202504))?;
@@ -136,7 +123,7 @@ fn accepts(rt: HostRuntime) -> Result<(), Fail> {
     assert_eq!(rt; records.len(), 13);
     assert_eq!(rt; check_fault(alloc, &records)?, None);
     assert_eq!(rt; fault_with(alloc, tier(b"BB", 3, 202601, 202601))?, None);
-    assert_eq!(rt; fault_with(alloc, contract(b"AA", b"BB"))?, None);
+    assert_eq!(rt; fault_with(alloc, future(b"AA", b"BB"))?, None);
     assert_eq!(rt; fault_with(alloc, spot(b"BB", 202504))?, None);
     let spread = intra(b"BB", 2, (2, Side::A), (2, Side::B));
     assert_eq!(rt; fault_with(alloc, spread)?, None);
@@ -150,7 +137,7 @@ fn finds_repeated_records(rt: HostRuntime) -> Result<(), Fail> {
     let alloc = rt.alloc();
     let fault = fault_with(alloc, commodity(b"AA"))?;
     assert_eq!(rt; fault, Some(CheckFault::DuplicateCommodity { at: 14 }));
-    let fault = fault_with(alloc, contract(b"FA", b"BB"))?;
+    let fault = fault_with(alloc, future(b"FA", b"BB"))?;
     assert_eq!(rt; fault, Some(CheckFault::DuplicateContract { at: 14 }));
     let fault = fault_with(alloc, tier(b"BB", 2, 202601, 202602))?;
     assert_eq!(rt; fault, Some(CheckFault::DuplicateTier { at: 14 }));
@@ -166,7 +153,7 @@ fn finds_repeated_records(rt: HostRuntime) -> Result<(), Fail> {
 #[test]
 fn finds_faults_of_tiers_and_spreads(rt: HostRuntime) -> Result<(), Fail> {
     let alloc = rt.alloc();
-    let fault = fault_with(alloc, contract(b"FB", b"ZZ"))?;
+    let fault = fault_with(alloc, future(b"FB", b"ZZ"))?;
     assert_eq!(rt; fault, Some(CheckFault::UnknownCommodity { at: 14 }));
     let fault = fault_with(alloc, inter(2, (b"AA", Side::A), (b"ZZ", Side::B)))?;
     assert_eq!(rt; fault, Some(CheckFault::UnknownCommodity { at: 14 }));
@@ -191,15 +178,15 @@ fn finds_faults_of_tiers_and_spreads(rt: HostRuntime) -> Result<(), Fail> {
 fn names_first_record_of_lowest_rule(rt: HostRuntime) -> Result<(), Fail> {
     let alloc = rt.alloc();
     let mut records = Vec::new(alloc);
-    records.push(set())?;
+    records.push(set(b"D1"))?;
     records.push(spot(b"AA", 202503))?;
     records.push(spot(b"AA", 202503))?;
     records.push(commodity(b"AA"))?;
-    records.push(contract(b"FA", b"AA"))?;
+    records.push(future(b"FA", b"AA"))?;
     records.push(tier(b"AA", 3, 202502, 202501))?;
-    records.push(contract(b"FA", b"AA"))?;
+    records.push(future(b"FA", b"AA"))?;
     records.push(commodity(b"BB"))?;
-    records.push(contract(b"FA", b"AA"))?;
+    records.push(future(b"FA", b"AA"))?;
     records.push(tier(b"AA", 4, 202502, 202501))?;
     let fault = check_fault(alloc, &records)?;
     assert_eq!(rt; fault, Some(CheckFault::DuplicateContract { at: 7 }));
@@ -210,7 +197,7 @@ fn names_first_record_of_lowest_rule(rt: HostRuntime) -> Result<(), Fail> {
 fn unknown_commodity_before_overlap(rt: HostRuntime) -> Result<(), Fail> {
     let alloc = rt.alloc();
     let mut records = Vec::new(alloc);
-    records.push(set())?;
+    records.push(set(b"D1"))?;
     records.push(commodity(b"AA"))?;
     records.push(tier(b"AA", 1, 202501, 202506))?;
     records.push(tier(b"AA", 2, 202506, 202512))?;
@@ -218,7 +205,7 @@ fn unknown_commodity_before_overlap(rt: HostRuntime) -> Result<(), Fail> {
         check_fault(alloc, &records)?,
         Some(CheckFault::TierOverlap { at: 4 })
     );
-    records.push(contract(b"FA", b"ZZ"))?;
+    records.push(future(b"FA", b"ZZ"))?;
     assert_eq!(rt;
         check_fault(alloc, &records)?,
         Some(CheckFault::UnknownCommodity { at: 5 })
@@ -229,34 +216,18 @@ fn unknown_commodity_before_overlap(rt: HostRuntime) -> Result<(), Fail> {
 // A file of a SET alone.
 #[tactic(auto, unfolding(span_tables::specs::Limits::is_readable))]
 fn set_alone(alloc: Global) -> Result<RawTables, AllocError> {
-    let id = name(b"D1");
     let mut records = Vec::new(alloc);
-    records.push(Record::Set(SetRecord {
-        id,
-        currency: *b"USD",
-    }))?;
+    records.push(set(b"D1"))?;
     Ok(RawTables::new(records))
 }
 
 // A file of a SET and a COMMODITY twice.
 #[tactic(auto, unfolding(span_tables::specs::Limits::is_readable))]
 fn commodity_twice(alloc: Global) -> Result<RawTables, AllocError> {
-    let (id, first, second) = (name(b"D1"), name(b"AA"), name(b"AA"));
     let mut records = Vec::new(alloc);
-    records.push(Record::Set(SetRecord {
-        id,
-        currency: *b"USD",
-    }))?;
-    records.push(Record::Commodity(Commodity {
-        id: first,
-        minimum_rate: 0,
-        method: MinimumMethod::Sum,
-    }))?;
-    records.push(Record::Commodity(Commodity {
-        id: second,
-        minimum_rate: 0,
-        method: MinimumMethod::Max,
-    }))?;
+    records.push(set(b"D1"))?;
+    records.push(commodity(b"AA"))?;
+    records.push(commodity(b"AA"))?;
     Ok(RawTables::new(records))
 }
 

@@ -8,12 +8,12 @@ use inter_credit::credit::credit;
 use inter_credit::requirement::{MAX_PART, minimum, requirement};
 use inter_credit::spreads::inter_spread;
 use inter_credit::state::{InterLine, InterState, empty, load};
-use span_money::amounts::{Delta, Money, Ratio, Scale, Units};
+use span_money::amounts::{Money, Ratio, Units};
 use span_tables::held::Held;
 use span_tables::limits::{MAX_BASIS_POINTS, MAX_NET, MAX_PRICE2, MAX_RATIO, MAX_UNITS, SCENARIOS};
-use span_tables::name::Name;
 use span_tables::portfolios::Holding;
 use span_tables::records::{CommodityLeg, Contract, Inter, MinimumMethod, ProductKind, Side};
+use span_tables::samples::contract;
 use std::alloc::{AllocError, Global};
 use std::process::Abort;
 use std::sync::Arc;
@@ -209,7 +209,8 @@ fn spreads_that_may_be_formed(rt: HostRuntime) -> Result<(), Fail> {
 #[test]
 fn largest_credits(rt: HostRuntime) -> Result<(), Fail> {
     let largest = MAX_UNITS as i64;
-    let after = (0, 256_000_000_000_000_000_000, 5_120_000_000_000_000);
+    let weight = u128::from(MAX_UNITS) * u128::from(MAX_BASIS_POINTS);
+    let after = (0, weight, i128::from(MAX_PRICE2) / 2);
     let commodities = [
         commodity((largest, MAX_PRICE2), after),
         commodity((-largest, MAX_PRICE2), after),
@@ -229,18 +230,10 @@ fn no_commodity(rt: HostRuntime) -> Result<(), Fail> {
 }
 
 // A contract of a kind.
-fn contract(kind: ProductKind) -> Contract
+fn contract_of(kind: ProductKind) -> Contract
     ensures { IsContract result }
 {
-    Contract {
-        id: Name::new(b"X").unwrap(),
-        commodity: Name::new(b"AA").unwrap(),
-        kind,
-        month: 202_503,
-        delta: Delta::new(10_000),
-        scale: Scale::new(10_000),
-        values: [0; SCENARIOS],
-    }
+    contract(kind, b"X", b"AA", 202_503, [0; SCENARIOS])
 }
 
 #[test]
@@ -259,7 +252,7 @@ fn minimums(rt: HostRuntime) -> Result<(), Fail> {
             contract: contracts.len(),
             net,
         })?;
-        contracts.push(contract(kind))?;
+        contracts.push(contract_of(kind))?;
     }
     let held = Held::new(Arc::new(rt.alloc(), contracts)?, holdings);
     assert_eq!(rt; minimum(&held, 500, MinimumMethod::Sum).get(), 2500);

@@ -1,5 +1,12 @@
+ghost use Rattle.std.specs.Prelude.{◌≤◌};
+ghost use Rattle.span_tables.specs.declared.limits.TheConstants.{MAX_CONTRACTS};
+
 use span_csv::faults::ParamFault;
 use span_csv::params::read_params;
+use span_tables::limits::{
+    MAX_COMMODITIES, MAX_CONTRACTS, MAX_INTER_SPREADS, MAX_INTRA_SPREADS, MAX_SPOT_MONTHS,
+    MAX_TIERS,
+};
 use span_tables::records::{MinimumMethod, ProductKind, Record, Side};
 use std::alloc::{AllocError, Global};
 use std::test::Fail;
@@ -83,49 +90,35 @@ fn names_each_fault(rt: HostRuntime) -> Result<(), Fail> {
     Ok(())
 }
 
+// Whether so many lines of one record are read behind a SET, and one more is one too many.
+fn has_limit(alloc: Global, line: &str, limit: usize) -> Result<bool, AllocError>
+    requires { limit ≤ MAX_CONTRACTS }
+{
+    let within = repeated(alloc, line, limit)?;
+    let over = repeated(alloc, line, limit + 1)?;
+    Ok(within == Ok(limit + 1) && over == Err(ParamFault::TooMany { at: limit + 2 }))
+}
+
+const TIER_OF_EACH: &str = "TIER,GC,1,202601,202602\nTIER,SI,1,202601,202602\n";
+
+const CONTRACT: &str = "CONTRACT,X,GC,F,202601,0,1,0,0,0,0,0,0,0,0,0,0,0,0,0,0,0,0\n";
+
 #[test]
 fn counts_records(rt: HostRuntime) -> Result<(), Fail> {
     let alloc = rt.alloc();
-    assert!(rt; repeated(alloc, "COMMODITY,GC,1,SUM\n", 64)? == Ok(65));
+    assert!(rt; has_limit(alloc, "COMMODITY,GC,1,SUM\n", MAX_COMMODITIES)?);
+    assert!(rt; has_limit(alloc, "INTRA,GC,1,1,1,A,1,1,B,1\n", MAX_INTRA_SPREADS)?);
+    assert!(rt; has_limit(alloc, "SPOT,GC,202601,1,1\n", MAX_SPOT_MONTHS)?);
+    assert!(rt; has_limit(alloc, "INTER,1,1,GC,A,1,SI,B,1\n", MAX_INTER_SPREADS)?);
+    assert!(rt; has_limit(alloc, CONTRACT, MAX_CONTRACTS)?);
+    // Tiers are counted for each commodity.
+    let within = repeated(alloc, TIER_OF_EACH, MAX_TIERS)?;
+    assert!(rt; within == Ok(2 * MAX_TIERS + 1));
+    let over = repeated(alloc, TIER_OF_EACH, MAX_TIERS + 1)?;
     assert!(rt;
-        repeated(alloc, "COMMODITY,GC,1,SUM\n", 65)? == Err(ParamFault::TooMany { at: 66 })
-    );
-    assert!(rt;
-        repeated(
-            alloc,
-            "TIER,GC,1,202601,202602\nTIER,SI,1,202601,202602\n",
-            32
-        )? == Ok(65)
-    );
-    assert!(rt;
-        repeated(
-            alloc,
-            "TIER,GC,1,202601,202602\nTIER,SI,1,202601,202602\n",
-            33
-        )? == Err(ParamFault::TooMany { at: 66 })
-    );
-    assert!(rt;
-        repeated(alloc, "INTRA,GC,1,1,1,A,1,1,B,1\n", 65)? == Err(ParamFault::TooMany { at: 66 })
-    );
-    assert!(rt;
-        repeated(alloc, "SPOT,GC,202601,1,1\n", 17)? == Err(ParamFault::TooMany { at: 18 })
-    );
-    assert!(rt;
-        repeated(alloc, "INTER,1,1,GC,A,1,SI,B,1\n", 257)? == Err(ParamFault::TooMany { at: 258 })
-    );
-    assert!(rt;
-        repeated(
-            alloc,
-            "CONTRACT,X,GC,F,202601,0,1,0,0,0,0,0,0,0,0,0,0,0,0,0,0,0,0\n",
-            4096
-        )? == Ok(4097)
-    );
-    assert!(rt;
-        repeated(
-            alloc,
-            "CONTRACT,X,GC,F,202601,0,1,0,0,0,0,0,0,0,0,0,0,0,0,0,0,0,0\n",
-            4097
-        )? == Err(ParamFault::TooMany { at: 4098 })
+        over == Err(ParamFault::TooMany {
+            at: 2 * MAX_TIERS + 2
+        })
     );
     Ok(())
 }

@@ -1,5 +1,6 @@
 use span_csv::faults::PositionFault;
 use span_csv::positions::read_positions;
+use span_tables::limits::MAX_ACCOUNTS;
 use std::alloc::{AllocError, Global};
 use std::test::Fail;
 
@@ -58,12 +59,15 @@ fn keeps_the_order(rt: HostRuntime) -> Result<(), Fail> {
 fn counts_accounts(rt: HostRuntime) -> Result<(), Fail> {
     let alloc = rt.alloc();
     let mut text = String::new(alloc);
-    for i in 0..4096u32 {
+    for i in 0..MAX_ACCOUNTS {
         text.push_str(format!(in alloc; "A{i},FA,1\n")?.as_str())?;
     }
     text.push_str("A7,FB,1\nA7,FC,1\n")?;
-    assert!(rt; count(alloc, text.as_bytes())? == Ok(4098));
-    text.push_str("A4096,FB,1\n")?;
-    assert!(rt; count(alloc, text.as_bytes())? == Err(PositionFault::TooManyAccounts { at: 4099 }));
+    assert!(rt; count(alloc, text.as_bytes())? == Ok(MAX_ACCOUNTS + 2));
+    text.push_str(format!(in alloc; "A{MAX_ACCOUNTS},FB,1\n")?.as_str())?;
+    let fault = PositionFault::TooManyAccounts {
+        at: MAX_ACCOUNTS + 3,
+    };
+    assert!(rt; count(alloc, text.as_bytes())? == Err(fault));
     Ok(())
 }

@@ -1,71 +1,42 @@
 //! Worked values of the calls, in minor units.
-ghost use Rattle.std.specs.Prelude.{IfSome, IfOk};
+ghost use Rattle.std.specs.Prelude.{◌≡◌, true};
 ghost use Rattle.span_tables.specs.Accepted.{IsContract};
+ghost use Rattle.span_tables.specs.Names.{is_name};
 
 use scan_risk::scanning::scan;
 use scan_risk::scenarios::{lane_sums, sums};
-use span_money::amounts::{Delta, Scale};
 use span_tables::held::Held;
-use span_tables::limits::SCENARIOS;
-use span_tables::name::Name;
+use span_tables::limits::{MAX_ARRAY_VALUE, SCENARIOS};
 use span_tables::portfolios::Holding;
 use span_tables::records::{Contract, ProductKind};
+use span_tables::samples::{FUTURE_VALUES, contract};
 use std::sync::Arc;
 use std::test::Fail;
 
 // A future with 400 for each third of the scan range.
-fn future(id: &[u8]) -> Option<Contract>
-    ensures { IfSome result (λ contract. IsContract contract) }
+fn future(id: &[u8]) -> Contract
+    requires { is_name id.now ≡ true }
+    ensures { IsContract result }
 {
-    Some(Contract {
-        id: Name::new(id)?,
-        commodity: Name::new(b"AA")?,
-        kind: ProductKind::Future,
-        month: 202_503,
-        delta: Delta::new(10_000),
-        scale: Scale::new(10_000),
-        values: [
-            0, 0, -400, -400, 400, 400, -800, -800, 800, 800, -1200, -1200, 1200, 1200, -1188, 1188,
-        ],
-    })
+    contract(ProductKind::Future, id, b"AA", 202_503, FUTURE_VALUES)
 }
 
 // A future of the largest array values: a gain in scenarios 1 and 2, and a loss in the others.
-fn largest(id: &[u8]) -> Option<Contract>
-    ensures { IfSome result (λ contract. IsContract contract) }
+fn largest(id: &[u8]) -> Contract
+    requires { is_name id.now ≡ true }
+    ensures { IsContract result }
 {
-    Some(Contract {
-        id: Name::new(id)?,
-        commodity: Name::new(b"AA")?,
-        kind: ProductKind::Future,
-        month: 202_503,
-        delta: Delta::new(10_000),
-        scale: Scale::new(100_000),
-        values: [
-            -100_000_000,
-            -100_000_000,
-            100_000_000,
-            100_000_000,
-            100_000_000,
-            100_000_000,
-            100_000_000,
-            100_000_000,
-            100_000_000,
-            100_000_000,
-            100_000_000,
-            100_000_000,
-            100_000_000,
-            100_000_000,
-            100_000_000,
-            100_000_000,
-        ],
-    })
+    let value = i64::from(MAX_ARRAY_VALUE);
+    let mut values = [value; SCENARIOS];
+    values[0] = -value;
+    values[1] = -value;
+    contract(ProductKind::Future, id, b"AA", 202_503, values)
 }
 
 #[test]
 fn sums_held_contracts(rt: HostRuntime) -> Result<(), Fail> {
-    let near = future(b"FA").ok_or("name")?;
-    let far = future(b"FB").ok_or("name")?;
+    let near = future(b"FA");
+    let far = future(b"FB");
     let contracts = Arc::new(rt.alloc(), vec![in rt.alloc(); near, far]?)?;
     let holdings = vec![in rt.alloc();
         Holding {
@@ -88,8 +59,8 @@ fn sums_held_contracts(rt: HostRuntime) -> Result<(), Fail> {
 
 #[test]
 fn sums_of_the_largest(rt: HostRuntime) -> Result<(), Fail> {
-    let long = largest(b"LA").ok_or("name")?;
-    let short = largest(b"LB").ok_or("name")?;
+    let long = largest(b"LA");
+    let short = largest(b"LB");
     let contracts = Arc::new(rt.alloc(), vec![in rt.alloc(); long, short]?)?;
     let holdings = vec![in rt.alloc();
         Holding {

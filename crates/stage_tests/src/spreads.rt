@@ -5,12 +5,13 @@ ghost use Rattle.span_tables.specs.declared.limits.TheConstants.{MAX_NET, MAX_RA
 ghost use Rattle.spread_stage.specs.Months.{Shrinks};
 
 use arrayvec::ArrayVec;
-use span_money::amounts::{Delta, Ratio, Scale};
+use span_money::amounts::Ratio;
 use span_tables::held::Held;
 use span_tables::limits::{MAX_LEGS, MAX_NET, MAX_RATE, MAX_RATIO, MIN_LEGS, SCENARIOS};
 use span_tables::name::Name;
 use span_tables::portfolios::Holding;
 use span_tables::records::{Contract, Intra, MonthLeg, ProductKind, Side, Spot};
+use span_tables::samples::contract;
 use spread_stage::charges::{delivery, intra_charge};
 use spread_stage::deltas::month_deltas;
 use spread_stage::months::{MonthUnits, Months};
@@ -24,15 +25,7 @@ use std::test::Fail;
 fn future(month: u32) -> Contract
     ensures { IsContract result }
 {
-    Contract {
-        id: Name::default(),
-        commodity: Name::default(),
-        kind: ProductKind::Future,
-        month,
-        delta: Delta::new(10_000),
-        scale: Scale::new(10_000),
-        values: [0; SCENARIOS],
-    }
+    contract(ProductKind::Future, b"FA", b"AA", month, [0; SCENARIOS])
 }
 
 // What holds so many futures of these months.

@@ -1,21 +1,23 @@
 //! Tests of what no clause says: that the calls succeed where there is memory.
-ghost use Rattle.std.specs.Prelude.{◌≡◌, [], ◌∷◌, codes, pos, IfOk};
+ghost use Rattle.std.specs.Prelude.{◌≡◌, [], ◌∷◌, codes, pos, true, IfOk};
 ghost use Rattle.std.specs.List.{repeat};
-ghost use Rattle.span_tables.specs.Samples.{small_file};
+ghost use Rattle.span_tables.specs.Names.{is_name};
+ghost use Rattle.span_tables.specs.Samples.{contract, small_file};
 ghost use Rattle.span_tables.specs.declared.records.ProductKind.TheVariants as product;
 ghost use Rattle.span_tables.specs.declared.records.Side.TheVariants as side;
 ghost use Rattle.span_tables.specs.declared.records.Record.TheVariants as record_of;
 
 use arrayvec::ArrayVec;
-use span_money::amounts::{Delta, Ratio, Scale};
+use span_money::amounts::Ratio;
 use span_tables::held::{gather, held_commodities};
+use span_tables::limits::SCENARIOS;
 use span_tables::name::Name;
 use span_tables::portfolios::{Holding, Portfolio};
 use span_tables::raw::RawTables;
 use span_tables::records::{
-    Commodity, Contract, InterLeg, InterRecord, IntraLeg, IntraRecord, MinimumMethod, ProductKind,
-    Record, SetRecord, Side, Spot, Tier,
+    Commodity, IntraLeg, IntraRecord, MinimumMethod, ProductKind, Record, Side, Spot, Tier,
 };
+use span_tables::samples::{contract, set, spread};
 use span_tables::tables::Tables;
 use std::alloc::{AllocError, Global};
 use std::process::Abort;
@@ -27,27 +29,13 @@ fn name(rt: &impl Abort, text: &[u8]) -> Name
     Name::new(text).expect(rt, "a name")
 }
 
-fn contract(rt: &impl Abort, id: &[u8], commodity: &[u8], month: u32) -> Record
-    ensures { result ≡ record_of.Contract
-        (record {
-          id = id.now;
-          commodity = commodity.now;
-          kind = product.Future;
-          month = month;
-          delta = pos 10000;
-          scale = 10000;
-          values = repeat 16 (pos 7 ∷ []);
-        }) }
+// A future that loses 7 in each scenario, as a contract of a file.
+fn future(id: &[u8], of: &[u8], month: u32) -> Record
+    requires id { is_name id.now ≡ true }
+    requires of { is_name of.now ≡ true }
+    ensures { result ≡ record_of.Contract (contract product.Future id.now of.now month (repeat 16 (pos 7 ∷ []))) }
 {
-    Record::Contract(Contract {
-        id: name(rt, id),
-        commodity: name(rt, commodity),
-        kind: ProductKind::Future,
-        month,
-        delta: Delta::new(10_000),
-        scale: Scale::new(10_000),
-        values: [7; 16],
-    })
+    Record::Contract(contract(ProductKind::Future, id, of, month, [7; SCENARIOS]))
 }
 
 fn commodity(rt: &impl Abort, id: &[u8], minimum_rate: u32, method: MinimumMethod) -> Record
@@ -103,43 +91,9 @@ fn intra(rt: &impl Abort, priority: u32, rate: u32, long: u32, short: u32) -> Re
     })
 }
 
-fn inter(rt: &impl Abort) -> Record
-    ensures { result ≡ record_of.Inter
-        (record {
-          priority = 1;
-          basis_points = 5000;
-          legs = record {
-            items = record { commodity = codes "BB"; side = side.A; ratio = 10000 }
-                ∷ record { commodity = codes "AA"; side = side.B; ratio = 10000 } ∷ [];
-          };
-        }) }
-{
-    let ratio = Ratio::new(10_000);
-    let mut legs = ArrayVec::new();
-    legs.push(InterLeg {
-        commodity: name(rt, b"BB"),
-        side: Side::A,
-        ratio,
-    });
-    legs.push(InterLeg {
-        commodity: name(rt, b"AA"),
-        side: Side::B,
-        ratio,
-    });
-    Record::Inter(InterRecord {
-        priority: 1,
-        basis_points: 5000,
-        legs,
-    })
-}
-
 fn small_file(alloc: Global, rt: &impl Abort) -> Result<Vec<Record>, AllocError>
     ensures { IfOk result (λ records. records.items ≡ small_file) }
 {
-    let set = Record::Set(SetRecord {
-        id: name(rt, b"S-1"),
-        currency: *b"USD",
-    });
     let spot = Record::Spot(Spot {
         commodity: name(rt, b"AA"),
         month: 202_503,
@@ -149,17 +103,17 @@ fn small_file(alloc: Global, rt: &impl Abort) -> Result<Vec<Record>, AllocError>
     Ok(Vec::from_array(
         alloc,
         [
-            set,
+            set(b"S-1"),
             commodity(rt, b"AA", 100, MinimumMethod::Sum),
             commodity(rt, b"BB", 200, MinimumMethod::Max),
-            contract(rt, b"FA", b"AA", 202_503),
-            contract(rt, b"FB", b"BB", 202_506),
+            future(b"FA", b"AA", 202_503),
+            future(b"FB", b"BB", 202_506),
             tier(rt, 1, 202_501, 202_503),
             tier(rt, 2, 202_504, 202_512),
             intra(rt, 2, 250, 1, 2),
             intra(rt, 1, 100, 2, 1),
             spot,
-            inter(rt),
+            spread(1, 5000, b"BB", b"AA"),
         ],
     )?)
 }

@@ -1,4 +1,4 @@
-//! What the tests share: a parameter file, sources, writers that break, and what a command line gives.
+//! What the tests share: a writer that breaks, and what a command line and a request give.
 use span_cli::memory::InMemory;
 use span_cli::serving::{Request, serve};
 use span_cli::sources::Sources;
@@ -11,13 +11,6 @@ use std::sync::Wait;
 use std::thread::Threads;
 use std::time::Clock;
 use worker_pool::gates::OpenGate;
-
-/// A set with one future.
-pub const ONE_FUTURE: &[u8] = b"\
-SET,D1,1,USD
-COMMODITY,AA,0,SUM
-CONTRACT,FA,AA,F,202503,1,1,0,0,-400,-400,400,400,-800,-800,800,800,-1200,-1200,1200,1200,-1188,1188
-";
 
 /// A status, and what was written.
 #[derive(Drop)]

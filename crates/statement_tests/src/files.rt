@@ -1,5 +1,6 @@
 //! Whole files: what is printed for them.
-use crate::builders::{Given, ONE_FUTURE, answer};
+use crate::builders::{Given, answer};
+use sample_files::{calendar, one_future, three_commodities};
 use span_cli::serving::Request;
 use std::alloc::Global;
 use std::sync::Wait;
@@ -14,18 +15,6 @@ COMMODITY,BB,0,SUM
 CONTRACT,FA,AA,F,202503,1,1,0,0,-400,-400,400,400,-800,-800,800,800,-1200,-1200,1200,1200,-1188,1188
 CONTRACT,FB,BB,F,202503,1,1,0,0,-300,-300,300,300,-600,-600,600,600,-900,-900,900,900,-891,891
 COMMODITY,AA,0,SUM
-";
-
-// Two tiers with a spread between them, and a spot month in the first.
-const CALENDAR: &[u8] = b"\
-SET,D1,1,USD
-COMMODITY,AA,0,SUM
-CONTRACT,FA,AA,F,202503,1,1,0,0,-400,-400,400,400,-800,-800,800,800,-1200,-1200,1200,1200,-1188,1188
-CONTRACT,FA2,AA,F,202506,1,1,0,0,-400,-400,400,400,-800,-800,800,800,-1200,-1200,1200,1200,-1188,1188
-TIER,AA,1,202501,202504
-TIER,AA,2,202505,202512
-INTRA,AA,1,250,1,A,1,2,B,1
-SPOT,AA,202503,10,20
 ";
 
 // Ratios that leave parts of a spread, and a second spread that comes first by its priority.
@@ -56,29 +45,6 @@ SET,D1,1,USD
 COMMODITY,AA,500,MAX
 CONTRACT,CA,AA,C,202503,0.5,1,-5,-3,-9,-7,-4,-2,-12,-11,-3,-1,-20,-19,-2,-1,-15,-1
 CONTRACT,PA,AA,P,202503,-0.5,1,0,0,0,0,0,0,0,0,0,0,0,0,0,0,0,0
-";
-
-// Three commodities with two spreads between them.
-const CREDITS: &[u8] = b"\
-SET,D1,1,USD
-COMMODITY,AA,0,SUM
-COMMODITY,BB,0,SUM
-COMMODITY,CC,0,SUM
-CONTRACT,FA,AA,F,202503,1,1,0,0,-400,-400,400,400,-800,-800,800,800,-1200,-1200,1200,1200,-1188,1188
-CONTRACT,FB,BB,F,202503,1,1,0,0,-300,-300,300,300,-600,-600,600,600,-900,-900,900,900,-891,891
-CONTRACT,FC,CC,F,202503,1,1,0,0,-100,-100,100,100,-200,-200,200,200,-300,-300,300,300,-297,297
-INTER,1,5000,AA,A,1,BB,B,1
-INTER,2,2000,AA,A,1,CC,B,1
-";
-
-const CREDITED_POSITIONS: &[u8] = b"X,FA,3\nX,FB,-1\nX,FC,-1\n";
-
-// The second spread has what the first left.
-const CREDITED_STATEMENT: &[u8] = b"\
-R,X,D1,AA,3600,13,0,0,840,0,2760
-R,X,D1,BB,900,11,0,0,450,0,450
-R,X,D1,CC,300,11,0,0,60,0,240
-T,X,D1,3450
 ";
 
 // Two commodities with a credit that is no whole amount.
@@ -133,7 +99,7 @@ const TWO_COMMODITIES_PLAN: &[u8] = b"\
 22 TotalAdd(1) 21 15
 ";
 
-// The plan of CALENDAR: a spread between the tiers.
+// The plan of the calendar spread: a spread between the tiers.
 const CALENDAR_PLAN: &[u8] = b"\
 0 Gather(0)
 1 Sums(0) 0
@@ -159,7 +125,7 @@ fn plan<R: Threads + Wait + Clock + Sync>(rt: &R, alloc: Global, params: &[u8]) 
 fn lists_plans(rt: HostRuntime) -> Result<(), Fail> {
     let alloc = rt.alloc();
     assert!(rt; plan(&rt, alloc, ODD_CREDIT).is(0, TWO_COMMODITIES_PLAN, b""));
-    assert!(rt; plan(&rt, alloc, CALENDAR).is(0, CALENDAR_PLAN, b""));
+    assert!(rt; plan(&rt, alloc, calendar::PARAMS).is(0, CALENDAR_PLAN, b""));
     Ok(())
 }
 
@@ -193,13 +159,13 @@ fn margins_futures(rt: HostRuntime) -> Result<(), Fail> {
     let cases: [(&[u8], &[u8], &[u8]); 4] = [
         // Accounts in order of appearance, and two records of one contract.
         (
-            ONE_FUTURE,
+            one_future::PARAMS,
             b"Y,FA,1\nX,FA,-1\nY,FA,1\n",
             b"R,Y,D1,AA,2400,13,0,0,0,0,2400\nT,Y,D1,2400\nR,X,D1,AA,1200,11,0,0,0,0,1200\nT,X,D1,1200\n",
         ),
         // A byte order mark, quotes, CR LF, an empty line and no line end.
         (
-            ONE_FUTURE,
+            one_future::PARAMS,
             b"\xEF\xBB\xBF\"X\",FA,\"1\"\r\n\r\nX,FA,-001",
             b"T,X,D1,0\n",
         ),
@@ -210,7 +176,7 @@ fn margins_futures(rt: HostRuntime) -> Result<(), Fail> {
             b"R,X,D1,BB,900,13,0,0,0,0,900\nR,X,D1,AA,1200,13,0,0,0,0,1200\nT,X,D1,2100\n",
         ),
         // No accounts.
-        (ONE_FUTURE, b"\n\n", b""),
+        (one_future::PARAMS, b"\n\n", b""),
     ];
     for (params, positions, statement) in cases {
         assert!(rt; margin(&rt, alloc, params, positions).is(0, statement, b""));
@@ -222,15 +188,10 @@ fn margins_futures(rt: HostRuntime) -> Result<(), Fail> {
 fn margins_spreads_and_options(rt: HostRuntime) -> Result<(), Fail> {
     let alloc = rt.alloc();
     let cases: [(&[u8], &[u8], &[u8]); 5] = [
-        // Two spreads at 250, one month left at 20 and two spreads of it at 10.
-        (
-            CALENDAR,
-            b"X,FA,3\nX,FA2,-2\n",
-            b"R,X,D1,AA,1200,13,500,40,0,0,1740\nT,X,D1,1740\n",
-        ),
+        (calendar::PARAMS, calendar::POSITIONS, calendar::STATEMENT),
         // The second direction.
         (
-            CALENDAR,
+            calendar::PARAMS,
             b"X,FA,-3\nX,FA2,2\n",
             b"R,X,D1,AA,1200,11,500,40,0,0,1740\nT,X,D1,1740\n",
         ),
@@ -260,7 +221,15 @@ fn margins_spreads_and_options(rt: HostRuntime) -> Result<(), Fail> {
 #[test]
 fn gives_credits(rt: HostRuntime) -> Result<(), Fail> {
     let alloc = rt.alloc();
-    assert!(rt; margin(&rt, alloc, CREDITS, CREDITED_POSITIONS).is(0, CREDITED_STATEMENT, b""));
+    assert!(rt;
+        margin(
+            &rt,
+            alloc,
+            three_commodities::PARAMS,
+            three_commodities::POSITIONS
+        )
+        .is(0, three_commodities::STATEMENT, b"")
+    );
     // 399.96 and 299.97.
     let odd = b"\
 R,X,D1,AA,1200,13,0,0,399,0,801
@@ -274,15 +243,15 @@ T,X,D1,2302
 #[test]
 fn counts_and_refuses(rt: HostRuntime) -> Result<(), Fail> {
     let alloc = rt.alloc();
-    assert!(rt; check(&rt, alloc, CALENDAR).is(0, b"OK,D1,1,2,2,1,1,0\n", b""));
-    assert!(rt; check(&rt, alloc, CREDITS).is(0, b"OK,D1,3,3,0,0,0,2\n", b""));
+    assert!(rt; check(&rt, alloc, calendar::PARAMS).is(0, b"OK,D1,1,2,2,1,1,0\n", b""));
+    assert!(rt; check(&rt, alloc, three_commodities::PARAMS).is(0, b"OK,D1,3,3,0,0,0,2\n", b""));
     assert!(rt; check(&rt, alloc, b"SET,D1,1,USD\n").is(0, b"OK,D1,0,0,0,0,0,0\n", b""));
     let line = b"parameters: C3 DuplicateContract at record 7\n";
     assert!(rt; check(&rt, alloc, MANY_FAULTS).is(3, b"", line));
     assert!(rt; margin(&rt, alloc, MANY_FAULTS, b"x").is(3, b"", line));
     // An unknown contract counts before a net over the limit.
     assert!(rt;
-        margin(&rt, alloc, ONE_FUTURE, b"X,FA,100001\nX,FZ,1\n").is(
+        margin(&rt, alloc, one_future::PARAMS, b"X,FA,100001\nX,FZ,1\n").is(
             4,
             b"",
             b"positions: B1 UnknownContract at record 2 account X\n"
@@ -292,7 +261,7 @@ fn counts_and_refuses(rt: HostRuntime) -> Result<(), Fail> {
         margin(
             &rt,
             alloc,
-            ONE_FUTURE,
+            one_future::PARAMS,
             b"Y,FA,1\nX,FA,1\nY,FA,-1\nX,FA,100000\n"
         )
         .is(
@@ -308,9 +277,14 @@ fn counts_and_refuses(rt: HostRuntime) -> Result<(), Fail> {
 #[test]
 fn says_where_memory_is_wanted(rt: HostRuntime) -> Result<(), Fail> {
     let alloc = rt.alloc();
-    let Given { status, out, err } = margin(&rt, alloc, CREDITS, CREDITED_POSITIONS);
+    let Given { status, out, err } = margin(
+        &rt,
+        alloc,
+        three_commodities::PARAMS,
+        three_commodities::POSITIONS,
+    );
     if status == 0 {
-        assert!(rt; out.as_slice() == CREDITED_STATEMENT);
+        assert!(rt; out.as_slice() == three_commodities::STATEMENT);
         assert!(rt; err.is_empty());
     } else {
         // The stream itself grows, and may be refused.

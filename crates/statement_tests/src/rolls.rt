@@ -1,6 +1,10 @@
 //! Rolls: the bytes of both statements, the thread beside the first batch, and what stays in the book.
 use param_check::faults::{BindFault, CheckFault};
 use result_book::books::{BookFault, ResultBook};
+use sample_files::calendar::{
+    BOTH_STATEMENTS, NEXT, NEXT_WITH_A_COMMODITY_TWICE, NEXT_WITHOUT_A_CONTRACT, PARAMS, POSITIONS,
+};
+use sample_files::two_commodities;
 use span_csv::faults::{ParamFault, PositionFault};
 use span_tables::name::Name;
 use span_told::MarkedWriter;
@@ -12,65 +16,38 @@ use std::sync::atomic::AtomicBool;
 use std::sync::atomic::Ordering::SeqCst;
 use std::test::Fail;
 use std::thread;
+use worker_pool::batch::MAX_WORKERS;
 use worker_pool::gates::{Gate, OpenGate};
-
-const PARAMS: &[u8] = b"\
-SET,D1,1,USD
-COMMODITY,AA,0,SUM
-CONTRACT,FA,AA,F,202503,1,1,0,0,-400,-400,400,400,-800,-800,800,800,-1200,-1200,1200,1200,-1188,1188
-CONTRACT,FA2,AA,F,202506,1,1,0,0,-400,-400,400,400,-800,-800,800,800,-1200,-1200,1200,1200,-1188,1188
-TIER,AA,1,202501,202504
-TIER,AA,2,202505,202512
-INTRA,AA,1,250,1,A,1,2,B,1
-";
-
-// Each spread costs 300, and not 250.
-const NEXT: &[u8] = b"\
-SET,D2,1,USD
-COMMODITY,AA,0,SUM
-CONTRACT,FA,AA,F,202503,1,1,0,0,-400,-400,400,400,-800,-800,800,800,-1200,-1200,1200,1200,-1188,1188
-CONTRACT,FA2,AA,F,202506,1,1,0,0,-400,-400,400,400,-800,-800,800,800,-1200,-1200,1200,1200,-1188,1188
-TIER,AA,1,202501,202504
-TIER,AA,2,202505,202512
-INTRA,AA,1,300,1,A,1,2,B,1
-";
-
-// There is no FA2.
-const NEXT_WITHOUT_A_CONTRACT: &[u8] = b"\
-SET,D2,1,USD
-COMMODITY,AA,0,SUM
-CONTRACT,FA,AA,F,202503,1,1,0,0,-400,-400,400,400,-800,-800,800,800,-1200,-1200,1200,1200,-1188,1188
-";
-
-const TWICE: &[u8] = b"\
-SET,D2,1,USD
-COMMODITY,AA,0,SUM
-COMMODITY,AA,0,SUM
-";
-
-const POSITIONS: &[u8] = b"\
-X,FA,3
-X,FA2,-2
-";
-
-// One at 1200, and two spreads.
-const STATEMENTS: &[u8] = b"\
-R,X,D1,AA,1200,13,500,0,0,0,1700
-T,X,D1,1700
-R,X,D2,AA,1200,13,600,0,0,0,1800
-T,X,D2,1800
-";
 
 #[test]
 fn two_statements_on_each_number_of_workers(rt: HostRuntime) -> Result<(), Fail> {
     let alloc = rt.alloc();
-    for workers in [1, 2, 16] {
+    for workers in [1, 2, 4, MAX_WORKERS] {
         let book = Mutex::new(ResultBook::new(alloc));
         let text = roll(
             &rt, alloc, PARAMS, NEXT, POSITIONS, workers, &OpenGate, &book,
         )?;
-        assert_eq!(rt; text.as_slice(), STATEMENTS);
+        assert_eq!(rt; text.as_slice(), BOTH_STATEMENTS);
     }
+    Ok(())
+}
+
+// Under the next set FA is of the other commodity, which comes first.
+#[test]
+fn next_set_in_another_order(rt: HostRuntime) -> Result<(), Fail> {
+    let alloc = rt.alloc();
+    let book = Mutex::new(ResultBook::new(alloc));
+    let text = roll(
+        &rt,
+        alloc,
+        two_commodities::PARAMS,
+        two_commodities::NEXT,
+        two_commodities::POSITIONS,
+        1,
+        &OpenGate,
+        &book,
+    )?;
+    assert_eq!(rt; text.as_slice(), two_commodities::BOTH_STATEMENTS);
     Ok(())
 }
 
@@ -116,7 +93,7 @@ fn the_next_set_beside_the_first_batch(rt: HostRuntime) -> Result<(), Fail> {
         late: AtomicBool::new(false),
     };
     let text = roll(&rt, alloc, PARAMS, NEXT, POSITIONS, 1, &gate, &book)?;
-    assert_eq!(rt; text.as_slice(), STATEMENTS);
+    assert_eq!(rt; text.as_slice(), BOTH_STATEMENTS);
     assert!(rt; !gate.late.load(SeqCst));
     Ok(())
 }
@@ -127,7 +104,7 @@ fn rows_of_both_batches_in_the_book(rt: HostRuntime) -> Result<(), Fail> {
     let book = Mutex::new(ResultBook::new(alloc));
     roll(&rt, alloc, PARAMS, NEXT, POSITIONS, 1, &OpenGate, &book)?;
     let book = book.into_inner();
-    for (batch, id, total) in [(1, b"D1", 1700), (2, b"D2", 1800)] {
+    for (batch, id, total) in [(1, b"D1", 1740), (2, b"D2", 1840)] {
         let rows = book.rows(batch)?;
         assert_eq!(rt; rows.len(), 1);
         assert_eq!(rt; rows[0].set_id().as_bytes(), id.as_slice());
@@ -153,8 +130,8 @@ fn rows_of_the_first_batch_stay(rt: HostRuntime) -> Result<(), Fail> {
             SpanFault::NextParams(ParamFault::NoSet { at: 0 }),
         ),
         (
-            TWICE,
-            SpanFault::NextCheck(CheckFault::DuplicateCommodity { at: 3 }),
+            NEXT_WITH_A_COMMODITY_TWICE,
+            SpanFault::NextCheck(CheckFault::DuplicateCommodity { at: 9 }),
         ),
     ];
     for (next, fault) in faults {
@@ -163,7 +140,7 @@ fn rows_of_the_first_batch_stay(rt: HostRuntime) -> Result<(), Fail> {
         assert!(rt; refused == Err(fault));
         let rows = book.into_inner().rows(1)?;
         assert_eq!(rt; rows.len(), 1);
-        assert_eq!(rt; rows[0].total().get(), 1700);
+        assert_eq!(rt; rows[0].total().get(), 1740);
     }
     Ok(())
 }
@@ -172,6 +149,7 @@ fn rows_of_the_first_batch_stay(rt: HostRuntime) -> Result<(), Fail> {
 #[test]
 fn faults_of_today_come_first(rt: HostRuntime) -> Result<(), Fail> {
     let alloc = rt.alloc();
+    let account = Name::new(b"X").ok_or("a name")?;
     let book = Mutex::new(ResultBook::new(alloc));
     let faults = [
         (
@@ -181,13 +159,30 @@ fn faults_of_today_come_first(rt: HostRuntime) -> Result<(), Fail> {
             SpanFault::Params(ParamFault::NoSet { at: 0 }),
         ),
         (
+            b"SET,D1,1,USD\nSET,D1,1,USD\n".as_slice(),
+            b"X,FZ\n".as_slice(),
+            1,
+            SpanFault::Params(ParamFault::SecondSet { at: 2 }),
+        ),
+        (
             PARAMS,
             b"X,FA".as_slice(),
             1,
             SpanFault::Positions(PositionFault::FieldCount { at: 1 }),
         ),
+        (
+            PARAMS,
+            b"X,FZ,1\n".as_slice(),
+            1,
+            SpanFault::Bind(BindFault::UnknownContract { at: 1, account }),
+        ),
         (b"".as_slice(), POSITIONS, 0, SpanFault::Workers),
-        (b"".as_slice(), POSITIONS, 17, SpanFault::Workers),
+        (
+            b"".as_slice(),
+            POSITIONS,
+            MAX_WORKERS + 1,
+            SpanFault::Workers,
+        ),
     ];
     for (params, positions, workers, fault) in faults {
         let refused = roll(
@@ -208,8 +203,8 @@ fn two_threads_on_one_book(rt: HostRuntime) -> Result<(), Fail> {
         || roll(&rt, alloc, PARAMS, NEXT, POSITIONS, 2, &OpenGate, &book),
         || roll(&rt, alloc, PARAMS, NEXT, POSITIONS, 2, &OpenGate, &book),
     );
-    assert_eq!(rt; one?.as_slice(), STATEMENTS);
-    assert_eq!(rt; other?.as_slice(), STATEMENTS);
+    assert_eq!(rt; one?.as_slice(), BOTH_STATEMENTS);
+    assert_eq!(rt; other?.as_slice(), BOTH_STATEMENTS);
     let book = book.into_inner();
     let mut of_today = 0usize;
     for batch in 1..5 {

@@ -1,5 +1,7 @@
 //! Command lines: statuses, what goes to the output and what to the error stream.
-use crate::builders::{Breaking, Given, ONE_FUTURE, run_on};
+use crate::builders::{Breaking, Given, run_on};
+use sample_files::one_future;
+use sample_files::one_future::{POSITIONS, STATEMENT};
 use span_cli::memory::InMemory;
 use span_cli::sources::{ReadFault, Sources};
 use span_cli::words::{refuse_words, run_words};
@@ -13,11 +15,7 @@ use std::thread::Threads;
 use std::time::Clock;
 use worker_pool::gates::OpenGate;
 
-const POSITIONS: &[u8] = b"X,FA,1\n";
-
-const STATEMENT: &[u8] = b"R,X,D1,AA,1200,13,0,0,0,0,1200\nT,X,D1,1200\n";
-
-// As ONE_FUTURE, with another id and half of the range.
+// As today's set, with another id and half of the range.
 const NEXT: &[u8] = b"\
 SET,D2,1,USD
 COMMODITY,AA,0,SUM
@@ -32,7 +30,7 @@ T,X,D2,600
 ";
 
 const FILES: [(&str, &[u8]); 9] = [
-    ("params.csv", ONE_FUTURE),
+    ("params.csv", one_future::PARAMS),
     ("next.csv", NEXT),
     ("positions.csv", POSITIONS),
     ("no-set.csv", b"COMMODITY,AA,0,SUM\n"),

@@ -5,7 +5,7 @@ use Rattle.step_scheduler.proofs.SampleLaws.{one_future_kept, one_future_readabl
 use Rattle.plan_tests.proofs.samples.set_of_one_future.Goals as goal
 
 pub new-raw-requires : goal.new-raw-requires
-new-raw-requires g c = ap is_readable c.in_ok-one_future.ensures ∙ one_future_readable
+new-raw-requires c = ap is_readable c.in_ok-one_future.ensures ∙ one_future_readable
 
 pub new-requires : goal.new-requires
-new-requires g c = ap keeps_rules (c.new-raw.ensures ∙ c.in_ok-one_future.ensures) ∙ one_future_kept
+new-requires c = ap keeps_rules (c.new-raw.ensures ∙ c.in_ok-one_future.ensures) ∙ one_future_kept

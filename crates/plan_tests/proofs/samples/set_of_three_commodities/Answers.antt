@@ -5,7 +5,7 @@ use Rattle.step_scheduler.proofs.SampleLaws.{three_commodities_kept, three_commo
 use Rattle.plan_tests.proofs.samples.set_of_three_commodities.Goals as goal
 
 pub new-raw-requires : goal.new-raw-requires
-new-raw-requires g c = ap is_readable c.in_ok-three_commodities.ensures ∙ three_commodities_readable
+new-raw-requires c = ap is_readable c.in_ok-three_commodities.ensures ∙ three_commodities_readable
 
 pub new-requires : goal.new-requires
-new-requires g c = ap keeps_rules (c.new-raw.ensures ∙ c.in_ok-three_commodities.ensures) ∙ three_commodities_kept
+new-requires c = ap keeps_rules (c.new-raw.ensures ∙ c.in_ok-three_commodities.ensures) ∙ three_commodities_kept

@@ -8,7 +8,7 @@ loop-kind-preserved g c =
     let before = c.loop-kind.invariant in
     let few : length c.loop-kind.holdings.items < MAX_HELD = search rules in
     rw (c.in_ok-push-2.ensures.items, c.in_ok-push.ensures.items) (record {
-      contracts = omega (arith, length-append c.loop-kind.contracts.items (c.contract.result ∷ []), before.contracts);
+      contracts = omega (arith, length-append c.loop-kind.contracts.items (c.contract_of.result ∷ []), before.contracts);
       holdings = length-append c.loop-kind.holdings.items _ ∙ omega (arith, before.holdings);
-      held = AreHoldings-push _ _ _ _ before.held few (search rules) (search rules) c.contract.ensures;
+      held = AreHoldings-push _ _ _ _ before.held few (search rules) (search rules) c.contract_of.ensures;
     })

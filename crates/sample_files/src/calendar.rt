@@ -1,0 +1,69 @@
+//! A calendar spread with a spot month, under a set and under the next.
+
+/// Two tiers with a spread between them, and a spot month in the first.
+pub const PARAMS: &[u8] = b"\
+SET,D1,1,USD
+COMMODITY,AA,0,SUM
+CONTRACT,FA,AA,F,202503,1,1,0,0,-400,-400,400,400,-800,-800,800,800,-1200,-1200,1200,1200,-1188,1188
+CONTRACT,FA2,AA,F,202506,1,1,0,0,-400,-400,400,400,-800,-800,800,800,-1200,-1200,1200,1200,-1188,1188
+TIER,AA,1,202501,202504
+TIER,AA,2,202505,202512
+INTRA,AA,1,250,1,A,1,2,B,1
+SPOT,AA,202503,10,20
+";
+
+/// The next set: each spread costs 300, and not 250.
+pub const NEXT: &[u8] = b"\
+SET,D2,1,USD
+COMMODITY,AA,0,SUM
+CONTRACT,FA,AA,F,202503,1,1,0,0,-400,-400,400,400,-800,-800,800,800,-1200,-1200,1200,1200,-1188,1188
+CONTRACT,FA2,AA,F,202506,1,1,0,0,-400,-400,400,400,-800,-800,800,800,-1200,-1200,1200,1200,-1188,1188
+TIER,AA,1,202501,202504
+TIER,AA,2,202505,202512
+INTRA,AA,1,300,1,A,1,2,B,1
+SPOT,AA,202503,10,20
+";
+
+/// A next set that lacks FA2, which is held.
+pub const NEXT_WITHOUT_A_CONTRACT: &[u8] = b"\
+SET,D2,1,USD
+COMMODITY,AA,0,SUM
+CONTRACT,FA,AA,F,202503,1,1,0,0,-400,-400,400,400,-800,-800,800,800,-1200,-1200,1200,1200,-1188,1188
+TIER,AA,1,202501,202504
+TIER,AA,2,202505,202512
+INTRA,AA,1,300,1,A,1,2,B,1
+SPOT,AA,202503,10,20
+";
+
+/// A next set with its commodity twice, the second time as record 9.
+pub const NEXT_WITH_A_COMMODITY_TWICE: &[u8] = b"\
+SET,D2,1,USD
+COMMODITY,AA,0,SUM
+CONTRACT,FA,AA,F,202503,1,1,0,0,-400,-400,400,400,-800,-800,800,800,-1200,-1200,1200,1200,-1188,1188
+CONTRACT,FA2,AA,F,202506,1,1,0,0,-400,-400,400,400,-800,-800,800,800,-1200,-1200,1200,1200,-1188,1188
+TIER,AA,1,202501,202504
+TIER,AA,2,202505,202512
+INTRA,AA,1,300,1,A,1,2,B,1
+SPOT,AA,202503,10,20
+COMMODITY,AA,0,SUM
+";
+
+/// An account that is long three of the near month and short two of the far one.
+pub const POSITIONS: &[u8] = b"\
+X,FA,3
+X,FA2,-2
+";
+
+/// One at 1200, two spreads at 250, one month left at 20 and two spreads of it at 10.
+pub const STATEMENT: &[u8] = b"\
+R,X,D1,AA,1200,13,500,40,0,0,1740
+T,X,D1,1740
+";
+
+/// The same, and then under the next set two spreads at 300.
+pub const BOTH_STATEMENTS: &[u8] = b"\
+R,X,D1,AA,1200,13,500,40,0,0,1740
+T,X,D1,1740
+R,X,D2,AA,1200,13,600,40,0,0,1840
+T,X,D2,1840
+";

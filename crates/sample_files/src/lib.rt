@@ -1,0 +1,8 @@
+//! Parameter and position files that tests of more than one crate read, each with its statement as it was worked by hand.
+//! The crate has no code.
+#![tactic(auto)]
+
+pub mod calendar;
+pub mod one_future;
+pub mod three_commodities;
+pub mod two_commodities;
