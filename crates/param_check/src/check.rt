@@ -77,7 +77,7 @@ fn spread_fault(alloc: Global, records: &[Record]) -> Result<Option<CheckFault>,
     Ok(None)
 }
 
-/// The lowest-numbered rule that a record breaks, with the first record that breaks it (docs/METHOD.md, "Rules"). `Err` is
+/// The lowest-numbered rule that a record breaks, with the first record that breaks it (docs/FORMATS.md, "Faults"). `Err` is
 /// want of memory.
 #[tactic(auto, using(crate::proofs::GroupLemmas::check_fault_in_groups))]
 pub fn check_fault(alloc: Global, records: &[Record]) -> Result<Option<CheckFault>, AllocError>

@@ -69,7 +69,7 @@ Prints the statement under PARAMS, as `margin` does, and after it that under NEX
 NEXT is made ready beside the first batch. The lines of the two statements have the ids of their sets.
 docs/ROLL.md has a day's roll in commands.";
 
-const WORKERS_HELP: &str = "Workers that share the steps, 1 to 16";
+const WORKERS_HELP: &str = "Workers that share the steps, 1 to 16; more than 1 saves no time yet";
 
 // A file's name, which has to be given.
 fn file<'a>(alloc: Global, id: &'a str, help: &'a str) -> Arg<'a>

@@ -1,4 +1,5 @@
-//! The limits with their digits: whoever changes one in `limits` changes it here too.
+//! The limits with their digits: whoever changes one in `limits` changes it here too. Where digits of limits stand besides,
+//! in proofs, worked values, tests and prose, is in docs/ARCHITECTURE.md, "A revised limit".
 ghost use Rattle.std.specs.Prelude.{◌≡◌};
 ghost use Rattle.span_tables.specs.declared.limits.TheConstants.{MAX_COMMODITIES, MAX_CONTRACTS, MAX_INTER_SPREADS, MAX_TIERS};
 ghost use Rattle.span_tables.specs.declared.limits.TheConstants.{MAX_INTRA_SPREADS, MAX_SPOT_MONTHS, MAX_ACCOUNTS, MAX_NET};

@@ -421,7 +421,7 @@ Arguments:
   <POSITIONS>  Position file (CSV): account, contract, quantity in contracts (minus is short)
 
 Options:
-      --workers <N>  Workers that share the steps, 1 to 16 [default: 1]
+      --workers <N>  Workers that share the steps, 1 to 16; more than 1 saves no time yet [default: 1]
   -h, --help         Print help
 
 Prints a line for each commodity that an account holds, then one for its total:
@@ -443,7 +443,7 @@ Arguments:
   <POSITIONS>  Position file (CSV): account, contract, quantity in contracts (minus is short)
 
 Options:
-      --workers <N>  Workers that share the steps, 1 to 16 [default: 1]
+      --workers <N>  Workers that share the steps, 1 to 16; more than 1 saves no time yet [default: 1]
   -h, --help         Print help
 
 Prints the statement under PARAMS, as `margin` does, and after it that under NEXT, for the same positions.
