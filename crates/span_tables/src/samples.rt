@@ -39,13 +39,7 @@ pub fn commodity(id: &[u8]) -> Record
 }
 
 /// The contract of this id, with delta 1 and scale 1: its kind, its commodity, its month and its values in minor units.
-pub fn contract(
-    kind: ProductKind,
-    id: &[u8],
-    of: &[u8],
-    month: u32,
-    values: [i64; 16],
-) -> Contract
+pub fn contract(kind: ProductKind, id: &[u8], of: &[u8], month: u32, values: [i64; 16]) -> Contract
     requires id { is_name id.now ≡ true }
     requires of { is_name of.now ≡ true }
     ensures { result ≡ contract kind id.now of.now month values }
