@@ -13,7 +13,7 @@ use crate::sources::{ReadFault, Sources};
 use result_book::books::ResultBook;
 use span_told::MarkedWriter;
 use statement::counts::check_plain;
-use statement::fault_lines::write_fault;
+use statement::fault_lines::tell_fault;
 use statement::faults::{SpanFault, status};
 use statement::margin::margin;
 use statement::plans::plan_plain;
@@ -260,9 +260,7 @@ fn tell_refusal<E: Write>(refusal: &Refusal<'_>, err: &mut MarkedWriter<E>)
         Refusal::File(name) => {
             let _ = writeln!(err, "file: {name}");
         }
-        Refusal::Fault(fault) => {
-            let _ = write_fault(fault, err);
-        }
+        Refusal::Fault(fault) => tell_fault(fault, err),
     }
 }
 

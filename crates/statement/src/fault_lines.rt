@@ -2,8 +2,9 @@
 ghost use Rattle.statement.specs.FaultLines.{account_line, bind_line, book_line, check_line, fault_line, param_line};
 ghost use Rattle.statement.specs.FaultLines.{place_text, position_line, record_line};
 ghost use Rattle.statement.specs.near.LineParts.{text_of};
+ghost use Rattle.span_told.specs.Streams.{Says};
 ghost use Rattle.std.specs.Io.KnownBytes.{Appends};
-ghost use Rattle.std.specs.Prelude.{◌++◌, ◌≡◌, OnErr, OnOk, codes, true};
+ghost use Rattle.std.specs.Prelude.{◌++◌, ◌≡◌, OnOk, codes};
 
 use crate::faults::SpanFault;
 use param_check::faults::{BindFault, CheckFault};
@@ -175,24 +176,15 @@ fn line_of(fault: &SpanFault) -> Line<'_>
 }
 
 // Writes the line of positions that do not fit, up to the account.
-fn write_start<W: Write>(
-    file: &str,
-    code: &str,
-    at: usize,
-    out: &mut MarkedWriter<W>,
-) -> io::Result<()>
-    ensures written { OnOk result (Appends out.old.held out.new.held (place_text file.now code.now at)) }
-    ensures same { OnOk result (out.new.failed ≡ out.old.failed) }
-    ensures failed { OnErr result (out.new.failed ≡ true) }
+fn write_start<W: Write>(file: &str, code: &str, at: usize, out: &mut W) -> io::Result<()>
+    ensures { OnOk result (Appends (W.contents out.old) (W.contents out.new) (place_text file.now code.now at)) }
 {
     write!(out, "{file}: {code} at record {at} account ")
 }
 
 // Writes the rest of it.
-fn write_account<W: Write>(account: &Name, out: &mut MarkedWriter<W>) -> io::Result<()>
-    ensures written { OnOk result (Appends out.old.held out.new.held (account.now ++ codes "\n")) }
-    ensures same { OnOk result (out.new.failed ≡ out.old.failed) }
-    ensures failed { OnErr result (out.new.failed ≡ true) }
+fn write_account<W: Write>(account: &Name, out: &mut W) -> io::Result<()>
+    ensures { OnOk result (Appends (W.contents out.old) (W.contents out.new) (account.now ++ codes "\n")) }
 {
     out.write_all(account.as_bytes())?;
     out.write_all(b"\n")
@@ -204,21 +196,17 @@ fn write_place<W: Write>(
     code: &str,
     at: usize,
     account: &Name,
-    out: &mut MarkedWriter<W>,
+    out: &mut W,
 ) -> io::Result<()>
-    ensures written { OnOk result (Appends out.old.held out.new.held (account_line file.now code.now at account.now)) }
-    ensures same { OnOk result (out.new.failed ≡ out.old.failed) }
-    ensures failed { OnErr result (out.new.failed ≡ true) }
+    ensures { OnOk result (Appends (W.contents out.old) (W.contents out.new) (account_line file.now code.now at account.now)) }
 {
     write_start(file, code, at, out)?;
     write_account(account, out)
 }
 
 // Writes a line.
-fn write_line<W: Write>(line: &Line<'_>, out: &mut MarkedWriter<W>) -> io::Result<()>
-    ensures written { OnOk result (Appends out.old.held out.new.held (text_of line.now)) }
-    ensures same { OnOk result (out.new.failed ≡ out.old.failed) }
-    ensures failed { OnErr result (out.new.failed ≡ true) }
+fn write_line<W: Write>(line: &Line<'_>, out: &mut W) -> io::Result<()>
+    ensures { OnOk result (Appends (W.contents out.old) (W.contents out.new) (text_of line.now)) }
 {
     match line {
         Line::Record { file, code, at } => writeln!(out, "{file}: {code} at record {at}"),
@@ -235,13 +223,76 @@ fn write_line<W: Write>(line: &Line<'_>, out: &mut MarkedWriter<W>) -> io::Resul
     }
 }
 
-/// Writes the line of a fault. A part of it may have gone out before a write that failed, and the writer remembers that
-/// failure.
-pub fn write_fault<W: Write>(fault: &SpanFault, out: &mut MarkedWriter<W>) -> io::Result<()>
-    ensures written { OnOk result (Appends out.old.held out.new.held (fault_line fault.now)) }
-    ensures same { OnOk result (out.new.failed ≡ out.old.failed) }
-    ensures failed { OnErr result (out.new.failed ≡ true) }
+/// Writes the line of a fault.
+pub fn write_fault<W: Write>(fault: &SpanFault, out: &mut W) -> io::Result<()>
+    ensures { OnOk result (Appends (W.contents out.old) (W.contents out.new) (fault_line fault.now)) }
 {
     let line = line_of(fault);
     write_line(&line, out)
+}
+
+// Tells the line of positions that do not fit, up to the account.
+fn tell_start<W: Write>(file: &str, code: &str, at: usize, out: &mut MarkedWriter<W>)
+    ensures { Says out.old out.new (place_text file.now code.now at) }
+{
+    let _ = write!(out, "{file}: {code} at record {at} account ");
+}
+
+// Tells the rest of it.
+fn tell_account<W: Write>(account: &Name, out: &mut MarkedWriter<W>)
+    ensures { Says out.old out.new (account.now ++ codes "\n") }
+{
+    let _ = out.write_all(account.as_bytes());
+    let _ = out.write_all(b"\n");
+}
+
+// Tells that line.
+fn tell_place<W: Write>(
+    file: &str,
+    code: &str,
+    at: usize,
+    account: &Name,
+    out: &mut MarkedWriter<W>,
+)
+    ensures { Says out.old out.new (account_line file.now code.now at account.now) }
+{
+    tell_start(file, code, at, out);
+    tell_account(account, out);
+}
+
+// Tells a line.
+fn tell_line<W: Write>(line: &Line<'_>, out: &mut MarkedWriter<W>)
+    ensures { Says out.old out.new (text_of line.now) }
+{
+    match line {
+        Line::Record { file, code, at } => {
+            let _ = writeln!(out, "{file}: {code} at record {at}");
+        }
+        Line::Account {
+            file,
+            code,
+            at,
+            account,
+        } => tell_place(file, code, *at, account, out),
+        Line::Workers => {
+            let _ = writeln!(out, "workers: L1 Workers");
+        }
+        Line::Book { code } => {
+            let _ = writeln!(out, "book: {code}");
+        }
+        Line::Shelf => {
+            let _ = writeln!(out, "shelf");
+        }
+        Line::Memory => {
+            let _ = writeln!(out, "memory");
+        }
+    }
+}
+
+/// Writes the line of a fault to a writer that remembers a failed write.
+pub fn tell_fault<W: Write>(fault: &SpanFault, out: &mut MarkedWriter<W>)
+    ensures { Says out.old out.new (fault_line fault.now) }
+{
+    let line = line_of(fault);
+    tell_line(&line, out);
 }

@@ -7,7 +7,6 @@ use sample_files::calendar::{
 use sample_files::two_commodities;
 use span_csv::faults::{ParamFault, PositionFault};
 use span_tables::name::Name;
-use span_told::MarkedWriter;
 use statement::fault_lines::write_fault;
 use statement::faults::{SpanFault, status};
 use statement::roll::roll;
@@ -245,9 +244,9 @@ fn lines_of_books_and_shelves(rt: HostRuntime) -> Result<(), Fail> {
         ),
     ];
     for (fault, line, number) in lines {
-        let mut out = MarkedWriter::new(Vec::new(rt.alloc()));
+        let mut out = Vec::new(rt.alloc());
         write_fault(&fault, &mut out)?;
-        assert_eq!(rt; out.into_inner().as_slice(), line);
+        assert_eq!(rt; out.as_slice(), line);
         assert_eq!(rt; status(&fault), number);
     }
     Ok(())

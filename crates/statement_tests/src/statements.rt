@@ -3,7 +3,7 @@ use param_check::faults::{BindFault, CheckFault};
 use span_csv::faults::{ParamFault, PositionFault};
 use span_tables::name::Name;
 use span_told::MarkedWriter;
-use statement::fault_lines::write_fault;
+use statement::fault_lines::{tell_fault, write_fault};
 use statement::faults::{SpanFault, status};
 use statement::margin::margin_plain;
 use std::alloc::Global;
@@ -100,8 +100,11 @@ fn says(
     line: &str,
     number: u8,
 ) -> Result<(), Fail> {
-    let mut out = MarkedWriter::new(Vec::new(alloc));
+    let mut out = Vec::new(alloc);
     write_fault(&fault, &mut out)?;
+    assert_eq!(rt; out.as_slice(), line.as_bytes());
+    let mut out = MarkedWriter::new(Vec::new(alloc));
+    tell_fault(&fault, &mut out);
     assert!(rt; !out.failed());
     assert_eq!(rt; out.into_inner().as_slice(), line.as_bytes());
     assert_eq!(rt; status(&fault), number);
@@ -166,11 +169,14 @@ fn line_without_room(rt: HostRuntime) {
         account: name(b"X"),
     });
     let mut room = [0; 40];
-    let mut out = MarkedWriter::new(&mut room[..]);
+    let mut out = &mut room[..];
     assert!(rt; write_fault(&fault, &mut out).is_err());
-    assert!(rt; out.failed());
     assert_eq!(rt;
         room.as_slice(),
         b"positions: B3 TooManyHeld at record 9 ac".as_slice()
     );
+    let mut room = [0; 40];
+    let mut out = MarkedWriter::new(&mut room[..]);
+    tell_fault(&fault, &mut out);
+    assert!(rt; out.failed());
 }
