@@ -3,18 +3,22 @@ ghost use Rattle.span_cli.specs.Sources.{File, ReadGives};
 ghost use Rattle.std.specs.Prelude.{◌≡◌, IfSome, List, None, Option, Some, ℕ};
 
 use std::alloc::Global;
+use thiserror::Error;
 
 /// How many bytes a file may have (docs/METHOD.md, Limits).
 pub const FILE_CAP: usize = 67_108_864;
 
 /// Why a file cannot be read.
-#[derive(Clone, Copy, Debug, PartialEq, Eq)]
+#[derive(Clone, Copy, Debug, PartialEq, Eq, Error)]
 pub enum ReadFault {
     /// There is no such file, or reading it failed.
+    #[error("the file cannot be read")]
     Failed,
     /// The file has more than `FILE_CAP` bytes.
+    #[error("the file is too long")]
     TooLong,
     /// Want of memory.
+    #[error("memory")]
     OutOfMemory,
 }
 

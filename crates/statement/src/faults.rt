@@ -37,16 +37,16 @@ pub enum SpanFault {
     #[error("next positions: {0}")]
     NextBind(BindFault),
     /// The number of workers is 0 or over 16.
-    #[error("workers: there can be 1 to 16")]
+    #[error("workers: L1 Workers")]
     Workers,
     /// The book has no number, or no place, for the rows of a batch.
-    #[error("book: {0:?}")]
+    #[error("book: {0}")]
     Book(BookFault),
     /// The next set is not what the shelf has.
-    #[error("shelf: the next set is not there")]
+    #[error("shelf")]
     Shelf,
     /// Want of memory.
-    #[error("out of memory")]
+    #[error("memory")]
     Memory,
 }
 

@@ -7,6 +7,7 @@ use statement::fault_lines::{tell_fault, write_fault};
 use statement::faults::{SpanFault, status};
 use statement::margin::margin_plain;
 use std::alloc::Global;
+use std::io::Write;
 use std::process::Abort;
 use std::test::Fail;
 
@@ -102,6 +103,9 @@ fn says(
 ) -> Result<(), Fail> {
     let mut out = Vec::new(alloc);
     write_fault(&fault, &mut out)?;
+    assert_eq!(rt; out.as_slice(), line.as_bytes());
+    let mut out = Vec::new(alloc);
+    writeln!(out, "{fault}")?;
     assert_eq!(rt; out.as_slice(), line.as_bytes());
     let mut out = MarkedWriter::new(Vec::new(alloc));
     tell_fault(&fault, &mut out);
