@@ -1,14 +1,14 @@
 //! The values of tasks' steps.
-ghost use Rattle.std.specs.Prelude.{◌≡◌, ◌<◌, ◌∷◌, List, IfSome, IsTrue, IsFalse, Ok, length, map, true};
+ghost use Rattle.std.specs.Prelude.{◌≡◌, ◌<◌, [], ◌∷◌, List, IfSome, IsTrue, IsFalse, Ok, length, map, true};
 ghost use Rattle.std.specs.Arc.{arc_value};
-ghost use Rattle.std.specs.Option.{option_map};
 ghost use Rattle.span_tables.specs.Holdings.{fits};
 ghost use Rattle.span_tables.specs.declared.portfolios.Holding.{Holding};
 ghost use Rattle.plan_ir.specs.Apply.{IsInPlace, Takes, value_on};
 ghost use Rattle.step_scheduler.specs.Jobs.{inputs_for, meaning_at};
-ghost use Rattle.step_scheduler.specs.near.Tasks.{inputs_of};
+ghost use Rattle.step_scheduler.specs.near.Tasks.{found_in, inputs_in};
 
 use crate::finished::Finished;
+use crate::inputs::Given;
 use crate::jobs::Job;
 use crate::tasks::Task;
 use plan_compiler::set::CompiledSet;
@@ -26,37 +26,24 @@ pub fn evaluate(alloc: Global, task: Task) -> Finished
     ensures step { result.step ≡ task.step }
     ensures value { IfSome result.value (λ v. v ≡ meaning_at task.job task.step) }
 {
-    let Task {
-        job,
-        first,
-        rest,
-        found,
-        step,
-    } = task;
-    let value = match found {
-        Some(value) => Some(value),
-        None => value_of(alloc, &job, step, first, rest.as_slice()),
-    };
+    let Task { job, given, step } = task;
+    let value = value_of(alloc, &job, step, given);
     Finished { job, value, step }
 }
 
-// The value of a step on the meanings of its inputs. `None` is want of memory.
-fn value_of(
-    alloc: Global,
-    job: &Arc<Job>,
-    step: u32,
-    first: Option<Arc<Value>>,
-    rest: &[Arc<Value>],
-) -> Option<Arc<Value>>
+// The value of a step, from what its task is given. `None` is want of memory.
+fn value_of(alloc: Global, job: &Arc<Job>, step: u32, given: Given) -> Option<Arc<Value>>
     requires in_range { step < length (arc_value job.now).set.plan }
-    requires fed { inputs_of (option_map arc_value first) (map arc_value rest.now) ≡ inputs_for (arc_value job.now) step }
+    requires fed { inputs_in given ≡ inputs_for (arc_value job.now) step }
+    requires found { IfSome (found_in given) (λ v. v ≡ meaning_at (arc_value job.now) step) }
     ensures { IfSome result (λ v. arc_value v ≡ meaning_at (arc_value job.now) step) }
 {
     let set = job.set();
     let op = set.plan().op(step as usize);
-    match first {
-        Some(first) => computed(alloc, set, op, first, rest),
-        None => new_without_inputs(alloc, set.tables(), job.portfolio(), op, rest),
+    match given {
+        Given::Found(value) => Some(value),
+        Given::Nothing => new_without_inputs(alloc, set.tables(), job.portfolio(), op),
+        Given::Inputs { first, rest } => computed(alloc, set, op, first, rest.as_slice()),
     }
 }
 
@@ -127,13 +114,12 @@ fn new_without_inputs(
     tables: &Tables,
     portfolio: &Portfolio,
     op: Op,
-    inputs: &[Arc<Value>],
 ) -> Option<Arc<Value>>
     requires fits { fits (length tables.now.contracts) portfolio.now.holdings ≡ true }
-    requires inputs { Takes tables.now op (map arc_value inputs.now) }
-    ensures { IfSome result (λ v. arc_value v ≡ value_on tables.now portfolio.now.holdings op (map arc_value inputs.now)) }
+    requires inputs { Takes tables.now op [] }
+    ensures { IfSome result (λ v. arc_value v ≡ value_on tables.now portfolio.now.holdings op []) }
 {
-    as_shared(alloc, apply(alloc, tables, portfolio, &op, inputs))
+    as_shared(alloc, apply(alloc, tables, portfolio, &op, &[]))
 }
 
 // A new value of an operation, on inputs of which the first stands apart. `None` is want of memory.

@@ -8,7 +8,7 @@ ghost use Rattle.step_scheduler.specs.near.Keeping.{AreKept, IsHanded, KeepsMean
 ghost use Rattle.step_scheduler.specs.near.Kept.{AreHoldsOn};
 ghost use Rattle.step_scheduler.specs.near.Tasks.{items_of};
 
-use crate::inputs::Rest;
+use crate::inputs::{Given, Rest};
 use crate::jobs::Job;
 use crate::tasks::Task;
 use plan_ir::plans::Plan;
@@ -42,12 +42,15 @@ pub(crate) fn task_of(
     let inputs = plan.inputs(step as usize);
     let hold = hold_on(job, spare)?;
     if inputs.is_empty() {
-        let found = places[step as usize].take();
-        return Ok(Task::new(hold, step, None, Rest::Nothing, found));
+        let given = match places[step as usize].take() {
+            Some(found) => Given::Found(found),
+            None => Given::Nothing,
+        };
+        return Ok(Task::new(hold, step, given));
     }
     let rest = rest_of(places.as_slice(), &inputs[1..])?;
     let first = first_of(plan, places, inputs[0] as usize)?;
-    Ok(Task::new(hold, step, Some(first), rest, None))
+    Ok(Task::new(hold, step, Given::Inputs { first, rest }))
 }
 
 // A hold on the job: a spare one, where there is one.

@@ -1,11 +1,20 @@
-//! The inputs of a task behind the first.
+//! What a task is given.
 ghost use Rattle.std.specs.Prelude.{◌≡◌};
 ghost use Rattle.step_scheduler.specs.near.Tasks.{items_of};
 
 use plan_ir::values::Value;
 use std::sync::Arc;
 
-// At most four values, in the task itself. An `ArrayVec` of them can't be made, since it fills its unused places.
+// What a task is given: its step's own value, where that was found when the board was opened; no inputs; or the values of its
+// inputs, the first of them apart.
+#[derive(Drop)]
+pub(crate) enum Given {
+    Found(Arc<Value>),
+    Nothing,
+    Inputs { first: Arc<Value>, rest: Rest },
+}
+
+// The inputs behind the first: at most four values, in the task itself. An `ArrayVec` of them can't be made, since it fills its unused places.
 #[derive(Drop)]
 pub(crate) enum Rest {
     Nothing,

@@ -1,13 +1,11 @@
 //! Steps that were handed out.
-ghost use Rattle.std.specs.Prelude.{◌≡◌, ◌<◌, IfSome, length, map};
+ghost use Rattle.std.specs.Prelude.{◌≡◌, ◌<◌, IfSome, length};
 ghost use Rattle.std.specs.Arc.{arc_value};
-ghost use Rattle.std.specs.Option.{option_map};
 ghost use Rattle.step_scheduler.specs.Jobs.{inputs_for, meaning_at};
-ghost use Rattle.step_scheduler.specs.near.Tasks.{inputs_of, items_of};
+ghost use Rattle.step_scheduler.specs.near.Tasks.{found_in, inputs_in};
 
-use crate::inputs::Rest;
+use crate::inputs::Given;
 use crate::jobs::Job;
-use plan_ir::values::Value;
 use std::marker::Model;
 use std::sync::Arc;
 
@@ -15,60 +13,32 @@ use std::sync::Arc;
 #[derive(Drop)]
 pub struct Task {
     pub(crate) job: Arc<Job>,
-    pub(crate) first: Option<Arc<Value>>,
-    pub(crate) rest: Rest,
-    // The step's own value, where it was found when the board was opened.
-    pub(crate) found: Option<Arc<Value>>,
+    pub(crate) given: Given,
     pub(crate) step: u32,
 }
 
 impl Model for Task {
-    ghost use Rattle.std.specs.Prelude.{map};
     ghost use Rattle.std.specs.Arc.{arc_value};
-    ghost use Rattle.std.specs.Option.{option_map};
     ghost use Rattle.step_scheduler.specs.Jobs.{TaskView};
-    ghost use Rattle.step_scheduler.specs.near.Tasks.{IsTaskWith, inputs_of, items_of};
+    ghost use Rattle.step_scheduler.specs.near.Tasks.{IsTaskWith, found_in, inputs_in};
 
     ghost Value = { TaskView };
 
-    ghost view = { λ t. record {
-      job = arc_value t.job;
-      step = t.step;
-      inputs = inputs_of (option_map arc_value t.first) (map arc_value (items_of t.rest));
-    } };
+    ghost view = { λ t. record { job = arc_value t.job; step = t.step; inputs = inputs_in t.given } };
 
-    ghost invariant = { λ t. IsTaskWith (option_map arc_value t.found) (record {
-      job = arc_value t.job;
-      step = t.step;
-      inputs = inputs_of (option_map arc_value t.first) (map arc_value (items_of t.rest));
-    }) };
+    ghost invariant = { λ t. IsTaskWith (found_in t.given)
+        (record { job = arc_value t.job; step = t.step; inputs = inputs_in t.given }) };
 }
 
 impl Task {
-    // The task of a step, with its inputs, and with its value where that was found when the board was opened.
-    pub(crate) fn new(
-        job: Arc<Job>,
-        step: u32,
-        first: Option<Arc<Value>>,
-        rest: Rest,
-        found: Option<Arc<Value>>,
-    ) -> Task
+    // The task of a step, with what it is given.
+    pub(crate) fn new(job: Arc<Job>, step: u32, given: Given) -> Task
         requires in_range { step < length (arc_value job).set.plan }
-        requires fed { inputs_of (option_map arc_value first) (map arc_value (items_of rest)) ≡ inputs_for (arc_value job) step }
-        requires found { IfSome found (λ v. arc_value v ≡ meaning_at (arc_value job) step) }
-        ensures { result ≡ record {
-          job = arc_value job;
-          step = step;
-          inputs = inputs_of (option_map arc_value first) (map arc_value (items_of rest));
-        } }
+        requires fed { inputs_in given ≡ inputs_for (arc_value job) step }
+        requires found { IfSome (found_in given) (λ v. v ≡ meaning_at (arc_value job) step) }
+        ensures { result ≡ record { job = arc_value job; step = step; inputs = inputs_in given } }
     {
-        Task {
-            job,
-            first,
-            rest,
-            found,
-            step,
-        }
+        Task { job, given, step }
     }
 
     /// The job.
