@@ -1,7 +1,8 @@
 //! Worked values, computed by the definitions: each is the contract of a function that does nothing.
 #![tactic(auto, unfolding(crate::proofs::OnLiterals::credits_on_literals))]
 
-ghost use Rattle.std.specs.Prelude.{◌≡◌, [], ◌∷◌, map, pos};
+ghost use Rattle.std.specs.Prelude.{◌≡◌, [], ◌∷◌, ◌/◌, map, pos};
+ghost use Rattle.span_tables.specs.declared.limits.TheConstants.{MAX_BASIS_POINTS, MAX_PRICE2, MAX_SUM, MAX_UNITS};
 ghost use Rattle.span_tables.specs.declared.records.MinimumMethod.TheVariants as method;
 ghost use Rattle.span_tables.specs.declared.records.ProductKind.TheVariants as kind;
 ghost use Rattle.inter_credit.specs.Credits.{after_inter_spreads, credit_of, unspread_line};
@@ -77,12 +78,11 @@ fn second_direction()
         ≡ 600 ∷ 450 ∷ [] }
 {}
 
-// The largest credits of an account with 256 contracts: 255 of one commodity against one of another.
+// The largest credits of an account: half of the contracts that may be held of one commodity, against as many of another.
 fn largest_credits_of_an_account()
-    ensures { map credit_of (after_inter_spreads (spread_of 10000 0 2550000 1 10000 ∷ [])
-        (unspread_line (pos 25500000000000000) 10200000000000000
-        ∷ unspread_line (short 100000000000000) 40000000000000 ∷ []))
-        ≡ 5100000000000000 ∷ 20000000000000 ∷ [] }
+    ensures { map credit_of (after_inter_spreads (spread_of MAX_BASIS_POINTS 0 10000 1 10000 ∷ [])
+        (unspread_line (pos (MAX_UNITS / 2)) (MAX_PRICE2 / 2) ∷ unspread_line (short (MAX_UNITS / 2)) (MAX_PRICE2 / 2) ∷ []))
+        ≡ MAX_PRICE2 / 4 ∷ MAX_PRICE2 / 4 ∷ [] }
 {}
 
 // Two short calls and three short puts, beside long puts and short futures.
@@ -116,5 +116,5 @@ fn requirement_less_credit()
 
 // A credit above all else.
 fn requirement_of_the_largest_credit()
-    ensures { requirement_of (pos 2550000000000000) (pos 0) (pos 0) (pos 5100000000000000) (pos 0) ≡ pos 0 }
+    ensures { requirement_of (pos (MAX_SUM / 2)) (pos 0) (pos 0) (pos (MAX_PRICE2 / 4)) (pos 0) ≡ pos 0 }
 {}

@@ -1,6 +1,6 @@
 -- Records of which the worked faults are made.
-use Rattle.std.specs.Prelude.{ℕ, ◌+◌, ◌/◌, ◌%◌, List, [], ◌∷◌, map, codes, ℤ, pos}
-use Rattle.std.specs.List.{range_with_len, repeat}
+use Rattle.std.specs.Prelude.{ℕ, ◌+◌, List, [], ◌∷◌, codes, ℤ, pos}
+use Rattle.std.specs.List.{repeat}
 use Rattle.span_tables.specs.Samples.{contract}
 use Rattle.span_tables.specs.declared.records.ProductKind.TheVariants as product
 use Rattle.span_tables.specs.declared.records.Side.{Side}
@@ -18,18 +18,6 @@ contract_of id = contract product.Future id (codes "AA") 202503 (repeat SCENARIO
 -- a position
 abbrev pub position_of : List ℕ → List ℕ → ℤ → PositionRecord
 position_of account contract quantity = record { account = account; contract = contract; quantity = quantity }
-
--- the two letters of a number below 676: AA, AB and on
-abbrev pub letters_of : ℕ → List ℕ
-letters_of n = (65 + n / 26) ∷ (65 + n % 26) ∷ []
-
--- so many contracts, each of two letters
-abbrev pub many_contracts : ℕ → List Contract
-many_contracts n = map (λ k. contract_of (letters_of k)) (range_with_len 0 n)
-
--- an account that is long one of each of so many contracts
-abbrev pub one_of_each : List ℕ → ℕ → List PositionRecord
-one_of_each account n = map (λ k. position_of account (letters_of k) (pos 1)) (range_with_len 0 n)
 
 -- a tier of one quarter
 abbrev pub tier_record : List ℕ → ℕ → ℕ → Record

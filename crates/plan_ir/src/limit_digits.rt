@@ -4,6 +4,6 @@ ghost use Rattle.plan_ir.specs.declared.plans.TheConstants.{MAX_INPUTS, MAX_STEP
 
 /// How many steps a plan may have, and how many inputs a step of a compiled plan.
 pub fn plans_have_these_digits()
-    ensures steps { MAX_STEPS ≡ 6000 }
+    ensures steps { MAX_STEPS ≡ 12000 }
     ensures inputs { MAX_INPUTS ≡ 5 }
 {}

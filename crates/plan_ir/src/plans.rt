@@ -9,7 +9,7 @@ use std::alloc::{AllocError, Global};
 use std::marker::Model;
 
 /// The steps of a plan, at most. The plan of a set with as many commodities and spreads as there may be has fewer.
-pub const MAX_STEPS: usize = 6000;
+pub const MAX_STEPS: usize = 12000;
 /// The inputs of a step of a compiled plan, at most: those of the figures of a commodity.
 pub const MAX_INPUTS: usize = 5;
 

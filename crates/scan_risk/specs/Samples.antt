@@ -5,16 +5,17 @@ use Rattle.span_tables.specs.Samples.{contract}
 use Rattle.span_tables.specs.declared.records.ProductKind.TheVariants as product
 use Rattle.span_tables.specs.declared.records.Contract.{Contract}
 use Rattle.span_tables.specs.Net.{HeldContract}
+use Rattle.span_tables.specs.declared.limits.TheConstants.{MAX_ARRAY_VALUE, MAX_SCALE}
 use Rattle.span_tables.specs.declared.samples.TheConstants.{FUTURE_VALUES}
 
 -- a future with delta 1, scale 1, and 400 for each third of the scan range
 abbrev pub future : Contract
 future = contract product.Future (codes "FA") (codes "AA") 202503 FUTURE_VALUES
 
--- the largest contract: a gain of 100000000 in scenarios 1 and 2 and a loss of it in the others
+-- the largest contract: the largest gain in scenarios 1 and 2, and the largest loss in the others
 abbrev pub largest : Contract
 largest = record (contract product.Future (codes "L") (codes "AA") 202503
-    (repeat 2 (neg_ℤ (pos 100000000) ∷ []) ++ repeat 14 (pos 100000000 ∷ []))) { scale = 100000 }
+    (repeat 2 (neg_ℤ (pos MAX_ARRAY_VALUE) ∷ []) ++ repeat 14 (pos MAX_ARRAY_VALUE ∷ []))) { scale = MAX_SCALE }
 
 -- so many of a contract
 abbrev pub held : ℤ → Contract → HeldContract

@@ -3,6 +3,7 @@ ghost use Rattle.std.specs.Prelude.{◌≡◌, [], ◌∷◌, pos, neg_ℤ};
 ghost use Rattle.std.specs.List.{repeat};
 ghost use Rattle.scan_risk.specs.Samples.{future, held, largest};
 ghost use Rattle.scan_risk.specs.Scenarios.{scan_of, scenario_sums};
+ghost use Rattle.span_tables.specs.declared.limits.TheConstants.{MAX_HELD, MAX_NET, MAX_PRICE2, MAX_SUM};
 
 /// Scans of sixteen sums: no sum is positive, scenario 16 is paired with itself, a negative price risk is 0, and the
 /// lowest of equal sums is active.
@@ -21,13 +22,13 @@ pub fn scans()
     ensures zeros { scan_of (repeat 16 (pos 0 ∷ [])) ≡ record { risk = pos 0; active = 1; paired = 2; price2 = 0 } }
 {}
 
-/// One long future, three long futures against four short ones, and 255 of the largest contract.
+/// One long future, three long futures against four short ones, and as many of the largest contract as may be held.
 #[tactic(auto, unfolding(crate::specs::Scenarios::scan_of, crate::specs::Scenarios::scenario_sums))]
 pub fn sums_of_held_contracts()
     ensures one_long { scan_of (scenario_sums (held (pos 1) future ∷ []))
         ≡ record { risk = pos 1200; active = 13; paired = 14; price2 = 2400 } }
     ensures long_and_short { scan_of (scenario_sums (held (pos 3) future ∷ held (neg_ℤ (pos 4)) future ∷ []))
         ≡ record { risk = pos 1200; active = 11; paired = 12; price2 = 2400 } }
-    ensures largest { scan_of (scenario_sums (repeat 255 (held (pos 100000) largest ∷ [])))
-        ≡ record { risk = pos 2550000000000000; active = 3; paired = 4; price2 = 10200000000000000 } }
+    ensures largest { scan_of (scenario_sums (repeat MAX_HELD (held (pos MAX_NET) largest ∷ [])))
+        ≡ record { risk = pos MAX_SUM; active = 3; paired = 4; price2 = MAX_PRICE2 } }
 {}

@@ -9,7 +9,7 @@ ghost use Rattle.span_tables.specs.declared.limits.TheConstants.{MAX_TIER_NUMBER
 
 /// How many there may be of each thing.
 pub fn counts_have_these_digits()
-    ensures commodities { MAX_COMMODITIES ≡ 64 }
+    ensures commodities { MAX_COMMODITIES ≡ 128 }
     ensures contracts { MAX_CONTRACTS ≡ 4096 }
     ensures inter_spreads { MAX_INTER_SPREADS ≡ 256 }
     ensures tiers { MAX_TIERS ≡ 32 }
@@ -17,7 +17,7 @@ pub fn counts_have_these_digits()
     ensures spot_months { MAX_SPOT_MONTHS ≡ 16 }
     ensures accounts { MAX_ACCOUNTS ≡ 4096 }
     ensures net { MAX_NET ≡ 100000 }
-    ensures held { MAX_HELD ≡ 256 }
+    ensures held { MAX_HELD ≡ 1024 }
     ensures scenarios { SCENARIOS ≡ 16 }
     ensures least_legs { MIN_LEGS ≡ 2 }
     ensures most_legs { MAX_LEGS ≡ 4 }

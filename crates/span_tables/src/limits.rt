@@ -2,7 +2,7 @@
 //! "Limits").
 
 /// COMMODITY records of a file.
-pub const MAX_COMMODITIES: usize = 64;
+pub const MAX_COMMODITIES: usize = 128;
 /// CONTRACT records of a file.
 pub const MAX_CONTRACTS: usize = 4096;
 /// INTER records of a file.
@@ -18,7 +18,7 @@ pub const MAX_ACCOUNTS: usize = 4096;
 /// The size of a net quantity, in contracts.
 pub const MAX_NET: u64 = 100_000;
 /// Contracts that an account holds.
-pub const MAX_HELD: usize = 256;
+pub const MAX_HELD: usize = 1024;
 /// Scenarios of a risk array: the values of a CONTRACT record.
 pub const SCENARIOS: usize = 16;
 /// Legs of an INTRA or INTER record, at least.

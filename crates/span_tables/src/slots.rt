@@ -13,7 +13,8 @@ pub const SLOTS: usize = 64;
 
 /// A set of numbers, each number in the slot of its remainder by `SLOTS`.
 ///
-/// A number whose slot is not marked is not in the set. One whose slot is marked may be in it.
+/// A number whose slot is not marked is not in the set. One whose slot is marked may be in it, or another number that
+/// shares the slot: so do months that lie `SLOTS` apart, and commodities where a set has more than `SLOTS`.
 #[derive(Clone, Copy, Debug, Default, PartialEq, Eq)]
 pub struct Slots {
     word: u64,

@@ -6,6 +6,7 @@ use Rattle.span_tables.specs.declared.records.ProductKind.TheVariants as product
 use Rattle.span_tables.specs.declared.records.Side.TheVariants as side
 use Rattle.span_tables.specs.declared.records.Contract.{Contract}
 use Rattle.span_tables.specs.Net.{HeldContract}
+use Rattle.span_tables.specs.declared.limits.TheConstants.{MAX_DELTA, MAX_SCALE}
 use Rattle.spread_stage.specs.declared.months.MonthUnits.{MonthUnits}
 use Rattle.span_tables.specs.declared.records.Intra.{Intra}
 use Rattle.span_tables.specs.declared.records.Spot.{Spot}
@@ -42,6 +43,6 @@ own_spread = record {
 abbrev pub march : Spot
 march = record { commodity = codes "AA"; month = 202503; spread_rate = 10; outright_rate = 20 }
 
--- the largest delta: delta 1, scale 10
+-- the largest delta and scale
 abbrev pub largest : Contract
-largest = record (future 202503) { scale = 100000 }
+largest = record (future 202503) { delta = pos MAX_DELTA; scale = MAX_SCALE }

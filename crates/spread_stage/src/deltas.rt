@@ -3,7 +3,7 @@ ghost use Rattle.std.specs.Prelude.{◌≡◌, ◌+◌, ◌*◌, ◌≤◌, nat_
 ghost use Rattle.span_tables.specs.Accepted.{IsContract};
 ghost use Rattle.span_tables.specs.declared.limits.TheConstants.{MAX_DELTA, MAX_NET, MAX_SCALE, MAX_UNITS};
 ghost use Rattle.spread_stage.specs.Deltas.{month_deltas, units_of};
-ghost use Rattle.spread_stage.specs.Months.{total_size};
+ghost use Rattle.spread_stage.specs.Months.{MonthsRise, total_size};
 ghost use Rattle.spread_stage.specs.near.Uses.{with_units};
 
 use crate::months::{MonthUnits, Months};
@@ -26,14 +26,17 @@ fn units_of(contract: &Contract, net: i64) -> i64
 
 // The place of the first month that is not earlier.
 fn place_of(months: &[MonthUnits], month: u32) -> Option<usize>
+    requires { MonthsRise months.now }
     ensures { result ≡ position (λ m. nat_le month m.month) months.now }
 {
-    months.iter().position(|m| m.month >= month)
+    let place = months.partition_point(|m| m.month < month);
+    (place < months.len()).then_some(place)
 }
 
 // Adds units to a month's, or puts the month with them into its place.
 fn add(months: &mut Vec<MonthUnits>, month: u32, units: i64) -> Result<(), AllocError>
-    requires { total_size months.old.items + nat_abs units ≤ MAX_UNITS }
+    requires rise { MonthsRise months.old.items }
+    requires small { total_size months.old.items + nat_abs units ≤ MAX_UNITS }
     ensures { OnOk result (months.new.items ≡ with_units month units months.old.items) }
 {
     match place_of(months, month) {

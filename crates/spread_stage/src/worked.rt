@@ -1,6 +1,7 @@
 //! Worked values, computed by the definitions.
 ghost use Rattle.std.specs.Prelude.{◌≡◌, [], ◌∷◌, pos, neg_ℤ};
 ghost use Rattle.std.specs.List.{repeat};
+ghost use Rattle.span_tables.specs.declared.limits.TheConstants.{MAX_HELD, MAX_NET, MAX_UNITS};
 ghost use Rattle.spread_stage.specs.Charges.{delivery_charge, intra_charge};
 ghost use Rattle.spread_stage.specs.Deltas.{month_deltas, net_delta};
 ghost use Rattle.spread_stage.specs.Samples.{calendar_spread, future, held, largest, march, month_units, own_spread};
@@ -74,8 +75,8 @@ fn both_sides_of_one_tier()
         ≡ record { rests = month_units 202503 (pos 100000000) ∷ month_units 202506 (pos 0) ∷ []; charge = 2500000 } }
 {}
 
-// The largest net delta: 256 contracts of 100000 each.
+// The largest net delta: as many contracts as may be held, each of the largest net.
 #[tactic(auto, unfolding(crate::specs::Deltas::month_deltas))]
 fn largest_delta()
-    ensures { net_delta (month_deltas (repeat 256 (held (pos 100000) largest ∷ []))) ≡ pos 25600000000000000 }
+    ensures { net_delta (month_deltas (repeat MAX_HELD (held (pos MAX_NET) largest ∷ []))) ≡ pos MAX_UNITS }
 {}

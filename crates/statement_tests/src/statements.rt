@@ -136,8 +136,8 @@ fn lines_of_faults(rt: HostRuntime) -> Result<(), Fail> {
     says(
         &rt,
         alloc,
-        SpanFault::from(PositionFault::TooManyAccounts { at: 4097 }),
-        "positions: Q5 TooManyAccounts at record 4097\n",
+        SpanFault::from(PositionFault::TooManyAccounts { at: 12 }),
+        "positions: Q5 TooManyAccounts at record 12\n",
         4,
     )?;
     says(

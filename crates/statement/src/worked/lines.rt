@@ -44,14 +44,14 @@ fn lines_of_positions()
     ensures q2 { fault_line (span_fault.Positions (positions.BadName 1)) ≡ codes "positions: Q2 BadName at record 1\n" }
     ensures q3 { fault_line (span_fault.Positions (positions.BadNumber 1)) ≡ codes "positions: Q3 BadNumber at record 1\n" }
     ensures q4 { fault_line (span_fault.Positions (positions.OutOfRange 1)) ≡ codes "positions: Q4 OutOfRange at record 1\n" }
-    ensures q5 { fault_line (span_fault.Positions (positions.TooManyAccounts 4097))
-        ≡ codes "positions: Q5 TooManyAccounts at record 4097\n" }
+    ensures q5 { fault_line (span_fault.Positions (positions.TooManyAccounts 12))
+        ≡ codes "positions: Q5 TooManyAccounts at record 12\n" }
     ensures b1 { fault_line (span_fault.Bind (bind.UnknownContract 1 (codes "X")))
         ≡ codes "positions: B1 UnknownContract at record 1 account X\n" }
     ensures b2 { fault_line (span_fault.Bind (bind.NetOutOfRange 2 (codes "ACC-1")))
         ≡ codes "positions: B2 NetOutOfRange at record 2 account ACC-1\n" }
-    ensures b3 { fault_line (span_fault.Bind (bind.TooManyHeld 258 (codes "A_B")))
-        ≡ codes "positions: B3 TooManyHeld at record 258 account A_B\n" }
+    ensures b3 { fault_line (span_fault.Bind (bind.TooManyHeld 3 (codes "A_B")))
+        ≡ codes "positions: B3 TooManyHeld at record 3 account A_B\n" }
 {}
 
 // Parameters of the next set that are not read.

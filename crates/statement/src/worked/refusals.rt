@@ -2,7 +2,8 @@
 #![tactic(auto, unfolding(crate::specs::OnLiterals::on_literals))]
 
 ghost use Rattle.std.specs.List.{repeat};
-ghost use Rattle.std.specs.Prelude.{◌++◌, ◌≡◌, [], codes};
+ghost use Rattle.std.specs.Prelude.{◌+◌, ◌++◌, ◌≡◌, [], codes};
+ghost use Rattle.span_tables.specs.declared.limits.TheConstants.{MAX_COMMODITIES, MAX_TIERS};
 ghost use Rattle.statement.specs.Samples.{one_future};
 ghost use Rattle.statement.specs.Statement.{statement_of};
 ghost use Rattle.statement.specs.declared.faults.SpanFault.TheVariants as span_fault;
@@ -235,35 +236,20 @@ fn value_range()
         ≡ Err (span_fault.Params (params.OutOfRange 3)) }
 {}
 
-// Thirty-three tiers of a commodity.
+// One tier of a commodity too many.
 fn too_many_tiers()
     ensures { statement_of (
         codes "SET,D1,1,USD\n"
         ++ codes "COMMODITY,AA,0,SUM\n"
-        ++ repeat 33 (codes "TIER,AA,1,202501,202504\n"))
+        ++ repeat (MAX_TIERS + 1) (codes "TIER,AA,1,202501,202504\n"))
         []
-        ≡ Err (span_fault.Params (params.TooMany 35)) }
+        ≡ Err (span_fault.Params (params.TooMany (MAX_TIERS + 3))) }
 {}
 
-// Sixty-five commodities.
+// One commodity too many.
 fn too_many_commodities()
-    ensures { statement_of (
-        codes "SET,D1,1,USD\n"
-        ++ codes "COMMODITY,C0,0,SUM\nCOMMODITY,C1,0,SUM\nCOMMODITY,C2,0,SUM\nCOMMODITY,C3,0,SUM\nCOMMODITY,C4,0,SUM\n"
-        ++ codes "COMMODITY,C5,0,SUM\nCOMMODITY,C6,0,SUM\nCOMMODITY,C7,0,SUM\nCOMMODITY,C8,0,SUM\nCOMMODITY,C9,0,SUM\n"
-        ++ codes "COMMODITY,C10,0,SUM\nCOMMODITY,C11,0,SUM\nCOMMODITY,C12,0,SUM\nCOMMODITY,C13,0,SUM\nCOMMODITY,C14,0,SUM\n"
-        ++ codes "COMMODITY,C15,0,SUM\nCOMMODITY,C16,0,SUM\nCOMMODITY,C17,0,SUM\nCOMMODITY,C18,0,SUM\nCOMMODITY,C19,0,SUM\n"
-        ++ codes "COMMODITY,C20,0,SUM\nCOMMODITY,C21,0,SUM\nCOMMODITY,C22,0,SUM\nCOMMODITY,C23,0,SUM\nCOMMODITY,C24,0,SUM\n"
-        ++ codes "COMMODITY,C25,0,SUM\nCOMMODITY,C26,0,SUM\nCOMMODITY,C27,0,SUM\nCOMMODITY,C28,0,SUM\nCOMMODITY,C29,0,SUM\n"
-        ++ codes "COMMODITY,C30,0,SUM\nCOMMODITY,C31,0,SUM\nCOMMODITY,C32,0,SUM\nCOMMODITY,C33,0,SUM\nCOMMODITY,C34,0,SUM\n"
-        ++ codes "COMMODITY,C35,0,SUM\nCOMMODITY,C36,0,SUM\nCOMMODITY,C37,0,SUM\nCOMMODITY,C38,0,SUM\nCOMMODITY,C39,0,SUM\n"
-        ++ codes "COMMODITY,C40,0,SUM\nCOMMODITY,C41,0,SUM\nCOMMODITY,C42,0,SUM\nCOMMODITY,C43,0,SUM\nCOMMODITY,C44,0,SUM\n"
-        ++ codes "COMMODITY,C45,0,SUM\nCOMMODITY,C46,0,SUM\nCOMMODITY,C47,0,SUM\nCOMMODITY,C48,0,SUM\nCOMMODITY,C49,0,SUM\n"
-        ++ codes "COMMODITY,C50,0,SUM\nCOMMODITY,C51,0,SUM\nCOMMODITY,C52,0,SUM\nCOMMODITY,C53,0,SUM\nCOMMODITY,C54,0,SUM\n"
-        ++ codes "COMMODITY,C55,0,SUM\nCOMMODITY,C56,0,SUM\nCOMMODITY,C57,0,SUM\nCOMMODITY,C58,0,SUM\nCOMMODITY,C59,0,SUM\n"
-        ++ codes "COMMODITY,C60,0,SUM\nCOMMODITY,C61,0,SUM\nCOMMODITY,C62,0,SUM\nCOMMODITY,C63,0,SUM\nCOMMODITY,C64,0,SUM\n")
-        []
-        ≡ Err (span_fault.Params (params.TooMany 66)) }
+    ensures { statement_of (codes "SET,D1,1,USD\n" ++ repeat (MAX_COMMODITIES + 1) (codes "COMMODITY,AA,0,SUM\n")) []
+        ≡ Err (span_fault.Params (params.TooMany (MAX_COMMODITIES + 2))) }
 {}
 
 // A second set.

@@ -1,6 +1,7 @@
 use Rattle.std.proofs.Common.{◌≡◌, ◌∙◌, List, arith, false, length-set, refl, subst, take}
 use Rattle.std.proofs.lemmas.Grind.{common_steps}
 use Rattle.std.proofs.lemmas.List.{get_or-replicate}
+use Rattle.span_tables.specs.declared.limits.TheConstants.{MAX_COMMODITIES}
 use Rattle.span_tables.specs.declared.portfolios.Holding.{Holding}
 use Rattle.span_tables.proofs.HeldFlags.{AreFlags, flags_after, flags_tell}
 use Rattle.span_tables.proofs.held.held_commodities.Goals as goal
@@ -9,7 +10,7 @@ pub loop-holding-init : goal.loop-holding-init
 loop-holding-init c = (
   refl,
   λ k below.
-      get_or-replicate 64 k false false (omega (arith, below, c.commodities-limits.ensures.limits.commodities)),
+      get_or-replicate MAX_COMMODITIES k false false (omega (arith, below, c.commodities-limits.ensures.limits.commodities)),
 )
 
 pub loop-holding-preserved : goal.loop-holding-preserved

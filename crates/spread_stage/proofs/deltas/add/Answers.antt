@@ -25,7 +25,7 @@ returns-in-Some c =
     let read : c.index-in-Some.result.now ≡ get_or ms i d = c.index-in-Some.ensures ∙ get_same ms i c.index-in-Some.result.now d at.0 in
     let had : c.get.result ≡ (get_or ms i d).units = c.get.ensures ∙ ap (λ (m : MonthUnits). m.units) read in
     let small : nat_abs (get_or ms i d).units ≤ total_size ms = get_or-le-sum_by (λ (m : MonthUnits). nat_abs m.units) ms i d at.0 in
-    let bound : total_size ms + nat_abs c.args.units ≤ MAX_UNITS = c.requires in
+    let bound : total_size ms + nat_abs c.args.units ≤ MAX_UNITS = c.requires.small in
     let now : c.new.result ≡ (get_or ms i d).units +ℤ c.args.units = omega (arith, ints, had, small, bound, c.new.ensures) in
     with_units-set c.args.month c.args.units ms i d
     (record { month = c.index_mut.result.now.month; units = c.new.result }) found same (ap (λ (m : MonthUnits). m.month) again) now

@@ -46,6 +46,9 @@ loop-i-preserved c =
       small = omega (arith, larger, same, bound, before, above);
     }
 
+pub add-requires-clause-rise : goal.add-requires-clause-rise
+add-requires-clause-rise c = subst MonthsRise (sym c.loop-i.invariant.value) (month_deltas_rise (drop c.loop-i.i c.args.held.now))
+
 pub new-requires : goal.new-requires
 new-requires c = record {
   rise = subst MonthsRise (sym c.loop-i.invariant.value) (month_deltas_rise (drop c.loop-i.i c.args.held.now));
