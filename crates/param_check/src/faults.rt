@@ -5,7 +5,6 @@ ghost use Rattle.std.specs.Prelude.{◌≡◌};
 
 use span_tables::name::Name;
 use std::alloc::{AllocError, AllocFailed};
-use std::str;
 use thiserror::Error;
 
 /// Which rule the records of a parameter file break.
@@ -49,22 +48,17 @@ pub enum CheckFault {
     OutOfMemory,
 }
 
-// An account as a text, which the bytes of a name are.
-fn account_text(account: &Name) -> &str {
-    str::from_utf8(account.as_bytes()).unwrap_or_default()
-}
-
 /// Why positions do not fit the tables.
 #[derive(Debug, Drop, PartialEq, Eq, Error)]
 pub enum BindFault {
     /// B1: a contract that the tables do not have.
-    #[error("B1 UnknownContract at record {at} account {}", account_text(.account))]
+    #[error("B1 UnknownContract at record {at} account {account}")]
     UnknownContract { at: usize, account: Name },
     /// B2: a net quantity out of range.
-    #[error("B2 NetOutOfRange at record {at} account {}", account_text(.account))]
+    #[error("B2 NetOutOfRange at record {at} account {account}")]
     NetOutOfRange { at: usize, account: Name },
     /// B3: too many contracts held.
-    #[error("B3 TooManyHeld at record {at} account {}", account_text(.account))]
+    #[error("B3 TooManyHeld at record {at} account {account}")]
     TooManyHeld { at: usize, account: Name },
     /// Want of memory.
     #[error("memory")]

@@ -21,6 +21,7 @@ pub mod TablesMade
 pub mod NameLaws
 pub mod SampleLaws
 pub mod NameLemmas
+pub mod NameTexts
 pub mod NumberedLaws
 pub mod GatherLemmas
 pub mod HeldFlags

@@ -4,7 +4,9 @@ ghost use Rattle.std.specs.List.{list_all};
 ghost use Rattle.span_tables.specs.Names.{is_name, is_name_byte, name_of};
 
 use arrayvec::ArrayVec;
+use std::fmt::Display;
 use std::marker::Model;
+use std::{fmt, str};
 
 /// A name: 1 to 16 bytes of `A` to `Z`, `0` to `9`, `_` and `-`. Contracts see it as the list of its bytes.
 #[derive(Clone, Debug, Drop, PartialEq, Eq, PartialOrd, Ord, Hash)]
@@ -85,11 +87,31 @@ impl Name {
         self.text.as_slice()
     }
 
+    /// The name as a text.
+    pub fn as_str(&self) -> &str
+        ensures { result.now ≡ self.now }
+    {
+        match str::from_utf8(self.as_bytes()) {
+            Ok(text) => text,
+            Err(_) => "",
+        }
+    }
+
     /// The same name again, which takes no memory.
     pub fn copied(&self) -> Name
         ensures { result ≡ self.now }
     {
         Name::of(self.as_bytes())
+    }
+}
+
+impl Display for Name {
+    ghost use Rattle.std.specs.Prelude.{Some};
+
+    ghost output = { λ name. Some name };
+
+    fn fmt<W: fmt::Write>(&self, f: &mut fmt::Formatter<W>) -> fmt::Result {
+        f.write_str(self.as_str())
     }
 }
 
