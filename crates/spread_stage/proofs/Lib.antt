@@ -2,6 +2,7 @@ pub mod MonthLaws
 pub mod UseLaws
 pub mod ProductLemmas
 pub mod DeltaLemmas
+pub mod ForwardLemmas
 pub mod PlaceLemmas
 pub mod UseLemmas
 pub mod SizeLemmas

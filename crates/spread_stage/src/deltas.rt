@@ -66,7 +66,7 @@ pub fn month_deltas(alloc: Global, held: &Held) -> Result<Months, AllocError>
     ensures { IfOk result (λ months. months ≡ month_deltas held.now) }
 {
     let mut months = Vec::with_capacity(alloc, held.len())?;
-    for i in (0..held.len()).rev() {
+    for i in 0..held.len() {
         let contract = held.contract(i);
         add(&mut months, contract.month, units_of(contract, held.net(i)))?;
     }

@@ -1,4 +1,4 @@
-use Rattle.std.proofs.Common.{◌≡◌, ◌≤◌, ◌+◌, ◌*◌, drop, length}
+use Rattle.std.proofs.Common.{◌≡◌, ◌≤◌, ◌*◌, take}
 use Rattle.span_tables.specs.declared.limits.TheConstants.{MAX_NET, MAX_DELTA, MAX_SCALE}
 use Rattle.spread_stage.specs.Deltas.{month_deltas}
 use Rattle.spread_stage.specs.Months.{total_size}
@@ -6,6 +6,6 @@ use Rattle.spread_stage.proofs.deltas.month_deltas.Given as goal
 
 abbrev pub invariant-loop-i : goal.invariant-loop-i
 invariant-loop-i l = record {
-  value : l.months.items ≡ month_deltas (drop l.i l.held);
-  small : total_size l.months.items + l.i * (MAX_NET * MAX_DELTA * MAX_SCALE) ≤ length l.held * (MAX_NET * MAX_DELTA * MAX_SCALE);
+  value : l.months.items ≡ month_deltas (take l.i l.held);
+  small : total_size l.months.items ≤ l.i * (MAX_NET * MAX_DELTA * MAX_SCALE);
 }

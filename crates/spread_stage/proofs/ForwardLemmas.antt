@@ -1,0 +1,125 @@
+-- Months may be gathered from the first held contract on: in whatever order units are added, the months are the same.
+use Rattle.std.proofs.Common.{◌≡◌, ℕ, ◌<◌, Bool, true, false, cond, List, [], ◌∷◌, ◌++◌, refl, sym, ap, ◌∙◌, subst, arith, inl, inr}
+use Rattle.std.specs.Prelude.{ℤ, ◌+ℤ◌, ◌==◌, nat_lt, ◌⊎◌}
+use Rattle.std.proofs.lemmas.Int.{ints}
+use Rattle.std.proofs.lemmas.Bool.Decides.{nat_tests}
+use Rattle.spread_stage.specs.Deltas.{units_of, month_deltas}
+use Rattle.spread_stage.specs.near.Uses.{with_units}
+use Rattle.span_tables.specs.Net.{HeldContract}
+use Rattle.spread_stage.specs.declared.months.MonthUnits.{MonthUnits}
+use Rattle.spread_stage.proofs.DeltaLemmas.{month_deltas-cons}
+
+in_order : (p q : ℕ) → (p < q) ⊎ ((p ≡ q) ⊎ (q < p))
+in_order p q = pick (nat_lt p q) (p == q) refl refl where
+  pick : (b c : Bool) → nat_lt p q ≡ b → (p == q) ≡ c → (p < q) ⊎ ((p ≡ q) ⊎ (q < p))
+  pick true c e d = inl (grind (arith, nat_tests, e))
+  pick false true e d = inr (inl (grind (arith, nat_tests, d)))
+  pick false false e d = inr (inr (grind (arith, nat_tests, e, d)))
+
+-- a month with units
+of_month : ℕ → ℤ → MonthUnits
+of_month p u = record { month = p; units = u }
+
+module _ (p : ℕ) (u : ℤ) (m : MonthUnits) (ms : List MonthUnits) where
+  -- units of a month that is earlier than the first
+  before : p < m.month → with_units p u (m ∷ ms) ≡ of_month p u ∷ m ∷ ms
+  unfolding of_month
+  before lt =
+      let test : nat_lt p m.month ≡ true = grind (arith, nat_tests, lt) in
+      ap (λ b. cond b (of_month p u ∷ m ∷ ms)
+      (cond (p == m.month) (of_month m.month (m.units +ℤ u) ∷ ms) (m ∷ with_units p u ms))) test
+
+  -- of the first month
+  here : p ≡ m.month → with_units p u (m ∷ ms) ≡ of_month m.month (m.units +ℤ u) ∷ ms
+  unfolding of_month
+  here e =
+      let test : nat_lt p m.month ≡ false = grind (arith, nat_tests, e) in
+      let same : (p == m.month) ≡ true = grind (arith, nat_tests, e) in
+      ap (λ b. cond b (of_month p u ∷ m ∷ ms)
+      (cond (p == m.month) (of_month m.month (m.units +ℤ u) ∷ ms) (m ∷ with_units p u ms))) test
+      ∙ ap (λ b. cond b (of_month m.month (m.units +ℤ u) ∷ ms) (m ∷ with_units p u ms)) same
+
+  -- of a later month
+  behind : m.month < p → with_units p u (m ∷ ms) ≡ m ∷ with_units p u ms
+  unfolding of_month
+  behind lt =
+      let test : nat_lt p m.month ≡ false = grind (arith, nat_tests, lt) in
+      let other : (p == m.month) ≡ false = grind (arith, nat_tests, lt) in
+      ap (λ b. cond b (of_month p u ∷ m ∷ ms)
+      (cond (p == m.month) (of_month m.month (m.units +ℤ u) ∷ ms) (m ∷ with_units p u ms))) test
+      ∙ ap (λ b. cond b (of_month m.month (m.units +ℤ u) ∷ ms) (m ∷ with_units p u ms)) other
+
+added : (a b c : ℤ) → (a +ℤ b) +ℤ c ≡ (a +ℤ c) +ℤ b
+added a b c = omega (arith, ints)
+
+-- twice to the same month
+same_month : (p : ℕ) (u v : ℤ) (ms : List MonthUnits) → with_units p u (with_units p v ms) ≡ with_units p v (with_units p u ms)
+unfolding of_month
+same_month p u v [] =
+    here p u (of_month p v) [] refl ∙ ap (λ (z : ℤ). of_month p z ∷ []) (omega (arith, ints)) ∙ sym (here p v (of_month p u) [] refl)
+same_month p u v (m ∷ ms) =
+    elim (in_order p m.month) [
+      | inl lt ↦
+          ap (with_units p u) (before p v m ms lt) ∙ here p u (of_month p v) (m ∷ ms) refl
+          ∙ ap (λ (z : ℤ). of_month p z ∷ m ∷ ms) (omega (arith, ints))
+          ∙ sym (ap (with_units p v) (before p u m ms lt) ∙ here p v (of_month p u) (m ∷ ms) refl)
+      | inr (inl e) ↦
+          ap (with_units p u) (here p v m ms e) ∙ here p u (of_month m.month (m.units +ℤ v)) ms e
+          ∙ ap (λ (z : ℤ). of_month m.month z ∷ ms) (added m.units v u)
+          ∙ sym (ap (with_units p v) (here p u m ms e) ∙ here p v (of_month m.month (m.units +ℤ u)) ms e)
+      | inr (inr lt) ↦
+          ap (with_units p u) (behind p v m ms lt) ∙ behind p u m (with_units p v ms) lt
+          ∙ ap (λ (xs : List MonthUnits). m ∷ xs) (same_month p u v ms)
+          ∙ sym (ap (with_units p v) (behind p u m ms lt) ∙ behind p v m (with_units p u ms) lt)
+    ]
+
+-- to a month and to a later one
+later_month : (p q : ℕ) (u v : ℤ) (ms : List MonthUnits) → p < q
+    → with_units p u (with_units q v ms) ≡ with_units q v (with_units p u ms)
+unfolding of_month
+later_month p q u v [] lt = before p u (of_month q v) [] lt ∙ sym (behind q v (of_month p u) [] lt)
+later_month p q u v (m ∷ ms) lt =
+    elim (in_order q m.month) [
+      | inl lq ↦
+          let lp : p < m.month = omega (arith, lt, lq) in
+          ap (with_units p u) (before q v m ms lq) ∙ before p u (of_month q v) (m ∷ ms) lt
+          ∙ sym (ap (with_units q v) (before p u m ms lp) ∙ behind q v (of_month p u) (m ∷ ms) lt
+          ∙ ap (λ (xs : List MonthUnits). of_month p u ∷ xs) (before q v m ms lq))
+      | inr (inl e) ↦
+          let lp : p < m.month = omega (arith, lt, e) in
+          ap (with_units p u) (here q v m ms e) ∙ before p u (of_month m.month (m.units +ℤ v)) ms lp
+          ∙ sym (ap (with_units q v) (before p u m ms lp) ∙ behind q v (of_month p u) (m ∷ ms) lt
+          ∙ ap (λ (xs : List MonthUnits). of_month p u ∷ xs) (here q v m ms e))
+      | inr (inr lq) ↦
+          ap (with_units p u) (behind q v m ms lq)
+          ∙ elim (in_order p m.month) [
+            | inl lp ↦
+                before p u m (with_units q v ms) lp
+                ∙ sym (ap (with_units q v) (before p u m ms lp) ∙ behind q v (of_month p u) (m ∷ ms) lt
+                ∙ ap (λ (xs : List MonthUnits). of_month p u ∷ xs) (behind q v m ms lq))
+            | inr (inl e) ↦
+                here p u m (with_units q v ms) e
+                ∙ sym (ap (with_units q v) (here p u m ms e) ∙ behind q v (of_month m.month (m.units +ℤ u)) ms lq)
+            | inr (inr lp) ↦
+                behind p u m (with_units q v ms) lp ∙ ap (λ (xs : List MonthUnits). m ∷ xs) (later_month p q u v ms lt)
+                ∙ sym (ap (with_units q v) (behind p u m ms lp) ∙ behind q v m (with_units p u ms) lq)
+          ]
+    ]
+
+-- the order does not matter
+either_first : (p q : ℕ) (u v : ℤ) (ms : List MonthUnits) → with_units p u (with_units q v ms) ≡ with_units q v (with_units p u ms)
+either_first p q u v ms =
+    elim (in_order p q) [
+      | inl lt ↦ later_month p q u v ms lt
+      | inr (inl e) ↦ subst (λ r. with_units p u (with_units r v ms) ≡ with_units r v (with_units p u ms)) e (same_month p u v ms)
+      | inr (inr lt) ↦ sym (later_month q p v u ms lt)
+    ]
+
+-- with one more contract behind, its units are added to its month
+pub month_deltas-push : (hs : List HeldContract) (h : HeldContract)
+    → with_units (h.contract).month (units_of h) (month_deltas hs) ≡ month_deltas (hs ++ h ∷ [])
+month_deltas-push [] h = month_deltas-cons h []
+month_deltas-push (x ∷ hs) h =
+    ap (with_units (h.contract).month (units_of h)) (sym (month_deltas-cons x hs))
+    ∙ either_first (h.contract).month (x.contract).month (units_of h) (units_of x) (month_deltas hs)
+    ∙ ap (with_units (x.contract).month (units_of x)) (month_deltas-push hs h) ∙ month_deltas-cons x (hs ++ h ∷ [])
