@@ -32,10 +32,13 @@ workers_line = codes "workers: L1 Workers\n"
 abbrev pub record_line : List ℕ → List ℕ → ℕ → List ℕ
 record_line file code at = file ++ (codes ": " ++ (code ++ (codes " at record " ++ (decimal at ++ codes "\n"))))
 
--- the line of positions that do not fit the tables: the same, with the record's account
+-- the line of positions that do not fit the tables, up to the account
+abbrev pub place_text : List ℕ → List ℕ → ℕ → List ℕ
+place_text file code at = file ++ (codes ": " ++ (code ++ (codes " at record " ++ (decimal at ++ codes " account "))))
+
+-- that line, with the record's account
 abbrev pub account_line : List ℕ → List ℕ → ℕ → List ℕ → List ℕ
-account_line file code at account =
-    file ++ (codes ": " ++ (code ++ (codes " at record " ++ (decimal at ++ (codes " account " ++ (account ++ codes "\n"))))))
+account_line file code at account = place_text file code at ++ (account ++ codes "\n")
 
 -- the line of a parameter file's fault
 abbrev pub param_line : List ℕ → ParamFault → List ℕ

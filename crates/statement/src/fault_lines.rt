@@ -1,10 +1,10 @@
 //! The lines that say why there is no statement (docs/FORMATS.md, Fault lines and statuses).
 ghost use Rattle.statement.specs.FaultLines.{account_line, bind_line, book_line, check_line, fault_line, param_line};
-ghost use Rattle.statement.specs.FaultLines.{position_line, record_line};
+ghost use Rattle.statement.specs.FaultLines.{place_text, position_line, record_line};
 ghost use Rattle.statement.specs.near.LineParts.{text_of};
 ghost use Rattle.span_told.specs.Streams.{Says};
 ghost use Rattle.std.specs.Io.KnownBytes.{Appends};
-ghost use Rattle.std.specs.Prelude.{◌≡◌, OnOk, codes};
+ghost use Rattle.std.specs.Prelude.{◌++◌, ◌≡◌, OnOk, codes};
 
 use crate::faults::SpanFault;
 use param_check::faults::{BindFault, CheckFault};
@@ -12,9 +12,8 @@ use result_book::books::BookFault;
 use span_csv::faults::{ParamFault, PositionFault};
 use span_tables::name::Name;
 use span_told::MarkedWriter;
-use std::fmt::Display;
+use std::io;
 use std::io::Write;
-use std::{fmt, io};
 
 // What the line of a fault says.
 #[derive(Clone, Copy)]
@@ -176,26 +175,51 @@ fn line_of(fault: &SpanFault) -> Line<'_>
     }
 }
 
-impl Display for Line<'_> {
-    ghost use Rattle.std.specs.Prelude.{Some};
-    ghost use Rattle.statement.specs.near.LineParts.{text_of};
+// Writes the line of positions that do not fit, up to the account.
+fn write_start<W: Write>(file: &str, code: &str, at: usize, out: &mut W) -> io::Result<()>
+    ensures { OnOk result (Appends (W.contents out.old) (W.contents out.new) (place_text file.now code.now at)) }
+{
+    write!(out, "{file}: {code} at record {at} account ")
+}
 
-    ghost output = { λ line. Some (text_of line) };
+// Writes the rest of it.
+fn write_account<W: Write>(account: &Name, out: &mut W) -> io::Result<()>
+    ensures { OnOk result (Appends (W.contents out.old) (W.contents out.new) (account.now ++ codes "\n")) }
+{
+    out.write_all(account.as_bytes())?;
+    out.write_all(b"\n")
+}
 
-    fn fmt<W: fmt::Write>(&self, f: &mut fmt::Formatter<W>) -> fmt::Result {
-        match self {
-            Line::Record { file, code, at } => writeln!(f, "{file}: {code} at record {at}"),
-            Line::Account {
-                file,
-                code,
-                at,
-                account,
-            } => writeln!(f, "{file}: {code} at record {at} account {account}"),
-            Line::Workers => writeln!(f, "workers: L1 Workers"),
-            Line::Book { code } => writeln!(f, "book: {code}"),
-            Line::Shelf => writeln!(f, "shelf"),
-            Line::Memory => writeln!(f, "memory"),
-        }
+// Writes that line.
+fn write_place<W: Write>(
+    file: &str,
+    code: &str,
+    at: usize,
+    account: &Name,
+    out: &mut W,
+) -> io::Result<()>
+    ensures { OnOk result (Appends (W.contents out.old) (W.contents out.new) (account_line file.now code.now at account.now)) }
+{
+    write_start(file, code, at, out)?;
+    write_account(account, out)
+}
+
+// Writes a line.
+fn write_line<W: Write>(line: &Line<'_>, out: &mut W) -> io::Result<()>
+    ensures { OnOk result (Appends (W.contents out.old) (W.contents out.new) (text_of line.now)) }
+{
+    match line {
+        Line::Record { file, code, at } => writeln!(out, "{file}: {code} at record {at}"),
+        Line::Account {
+            file,
+            code,
+            at,
+            account,
+        } => write_place(file, code, *at, account, out),
+        Line::Workers => writeln!(out, "workers: L1 Workers"),
+        Line::Book { code } => writeln!(out, "book: {code}"),
+        Line::Shelf => writeln!(out, "shelf"),
+        Line::Memory => writeln!(out, "memory"),
     }
 }
 
@@ -204,7 +228,65 @@ pub fn write_fault<W: Write>(fault: &SpanFault, out: &mut W) -> io::Result<()>
     ensures { OnOk result (Appends (W.contents out.old) (W.contents out.new) (fault_line fault.now)) }
 {
     let line = line_of(fault);
-    write!(out, "{line}")
+    write_line(&line, out)
+}
+
+// Tells the line of positions that do not fit, up to the account.
+fn tell_start<W: Write>(file: &str, code: &str, at: usize, out: &mut MarkedWriter<W>)
+    ensures { Says out.old out.new (place_text file.now code.now at) }
+{
+    let _ = write!(out, "{file}: {code} at record {at} account ");
+}
+
+// Tells the rest of it.
+fn tell_account<W: Write>(account: &Name, out: &mut MarkedWriter<W>)
+    ensures { Says out.old out.new (account.now ++ codes "\n") }
+{
+    let _ = out.write_all(account.as_bytes());
+    let _ = out.write_all(b"\n");
+}
+
+// Tells that line.
+fn tell_place<W: Write>(
+    file: &str,
+    code: &str,
+    at: usize,
+    account: &Name,
+    out: &mut MarkedWriter<W>,
+)
+    ensures { Says out.old out.new (account_line file.now code.now at account.now) }
+{
+    tell_start(file, code, at, out);
+    tell_account(account, out);
+}
+
+// Tells a line.
+fn tell_line<W: Write>(line: &Line<'_>, out: &mut MarkedWriter<W>)
+    ensures { Says out.old out.new (text_of line.now) }
+{
+    match line {
+        Line::Record { file, code, at } => {
+            let _ = writeln!(out, "{file}: {code} at record {at}");
+        }
+        Line::Account {
+            file,
+            code,
+            at,
+            account,
+        } => tell_place(file, code, *at, account, out),
+        Line::Workers => {
+            let _ = writeln!(out, "workers: L1 Workers");
+        }
+        Line::Book { code } => {
+            let _ = writeln!(out, "book: {code}");
+        }
+        Line::Shelf => {
+            let _ = writeln!(out, "shelf");
+        }
+        Line::Memory => {
+            let _ = writeln!(out, "memory");
+        }
+    }
 }
 
 /// Writes the line of a fault to a writer that remembers a failed write.
@@ -212,5 +294,5 @@ pub fn tell_fault<W: Write>(fault: &SpanFault, out: &mut MarkedWriter<W>)
     ensures { Says out.old out.new (fault_line fault.now) }
 {
     let line = line_of(fault);
-    let _ = write!(out, "{line}");
+    tell_line(&line, out);
 }
