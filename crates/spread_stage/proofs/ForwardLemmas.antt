@@ -1,5 +1,6 @@
 -- Months may be gathered from the first held contract on: in whatever order units are added, the months are the same.
-use Rattle.std.proofs.Common.{◌≡◌, ℕ, ◌<◌, Bool, true, false, cond, List, [], ◌∷◌, ◌++◌, refl, sym, ap, ◌∙◌, subst, arith, inl, inr}
+use Rattle.std.proofs.Common.{◌≡◌, ℕ, ◌<◌, Bool, true, false, cond, List, [], ◌∷◌, ◌++◌}
+use Rattle.std.proofs.Common.{refl, sym, ap, ◌∙◌, subst, arith, inl, inr}
 use Rattle.std.specs.Prelude.{ℤ, ◌+ℤ◌, ◌==◌, nat_lt, ◌⊎◌}
 use Rattle.std.proofs.lemmas.Int.{ints}
 use Rattle.std.proofs.lemmas.Bool.Decides.{nat_tests}
@@ -56,7 +57,8 @@ added a b c = omega (arith, ints)
 same_month : (p : ℕ) (u v : ℤ) (ms : List MonthUnits) → with_units p u (with_units p v ms) ≡ with_units p v (with_units p u ms)
 unfolding of_month
 same_month p u v [] =
-    here p u (of_month p v) [] refl ∙ ap (λ (z : ℤ). of_month p z ∷ []) (omega (arith, ints)) ∙ sym (here p v (of_month p u) [] refl)
+    here p u (of_month p v) [] refl ∙ ap (λ (z : ℤ). of_month p z ∷ []) (omega (arith, ints))
+    ∙ sym (here p v (of_month p u) [] refl)
 same_month p u v (m ∷ ms) =
     elim (in_order p m.month) [
       | inl lt ↦

@@ -6,7 +6,8 @@ ghost use Rattle.span_tables.specs.Net.{AccountHoldings};
 ghost use Rattle.statement.specs.Statement.{statement_text};
 ghost use Rattle.statement.specs.near.Rows.{IsPartlyKept, rows_under};
 ghost use Rattle.std.specs.Arc.{arc_value};
-ghost use Rattle.std.specs.Prelude.{◌≡◌, ◌≢◌, ◌+◌, ◌-◌, ◌^◌, ◌++◌, ◌⊎◌, ◌↔◌, Err, IfErr, IfOk, List, OnOk, map, ℕ};
+ghost use Rattle.std.specs.Prelude.{◌≡◌, ◌≢◌, ◌+◌, ◌-◌, ◌^◌, ◌++◌, ◌⊎◌, ◌↔◌};
+ghost use Rattle.std.specs.Prelude.{Err, IfErr, IfOk, List, OnOk, map, ℕ};
 
 use crate::batches::{append_text, text_of};
 use result_book::books::{BookFault, ResultBook};

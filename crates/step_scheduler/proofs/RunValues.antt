@@ -11,7 +11,8 @@ use Rattle.plan_compiler.specs.Compiled.{IsCompiled}
 use Rattle.step_scheduler.specs.Jobs.{JobView, inputs_for, meaning_at}
 use Rattle.step_scheduler.specs.declared.events.Event.{Event}
 use Rattle.step_scheduler.specs.declared.events.Event.TheVariants.{Take, Finish}
-use Rattle.step_scheduler.specs.Runs.{AllFinished, is_taken, is_finished, IsRunAfter, IsRun, IsReady, IsUnderWay, values_after, values_along, run_values}
+use Rattle.step_scheduler.specs.Runs.{AllFinished, is_taken, is_finished, IsRunAfter, IsRun, IsReady, IsUnderWay}
+use Rattle.step_scheduler.specs.Runs.{values_after, values_along, run_values}
 use Rattle.step_scheduler.proofs.Histories.{is_taken-push, is_finished-push}
 use Rattle.step_scheduler.proofs.BoardLemmas.{map_same}
 

@@ -14,7 +14,8 @@ pub(crate) enum Given {
     Inputs { first: Arc<Value>, rest: Rest },
 }
 
-// The inputs behind the first: at most four values, in the task itself. An `ArrayVec` of them can't be made, since it fills its unused places.
+// The inputs behind the first: at most four values, in the task itself. An `ArrayVec` of them can't be made, since it fills its
+// unused places.
 #[derive(Drop)]
 pub(crate) enum Rest {
     Nothing,

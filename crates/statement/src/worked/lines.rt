@@ -69,16 +69,20 @@ fn lines_of_next_parameters()
 
 // Parameters of the next set that break a rule.
 fn lines_of_next_rules()
-    ensures c1 { fault_line (span_fault.NextCheck (check.DuplicateCommodity 12)) ≡ codes "next parameters: C1 DuplicateCommodity at record 12\n" }
-    ensures c2 { fault_line (span_fault.NextCheck (check.UnknownCommodity 12)) ≡ codes "next parameters: C2 UnknownCommodity at record 12\n" }
-    ensures c3 { fault_line (span_fault.NextCheck (check.DuplicateContract 12)) ≡ codes "next parameters: C3 DuplicateContract at record 12\n" }
+    ensures c1 { fault_line (span_fault.NextCheck (check.DuplicateCommodity 12))
+        ≡ codes "next parameters: C1 DuplicateCommodity at record 12\n" }
+    ensures c2 { fault_line (span_fault.NextCheck (check.UnknownCommodity 12))
+        ≡ codes "next parameters: C2 UnknownCommodity at record 12\n" }
+    ensures c3 { fault_line (span_fault.NextCheck (check.DuplicateContract 12))
+        ≡ codes "next parameters: C3 DuplicateContract at record 12\n" }
     ensures c4 { fault_line (span_fault.NextCheck (check.DuplicateTier 12)) ≡ codes "next parameters: C4 DuplicateTier at record 12\n" }
     ensures c5 { fault_line (span_fault.NextCheck (check.TierBackwards 12)) ≡ codes "next parameters: C5 TierBackwards at record 12\n" }
     ensures c6 { fault_line (span_fault.NextCheck (check.TierOverlap 12)) ≡ codes "next parameters: C6 TierOverlap at record 12\n" }
     ensures c7 { fault_line (span_fault.NextCheck (check.UnknownTier 12)) ≡ codes "next parameters: C7 UnknownTier at record 12\n" }
     ensures c8 { fault_line (span_fault.NextCheck (check.RepeatedLeg 12)) ≡ codes "next parameters: C8 RepeatedLeg at record 12\n" }
     ensures c9 { fault_line (span_fault.NextCheck (check.OneSided 12)) ≡ codes "next parameters: C9 OneSided at record 12\n" }
-    ensures c10 { fault_line (span_fault.NextCheck (check.DuplicatePriority 12)) ≡ codes "next parameters: C10 DuplicatePriority at record 12\n" }
+    ensures c10 { fault_line (span_fault.NextCheck (check.DuplicatePriority 12))
+        ≡ codes "next parameters: C10 DuplicatePriority at record 12\n" }
     ensures c11 { fault_line (span_fault.NextCheck (check.DuplicateSpot 12)) ≡ codes "next parameters: C11 DuplicateSpot at record 12\n" }
     ensures memory { fault_line (span_fault.NextCheck check.OutOfMemory) ≡ codes "memory\n" }
 {}
