@@ -1,5 +1,5 @@
 -- Months may be gathered from the first held contract on: in whatever order units are added, the months are the same.
-use Rattle.std.proofs.Common.{◌≡◌, ℕ, ◌<◌, Bool, true, false, cond, List, [], ◌∷◌, ◌++◌}
+use Rattle.std.proofs.Common.{◌≡◌, ℕ, ◌<◌, Bool, true, false, List, [], ◌∷◌, ◌++◌}
 use Rattle.std.proofs.Common.{refl, sym, ap, ◌∙◌, subst, arith, inl, inr}
 use Rattle.std.specs.Prelude.{ℤ, ◌+ℤ◌, ◌==◌, nat_lt, ◌⊎◌}
 use Rattle.std.proofs.lemmas.Int.{ints}
@@ -9,6 +9,7 @@ use Rattle.spread_stage.specs.near.Uses.{with_units}
 use Rattle.span_tables.specs.Net.{HeldContract}
 use Rattle.spread_stage.specs.declared.months.MonthUnits.{MonthUnits}
 use Rattle.spread_stage.proofs.DeltaLemmas.{month_deltas-cons}
+use Rattle.spread_stage.proofs.PlaceLemmas.{earlier_if, later_if, same_if}
 
 in_order : (p q : ℕ) → (p < q) ⊎ ((p ≡ q) ⊎ (q < p))
 in_order p q = pick (nat_lt p q) (p == q) refl refl where
@@ -25,30 +26,16 @@ module _ (p : ℕ) (u : ℤ) (m : MonthUnits) (ms : List MonthUnits) where
   -- units of a month that is earlier than the first
   before : p < m.month → with_units p u (m ∷ ms) ≡ of_month p u ∷ m ∷ ms
   unfolding of_month
-  before lt =
-      let test : nat_lt p m.month ≡ true = grind (arith, nat_tests, lt) in
-      ap (λ b. cond b (of_month p u ∷ m ∷ ms)
-      (cond (p == m.month) (of_month m.month (m.units +ℤ u) ∷ ms) (m ∷ with_units p u ms))) test
+  before lt = later_if p u (nat_lt p m.month) (p == m.month) m ms (with_units p u ms) refl lt
 
   -- of the first month
   here : p ≡ m.month → with_units p u (m ∷ ms) ≡ of_month m.month (m.units +ℤ u) ∷ ms
   unfolding of_month
-  here e =
-      let test : nat_lt p m.month ≡ false = grind (arith, nat_tests, e) in
-      let same : (p == m.month) ≡ true = grind (arith, nat_tests, e) in
-      ap (λ b. cond b (of_month p u ∷ m ∷ ms)
-      (cond (p == m.month) (of_month m.month (m.units +ℤ u) ∷ ms) (m ∷ with_units p u ms))) test
-      ∙ ap (λ b. cond b (of_month m.month (m.units +ℤ u) ∷ ms) (m ∷ with_units p u ms)) same
+  here e = same_if p u (nat_lt p m.month) (p == m.month) m ms (with_units p u ms) refl refl (sym e)
 
   -- of a later month
   behind : m.month < p → with_units p u (m ∷ ms) ≡ m ∷ with_units p u ms
-  unfolding of_month
-  behind lt =
-      let test : nat_lt p m.month ≡ false = grind (arith, nat_tests, lt) in
-      let other : (p == m.month) ≡ false = grind (arith, nat_tests, lt) in
-      ap (λ b. cond b (of_month p u ∷ m ∷ ms)
-      (cond (p == m.month) (of_month m.month (m.units +ℤ u) ∷ ms) (m ∷ with_units p u ms))) test
-      ∙ ap (λ b. cond b (of_month m.month (m.units +ℤ u) ∷ ms) (m ∷ with_units p u ms)) other
+  behind lt = earlier_if p u (nat_lt p m.month) (p == m.month) m ms (with_units p u ms) refl refl lt
 
 added : (a b c : ℤ) → (a +ℤ b) +ℤ c ≡ (a +ℤ c) +ℤ b
 added a b c = omega (arith, ints)

@@ -39,14 +39,15 @@ no_place true n e = cc
 no_place false n e = refl
 
 module _ (p : ℕ) (u : ℤ) where
-  earlier_if : (b c : Bool) (m : MonthUnits) (ms more : List MonthUnits) → nat_lt p m.month ≡ b → (p == m.month) ≡ c → m.month < p
+  -- units of a month behind the first, of the first, and of a month before it
+  pub earlier_if : (b c : Bool) (m : MonthUnits) (ms more : List MonthUnits) → nat_lt p m.month ≡ b → (p == m.month) ≡ c → m.month < p
       → cond b (record { month = p; units = u } ∷ m ∷ ms)
       (cond c (record { month = m.month; units = m.units +ℤ u } ∷ ms) (m ∷ more)) ≡ m ∷ more
   earlier_if true c m ms more e d lt = absurd (grind (arith, nat_tests, e, lt))
   earlier_if false true m ms more e d lt = absurd (grind (arith, nat_tests, d, lt))
   earlier_if false false m ms more e d lt = refl
 
-  same_if : (b c : Bool) (m : MonthUnits) (ms more : List MonthUnits) → nat_lt p m.month ≡ b → (p == m.month) ≡ c → m.month ≡ p
+  pub same_if : (b c : Bool) (m : MonthUnits) (ms more : List MonthUnits) → nat_lt p m.month ≡ b → (p == m.month) ≡ c → m.month ≡ p
       → cond b (record { month = p; units = u } ∷ m ∷ ms)
       (cond c (record { month = m.month; units = m.units +ℤ u } ∷ ms) (m ∷ more))
       ≡ record { month = m.month; units = m.units +ℤ u } ∷ ms
@@ -54,7 +55,7 @@ module _ (p : ℕ) (u : ℤ) where
   same_if false true m ms more e d same = refl
   same_if false false m ms more e d same = absurd (grind (arith, nat_tests, d, same))
 
-  later_if : (b c : Bool) (m : MonthUnits) (ms more : List MonthUnits) → nat_lt p m.month ≡ b → p < m.month
+  pub later_if : (b c : Bool) (m : MonthUnits) (ms more : List MonthUnits) → nat_lt p m.month ≡ b → p < m.month
       → cond b (record { month = p; units = u } ∷ m ∷ ms)
       (cond c (record { month = m.month; units = m.units +ℤ u } ∷ ms) (m ∷ more)) ≡ record { month = p; units = u } ∷ m ∷ ms
   later_if true c m ms more e lt = refl

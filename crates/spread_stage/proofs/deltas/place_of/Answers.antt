@@ -1,4 +1,5 @@
-use Rattle.std.proofs.Common.{◌≡◌, ◌∙◌, ℕ, Bool, true, false, refl, Some, None, sym, ap, arith, cond, length, get_or, ltb, ltb-true, ltb-false, rules, pos}
+use Rattle.std.proofs.Common.{◌≡◌, ◌∙◌, ℕ, Bool, true, false, refl, Some, None, sym, ap, arith}
+use Rattle.std.proofs.Common.{cond, length, get_or, ltb, ltb-true, ltb-false, rules, pos}
 use Rattle.std.specs.Prelude.{nat_le, nat_lt}
 use Rattle.std.specs.Bool.{then_some}
 use Rattle.std.specs.List.{position_or_len}

@@ -5,4 +5,5 @@ use Rattle.span_tables.proofs.name.Name.as_str.Goals as goal
 
 pub returns-in-Err : goal.returns-in-Err
 returns-in-Err c =
-    absurd (c.in-Err.ensures.cases.0 (subst IsUtf8 (sym c.as_bytes.ensures.value) (name_is_text c.args.self.now c.as_bytes.ensures.is_name)))
+    let is_text = name_is_text c.args.self.now c.as_bytes.ensures.is_name in
+    absurd (c.in-Err.ensures.cases.0 (subst IsUtf8 (sym c.as_bytes.ensures.value) is_text))
