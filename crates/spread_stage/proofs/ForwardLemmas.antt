@@ -1,22 +1,15 @@
 -- Months may be gathered from the first held contract on: in whatever order units are added, the months are the same.
-use Rattle.std.proofs.Common.{◌≡◌, ℕ, ◌<◌, Bool, true, false, List, [], ◌∷◌, ◌++◌}
+use Rattle.std.proofs.Common.{◌≡◌, ℕ, ◌<◌, List, [], ◌∷◌, ◌++◌}
 use Rattle.std.proofs.Common.{refl, sym, ap, ◌∙◌, subst, arith, inl, inr}
-use Rattle.std.specs.Prelude.{ℤ, ◌+ℤ◌, ◌==◌, nat_lt, ◌⊎◌}
+use Rattle.std.specs.Prelude.{ℤ, ◌+ℤ◌, ◌==◌, nat_lt}
 use Rattle.std.proofs.lemmas.Int.{ints}
-use Rattle.std.proofs.lemmas.Bool.Decides.{nat_tests}
+use Rattle.std.proofs.lemmas.Bool.{cases_order}
 use Rattle.spread_stage.specs.Deltas.{units_of, month_deltas}
 use Rattle.spread_stage.specs.near.Uses.{with_units}
 use Rattle.span_tables.specs.Net.{HeldContract}
 use Rattle.spread_stage.specs.declared.months.MonthUnits.{MonthUnits}
 use Rattle.spread_stage.proofs.DeltaLemmas.{month_deltas-cons}
 use Rattle.spread_stage.proofs.PlaceLemmas.{earlier_if, later_if, same_if}
-
-in_order : (p q : ℕ) → (p < q) ⊎ ((p ≡ q) ⊎ (q < p))
-in_order p q = pick (nat_lt p q) (p == q) refl refl where
-  pick : (b c : Bool) → nat_lt p q ≡ b → (p == q) ≡ c → (p < q) ⊎ ((p ≡ q) ⊎ (q < p))
-  pick true c e d = inl (grind (arith, nat_tests, e))
-  pick false true e d = inr (inl (grind (arith, nat_tests, d)))
-  pick false false e d = inr (inr (grind (arith, nat_tests, e, d)))
 
 -- a month with units
 of_month : ℕ → ℤ → MonthUnits
@@ -47,12 +40,12 @@ same_month p u v [] =
     here p u (of_month p v) [] refl ∙ ap (λ (z : ℤ). of_month p z ∷ []) (omega (arith, ints))
     ∙ sym (here p v (of_month p u) [] refl)
 same_month p u v (m ∷ ms) =
-    elim (in_order p m.month) [
-      | inl lt ↦
+    elim (cases_order p m.month) [
+      | inr (inl lt) ↦
           ap (with_units p u) (before p v m ms lt) ∙ here p u (of_month p v) (m ∷ ms) refl
           ∙ ap (λ (z : ℤ). of_month p z ∷ m ∷ ms) (omega (arith, ints))
           ∙ sym (ap (with_units p v) (before p u m ms lt) ∙ here p v (of_month p u) (m ∷ ms) refl)
-      | inr (inl e) ↦
+      | inl e ↦
           ap (with_units p u) (here p v m ms e) ∙ here p u (of_month m.month (m.units +ℤ v)) ms e
           ∙ ap (λ (z : ℤ). of_month m.month z ∷ ms) (added m.units v u)
           ∙ sym (ap (with_units p v) (here p u m ms e) ∙ here p v (of_month m.month (m.units +ℤ u)) ms e)
@@ -68,25 +61,25 @@ later_month : (p q : ℕ) (u v : ℤ) (ms : List MonthUnits) → p < q
 unfolding of_month
 later_month p q u v [] lt = before p u (of_month q v) [] lt ∙ sym (behind q v (of_month p u) [] lt)
 later_month p q u v (m ∷ ms) lt =
-    elim (in_order q m.month) [
-      | inl lq ↦
+    elim (cases_order q m.month) [
+      | inr (inl lq) ↦
           let lp : p < m.month = omega (arith, lt, lq) in
           ap (with_units p u) (before q v m ms lq) ∙ before p u (of_month q v) (m ∷ ms) lt
           ∙ sym (ap (with_units q v) (before p u m ms lp) ∙ behind q v (of_month p u) (m ∷ ms) lt
           ∙ ap (λ (xs : List MonthUnits). of_month p u ∷ xs) (before q v m ms lq))
-      | inr (inl e) ↦
+      | inl e ↦
           let lp : p < m.month = omega (arith, lt, e) in
           ap (with_units p u) (here q v m ms e) ∙ before p u (of_month m.month (m.units +ℤ v)) ms lp
           ∙ sym (ap (with_units q v) (before p u m ms lp) ∙ behind q v (of_month p u) (m ∷ ms) lt
           ∙ ap (λ (xs : List MonthUnits). of_month p u ∷ xs) (here q v m ms e))
       | inr (inr lq) ↦
           ap (with_units p u) (behind q v m ms lq)
-          ∙ elim (in_order p m.month) [
-            | inl lp ↦
+          ∙ elim (cases_order p m.month) [
+            | inr (inl lp) ↦
                 before p u m (with_units q v ms) lp
                 ∙ sym (ap (with_units q v) (before p u m ms lp) ∙ behind q v (of_month p u) (m ∷ ms) lt
                 ∙ ap (λ (xs : List MonthUnits). of_month p u ∷ xs) (behind q v m ms lq))
-            | inr (inl e) ↦
+            | inl e ↦
                 here p u m (with_units q v ms) e
                 ∙ sym (ap (with_units q v) (here p u m ms e) ∙ behind q v (of_month m.month (m.units +ℤ u)) ms lq)
             | inr (inr lp) ↦
@@ -98,9 +91,9 @@ later_month p q u v (m ∷ ms) lt =
 -- the order does not matter
 either_first : (p q : ℕ) (u v : ℤ) (ms : List MonthUnits) → with_units p u (with_units q v ms) ≡ with_units q v (with_units p u ms)
 either_first p q u v ms =
-    elim (in_order p q) [
-      | inl lt ↦ later_month p q u v ms lt
-      | inr (inl e) ↦ subst (λ r. with_units p u (with_units r v ms) ≡ with_units r v (with_units p u ms)) e (same_month p u v ms)
+    elim (cases_order p q) [
+      | inr (inl lt) ↦ later_month p q u v ms lt
+      | inl e ↦ subst (λ r. with_units p u (with_units r v ms) ≡ with_units r v (with_units p u ms)) e (same_month p u v ms)
       | inr (inr lt) ↦ sym (later_month q p v u ms lt)
     ]
 

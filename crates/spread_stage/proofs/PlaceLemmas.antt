@@ -2,10 +2,11 @@
 use Rattle.std.proofs.Common.{◌≡◌, ℕ, zero, suc, ◌+◌, ◌<◌, ◌≤◌, Bool, true, false, cond, List, [], ◌∷◌}
 use Rattle.std.proofs.Common.{◌++◌, refl, sym, ap, ◌∙◌, arith, length, take, drop, set, get_or, drop-cons, Some, None}
 use Rattle.std.specs.Prelude.{ℤ, ◌+ℤ◌, ◌==◌, nat_lt, nat_le, position}
-use Rattle.std.specs.List.{AllByRecursion, insert, position_or_len}
+use Rattle.std.specs.List.{insert, position_or_len}
 use Rattle.std.proofs.Math.Seq.{drop-length, take-length}
 use Rattle.std.proofs.lemmas.Bool.Decides.{nat_tests}
 use Rattle.std.proofs.lemmas.List.{take-append-drop, take-set, drop-set}
+use Rattle.std.proofs.lemmas.List.Elements.{All-from_recursion}
 use Rattle.std.proofs.lemmas.List.Sums.{fails_before_first}
 use Rattle.std.proofs.lemmas.List.Quantifiers.{position-Some}
 use Rattle.std.specs.List.Sorted.{IsNonDecreasingBy}
@@ -19,18 +20,12 @@ get_same [] i d e lt = absurd (omega (arith, lt))
 get_same (m ∷ ms) zero d e lt = refl
 get_same (m ∷ ms) (suc i) d e lt = get_same ms i d e (omega (arith, lt))
 
--- a month is earlier than each that stands behind it
-later_at : (p k : ℕ) (ms : List MonthUnits) (d : MonthUnits) → AllByRecursion (λ (n : MonthUnits). p < n.month) ms → k < length ms
-    → p < (get_or ms k d).month
-later_at p k [] d h lt = absurd (omega (arith, lt))
-later_at p zero (m ∷ ms) d h lt = h.0
-later_at p (suc k) (m ∷ ms) d h lt = later_at p k ms d h.1 (omega (arith, lt))
-
 -- months that rise are sorted
 pub months_sorted : (ms : List MonthUnits) → MonthsRise ms → IsNonDecreasingBy (λ (m : MonthUnits). m.month) ms
 months_sorted [] h i j d le lt = absurd (omega (arith, lt))
 months_sorted (m ∷ ms) h zero zero d le lt = omega arith
-months_sorted (m ∷ ms) h zero (suc j) d le lt = let later = later_at m.month j ms d h.0 (omega (arith, lt)) in omega (arith, later)
+months_sorted (m ∷ ms) h zero (suc j) d le lt =
+    let later = All-from_recursion (λ (n : MonthUnits). m.month < n.month) ms h.0 j d (omega (arith, lt)) in omega (arith, later)
 months_sorted (m ∷ ms) h (suc i) zero d le lt = absurd (omega (arith, le))
 months_sorted (m ∷ ms) h (suc i) (suc j) d le lt = months_sorted ms h.1 i j d (omega (arith, le)) (omega (arith, lt))
 
