@@ -1,4 +1,4 @@
-# Writes a random pair of accepted files: awk -v seed=N -v params=FILE -v positions=FILE -f random-files.awk
+# Writes a random pair of accepted files, of either version: awk -v seed=N -v params=FILE -v positions=FILE -f random-files.awk
 # The same seed gives the same files.
 
 function pick(low, high) { return low + int(rand() * (high - low + 1)) }
@@ -32,6 +32,7 @@ function contract(c,    kind, delta, values, i, size) {
     values = ""
     size = pick(0, 3) == 0 ? 0 : pick(1, 500000)
     for (i = 1; i <= 16; i++) values = values "," pick(-size, size)
+    if (version == 2) values = values "," (kind == "F" ? 0 : pick(0, 200000))
     print "CONTRACT,K" contracts ",C" c "," kind "," month(pick(0, months - 1)) "," delta "," ratio() values > params
 }
 
@@ -62,7 +63,8 @@ BEGIN {
     srand(seed)
     commodities = pick(1, 8)
     months = pick(1, 14)
-    print "SET,S" seed ",1,USD" > params
+    version = pick(1, 2)
+    print "SET,S" seed "," version ",USD" > params
     for (c = 1; c <= commodities; c++)
         print "COMMODITY,C" c "," pick(0, 20000) "," (rand() < 0.5 ? "SUM" : "MAX") > params
     for (c = 1; c <= commodities; c++) {

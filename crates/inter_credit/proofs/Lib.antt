@@ -1,6 +1,7 @@
 pub mod CreditLaws
 pub mod LegLaws
 pub mod MinimumLaws
+pub mod ValueLemmas
 pub mod OnLiterals
 pub mod RestLaws
 pub mod Sizes

@@ -1,5 +1,5 @@
 -- The spreads that are formed fit each leg.
-use Rattle.std.proofs.Common.{◌≡◌, ◌/◌, ◌*◌, ◌<◌, ◌≤◌, ℕ, min, List, [], ◌∷◌, map, length, ◌-◌, arith}
+use Rattle.std.proofs.Common.{◌≡◌, ◌/◌, ◌*◌, ◌<◌, ◌≤◌, ℕ, min, List, [], ◌∷◌, map, length, arith}
 use Rattle.std.specs.List.{All, AllByRecursion}
 use Rattle.std.proofs.Math.Nat.{div-mul-le_self, mul-le-mul_right, min-le_left, min-le_right}
 use Rattle.std.proofs.lemmas.List.Elements.{All-from_recursion, All-same}

@@ -1,5 +1,6 @@
 pub mod Credits
 pub mod Requirement
+pub mod OptionValue
 pub mod Samples
 pub mod States
 pub mod near

@@ -2,7 +2,6 @@
 use Rattle.std.specs.Prelude.{ℕ, [], ◌∷◌, codes, ℤ, pos, neg_ℤ}
 use Rattle.std.specs.List.{repeat}
 use Rattle.span_tables.specs.Net.{HeldContract}
-use Rattle.span_tables.specs.Samples.{contract}
 use Rattle.span_tables.specs.declared.records.Inter.{Inter}
 use Rattle.span_tables.specs.declared.records.ProductKind.{ProductKind}
 use Rattle.span_tables.specs.declared.records.Side.TheVariants as side
@@ -24,6 +23,22 @@ short n = neg_ℤ (pos n)
 abbrev pub line_with : ℤ → ℤ → ℕ → ℕ → InterLine
 line_with net rest price2 weight = record { net = net; rest = rest; price2 = price2; weight = weight }
 
--- so many of a contract of a kind
+-- so many of a contract of a kind, with this option value
+abbrev pub held_with_value : ProductKind → ℤ → ℕ → HeldContract
+held_with_value kind net value = record {
+  contract = record {
+    id = codes "X";
+    commodity = codes "AA";
+    kind = kind;
+    month = 202503;
+    delta = pos 10000;
+    scale = 10000;
+    values = repeat 16 (pos 0 ∷ []);
+    option_value = value;
+  };
+  net = net;
+}
+
+-- so many of a contract of a kind, without option value
 abbrev pub held_of_kind : ProductKind → ℤ → HeldContract
-held_of_kind kind net = record { contract = contract kind (codes "X") (codes "AA") 202503 (repeat 16 (pos 0 ∷ [])); net = net }
+held_of_kind kind net = held_with_value kind net 0

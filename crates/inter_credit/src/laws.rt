@@ -1,6 +1,6 @@
 //! Laws of the definitions, in the methodology's words: each is the contract of a function that does nothing.
 ghost use Rattle.std.specs.Prelude.{◌≡◌, ◌≢◌, ℕ, ◌+◌, ◌*◌, ◌^◌, ◌≤◌, max, Bool, ◌&&◌, List, [], length};
-ghost use Rattle.std.specs.Prelude.{filter, sum_by, ℤ, pos, ◌+ℤ◌, ◌-ℤ◌, ◌≤ℤ◌, int_lt, nat_abs};
+ghost use Rattle.std.specs.Prelude.{filter, sum_by, ◌⊎◌, ℤ, pos, ◌+ℤ◌, ◌-ℤ◌, ◌≤ℤ◌, int_lt, nat_abs};
 ghost use Rattle.std.specs.List.{AllByRecursion};
 ghost use Rattle.span_tables.specs.Accepted.{IsInter};
 ghost use Rattle.span_tables.specs.Net.{HeldContract};
@@ -10,6 +10,7 @@ ghost use Rattle.span_tables.specs.declared.records.ProductKind.{ProductKind};
 ghost use Rattle.span_tables.specs.Sides.{spreads_formed};
 ghost use Rattle.span_tables.specs.declared.sides.Direction.{Direction};
 ghost use Rattle.inter_credit.specs.Credits.{after_inter_spreads, commodity_rooms, credit_of, inter_both_ways, inter_one_way, leg_side};
+ghost use Rattle.inter_credit.specs.OptionValue.{due_of, excess_of};
 ghost use Rattle.inter_credit.specs.Requirement.{is_call, is_put, minimum_of, requirement_of, short_count};
 ghost use Rattle.inter_credit.specs.States.{IsUnspread, UsesLine, credit_at, line_at};
 ghost use Rattle.inter_credit.specs.declared.requirement.TheConstants.{MAX_PART};
@@ -64,6 +65,15 @@ pub fn minimum_counts_short_options()
         → minimum_of rate method.Sum held ≡ rate * (short_count is_call held + short_count is_put held) }
     ensures larger { (rate : ℕ) (held : List HeldContract)
         → minimum_of rate method.Max held ≡ rate * max (short_count is_call held) (short_count is_put held) }
+{}
+
+/// Of what an account has to bring and what its option value is over its total one is 0 at least, and the total is the option
+/// value, more by the one and less by the other.
+#[tactic(auto, using(crate::proofs::ValueLemmas::due_or_excess, crate::proofs::ValueLemmas::settled))]
+pub fn due_and_excess_settle_the_value()
+    ensures one { (total value : ℤ) → (due_of total value ≡ 0) ⊎ (excess_of total value ≡ 0) }
+    ensures settled { (total value : ℤ)
+        → total ≡ (value +ℤ pos (due_of total value)) -ℤ pos (excess_of total value) }
 {}
 
 /// The requirement is the least number that is at least scan and charges less the credit, and at least the minimum.

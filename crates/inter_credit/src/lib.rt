@@ -4,6 +4,7 @@
 
 pub mod credit;
 pub mod laws;
+pub mod option_value;
 pub mod requirement;
 pub mod spreads;
 pub mod state;

@@ -1,13 +1,17 @@
 //! Worked values, computed by the definitions: each is the contract of a function that does nothing.
 #![tactic(auto, unfolding(crate::proofs::OnLiterals::credits_on_literals))]
 
+ghost use Rattle.std.specs.List.{repeat};
 ghost use Rattle.std.specs.Prelude.{◌≡◌, [], ◌∷◌, ◌/◌, map, pos};
-ghost use Rattle.span_tables.specs.declared.limits.TheConstants.{MAX_BASIS_POINTS, MAX_PRICE2, MAX_SUM, MAX_UNITS};
+ghost use Rattle.span_tables.specs.declared.limits.TheConstants.{MAX_BASIS_POINTS, MAX_HELD, MAX_NET};
+ghost use Rattle.span_tables.specs.declared.limits.TheConstants.{MAX_OPTION_VALUE, MAX_PRICE2, MAX_SUM, MAX_UNITS};
 ghost use Rattle.span_tables.specs.declared.records.MinimumMethod.TheVariants as method;
 ghost use Rattle.span_tables.specs.declared.records.ProductKind.TheVariants as kind;
 ghost use Rattle.inter_credit.specs.Credits.{after_inter_spreads, credit_of, unspread_line};
+ghost use Rattle.inter_credit.specs.OptionValue.{due_of, excess_of, net_value_of};
 ghost use Rattle.inter_credit.specs.Requirement.{minimum_of, requirement_of};
-ghost use Rattle.inter_credit.specs.Samples.{held_of_kind, line_with, short, spread_of};
+ghost use Rattle.inter_credit.specs.declared.option_value.TheConstants.{MAX_NET_VALUE};
+ghost use Rattle.inter_credit.specs.Samples.{held_of_kind, held_with_value, line_with, short, spread_of};
 
 // One long delta against two short ones, at 5000 basis points.
 fn one_credit()
@@ -117,4 +121,22 @@ fn requirement_less_credit()
 // A credit above all else.
 fn requirement_of_the_largest_credit()
     ensures { requirement_of (pos (MAX_SUM / 2)) (pos 0) (pos 0) (pos (MAX_PRICE2 / 4)) (pos 0) ≡ pos 0 }
+{}
+
+// A future, a long call, and two short calls with three short puts.
+fn option_values()
+    ensures future { net_value_of (held_of_kind kind.Future (pos 1) ∷ []) ≡ pos 0 }
+    ensures long { net_value_of (held_with_value kind.Call (pos 1) 120 ∷ []) ≡ pos 120 }
+    ensures short { net_value_of (held_with_value kind.Call (short 2) 120 ∷ held_with_value kind.Put (short 3) 80 ∷ []) ≡ short 480 }
+    ensures largest { net_value_of (repeat MAX_HELD (held_with_value kind.Put (short MAX_NET) MAX_OPTION_VALUE ∷ []))
+        ≡ short MAX_NET_VALUE }
+{}
+
+// A value below the total, one above it, and one of short options.
+fn due_and_excess()
+    ensures below { due_of (pos 1700) (pos 480) ≡ 1220 }
+    ensures none_above { excess_of (pos 1700) (pos 480) ≡ 0 }
+    ensures above { excess_of (pos 100) (pos 480) ≡ 380 }
+    ensures none_below { due_of (pos 100) (pos 480) ≡ 0 }
+    ensures short { due_of (pos 1700) (short 480) ≡ 2180 }
 {}

@@ -1,18 +1,46 @@
 -- Where the steps of a plan stand.
-use Rattle.std.proofs.Common.{◌≡◌, ℕ, zero, suc, ◌+◌, ◌*◌, ◌<◌, ◌≤◌, List, [], ◌∷◌, ◌++◌}
+use Rattle.std.proofs.Common.{◌≡◌, ℕ, zero, suc, ◌+◌, ◌*◌, ◌<◌, ◌≤◌, Bool, true, false, List, [], ◌∷◌, ◌++◌}
 use Rattle.std.proofs.Common.{length, Some, slice_get, refl, sym, ap, ◌∙◌, arith, add-one, inl, inr}
+use Rattle.std.specs.Prelude.{if◌then◌else◌}
 use Rattle.std.proofs.lemmas.Bool.{cases_eq}
 use Rattle.std.proofs.lemmas.List.{append_assoc, length-append}
 use Rattle.span_tables.specs.Accepted.{IsWithinLimits, commodity_id}
-use Rattle.span_tables.specs.Tables.{AcceptedTables, inters_of}
+use Rattle.span_tables.specs.Tables.{AcceptedTables, has_option_value, inters_of}
 use Rattle.span_tables.specs.declared.limits.TheConstants.{MAX_INTRA_SPREADS}
 use Rattle.plan_ir.specs.Apply.{IsOp}
 use Rattle.plan_ir.specs.Figures.{intras_at}
 use Rattle.plan_ir.specs.declared.ops.Op.{Op}
 use Rattle.plan_ir.specs.declared.ops.Op.TheVariants as op
-use Rattle.plan_compiler.specs.Plan.{commodity_ops, each, final_ops, first_ops, inter_ops, ops_of, spread_ops, total_ops}
-use Rattle.plan_compiler.specs.declared.layout.TheConstants.{COMMODITY_STEPS}
-use Rattle.plan_compiler.specs.Places.{first_step, place_of, total_step}
+use Rattle.plan_compiler.specs.Plan.{commodity_ops, each, final_ops, first_ops, inter_ops, ops_of, premium_ops, spread_ops}
+use Rattle.plan_compiler.specs.Plan.{total_ops, value_ops}
+use Rattle.plan_compiler.specs.declared.layout.TheConstants.{COMMODITY_STEPS, VALUE_STEPS}
+use Rattle.plan_compiler.specs.Places.{first_step, place_of, premium_step, total_step, value_steps}
+
+-- the operation is one of the plan: its numbers are those of the tables, and options have a value where it is one of theirs
+abbrev pub IsPlanned : AcceptedTables → Op → Type 0
+IsPlanned t (op.NetValue c) = (has_option_value t ≡ true) × (c < length t.commodities)
+IsPlanned t op.ValueStart = has_option_value t ≡ true
+IsPlanned t (op.ValueAdd c) = (has_option_value t ≡ true) × (c < length t.commodities)
+IsPlanned t o = IsOp t o
+
+pub planned_is_op : (t : AcceptedTables) (o : Op) → IsPlanned t o → IsOp t o
+planned_is_op t (op.Gather c) is = is
+planned_is_op t (op.Sums c) is = is
+planned_is_op t (op.ScanMax c) is = is
+planned_is_op t (op.Months c) is = is
+planned_is_op t (op.TierStart c) is = is
+planned_is_op t (op.Spread c j) is = is
+planned_is_op t (op.Delivery c) is = is
+planned_is_op t (op.Minimum c) is = is
+planned_is_op t (op.Final c) is = is
+planned_is_op t op.InterStart is = is
+planned_is_op t (op.InterLoad c) is = is
+planned_is_op t (op.InterSpread j) is = is
+planned_is_op t op.TotalStart is = is
+planned_is_op t (op.TotalAdd c) is = is
+planned_is_op t (op.NetValue c) is = is.1
+planned_is_op t op.ValueStart is = tt
+planned_is_op t (op.ValueAdd c) is = is.1
 
 -- one more of each
 pub each_more : (f : ℕ → List Op) (n : ℕ) → each f (n + 1) ≡ each f n ++ f n
@@ -36,28 +64,66 @@ length_singles f one (suc n) =
 pub length_spreads : (c n : ℕ) → length (spread_ops c n) ≡ n
 length_spreads c n = length_singles (λ j. op.Spread c j ∷ []) (λ j. refl) n
 
-length_commodity : (t : AcceptedTables) (c : ℕ) → length (commodity_ops t c) ≡ COMMODITY_STEPS + length (intras_at t c)
+-- the steps of an option value, whether there is one or not
+length_value : (b : Bool) (o : Op) → length (if b then o ∷ [] else []) ≡ (if b then VALUE_STEPS else 0)
+length_value true o = refl
+length_value false o = refl
+
+few_value : (b : Bool) → (if b then VALUE_STEPS else 0) ≤ VALUE_STEPS
+few_value true = omega arith
+few_value false = omega arith
+
+-- the steps of the option value are not too many
+pub value_steps_small : (t : AcceptedTables) → value_steps t ≤ VALUE_STEPS
+value_steps_small t = few_value (has_option_value t)
+
+no_value_steps : (t : AcceptedTables) → has_option_value t ≡ false → value_steps t ≡ 0
+no_value_steps t none = ap (λ (b : Bool). if b then VALUE_STEPS else 0) none
+
+-- the steps of a commodity in front of its figures
+abbrev charges : AcceptedTables → ℕ → List Op
+charges t c = op.Delivery c ∷ op.Minimum c ∷ [] ++ value_ops t c
+
+length_charges : (t : AcceptedTables) (c : ℕ) → length (charges t c) ≡ 2 + value_steps t
+length_charges t c =
+    let value = length_value (has_option_value t) (op.NetValue c) in
+    omega (arith, value, length-append (op.Delivery c ∷ op.Minimum c ∷ []) (value_ops t c))
+
+length_commodity : (t : AcceptedTables) (c : ℕ)
+    → length (commodity_ops t c) ≡ COMMODITY_STEPS + value_steps t + length (intras_at t c)
 length_commodity t c =
     let n = length (intras_at t c) in
     let spreads = length_spreads c n in
     let front = length-append (first_ops c) (spread_ops c n) in
-    let all = length-append (first_ops c ++ spread_ops c n) (final_ops c) in
-    omega (arith, spreads, front, all)
+    let all = length-append (first_ops c ++ spread_ops c n) (final_ops t c) in
+    let back = length-append (charges t c) (op.Final c ∷ []) in
+    omega (arith, spreads, front, all, back, length_charges t c)
 
 -- a commodity's steps stand before those of the next
-pub first_more : (t : AcceptedTables) (c : ℕ) → first_step t (c + 1) ≡ first_step t c + (COMMODITY_STEPS + length (intras_at t c))
+pub first_more : (t : AcceptedTables) (c : ℕ) → first_step t (c + 1) ≡ first_step t c + (COMMODITY_STEPS + value_steps t + length (intras_at t c))
 first_more t c =
     ap length (each_more (commodity_ops t) c) ∙ length-append (each (commodity_ops t) c) (commodity_ops t c)
     ∙ ap (λ n. first_step t c + n) (length_commodity t c)
 
 -- not too many stand before it
-pub first_small : (t : AcceptedTables) → IsWithinLimits t → (c : ℕ) → first_step t c ≤ c * (COMMODITY_STEPS + MAX_INTRA_SPREADS)
+pub first_small : (t : AcceptedTables) → IsWithinLimits t → (c : ℕ)
+    → first_step t c ≤ c * (COMMODITY_STEPS + VALUE_STEPS + MAX_INTRA_SPREADS)
 first_small t limits zero = omega arith
 first_small t limits (suc c) =
     let before = first_small t limits c in
     let here = length_commodity t c in
     let few = limits.few_intras (commodity_id t c) in
-    omega (arith, before, here, few, length-append (each (commodity_ops t) c) (commodity_ops t c))
+    omega (arith, before, here, few, value_steps_small t, length-append (each (commodity_ops t) c) (commodity_ops t c))
+
+-- and fewer where options have no value
+pub first_smaller : (t : AcceptedTables) → IsWithinLimits t → has_option_value t ≡ false → (c : ℕ)
+    → first_step t c ≤ c * (COMMODITY_STEPS + MAX_INTRA_SPREADS)
+first_smaller t limits none zero = omega arith
+first_smaller t limits none (suc c) =
+    let before = first_smaller t limits none c in
+    let here = length_commodity t c in
+    let few = limits.few_intras (commodity_id t c) in
+    omega (arith, before, here, few, no_value_steps t none, length-append (each (commodity_ops t) c) (commodity_ops t c))
 
 -- ---- the step at a place
 
@@ -88,37 +154,59 @@ at_single : (f : ℕ → List Op) → ((c : ℕ) → length (f c) ≡ 1) → (n 
 at_single f one n c k o lt e at = at_each f n c 0 k o lt e (omega (arith, at, length_singles f one c))
 
 module _ (t : AcceptedTables) where
+  -- the steps in front of those of the account's option value
+  abbrev margin_ops : List Op
+  margin_ops =
+      each (commodity_ops t) (length t.commodities) ++ inter_ops (length t.commodities) (length (inters_of t))
+      ++ total_ops (length t.commodities)
+
+  in_margin : (k : ℕ) (o : Op) → slice_get margin_ops k ≡ Some o → slice_get (ops_of t) k ≡ Some o
+  in_margin k o e = at_front margin_ops (premium_ops t) k o e
+
   in_commodity : (c i k : ℕ) (o : Op) → c < length t.commodities → slice_get (commodity_ops t c) i ≡ Some o
       → k ≡ first_step t c + i → slice_get (ops_of t) k ≡ Some o
   in_commodity c i k o lt e at =
       let n = length t.commodities in
-      at_front (each (commodity_ops t) n ++ inter_ops n (length (inters_of t))) (total_ops n) k o
+      in_margin k o
+      (at_front (each (commodity_ops t) n ++ inter_ops n (length (inters_of t))) (total_ops n) k o
       (at_front (each (commodity_ops t) n) (inter_ops n (length (inters_of t))) k o
-      (at_each (commodity_ops t) n c i k o lt e at))
+      (at_each (commodity_ops t) n c i k o lt e at)))
 
   in_first : (c i k : ℕ) (o : Op) → c < length t.commodities → slice_get (first_ops c) i ≡ Some o → k ≡ first_step t c + i
       → slice_get (ops_of t) k ≡ Some o
   in_first c i k o lt e at =
       let between = spread_ops c (length (intras_at t c)) in
-      in_commodity c i k o lt (at_front (first_ops c ++ between) (final_ops c) i o (at_front (first_ops c) between i o e)) at
+      in_commodity c i k o lt (at_front (first_ops c ++ between) (final_ops t c) i o (at_front (first_ops c) between i o e)) at
 
   in_spreads : (c j k : ℕ) → c < length t.commodities → j < length (intras_at t c) → k ≡ first_step t c + (5 + j)
       → slice_get (ops_of t) k ≡ Some (op.Spread c j)
   in_spreads c j k lt below at =
       let between = spread_ops c (length (intras_at t c)) in
       in_commodity c (5 + j) k (op.Spread c j) lt
-      (at_front (first_ops c ++ between) (final_ops c) (5 + j) (op.Spread c j)
+      (at_front (first_ops c ++ between) (final_ops t c) (5 + j) (op.Spread c j)
       (at_back (first_ops c) between j (5 + j) (op.Spread c j)
       (at_single (λ i. op.Spread c i ∷ []) (λ i. refl) (length (intras_at t c)) j j (op.Spread c j) below refl refl) refl)) at
 
-  in_final : (c i k : ℕ) (o : Op) → c < length t.commodities → slice_get (final_ops c) i ≡ Some o
+  in_final : (c i k : ℕ) (o : Op) → c < length t.commodities → slice_get (final_ops t c) i ≡ Some o
       → k ≡ first_step t c + (5 + length (intras_at t c) + i) → slice_get (ops_of t) k ≡ Some o
   in_final c i k o lt e at =
       let n = length (intras_at t c) in
       let between = spread_ops c n in
       let long = length-append (first_ops c) between in
       in_commodity c (5 + n + i) k o lt
-      (at_back (first_ops c ++ between) (final_ops c) i (5 + n + i) o e (omega (arith, long, length_spreads c n))) at
+      (at_back (first_ops c ++ between) (final_ops t c) i (5 + n + i) o e (omega (arith, long, length_spreads c n))) at
+
+  -- among the steps behind the spreads: the option value where there is one, and the figures behind it
+  value_here : (b : Bool) (c : ℕ) → b ≡ true
+      → slice_get (op.Delivery c ∷ op.Minimum c ∷ [] ++ (if b then op.NetValue c ∷ [] else []) ++ op.Final c ∷ []) 2
+      ≡ Some (op.NetValue c)
+  value_here true c e = refl
+  value_here false c e = cc
+
+  figures_here : (c : ℕ) → slice_get (final_ops t c) (2 + value_steps t) ≡ Some (op.Final c)
+  figures_here c =
+      let long = length_charges t c in
+      at_back (charges t c) (op.Final c ∷ []) 0 (2 + value_steps t) (op.Final c) refl (omega (arith, long))
 
   in_inter : (i k : ℕ) (o : Op) → slice_get (inter_ops (length t.commodities) (length (inters_of t))) i ≡ Some o
       → k ≡ first_step t (length t.commodities) + i → slice_get (ops_of t) k ≡ Some o
@@ -126,7 +214,7 @@ module _ (t : AcceptedTables) where
       let n = length t.commodities in
       let front = each (commodity_ops t) n in
       let between = inter_ops n (length (inters_of t)) in
-      at_front (front ++ between) (total_ops n) k o (at_back front between i k o e at)
+      in_margin k o (at_front (front ++ between) (total_ops n) k o (at_back front between i k o e at))
 
   -- the steps that load commodities, behind the first step between commodities
   abbrev loads : List Op
@@ -154,10 +242,38 @@ module _ (t : AcceptedTables) where
       let n = length t.commodities in
       let front = each (commodity_ops t) n in
       let between = inter_ops n (length (inters_of t)) in
-      at_back (front ++ between) (total_ops n) i k o e (omega (arith, at, length_inter, length-append front between))
+      in_margin k o (at_back (front ++ between) (total_ops n) i k o e (omega (arith, at, length_inter, length-append front between)))
+
+  -- the steps of the option value, where there are some
+  abbrev premiums : List Op
+  premiums = op.ValueStart ∷ [] ++ each (λ c. op.ValueAdd c ∷ []) (length t.commodities)
+
+  premiums_here : (b : Bool) → b ≡ true → (i : ℕ) (o : Op) → slice_get premiums i ≡ Some o
+      → slice_get (if b then premiums else []) i ≡ Some o
+  premiums_here true is i o e = e
+  premiums_here false is i o e = cc
+
+  length_total : length (total_ops (length t.commodities)) ≡ 1 + length t.commodities
+  length_total =
+      let n = length t.commodities in
+      let adds = length_singles (λ c. op.TotalAdd c ∷ []) (λ c. refl) n in
+      omega (arith, adds, length-append (op.TotalStart ∷ []) (each (λ c. op.TotalAdd c ∷ []) n))
+
+  length_margin : length margin_ops ≡ first_step t (length t.commodities) + (2 + 2 * length t.commodities + length (inters_of t))
+  length_margin =
+      let n = length t.commodities in
+      let m = length (inters_of t) in
+      let front = length-append (each (commodity_ops t) n) (inter_ops n m) in
+      let all = length-append (each (commodity_ops t) n ++ inter_ops n m) (total_ops n) in
+      omega (arith, front, all, length_inter, length_total)
+
+  in_premium : (i k : ℕ) (o : Op) → has_option_value t ≡ true → slice_get premiums i ≡ Some o → k ≡ premium_step t 0 + i
+      → slice_get (ops_of t) k ≡ Some o
+  in_premium i k o has e at =
+      at_back margin_ops (premium_ops t) i k o (premiums_here (has_option_value t) has i o e) (omega (arith, at, length_margin))
 
   -- each operation of the tables stands at its place
-  pub place_stands : (o : Op) → IsOp t o → slice_get (ops_of t) (place_of t o) ≡ Some o
+  pub place_stands : (o : Op) → IsPlanned t o → slice_get (ops_of t) (place_of t o) ≡ Some o
   place_stands (op.Gather c) known = in_first c 0 _ (op.Gather c) known refl (omega arith)
   place_stands (op.Sums c) known = in_first c 1 _ (op.Sums c) known refl refl
   place_stands (op.ScanMax c) known = in_first c 2 _ (op.ScanMax c) known refl refl
@@ -166,7 +282,7 @@ module _ (t : AcceptedTables) where
   place_stands (op.Spread c j) known = in_spreads c j _ known.0 known.1 (omega arith)
   place_stands (op.Delivery c) known = in_final c 0 _ (op.Delivery c) known refl (omega arith)
   place_stands (op.Minimum c) known = in_final c 1 _ (op.Minimum c) known refl (omega arith)
-  place_stands (op.Final c) known = in_final c 2 _ (op.Final c) known refl (omega arith)
+  place_stands (op.Final c) known = in_final c (2 + value_steps t) _ (op.Final c) known (figures_here c) (omega arith)
   place_stands op.InterStart known = in_inter 0 _ op.InterStart (in_loads 0 op.InterStart refl) refl
   place_stands (op.InterLoad c) known =
       in_inter (1 + c) _ (op.InterLoad c)
@@ -188,9 +304,16 @@ module _ (t : AcceptedTables) where
       (at_back (op.TotalStart ∷ []) (each (λ n. op.TotalAdd n ∷ []) (length t.commodities)) c (1 + c) (op.TotalAdd c)
       (at_single (λ n. op.TotalAdd n ∷ []) (λ n. refl) (length t.commodities) c c (op.TotalAdd c) known refl refl) refl)
       (omega arith)
+  place_stands (op.NetValue c) known = in_final c 2 _ (op.NetValue c) known.1 (value_here (has_option_value t) c known.0) (omega arith)
+  place_stands op.ValueStart known = in_premium 0 _ op.ValueStart known refl (omega arith)
+  place_stands (op.ValueAdd c) known =
+      in_premium (1 + c) _ (op.ValueAdd c) known.0
+      (at_back (op.ValueStart ∷ []) (each (λ n. op.ValueAdd n ∷ []) (length t.commodities)) c (1 + c) (op.ValueAdd c)
+      (at_single (λ n. op.ValueAdd n ∷ []) (λ n. refl) (length t.commodities) c c (op.ValueAdd c) known.1 refl refl) refl)
+      (omega arith)
 
   -- a commodity's steps stand before all steps between commodities
-  pub first_before : (c n : ℕ) → c < n → first_step t c + (COMMODITY_STEPS + length (intras_at t c)) ≤ first_step t n
+  pub first_before : (c n : ℕ) → c < n → first_step t c + (COMMODITY_STEPS + value_steps t + length (intras_at t c)) ≤ first_step t n
   first_before c zero lt = elim lt [ ]
   first_before c (suc n) lt = elim (cases_eq c n) [
     | inl same ↦
@@ -204,12 +327,18 @@ module _ (t : AcceptedTables) where
   ]
 
   -- how many steps there are
+  premiums_long : (b : Bool) → length (if b then premiums else []) ≤ 1 + length t.commodities
+  premiums_long true =
+      let adds = length_singles (λ c. op.ValueAdd c ∷ []) (λ c. refl) (length t.commodities) in
+      omega (arith, adds, length-append (op.ValueStart ∷ []) (each (λ c. op.ValueAdd c ∷ []) (length t.commodities)))
+  premiums_long false = omega arith
+
+  pub few_premiums : length (premium_ops t) ≤ 1 + length t.commodities
+  few_premiums = premiums_long (has_option_value t)
+
+  pub no_premiums : has_option_value t ≡ false → length (premium_ops t) ≡ 0
+  no_premiums none = ap (λ (b : Bool). length (if b then premiums else [])) none
+
   pub length_ops : length (ops_of t) ≡ first_step t (length t.commodities) + (2 + 2 * length t.commodities + length (inters_of t))
-  length_ops =
-      let n = length t.commodities in
-      let m = length (inters_of t) in
-      let adds = length_singles (λ c. op.TotalAdd c ∷ []) (λ c. refl) n in
-      let total = length-append (op.TotalStart ∷ []) (each (λ c. op.TotalAdd c ∷ []) n) in
-      let front = length-append (each (commodity_ops t) n) (inter_ops n m) in
-      let all = length-append (each (commodity_ops t) n ++ inter_ops n m) (total_ops n) in
-      omega (arith, adds, total, front, all, length_inter)
+      + length (premium_ops t)
+  length_ops = omega (arith, length_margin, length-append margin_ops (premium_ops t))

@@ -14,11 +14,12 @@ use Rattle.span_tables.specs.declared.portfolios.Holding.{Holding}
 use Rattle.spread_stage.specs.Spreads.{after_spreads, spread_both_ways, unspread}
 use Rattle.inter_credit.specs.Credits.{after_inter_spreads, inter_both_ways, unspread_line}
 use Rattle.plan_ir.specs.Apply.{IsOp, inter_at, intra_at, no_inter, no_intra, value_on}
-use Rattle.plan_ir.specs.Figures.{deltas_at, figures_of, inter_lines, intras_at, line_of, loaded_lines, tiers_at, total_to}
+use Rattle.plan_ir.specs.Figures.{deltas_at, figures_of, inter_lines, intras_at, line_of, loaded_lines, net_value_at, tiers_at}
+use Rattle.plan_ir.specs.Figures.{total_to, value_to}
 use Rattle.plan_ir.specs.declared.ops.Op.{Op}
 use Rattle.plan_ir.specs.declared.ops.Op.TheVariants as op
 use Rattle.plan_ir.specs.declared.values.Value.TheVariants as value
-use Rattle.plan_compiler.specs.Meaning.{before_inter, before_load, before_spread, before_total, last_inter, last_tiers}
+use Rattle.plan_compiler.specs.Meaning.{before_inter, before_load, before_spread, before_total, before_value, last_inter, last_tiers}
 use Rattle.plan_compiler.specs.Meaning.{lines_after, lines_loaded, meaning, tiers_after, wanted}
 
 module _ (t : AcceptedTables) (holdings : List Holding) where
@@ -48,6 +49,11 @@ module _ (t : AcceptedTables) (holdings : List Holding) where
   meaning-before_total zero = refl
   meaning-before_total (suc c) = rw add-one refl
 
+  pub meaning-before_value : (c : ℕ) → meaning t holdings (before_value c) ≡ value.Premium (value_to t holdings c)
+  unfolding value_to
+  meaning-before_value zero = refl
+  meaning-before_value (suc c) = rw add-one refl
+
   -- ---- one step more
 
   spread_more : (c j : ℕ) → j < length (intras_at t c)
@@ -75,16 +81,22 @@ module _ (t : AcceptedTables) (holdings : List Holding) where
       ∙ sym (append_assoc front (line_of t holdings c ∷ []) rest)
       ∙ ap (λ xs. xs ++ rest) (sym (map-range_with_len_more (line_of t holdings) 0 c c zero_more))
 
-  pub total_more : (c : ℕ) → total_to t holdings c +ℤ (figures_of t holdings c).requirement ≡ total_to t holdings (c + 1)
-  unfolding total_to
-  total_more c =
+  -- a sum over the first numbers, with the next one
+  sum_more : (f : ℕ → ℤ) (c : ℕ) → int_sum_by f (range_with_len 0 c) +ℤ f c ≡ int_sum_by f (range_with_len 0 (c + 1))
+  sum_more f c =
       let zero_more : 0 + c ≡ c = omega arith in
-      let requirements : ℤ → ℕ → ℤ = λ z n. z +ℤ (figures_of t holdings n).requirement in
       let more : range_with_len 0 (c + 1) ≡ range_with_len 0 c ++ c ∷ [] =
       sym (map-id (range_with_len 0 (c + 1))) ∙ map-range_with_len_more (λ n. n) 0 c c zero_more
       ∙ ap (λ ns. ns ++ c ∷ []) (map-id (range_with_len 0 c)) in
-      sym (ap (int_sum_by (λ n. (figures_of t holdings n).requirement)) more
-      ∙ fold-append requirements (pos 0) (range_with_len 0 c) (c ∷ []))
+      sym (ap (int_sum_by f) more ∙ fold-append (λ (z : ℤ) n. z +ℤ f n) (pos 0) (range_with_len 0 c) (c ∷ []))
+
+  pub total_more : (c : ℕ) → total_to t holdings c +ℤ (figures_of t holdings c).requirement ≡ total_to t holdings (c + 1)
+  unfolding total_to
+  total_more c = sum_more (λ n. (figures_of t holdings n).requirement) c
+
+  value_more : (c : ℕ) → value_to t holdings c +ℤ net_value_at t holdings c ≡ value_to t holdings (c + 1)
+  unfolding value_to
+  value_more c = sum_more (net_value_at t holdings) c
 
   all_tiers : (c : ℕ) → tiers_after t holdings c (length (intras_at t c)) ≡ tiers_at t holdings c
   all_tiers c =
@@ -121,3 +133,6 @@ module _ (t : AcceptedTables) (holdings : List Holding) where
   gives_meaning (op.InterSpread j) known = rw (meaning-before_inter j) (ap value.Inter (inter_more j known))
   gives_meaning op.TotalStart known = refl
   gives_meaning (op.TotalAdd c) known = rw (meaning-before_total c) (ap value.Total (total_more c))
+  gives_meaning (op.NetValue c) known = refl
+  gives_meaning op.ValueStart known = refl
+  gives_meaning (op.ValueAdd c) known = rw (meaning-before_value c) (ap value.Premium (value_more c))

@@ -1,5 +1,5 @@
 -- A plan of a set's operations, each with the places of what it wants, keeps the plan law.
-use Rattle.std.proofs.Common.{◌≡◌, ℕ, ◌+◌, ◌*◌, ◌≤◌, ◌<◌, false, List, [], ◌∷◌, length, map, Some}
+use Rattle.std.proofs.Common.{◌≡◌, ℕ, ◌+◌, ◌*◌, ◌≤◌, ◌<◌, true, false, List, [], ◌∷◌, length, map, Some}
 use Rattle.std.proofs.Common.{slice_get, slice_index_or}
 use Rattle.std.proofs.Common.{refl, sym, ap, subst, ◌∙◌, arith}
 use Rattle.std.specs.Prelude.{All, ◌==◌}
@@ -9,7 +9,7 @@ use Rattle.std.proofs.lemmas.List.Elements.{All-cons, All-map, All-nil, recursio
 use Rattle.std.proofs.lemmas.Option.{get_or_from_slice_get, slice_get_within}
 use Rattle.span_tables.specs.Accepted.{IsWithinLimits}
 use Rattle.span_tables.specs.Names.{has_repeat}
-use Rattle.span_tables.specs.Tables.{AcceptedTables}
+use Rattle.span_tables.specs.Tables.{AcceptedTables, has_option_value}
 use Rattle.span_tables.specs.declared.limits.TheConstants.{MAX_COMMODITIES, MAX_INTER_SPREADS, MAX_INTRA_SPREADS}
 use Rattle.span_tables.specs.declared.portfolios.Holding.{Holding}
 use Rattle.plan_ir.specs.Apply.{IsOp}
@@ -18,16 +18,17 @@ use Rattle.plan_ir.specs.declared.ops.Op.{Op}
 use Rattle.plan_ir.specs.declared.ops.Op.TheVariants as op
 use Rattle.plan_ir.proofs.UserLemmas.{all_ops, as_many_steps, inputs_are, op_is}
 use Rattle.plan_compiler.specs.Compiled.{IsCompiled, IsFirstInput}
-use Rattle.plan_compiler.specs.Meaning.{last_total, meaning, rank_of, wanted}
+use Rattle.plan_compiler.specs.Meaning.{last_total, last_value, meaning, rank_of, wanted}
 use Rattle.plan_compiler.specs.Plan.{IsPlanOf, ops_of}
 use Rattle.plan_compiler.specs.Places.{inputs_of, place_of, plan_of}
 use Rattle.plan_compiler.specs.near.Layout.{AreFirsts}
 use Rattle.plan_compiler.specs.near.Sets.{IsSet}
-use Rattle.plan_compiler.proofs.FromPlan.{inputs_within, known_before_total, known_ops, known_wanted, wired}
-use Rattle.plan_compiler.proofs.LayoutLemmas.{first_small, length_ops, place_stands}
+use Rattle.plan_compiler.proofs.FromPlan.{inputs_within, known_before_total, known_before_value, known_ops, known_wanted, wired}
+use Rattle.plan_compiler.proofs.LayoutLemmas.{IsPlanned, few_premiums, first_small, first_smaller, length_ops, no_premiums}
+use Rattle.plan_compiler.proofs.LayoutLemmas.{place_stands, planned_is_op}
 use Rattle.plan_compiler.proofs.Meanings.{gives_meaning}
 use Rattle.plan_compiler.proofs.Taken.{takes_meanings}
-use Rattle.plan_compiler.proofs.Wiring.{apart, few_inputs, few_steps, first_not_final, first_not_total, wanted_lower}
+use Rattle.plan_compiler.proofs.Wiring.{apart, few_inputs, few_steps, first_not_final, first_not_total, first_not_value, wanted_lower}
 
 -- the operation at a place
 op_named : (plan : List StepView) (i : ℕ) (o : Op) → slice_get (ops_in plan) i ≡ Some o → op_at plan i ≡ o
@@ -45,17 +46,20 @@ module _ (t : AcceptedTables) (plan : List StepView) (ops : ops_in plan ≡ ops_
   long : length plan ≡ length (ops_of t)
   long = sym (length-map plan (λ (s : StepView). s.op)) ∙ ap length ops
 
-  op_known : (k : ℕ) → k < length plan → IsOp t (op_at plan k)
-  op_known k lt =
+  op_planned : (k : ℕ) → k < length plan → IsPlanned t (op_at plan k)
+  op_planned k lt =
       let at : slice_index_or (ops_in plan) k op.TotalStart ≡ op_at plan k =
       get_or-map (λ (s : StepView). s.op) plan k no_step op.TotalStart lt in
-      subst (IsOp t) (sym (ap (λ os. slice_index_or os k op.TotalStart) ops) ∙ at)
+      subst (IsPlanned t) (sym (ap (λ os. slice_index_or os k op.TotalStart) ops) ∙ at)
       (known_ops t k op.TotalStart (omega (arith, lt, long)))
 
-  stands : (o : Op) → IsOp t o → op_at plan (place_of t o) ≡ o
+  op_known : (k : ℕ) → k < length plan → IsOp t (op_at plan k)
+  op_known k lt = planned_is_op t (op_at plan k) (op_planned k lt)
+
+  stands : (o : Op) → IsPlanned t o → op_at plan (place_of t o) ≡ o
   stands o known = op_named plan (place_of t o) o (ap (λ os. slice_get os (place_of t o)) ops ∙ place_stands t o known)
 
-  ops_at_places : (os : List Op) → AllByRecursion (IsOp t) os → map (op_at plan) (map (place_of t) os) ≡ os
+  ops_at_places : (os : List Op) → AllByRecursion (IsPlanned t) os → map (op_at plan) (map (place_of t) os) ≡ os
   ops_at_places [] known = refl
   ops_at_places (o ∷ os) (here, rest) =
       ap (λ x. x ∷ map (op_at plan) (map (place_of t) os)) (stands o here) ∙ ap (λ xs. o ∷ xs) (ops_at_places os rest)
@@ -63,7 +67,7 @@ module _ (t : AcceptedTables) (plan : List StepView) (ops : ops_in plan ≡ ops_
   -- the operations of a step's inputs are what its operation wants
   input_ops : (k : ℕ) → k < length plan → map (op_at plan) (inputs_at plan k) ≡ wanted t (op_at plan k)
   input_ops k lt =
-      ap (map (op_at plan)) (wires k lt) ∙ ops_at_places (wanted t (op_at plan k)) (known_wanted t (op_at plan k) (op_known k lt))
+      ap (map (op_at plan)) (wires k lt) ∙ ops_at_places (wanted t (op_at plan k)) (known_wanted t (op_at plan k) (op_planned k lt))
 
   inputs_mean : (holdings : List Holding) (k : ℕ) → k < length plan
       → map (λ i. meaning t holdings (op_at plan i)) (inputs_at plan k) ≡ map (meaning t holdings) (wanted t (op_at plan k))
@@ -74,10 +78,10 @@ module _ (t : AcceptedTables) (plan : List StepView) (ops : ops_in plan ≡ ops_
   pub is_plan : IsPlanOf t plan
   is_plan = record {
     ops = ops;
-    wired = λ k lt. rw (wires k lt, ops) (wired t (op_at plan k) (op_known k lt));
+    wired = λ k lt. rw (wires k lt, ops) (wired t (op_at plan k) (op_planned k lt));
   }
 
-  lower_inputs : (R : ℕ) (os : List Op) → AllByRecursion (IsOp t) os → AllByRecursion (λ w. rank_of t w < R) os
+  lower_inputs : (R : ℕ) (os : List Op) → AllByRecursion (IsPlanned t) os → AllByRecursion (λ w. rank_of t w < R) os
       → All (λ i. rank_of t (op_at plan i) < R) (map (place_of t) os)
   lower_inputs R [] known lower = All-nil (λ i. rank_of t (op_at plan i) < R)
   lower_inputs R (o ∷ os) (here, rest) (low, lows) =
@@ -87,13 +91,13 @@ module _ (t : AcceptedTables) (plan : List StepView) (ops : ops_in plan ≡ ops_
   pub compiled : IsWithinLimits t → IsCompiled (record { tables = t; plan = plan })
   compiled limits = record {
     few_steps = let few = few_steps t limits in omega (arith, few, long);
-    in_range = λ k lt. rw (wires k lt, long) (inputs_within t (op_at plan k) (op_known k lt));
+    in_range = λ k lt. rw (wires k lt, long) (inputs_within t (op_at plan k) (op_planned k lt));
     few_inputs = λ k lt. let few = few_inputs t limits (op_at plan k) in
         omega (arith, few, ap length (wires k lt), length-map (wanted t (op_at plan k)) (place_of t));
     distinct = λ k lt. rw (wires k lt) (apart t limits (op_at plan k) (op_known k lt));
     rank = λ k. rank_of t (op_at plan k);
     lower = λ k lt. rw (wires k lt) (lower_inputs (rank_of t (op_at plan k)) (wanted t (op_at plan k))
-        (known_wanted t (op_at plan k) (op_known k lt))
+        (known_wanted t (op_at plan k) (op_planned k lt))
         (recursion_from_All (λ w. rank_of t w < rank_of t (op_at plan k)) (wanted t (op_at plan k))
         (wanted_lower t limits (op_at plan k))));
     taken = λ holdings fits k lt. rw (inputs_mean holdings k lt)
@@ -103,10 +107,10 @@ module _ (t : AcceptedTables) (plan : List StepView) (ops : ops_in plan ≡ ops_
 
   -- ---- the places of figures and total
 
-  pub place_within : (o : Op) → IsOp t o → place_of t o < length plan
+  pub place_within : (o : Op) → IsPlanned t o → place_of t o < length plan
   place_within o known = let within = slice_get_within (ops_of t) (place_of t o) o (place_stands t o known) in omega (arith, within, long)
 
-  pub op_at_place : (o : Op) → IsOp t o → op_at plan (place_of t o) ≡ o
+  pub op_at_place : (o : Op) → IsPlanned t o → op_at plan (place_of t o) ≡ o
   op_at_place o known = stands o known
 
   -- what a first input is the first of
@@ -130,6 +134,12 @@ module _ (t : AcceptedTables) (plan : List StepView) (ops : ops_in plan ≡ ops_
       let first = first_op (place_of t (last_total t)) f in
       first_not_total t (op_at plan f.user) (op_known f.user f.in_range) first.0
       (first.1 ∙ stands (last_total t) (known_before_total t (length t.commodities) (omega arith)))
+
+  pub value_stays : has_option_value t ≡ true → IsFirstInput plan (place_of t (last_value t)) → ⊥
+  value_stays has f =
+      let first = first_op (place_of t (last_value t)) f in
+      first_not_value t (op_at plan f.user) (op_known f.user f.in_range) first.0
+      (first.1 ∙ stands (last_value t) (known_before_value t has (length t.commodities) (omega arith)))
 
 -- ---- the plan of accepted tables
 
@@ -159,15 +169,26 @@ module _ (t : AcceptedTables) where
   plan_keeps_law limits = compiled t (plan_of t) plan_ops plan_wires limits
 
   -- and is no longer than that of the largest set
-  pub plan_is_short : IsWithinLimits t
-      → length (plan_of t) ≤ MAX_COMMODITIES * (10 + MAX_INTRA_SPREADS) + 1 + MAX_INTER_SPREADS + 1
+  pub value_plan_is_short : IsWithinLimits t
+      → length (plan_of t) ≤ MAX_COMMODITIES * (12 + MAX_INTRA_SPREADS) + 1 + MAX_INTER_SPREADS + 1 + 1
   unfolding plan_of
-  plan_is_short limits =
+  value_plan_is_short limits =
       let small = first_small t limits (length t.commodities) in
       let commodities = limits.commodities in
       let inters = limits.few_inters in
       let many = as_many_steps (ops_of t) (map (inputs_of t) (ops_of t)) lists_long in
-      omega (arith, many, length_ops t, small, commodities, inters)
+      omega (arith, many, length_ops t, few_premiums t, small, commodities, inters)
+
+  -- where options have no value it is shorter
+  pub plan_is_short : IsWithinLimits t → has_option_value t ≡ false
+      → length (plan_of t) ≤ MAX_COMMODITIES * (10 + MAX_INTRA_SPREADS) + 1 + MAX_INTER_SPREADS + 1
+  unfolding plan_of
+  plan_is_short limits none =
+      let small = first_smaller t limits none (length t.commodities) in
+      let commodities = limits.commodities in
+      let inters = limits.few_inters in
+      let many = as_many_steps (ops_of t) (map (inputs_of t) (ops_of t)) lists_long in
+      omega (arith, many, length_ops t, no_premiums t none, small, commodities, inters)
 
   pub are_inputs : IsWithinLimits t → AreInputs (ops_of t) (map (inputs_of t) (ops_of t))
   are_inputs limits = record {
@@ -176,7 +197,7 @@ module _ (t : AcceptedTables) where
     in_range = All-map (λ inputs. All (λ i. i < length (ops_of t)) inputs) (inputs_of t) (ops_of t)
         (λ k d lt. inputs_within t (slice_index_or (ops_of t) k d) (known_ops t k d lt));
     distinct = All-map (λ inputs. has_repeat (λ a b. a == b) inputs ≡ false) (inputs_of t) (ops_of t)
-        (λ k d lt. apart t limits (slice_index_or (ops_of t) k d) (known_ops t k d lt));
+        (λ k d lt. apart t limits (slice_index_or (ops_of t) k d) (planned_is_op t (slice_index_or (ops_of t) k d) (known_ops t k d lt)));
   }
 
   -- what is made of the operations and their inputs is the plan of the tables

@@ -13,7 +13,7 @@ use Rattle.spread_stage.proofs.FallLemmas.{spreads_shrink}
 use Rattle.inter_credit.proofs.BoundLaws.{length-after_inter_spreads}
 use Rattle.scan_risk.proofs.BoundLaws as scan
 use Rattle.plan_ir.proofs.BoundLaws.{delivery_at_small, held_at_are, length-inter_lines, length-loaded_lines}
-use Rattle.plan_ir.proofs.BoundLaws.{minimum_at_small, next_total_is_money, price2_at_small, risk_at_small}
+use Rattle.plan_ir.proofs.BoundLaws.{minimum_at_small, next_total_is_money, next_value_is_money, price2_at_small, risk_at_small}
 use Rattle.inter_credit.specs.Credits.{unspread_line}
 use Rattle.std.proofs.lemmas.List.{length-append, length-replicate}
 use Rattle.std.proofs.lemmas.List.Elements.{All-append, All-map, All-replicate}
@@ -26,6 +26,7 @@ use Rattle.plan_ir.specs.declared.ops.Op.{Op}
 use Rattle.plan_ir.specs.declared.ops.Op.TheVariants as op
 use Rattle.plan_compiler.specs.Meaning.{lines_after, lines_loaded, meaning, wanted}
 use Rattle.plan_compiler.proofs.Meanings.{meaning-before_inter, meaning-before_load, meaning-before_spread, meaning-before_total}
+use Rattle.plan_compiler.proofs.Meanings.{meaning-before_value}
 use Rattle.plan_compiler.proofs.Meanings.{meaning-last_inter, meaning-last_tiers}
 
 -- the element behind a front
@@ -144,4 +145,10 @@ module _ (t : AcceptedTables) (holdings : List Holding) (limits : IsWithinLimits
   takes_meanings (op.TotalAdd c) is = rw (meaning-before_total t holdings c) (record {
     known = is;
     taken = record { count = refl; total = tt; figures = tt; small = next_total_is_money t holdings c limits portfolio known is };
+  })
+  takes_meanings (op.NetValue c) is = record { known = is; taken = record { count = refl; held = tt } }
+  takes_meanings op.ValueStart is = record { known = tt; taken = record { count = refl } }
+  takes_meanings (op.ValueAdd c) is = rw (meaning-before_value t holdings c) (record {
+    known = is;
+    taken = record { count = refl; premium = tt; amount = tt; small = next_value_is_money t holdings c limits portfolio known is };
   })

@@ -1,6 +1,6 @@
 -- The inputs of a step: few, each once, and of lower rank; and which steps are no first inputs.
-use Rattle.std.proofs.Common.{◌≡◌, ℕ, zero, suc, ◌+◌, ◌<◌, ◌≤◌, false, [], ◌∷◌, length}
-use Rattle.std.proofs.Common.{slice_index_or, refl, sym, ap, arith}
+use Rattle.std.proofs.Common.{◌≡◌, ℕ, zero, suc, ◌+◌, ◌<◌, ◌≤◌, Bool, true, false, [], ◌∷◌, length}
+use Rattle.std.proofs.Common.{slice_index_or, refl, sym, ap, ◌∙◌, arith}
 use Rattle.std.specs.Prelude.{All, ◌==◌}
 use Rattle.std.specs.List.{AllByRecursion}
 use Rattle.std.proofs.lemmas.Bool.{ne_eqb}
@@ -13,12 +13,13 @@ use Rattle.plan_ir.specs.Figures.{intras_at}
 use Rattle.plan_ir.specs.declared.ops.Op.{Op}
 use Rattle.plan_ir.specs.declared.ops.Op.TheVariants as op
 use Rattle.plan_ir.specs.declared.plans.TheConstants.{MAX_INPUTS, MAX_STEPS}
-use Rattle.plan_compiler.specs.Meaning.{before_inter, before_load, before_spread, before_total, last_tiers, last_total, rank_of}
-use Rattle.plan_compiler.specs.Meaning.{rank_above_spreads, wanted}
+use Rattle.plan_compiler.specs.Meaning.{before_inter, before_load, before_spread, before_total, before_value, last_tiers, last_total}
+use Rattle.plan_compiler.specs.Meaning.{last_value, rank_above_spreads, rank_of, wanted}
 use Rattle.plan_compiler.specs.Plan.{ops_of}
-use Rattle.plan_compiler.specs.Places.{first_step, inputs_of, inter_step, load_step, tiers_step, total_step}
-use Rattle.plan_compiler.proofs.LayoutLemmas.{first_before, first_small, length_ops}
+use Rattle.plan_compiler.specs.Places.{first_step, inputs_of, inter_step, load_step, premium_step, tiers_step, total_step, value_steps}
+use Rattle.plan_compiler.proofs.LayoutLemmas.{few_premiums, first_before, first_small, length_ops}
 use Rattle.plan_compiler.proofs.FromPlan.{place-before_inter, place-before_load, place-before_spread, place-before_total}
+use Rattle.plan_compiler.proofs.FromPlan.{place-before_value}
 
 -- ---- numbers that are apart
 
@@ -55,7 +56,7 @@ module _ (t : AcceptedTables) (limits : IsWithinLimits t) where
       let small = first_small t limits (length t.commodities) in
       let commodities = limits.commodities in
       let inters = limits.few_inters in
-      omega (arith, length_ops t, small, commodities, inters)
+      omega (arith, length_ops t, few_premiums t, small, commodities, inters)
 
   pub few_inputs : (o : Op) → length (wanted t o) ≤ MAX_INPUTS
   few_inputs (op.Gather c) = omega arith
@@ -72,6 +73,9 @@ module _ (t : AcceptedTables) (limits : IsWithinLimits t) where
   few_inputs (op.InterSpread j) = omega arith
   few_inputs op.TotalStart = omega arith
   few_inputs (op.TotalAdd c) = omega arith
+  few_inputs (op.NetValue c) = omega arith
+  few_inputs op.ValueStart = omega arith
+  few_inputs (op.ValueAdd c) = omega arith
 
   -- ---- each input once
 
@@ -101,7 +105,13 @@ module _ (t : AcceptedTables) (limits : IsWithinLimits t) where
   apart op.TotalStart known = refl
   apart (op.TotalAdd c) known =
       let before = first_before t c (length t.commodities) known in
-      rw (place-before_total t c) (two_apart (total_step t c) (tiers_step t c (length (intras_at t c)) + 3)
+      rw (place-before_total t c) (two_apart (total_step t c) (tiers_step t c (length (intras_at t c)) + 3 + value_steps t)
+      (λ e. omega (arith, e, before)))
+  apart (op.NetValue c) known = refl
+  apart op.ValueStart known = refl
+  apart (op.ValueAdd c) known =
+      let before = first_before t c (length t.commodities) known in
+      rw (place-before_value t c) (two_apart (premium_step t c) (tiers_step t c (length (intras_at t c)) + 3)
       (λ e. omega (arith, e, before)))
 
   -- ---- lower ranks
@@ -121,6 +131,10 @@ module _ (t : AcceptedTables) (limits : IsWithinLimits t) where
   before_total_lower : (c : ℕ) → rank_of t (before_total c) < 2 + rank_above_spreads + length t.commodities + length (inters_of t) + c
   before_total_lower zero = omega arith
   before_total_lower (suc c) = omega arith
+
+  before_value_lower : (c : ℕ) → rank_of t (before_value c) < 2 + c
+  before_value_lower zero = omega arith
+  before_value_lower (suc c) = omega arith
 
   last_tiers_lower : (c : ℕ) → rank_of t (last_tiers t c) < rank_above_spreads
   last_tiers_lower c = let few = limits.few_intras (commodity_id t c) in omega (arith, few, before_spread_lower c (length (intras_at t c)))
@@ -142,11 +156,14 @@ module _ (t : AcceptedTables) (limits : IsWithinLimits t) where
   wanted_lower_each (op.InterSpread j) = (before_inter_lower j, tt)
   wanted_lower_each op.TotalStart = tt
   wanted_lower_each (op.TotalAdd c) = (before_total_lower c, (omega arith, tt))
+  wanted_lower_each (op.NetValue c) = (omega arith, tt)
+  wanted_lower_each op.ValueStart = tt
+  wanted_lower_each (op.ValueAdd c) = (before_value_lower c, (omega arith, tt))
 
   pub wanted_lower : (o : Op) → All (λ w. rank_of t w < rank_of t o) (wanted t o)
   wanted_lower o = All-from_recursion (λ w. rank_of t w < rank_of t o) (wanted t o) (wanted_lower_each o)
 
--- ---- figures and the last total are first inputs of no step
+-- ---- figures, the last total and the last option value are first inputs of no step
 
 spread_not_final : (c j n : ℕ) → before_spread c j ≡ op.Final n → ⊥
 spread_not_final c zero n e = cc
@@ -164,6 +181,10 @@ total_not_final : (c n : ℕ) → before_total c ≡ op.Final n → ⊥
 total_not_final zero n e = cc
 total_not_final (suc c) n e = cc
 
+value_not_final : (c n : ℕ) → before_value c ≡ op.Final n → ⊥
+value_not_final zero n e = cc
+value_not_final (suc c) n e = cc
+
 pub first_not_final : (t : AcceptedTables) (o : Op) (n : ℕ) → slice_index_or (wanted t o) 0 op.TotalStart ≡ op.Final n → ⊥
 first_not_final t (op.Gather c) n e = cc
 first_not_final t (op.Sums c) n e = cc
@@ -179,6 +200,9 @@ first_not_final t (op.InterLoad c) n e = load_not_final c n e
 first_not_final t (op.InterSpread j) n e = inter_not_final t j n e
 first_not_final t op.TotalStart n e = cc
 first_not_final t (op.TotalAdd c) n e = total_not_final c n e
+first_not_final t (op.NetValue c) n e = cc
+first_not_final t op.ValueStart n e = cc
+first_not_final t (op.ValueAdd c) n e = value_not_final c n e
 
 -- a total of so many commodities is no other operation
 total_apart : (n : ℕ) (o : Op) → (op.TotalStart ≡ o → ⊥) → ((c : ℕ) → op.TotalAdd c ≡ o → ⊥)
@@ -204,6 +228,10 @@ same_total zero (suc m) e = absurd cc
 same_total (suc n) zero e = absurd cc
 same_total (suc n) (suc m) e = let h : n ≡ m = cc in ap suc h
 
+value_not_total : (c n : ℕ) → before_value c ≡ before_total n → ⊥
+value_not_total zero n e = total_apart n op.ValueStart (λ h. cc) (λ m h. cc) (sym e)
+value_not_total (suc c) n e = total_apart n (op.ValueAdd c) (λ h. cc) (λ m h. cc) (sym e)
+
 pub first_not_total : (t : AcceptedTables) (o : Op) → IsOp t o → 0 < length (wanted t o)
     → slice_index_or (wanted t o) 0 op.TotalStart ≡ last_total t → ⊥
 first_not_total t (op.Gather c) known some e = absurd (omega (arith, some))
@@ -220,3 +248,61 @@ first_not_total t (op.InterLoad c) known some e = load_not_total c (length t.com
 first_not_total t (op.InterSpread j) known some e = inter_not_total t j (length t.commodities) e
 first_not_total t op.TotalStart known some e = absurd (omega (arith, some))
 first_not_total t (op.TotalAdd c) known some e = let same = same_total c (length t.commodities) e in absurd (omega (arith, known, same))
+first_not_total t (op.NetValue c) known some e = total_apart (length t.commodities) (op.Gather c) (λ h. cc) (λ m h. cc) (sym e)
+first_not_total t op.ValueStart known some e = absurd (omega (arith, some))
+first_not_total t (op.ValueAdd c) known some e = value_not_total c (length t.commodities) e
+
+-- an operation that adds option values, or begins to
+abbrev is_premium : Op → Bool
+is_premium op.ValueStart = true
+is_premium (op.ValueAdd c) = true
+is_premium o = false
+
+value_is_premium : (n : ℕ) → is_premium (before_value n) ≡ true
+value_is_premium zero = refl
+value_is_premium (suc n) = refl
+
+not_value : (o : Op) (n : ℕ) → is_premium o ≡ false → o ≡ before_value n → ⊥
+not_value o n not e = let both : false ≡ true = sym not ∙ ap is_premium e ∙ value_is_premium n in cc
+
+spread_no_premium : (c j : ℕ) → is_premium (before_spread c j) ≡ false
+spread_no_premium c zero = refl
+spread_no_premium c (suc j) = refl
+
+load_no_premium : (c : ℕ) → is_premium (before_load c) ≡ false
+load_no_premium zero = refl
+load_no_premium (suc c) = refl
+
+inter_no_premium : (t : AcceptedTables) (j : ℕ) → is_premium (before_inter t j) ≡ false
+inter_no_premium t zero = load_no_premium (length t.commodities)
+inter_no_premium t (suc j) = refl
+
+total_no_premium : (c : ℕ) → is_premium (before_total c) ≡ false
+total_no_premium zero = refl
+total_no_premium (suc c) = refl
+
+same_value : (n m : ℕ) → before_value n ≡ before_value m → n ≡ m
+same_value zero zero e = refl
+same_value zero (suc m) e = absurd cc
+same_value (suc n) zero e = absurd cc
+same_value (suc n) (suc m) e = let h : n ≡ m = cc in ap suc h
+
+pub first_not_value : (t : AcceptedTables) (o : Op) → IsOp t o → 0 < length (wanted t o)
+    → slice_index_or (wanted t o) 0 op.TotalStart ≡ last_value t → ⊥
+first_not_value t (op.Gather c) known some e = absurd (omega (arith, some))
+first_not_value t (op.Sums c) known some e = not_value (op.Gather c) _ refl e
+first_not_value t (op.ScanMax c) known some e = not_value (op.Sums c) _ refl e
+first_not_value t (op.Months c) known some e = not_value (op.Gather c) _ refl e
+first_not_value t (op.TierStart c) known some e = not_value (op.Months c) _ refl e
+first_not_value t (op.Spread c j) known some e = not_value _ _ (spread_no_premium c j) e
+first_not_value t (op.Delivery c) known some e = not_value (op.Months c) _ refl e
+first_not_value t (op.Minimum c) known some e = not_value (op.Gather c) _ refl e
+first_not_value t (op.Final c) known some e = not_value (op.ScanMax c) _ refl e
+first_not_value t op.InterStart known some e = absurd (omega (arith, some))
+first_not_value t (op.InterLoad c) known some e = not_value _ _ (load_no_premium c) e
+first_not_value t (op.InterSpread j) known some e = not_value _ _ (inter_no_premium t j) e
+first_not_value t op.TotalStart known some e = absurd (omega (arith, some))
+first_not_value t (op.TotalAdd c) known some e = not_value _ _ (total_no_premium c) e
+first_not_value t (op.NetValue c) known some e = not_value (op.Gather c) _ refl e
+first_not_value t op.ValueStart known some e = absurd (omega (arith, some))
+first_not_value t (op.ValueAdd c) known some e = let same = same_value c (length t.commodities) e in absurd (omega (arith, known, same))

@@ -9,7 +9,7 @@ use Rattle.spread_stage.specs.Spreads.{TierRests, after_spreads, unspread}
 use Rattle.inter_credit.specs.Credits.{after_inter_spreads, unspread_line}
 use Rattle.inter_credit.specs.declared.state.InterLine.{InterLine}
 use Rattle.plan_ir.specs.Figures.{deltas_at, delivery_at, figures_of, held_at, intras_at, line_of, loaded_lines, minimum_at}
-use Rattle.plan_ir.specs.Figures.{scan_at, total_to}
+use Rattle.plan_ir.specs.Figures.{net_value_at, scan_at, total_to, value_to}
 use Rattle.plan_ir.specs.declared.ops.Op.{Op}
 use Rattle.plan_ir.specs.declared.ops.Op.TheVariants as op
 use Rattle.plan_ir.specs.declared.values.Value.{Value}
@@ -44,6 +44,9 @@ meaning t holdings (op.InterLoad c) = value.Inter (lines_loaded t holdings (c + 
 meaning t holdings (op.InterSpread j) = value.Inter (lines_after t holdings (j + 1))
 meaning t holdings op.TotalStart = value.Total (pos 0)
 meaning t holdings (op.TotalAdd c) = value.Total (total_to t holdings (c + 1))
+meaning t holdings (op.NetValue c) = value.Amount (net_value_at t holdings c)
+meaning t holdings op.ValueStart = value.Premium (pos 0)
+meaning t holdings (op.ValueAdd c) = value.Premium (value_to t holdings (c + 1))
 
 -- ---- the operations that stand before others
 
@@ -67,6 +70,11 @@ abbrev pub before_total : ℕ → Op
 before_total zero = op.TotalStart
 before_total (suc c) = op.TotalAdd c
 
+-- the option value before that of the commodity of a number is added, or after all of them
+abbrev pub before_value : ℕ → Op
+before_value zero = op.ValueStart
+before_value (suc c) = op.ValueAdd c
+
 -- the state of a commodity after all of its spreads
 abbrev pub last_tiers : AcceptedTables → ℕ → Op
 last_tiers t c = before_spread c (length (intras_at t c))
@@ -78,6 +86,10 @@ last_inter t = before_inter t (length (inters_of t))
 -- the total of all commodities
 abbrev pub last_total : AcceptedTables → Op
 last_total t = before_total (length t.commodities)
+
+-- the option value of all commodities
+abbrev pub last_value : AcceptedTables → Op
+last_value t = before_value (length t.commodities)
 
 -- the operations whose values an operation takes, in their order
 abbrev pub wanted : AcceptedTables → Op → List Op
@@ -95,6 +107,9 @@ wanted t (op.InterLoad c) = before_load c ∷ op.Months c ∷ op.ScanMax c ∷ [
 wanted t (op.InterSpread j) = before_inter t j ∷ []
 wanted t op.TotalStart = []
 wanted t (op.TotalAdd c) = before_total c ∷ op.Final c ∷ []
+wanted t (op.NetValue c) = op.Gather c ∷ []
+wanted t op.ValueStart = []
+wanted t (op.ValueAdd c) = before_value c ∷ op.NetValue c ∷ []
 
 -- ---- ranks
 
@@ -118,3 +133,6 @@ rank_of t (op.InterLoad c) = 3 + c
 rank_of t (op.InterSpread j) = 3 + length t.commodities + j
 rank_of t op.TotalStart = 0
 rank_of t (op.TotalAdd c) = 2 + rank_above_spreads + length t.commodities + length (inters_of t) + c
+rank_of t (op.NetValue c) = 1
+rank_of t op.ValueStart = 0
+rank_of t (op.ValueAdd c) = 2 + c

@@ -1,11 +1,12 @@
 -- Where the steps of a plan stand, and the plan of accepted tables with the numbers of its inputs.
-use Rattle.std.specs.Prelude.{ℕ, ◌+◌, List, length, map}
-use Rattle.span_tables.specs.Tables.{AcceptedTables, inters_of}
+use Rattle.std.specs.Prelude.{ℕ, ◌+◌, if◌then◌else◌, List, length, map}
+use Rattle.span_tables.specs.Tables.{AcceptedTables, has_option_value, inters_of}
 use Rattle.plan_ir.specs.Figures.{intras_at}
 use Rattle.plan_ir.specs.Plans.{StepView, steps_with}
 use Rattle.plan_ir.specs.declared.ops.Op.{Op}
 use Rattle.plan_ir.specs.declared.ops.Op.TheVariants as op
-use Rattle.plan_compiler.specs.declared.layout.TheConstants.{DELIVERY, FINAL, MINIMUM, MONTHS, SCAN, SUMS, TIERS, TOTAL}
+use Rattle.plan_compiler.specs.declared.layout.TheConstants.{DELIVERY, FINAL, MINIMUM, MONTHS, NET_VALUE, PREMIUM}
+use Rattle.plan_compiler.specs.declared.layout.TheConstants.{SCAN, SUMS, TIERS, TOTAL, VALUE_STEPS}
 use Rattle.plan_compiler.specs.Meaning.{wanted}
 use Rattle.plan_compiler.specs.Plan.{commodity_ops, each, ops_of}
 
@@ -29,6 +30,14 @@ inter_step t spreads = load_step t (length t.commodities) + spreads
 abbrev pub total_step : AcceptedTables → ℕ → ℕ
 total_step t commodities = inter_step t (length (inters_of t)) + TOTAL + commodities
 
+-- how many steps a commodity has for its option value
+abbrev pub value_steps : AcceptedTables → ℕ
+value_steps t = if has_option_value t then VALUE_STEPS else 0
+
+-- the number of the step of the option value of the first commodities
+abbrev pub premium_step : AcceptedTables → ℕ → ℕ
+premium_step t commodities = total_step t (length t.commodities) + PREMIUM + commodities
+
 -- the number of an operation's step
 abbrev pub place_of : AcceptedTables → Op → ℕ
 place_of t (op.Gather c) = first_step t c
@@ -39,12 +48,15 @@ place_of t (op.TierStart c) = tiers_step t c 0
 place_of t (op.Spread c j) = tiers_step t c (j + 1)
 place_of t (op.Delivery c) = tiers_step t c (length (intras_at t c)) + DELIVERY
 place_of t (op.Minimum c) = tiers_step t c (length (intras_at t c)) + MINIMUM
-place_of t (op.Final c) = tiers_step t c (length (intras_at t c)) + FINAL
+place_of t (op.Final c) = tiers_step t c (length (intras_at t c)) + FINAL + value_steps t
 place_of t op.InterStart = load_step t 0
 place_of t (op.InterLoad c) = load_step t (c + 1)
 place_of t (op.InterSpread j) = inter_step t (j + 1)
 place_of t op.TotalStart = total_step t 0
 place_of t (op.TotalAdd c) = total_step t (c + 1)
+place_of t (op.NetValue c) = tiers_step t c (length (intras_at t c)) + NET_VALUE
+place_of t op.ValueStart = premium_step t 0
+place_of t (op.ValueAdd c) = premium_step t (c + 1)
 
 -- the numbers of the inputs of an operation's step
 abbrev pub inputs_of : AcceptedTables → Op → List ℕ

@@ -1,6 +1,6 @@
 -- The plan of accepted tables.
-use Rattle.std.specs.Prelude.{◌≡◌, ℕ, zero, suc, ◌<◌, List, [], ◌∷◌, ◌++◌, length, map, Some, slice_get}
-use Rattle.span_tables.specs.Tables.{AcceptedTables, inters_of}
+use Rattle.std.specs.Prelude.{◌≡◌, ℕ, zero, suc, ◌<◌, if◌then◌else◌, List, [], ◌∷◌, ◌++◌, length, map, Some, slice_get}
+use Rattle.span_tables.specs.Tables.{AcceptedTables, has_option_value, inters_of}
 use Rattle.plan_ir.specs.Figures.{intras_at}
 use Rattle.plan_ir.specs.Plans.{StepView, inputs_at, op_at, ops_in}
 use Rattle.plan_ir.specs.declared.ops.Op.{Op}
@@ -20,13 +20,17 @@ first_ops c = op.Gather c ∷ op.Sums c ∷ op.ScanMax c ∷ op.Months c ∷ op.
 abbrev pub spread_ops : ℕ → ℕ → List Op
 spread_ops c spreads = each (λ j. op.Spread c j ∷ []) spreads
 
+-- the step of its option value, where options have one
+abbrev pub value_ops : AcceptedTables → ℕ → List Op
+value_ops t c = if has_option_value t then op.NetValue c ∷ [] else []
+
 -- the steps behind its spreads
-abbrev pub final_ops : ℕ → List Op
-final_ops c = op.Delivery c ∷ op.Minimum c ∷ op.Final c ∷ []
+abbrev pub final_ops : AcceptedTables → ℕ → List Op
+final_ops t c = op.Delivery c ∷ op.Minimum c ∷ [] ++ value_ops t c ++ op.Final c ∷ []
 
 -- the steps of a commodity
 abbrev pub commodity_ops : AcceptedTables → ℕ → List Op
-commodity_ops t c = first_ops c ++ spread_ops c (length (intras_at t c)) ++ final_ops c
+commodity_ops t c = first_ops c ++ spread_ops c (length (intras_at t c)) ++ final_ops t c
 
 -- the steps between commodities: the loads of commodities, and then spreads
 abbrev pub inter_ops : ℕ → ℕ → List Op
@@ -37,12 +41,18 @@ inter_ops commodities spreads =
 abbrev pub total_ops : ℕ → List Op
 total_ops commodities = op.TotalStart ∷ [] ++ each (λ c. op.TotalAdd c ∷ []) commodities
 
+-- the steps of the account's option value, where options have one
+abbrev pub premium_ops : AcceptedTables → List Op
+premium_ops t =
+    if has_option_value t then op.ValueStart ∷ [] ++ each (λ c. op.ValueAdd c ∷ []) (length t.commodities) else []
+
 -- the operations of the plan, in order
 abbrev pub ops_of : AcceptedTables → List Op
 ops_of t =
     each (commodity_ops t) (length t.commodities)
     ++ inter_ops (length t.commodities) (length (inters_of t))
     ++ total_ops (length t.commodities)
+    ++ premium_ops t
 
 -- the numbers are those of the named operations, in order
 abbrev pub Names : List Op → List ℕ → List Op → Type 0

@@ -1,7 +1,7 @@
 -- Parameter files and accounts that the worked plans and the tests are of.
 use Rattle.std.specs.Prelude.{ℕ, List, [], ◌∷◌, ◌++◌, codes, neg_ℤ, pos}
 use Rattle.span_tables.specs.Net.{AccountHoldings}
-use Rattle.span_tables.specs.Samples.{commodity, contract, set, spread}
+use Rattle.span_tables.specs.Samples.{commodity, contract, set, spread, value_set}
 use Rattle.span_tables.specs.declared.records.ProductKind.TheVariants as product
 use Rattle.span_tables.specs.declared.records.Record.{Record}
 use Rattle.span_tables.specs.declared.records.Record.TheVariants as record_of
@@ -35,6 +35,21 @@ two_commodities_lines =
     ++ codes "13 Delivery(1) 11 12\n14 Minimum(1) 8\n15 Final(1) 10 12 13 14 19\n"
     ++ codes "16 InterStart()\n17 InterLoad(0) 16 3 2\n18 InterLoad(1) 17 11 10\n19 InterSpread(0) 18\n"
     ++ codes "20 TotalStart()\n21 TotalAdd(0) 20 7\n22 TotalAdd(1) 21 15\n"
+
+-- a set of option values with one commodity and a future
+abbrev pub one_commodity_with_value : List Record
+one_commodity_with_value =
+    value_set (codes "D2")
+    ∷ commodity (codes "AA")
+    ∷ record_of.Contract (contract product.Future (codes "FA") (codes "AA") 202503 FUTURE_VALUES)
+    ∷ []
+
+-- the lines of its plan
+abbrev pub one_commodity_with_value_lines : List ℕ
+one_commodity_with_value_lines =
+    codes "0 Gather(0)\n1 Sums(0) 0\n2 ScanMax(0) 1\n3 Months(0) 0\n4 TierStart(0) 3\n5 Delivery(0) 3 4\n6 Minimum(0) 0\n"
+    ++ codes "7 NetValue(0) 0\n8 Final(0) 2 4 5 6 10\n9 InterStart()\n10 InterLoad(0) 9 3 2\n11 TotalStart()\n"
+    ++ codes "12 TotalAdd(0) 11 8\n13 ValueStart()\n14 ValueAdd(0) 13 7\n"
 
 -- an account in both futures, and one in the second alone
 abbrev pub two_accounts : List AccountHoldings

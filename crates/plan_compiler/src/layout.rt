@@ -5,8 +5,9 @@ ghost use Rattle.span_tables.specs.declared.limits.TheConstants.{MAX_COMMODITIES
 ghost use Rattle.plan_ir.specs.Apply.{IsOp};
 ghost use Rattle.plan_ir.specs.Figures.{intras_at};
 ghost use Rattle.plan_ir.specs.declared.ops.Op.TheVariants.{Final, InterLoad};
-ghost use Rattle.plan_compiler.specs.declared.layout.TheConstants.{MAX_FIRST, TIERS};
-ghost use Rattle.plan_compiler.specs.Places.{first_step, inputs_of, inter_step, load_step, tiers_step, total_step};
+ghost use Rattle.plan_compiler.specs.declared.layout.TheConstants.{MAX_FIRST, TIERS, TOTAL, VALUE_STEPS};
+ghost use Rattle.plan_compiler.specs.Places.{first_step, inputs_of, inter_step, load_step, place_of, premium_step};
+ghost use Rattle.plan_compiler.specs.Places.{tiers_step, total_step, value_steps};
 ghost use Rattle.plan_compiler.specs.near.Layout.{AreFirsts};
 
 use plan_ir::lists::NumberLists;
@@ -15,8 +16,10 @@ use span_tables::limits::{MAX_COMMODITIES, MAX_INTRA_SPREADS};
 use span_tables::tables::Tables;
 use std::alloc::{AllocError, Global};
 
-/// How many steps a commodity has beside those of its spreads.
+/// How many steps a commodity has beside those of its spreads and of its option value.
 pub const COMMODITY_STEPS: usize = 8;
+/// How many steps a commodity has for its option value, where options have one.
+pub const VALUE_STEPS: usize = 1;
 /// Where the step of the scenario sums stands, counted from the first of its commodity's steps.
 pub const SUMS: u32 = 1;
 /// Where the step of the scan stands, counted from the first.
@@ -29,22 +32,40 @@ pub const TIERS: u32 = 4;
 pub const DELIVERY: u32 = 1;
 /// Where the step of the short option minimum stands, counted from that of the months after all spreads.
 pub const MINIMUM: u32 = 2;
-/// Where the step of the figures stands, counted from that of the months after all spreads.
+/// Where the step of the option value stands, if there is one, counted from that of the months after all spreads.
+pub const NET_VALUE: u32 = 3;
+/// Where the step of the figures stands, counted from that of the months after all spreads. A step of the option value
+/// stands before it.
 pub const FINAL: u32 = 3;
 /// Where the step of the total of no commodity stands, counted from that of the commodities after all spreads.
 pub const TOTAL: u32 = 1;
+/// Where the step of the option value of no commodity stands, if there is one, counted from that of the total of all.
+pub const PREMIUM: u32 = 1;
 /// The number of the first step between commodities, at most.
-pub const MAX_FIRST: usize = MAX_COMMODITIES * (COMMODITY_STEPS + MAX_INTRA_SPREADS);
+pub const MAX_FIRST: usize = MAX_COMMODITIES * (COMMODITY_STEPS + VALUE_STEPS + MAX_INTRA_SPREADS);
+
+// How many steps each commodity has for its option value.
+fn value_steps(tables: &Tables) -> u32
+    ensures value { result ≡ value_steps tables.now }
+    ensures bound { result ≤ VALUE_STEPS }
+{
+    if tables.has_option_value() {
+        VALUE_STEPS as u32
+    } else {
+        0
+    }
+}
 
 // The number of the first step of each commodity, and behind them that of the first step between commodities.
 pub(crate) fn first_steps(alloc: Global, tables: &Tables) -> Result<Vec<u32>, AllocError>
     ensures { IfOk result (λ firsts. AreFirsts tables.now firsts.items) }
 {
+    let steps = COMMODITY_STEPS + value_steps(tables) as usize;
     let mut firsts = Vec::new(alloc);
     let mut first = 0;
     for c in 0..tables.commodities().len() {
         firsts.push(first as u32)?;
-        first += COMMODITY_STEPS + tables.intras(c).len();
+        first += steps + tables.intras(c).len();
     }
     firsts.push(first as u32)?;
     Ok(firsts)
@@ -76,7 +97,7 @@ fn tiers_step(tables: &Tables, firsts: &[u32], c: u32, spreads: u32) -> u32
 }
 
 // The number of the step of a commodity's state behind all of its spreads.
-pub(crate) fn last_tiers_step(tables: &Tables, firsts: &[u32], c: u32) -> u32
+fn last_tiers_step(tables: &Tables, firsts: &[u32], c: u32) -> u32
     requires firsts { AreFirsts tables.now firsts.now }
     requires among { c < length tables.now.commodities }
     ensures value { result ≡ tiers_step tables.now c (length (intras_at tables.now c)) }
@@ -84,6 +105,15 @@ pub(crate) fn last_tiers_step(tables: &Tables, firsts: &[u32], c: u32) -> u32
 {
     let spreads = tables.intras(c as usize).len();
     tiers_step(tables, firsts, c, spreads as u32)
+}
+
+// The number of the step of a commodity's figures.
+pub(crate) fn final_step(tables: &Tables, firsts: &[u32], c: u32) -> u32
+    requires firsts { AreFirsts tables.now firsts.now }
+    requires among { c < length tables.now.commodities }
+    ensures { result ≡ place_of tables.now (Final c) }
+{
+    last_tiers_step(tables, firsts, c) + FINAL + value_steps(tables)
 }
 
 // The number of the step of the state between commodities with the first of them loaded.
@@ -123,11 +153,22 @@ fn last_inter_step(tables: &Tables, firsts: &[u32]) -> u32
 pub(crate) fn total_step(tables: &Tables, firsts: &[u32], commodities: u32) -> u32
     requires firsts { AreFirsts tables.now firsts.now }
     requires among { commodities ≤ length tables.now.commodities }
-    ensures { result ≡ total_step tables.now commodities }
+    ensures value { result ≡ total_step tables.now commodities }
+    ensures bound { result ≤ MAX_FIRST + MAX_COMMODITIES + MAX_INTER_SPREADS + TOTAL + MAX_COMMODITIES }
 {
     // Called for its clause: the tables are within their limits.
     let _limits = tables.commodities();
     last_inter_step(tables, firsts) + TOTAL + commodities
+}
+
+// The number of the step of the option value of the first commodities, where options have one.
+pub(crate) fn premium_step(tables: &Tables, firsts: &[u32], commodities: u32) -> u32
+    requires firsts { AreFirsts tables.now firsts.now }
+    requires among { commodities ≤ length tables.now.commodities }
+    ensures { result ≡ premium_step tables.now commodities }
+{
+    let all = tables.commodities().len();
+    total_step(tables, firsts, all as u32) + PREMIUM + commodities
 }
 
 // Appends the inputs of an operation's step.
@@ -142,8 +183,8 @@ fn push_inputs(
     ensures { OnOk result (lists.new ≡ lists.old ++ inputs_of tables.now op.now ∷ []) }
 {
     match *op {
-        Op::Gather(_) | Op::InterStart | Op::TotalStart => lists.push(&[]),
-        Op::Sums(c) | Op::Months(c) | Op::Minimum(c) => {
+        Op::Gather(_) | Op::InterStart | Op::TotalStart | Op::ValueStart => lists.push(&[]),
+        Op::Sums(c) | Op::Months(c) | Op::Minimum(c) | Op::NetValue(c) => {
             lists.push(&[first_step(tables, firsts, c)])
         }
         Op::ScanMax(c) => lists.push(&[first_step(tables, firsts, c) + SUMS]),
@@ -158,7 +199,11 @@ fn push_inputs(
         Op::InterSpread(j) => lists.push(&[inter_step(tables, firsts, j)]),
         Op::TotalAdd(c) => lists.push(&[
             total_step(tables, firsts, c),
-            last_tiers_step(tables, firsts, c) + FINAL,
+            final_step(tables, firsts, c),
+        ]),
+        Op::ValueAdd(c) => lists.push(&[
+            premium_step(tables, firsts, c),
+            last_tiers_step(tables, firsts, c) + NET_VALUE,
         ]),
     }
 }

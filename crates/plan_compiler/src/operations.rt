@@ -1,7 +1,7 @@
 //! The operations of a plan, in their order (docs/METHOD.md, "The plan of steps").
 ghost use Rattle.std.specs.Prelude.{◌≡◌, ◌++◌, ◌<◌, [], ◌∷◌, IfOk, OnOk, length};
-ghost use Rattle.plan_compiler.specs.Plan.{commodity_ops, each, ops_of, spread_ops};
-ghost use Rattle.plan_ir.specs.declared.ops.Op.TheVariants.{InterLoad, InterSpread, TotalAdd};
+ghost use Rattle.plan_compiler.specs.Plan.{commodity_ops, each, final_ops, ops_of, premium_ops, spread_ops};
+ghost use Rattle.plan_ir.specs.declared.ops.Op.TheVariants.{InterLoad, InterSpread, TotalAdd, ValueAdd};
 
 use plan_ir::ops::Op;
 use span_tables::tables::Tables;
@@ -14,6 +14,18 @@ fn push_spreads(ops: &mut Vec<Op>, c: u32, spreads: u32) -> Result<(), AllocErro
     for j in 0..spreads {
         ops.push(Op::Spread(c, j))?;
     }
+    Ok(())
+}
+
+// Appends the steps of a commodity behind its spreads: the option value stands before the figures, where options have one.
+fn push_final(ops: &mut Vec<Op>, tables: &Tables, c: u32) -> Result<(), AllocError>
+    ensures { OnOk result (ops.new.items ≡ ops.old.items ++ final_ops tables.now c) }
+{
+    ops.extend_from_slice(&[Op::Delivery(c), Op::Minimum(c)])?;
+    if tables.has_option_value() {
+        ops.push(Op::NetValue(c))?;
+    }
+    ops.push(Op::Final(c))?;
     Ok(())
 }
 
@@ -31,7 +43,7 @@ fn push_commodity(ops: &mut Vec<Op>, tables: &Tables, c: u32) -> Result<(), Allo
         Op::TierStart(c),
     ])?;
     push_spreads(ops, c, spreads as u32)?;
-    ops.extend_from_slice(&[Op::Delivery(c), Op::Minimum(c), Op::Final(c)])
+    push_final(ops, tables, c)
 }
 
 // Appends the steps of all commodities.
@@ -75,6 +87,28 @@ fn push_adds(ops: &mut Vec<Op>, commodities: u32) -> Result<(), AllocError>
     Ok(())
 }
 
+// Appends the steps that add the option values of commodities.
+fn push_value_adds(ops: &mut Vec<Op>, commodities: u32) -> Result<(), AllocError>
+    ensures { OnOk result (ops.new.items ≡ ops.old.items ++ each (λ c. ValueAdd c ∷ []) commodities) }
+{
+    for c in 0..commodities {
+        ops.push(Op::ValueAdd(c))?;
+    }
+    Ok(())
+}
+
+// Appends the steps of the account's option value, where options have one.
+fn push_premium(ops: &mut Vec<Op>, tables: &Tables) -> Result<(), AllocError>
+    ensures { OnOk result (ops.new.items ≡ ops.old.items ++ premium_ops tables.now) }
+{
+    if !tables.has_option_value() {
+        return Ok(());
+    }
+    let commodities = tables.commodities().len();
+    ops.push(Op::ValueStart)?;
+    push_value_adds(ops, commodities as u32)
+}
+
 // The operations of the plan of accepted tables.
 pub(crate) fn ops_of(alloc: Global, tables: &Tables) -> Result<Vec<Op>, AllocError>
     ensures { IfOk result (λ ops. ops.items ≡ ops_of tables.now) }
@@ -87,5 +121,6 @@ pub(crate) fn ops_of(alloc: Global, tables: &Tables) -> Result<Vec<Op>, AllocErr
     push_inter_spreads(&mut ops, tables.inters().len() as u32)?;
     ops.push(Op::TotalStart)?;
     push_adds(&mut ops, commodities)?;
+    push_premium(&mut ops, tables)?;
     Ok(ops)
 }

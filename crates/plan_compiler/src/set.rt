@@ -1,16 +1,17 @@
 //! Compiled sets (docs/METHOD.md, "The plan of steps").
-ghost use Rattle.std.specs.Prelude.{◌≡◌, ◌<◌, IfOk, List, length};
+ghost use Rattle.std.specs.Prelude.{◌≡◌, ◌<◌, IfOk, IfSome, List, is_some, length};
+ghost use Rattle.span_tables.specs.Tables.{has_option_value};
 ghost use Rattle.span_tables.specs.declared.portfolios.Holding.{Holding};
-ghost use Rattle.plan_ir.specs.Figures.{total_to};
+ghost use Rattle.plan_ir.specs.Figures.{total_to, value_to};
 ghost use Rattle.plan_ir.specs.Plans.{op_at};
 ghost use Rattle.plan_ir.specs.declared.ops.Op.TheVariants as operation;
 ghost use Rattle.plan_ir.specs.declared.values.Value.TheVariants as value;
 ghost use Rattle.plan_compiler.specs.Compiled.{IsCompiled, IsFirstInput, step_meaning};
-ghost use Rattle.plan_compiler.specs.Meaning.{last_total};
+ghost use Rattle.plan_compiler.specs.Meaning.{last_total, last_value};
 ghost use Rattle.plan_compiler.specs.Places.{plan_of};
 ghost use Rattle.plan_compiler.specs.Plan.{IsPlanOf};
 
-use crate::layout::{FINAL, first_step, first_steps, inputs_of_all, last_tiers_step, total_step};
+use crate::layout::{final_step, first_step, first_steps, inputs_of_all, premium_step, total_step};
 use crate::operations::ops_of;
 use plan_ir::nothing::NothingHeld;
 use plan_ir::plans::Plan;
@@ -81,7 +82,7 @@ impl CompiledSet {
         ensures op { op_at self.now.plan result ≡ operation.Final commodity }
         ensures stays { IsFirstInput self.now.plan result → ⊥ }
     {
-        last_tiers_step(&self.tables, &self.firsts, commodity) + FINAL
+        final_step(&self.tables, &self.firsts, commodity)
     }
 
     /// The number of the step that has the total. It is no step's first input.
@@ -94,6 +95,22 @@ impl CompiledSet {
     {
         let commodities = self.tables.commodities().len();
         total_step(&self.tables, &self.firsts, commodities as u32)
+    }
+
+    /// The number of the step that has the account's option value, where options have one. It is no step's first input.
+    pub fn value_step(&self) -> Option<u32>
+        ensures some { is_some result ≡ has_option_value self.now.tables }
+        ensures in_range { IfSome result (λ k. k < length self.now.plan) }
+        ensures op { IfSome result (λ k. op_at self.now.plan k ≡ last_value self.now.tables) }
+        ensures means { IfSome result (λ k. (holdings : List Holding) → step_meaning self.now holdings k
+            ≡ value.Premium (value_to self.now.tables holdings (length self.now.tables.commodities))) }
+        ensures stays { IfSome result (λ k. IsFirstInput self.now.plan k → ⊥) }
+    {
+        if !self.tables.has_option_value() {
+            return None;
+        }
+        let commodities = self.tables.commodities().len();
+        Some(premium_step(&self.tables, &self.firsts, commodities as u32))
     }
 }
 

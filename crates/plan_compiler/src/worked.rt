@@ -1,15 +1,16 @@
 //! Worked plans, computed by the definitions alone.
 #![tactic(auto, unfolding(crate::specs::OnLiterals::plans_on_literals))]
 
-ghost use Rattle.std.specs.Prelude.{◌≡◌, [], ◌∷◌, length};
-ghost use Rattle.span_tables.specs.Samples.{small_file};
+ghost use Rattle.std.specs.Prelude.{◌≡◌, [], ◌∷◌, codes, length};
+ghost use Rattle.span_tables.specs.Samples.{small_file, value_set};
 ghost use Rattle.span_tables.specs.Tables.{tables_of};
 ghost use Rattle.plan_ir.specs.Listing.{plan_text};
 ghost use Rattle.plan_ir.specs.Plans.{inputs_in, users_of};
 ghost use Rattle.plan_ir.specs.declared.ops.Op.TheVariants as operation;
 ghost use Rattle.plan_compiler.specs.Places.{plan_of};
 ghost use Rattle.plan_compiler.specs.Plan.{ops_of};
-ghost use Rattle.plan_compiler.specs.Samples.{set_alone, set_alone_lines, two_commodities, two_commodities_lines};
+ghost use Rattle.plan_compiler.specs.Samples.{one_commodity_with_value, one_commodity_with_value_lines, set_alone};
+ghost use Rattle.plan_compiler.specs.Samples.{set_alone_lines, two_commodities, two_commodities_lines};
 
 // Without commodities there are no steps but the first of those between commodities and of the total, without inputs.
 fn plan_of_a_set_alone()
@@ -22,6 +23,14 @@ fn plan_of_a_set_alone()
 fn plan_of_two_commodities()
     ensures many { length (plan_of (tables_of two_commodities)) ≡ 23 }
     ensures text { plan_text (plan_of (tables_of two_commodities)) ≡ two_commodities_lines }
+{}
+
+// Under a profile with option values: a step for the value of each commodity in front of its figures, and those that add
+// them behind the total.
+fn plan_with_option_values()
+    ensures text { plan_text (plan_of (tables_of one_commodity_with_value)) ≡ one_commodity_with_value_lines }
+    ensures empty { ops_of (tables_of (value_set (codes "D2") ∷ []))
+        ≡ operation.InterStart ∷ operation.TotalStart ∷ operation.ValueStart ∷ [] }
 {}
 
 // The steps that read the held contracts of the first commodity, and those that read the last state between commodities.

@@ -24,8 +24,10 @@ use Rattle.inter_credit.specs.States.{IsLine, credit_at}
 use Rattle.inter_credit.proofs.BoundLaws.{credit_small, length-after_inter_spreads, lines_stay, minimum_small}
 use Rattle.inter_credit.proofs.BoundLaws.{requirement_small, unspread_is_line}
 use Rattle.inter_credit.proofs.Sizes.{size-add}
+use Rattle.inter_credit.proofs.ValueLemmas.{net_value_small}
+use Rattle.inter_credit.specs.declared.option_value.TheConstants.{MAX_NET_VALUE}
 use Rattle.plan_ir.specs.Figures.{commodity_at, delivery_at, deltas_at, figures_of, held_at, inter_lines, intras_at, line_of}
-use Rattle.plan_ir.specs.Figures.{loaded_lines, minimum_at, scan_at, spots_at, tiers_at, total_to}
+use Rattle.plan_ir.specs.Figures.{loaded_lines, minimum_at, net_value_at, scan_at, spots_at, tiers_at, total_to, value_to}
 use Rattle.plan_ir.specs.declared.figures.TheConstants.{MAX_REQUIREMENT}
 
 -- an account with holdings, under tables within their limits
@@ -111,6 +113,18 @@ module _ (t : AcceptedTables) (holdings : List Holding) (limits : IsWithinLimits
       requirement_at_small (get_or (range_with_len 0 n) k d) (omega (arith, at, lt, long, le))) in
       omega (arith, all, long)
 
+  -- the option value of a commodity
+  pub net_value_at_small : (c : ℕ) → nat_abs (net_value_at t holdings c) ≤ MAX_NET_VALUE
+  net_value_at_small c = net_value_small (held_at t holdings c) (held_at_are c)
+
+  -- the sum of the option values of the first commodities
+  value_to_small : (n : ℕ) → nat_abs (value_to t holdings n) ≤ n * MAX_NET_VALUE
+  unfolding value_to
+  value_to_small n =
+      let all = int_sum_size (net_value_at t holdings) MAX_NET_VALUE (range_with_len 0 n)
+      (λ k d lt. net_value_at_small (get_or (range_with_len 0 n) k d)) in
+      omega (arith, all, length-range_with_len 0 n)
+
 -- the requirement of a commodity
 pub figures_small : (t : AcceptedTables) (holdings : List Holding) (c : ℕ) → IsWithinLimits t → ArePortfolio holdings
     → fits (length t.contracts) holdings ≡ true → c < length t.commodities
@@ -147,3 +161,28 @@ next_total_is_money t holdings c limits portfolio known lt =
     let fewer : c + 1 ≤ MAX_COMMODITIES = omega (arith, lt, limits.commodities) in
     let few : (c + 1) * MAX_REQUIREMENT ≤ MAX_COMMODITIES * MAX_REQUIREMENT = mul-le-mul_right MAX_REQUIREMENT fewer in
     omega (arith, before, next, larger, few, totals_are_money)
+
+-- as many option values as there may be commodities are an amount of money
+values_are_money : MAX_COMMODITIES * MAX_NET_VALUE ≤ MAX_MONEY
+values_are_money = omega arith
+
+-- so the option value of the first commodities is an amount of money
+pub value_is_money : (t : AcceptedTables) (holdings : List Holding) (n : ℕ) → IsWithinLimits t → ArePortfolio holdings
+    → fits (length t.contracts) holdings ≡ true → n ≤ length t.commodities → nat_abs (value_to t holdings n) ≤ MAX_MONEY
+value_is_money t holdings n limits portfolio known le =
+    let all = value_to_small t holdings limits portfolio known n in
+    let fewer : n ≤ MAX_COMMODITIES = omega (arith, le, limits.commodities) in
+    let few : n * MAX_NET_VALUE ≤ MAX_COMMODITIES * MAX_NET_VALUE = mul-le-mul_right MAX_NET_VALUE fewer in
+    omega (arith, all, few, values_are_money)
+
+-- and so is that value with the option value of the next commodity
+pub next_value_is_money : (t : AcceptedTables) (holdings : List Holding) (c : ℕ) → IsWithinLimits t → ArePortfolio holdings
+    → fits (length t.contracts) holdings ≡ true → c < length t.commodities
+    → nat_abs (value_to t holdings c +ℤ net_value_at t holdings c) ≤ MAX_MONEY
+next_value_is_money t holdings c limits portfolio known lt =
+    let before = value_to_small t holdings limits portfolio known c in
+    let next = net_value_at_small t holdings limits portfolio known c in
+    let larger = size-add (value_to t holdings c) (net_value_at t holdings c) in
+    let fewer : c + 1 ≤ MAX_COMMODITIES = omega (arith, lt, limits.commodities) in
+    let few : (c + 1) * MAX_NET_VALUE ≤ MAX_COMMODITIES * MAX_NET_VALUE = mul-le-mul_right MAX_NET_VALUE fewer in
+    omega (arith, before, next, larger, few, values_are_money)

@@ -6,3 +6,4 @@ pub mod BoundLaws
 pub mod SampleLaws
 pub mod LegLemmas
 pub mod NothingLemmas
+pub mod ValueLaws

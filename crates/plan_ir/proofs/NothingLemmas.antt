@@ -10,6 +10,7 @@ use Rattle.spread_stage.specs.Deltas.{month_deltas}
 use Rattle.spread_stage.specs.Months.{Shrinks}
 use Rattle.spread_stage.specs.declared.months.MonthUnits.{MonthUnits}
 use Rattle.spread_stage.proofs.ClosedLemmas.{delivery_of_nothing}
+use Rattle.inter_credit.specs.OptionValue.{net_value_of}
 use Rattle.inter_credit.specs.Requirement.{minimum_of}
 
 -- no contracts have no months
@@ -27,6 +28,11 @@ pub minimum_of_nothing : (rate : ℕ) (m : MinimumMethod) → minimum_of rate m 
 unfolding minimum_of
 minimum_of_nothing rate method.Sum = mul-zero rate
 minimum_of_nothing rate method.Max = mul-zero rate
+
+-- and none of them has an option value
+pub value_of_nothing : net_value_of [] ≡ pos 0
+unfolding net_value_of
+value_of_nothing = refl
 
 -- nothing is left of no months, and nothing is delivered
 pub delivery_of_no_months : (rests : List MonthUnits) (spots : List Spot) → Shrinks [] rests → delivery_charge [] rests spots ≡ 0

@@ -10,6 +10,7 @@ use Rattle.spread_stage.specs.Deltas.{month_deltas, net_delta}
 use Rattle.spread_stage.specs.Months.{Shrinks}
 use Rattle.spread_stage.specs.Spreads.{spread_both_ways, unspread}
 use Rattle.inter_credit.specs.Credits.{inter_both_ways, unspread_line}
+use Rattle.inter_credit.specs.OptionValue.{net_value_of}
 use Rattle.inter_credit.specs.Requirement.{minimum_of}
 use Rattle.inter_credit.specs.States.{IsNotLoaded, IsUnspread, credit_at}
 use Rattle.inter_credit.specs.declared.requirement.TheConstants.{MAX_PART}
@@ -20,7 +21,7 @@ use Rattle.span_tables.specs.declared.records.Intra.{Intra}
 use Rattle.plan_ir.specs.Figures.{commodity_at, figures_from, held_at, intras_at, spots_at}
 use Rattle.plan_ir.specs.Values.{IsHeld, IsSums, IsScan, IsMonths, IsTiers, IsAmount, IsFigures, IsInter, IsTotal}
 use Rattle.plan_ir.specs.Values.{held_in, sums_in, scan_in, months_in, tiers_in, amount_in, figures_in, lines_in}
-use Rattle.plan_ir.specs.Values.{total_in}
+use Rattle.plan_ir.specs.Values.{total_in, IsPremium, premium_in}
 use Rattle.plan_ir.specs.declared.figures.Figures.{Figures}
 use Rattle.plan_ir.specs.declared.ops.Op.{Op}
 use Rattle.plan_ir.specs.declared.ops.Op.TheVariants as op
@@ -64,6 +65,9 @@ IsOp t (op.InterLoad c) = c < length t.commodities
 IsOp t (op.InterSpread j) = j < length (inters_of t)
 IsOp t op.TotalStart = ⊤
 IsOp t (op.TotalAdd c) = c < length t.commodities
+IsOp t (op.NetValue c) = c < length t.commodities
+IsOp t op.ValueStart = ⊤
+IsOp t (op.ValueAdd c) = c < length t.commodities
 
 -- nothing
 pub record TakesNothing (inputs : List Value) : Type 0 where
@@ -135,6 +139,13 @@ pub record TakesTotal (inputs : List Value) : Type 0 where
   pub figures : IsFigures (input inputs 1)
   pub small : nat_abs (total_in (input inputs 0) +ℤ (figures_in (input inputs 1)).requirement) ≤ MAX_MONEY
 
+-- the option value of some commodities, and that of one more with which the sum is an amount of money
+pub record TakesPremium (inputs : List Value) : Type 0 where
+  pub count : length inputs ≡ 2
+  pub premium : IsPremium (input inputs 0)
+  pub amount : IsAmount (input inputs 1)
+  pub small : nat_abs (premium_in (input inputs 0) +ℤ amount_in (input inputs 1)) ≤ MAX_MONEY
+
 -- the inputs are in number, kind and range what the operation wants
 abbrev pub TakesInputs : AcceptedTables → Op → List Value → Type 0
 TakesInputs t (op.Gather c) inputs = TakesNothing inputs
@@ -151,6 +162,9 @@ TakesInputs t (op.InterLoad c) inputs = TakesLoad c inputs
 TakesInputs t (op.InterSpread j) inputs = TakesLegs (inter_at t j) inputs
 TakesInputs t op.TotalStart inputs = TakesNothing inputs
 TakesInputs t (op.TotalAdd c) inputs = TakesTotal inputs
+TakesInputs t (op.NetValue c) inputs = TakesHeld inputs
+TakesInputs t op.ValueStart inputs = TakesNothing inputs
+TakesInputs t (op.ValueAdd c) inputs = TakesPremium inputs
 
 -- the operation takes these inputs under these tables
 pub record Takes (t : AcceptedTables) (operation : Op) (inputs : List Value) : Type 0 where
@@ -173,6 +187,9 @@ IsInPlace (op.InterLoad c) = ⊤
 IsInPlace (op.InterSpread j) = ⊤
 IsInPlace op.TotalStart = ⊥
 IsInPlace (op.TotalAdd c) = ⊤
+IsInPlace (op.NetValue c) = ⊥
+IsInPlace op.ValueStart = ⊥
+IsInPlace (op.ValueAdd c) = ⊤
 
 -- ---- the value of an operation on its inputs
 
@@ -207,3 +224,6 @@ value_on t holdings (op.InterSpread j) inputs = value.Inter (inter_both_ways (li
 value_on t holdings op.TotalStart inputs = value.Total (pos 0)
 value_on t holdings (op.TotalAdd c) inputs =
     value.Total (total_in (input inputs 0) +ℤ (figures_in (input inputs 1)).requirement)
+value_on t holdings (op.NetValue c) inputs = value.Amount (net_value_of (held_in (input inputs 0)))
+value_on t holdings op.ValueStart inputs = value.Premium (pos 0)
+value_on t holdings (op.ValueAdd c) inputs = value.Premium (premium_in (input inputs 0) +ℤ amount_in (input inputs 1))

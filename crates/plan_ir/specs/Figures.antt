@@ -1,15 +1,16 @@
--- The seven figures of a commodity and the total, of accepted tables and what an account holds.
-use Rattle.std.specs.Prelude.{ℕ, Bool, not, ◌==◌, List, [], length, map, slice_index_or, ℤ, pos}
+-- The seven figures of a commodity, the total and the option value, of accepted tables and what an account holds.
+use Rattle.std.specs.Prelude.{ℕ, Bool, not, ◌==◌, if◌then◌else◌, List, [], length, map, slice_index_or, ℤ, pos}
 use Rattle.std.specs.List.{range_with_len}
 use Rattle.span_money.specs.Numbers.{int_sum_by}
 use Rattle.span_tables.specs.Accepted.{commodity_id}
 use Rattle.span_tables.specs.Net.{HeldContract, held_of}
-use Rattle.span_tables.specs.Tables.{AcceptedTables, intras_of, spots_of, inters_of}
+use Rattle.span_tables.specs.Tables.{AcceptedTables, has_option_value, intras_of, spots_of, inters_of}
 use Rattle.scan_risk.specs.Scenarios.{scenario_sums, scan_of}
 use Rattle.spread_stage.specs.Charges.{intra_charge, delivery_charge}
 use Rattle.spread_stage.specs.Deltas.{month_deltas, net_delta}
 use Rattle.spread_stage.specs.Spreads.{TierRests, after_spreads}
 use Rattle.inter_credit.specs.Credits.{unspread_line, after_inter_spreads}
+use Rattle.inter_credit.specs.OptionValue.{net_value_of}
 use Rattle.inter_credit.specs.Requirement.{minimum_of, requirement_of}
 use Rattle.inter_credit.specs.States.{credit_at}
 use Rattle.span_tables.specs.declared.records.Commodity.{Commodity}
@@ -71,6 +72,10 @@ abbrev pub minimum_at : AcceptedTables → List Holding → ℕ → ℕ
 minimum_at t holdings c =
     minimum_of (commodity_at t c).minimum_rate (commodity_at t c).method (held_at t holdings c)
 
+-- its option value
+abbrev pub net_value_at : AcceptedTables → List Holding → ℕ → ℤ
+net_value_at t holdings c = net_value_of (held_at t holdings c)
+
 -- its line before any intercommodity spread
 abbrev pub line_of : AcceptedTables → List Holding → ℕ → InterLine
 line_of t holdings c = unspread_line (net_delta (deltas_at t holdings c)) (scan_at t holdings c).price2
@@ -108,3 +113,11 @@ figures_of t holdings c =
 -- the sum of the requirements of the first commodities
 unfoldable pub total_to : AcceptedTables → List Holding → ℕ → ℤ
 total_to t holdings n = int_sum_by (λ c. (figures_of t holdings c).requirement) (range_with_len 0 n)
+
+-- the sum of the option values of the first commodities
+unfoldable pub value_to : AcceptedTables → List Holding → ℕ → ℤ
+value_to t holdings n = int_sum_by (net_value_at t holdings) (range_with_len 0 n)
+
+-- the option value of an account: the sum over all commodities, and 0 where options have none
+abbrev pub option_value_of : AcceptedTables → List Holding → ℤ
+option_value_of t holdings = if has_option_value t then value_to t holdings (length t.commodities) else pos 0

@@ -25,6 +25,9 @@ op_text (op.InterLoad c) = numbered (codes "InterLoad") c
 op_text (op.InterSpread j) = numbered (codes "InterSpread") j
 op_text op.TotalStart = codes "TotalStart()"
 op_text (op.TotalAdd c) = numbered (codes "TotalAdd") c
+op_text (op.NetValue c) = numbered (codes "NetValue") c
+op_text op.ValueStart = codes "ValueStart()"
+op_text (op.ValueAdd c) = numbered (codes "ValueAdd") c
 
 -- an input, with the space in front of it
 abbrev pub input_text : ℕ → List ℕ

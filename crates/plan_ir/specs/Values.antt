@@ -45,6 +45,10 @@ abbrev pub IsTotal : Value → Type 0
 IsTotal (value.Total x) = ⊤
 IsTotal v = ⊥
 
+abbrev pub IsPremium : Value → Type 0
+IsPremium (value.Premium x) = ⊤
+IsPremium v = ⊥
+
 -- ---- what a value holds; a value of another kind holds nothing of it
 
 -- the scan of nothing
@@ -98,3 +102,7 @@ lines_in v = []
 abbrev pub total_in : Value → ℤ
 total_in (value.Total x) = x
 total_in v = pos 0
+
+abbrev pub premium_in : Value → ℤ
+premium_in (value.Premium x) = x
+premium_in v = pos 0

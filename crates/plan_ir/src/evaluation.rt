@@ -18,7 +18,7 @@ ghost use Rattle.inter_credit.specs.States.{IsNotLoaded, IsUnspread};
 ghost use Rattle.inter_credit.specs.declared.state.InterLine.{InterLine};
 ghost use Rattle.plan_ir.specs.Apply.{IsInPlace, Takes, TakesFinal, final_figures, inter_at, intra_at, value_on};
 ghost use Rattle.plan_ir.specs.Figures.{commodity_at, intras_at};
-ghost use Rattle.plan_ir.specs.Values.{IsInter as IsLines, IsTiers, IsTotal, lines_in, tiers_in, total_in};
+ghost use Rattle.plan_ir.specs.Values.{IsInter as IsLines, IsPremium, IsTiers, IsTotal, lines_in, premium_in, tiers_in, total_in};
 ghost use Rattle.plan_ir.specs.near.Copying.{IsChangeable};
 ghost use Rattle.plan_ir.specs.declared.values.Value.TheVariants as value;
 
@@ -26,6 +26,7 @@ use crate::figures::{Figures, figures_from};
 use crate::ops::Op;
 use crate::values::Value;
 use inter_credit::credit::credit;
+use inter_credit::option_value::net_value;
 use inter_credit::requirement::minimum;
 use inter_credit::state::empty;
 use scan_risk::Scan;
@@ -118,6 +119,7 @@ pub fn changes_nothing(tables: &Tables, op: Op, first: &Value, rest: &[Arc<Value
         Op::InterLoad(_) => loads_nothing(rest[0].months(), rest[1].scan()),
         Op::InterSpread(j) => !first.inter().may_spread(inter_at(tables, j)),
         Op::TotalAdd(_) => rest[0].figures().requirement.get() == 0,
+        Op::ValueAdd(_) => rest[0].amount().get() == 0,
         _ => false,
     }
 }
@@ -128,7 +130,7 @@ pub fn is_in_place(op: Op) -> bool
 {
     matches!(
         op,
-        Op::Spread(..) | Op::InterLoad(_) | Op::InterSpread(_) | Op::TotalAdd(_)
+        Op::Spread(..) | Op::InterLoad(_) | Op::InterSpread(_) | Op::TotalAdd(_) | Op::ValueAdd(_)
     )
 }
 
@@ -184,6 +186,18 @@ fn add(first: &mut Value, requirement: Money)
     }
 }
 
+// Adds the option value of a commodity to that of others.
+fn add_value(first: &mut Value, amount: Money)
+    requires premium { IsPremium first.old }
+    requires small { nat_abs (premium_in first.old +ℤ amount) ≤ MAX_MONEY }
+    ensures { first.new ≡ value.Premium (premium_in first.old +ℤ amount) }
+{
+    match first {
+        Value::Premium(premium) => *premium = sum(*premium, amount),
+        _ => unreachable!(),
+    }
+}
+
 /// Writes the operation's value over its first input.
 ///
 /// The operation is one of those of `is_in_place`, and the inputs, of which the first stands apart, are what it takes.
@@ -197,6 +211,7 @@ pub fn apply_in_place(tables: &Tables, op: Op, first: &mut Value, rest: &[Arc<Va
         Op::InterLoad(c) => load(first, c, rest[0].months().net(), rest[1].scan().price2),
         Op::InterSpread(j) => inter_spread(first, inter_at(tables, j)),
         Op::TotalAdd(_) => add(first, rest[0].figures().requirement),
+        Op::ValueAdd(_) => add_value(first, rest[0].amount()),
         _ => unreachable!(),
     }
 }
@@ -210,6 +225,7 @@ fn copied(alloc: Global, first: &Value) -> Result<Value, AllocError>
         Value::Tiers(tiers) => Ok(Value::Tiers(tiers.copied(alloc)?)),
         Value::Inter(lines) => Ok(Value::Inter(lines.copied(alloc)?)),
         Value::Total(total) => Ok(Value::Total(*total)),
+        Value::Premium(premium) => Ok(Value::Premium(*premium)),
         _ => unreachable!(),
     }
 }
@@ -247,7 +263,7 @@ pub fn apply_beside(
         → v ≡ value_on tables.now holdings op (first.now ∷ map arc_value rest.now)) }
 {
     match op {
-        Op::Gather(_) | Op::InterStart | Op::TotalStart => unreachable!(),
+        Op::Gather(_) | Op::InterStart | Op::TotalStart | Op::ValueStart => unreachable!(),
         Op::Sums(_) => Ok(Value::Sums(sums(first.held()))),
         Op::ScanMax(_) => Ok(Value::Scan(scan(first.sums()))),
         Op::Months(_) => Ok(Value::Months(month_deltas(alloc, first.held())?)),
@@ -259,9 +275,12 @@ pub fn apply_beside(
         ))),
         Op::Minimum(c) => Ok(Value::Amount(minimum_at(tables, c, first.held()))),
         Op::Final(c) => Ok(Value::Figures(final_figures(c, first, rest))),
-        Op::Spread(..) | Op::InterLoad(_) | Op::InterSpread(_) | Op::TotalAdd(_) => {
-            apply_to_copy(alloc, tables, op, first, rest)
-        }
+        Op::NetValue(_) => Ok(Value::Amount(net_value(first.held()))),
+        Op::Spread(..)
+        | Op::InterLoad(_)
+        | Op::InterSpread(_)
+        | Op::TotalAdd(_)
+        | Op::ValueAdd(_) => apply_to_copy(alloc, tables, op, first, rest),
     }
 }
 
@@ -280,6 +299,7 @@ fn apply_alone(
         Op::Gather(c) => Ok(Value::Held(gather(alloc, tables, portfolio, c as usize)?)),
         Op::InterStart => Ok(Value::Inter(empty(alloc, tables.commodities().len())?)),
         Op::TotalStart => Ok(Value::Total(Money::new(0))),
+        Op::ValueStart => Ok(Value::Premium(Money::new(0))),
         _ => unreachable!(),
     }
 }

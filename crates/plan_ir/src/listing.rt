@@ -58,6 +58,9 @@ fn push_op(out: &mut Vec<u8>, op: &Op) -> Result<(), AllocError>
         Op::InterSpread(j) => push_numbered(out, b"InterSpread", j),
         Op::TotalStart => out.extend_from_slice(b"TotalStart()"),
         Op::TotalAdd(c) => push_numbered(out, b"TotalAdd", c),
+        Op::NetValue(c) => push_numbered(out, b"NetValue", c),
+        Op::ValueStart => out.extend_from_slice(b"ValueStart()"),
+        Op::ValueAdd(c) => push_numbered(out, b"ValueAdd", c),
     }
 }
 

@@ -107,7 +107,7 @@ impl NothingHeld {
         &self.tiers
     }
 
-    /// An amount of 0: a delivery charge, or a short option minimum.
+    /// An amount of 0: a delivery charge, a short option minimum, or an option value.
     pub fn amount(&self) -> &Arc<Value>
         ensures { arc_value result.now ≡ value.Amount (pos 0) }
     {
@@ -115,7 +115,7 @@ impl NothingHeld {
     }
 
     // The value of an operation on no held contracts.
-    #[tactic(auto, using(crate::proofs::NothingLemmas::minimum_of_nothing))]
+    #[tactic(auto, using(crate::proofs::NothingLemmas::minimum_of_nothing, crate::proofs::NothingLemmas::value_of_nothing))]
     fn of_no_contracts(&self, op: Op) -> Option<&Arc<Value>>
         ensures { IfSome result (λ v. (t : AcceptedTables) (holdings : List Holding) (rest : List Value)
             → arc_value v.now ≡ value_on t holdings op (value.Held [] ∷ rest)) }
@@ -123,7 +123,7 @@ impl NothingHeld {
         match op {
             Op::Sums(_) => Some(&self.sums),
             Op::Months(_) => Some(&self.months),
-            Op::Minimum(_) => Some(&self.amount),
+            Op::Minimum(_) | Op::NetValue(_) => Some(&self.amount),
             _ => None,
         }
     }

@@ -31,4 +31,10 @@ pub enum Op {
     TotalStart,
     /// The total with the requirement of one more commodity.
     TotalAdd(u32),
+    /// The option value of a commodity ("Option value").
+    NetValue(u32),
+    /// The option value of no commodity: 0 ("Option value").
+    ValueStart,
+    /// The option value with that of one more commodity.
+    ValueAdd(u32),
 }

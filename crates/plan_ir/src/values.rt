@@ -1,6 +1,7 @@
 //! The values of a plan's steps.
 ghost use Rattle.std.specs.Prelude.{◌≡◌};
 ghost use Rattle.plan_ir.specs.Values.{IsHeld, IsSums, IsScan, IsMonths, IsTiers, IsAmount, IsFigures, IsInter, IsTotal};
+ghost use Rattle.plan_ir.specs.Values.{IsPremium, premium_in};
 ghost use Rattle.plan_ir.specs.Values.{held_in, sums_in, scan_in, months_in, tiers_in, amount_in, figures_in, lines_in, total_in};
 
 use crate::figures::Figures;
@@ -24,7 +25,7 @@ pub enum Value {
     Months(Months),
     /// What intracommodity spreads left of them, in 10^-8 deltas, and the exact charge so far, in 10^-4 minor units.
     Tiers(TierState),
-    /// The delivery charge or the short option minimum of a commodity, in minor units.
+    /// The delivery charge, the short option minimum or the option value of a commodity, in minor units.
     Amount(Money),
     /// The seven figures of a commodity.
     Figures(Figures),
@@ -32,6 +33,8 @@ pub enum Value {
     Inter(InterState),
     /// The sum of the requirements of some commodities, in minor units.
     Total(Money),
+    /// The sum of the option values of some commodities, in minor units.
+    Premium(Money),
 }
 
 impl Value {
@@ -130,6 +133,17 @@ impl Value {
     {
         match self {
             Value::Total(total) => *total,
+            _ => unreachable!(),
+        }
+    }
+
+    /// The option value of some commodities, in minor units. The value is of that kind.
+    pub fn premium(&self) -> Money
+        requires { IsPremium self.now }
+        ensures { result ≡ premium_in self.now }
+    {
+        match self {
+            Value::Premium(premium) => *premium,
             _ => unreachable!(),
         }
     }

@@ -13,6 +13,7 @@ fn texts_of_operations()
     ensures one { op_text (op.TierStart 12) ≡ codes "TierStart(12)" }
     ensures two { op_text (op.Spread 3 10) ≡ codes "Spread(3,10)" }
     ensures none { op_text op.InterStart ≡ codes "InterStart()" }
+    ensures of_value { op_text (op.ValueAdd 7) ≡ codes "ValueAdd(7)" }
 {}
 
 // A plan without commodities, and one whose first step is used by both others.

@@ -3,9 +3,10 @@ ghost use Rattle.std.specs.Prelude.{◌≡◌, ◌∷◌, [], IfOk, IfSome, neg_
 ghost use Rattle.std.specs.Arc.{arc_value};
 ghost use Rattle.step_scheduler.specs.Samples.{job_of_x};
 
-use crate::samples::{job_of_x, set_of_one_future, set_of_three_commodities};
+use crate::samples::{job_of_x, set_of_one_future, set_of_three_commodities, set_of_two_options};
 use plan_compiler::set::CompiledSet;
 use plan_ir::figures::Figures;
+use result_book::rows::Row;
 use span_tables::portfolios::Holding;
 use std::alloc::{AllocError, Global};
 use std::process::Abort;
@@ -136,6 +137,7 @@ fn run_of_one_future(rt: HostRuntime) -> Result<(), Fail> {
     assert_eq!(rt; board.missing(7), 5);
     assert!(rt; board.figures(0).is_none());
     assert!(rt; board.total().is_none());
+    assert!(rt; board.value().is_none());
 
     let task = board.take_ready()?.ok_or("a task")?;
     let step = task.step();
@@ -155,6 +157,7 @@ fn run_of_one_future(rt: HostRuntime) -> Result<(), Fail> {
     );
     assert!(rt; board.figures(1).is_none());
     assert_eq!(rt; board.total().map(|total| total.get()), Some(1200));
+    assert_eq!(rt; board.value().map(|value| value.get()), Some(0));
     Ok(())
 }
 
@@ -217,5 +220,31 @@ fn results_of_strangers(rt: HostRuntime) -> Result<(), Fail> {
         Some([300, 11, 0, 0, 60, 0, 240])
     );
     assert_eq!(rt; board.total().map(|total| total.get()), Some(3450));
+    Ok(())
+}
+
+// Short two calls of 120 and three puts of 80: the steps of the option value end with what they are worth.
+#[test]
+fn run_of_two_options(rt: HostRuntime) -> Result<(), Fail> {
+    let alloc = rt.alloc();
+    let set = set_of_two_options(alloc)?;
+    let short_calls = Holding {
+        contract: 0,
+        net: -2,
+    };
+    let short_puts = Holding {
+        contract: 1,
+        net: -3,
+    };
+    let job = job_of_x(alloc, &rt, &set, vec![in alloc; short_calls, short_puts]?)?;
+    let mut board = Board::new(alloc, job)?;
+    assert_eq!(rt; board.job().plan().len(), 15);
+    run(alloc, &mut board)?;
+    assert_eq!(rt; board.total().map(|total| total.get()), Some(0));
+    assert_eq!(rt; board.value().map(|value| value.get()), Some(-480));
+    assert!(rt; board.is_complete());
+    let row = Row::of(alloc, &board)?;
+    assert_eq!(rt; row.profile(), 2);
+    assert_eq!(rt; row.value().get(), -480);
     Ok(())
 }

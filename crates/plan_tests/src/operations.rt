@@ -190,6 +190,25 @@ fn figures_of_a_commodity(rt: HostRuntime) -> Result<(), Fail> {
     Ok(())
 }
 
+// A call without option value, and -480 added to a value of 120: this takes any tables.
+#[test]
+fn option_values(rt: HostRuntime) -> Result<(), Fail> {
+    let alloc = rt.alloc();
+    let (tables, portfolio) = short_calls(alloc, &rt)?;
+    let none = apply(alloc, &tables, &portfolio, &Op::ValueStart, &[])?;
+    assert_eq!(rt; none.premium().get(), 0);
+    let held = [Arc::new(alloc, Value::Held(gather(alloc, &tables, &portfolio, 0)?))?];
+    let value = apply(alloc, &tables, &portfolio, &Op::NetValue(0), &held)?;
+    assert_eq!(rt; value.amount().get(), 0);
+    let inputs = [
+        Arc::new(alloc, Value::Premium(Money::new(120)))?,
+        Arc::new(alloc, Value::Amount(Money::new(-480)))?,
+    ];
+    let sum = apply(alloc, &tables, &portfolio, &Op::ValueAdd(0), &inputs)?;
+    assert_eq!(rt; sum.premium().get(), -360);
+    Ok(())
+}
+
 #[test]
 fn totals(rt: HostRuntime) -> Result<(), Fail> {
     let alloc = rt.alloc();

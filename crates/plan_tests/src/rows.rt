@@ -42,6 +42,8 @@ fn row_of_an_account(rt: HostRuntime) -> Result<(), Fail> {
     assert_eq!(rt; row.portfolio().holdings().len(), 1);
     assert_eq!(rt; row.set().tables().commodities().len(), 2);
     assert_eq!(rt; row.total().get(), 6000);
+    assert_eq!(rt; row.profile(), 1);
+    assert_eq!(rt; row.value().get(), 0);
 
     assert!(rt; !row.held(0) && row.held(1));
     assert_eq!(rt; row.figures(0).active, 1);

@@ -3,7 +3,7 @@ ghost use Rattle.std.specs.Prelude.{◌≡◌, true, IfOk};
 ghost use Rattle.std.specs.Arc.{arc_value};
 ghost use Rattle.span_tables.specs.Holdings.{ArePortfolio};
 ghost use Rattle.span_tables.specs.Names.{is_name};
-ghost use Rattle.step_scheduler.specs.Samples.{future, job_of_x, one_future, three_commodities};
+ghost use Rattle.step_scheduler.specs.Samples.{future, job_of_x, one_future, option, three_commodities, two_options};
 
 use plan_compiler::set::{CompiledSet, compile};
 use span_tables::limits::SCENARIOS;
@@ -11,7 +11,7 @@ use span_tables::name::Name;
 use span_tables::portfolios::{Holding, Portfolio};
 use span_tables::raw::RawTables;
 use span_tables::records::{ProductKind, Record};
-use span_tables::samples::{FUTURE_VALUES, commodity, contract, set, spread};
+use span_tables::samples::{FUTURE_VALUES, commodity, contract, set, spread, value_set};
 use span_tables::tables::Tables;
 use std::alloc::{AllocError, Global};
 use std::process::Abort;
@@ -64,6 +64,36 @@ fn three_commodities(alloc: Global) -> Result<Vec<Record>, AllocError>
             spread(2, 2000, b"AA", b"CC"),
         ],
     )?)
+}
+
+// An option that gains and loses nothing, and is worth so much.
+fn option(kind: ProductKind, id: &[u8], option_value: u32) -> Record
+    requires { is_name id.now ≡ true }
+    ensures { result ≡ option kind id.now option_value }
+{
+    let mut option = contract(kind, id, b"AA", 202_503, [0; SCENARIOS]);
+    option.option_value = option_value;
+    Record::Contract(option)
+}
+
+fn two_options(alloc: Global) -> Result<Vec<Record>, AllocError>
+    ensures { IfOk result (λ records. records.items ≡ two_options) }
+{
+    Ok(Vec::from_array(
+        alloc,
+        [
+            value_set(b"D2"),
+            commodity(b"AA"),
+            option(ProductKind::Call, b"CA", 120),
+            option(ProductKind::Put, b"PA", 80),
+        ],
+    )?)
+}
+
+// The set of a call and a put with option values.
+pub(crate) fn set_of_two_options(alloc: Global) -> Result<Arc<CompiledSet>, AllocError> {
+    let raw = RawTables::new(two_options(alloc)?);
+    Ok(Arc::new(alloc, compile(alloc, Tables::new(alloc, raw)?)?)?)
 }
 
 // The set of one future.

@@ -1,7 +1,7 @@
 //! Rows of results (docs/METHOD.md, "Minimum and requirement").
 ghost use Rattle.std.specs.Prelude.{◌≡◌, ◌<◌, IfOk, length};
 ghost use Rattle.std.specs.Arc.{arc_value};
-ghost use Rattle.plan_ir.specs.Figures.{figures_of, is_held, total_to};
+ghost use Rattle.plan_ir.specs.Figures.{figures_of, is_held, option_value_of, total_to};
 ghost use Rattle.step_scheduler.specs.Boards.{IsComplete};
 ghost use Rattle.result_book.specs.near.Kept.{AreFigures};
 
@@ -18,16 +18,17 @@ use std::sync::Arc;
 use step_scheduler::boards::Board;
 use step_scheduler::jobs::Job;
 
-/// What a complete run gave for an account: its figures in each commodity of the set, and its total.
+/// What a complete run gave for an account: its figures in each commodity of the set, its total and its option value.
 ///
-/// A row carries its set and its portfolio, and contracts see these two: the figures and the total are those that the
-/// method defines for them. Only a complete board gives a row.
+/// A row carries its set and its portfolio, and contracts see these two: the figures, the total and the option value are
+/// those that the method defines for them. Only a complete board gives a row.
 #[derive(Drop)]
 pub struct Row {
     job: Arc<Job>,
     figures: Vec<Figures>,
     held: [bool; MAX_COMMODITIES],
     total: Money,
+    value: Money,
 }
 
 impl Model for Row {
@@ -40,7 +41,7 @@ impl Model for Row {
     ghost view = { λ r. record { set = (arc_value r.job).set; portfolio = (arc_value r.job).portfolio } };
 
     ghost invariant = { λ r. IsRow
-        (record { set = (arc_value r.job).set; portfolio = (arc_value r.job).portfolio }) r.figures.items r.held r.total };
+        (record { set = (arc_value r.job).set; portfolio = (arc_value r.job).portfolio }) r.figures.items r.held r.total r.value };
 }
 
 impl Row {
@@ -57,6 +58,7 @@ impl Row {
         let _limits = tables.commodities();
         let held = held_commodities(tables, job.portfolio());
         let total = total_of(board);
+        let value = value_of(board);
         Ok(Arc::new(
             alloc,
             Row {
@@ -64,6 +66,7 @@ impl Row {
                 figures,
                 held,
                 total,
+                value,
             },
         )?)
     }
@@ -96,6 +99,13 @@ impl Row {
         self.job.set().tables().set_id()
     }
 
+    /// The profile of the set: 1 or 2.
+    pub fn profile(&self) -> u8
+        ensures { result ≡ self.now.set.tables.profile }
+    {
+        self.job.set().tables().profile()
+    }
+
     /// The seven figures of the commodity of a number.
     pub fn figures(&self, commodity: usize) -> &Figures
         requires { commodity < length self.now.set.tables.commodities }
@@ -117,6 +127,13 @@ impl Row {
         ensures { result ≡ total_to self.now.set.tables self.now.portfolio.holdings (length self.now.set.tables.commodities) }
     {
         self.total
+    }
+
+    /// The account's option value, in minor units: 0 under a profile in which options have none.
+    pub fn value(&self) -> Money
+        ensures { result ≡ option_value_of self.now.set.tables self.now.portfolio.holdings }
+    {
+        self.value
     }
 }
 
@@ -153,6 +170,17 @@ fn total_of(board: &Board) -> Money
 {
     match board.total() {
         Some(total) => total,
+        None => unreachable!(),
+    }
+}
+
+// The option value of a complete board.
+fn value_of(board: &Board) -> Money
+    requires { IsComplete board.now }
+    ensures { result ≡ option_value_of board.now.job.set.tables board.now.job.portfolio.holdings }
+{
+    match board.value() {
+        Some(value) => value,
         None => unreachable!(),
     }
 }

@@ -5,6 +5,7 @@ use Rattle.std.specs.Prelude.{All, nat_abs}
 use Rattle.std.specs.Simd.Lanes.{Each1, Each2, zip2}
 use Rattle.std.proofs.lemmas.Int.{ints, to_z-of_z, fits_signed_from_abs}
 use Rattle.std.proofs.lemmas.List.Elements.{All-nil, All-cons, All-head, All-tail, All-map}
+use Rattle.span_money.proofs.WordLemmas.{same_64}
 use Rattle.span_tables.specs.declared.limits.TheConstants.{MAX_ARRAY_VALUE, MAX_NET, MAX_SUM, MAX_TERM}
 use Rattle.scan_risk.proofs.SumLemmas.{term_size, terms_of, with_terms}
 
@@ -23,15 +24,11 @@ bits_of zs = map (of_z w64) zs
 abbrev pub numbers_in : List ℕ → List ℤ
 numbers_in bits = map (to_z w64) bits
 
--- small numbers keep their values in 64 bits
-kept : (z : ℤ) (n : ℕ) → IsWithin n z → n < 2 ^ 63 → to_z w64 (of_z w64 z) ≡ z
-kept z n le lt = let below : nat_abs z < 2 ^ 63 = omega (arith, le, lt) in to_z-of_z w64 z (fits_signed_from_abs w64 z below)
-
 pub lanes_kept : (zs : List ℤ) (n : ℕ) → n < 2 ^ 63 → All (IsWithin n) zs → numbers_in (bits_of zs) ≡ zs
 lanes_kept [] n lt small = refl
 lanes_kept (z ∷ zs) n lt small =
     rw (
-      kept z n (All-head (IsWithin n) z zs small) lt,
+      same_64 z n (All-head (IsWithin n) z zs small) lt,
       lanes_kept zs n lt (All-tail (IsWithin n) z zs small),
     ) refl
 
@@ -43,7 +40,7 @@ pub values_fit : (vs : List ℤ) → All (IsWithin MAX_ARRAY_VALUE) vs → Each1
 values_fit [] small = tt
 values_fit (v ∷ vs) small =
     let one = All-head (IsWithin MAX_ARRAY_VALUE) v vs small in (
-      rw (kept v MAX_ARRAY_VALUE one (lit< tt)) (value_fits v one),
+      rw (same_64 v MAX_ARRAY_VALUE one (lit< tt)) (value_fits v one),
       values_fit vs (All-tail (IsWithin MAX_ARRAY_VALUE) v vs small),
     )
 
@@ -52,7 +49,7 @@ pub values_kept : (vs : List ℤ) → All (IsWithin MAX_ARRAY_VALUE) vs
 values_kept [] small = refl
 values_kept (v ∷ vs) small =
     let one = All-head (IsWithin MAX_ARRAY_VALUE) v vs small in
-    let same = kept v MAX_ARRAY_VALUE one (lit< tt) in
+    let same = same_64 v MAX_ARRAY_VALUE one (lit< tt) in
     let rest = values_kept vs (All-tail (IsWithin MAX_ARRAY_VALUE) v vs small) in
     rw (same, to_z-of_z w32 v (value_fits v one), same, rest) refl
 
@@ -61,7 +58,7 @@ term_fits : (net v : ℤ) → IsWithin MAX_NET net → IsWithin MAX_ARRAY_VALUE 
     → FitsSigned w64 (to_z w64 (of_z w64 net) *ℤ to_z w64 (of_z w64 v))
 term_fits net v small one =
     let below : nat_abs (net *ℤ v) < 2 ^ 63 = omega (arith, term_size net v small one) in
-    rw (kept net MAX_NET small (lit< tt), kept v MAX_ARRAY_VALUE one (lit< tt)) (fits_signed_from_abs w64 (net *ℤ v) below)
+    rw (same_64 net MAX_NET small (lit< tt), same_64 v MAX_ARRAY_VALUE one (lit< tt)) (fits_signed_from_abs w64 (net *ℤ v) below)
 
 pub terms_fit : (net : ℤ) (vs : List ℤ) → IsWithin MAX_NET net → All (IsWithin MAX_ARRAY_VALUE) vs
     → Each2 (λ (a b : ℕ). FitsSigned w64 (to_z w64 a *ℤ to_z w64 b)) (bits_of (replicate (length vs) net)) (bits_of vs)
@@ -78,9 +75,9 @@ terms_are net [] small all = refl
 terms_are net (v ∷ vs) small all =
     let one = All-head (IsWithin MAX_ARRAY_VALUE) v vs all in
     rw (
-      kept net MAX_NET small (lit< tt),
-      kept v MAX_ARRAY_VALUE one (lit< tt),
-      kept (net *ℤ v) MAX_TERM (term_size net v small one) (lit< tt),
+      same_64 net MAX_NET small (lit< tt),
+      same_64 v MAX_ARRAY_VALUE one (lit< tt),
+      same_64 (net *ℤ v) MAX_TERM (term_size net v small one) (lit< tt),
       terms_are net vs small (All-tail (IsWithin MAX_ARRAY_VALUE) v vs all),
     ) refl
 
@@ -94,7 +91,7 @@ sum_fits : (s t : ℤ) → HasRoom s → IsWithin MAX_TERM t → FitsSigned w64 
 sum_fits s t room small =
     let below : nat_abs (s +ℤ t) < 2 ^ 63 = omega (arith, ints) in
     let least : nat_abs s ≤ MAX_SUM = omega (arith, room) in
-    rw (kept s MAX_SUM least (lit< tt), kept t MAX_TERM small (lit< tt)) (fits_signed_from_abs w64 (s +ℤ t) below)
+    rw (same_64 s MAX_SUM least (lit< tt), same_64 t MAX_TERM small (lit< tt)) (fits_signed_from_abs w64 (s +ℤ t) below)
 
 pub sums_fit : (ss ts : List ℤ) → All HasRoom ss → All (IsWithin MAX_TERM) ts
     → Each2 (λ (a b : ℕ). FitsSigned w64 (to_z w64 a +ℤ to_z w64 b)) (bits_of ss) (bits_of ts)
@@ -115,9 +112,9 @@ sums_are (s ∷ ss) (t ∷ ts) room small =
     let least : nat_abs s ≤ MAX_SUM = omega (arith, one) in
     let both : nat_abs (s +ℤ t) ≤ MAX_SUM = omega (arith, ints) in
     rw (
-      kept s MAX_SUM least (lit< tt),
-      kept t MAX_TERM other (lit< tt),
-      kept (s +ℤ t) MAX_SUM both (lit< tt),
+      same_64 s MAX_SUM least (lit< tt),
+      same_64 t MAX_TERM other (lit< tt),
+      same_64 (s +ℤ t) MAX_SUM both (lit< tt),
       sums_are ss ts (All-tail HasRoom s ss room) (All-tail (IsWithin MAX_TERM) t ts small),
     ) refl
 

@@ -29,8 +29,8 @@ use std::time::Clock;
 use worker_pool::batch::MAX_WORKERS;
 use worker_pool::gates::Gate;
 
-/// The program's version, and that of the profile of the method that it follows (docs/METHOD.md).
-const VERSION: &str = "1.0.0 (profile 1)";
+/// The program's version, and the profiles of the method that it follows (docs/METHOD.md).
+const VERSION: &str = "1.1.0 (profile 1 and profile 2)";
 
 const PARAMS_HELP: &str =
     "Parameter file (CSV): a set with its commodities, contracts, tiers and spreads";
@@ -58,6 +58,9 @@ const MARGIN_MORE: &str = "\
 Prints a line for each commodity that an account holds, then one for its total:
   R,account,set,commodity,scan,active,intra,delivery,credit,minimum,requirement
   T,account,set,total
+Under a set of version 2, whose options have a value, the last line goes on with the value of the account's
+options, what it has to bring after that, and what their value is over the total:
+  T,account,set,total,value,due,excess
 Amounts are whole numbers in the minor unit of the set's currency, as cents for USD;
 `active` is the scenario, 1 to 16, that decides the scan risk.
 docs/FORMATS.md describes the files and the statement, docs/METHOD.md the figures.";

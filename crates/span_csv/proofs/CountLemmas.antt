@@ -14,7 +14,7 @@ use Rattle.span_tables.specs.declared.records.Record.{Record}
 use Rattle.span_tables.proofs.NameLemmas.{same_name}
 use Rattle.span_csv.specs.Records.{Fields, RecordKind, a_set, a_commodity, a_contract, a_tier, an_intra, a_spot, an_inter, has_word_form}
 use Rattle.span_csv.specs.Records.{is_in_range, kind_named, kind_of, layout_of, is_word, text_at, record_of_kind, param_record}
-use Rattle.span_csv.specs.ParamFaults.{is_set, some_fail, exceeds_limit, param_faults}
+use Rattle.span_csv.specs.ParamFaults.{is_set, profile_of, some_fail, exceeds_limit, param_faults}
 use Rattle.span_csv.specs.declared.faults.ParamFault.{ParamFault}
 
 -- ---- a record without a fault
@@ -24,9 +24,9 @@ pub record IsClean (earlier : List Fields) (r : Fields) : Type 0 where
   pub first : ((length earlier == 0) && not (is_set r)) ≡ false
   pub second : (not (length earlier == 0) && is_set r) ≡ false
   pub kind : is_none (kind_of r) ≡ false
-  pub layout : is_none (layout_of r) ≡ false
-  pub words : some_fail has_word_form r ≡ false
-  pub ranges : some_fail is_in_range r ≡ false
+  pub layout : is_none (layout_of (profile_of earlier) r) ≡ false
+  pub words : some_fail has_word_form (profile_of earlier) r ≡ false
+  pub ranges : some_fail is_in_range (profile_of earlier) r ≡ false
   pub room : exceeds_limit earlier r (kind_of r) ≡ false
 
 -- the fault of a record behind earlier ones

@@ -1,6 +1,6 @@
 -- What the forms of fields say of the numbers that a record takes from them.
 use Rattle.std.proofs.Common.{◌≡◌, refl, ap, arith, ℕ, suc, zero, ◌<◌, ◌≤◌, Bool, true, false, ◌&&◌, ◌==◌}
-use Rattle.std.proofs.Common.{if◌then◌else◌, ℤ, pos, negsuc, List, [], ◌∷◌, ◌++◌, length, drop, Option, Some, None}
+use Rattle.std.proofs.Common.{if◌then◌else◌, ℤ, pos, negsuc, List, [], ◌∷◌, ◌++◌, length, take, drop, Option, Some, None}
 use Rattle.std.specs.Prelude.{nat_le, nat_abs, unwrap_or, slice_get}
 use Rattle.std.specs.Char.{is_ascii_digit}
 use Rattle.std.specs.List.{list_all, repeat}
@@ -93,13 +93,12 @@ all_behind test (g ∷ front) back [] all le = absurd (omega arith)
 all_behind test (g ∷ front) back (x ∷ fields) all le =
     all_behind test front back fields ((and_parts (test g x) (all_have test (front ++ back) fields) all).1) (omega (arith, le))
 
--- many fields of one form
-pub all_of_form : (test : Form → List ℕ → Bool) (f : Form) (n : ℕ) (fields : Fields) → length fields ≡ n
-    → all_have test (repeat n (f ∷ [])) fields ≡ true
-    → list_all (test f) fields ≡ true
-all_of_form test f zero [] len all = refl
-all_of_form test f zero (x ∷ fields) len all = absurd (omega (arith, len))
-all_of_form test f (suc n) [] len all = refl
-all_of_form test f (suc n) (x ∷ fields) len all =
-    let parts = and_parts (test f x) (all_have test (repeat n (f ∷ [])) fields) all in
-    and_from (test f x) (list_all (test f) fields) parts.0 (all_of_form test f n fields (omega (arith, len)) parts.1)
+-- many fields of one form, in front of others
+pub all_of_form : (test : Form → List ℕ → Bool) (f : Form) (n : ℕ) (back : List Form) (fields : Fields)
+    → all_have test (repeat n (f ∷ []) ++ back) fields ≡ true
+    → list_all (test f) (take n fields) ≡ true
+all_of_form test f zero back fields all = refl
+all_of_form test f (suc n) back [] all = refl
+all_of_form test f (suc n) back (x ∷ fields) all =
+    let parts = and_parts (test f x) (all_have test (repeat n (f ∷ []) ++ back) fields) all in
+    and_from (test f x) (list_all (test f) (take n fields)) parts.0 (all_of_form test f n back fields parts.1)

@@ -6,6 +6,7 @@ mod LegLemmas
 mod NumberLemmas
 mod NumberedLemmas
 mod PositionLemmas
+mod ProfileLaws
 mod RangeLemmas
 mod ReadLemmas
 pub mod ReadableLaws

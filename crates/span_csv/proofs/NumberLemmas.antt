@@ -1,16 +1,18 @@
 -- The numbers of fields that are in their ranges.
-use Rattle.std.proofs.Common.{◌≡◌, ◌<◌, ◌≤◌, ◌+◌, ◌&&◌, sym, subst, refl, arith, zero, suc, ℕ}
+use Rattle.std.proofs.Common.{◌≡◌, ◌<◌, ◌≤◌, ◌+◌, ◌&&◌, sym, ap, subst, refl, arith, inl, inr, zero, suc, ℕ}
 use Rattle.std.proofs.Common.{Bool, true, false, List, [], ◌∷◌, length, Option, Some, None, ℤ, pos, negsuc, nat_le}
 use Rattle.std.specs.Prelude.{neg_ℤ, int_le, unwrap_or, nat_abs, ◌==◌}
 use Rattle.std.specs.Char.{is_ascii_digit}
 use Rattle.std.specs.List.{list_all}
 use Rattle.std.proofs.lemmas.Bool.{false≢true, leb-true}
 use Rattle.std.proofs.lemmas.Bool.Decides.{nat_tests}
+use Rattle.std.proofs.lemmas.List.{get_or_past}
 use Rattle.span_money.specs.Numbers.{positive_part, whole_number, decimal_number, are_digits}
 use Rattle.span_money.specs.Numbers.{digits_value, has_minus, without_minus, is_month}
 use Rattle.span_tables.specs.Names.{is_name}
+use Rattle.span_tables.specs.declared.limits.TheConstants.{MAX_OPTION_VALUE}
 use Rattle.span_csv.specs.near.Grammar.{HasForms, form_at}
-use Rattle.span_csv.specs.Records.{Fields, RecordKind, a_name, a_whole, a_decimal, a_month, is_within}
+use Rattle.span_csv.specs.Records.{Fields, RecordKind, a_contract, a_name, a_whole, a_decimal, a_month, is_within}
 use Rattle.span_csv.specs.Records.{is_in_range, has_word_form, text_at, count_at, ratio_at, decimal_at}
 
 pub and_left : (a b : Bool) → (a && b) ≡ true → a ≡ true
@@ -102,6 +104,18 @@ pub count_field : (kind : RecordKind) (r : Fields) (i : ℕ) (low : ℤ) (high :
 count_field kind r i low high h inside e =
     within_count low high (whole_number (text_at r (i + 1)))
     (subst (λ form. is_in_range form (text_at r (i + 1)) ≡ true) e (h.ranges i inside))
+
+-- a field past the end is no number
+pub count_past : (r : Fields) (i : ℕ) → length r ≤ i → count_at r i ≡ 0
+count_past r i past = ap (λ text. positive_part (unwrap_or (whole_number text) (pos 0))) (get_or_past r i [] past)
+
+-- the option value of a contract, which may have no field for it
+pub option_value_field : (r : Fields) → HasForms a_contract r → count_at r 23 ≤ MAX_OPTION_VALUE
+option_value_field r h =
+    elim h.count [
+      | inl plain ↦ let none = count_past r 23 (omega arith) in omega (arith, none)
+      | inr valued ↦ count_field a_contract r 22 (pos 0) MAX_OPTION_VALUE h (omega arith) refl
+    ]
 
 -- a month
 pub month_field : (kind : RecordKind) (r : Fields) (i : ℕ) → HasForms kind r → i + 1 < length r → form_at kind i ≡ a_month

@@ -1,24 +1,27 @@
 -- A record whose fields have their forms is in its ranges.
 use Rattle.std.proofs.Common.{◌≡◌, ◌∙◌, refl, sym, subst, arith, inl, inr, ℕ, suc, zero, ◌+◌}
-use Rattle.std.proofs.Common.{◌-◌, ◌*◌, ◌≤◌, Bool, true, false, ◌&&◌, ◌==◌, if◌then◌else◌}
-use Rattle.std.proofs.Common.{pos, neg_ℤ, List, [], ◌∷◌, ◌++◌, length, drop, map, Some, None}
+use Rattle.std.proofs.Common.{◌-◌, ◌*◌, ◌≤◌, true, ◌&&◌, ◌==◌}
+use Rattle.std.proofs.Common.{pos, neg_ℤ, List, [], ◌∷◌, ◌++◌, length, take, drop, map, Some}
 use Rattle.std.specs.Prelude.{nat_le, nat_abs, unwrap_or}
 use Rattle.std.specs.List.{list_all, repeat}
 use Rattle.std.proofs.lemmas.Bool.{and_parts, and_from, le-leb, eq-eqb, eqb-true, cases_Bool}
-use Rattle.std.proofs.lemmas.List.{length-map, length-drop}
+use Rattle.std.proofs.lemmas.List.{length-map, length-drop, length-take-le}
 use Rattle.span_money.specs.Numbers.{whole_number, decimal_number}
 use Rattle.span_tables.specs.Names.{is_name}
-use Rattle.span_tables.specs.Limits.{lies_within, in_range, is_tier_number, is_ratio}
+use Rattle.span_tables.specs.Limits.{lies_within, in_range, is_tier_number, is_ratio, most_option_value}
 use Rattle.span_tables.specs.declared.limits.TheConstants.{MAX_ARRAY_VALUE, MAX_BASIS_POINTS, MAX_DELTA, MAX_PRIORITY}
-use Rattle.span_tables.specs.declared.limits.TheConstants.{MAX_RATE, MAX_RATIO, MAX_SCALE, MAX_TIER_NUMBER}
+use Rattle.span_tables.specs.declared.limits.TheConstants.{MAX_PROFILE, MAX_RATE, MAX_RATIO, MAX_SCALE, MAX_TIER_NUMBER, VALUE_PROFILE}
 use Rattle.span_tables.specs.declared.records.IntraLeg.{IntraLeg}
 use Rattle.span_tables.specs.declared.records.InterLeg.{InterLeg}
+use Rattle.span_tables.specs.declared.records.ProductKind.{ProductKind}
 use Rattle.span_csv.specs.Records.{Form, Fields, a_name, a_side, a_whole, a_decimal, a_month, a_rate, RecordKind, a_set}
 use Rattle.span_csv.specs.Records.{a_commodity, a_contract, a_tier, an_intra, a_spot, an_inter, all_have, has_word_form}
 use Rattle.span_csv.specs.Records.{is_in_range, exactly, with_legs, forms_of, set_forms, commodity_forms}
-use Rattle.span_csv.specs.Records.{contract_front, an_array_value, tier_forms, intra_front, intra_leg_forms, spot_forms}
-use Rattle.span_csv.specs.Records.{inter_front, inter_leg_forms, text_at, intra_leg, inter_leg, legs_of, record_of_kind}
+use Rattle.span_csv.specs.Records.{contract_front, an_array_value, an_option_value, tier_forms, intra_front, intra_leg_forms, spot_forms}
+use Rattle.span_csv.specs.Records.{inter_front, inter_leg_forms, text_at, count_at, product_at, intra_leg, inter_leg, legs_of}
+use Rattle.span_csv.specs.Records.{record_of_kind}
 use Rattle.span_csv.proofs.FormLemmas.{count_within, count_below, if_some, size_within, month_within, passes_at, all_behind, all_of_form}
+use Rattle.span_csv.proofs.NumberLemmas.{count_past}
 
 -- the fields have these forms
 pub record HaveForms (forms : List Form) (fields : Fields) : Type 0 where
@@ -26,14 +29,17 @@ pub record HaveForms (forms : List Form) (fields : Fields) : Type 0 where
   pub ranges : all_have is_in_range forms fields ≡ true
 
 -- exactly these forms
-exact : (forms found : List Form) (n : ℕ) → exactly forms n ≡ Some found → (n ≡ length forms) × (forms ≡ found)
+pub exact : (forms found : List Form) (n : ℕ) → exactly forms n ≡ Some found → (n ≡ length forms) × (forms ≡ found)
 exact forms found n e =
     let parts = if_some (n == length forms) forms found e in
     (eqb-true n (length forms) parts.0, parts.1)
 
 set_in_range : (word : List ℕ) (fields : Fields) → length fields ≡ 3 → HaveForms set_forms fields
     → in_range (record_of_kind a_set (word ∷ fields)) ≡ true
-set_in_range word fields len h = passes_at has_word_form set_forms fields 0 a_name h.words (omega (arith, len)) refl
+set_in_range word fields len h =
+    and_from _ _ (passes_at has_word_form set_forms fields 0 a_name h.words (omega (arith, len)) refl)
+    (count_within 1 MAX_PROFILE (whole_number (text_at fields 1))
+    (passes_at is_in_range set_forms fields 1 (a_whole (pos 1) (pos MAX_PROFILE)) h.ranges (omega (arith, len)) refl))
 
 commodity_in_range : (word : List ℕ) (fields : Fields) → length fields ≡ 3 → HaveForms commodity_forms fields
     → in_range (record_of_kind a_commodity (word ∷ fields)) ≡ true
@@ -74,34 +80,58 @@ values_in_range (text ∷ texts) all =
     let parts = and_parts (is_in_range an_array_value text) (list_all (is_in_range an_array_value) texts) all in
     and_from _ _ (size_within (MAX_ARRAY_VALUE - 1) (whole_number text) parts.0) (values_in_range texts parts.1)
 
-contract_in_range : (word : List ℕ) (fields : Fields) → length fields ≡ 22
-    → HaveForms (contract_front ++ repeat 16 (an_array_value ∷ [])) fields
+-- the forms of a contract, with those behind its risk array
+abbrev contract_with : List Form → List Form
+contract_with back = contract_front ++ repeat 16 (an_array_value ∷ []) ++ back
+
+contract_in_range : (word : List ℕ) (fields : Fields) (back : List Form) → 22 ≤ length fields
+    → HaveForms (contract_with back) fields
+    → nat_le (count_at (word ∷ fields) 23) (most_option_value (product_at (word ∷ fields) 3)) ≡ true
     → in_range (record_of_kind a_contract (word ∷ fields)) ≡ true
-contract_in_range word fields len h =
+contract_in_range word fields back len h value =
     let few : length contract_front ≤ length fields = omega (arith, len) in
-    let behind = all_behind is_in_range contract_front (repeat 16 (an_array_value ∷ [])) fields h.ranges few in
-    let sixteen : length (drop 6 fields) ≡ 16 = omega (arith, len, length-drop 6 fields) in
-    let each = all_of_form is_in_range an_array_value 16 (drop 6 fields) sixteen behind in
-    let count : length (map (λ text. unwrap_or (whole_number text) (pos 0)) (drop 6 fields)) ≡ 16 =
-    length-map (drop 6 fields) (λ text. unwrap_or (whole_number text) (pos 0)) ∙ sixteen in
+    let behind = all_behind is_in_range contract_front (repeat 16 (an_array_value ∷ []) ++ back) fields h.ranges few in
+    let enough : 16 ≤ length (drop 6 fields) = omega (arith, len, length-drop 6 fields) in
+    let sixteen : length (take 16 (drop 6 fields)) ≡ 16 = length-take-le 16 (drop 6 fields) enough in
+    let each = all_of_form is_in_range an_array_value 16 back (drop 6 fields) behind in
+    let count : length (map (λ text. unwrap_or (whole_number text) (pos 0)) (take 16 (drop 6 fields))) ≡ 16 =
+    length-map (take 16 (drop 6 fields)) (λ text. unwrap_or (whole_number text) (pos 0)) ∙ sixteen in
     and_from _ _
     (and_from _ _
     (and_from _ _
     (and_from _ _
     (and_from _ _
     (and_from _ _
-    (passes_at has_word_form (contract_front ++ repeat 16 (an_array_value ∷ [])) fields 0 a_name h.words (omega (arith, len)) refl)
-    (passes_at has_word_form (contract_front ++ repeat 16 (an_array_value ∷ [])) fields 1 a_name h.words (omega (arith, len)) refl))
-    (month_within (text_at fields 3)
-    (passes_at is_in_range (contract_front ++ repeat 16 (an_array_value ∷ [])) fields 3 a_month h.ranges (omega (arith, len)) refl)))
+    (and_from _ _
+    (passes_at has_word_form (contract_with back) fields 0 a_name h.words (omega (arith, len)) refl)
+    (passes_at has_word_form (contract_with back) fields 1 a_name h.words (omega (arith, len)) refl))
+    (month_within (text_at fields 3) (passes_at is_in_range (contract_with back) fields 3 a_month h.ranges (omega (arith, len)) refl)))
     (size_within (MAX_DELTA - 1) (decimal_number (text_at fields 4))
-    (passes_at is_in_range (contract_front ++ repeat 16 (an_array_value ∷ [])) fields 4
-    (a_decimal (neg_ℤ (pos MAX_DELTA)) (pos MAX_DELTA)) h.ranges (omega (arith, len)) refl)))
-    (count_within 1 MAX_SCALE (decimal_number (text_at fields 5))
-    (passes_at is_in_range (contract_front ++ repeat 16 (an_array_value ∷ [])) fields 5 (a_decimal (pos 1) (pos MAX_SCALE)) h.ranges
+    (passes_at is_in_range (contract_with back) fields 4 (a_decimal (neg_ℤ (pos MAX_DELTA)) (pos MAX_DELTA)) h.ranges
     (omega (arith, len)) refl)))
+    (count_within 1 MAX_SCALE (decimal_number (text_at fields 5))
+    (passes_at is_in_range (contract_with back) fields 5 (a_decimal (pos 1) (pos MAX_SCALE)) h.ranges (omega (arith, len)) refl)))
     (eq-eqb _ 16 count))
-    (values_in_range (drop 6 fields) each)
+    (values_in_range (take 16 (drop 6 fields)) each))
+    value
+
+-- a contract without a field for its option value
+plain_in_range : (word : List ℕ) (fields : Fields) → length fields ≡ 22 → HaveForms (contract_with []) fields
+    → in_range (record_of_kind a_contract (word ∷ fields)) ≡ true
+plain_in_range word fields len h =
+    let none = count_past (word ∷ fields) 23 (omega (arith, len)) in
+    contract_in_range word fields [] (omega (arith, len)) h (le-leb _ _ (omega (arith, none)))
+
+-- and one with it
+valued_in_range : (word : List ℕ) (fields : Fields) → length fields ≡ 23
+    → HaveForms (contract_with (an_option_value (product_at (word ∷ fields) 3) ∷ [])) fields
+    → in_range (record_of_kind a_contract (word ∷ fields)) ≡ true
+valued_in_range word fields len h =
+    let product = product_at (word ∷ fields) 3 in
+    contract_in_range word fields (an_option_value product ∷ []) (omega (arith, len)) h
+    (count_below (most_option_value product) (whole_number (text_at fields 22))
+    (passes_at is_in_range (contract_with (an_option_value product ∷ [])) fields 22 (an_option_value product) h.ranges
+    (omega (arith, len)) refl))
 
 -- ---- legs
 
@@ -229,33 +259,49 @@ inter_in_range word fields k low high len h =
 
 abbrev IsRanged : RecordKind → Type 0
 IsRanged kind =
-    (word : List ℕ) (fields : Fields) (forms : List Form) → forms_of kind (length fields) ≡ Some forms → HaveForms forms fields
+    (profile : ℕ) (word : List ℕ) (fields : Fields) (forms : List Form)
+    → forms_of kind profile (product_at (word ∷ fields) 3) (length fields) ≡ Some forms → HaveForms forms fields
     → in_range (record_of_kind kind (word ∷ fields)) ≡ true
 
-exactly_ranged : (kind : RecordKind) (want : List Form) → ((n : ℕ) → forms_of kind n ≡ exactly want n)
+exactly_ranged : (kind : RecordKind) (want : List Form)
+    → ((profile : ℕ) (product : ProductKind) (n : ℕ) → forms_of kind profile product n ≡ exactly want n)
     → ((word : List ℕ) (fields : Fields) → length fields ≡ length want → HaveForms want fields
     → in_range (record_of_kind kind (word ∷ fields)) ≡ true)
     → IsRanged kind
-exactly_ranged kind want is ranged word fields forms e h =
-    let found = exact want forms (length fields) (sym (is (length fields)) ∙ e) in
+exactly_ranged kind want is ranged profile word fields forms e h =
+    let found = exact want forms (length fields) (sym (is profile (product_at (word ∷ fields) 3) (length fields)) ∙ e) in
     ranged word fields found.0 (subst (λ fs. HaveForms fs fields) (sym found.1) h)
 
+contract_ranged : IsRanged a_contract
+contract_ranged profile word fields forms e h =
+    elim (cases_Bool (profile == VALUE_PROFILE)) [
+      | inl valued ↦
+          let want = contract_with (an_option_value (product_at (word ∷ fields) 3) ∷ []) in
+          let at_value : exactly want (length fields) ≡ Some forms = rw valued at e in
+          let found = exact want forms (length fields) at_value in
+          valued_in_range word fields found.0 (subst (λ fs. HaveForms fs fields) (sym found.1) h)
+      | inr plain ↦
+          let at_front : exactly (contract_with []) (length fields) ≡ Some forms = rw plain at e in
+          let found = exact (contract_with []) forms (length fields) at_front in
+          plain_in_range word fields found.0 (subst (λ fs. HaveForms fs fields) (sym found.1) h)
+    ]
+
 intra_ranged : IsRanged an_intra
-intra_ranged word fields forms e h =
+intra_ranged profile word fields forms e h =
     let legs = with_legs-forms intra_front intra_leg_forms forms (length fields) e in
     intra_in_range word fields legs.count legs.low legs.high legs.fields (subst (λ fs. HaveForms fs fields) (sym legs.same) h)
 
 inter_ranged : IsRanged an_inter
-inter_ranged word fields forms e h =
+inter_ranged profile word fields forms e h =
     let legs = with_legs-forms inter_front inter_leg_forms forms (length fields) e in
     inter_in_range word fields legs.count legs.low legs.high legs.fields (subst (λ fs. HaveForms fs fields) (sym legs.same) h)
 
 -- a record of a kind, whose fields have its forms, is in its ranges
 pub record_in_range : (kind : RecordKind) → IsRanged kind
-record_in_range a_set = exactly_ranged a_set set_forms (λ n. refl) set_in_range
-record_in_range a_commodity = exactly_ranged a_commodity commodity_forms (λ n. refl) commodity_in_range
-record_in_range a_contract = exactly_ranged a_contract (contract_front ++ repeat 16 (an_array_value ∷ [])) (λ n. refl) contract_in_range
-record_in_range a_tier = exactly_ranged a_tier tier_forms (λ n. refl) tier_in_range
+record_in_range a_set = exactly_ranged a_set set_forms (λ profile product n. refl) set_in_range
+record_in_range a_commodity = exactly_ranged a_commodity commodity_forms (λ profile product n. refl) commodity_in_range
+record_in_range a_contract = contract_ranged
+record_in_range a_tier = exactly_ranged a_tier tier_forms (λ profile product n. refl) tier_in_range
 record_in_range an_intra = intra_ranged
-record_in_range a_spot = exactly_ranged a_spot spot_forms (λ n. refl) spot_in_range
+record_in_range a_spot = exactly_ranged a_spot spot_forms (λ profile product n. refl) spot_in_range
 record_in_range an_inter = inter_ranged

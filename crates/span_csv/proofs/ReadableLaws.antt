@@ -16,8 +16,9 @@ use Rattle.span_tables.proofs.FaultLaws.{first_fault_none}
 use Rattle.span_tables.proofs.NameLemmas.{same_name}
 use Rattle.span_csv.specs.Records.{Form, Fields, RecordKind, a_set, a_commodity, a_contract, a_tier, an_intra}
 use Rattle.span_csv.specs.Records.{a_spot, an_inter, records_of, all_have, has_word_form, is_in_range}
-use Rattle.span_csv.specs.Records.{forms_of, kind_of, layout_of, text_at, record_of_kind, param_record}
-use Rattle.span_csv.specs.ParamFaults.{is_set, some_fail, exceeds_limit, count_of_kind, count_of_commodity, param_fault, params_of}
+use Rattle.span_csv.specs.Records.{forms_of, kind_of, layout_of, product_at, text_at, record_of_kind, param_record}
+use Rattle.span_csv.specs.ParamFaults.{is_set, profile_of, some_fail, exceeds_limit, count_of_kind, count_of_commodity, param_fault}
+use Rattle.span_csv.specs.ParamFaults.{params_of}
 use Rattle.span_csv.proofs.RangeLemmas.{record_in_range}
 use Rattle.span_csv.proofs.CountLemmas.{IsClean, fault_of, clean, clean_kind, param_record-kind, has_kind, word_of}
 use Rattle.span_csv.proofs.CountLemmas.{named_word, some_of, word_named, IsPicked, count_picked, never_more}
@@ -25,10 +26,10 @@ use Rattle.span_csv.proofs.CountLemmas.{named_word, some_of, word_named, IsPicke
 -- ---- ranges
 
 -- no field fails a test where some_fail does not hold
-all_pass : (test : Form → List ℕ → Bool) (word : List ℕ) (fields : Fields) (forms : List Form)
-    → layout_of (word ∷ fields) ≡ Some forms
-    → some_fail test (word ∷ fields) ≡ false → all_have test forms fields ≡ true
-all_pass test word fields forms found e =
+all_pass : (test : Form → List ℕ → Bool) (profile : ℕ) (word : List ℕ) (fields : Fields) (forms : List Form)
+    → layout_of profile (word ∷ fields) ≡ Some forms
+    → some_fail test profile (word ∷ fields) ≡ false → all_have test forms fields ≡ true
+all_pass test profile word fields forms found e =
     let h = rw found at e in
     not-false (all_have test forms fields) h
 
@@ -37,13 +38,15 @@ clean_in_range : (earlier : List Fields) (r : Fields) → IsClean earlier r → 
 clean_in_range earlier [] c = let e = c.kind in cc
 clean_in_range earlier (word ∷ fields) c =
     let k = clean_kind earlier (word ∷ fields) c in
-    let forms = some_of (layout_of (word ∷ fields)) c.layout in
+    let profile = profile_of earlier in
+    let forms = some_of (layout_of profile (word ∷ fields)) c.layout in
     let count : length (word ∷ fields) - 1 ≡ length fields = omega arith in
-    let layout : layout_of (word ∷ fields) ≡ forms_of k.0 (length fields) = rw (k.1, count) refl in
+    let layout : layout_of profile (word ∷ fields) ≡ forms_of k.0 profile (product_at (word ∷ fields) 3) (length fields) =
+    rw (k.1, count) refl in
     rw (param_record-kind (word ∷ fields) k.0 k.1)
-    (record_in_range k.0 word fields forms.0 (sym layout ∙ forms.1) (record {
-      words = all_pass has_word_form word fields forms.0 forms.1 c.words;
-      ranges = all_pass is_in_range word fields forms.0 forms.1 c.ranges;
+    (record_in_range k.0 profile word fields forms.0 (sym layout ∙ forms.1) (record {
+      words = all_pass has_word_form profile word fields forms.0 forms.1 c.words;
+      ranges = all_pass is_in_range profile word fields forms.0 forms.1 c.ranges;
     }))
 
 all_in_range : (before rows : List Fields) → IsFaultFree fault_of before rows → list_all in_range (map param_record rows) ≡ true
@@ -212,7 +215,7 @@ unfolding param_fault
 rows_readable [] e = cc
 rows_readable (r ∷ rows) e = free_readable r rows (first_fault_none fault_of [] (r ∷ rows) e)
 
-ok_parts : {A F : Type 0} (o : Option F) (x y : A) → ok_unless o x ≡ Ok y → (o ≡ None) × (x ≡ y)
+pub ok_parts : {A F : Type 0} (o : Option F) (x y : A) → ok_unless o x ≡ Ok y → (o ≡ None) × (x ≡ y)
 ok_parts None x y e = (refl, cc)
 ok_parts (Some f) x y e = cc
 

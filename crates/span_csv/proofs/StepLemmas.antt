@@ -1,10 +1,10 @@
 -- What one record adds to the records before it.
 use Rattle.std.proofs.Common.{◌≡◌, ◌+◌, ◌∙◌, sym, ap, refl, ℕ, Bool, true}
 use Rattle.std.proofs.Common.{false, List, [], ◌∷◌, ◌++◌, length, Option, Some, None}
-use Rattle.std.specs.Prelude.{⊤, ◌==◌, option_map, unwrap_or, MatchBool}
+use Rattle.std.specs.Prelude.{⊤, ◌==◌, ◌&&◌, not, is_none, if◌then◌else◌, option_map, unwrap_or, MatchBool}
 use Rattle.span_tables.specs.Faults.{first_that_holds}
 use Rattle.span_csv.specs.near.Checks.{IsFree, IsFaultOf, kind_faults, field_faults}
-use Rattle.span_csv.specs.ParamFaults.{exceeds_limit, param_faults, is_memory}
+use Rattle.span_csv.specs.ParamFaults.{exceeds_limit, is_set, param_faults, is_memory, profile_of}
 use Rattle.span_csv.specs.Records.{Fields, RecordKind, a_set, kind_of, record_of_kind, param_record}
 use Rattle.span_csv.specs.declared.faults.ParamFault.{ParamFault}
 use Rattle.span_csv.specs.declared.faults.ParamFault.TheVariants as fault
@@ -21,35 +21,55 @@ told : (xs ys : List (Bool × (ℕ → ParamFault))) (at : ℕ) (answer : ParamF
 told xs ys at answer None is e = cc
 told xs ys at answer (Some f) is e = ap (option_map (λ g. g at)) (first_front xs ys f is) ∙ e
 
+-- the faults of a record behind n others under a profile, which the limits have no part in
+abbrev pub faults_alone : ℕ → ℕ → Fields → List (Bool × (ℕ → ParamFault))
+faults_alone n profile r = kind_faults (n == 0) r ++ field_faults profile r
+
 -- a fault of the record alone
-pub next_fault : (rs : List Fields) (r : Fields) (n : ℕ) (answer : ParamFault) → length rs ≡ n
-    → IsFaultOf (kind_faults (n == 0) r ++ field_faults r) (n + 1) answer
+pub next_fault : (rs : List Fields) (r : Fields) (n profile : ℕ) (answer : ParamFault) → length rs ≡ n → profile ≡ profile_of rs
+    → IsFaultOf (faults_alone n profile r) (n + 1) answer
     → MatchBool (is_memory answer) ⊤ (IsFaultOf (param_faults rs r) (length rs + 1) answer)
-next_fault rs r n answer len e =
-    let here : IsFaultOf (kind_faults (length rs == 0) r ++ field_faults r) (length rs + 1) answer = rw len e in
-    unless_memory (is_memory answer) _ (told (kind_faults (length rs == 0) r ++ field_faults r)
+next_fault rs r n profile answer len under e =
+    let here : IsFaultOf (faults_alone (length rs) (profile_of rs) r) (length rs + 1) answer = rw (len, ← under) e in
+    unless_memory (is_memory answer) _ (told (faults_alone (length rs) (profile_of rs) r)
     ((exceeds_limit rs r (kind_of r), fault.TooMany) ∷ []) (length rs + 1) answer _ refl here)
 
-last_of : (rs : List Fields) (r : Fields) (n : ℕ) → length rs ≡ n → IsFree (kind_faults (n == 0) r ++ field_faults r)
+last_of : (rs : List Fields) (r : Fields) (n profile : ℕ) → length rs ≡ n → profile ≡ profile_of rs
+    → IsFree (faults_alone n profile r)
     → first_that_holds (param_faults rs r) ≡ first_that_holds ((exceeds_limit rs r (kind_of r), fault.TooMany) ∷ [])
-last_of rs r n len free =
-    let here : IsFree (kind_faults (length rs == 0) r ++ field_faults r) = rw len free in
-    first_append (kind_faults (length rs == 0) r ++ field_faults r) ((exceeds_limit rs r (kind_of r), fault.TooMany) ∷ []) here
+last_of rs r n profile len under free =
+    let here : IsFree (faults_alone (length rs) (profile_of rs) r) = rw (len, ← under) free in
+    first_append (faults_alone (length rs) (profile_of rs) r) ((exceeds_limit rs r (kind_of r), fault.TooMany) ∷ []) here
 
 -- one record too many
-pub next_too_many : (rs : List Fields) (r : Fields) (n : ℕ) → length rs ≡ n → IsFree (kind_faults (n == 0) r ++ field_faults r)
+pub next_too_many : (rs : List Fields) (r : Fields) (n profile : ℕ) → length rs ≡ n → profile ≡ profile_of rs
+    → IsFree (faults_alone n profile r)
     → exceeds_limit rs r (kind_of r) ≡ true
     → IsFaultOf (param_faults rs r) (length rs + 1) (fault.TooMany (n + 1))
-next_too_many rs r n len free exceeds =
-    let last : first_that_holds (param_faults rs r) ≡ Some fault.TooMany = last_of rs r n len free
+next_too_many rs r n profile len under free exceeds =
+    let last : first_that_holds (param_faults rs r) ≡ Some fault.TooMany = last_of rs r n profile len under free
     ∙ ap (λ b. first_that_holds ((b, fault.TooMany) ∷ [])) exceeds in
     ap (option_map (λ f. f (length rs + 1))) last ∙ ap (λ k. Some (fault.TooMany (k + 1))) len
 
 -- no fault
-pub next_free : (rs : List Fields) (r : Fields) (n : ℕ) → length rs ≡ n → IsFree (kind_faults (n == 0) r ++ field_faults r)
+pub next_free : (rs : List Fields) (r : Fields) (n profile : ℕ) → length rs ≡ n → profile ≡ profile_of rs
+    → IsFree (faults_alone n profile r)
     → exceeds_limit rs r (kind_of r) ≡ false
     → first_that_holds (param_faults rs r) ≡ None
-next_free rs r n len free within = last_of rs r n len free ∙ ap (λ b. first_that_holds ((b, fault.TooMany) ∷ [])) within
+next_free rs r n profile len under free within =
+    last_of rs r n profile len under free ∙ ap (λ b. first_that_holds ((b, fault.TooMany) ∷ [])) within
+
+first_alone : {F : Type 0} (first set : Bool) (no_set second_set : F) (rest : Option F)
+    → (if first && not set then Some no_set else if not first && set then Some second_set else rest) ≡ None → set ≡ first
+first_alone true true f g rest e = refl
+first_alone true false f g rest e = cc
+first_alone false true f g rest e = cc
+first_alone false false f g rest e = refl
+
+-- the first record is a SET, and no other is
+pub set_first : (n profile : ℕ) (r : Fields) → IsFree (faults_alone n profile r) → is_set r ≡ (n == 0)
+set_first n profile r free = first_alone (n == 0) (is_set r) fault.NoSet fault.SecondSet
+    (first_that_holds ((is_none (kind_of r), fault.UnknownKind) ∷ field_faults profile r)) free
 
 -- what a record of a kind says
 pub record_of : (r : Fields) (kind : RecordKind) → kind_of r ≡ Some kind → record_of_kind kind r ≡ param_record r

@@ -1,16 +1,18 @@
 -- The counts of the records that were read.
-use Rattle.std.proofs.Common.{◌≡◌, ◌≤◌, ◌+◌, ◌∙◌, sym, ap, subst, refl, arith, ℕ, Bool}
-use Rattle.std.proofs.Common.{true, false, if◌then◌else◌, List, [], ◌∷◌, ◌++◌, length, Some, None}
+use Rattle.std.proofs.Common.{◌≡◌, ◌≤◌, ◌+◌, ◌∙◌, sym, ap, subst, arith, ℕ, Bool}
+use Rattle.std.proofs.Common.{true, false, if◌then◌else◌, List, [], ◌∷◌, ◌++◌, length, Some}
 use Rattle.std.specs.Prelude.{◌==◌, ◌&&◌, codes, bytes_eq}
 use Rattle.std.specs.List.{count_by}
 use Rattle.std.proofs.lemmas.List.Sums.{sum_by_push, count_by-le-length}
+use Rattle.std.proofs.lemmas.Bool.{ne_eqb}
 use Rattle.std.proofs.lemmas.Bool.Decides.{nat_tests}
 use Rattle.span_tables.specs.declared.limits.TheConstants.{MAX_COMMODITIES, MAX_CONTRACTS, MAX_TIERS}
 use Rattle.span_tables.specs.declared.limits.TheConstants.{MAX_INTRA_SPREADS, MAX_SPOT_MONTHS, MAX_INTER_SPREADS}
 use Rattle.span_tables.proofs.NameLemmas.{same_name}
 use Rattle.span_csv.specs.near.Checks.{Adds, Tallies, count_for, count_in, count_word, count_words, limit_of}
-use Rattle.span_csv.specs.ParamFaults.{exceeds_limit}
-use Rattle.span_csv.specs.Records.{Fields, RecordKind, a_set, a_commodity, a_contract, a_tier, an_intra, a_spot, an_inter, kind_of, text_at}
+use Rattle.span_csv.specs.ParamFaults.{exceeds_limit, is_set, profile_of}
+use Rattle.span_csv.specs.Records.{Fields, RecordKind, a_set, a_commodity, a_contract, a_tier, an_intra, a_spot, an_inter}
+use Rattle.span_csv.specs.Records.{count_at, kind_of, text_at}
 use Rattle.span_csv.specs.declared.tally.Tally.{Tally}
 use Rattle.span_csv.proofs.CountLemmas.{named_word, word_of}
 
@@ -41,19 +43,35 @@ words_more a b word cc rs r first is counts before =
     (ap (λ t. bytes_eq t word && bytes_eq (text_at r 1) cc) is) in
     counts ∙ ap (λ n. n + (if bytes_eq first word && bytes_eq (text_at r 1) cc then 1 else 0)) before ∙ sym step
 
--- each count grows by the record where that is of its kind and commodity
-record Grows (t u : Tally) (first cc : List ℕ) : Type 0 where
+-- each count grows by the record where that is of its kind and commodity, and a SET's profile is kept
+record Grows (t u : Tally) (first : List ℕ) (r : Fields) : Type 0 where
+  profile : u.profile ≡ (if bytes_eq first (codes "SET") then count_at r 2 else t.profile)
   commodities : u.commodities ≡ t.commodities + (if bytes_eq first (codes "COMMODITY") then 1 else 0)
   contracts : u.contracts ≡ t.contracts + (if bytes_eq first (codes "CONTRACT") then 1 else 0)
-  tiers : (q : List ℕ) → count_in u.tiers q ≡ count_in t.tiers q + (if bytes_eq first (codes "TIER") && bytes_eq cc q then 1 else 0)
+  tiers : (q : List ℕ) → count_in u.tiers q ≡ count_in t.tiers q
+      + (if bytes_eq first (codes "TIER") && bytes_eq (text_at r 1) q then 1 else 0)
   intras : (q : List ℕ) → count_in u.intras q ≡ count_in t.intras q
-      + (if bytes_eq first (codes "INTRA") && bytes_eq cc q then 1 else 0)
-  spots : (q : List ℕ) → count_in u.spots q ≡ count_in t.spots q + (if bytes_eq first (codes "SPOT") && bytes_eq cc q then 1 else 0)
+      + (if bytes_eq first (codes "INTRA") && bytes_eq (text_at r 1) q then 1 else 0)
+  spots : (q : List ℕ) → count_in u.spots q ≡ count_in t.spots q
+      + (if bytes_eq first (codes "SPOT") && bytes_eq (text_at r 1) q then 1 else 0)
   inters : u.inters ≡ t.inters + (if bytes_eq first (codes "INTER") then 1 else 0)
 
-grown : (t u : Tally) (rs : List Fields) (r : Fields) (first : List ℕ) → text_at r 0 ≡ first → Tallies t rs
-    → Grows t u first (text_at r 1) → Tallies u (rs ++ r ∷ [])
-grown t u rs r first is tallies g = record {
+-- the profile is that of the first record, which alone is a SET
+profile_more : (p q : ℕ) (rs : List Fields) (r : Fields) (set : Bool) → set ≡ (length rs == 0)
+    → q ≡ (if set then count_at r 2 else p) → p ≡ profile_of rs → q ≡ profile_of (rs ++ r ∷ [])
+profile_more p q [] r set first kept before = rw first at kept
+profile_more p q (x ∷ rs) r set first kept before =
+    let later : (length (x ∷ rs) == 0) ≡ false = ne_eqb (length (x ∷ rs)) 0 (λ e. absurd (omega (arith, e))) in
+    let other : set ≡ false = first ∙ later in
+    let same : q ≡ p = rw other at kept in
+    same ∙ before
+
+grown : (t u : Tally) (rs : List Fields) (r : Fields) (first : List ℕ) → text_at r 0 ≡ first → is_set r ≡ (length rs == 0)
+    → Tallies t rs → Grows t u first r → Tallies u (rs ++ r ∷ [])
+grown t u rs r first is set tallies g = record {
+  profile =
+      profile_more t.profile u.profile rs r (bytes_eq first (codes "SET")) (ap (λ w. bytes_eq w (codes "SET")) (sym is) ∙ set) g.profile
+      tallies.profile;
   commodities = word_more _ _ (codes "COMMODITY") rs r first is g.commodities tallies.commodities;
   contracts = word_more _ _ (codes "CONTRACT") rs r first is g.contracts tallies.contracts;
   tiers = λ cc. words_more _ _ (codes "TIER") cc rs r first is (g.tiers cc) (tallies.tiers cc);
@@ -65,8 +83,9 @@ grown t u rs r first is tallies g = record {
 same : (a b : ℕ) → a ≡ b → a ≡ b + 0
 same a b e = omega arith
 
-grows : (t u : Tally) (kind : RecordKind) (cc : List ℕ) → Adds kind cc t u → Grows t u (word_of kind) cc
-grows t u a_set cc adds = record {
+grows : (t u : Tally) (kind : RecordKind) (r : Fields) → Adds kind r t u → Grows t u (word_of kind) r
+grows t u a_set r adds = record {
+  profile = ap (λ x. x.profile) adds;
   commodities = same _ _ (ap (λ x. x.commodities) adds);
   contracts = same _ _ (ap (λ x. x.contracts) adds);
   tiers = λ q. same _ _ (ap (λ x. count_in x.tiers q) adds);
@@ -74,7 +93,8 @@ grows t u a_set cc adds = record {
   spots = λ q. same _ _ (ap (λ x. count_in x.spots q) adds);
   inters = same _ _ (ap (λ x. x.inters) adds);
 }
-grows t u a_commodity cc adds = record {
+grows t u a_commodity r adds = record {
+  profile = ap (λ x. x.profile) adds;
   commodities = ap (λ x. x.commodities) adds;
   contracts = same _ _ (ap (λ x. x.contracts) adds);
   tiers = λ q. same _ _ (ap (λ x. count_in x.tiers q) adds);
@@ -82,7 +102,8 @@ grows t u a_commodity cc adds = record {
   spots = λ q. same _ _ (ap (λ x. count_in x.spots q) adds);
   inters = same _ _ (ap (λ x. x.inters) adds);
 }
-grows t u a_contract cc adds = record {
+grows t u a_contract r adds = record {
+  profile = ap (λ x. x.profile) adds;
   commodities = same _ _ (ap (λ x. x.commodities) adds);
   contracts = ap (λ x. x.contracts) adds;
   tiers = λ q. same _ _ (ap (λ x. count_in x.tiers q) adds);
@@ -90,7 +111,8 @@ grows t u a_contract cc adds = record {
   spots = λ q. same _ _ (ap (λ x. count_in x.spots q) adds);
   inters = same _ _ (ap (λ x. x.inters) adds);
 }
-grows t u a_tier cc adds = record {
+grows t u a_tier r adds = record {
+  profile = ap (λ x. x.profile) adds.1;
   commodities = same _ _ (ap (λ x. x.commodities) adds.1);
   contracts = same _ _ (ap (λ x. x.contracts) adds.1);
   tiers = adds.0;
@@ -98,7 +120,8 @@ grows t u a_tier cc adds = record {
   spots = λ q. same _ _ (ap (λ x. count_in x.spots q) adds.1);
   inters = same _ _ (ap (λ x. x.inters) adds.1);
 }
-grows t u an_intra cc adds = record {
+grows t u an_intra r adds = record {
+  profile = ap (λ x. x.profile) adds.1;
   commodities = same _ _ (ap (λ x. x.commodities) adds.1);
   contracts = same _ _ (ap (λ x. x.contracts) adds.1);
   tiers = λ q. same _ _ (ap (λ x. count_in x.tiers q) adds.1);
@@ -106,7 +129,8 @@ grows t u an_intra cc adds = record {
   spots = λ q. same _ _ (ap (λ x. count_in x.spots q) adds.1);
   inters = same _ _ (ap (λ x. x.inters) adds.1);
 }
-grows t u a_spot cc adds = record {
+grows t u a_spot r adds = record {
+  profile = ap (λ x. x.profile) adds.1;
   commodities = same _ _ (ap (λ x. x.commodities) adds.1);
   contracts = same _ _ (ap (λ x. x.contracts) adds.1);
   tiers = λ q. same _ _ (ap (λ x. count_in x.tiers q) adds.1);
@@ -114,7 +138,8 @@ grows t u a_spot cc adds = record {
   spots = adds.0;
   inters = same _ _ (ap (λ x. x.inters) adds.1);
 }
-grows t u an_inter cc adds = record {
+grows t u an_inter r adds = record {
+  profile = ap (λ x. x.profile) adds;
   commodities = same _ _ (ap (λ x. x.commodities) adds);
   contracts = same _ _ (ap (λ x. x.contracts) adds);
   tiers = λ q. same _ _ (ap (λ x. count_in x.tiers q) adds);
@@ -124,9 +149,10 @@ grows t u an_inter cc adds = record {
 }
 
 -- a record that is added is counted
-pub tally_more : (t u : Tally) (kind : RecordKind) (rs : List Fields) (r : Fields) → kind_of r ≡ Some kind → Tallies t rs
-    → Adds kind (text_at r 1) t u → Tallies u (rs ++ r ∷ [])
-tally_more t u kind rs r is tallies adds = grown t u rs r (word_of kind) (kind_word r kind is) tallies (grows t u kind (text_at r 1) adds)
+pub tally_more : (t u : Tally) (kind : RecordKind) (rs : List Fields) (r : Fields) (n : ℕ) → kind_of r ≡ Some kind → length rs ≡ n
+    → is_set r ≡ (n == 0) → Tallies t rs → Adds kind r t u → Tallies u (rs ++ r ∷ [])
+tally_more t u kind rs r n is len set tallies adds =
+    grown t u rs r (word_of kind) (kind_word r kind is) (set ∙ ap (λ k. k == 0) (sym len)) tallies (grows t u kind r adds)
 
 -- ---- the limit
 

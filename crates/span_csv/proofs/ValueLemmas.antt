@@ -1,7 +1,7 @@
 -- The sixteen values of a risk array, one after another.
-use Rattle.std.proofs.Common.{◌≡◌, ◌≢◌, ◌<◌, ◌+◌, ◌∙◌, sym, ap, arith, ℕ, List, [], length}
-use Rattle.std.proofs.Common.{length-drop, get_or, drop, map, ℤ, pos, get_or-set_other, get_or-set_same, below_more}
-use Rattle.std.proofs.lemmas.List.{ext_get_or, get_or-map, get_or-drop}
+use Rattle.std.proofs.Common.{◌≡◌, ◌≢◌, ◌<◌, ◌≤◌, ◌+◌, ◌∙◌, sym, ap, arith, ℕ, List, [], length}
+use Rattle.std.proofs.Common.{length-drop, get_or, take, drop, map, ℤ, pos, get_or-set_other, get_or-set_same, below_more}
+use Rattle.std.proofs.lemmas.List.{ext_get_or, get_or-map, get_or-drop, get_or-take, length-take-le}
 use Rattle.std.proofs.Math.ListN.{set, length-map}
 use Rattle.std.specs.Prelude.{unwrap_or}
 use Rattle.span_money.specs.Numbers.{whole_number}
@@ -17,15 +17,16 @@ values_more values i v fields inside is before =
     (get_or-set_same values i v (pos 0) inside ∙ is)
 
 -- all of them
-pub values_all : (values : List ℤ) (fields : Fields) → length values ≡ 16 → length fields ≡ 23
+pub values_all : (values : List ℤ) (fields : Fields) → length values ≡ 16 → 23 ≤ length fields
     → ((k : ℕ) → k < 16 → get_or values k (pos 0) ≡ whole_at fields (7 + k))
-    → values ≡ map (λ text. unwrap_or (whole_number text) (pos 0)) (drop 7 fields)
+    → values ≡ map (λ text. unwrap_or (whole_number text) (pos 0)) (take 16 (drop 7 fields))
 values_all values fields sixteen all each =
-    let left : length (drop 7 fields) ≡ 16 = omega (arith, length-drop 7 fields) in
-    ext_get_or (pos 0) values (map (λ text. unwrap_or (whole_number text) (pos 0)) (drop 7 fields))
+    let behind : 16 ≤ length (drop 7 fields) = omega (arith, length-drop 7 fields) in
+    let left : length (take 16 (drop 7 fields)) ≡ 16 = length-take-le 16 (drop 7 fields) behind in
+    ext_get_or (pos 0) values (map (λ text. unwrap_or (whole_number text) (pos 0)) (take 16 (drop 7 fields)))
     (simp length-map (omega arith))
     (λ i inside.
     let few : i < 16 = omega arith in
-    let there : i < length (drop 7 fields) = omega arith in
-    each i few ∙ sym (get_or-map (λ text. unwrap_or (whole_number text) (pos 0)) (drop 7 fields) i [] (pos 0) there
-    ∙ ap (λ text. unwrap_or (whole_number text) (pos 0)) (get_or-drop 7 fields i [])))
+    let there : i < length (take 16 (drop 7 fields)) = omega arith in
+    each i few ∙ sym (get_or-map (λ text. unwrap_or (whole_number text) (pos 0)) (take 16 (drop 7 fields)) i [] (pos 0) there
+    ∙ ap (λ text. unwrap_or (whole_number text) (pos 0)) (get_or-take 16 (drop 7 fields) i [] few ∙ get_or-drop 7 fields i [])))

@@ -5,7 +5,7 @@ use Rattle.std.specs.Option.{option_map_or}
 use Rattle.span_tables.specs.Faults.{first_that_holds, first_fault, ok_unless}
 use Rattle.span_csv.specs.Records.{Fields, records_of, Form, RecordKind, a_set, a_commodity, a_contract}
 use Rattle.span_csv.specs.Records.{a_tier, an_intra, a_spot, an_inter, kind_of, layout_of, text_at, is_word}
-use Rattle.span_csv.specs.Records.{all_have, has_word_form, has_number_form, is_in_range, param_record}
+use Rattle.span_csv.specs.Records.{all_have, has_word_form, has_number_form, is_in_range, count_at, param_record}
 use Rattle.span_tables.specs.declared.records.Record.{Record}
 use Rattle.span_csv.specs.declared.faults.ParamFault.{ParamFault}
 use Rattle.span_csv.specs.declared.faults.ParamFault.TheVariants as fault
@@ -16,9 +16,15 @@ use Rattle.span_tables.specs.declared.limits.TheConstants.{MAX_INTRA_SPREADS, MA
 abbrev pub is_set : Fields → Bool
 is_set r = is_word (codes "SET") (text_at r 0)
 
--- some field behind the first fails the test of its form
-abbrev pub some_fail : (Form → List ℕ → Bool) → Fields → Bool
-some_fail test r = option_map_or (λ forms. not (all_have test forms (drop 1 r))) (layout_of r) false
+-- the profile of a file that begins with these records: the version of the first, which is its SET; in front of that there is
+-- none, and the forms of a SET go by none
+abbrev pub profile_of : List Fields → ℕ
+profile_of [] = 0
+profile_of (first ∷ rest) = count_at first 2
+
+-- some field behind the first fails the test of its form under a profile
+abbrev pub some_fail : (Form → List ℕ → Bool) → ℕ → Fields → Bool
+some_fail test profile r = option_map_or (λ forms. not (all_have test forms (drop 1 r))) (layout_of profile r) false
 
 -- how many records of the same first field there are
 abbrev pub count_of_kind : List Fields → Fields → ℕ
@@ -45,10 +51,10 @@ param_faults earlier r =
     ((length earlier == 0) && not (is_set r), fault.NoSet)
     ∷ (not (length earlier == 0) && is_set r, fault.SecondSet)
     ∷ (is_none (kind_of r), fault.UnknownKind)
-    ∷ (is_none (layout_of r), fault.FieldCount)
-    ∷ (some_fail has_word_form r, fault.BadName)
-    ∷ (some_fail has_number_form r, fault.BadNumber)
-    ∷ (some_fail is_in_range r, fault.OutOfRange)
+    ∷ (is_none (layout_of (profile_of earlier) r), fault.FieldCount)
+    ∷ (some_fail has_word_form (profile_of earlier) r, fault.BadName)
+    ∷ (some_fail has_number_form (profile_of earlier) r, fault.BadNumber)
+    ∷ (some_fail is_in_range (profile_of earlier) r, fault.OutOfRange)
     ∷ (exceeds_limit earlier r (kind_of r), fault.TooMany)
     ∷ []
 

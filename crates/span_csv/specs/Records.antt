@@ -1,12 +1,13 @@
 -- The record grammar of both files: the records of a file's bytes, the forms of their fields, and what they say.
 use Rattle.std.specs.Prelude.{ℕ, ◌+◌, ◌-◌, ◌*◌, Bool, true, false, ◌&&◌, ◌||◌, ◌==◌}
-use Rattle.std.specs.Prelude.{if◌then◌else◌, List, [], ◌∷◌, ◌++◌, length, drop, map, zip, Option, Some, None}
+use Rattle.std.specs.Prelude.{if◌then◌else◌, List, [], ◌∷◌, ◌++◌, length, take, drop, map, zip, Option, Some, None}
 use Rattle.std.specs.Prelude.{is_some, unwrap_or, option_and_then, slice_index_or, codes, bytes_eq, ℤ, pos, neg_ℤ, int_le}
 use Rattle.std.specs.Char.{is_ascii_uppercase}
 use Rattle.std.specs.List.{list_all, repeat}
 use Rattle.std.specs.Option.{option_map_or}
 use Rattle.csv.specs.Reading.{default_config, records, strip_bom}
 use Rattle.span_tables.specs.Names.{is_name}
+use Rattle.span_tables.specs.Limits.{most_option_value}
 use Rattle.span_money.specs.Numbers.{is_month, positive_part, whole_number, decimal_number, month_number}
 use Rattle.span_tables.specs.declared.records.ProductKind.{ProductKind}
 use Rattle.span_tables.specs.declared.records.ProductKind.TheVariants as product
@@ -28,6 +29,7 @@ use Rattle.span_tables.specs.declared.records.Record.TheVariants as record_of
 use Rattle.span_tables.specs.declared.records.PositionRecord.{PositionRecord}
 use Rattle.span_tables.specs.declared.limits.TheConstants.{MAX_RATE, MAX_ARRAY_VALUE, MAX_DELTA, MAX_SCALE, MAX_RATIO}
 use Rattle.span_tables.specs.declared.limits.TheConstants.{MAX_TIER_NUMBER, MAX_PRIORITY, MAX_BASIS_POINTS, MAX_QUANTITY, SCENARIOS}
+use Rattle.span_tables.specs.declared.limits.TheConstants.{MAX_PROFILE, VALUE_PROFILE}
 
 -- the fields of a record, and of a field its bytes
 abbrev pub Fields : Type 0
@@ -132,14 +134,15 @@ with_legs front leg fields =
     else if fields == length front + 4 * length leg then Some (front ++ repeat 4 leg)
     else None
 
--- the forms of each kind's fields behind the first
+-- the forms of each kind's fields behind the first; a SET's version is the file's profile
 abbrev pub set_forms : List Form
-set_forms = a_name ∷ a_whole (pos 1) (pos 1) ∷ a_currency ∷ []
+set_forms = a_name ∷ a_whole (pos 1) (pos MAX_PROFILE) ∷ a_currency ∷ []
 
 abbrev pub commodity_forms : List Form
 commodity_forms = a_name ∷ a_rate ∷ a_method ∷ []
 
--- of a CONTRACT those in front of its risk array, and that of a value
+-- of a CONTRACT those in front of its risk array, that of a value of the array, and that of its option value, which is 0 for a
+-- future
 abbrev pub contract_front : List Form
 contract_front =
     a_name ∷ a_name ∷ a_product ∷ a_month ∷ a_decimal (neg_ℤ (pos MAX_DELTA)) (pos MAX_DELTA)
@@ -147,6 +150,15 @@ contract_front =
 
 abbrev pub an_array_value : Form
 an_array_value = a_whole (neg_ℤ (pos MAX_ARRAY_VALUE)) (pos MAX_ARRAY_VALUE)
+
+abbrev pub an_option_value : ProductKind → Form
+an_option_value product = a_whole (pos 0) (pos (most_option_value product))
+
+-- of a CONTRACT all: an option value stands last, under the profile in which options have one
+abbrev pub contract_forms : ℕ → ProductKind → List Form
+contract_forms profile product =
+    contract_front ++ repeat SCENARIOS (an_array_value ∷ [])
+    ++ (if profile == VALUE_PROFILE then an_option_value product ∷ [] else [])
 
 abbrev pub tier_forms : List Form
 tier_forms = a_name ∷ a_whole (pos 1) (pos MAX_TIER_NUMBER) ∷ a_month ∷ a_month ∷ []
@@ -167,15 +179,16 @@ inter_front = a_whole (pos 1) (pos MAX_PRIORITY) ∷ a_whole (pos 0) (pos MAX_BA
 abbrev pub inter_leg_forms : List Form
 inter_leg_forms = a_name ∷ a_side ∷ a_decimal (pos 1) (pos MAX_RATIO) ∷ []
 
--- the forms of a kind's fields behind the first, if it may have so many of them
-abbrev pub forms_of : RecordKind → ℕ → Option (List Form)
-forms_of a_set = exactly set_forms
-forms_of a_commodity = exactly commodity_forms
-forms_of a_contract = exactly (contract_front ++ repeat SCENARIOS (an_array_value ∷ []))
-forms_of a_tier = exactly tier_forms
-forms_of an_intra = with_legs intra_front intra_leg_forms
-forms_of a_spot = exactly spot_forms
-forms_of an_inter = with_legs inter_front inter_leg_forms
+-- the forms of a kind's fields behind the first, if it may have so many of them; those of a CONTRACT go by the file's profile and
+-- by the kind of contract
+abbrev pub forms_of : RecordKind → ℕ → ProductKind → ℕ → Option (List Form)
+forms_of a_set profile product = exactly set_forms
+forms_of a_commodity profile product = exactly commodity_forms
+forms_of a_contract profile product = exactly (contract_forms profile product)
+forms_of a_tier profile product = exactly tier_forms
+forms_of an_intra profile product = with_legs intra_front intra_leg_forms
+forms_of a_spot profile product = exactly spot_forms
+forms_of an_inter profile product = with_legs inter_front inter_leg_forms
 
 -- the forms of a position record's fields
 abbrev pub position_forms : List Form
@@ -189,9 +202,17 @@ text_at fields i = slice_index_or fields i []
 abbrev pub kind_of : Fields → Option RecordKind
 kind_of fields = kind_named (text_at fields 0)
 
--- the forms of a record's fields behind the first, if its kind may have so many
-abbrev pub layout_of : Fields → Option (List Form)
-layout_of fields = option_and_then (λ kind. forms_of kind (length fields - 1)) (kind_of fields)
+-- the kind of contract that a field names
+abbrev pub product_at : Fields → ℕ → ProductKind
+product_at fields i =
+    if is_word (codes "F") (text_at fields i) then product.Future
+    else if is_word (codes "C") (text_at fields i) then product.Call
+    else product.Put
+
+-- the forms of a record's fields behind the first under a profile, if its kind may have so many
+abbrev pub layout_of : ℕ → Fields → Option (List Form)
+layout_of profile fields =
+    option_and_then (λ kind. forms_of kind profile (product_at fields 3) (length fields - 1)) (kind_of fields)
 
 -- each field passes the test of its form
 abbrev pub all_have : (Form → List ℕ → Bool) → List Form → Fields → Bool
@@ -215,13 +236,6 @@ count_at fields i = positive_part (whole_at fields i)
 abbrev pub ratio_at : Fields → ℕ → ℕ
 ratio_at fields i = positive_part (decimal_at fields i)
 
--- the kind of contract that a field names
-abbrev pub product_at : Fields → ℕ → ProductKind
-product_at fields i =
-    if is_word (codes "F") (text_at fields i) then product.Future
-    else if is_word (codes "C") (text_at fields i) then product.Call
-    else product.Put
-
 -- the method that a field names
 abbrev pub method_at : Fields → ℕ → MinimumMethod
 method_at fields i = if is_word (codes "SUM") (text_at fields i) then method.Sum else method.Max
@@ -232,13 +246,13 @@ side_at fields i = if is_word (codes "A") (text_at fields i) then side.A else si
 
 -- a SET
 abbrev pub set_record : Fields → SetRecord
-set_record r = record { id = text_at r 1; currency = text_at r 3 }
+set_record r = record { id = text_at r 1; profile = count_at r 2; currency = text_at r 3 }
 
 -- a COMMODITY
 abbrev pub commodity_record : Fields → Commodity
 commodity_record r = record { id = text_at r 1; minimum_rate = count_at r 2; method = method_at r 3 }
 
--- a CONTRACT
+-- a CONTRACT; one without a field for its option value has 0
 abbrev pub contract_record : Fields → Contract
 contract_record r = record {
   id = text_at r 1;
@@ -247,7 +261,8 @@ contract_record r = record {
   month = count_at r 4;
   delta = decimal_at r 5;
   scale = ratio_at r 6;
-  values = map (λ text. unwrap_or (whole_number text) (pos 0)) (drop 7 r);
+  values = map (λ text. unwrap_or (whole_number text) (pos 0)) (take SCENARIOS (drop 7 r));
+  option_value = count_at r 23;
 }
 
 -- a TIER

@@ -35,14 +35,14 @@ fn check_kind(first: bool, at: usize, row: &ByteRecord) -> Result<Kind, ParamFau
     }
 }
 
-// The number of fields of a record, and their forms and ranges.
-fn check_fields(at: usize, kind: Kind, row: &ByteRecord) -> Result<(), ParamFault>
+// The number of fields of a record under a profile, and their forms and ranges.
+fn check_fields(at: usize, profile: u8, kind: Kind, row: &ByteRecord) -> Result<(), ParamFault>
     requires { kind_of (fields_of row.now) ≡ Some (record_kind kind) }
     ensures { MatchResult result
-        (λ _. HasForms (record_kind kind) (fields_of row.now) × IsFree (field_faults (fields_of row.now)))
-        (λ e. IsFaultOf (field_faults (fields_of row.now)) at e) }
+        (λ _. HasForms (record_kind kind) (fields_of row.now) × IsFree (field_faults profile (fields_of row.now)))
+        (λ e. IsFaultOf (field_faults profile (fields_of row.now)) at e) }
 {
-    let Some(forms) = kind.forms(row.len() - 1) else {
+    let Some(forms) = kind.forms(profile, row) else {
         return Err(ParamFault::FieldCount { at });
     };
     if !all_have(FieldTest::Word, forms, row) {
@@ -59,16 +59,21 @@ fn check_fields(at: usize, kind: Kind, row: &ByteRecord) -> Result<(), ParamFaul
     }
 }
 
-/// The kind of a record whose fields have their forms, or its lowest-numbered fault, as far as the earlier records
-/// do not matter.
-pub(crate) fn check_form(first: bool, at: usize, row: &ByteRecord) -> Result<Kind, ParamFault>
+/// The kind of a record whose fields have their forms under a profile, or its lowest-numbered fault, as far as nothing
+/// else of the earlier records matters.
+pub(crate) fn check_form(
+    first: bool,
+    at: usize,
+    profile: u8,
+    row: &ByteRecord,
+) -> Result<Kind, ParamFault>
     ensures kind { MatchResult result
         (λ kind. (kind_of (fields_of row.now) ≡ Some (record_kind kind)) × HasForms (record_kind kind) (fields_of row.now))
-        (λ e. IsFaultOf (kind_faults first (fields_of row.now) ++ field_faults (fields_of row.now)) at e) }
-    ensures free { OnOk result (IsFree (kind_faults first (fields_of row.now) ++ field_faults (fields_of row.now))) }
+        (λ e. IsFaultOf (kind_faults first (fields_of row.now) ++ field_faults profile (fields_of row.now)) at e) }
+    ensures free { OnOk result (IsFree (kind_faults first (fields_of row.now) ++ field_faults profile (fields_of row.now))) }
 {
     let kind = check_kind(first, at, row)?;
-    match check_fields(at, kind, row) {
+    match check_fields(at, profile, kind, row) {
         Ok(()) => Ok(kind),
         Err(fault) => Err(fault),
     }

@@ -1,5 +1,5 @@
 //! What a record says, whose fields have their forms.
-ghost use Rattle.std.specs.Prelude.{◌≡◌, ◌+◌, ◌<◌, ◌^◌, drop, length, map, pos, true, unwrap_or};
+ghost use Rattle.std.specs.Prelude.{◌≡◌, ◌≤◌, ◌+◌, ◌<◌, ◌^◌, drop, length, map, pos, take, true, unwrap_or};
 ghost use Rattle.csv.specs.Records.{fields_of};
 ghost use Rattle.span_csv.specs.near.Grammar.{HasForms, leg_at, record_kind};
 ghost use Rattle.span_csv.specs.Records.{a_commodity, a_contract, a_set, a_spot, a_tier, an_inter, an_intra, commodity_record};
@@ -9,8 +9,8 @@ ghost use Rattle.span_money.specs.Numbers.{whole_number};
 ghost use Rattle.span_tables.specs.Names.{is_name};
 
 use crate::fields::{
-    count_at, currency_at, delta_at, method_at, name_at, product_at, ratio_at, scale_at, side_at,
-    whole_at,
+    count_at, currency_at, delta_at, method_at, name_at, product_at, profile_at, ratio_at,
+    scale_at, side_at, whole_at,
 };
 use crate::grammar::Kind;
 use arrayvec::ArrayVec;
@@ -27,6 +27,7 @@ fn set_record(row: &ByteRecord) -> SetRecord
 {
     SetRecord {
         id: name_at(row, 1),
+        profile: profile_at(row, 2),
         currency: currency_at(row, 3),
     }
 }
@@ -44,8 +45,8 @@ fn commodity_record(row: &ByteRecord) -> Commodity
 
 // The values of a risk array.
 fn array_values(row: &ByteRecord) -> [i64; SCENARIOS]
-    requires { length (fields_of row.now) ≡ 23 }
-    ensures { result ≡ map (λ text. unwrap_or (whole_number text) (pos 0)) (drop 7 (fields_of row.now)) }
+    requires { 23 ≤ length (fields_of row.now) }
+    ensures { result ≡ map (λ text. unwrap_or (whole_number text) (pos 0)) (take SCENARIOS (drop 7 (fields_of row.now))) }
 {
     let mut values = [0; SCENARIOS];
     for i in 0..SCENARIOS {
@@ -66,6 +67,7 @@ fn contract_record(row: &ByteRecord) -> Contract
         delta: delta_at(row, 5),
         scale: scale_at(row, 6),
         values: array_values(row),
+        option_value: count_at(row, 23),
     }
 }
 

@@ -83,6 +83,14 @@ pub(crate) fn count_at(row: &ByteRecord, i: usize) -> u32
     positive_part(whole_at(row, i)) as u32
 }
 
+/// The profile that the version at a place tells.
+pub(crate) fn profile_at(row: &ByteRecord, i: usize) -> u8
+    requires { count_at (fields_of row.now) i < 2 ^ 8 }
+    ensures { result ≡ count_at (fields_of row.now) i }
+{
+    count_at(row, i) as u8
+}
+
 fn decimal_at(row: &ByteRecord, i: usize) -> i64
     ensures { result ≡ decimal_at (fields_of row.now) i }
 {

@@ -1,20 +1,22 @@
 //! The kinds of records of a parameter file, and the forms of their fields.
 ghost use Rattle.std.specs.Char.{is_ascii_uppercase};
 ghost use Rattle.std.specs.List.{list_all};
-ghost use Rattle.std.specs.Prelude.{◌≡◌, ◌&&◌, ◌==◌, ◌+◌, IfSome, drop, length, map, option_map};
+ghost use Rattle.std.specs.Prelude.{◌≡◌, ◌≤◌, ◌&&◌, ◌==◌, ◌+◌, ◌-◌, IfSome, drop, length, map, option_map};
 ghost use Rattle.csv.specs.Records.{fields_of};
 ghost use Rattle.span_csv.specs.near.Grammar.{form_of, record_kind, test_of};
-ghost use Rattle.span_csv.specs.Records.{all_have, exactly, forms_of, has_number_form};
-ghost use Rattle.span_csv.specs.Records.{has_word_form, is_in_range, is_within, kind_named, text_at};
+ghost use Rattle.span_csv.specs.Records.{all_have, contract_forms, exactly, forms_of, has_number_form, has_word_form};
+ghost use Rattle.span_csv.specs.Records.{is_in_range, is_within, kind_named, product_at, text_at};
 
+use crate::fields::product_at;
 use crate::rows::field;
 use csv::ByteRecord;
 use span_money::texts::{is_month, parse_decimal, parse_month, parse_whole};
 use span_tables::limits::{
-    MAX_ARRAY_VALUE, MAX_BASIS_POINTS, MAX_DELTA, MAX_PRIORITY, MAX_RATE, MAX_RATIO, MAX_SCALE,
-    MAX_TIER_NUMBER,
+    MAX_ARRAY_VALUE, MAX_BASIS_POINTS, MAX_DELTA, MAX_OPTION_VALUE, MAX_PRIORITY, MAX_PROFILE,
+    MAX_RATE, MAX_RATIO, MAX_SCALE, MAX_TIER_NUMBER, VALUE_PROFILE,
 };
 use span_tables::name::is_name;
+use span_tables::records::ProductKind;
 
 /// What a field may be. A number has its lowest and its highest value, a decimal those in 10^-4.
 #[derive(Clone, Copy)]
@@ -49,7 +51,10 @@ pub(crate) enum FieldTest {
     Range,
 }
 
-const VERSION: FieldForm = FieldForm::Whole { low: 1, high: 1 };
+const VERSION: FieldForm = FieldForm::Whole {
+    low: 1,
+    high: MAX_PROFILE as i64,
+};
 
 const RATE: FieldForm = FieldForm::Whole {
     low: 0,
@@ -76,6 +81,14 @@ const ARRAY_VALUE: FieldForm = FieldForm::Whole {
     high: MAX_ARRAY_VALUE as i64,
 };
 
+// The option value of a future, and that of an option.
+const NO_VALUE: FieldForm = FieldForm::Whole { low: 0, high: 0 };
+
+const OPTION_VALUE: FieldForm = FieldForm::Whole {
+    low: 0,
+    high: MAX_OPTION_VALUE as i64,
+};
+
 const DELTA: FieldForm = FieldForm::Decimal {
     low: -(MAX_DELTA as i64),
     high: MAX_DELTA as i64,
@@ -95,7 +108,8 @@ static SET_FIELDS: [FieldForm; 3] = [FieldForm::Name, VERSION, FieldForm::Curren
 
 static COMMODITY_FIELDS: [FieldForm; 3] = [FieldForm::Name, RATE, FieldForm::Method];
 
-static CONTRACT_FIELDS: [FieldForm; 22] = [
+// A CONTRACT with an option value, which stands last: a future, and an option.
+static FUTURE_FIELDS: [FieldForm; 23] = [
     FieldForm::Name,
     FieldForm::Name,
     FieldForm::Product,
@@ -118,6 +132,33 @@ static CONTRACT_FIELDS: [FieldForm; 22] = [
     ARRAY_VALUE,
     ARRAY_VALUE,
     ARRAY_VALUE,
+    NO_VALUE,
+];
+
+static OPTION_FIELDS: [FieldForm; 23] = [
+    FieldForm::Name,
+    FieldForm::Name,
+    FieldForm::Product,
+    FieldForm::Month,
+    DELTA,
+    SCALE,
+    ARRAY_VALUE,
+    ARRAY_VALUE,
+    ARRAY_VALUE,
+    ARRAY_VALUE,
+    ARRAY_VALUE,
+    ARRAY_VALUE,
+    ARRAY_VALUE,
+    ARRAY_VALUE,
+    ARRAY_VALUE,
+    ARRAY_VALUE,
+    ARRAY_VALUE,
+    ARRAY_VALUE,
+    ARRAY_VALUE,
+    ARRAY_VALUE,
+    ARRAY_VALUE,
+    ARRAY_VALUE,
+    OPTION_VALUE,
 ];
 
 static TIER_FIELDS: [FieldForm; 4] = [
@@ -199,16 +240,32 @@ fn exactly(forms: &'static [FieldForm], fields: usize) -> Option<&'static [Field
     }
 }
 
+// The forms of a CONTRACT's fields: an option value stands last, under the profile in which options have one.
+fn contract_fields(profile: u8, row: &ByteRecord) -> &'static [FieldForm]
+    ensures { map form_of result.now ≡ contract_forms profile (product_at (fields_of row.now) 3) }
+{
+    if profile != VALUE_PROFILE {
+        return &OPTION_FIELDS[..22];
+    }
+    match product_at(row, 3) {
+        ProductKind::Future => &FUTURE_FIELDS,
+        ProductKind::Call | ProductKind::Put => &OPTION_FIELDS,
+    }
+}
+
 impl Kind {
-    /// The forms of the fields behind the first, if a record of the kind may have so many of them.
-    pub(crate) fn forms(self, fields: usize) -> Option<&'static [FieldForm]>
-        ensures value { option_map (λ s. map form_of s.now) result ≡ forms_of (record_kind self) fields }
-        ensures count { IfSome result (λ s. length s.now ≡ fields) }
+    /// The forms of a record's fields behind the first under a profile, if the kind may have so many of them.
+    pub(crate) fn forms(self, profile: u8, row: &ByteRecord) -> Option<&'static [FieldForm]>
+        requires { 1 ≤ length (fields_of row.now) }
+        ensures value { option_map (λ s. map form_of s.now) result
+            ≡ forms_of (record_kind self) profile (product_at (fields_of row.now) 3) (length (fields_of row.now) - 1) }
+        ensures count { IfSome result (λ s. length (fields_of row.now) ≡ length s.now + 1) }
     {
+        let fields = row.len() - 1;
         match self {
             Kind::Set => exactly(&SET_FIELDS, fields),
             Kind::Commodity => exactly(&COMMODITY_FIELDS, fields),
-            Kind::Contract => exactly(&CONTRACT_FIELDS, fields),
+            Kind::Contract => exactly(contract_fields(profile, row), fields),
             Kind::Tier => exactly(&TIER_FIELDS, fields),
             Kind::Spot => exactly(&SPOT_FIELDS, fields),
             Kind::Intra => match fields {

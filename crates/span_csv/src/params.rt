@@ -23,7 +23,7 @@ fn next_record(tally: &mut Tally, earlier: usize, row: &ByteRecord) -> Result<Re
     ensures { (rs : List Fields) → length rs ≡ earlier → Tallies tally.old rs → NextIs rs (fields_of row.now) result tally.new }
 {
     let at = earlier + 1;
-    let kind = check_form(earlier == 0, at, row)?;
+    let kind = check_form(earlier == 0, at, tally.profile(), row)?;
     if tally.count(kind, row) == kind.limit() {
         return Err(ParamFault::TooMany { at });
     }

@@ -1,11 +1,11 @@
-//! How many records of each kind were read, as far as there is a limit.
+//! How many records of each kind were read, as far as there is a limit, and under which profile.
 ghost use Rattle.std.specs.Prelude.{◌≡◌, ◌+◌, ◌<◌, ◌^◌, List, OnOk, [], ℕ};
 ghost use Rattle.csv.specs.Records.{fields_of};
 ghost use Rattle.span_csv.specs.near.Checks.{CountsOne, count_in, limit_of};
 ghost use Rattle.span_csv.specs.near.Grammar.{HasForms, record_kind};
 ghost use Rattle.span_csv.specs.Records.{text_at};
 
-use crate::fields::name_at;
+use crate::fields::{name_at, profile_at};
 use crate::grammar::Kind;
 use csv::ByteRecord;
 use indexmap::IndexMap;
@@ -55,9 +55,11 @@ impl Kind {
     }
 }
 
-/// The records that were read: of some kinds all, of others those of each commodity.
+/// The records that were read: the profile of the SET, and how many of the other kinds, of some all and of others those of
+/// each commodity.
 #[derive(Drop)]
 pub(crate) struct Tally {
+    profile: u8,
     commodities: usize,
     contracts: usize,
     tiers: IndexMap<Name, usize>,
@@ -74,6 +76,7 @@ impl Tally {
         ensures { Tallies result [] }
     {
         Tally {
+            profile: 0,
             commodities: 0,
             contracts: 0,
             tiers: IndexMap::new(alloc),
@@ -81,6 +84,13 @@ impl Tally {
             spots: IndexMap::new(alloc),
             inters: 0,
         }
+    }
+
+    /// The profile of the SET, or 0 in front of it.
+    pub(crate) fn profile(&self) -> u8
+        ensures { result ≡ self.now.profile }
+    {
+        self.profile
     }
 
     /// How many records the limit of a record's kind counts.
@@ -99,14 +109,14 @@ impl Tally {
         }
     }
 
-    /// Counts a record.
+    /// Counts a record, or keeps its profile.
     pub(crate) fn add(&mut self, kind: Kind, row: &ByteRecord) -> Result<(), AllocError>
         requires forms { HasForms (record_kind kind) (fields_of row.now) }
         requires room { count_for self.old (record_kind kind) (text_at (fields_of row.now) 1) + 1 < 2 ^ 64 }
-        ensures { OnOk result (Adds (record_kind kind) (text_at (fields_of row.now) 1) self.old self.new) }
+        ensures { OnOk result (Adds (record_kind kind) (fields_of row.now) self.old self.new) }
     {
         match kind {
-            Kind::Set => {}
+            Kind::Set => self.profile = profile_at(row, 2),
             Kind::Commodity => self.commodities += 1,
             Kind::Contract => self.contracts += 1,
             Kind::Tier => count_one(&mut self.tiers, name_at(row, 1))?,

@@ -1,12 +1,16 @@
 //! What small files read as, computed by the definitions.
 #![tactic(auto, unfolding(crate::specs::OnLiterals::reading_on_literals))]
 
+ghost use Rattle.std.specs.List.{repeat};
 ghost use Rattle.std.specs.Prelude.{◌≡◌, [], ◌∷◌, Err, Ok, codes, neg_ℤ, pos};
 ghost use Rattle.span_csv.specs.ParamFaults.{params_of};
 ghost use Rattle.span_csv.specs.PositionFaults.{positions_of};
 ghost use Rattle.span_csv.specs.Records.{records_of};
 ghost use Rattle.span_csv.specs.declared.faults.ParamFault.TheVariants as param;
 ghost use Rattle.span_csv.specs.declared.faults.PositionFault.TheVariants as position;
+ghost use Rattle.span_tables.specs.Samples.{contract, set, value_set};
+ghost use Rattle.span_tables.specs.declared.records.ProductKind.TheVariants as product;
+ghost use Rattle.span_tables.specs.declared.records.Record.TheVariants as record_of;
 
 // A comma between quotes belongs to the field.
 fn quoted_comma()
@@ -41,9 +45,43 @@ fn first_record_is_no_set()
 
 // A name in small letters, and a method that is none; the version that is out of range in the same record counts later.
 fn malformed_names()
-    ensures name { params_of (codes "SET,d1,2,USD\n") ≡ Err (param.BadName 1) }
+    ensures name { params_of (codes "SET,d1,3,USD\n") ≡ Err (param.BadName 1) }
     ensures method { params_of (codes "SET,D1,1,USD\nCOMMODITY,AA,0,AVG\n") ≡ Err (param.BadName 2) }
-    ensures version { params_of (codes "SET,D1,2,USD\n") ≡ Err (param.OutOfRange 1) }
+    ensures version { params_of (codes "SET,D1,3,USD\n") ≡ Err (param.OutOfRange 1) }
+    ensures none { params_of (codes "SET,D1,0,USD\n") ≡ Err (param.OutOfRange 1) }
+{}
+
+// Under version 2 a contract has an option value behind its risk array, and under version 1 its option value is 0.
+fn contracts_of_both_versions()
+    ensures first { params_of (codes "SET,D1,1,USD\nCONTRACT,CA,AA,C,202512,1,1,-9,8,7,7,7,7,7,7,7,7,7,7,7,7,7,7\n") ≡ Ok
+        (set (codes "D1") ∷ record_of.Contract (contract product.Call (codes "CA") (codes "AA") 202512
+        (neg_ℤ (pos 9) ∷ pos 8 ∷ repeat 14 (pos 7 ∷ []))) ∷ []) }
+    ensures second { params_of (codes "SET,D2,2,USD\nCONTRACT,CA,AA,C,202512,1,1,-9,8,7,7,7,7,7,7,7,7,7,7,7,7,7,7,120\n") ≡ Ok
+        (value_set (codes "D2") ∷ record_of.Contract (record (contract product.Call (codes "CA") (codes "AA") 202512
+        (neg_ℤ (pos 9) ∷ pos 8 ∷ repeat 14 (pos 7 ∷ []))) { option_value = 120 }) ∷ []) }
+    ensures future { params_of (codes "SET,D2,2,USD\nCONTRACT,FA,AA,F,202512,1,1,7,7,7,7,7,7,7,7,7,7,7,7,7,7,7,7,0\n") ≡ Ok
+        (value_set (codes "D2")
+        ∷ record_of.Contract (contract product.Future (codes "FA") (codes "AA") 202512 (repeat 16 (pos 7 ∷ []))) ∷ []) }
+{}
+
+// A contract of version 2 without its option value, and one of version 1 with one.
+fn contracts_of_the_other_version()
+    ensures first { params_of (codes "SET,D1,1,USD\nCONTRACT,CA,AA,C,202512,1,1,0,0,0,0,0,0,0,0,0,0,0,0,0,0,0,0,120\n")
+        ≡ Err (param.FieldCount 2) }
+    ensures second { params_of (codes "SET,D2,2,USD\nCONTRACT,CA,AA,C,202512,1,1,0,0,0,0,0,0,0,0,0,0,0,0,0,0,0,0\n")
+        ≡ Err (param.FieldCount 2) }
+{}
+
+// A future has no option value but 0, and an option one from 0 to the highest; an empty field is no number.
+fn option_values_out_of_range()
+    ensures future { params_of (codes "SET,D2,2,USD\nCONTRACT,FA,AA,F,202512,1,1,0,0,0,0,0,0,0,0,0,0,0,0,0,0,0,0,5\n")
+        ≡ Err (param.OutOfRange 2) }
+    ensures highest { params_of (codes "SET,D2,2,USD\nCONTRACT,CA,AA,C,202512,1,1,0,0,0,0,0,0,0,0,0,0,0,0,0,0,0,0,100000001\n")
+        ≡ Err (param.OutOfRange 2) }
+    ensures lowest { params_of (codes "SET,D2,2,USD\nCONTRACT,PA,AA,P,202512,1,1,0,0,0,0,0,0,0,0,0,0,0,0,0,0,0,0,-1\n")
+        ≡ Err (param.OutOfRange 2) }
+    ensures empty { params_of (codes "SET,D2,2,USD\nCONTRACT,PA,AA,P,202512,1,1,0,0,0,0,0,0,0,0,0,0,0,0,0,0,0,0,\n")
+        ≡ Err (param.BadNumber 2) }
 {}
 
 // The lowest-numbered fault of the first record with one.

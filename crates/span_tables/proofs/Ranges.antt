@@ -1,23 +1,27 @@
 -- What the ranges of records say of those of each kind.
-use Rattle.std.proofs.Common.{◌≡◌, ℕ, ◌<◌, ◌≤◌, Bool, true, List, [], ◌∷◌, length, map, sym, subst}
-use Rattle.std.specs.Prelude.{All, MatchOption, filter_map, nat_abs, nat_le}
+use Rattle.std.proofs.Common.{◌≡◌, ℕ, ◌<◌, ◌≤◌, Bool, true, arith, List, [], ◌∷◌, length, map, sym, subst}
+use Rattle.std.specs.Prelude.{All, MatchOption, filter_map, find, nat_abs, nat_le, option_map, unwrap_or}
 use Rattle.std.specs.List.{AllByRecursion, list_all}
 use Rattle.std.proofs.lemmas.Bool.{leb-true}
 use Rattle.std.proofs.lemmas.Bool.Decides.{Decides-eqb}
 use Rattle.std.proofs.lemmas.List.{length-map}
-use Rattle.std.proofs.lemmas.List.Elements.{All-nil, All-cons, All-map, All-weaker}
+use Rattle.std.proofs.lemmas.List.Elements.{All-nil, All-cons, All-head, All-map, All-weaker}
 use Rattle.span_tables.specs.Accepted.{IsContract, IsIntra, IsSpot}
 use Rattle.span_tables.specs.Limits.{commodity_in_range, contract_in_range, in_range}
-use Rattle.span_tables.specs.Limits.{inter_in_range, intra_in_range, lies_within, spot_in_range}
-use Rattle.span_tables.specs.Tables.{intra_spread, month_leg}
-use Rattle.span_tables.specs.Rules.{as_commodity, as_contract, as_inter, as_intra, as_spot}
-use Rattle.span_tables.specs.declared.limits.TheConstants.{MAX_ARRAY_VALUE, MAX_BASIS_POINTS, MAX_RATE, MAX_RATIO}
+use Rattle.span_tables.specs.Limits.{inter_in_range, intra_in_range, lies_within, most_option_value, set_in_range, spot_in_range}
+use Rattle.span_tables.specs.Tables.{intra_spread, month_leg, profile_in}
+use Rattle.span_tables.specs.Rules.{as_commodity, as_contract, as_inter, as_intra, as_set, as_spot}
+use Rattle.span_tables.specs.declared.limits.TheConstants.{MAX_ARRAY_VALUE, MAX_BASIS_POINTS, MAX_OPTION_VALUE, MAX_PROFILE}
+use Rattle.span_tables.specs.declared.limits.TheConstants.{MAX_RATE, MAX_RATIO}
 use Rattle.span_tables.specs.declared.records.Commodity.{Commodity}
 use Rattle.span_tables.specs.declared.records.Contract.{Contract}
 use Rattle.span_tables.specs.declared.records.InterRecord.{InterRecord}
 use Rattle.span_tables.specs.declared.records.IntraRecord.{IntraRecord}
 use Rattle.span_tables.specs.declared.records.Record.{Record}
 use Rattle.span_tables.specs.declared.records.Record.TheVariants as record_of
+use Rattle.span_tables.specs.declared.records.ProductKind.{ProductKind}
+use Rattle.span_tables.specs.declared.records.ProductKind.TheVariants as product
+use Rattle.span_tables.specs.declared.records.SetRecord.{SetRecord}
 use Rattle.span_tables.specs.declared.records.Spot.{Spot}
 use Rattle.span_tables.specs.declared.records.Tier.{Tier}
 use Rattle.span_tables.proofs.KeptRules.{and_true, of_kind}
@@ -36,6 +40,10 @@ within : (low high n : ℕ) → lies_within low high n ≡ true → (low ≤ n) 
 within low high n e = let h = and_true (nat_le low n) (nat_le n high) e in (leb-true low n h.0, leb-true n high h.1)
 
 -- ---- the records of each kind pass their tests
+
+set_passes : (r : Record) → in_range r ≡ true → MatchOption (as_set r) (Unit {0}) (λ s. set_in_range s ≡ true)
+set_passes (record_of.Set s) e = e
+set_passes _ e = tt
 
 commodity_passes : (r : Record) → in_range r ≡ true → MatchOption (as_commodity r) (Unit {0}) (λ c. commodity_in_range c ≡ true)
 commodity_passes (record_of.Commodity c) e = e
@@ -62,17 +70,25 @@ inter_passes _ e = tt
 pub rate_within : (c : Commodity) → commodity_in_range c ≡ true → c.minimum_rate ≤ MAX_RATE
 rate_within c e = leb-true _ _ (and_true _ _ e).1
 
+most_small : (kind : ProductKind) → most_option_value kind ≤ MAX_OPTION_VALUE
+most_small product.Future = omega arith
+most_small product.Call = omega arith
+most_small product.Put = omega arith
+
 pub is_contract : (x : Contract) → contract_in_range x ≡ true → IsContract x
 is_contract x e =
-    let a = and_true _ _ e in
+    let all = and_true _ _ e in
+    let a = and_true _ _ all.0 in
     let b = and_true _ _ a.0 in
     let d = and_true _ _ b.0 in
     let f = and_true _ _ d.0 in
+    let most = leb-true x.option_value (most_option_value x.kind) all.1 in
     record {
       delta = leb-true _ _ f.1;
       scale = (within _ _ _ d.1).1;
       sixteen = (Decides-eqb _ _).0 b.1;
       values = all_by _ (λ v. nat_abs v ≤ MAX_ARRAY_VALUE) (λ v le. leb-true _ _ le) x.values a.1;
+      option_value = omega (arith, most, most_small x.kind);
     }
 
 pub is_intra : (tiers : List Tier) (s : IntraRecord) → intra_in_range s ≡ true → IsIntra (intra_spread tiers s)
@@ -124,6 +140,16 @@ is_inter s e =
     }
 
 -- ---- of all records
+
+first_profile : (ss : List SetRecord) → All (λ s. set_in_range s ≡ true) ss
+    → unwrap_or (option_map (λ s. s.profile) (find (λ s. true) ss)) 1 ≤ MAX_PROFILE
+first_profile [] all = omega arith
+first_profile (s ∷ ss) all = (within 1 MAX_PROFILE s.profile (and_true _ _ (All-head (λ x. set_in_range x ≡ true) s ss all)).1).1
+
+pub profile_within : (rs : List Record) → list_all in_range rs ≡ true → profile_in rs ≤ MAX_PROFILE
+profile_within rs e =
+    first_profile (filter_map as_set rs)
+    (of_kind as_set (λ s. set_in_range s ≡ true) (λ r. in_range r ≡ true) set_passes rs (by_recursion in_range rs e))
 
 pub rates_within : (rs : List Record) → list_all in_range rs ≡ true
     → All (λ c. c.minimum_rate ≤ MAX_RATE) (filter_map as_commodity rs)

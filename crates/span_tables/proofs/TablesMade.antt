@@ -8,7 +8,7 @@ use Rattle.span_tables.specs.near.ByKind.{AreByKind}
 use Rattle.span_tables.specs.Limits.{is_readable}
 use Rattle.span_tables.specs.Rules.{keeps_rules}
 use Rattle.span_tables.specs.Tables.{AcceptedTables, inter_spread, inters_of, intra_spread}
-use Rattle.span_tables.specs.Tables.{intras_of, rising_by, set_id_in, spots_of, tables_of}
+use Rattle.span_tables.specs.Tables.{intras_of, profile_in, rising_by, set_id_in, spots_of, tables_of}
 use Rattle.span_tables.specs.declared.records.Commodity.{Commodity}
 use Rattle.span_tables.specs.declared.records.Contract.{Contract}
 use Rattle.span_tables.specs.declared.records.Inter.{Inter}
@@ -66,17 +66,27 @@ module _ (t : AcceptedTables) (accepted : IsAccepted t) where
   }
 
 -- the parts of the tables, each as it was made
-pub same_tables : (rs : List Record) (id : List ℕ) (cs : List Commodity) (xs : List Contract) (ts : List Tier) (is js : List IntraRecord)
+pub same_tables : (rs : List Record) (id : List ℕ) (profile : ℕ) (cs : List Commodity) (xs : List Contract) (ts : List Tier) (is js : List IntraRecord)
     (ss : List Spot) (ns ms : List InterRecord)
-    → id ≡ set_id_in rs → AreByKind rs cs xs ts is ss ns → js ≡ rising_by (λ s. s.priority) is
+    → id ≡ set_id_in rs → profile ≡ profile_in rs → AreByKind rs cs xs ts is ss ns → js ≡ rising_by (λ s. s.priority) is
     → ms ≡ rising_by (λ s. s.priority) ns
-    → record { set_id = id; commodities = cs; contracts = xs; tiers = ts; intras = js; spots = ss; inters = ms } ≡ tables_of rs
+    → record {
+      set_id = id;
+      profile = profile;
+      commodities = cs;
+      contracts = xs;
+      tiers = ts;
+      intras = js;
+      spots = ss;
+      inters = ms;
+    } ≡ tables_of rs
 unfolding tables_of
-same_tables rs id cs xs ts is js ss ns ms named kinds i n =
+same_tables rs id profile cs xs ts is js ss ns ms named version kinds i n =
     let js_are = i ∙ ap (rising_by (λ (s : IntraRecord). s.priority)) kinds.intras_are in
     let ms_are = n ∙ ap (rising_by (λ (s : InterRecord). s.priority)) kinds.inters_are in
     λ k. record {
       set_id = named k;
+      profile = version k;
       commodities = kinds.commodities_are k;
       contracts = kinds.contracts_are k;
       tiers = kinds.tiers_are k;

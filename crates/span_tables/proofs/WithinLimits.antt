@@ -26,7 +26,8 @@ use Rattle.span_tables.proofs.KeptRules.{all_kept, and_true, apart, of_each}
 use Rattle.span_tables.proofs.Known.{IsKnown, NamesKnown, all_known, contracts_known, inters_apart}
 use Rattle.span_tables.proofs.Known.{inters_known, intras_known, legs_apart, spots_known, tiers_known}
 use Rattle.span_tables.proofs.OrderLaws.{rising_permutation}
-use Rattle.span_tables.proofs.Ranges.{IsInterRecord, are_contracts, are_inters, are_intras, are_spots, is_intra, rates_within}
+use Rattle.span_tables.proofs.Ranges.{IsInterRecord, are_contracts, are_inters, are_intras, are_spots, is_intra}
+use Rattle.span_tables.proofs.Ranges.{profile_within, rates_within}
 
 -- what readable records keep, part by part
 pub record IsReadable (rs : List Record) : Type 0 where
@@ -105,6 +106,7 @@ within_limits rs is_r keeps =
     let intras_same = rising_permutation (λ (s : IntraRecord). s.priority) (intras_in rs) in
     let inters_same = rising_permutation (λ (s : InterRecord). s.priority) (inters_in rs) in
     record {
+      profile = profile_within rs r.ranges;
       commodities = r.few_commodities;
       contracts = r.few_contracts;
       minimum_rates = rates_within rs r.ranges;

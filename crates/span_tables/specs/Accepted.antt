@@ -9,6 +9,7 @@ use Rattle.span_tables.specs.Tables.{AcceptedTables, tables_of, intras_of, spots
 use Rattle.span_tables.specs.declared.limits.TheConstants.{MAX_COMMODITIES, MAX_CONTRACTS, MAX_INTRA_SPREADS}
 use Rattle.span_tables.specs.declared.limits.TheConstants.{MAX_SPOT_MONTHS, MAX_INTER_SPREADS, MAX_RATE, MAX_ARRAY_VALUE}
 use Rattle.span_tables.specs.declared.limits.TheConstants.{MAX_DELTA, MAX_SCALE, SCENARIOS, MAX_RATIO, MAX_BASIS_POINTS}
+use Rattle.span_tables.specs.declared.limits.TheConstants.{MAX_OPTION_VALUE, MAX_PROFILE}
 use Rattle.span_tables.specs.declared.records.Commodity.{Commodity}
 use Rattle.span_tables.specs.declared.records.Contract.{Contract}
 use Rattle.span_tables.specs.declared.records.Spot.{Spot}
@@ -31,12 +32,13 @@ commodity_id t c = unwrap_or (option_map (λ x. x.id) (slice_get t.commodities c
 abbrev pub commodity_number : List Commodity → List ℕ → ℕ
 commodity_number commodities id = position_or_len (λ c. bytes_eq c.id id) commodities
 
--- a contract's delta, scale and risk array lie in their ranges
+-- a contract's delta, scale, risk array and option value lie in their ranges
 pub record IsContract (x : Contract) : Type 0 where
   pub delta : nat_abs x.delta ≤ MAX_DELTA
   pub scale : x.scale ≤ MAX_SCALE
   pub sixteen : length x.values ≡ SCENARIOS
   pub values : All (λ v. nat_abs v ≤ MAX_ARRAY_VALUE) x.values
+  pub option_value : x.option_value ≤ MAX_OPTION_VALUE
 
 -- an intracommodity spread has 2 to 4 legs, and its rate and ratios lie in their ranges
 pub record IsIntra (s : Intra) : Type 0 where
@@ -63,6 +65,7 @@ pub record IsInter (commodities : ℕ) (s : Inter) : Type 0 where
 
 -- what accepted tables keep
 pub record IsWithinLimits (t : AcceptedTables) : Type 0 where
+  pub profile : t.profile ≤ MAX_PROFILE
   pub commodities : length t.commodities ≤ MAX_COMMODITIES
   pub contracts : length t.contracts ≤ MAX_CONTRACTS
   pub minimum_rates : All (λ c. c.minimum_rate ≤ MAX_RATE) t.commodities

@@ -16,6 +16,10 @@ use Rattle.span_tables.specs.declared.records.Record.TheVariants as record_of
 use Rattle.span_tables.specs.declared.limits.TheConstants.{MAX_COMMODITIES, MAX_CONTRACTS, MAX_TIERS, MAX_INTRA_SPREADS, MAX_SPOT_MONTHS}
 use Rattle.span_tables.specs.declared.limits.TheConstants.{MAX_INTER_SPREADS, MAX_RATE, MAX_ARRAY_VALUE, MAX_DELTA, MAX_SCALE, MAX_RATIO}
 use Rattle.span_tables.specs.declared.limits.TheConstants.{MAX_TIER_NUMBER, MAX_PRIORITY, MAX_BASIS_POINTS, MIN_LEGS, MAX_LEGS, SCENARIOS}
+use Rattle.span_tables.specs.declared.limits.TheConstants.{MAX_OPTION_VALUE, MAX_PROFILE}
+use Rattle.span_tables.specs.declared.records.ProductKind.{ProductKind}
+use Rattle.span_tables.specs.declared.records.ProductKind.TheVariants as product
+use Rattle.span_tables.specs.declared.records.SetRecord.{SetRecord}
 
 -- n lies from low to high
 abbrev pub lies_within : ℕ → ℕ → ℕ → Bool
@@ -39,15 +43,26 @@ is_priority n = lies_within 1 MAX_PRIORITY n
 
 -- ---- the ranges of each record
 
+-- a set: its id and its profile, from 1
+abbrev pub set_in_range : SetRecord → Bool
+set_in_range s = is_name s.id && lies_within 1 MAX_PROFILE s.profile
+
+-- the most that an option value may be: that of a future is 0
+abbrev pub most_option_value : ProductKind → ℕ
+most_option_value product.Future = 0
+most_option_value product.Call = MAX_OPTION_VALUE
+most_option_value product.Put = MAX_OPTION_VALUE
+
 -- a commodity: its id and its rate
 abbrev pub commodity_in_range : Commodity → Bool
 commodity_in_range c = is_name c.id && is_rate c.minimum_rate
 
--- a contract: its names, month, delta, scale and a value for each scenario
+-- a contract: its names, month, delta, scale, a value for each scenario and its option value
 abbrev pub contract_in_range : Contract → Bool
 contract_in_range x =
     is_name x.id && is_name x.commodity && is_month x.month && nat_le (nat_abs x.delta) MAX_DELTA && lies_within 1 MAX_SCALE x.scale
     && (length x.values == SCENARIOS) && list_all (λ v. nat_le (nat_abs v) MAX_ARRAY_VALUE) x.values
+    && nat_le x.option_value (most_option_value x.kind)
 
 -- a tier: its commodity, number and months
 abbrev pub tier_in_range : Tier → Bool
@@ -71,7 +86,7 @@ inter_in_range s =
 
 -- a record of any kind
 abbrev pub in_range : Record → Bool
-in_range (record_of.Set s) = is_name s.id
+in_range (record_of.Set s) = set_in_range s
 in_range (record_of.Commodity c) = commodity_in_range c
 in_range (record_of.Contract x) = contract_in_range x
 in_range (record_of.Tier t) = tier_in_range t

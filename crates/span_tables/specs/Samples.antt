@@ -1,6 +1,7 @@
 -- Records of which worked values and tests are made, and a small file of each kind of record.
 use Rattle.std.specs.Prelude.{ℕ, ℤ, List, [], ◌∷◌, codes, pos}
 use Rattle.std.specs.List.{repeat}
+use Rattle.span_tables.specs.declared.limits.TheConstants.{VALUE_PROFILE}
 use Rattle.span_tables.specs.declared.records.Contract.{Contract}
 use Rattle.span_tables.specs.declared.records.MinimumMethod.TheVariants as method
 use Rattle.span_tables.specs.declared.records.ProductKind.{ProductKind}
@@ -9,15 +10,23 @@ use Rattle.span_tables.specs.declared.records.Side.TheVariants as side
 use Rattle.span_tables.specs.declared.records.Record.{Record}
 use Rattle.span_tables.specs.declared.records.Record.TheVariants as record_of
 
--- a set of this id
+-- a set of this id, under a profile
+abbrev pub set_under : ℕ → List ℕ → Record
+set_under profile id = record_of.Set (record { id = id; profile = profile; currency = codes "USD" })
+
+-- a set of this id, under profile 1
 abbrev pub set : List ℕ → Record
-set id = record_of.Set (record { id = id; currency = codes "USD" })
+set id = set_under 1 id
+
+-- a set of this id, under the profile in which options have a value
+abbrev pub value_set : List ℕ → Record
+value_set id = set_under VALUE_PROFILE id
 
 -- a commodity of this id, without a short option minimum
 abbrev pub commodity : List ℕ → Record
 commodity id = record_of.Commodity (record { id = id; minimum_rate = 0; method = method.Sum })
 
--- a contract of a commodity, with delta 1, scale 1, and these values in the sixteen scenarios
+-- a contract of a commodity, with delta 1, scale 1, option value 0, and these values in the sixteen scenarios
 abbrev pub contract : ProductKind → List ℕ → List ℕ → ℕ → List ℤ → Contract
 contract kind id of month values = record {
   id = id;
@@ -27,6 +36,7 @@ contract kind id of month values = record {
   delta = pos 10000;
   scale = 10000;
   values = values;
+  option_value = 0;
 }
 
 -- a spread of two commodities, one to one, the first on side A

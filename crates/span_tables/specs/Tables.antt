@@ -1,8 +1,10 @@
 -- The accepted tables: commodities and contracts in file order, and spreads by rising priority with what they name.
 use Rattle.std.specs.Prelude.{ℕ, true, ◌&&◌, ◌==◌, nat_le, if◌then◌else◌, List, []}
-use Rattle.std.specs.Prelude.{◌∷◌, map, filter, find, filter_map, option_map, unwrap_or, bytes_eq}
+use Rattle.std.specs.Prelude.{Bool, Option, ◌∷◌, map, filter, find, filter_map, option_map, unwrap_or, bytes_eq}
 use Rattle.std.specs.List.{position_or_len}
 use Rattle.span_tables.specs.Rules.{as_set, commodities_in, contracts_in, tiers_in, intras_in, spots_in, inters_in}
+use Rattle.span_tables.specs.declared.limits.TheConstants.{VALUE_PROFILE}
+use Rattle.span_tables.specs.declared.records.SetRecord.{SetRecord}
 use Rattle.span_tables.specs.declared.records.Commodity.{Commodity}
 use Rattle.span_tables.specs.declared.records.Contract.{Contract}
 use Rattle.span_tables.specs.declared.records.Tier.{Tier}
@@ -20,6 +22,7 @@ use Rattle.span_tables.specs.declared.records.Inter.{Inter}
 -- the tables of an accepted parameter file
 pub record AcceptedTables : Type 0 where
   pub set_id : List ℕ
+  pub profile : ℕ
   pub commodities : List Commodity
   pub contracts : List Contract
   pub tiers : List Tier
@@ -37,14 +40,23 @@ abbrev pub rising_by : {A : Type 0} → (A → ℕ) → List A → List A
 rising_by key [] = []
 rising_by key (x ∷ xs) = placed_by key x (rising_by key xs)
 
+-- the SET record
+abbrev pub set_in : List Record → Option SetRecord
+set_in rs = find (λ s. true) (filter_map as_set rs)
+
 -- the id of the set
 abbrev pub set_id_in : List Record → List ℕ
-set_id_in rs = unwrap_or (find (λ name. true) (filter_map (λ r. option_map (λ s. s.id) (as_set r)) rs)) []
+set_id_in rs = unwrap_or (option_map (λ s. s.id) (set_in rs)) []
+
+-- its profile
+abbrev pub profile_in : List Record → ℕ
+profile_in rs = unwrap_or (option_map (λ s. s.profile) (set_in rs)) 1
 
 -- the tables of these records
 unfoldable pub tables_of : List Record → AcceptedTables
 tables_of rs = record {
   set_id = set_id_in rs;
+  profile = profile_in rs;
   commodities = commodities_in rs;
   contracts = contracts_in rs;
   tiers = tiers_in rs;
@@ -52,6 +64,10 @@ tables_of rs = record {
   spots = spots_in rs;
   inters = rising_by (λ s. s.priority) (inters_in rs);
 }
+
+-- options have a value under the set's profile
+abbrev pub has_option_value : AcceptedTables → Bool
+has_option_value t = t.profile == VALUE_PROFILE
 
 -- a leg with the months of its tier; a tier that there is not has none
 abbrev pub month_leg : List Tier → List ℕ → IntraLeg → MonthLeg

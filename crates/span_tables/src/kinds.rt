@@ -3,7 +3,7 @@ ghost use Rattle.std.specs.Prelude.{◌≡◌, ◌++◌, true, IfOk, OnOk, optio
 ghost use Rattle.span_tables.specs.near.ByKind.{AreByKind};
 ghost use Rattle.span_tables.specs.Limits.{begins_with_set};
 ghost use Rattle.span_tables.specs.Rules.{as_commodity, as_contract, as_inter, as_intra, as_spot, as_tier};
-ghost use Rattle.span_tables.specs.Tables.{set_id_in};
+ghost use Rattle.span_tables.specs.Tables.{profile_in, set_id_in};
 
 use crate::name::Name;
 use crate::records::{Commodity, Contract, InterRecord, IntraRecord, Record, Spot, Tier};
@@ -80,5 +80,17 @@ pub(crate) fn set_id(records: &[Record]) -> Name
     match records.first() {
         Some(Record::Set(set)) => set.id.copied(),
         _ => Name::default(),
+    }
+}
+
+// The profile of the set, which the first record has.
+pub(crate) fn profile(records: &[Record]) -> u8
+    requires { begins_with_set records.now ≡ true }
+    ensures { result ≡ profile_in records.now }
+{
+    if let Some(Record::Set(set)) = records.first() {
+        set.profile
+    } else {
+        1
     }
 }

@@ -6,8 +6,9 @@ ghost use Rattle.span_tables.specs.declared.limits.TheConstants.{MAX_INTRA_SPREA
 ghost use Rattle.span_tables.specs.declared.limits.TheConstants.{MAX_HELD, SCENARIOS, MIN_LEGS, MAX_LEGS, MAX_RATE};
 ghost use Rattle.span_tables.specs.declared.limits.TheConstants.{MAX_ARRAY_VALUE, MAX_DELTA, MAX_SCALE, MAX_RATIO};
 ghost use Rattle.span_tables.specs.declared.limits.TheConstants.{MAX_TIER_NUMBER, MAX_PRIORITY, MAX_BASIS_POINTS, MAX_QUANTITY};
+ghost use Rattle.span_tables.specs.declared.limits.TheConstants.{MAX_OPTION_VALUE, MAX_PROFILE, VALUE_PROFILE};
 
-/// How many there may be of each thing.
+/// How many there may be of each thing, and the profiles.
 pub fn counts_have_these_digits()
     ensures commodities { MAX_COMMODITIES ≡ 128 }
     ensures contracts { MAX_CONTRACTS ≡ 4096 }
@@ -21,12 +22,15 @@ pub fn counts_have_these_digits()
     ensures scenarios { SCENARIOS ≡ 16 }
     ensures least_legs { MIN_LEGS ≡ 2 }
     ensures most_legs { MAX_LEGS ≡ 4 }
+    ensures profile { MAX_PROFILE ≡ 2 }
+    ensures value_profile { VALUE_PROFILE ≡ 2 }
 {}
 
 /// How large each field may be: rates and values in minor units, deltas, scales, ratios and credit rates in 10^-4.
 pub fn sizes_have_these_digits()
     ensures rate { MAX_RATE ≡ 100000000 }
     ensures array_value { MAX_ARRAY_VALUE ≡ 100000000 }
+    ensures option_value { MAX_OPTION_VALUE ≡ 100000000 }
     ensures delta { MAX_DELTA ≡ 10000 }
     ensures scale { MAX_SCALE ≡ 100000 }
     ensures ratio { MAX_RATIO ≡ 10000000 }

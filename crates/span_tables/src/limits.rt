@@ -25,11 +25,17 @@ pub const SCENARIOS: usize = 16;
 pub const MIN_LEGS: usize = 2;
 /// Legs of an INTRA or INTER record, at most.
 pub const MAX_LEGS: usize = 4;
+/// The profile of a set, which is the version of its SET record, at most; the least is 1.
+pub const MAX_PROFILE: u8 = 2;
+/// The profile under which options have a value.
+pub const VALUE_PROFILE: u8 = 2;
 
 /// A rate, in minor units.
 pub const MAX_RATE: u32 = 100_000_000;
 /// The size of a risk array value, in minor units.
 pub const MAX_ARRAY_VALUE: u32 = 100_000_000;
+/// An option value, in minor units.
+pub const MAX_OPTION_VALUE: u32 = 100_000_000;
 /// The size of a composite delta, in 10^-4.
 pub const MAX_DELTA: u32 = 10_000;
 /// A delta scaling factor, in 10^-4.

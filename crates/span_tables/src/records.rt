@@ -34,10 +34,13 @@ pub enum Side {
     B,
 }
 
-/// The set of parameters: its id and its currency.
+/// The set of parameters: its id, its profile and its currency.
+///
+/// The profile is the version of the SET record: 1, or 2, under which options have a value.
 #[derive(Drop)]
 pub struct SetRecord {
     pub id: Name,
+    pub profile: u8,
     pub currency: [u8; 3],
 }
 
@@ -49,9 +52,10 @@ pub struct Commodity {
     pub method: MinimumMethod,
 }
 
-/// A contract: its composite delta, its delta scaling factor and its risk array.
+/// A contract: its composite delta, its delta scaling factor, its risk array and its option value.
 ///
-/// `month` is `yyyymm`. A value of the risk array is for one long contract, in minor units; a loss is positive.
+/// `month` is `yyyymm`. A value of the risk array is for one long contract, in minor units; a loss is positive. The option
+/// value is what one long contract is worth, in minor units: 0 for a future, and for every contract under profile 1.
 #[derive(Drop)]
 pub struct Contract {
     pub id: Name,
@@ -61,6 +65,7 @@ pub struct Contract {
     pub delta: Delta,
     pub scale: Scale,
     pub values: [i64; 16],
+    pub option_value: u32,
 }
 
 impl Contract {
@@ -78,6 +83,7 @@ impl Contract {
             delta: self.delta,
             scale: self.scale,
             values: self.values,
+            option_value: self.option_value,
         }
     }
 }

@@ -1,8 +1,9 @@
 //! Records of which the worked cases and the tests of the crates above are made.
 ghost use Rattle.std.specs.Prelude.{◌≡◌, true};
 ghost use Rattle.span_tables.specs.Names.{is_name};
-ghost use Rattle.span_tables.specs.Samples.{commodity, contract, set, spread};
+ghost use Rattle.span_tables.specs.Samples.{commodity, contract, set, set_under, spread, value_set};
 
+use crate::limits::VALUE_PROFILE;
 use crate::name::Name;
 use crate::records::{
     Commodity, Contract, InterLeg, InterRecord, MinimumMethod, ProductKind, Record, SetRecord, Side,
@@ -15,13 +16,30 @@ pub const FUTURE_VALUES: [i64; 16] = [
     0, 0, -400, -400, 400, 400, -800, -800, 800, 800, -1200, -1200, 1200, 1200, -1188, 1188,
 ];
 
-/// The set of this id, in US dollars.
+/// The set of this id, under profile 1, in US dollars.
 pub fn set(id: &[u8]) -> Record
     requires { is_name id.now ≡ true }
     ensures { result ≡ set id.now }
 {
+    set_under(1, id)
+}
+
+/// The set of this id, under the profile in which options have a value, in US dollars.
+pub fn value_set(id: &[u8]) -> Record
+    requires { is_name id.now ≡ true }
+    ensures { result ≡ value_set id.now }
+{
+    set_under(VALUE_PROFILE, id)
+}
+
+// The set of this id, under a profile, in US dollars.
+fn set_under(profile: u8, id: &[u8]) -> Record
+    requires { is_name id.now ≡ true }
+    ensures { result ≡ set_under profile id.now }
+{
     Record::Set(SetRecord {
         id: Name::of(id),
+        profile,
         currency: *b"USD",
     })
 }
@@ -38,7 +56,7 @@ pub fn commodity(id: &[u8]) -> Record
     })
 }
 
-/// The contract of this id, with delta 1 and scale 1: its kind, its commodity, its month and its values in minor units.
+/// The contract of this id, with delta 1, scale 1 and option value 0: its kind, its commodity, its month and its values in minor units.
 pub fn contract(kind: ProductKind, id: &[u8], of: &[u8], month: u32, values: [i64; 16]) -> Contract
     requires id { is_name id.now ≡ true }
     requires of { is_name of.now ≡ true }
@@ -52,6 +70,7 @@ pub fn contract(kind: ProductKind, id: &[u8], of: &[u8], month: u32, values: [i6
         delta: Delta::new(10_000),
         scale: Scale::new(10_000),
         values,
+        option_value: 0,
     }
 }
 

@@ -4,11 +4,12 @@ ghost use Rattle.std.specs.Prelude.{slice_get, slice_index_or, false, true, All,
 ghost use Rattle.std.specs.Arc.{arc_value};
 ghost use Rattle.span_tables.specs.Accepted.{IsAccepted, IsInter, IsIntra, IsSpot, IsWithinLimits, commodity_id, commodity_number};
 ghost use Rattle.span_tables.specs.Rules.{keeps_rules};
-ghost use Rattle.span_tables.specs.Tables.{inters_of, intras_of, spots_of, tables_of};
+ghost use Rattle.span_tables.specs.Tables.{has_option_value, inters_of, intras_of, spots_of, tables_of};
 ghost use Rattle.span_tables.specs.declared.limits.TheConstants.{MAX_INTER_SPREADS, MAX_INTRA_SPREADS, MAX_SPOT_MONTHS};
 
 use crate::groups::{numbers_of, spots_by_commodity};
-use crate::kinds::{Kinds, by_kind, set_id};
+use crate::kinds::{Kinds, by_kind, profile, set_id};
+use crate::limits::VALUE_PROFILE;
 use crate::name::Name;
 use crate::raw::RawTables;
 use crate::records::{Commodity, Contract, Inter, InterRecord, Intra, IntraRecord, Spot, Tier};
@@ -36,6 +37,7 @@ pub struct Counts {
 #[derive(Drop)]
 pub struct Tables {
     set_id: Name,
+    version: u8,
     commodities: Vec<Commodity>,
     contracts: Arc<Vec<Contract>>,
     tiers: Vec<Tier>,
@@ -58,6 +60,7 @@ impl Model for Tables {
 
     ghost view = { λ t. record {
       set_id = t.set_id;
+      profile = t.version;
       commodities = t.commodities.items;
       contracts = (arc_value t.contracts).items;
       tiers = t.tiers.items;
@@ -69,6 +72,7 @@ impl Model for Tables {
     ghost invariant = { λ t. IsTables
         (record {
           set_id = t.set_id;
+          profile = t.version;
           commodities = t.commodities.items;
           contracts = (arc_value t.contracts).items;
           tiers = t.tiers.items;
@@ -94,6 +98,7 @@ impl Tables {
         ensures { IfOk result (λ tables. tables ≡ tables_of raw) }
     {
         let set_id = set_id(raw.records());
+        let profile = profile(raw.records());
         let kinds = by_kind(alloc, raw.into_records())?;
         let intras = intras_by_priority(kinds.intras)?;
         let inters = inters_by_priority(kinds.inters)?;
@@ -105,13 +110,19 @@ impl Tables {
             spots: kinds.spots,
             inters,
         };
-        Tables::with_numbers(alloc, set_id, sorted)
+        Tables::with_numbers(alloc, set_id, profile, sorted)
     }
 
     // The tables of records that are in order, with what they name.
-    fn with_numbers(alloc: Global, set_id: Name, kinds: Kinds) -> Result<Tables, AllocError>
+    fn with_numbers(
+        alloc: Global,
+        set_id: Name,
+        profile: u8,
+        kinds: Kinds,
+    ) -> Result<Tables, AllocError>
         requires { IsAccepted (record {
           set_id = set_id;
+          profile = profile;
           commodities = kinds.commodities.items;
           contracts = kinds.contracts.items;
           tiers = kinds.tiers.items;
@@ -121,6 +132,7 @@ impl Tables {
         }) }
         ensures { IfOk result (λ tables. tables ≡ record {
           set_id = set_id;
+          profile = profile;
           commodities = kinds.commodities.items;
           contracts = kinds.contracts.items;
           tiers = kinds.tiers.items;
@@ -140,6 +152,7 @@ impl Tables {
         let contracts = Arc::new(alloc, kinds.contracts)?;
         Ok(Tables {
             set_id,
+            version: profile,
             commodities: kinds.commodities,
             contracts,
             tiers: kinds.tiers,
@@ -158,6 +171,20 @@ impl Tables {
         ensures { result.now ≡ self.now.set_id }
     {
         &self.set_id
+    }
+
+    /// The profile of the set: the version of its SET record, 1 or 2.
+    pub fn profile(&self) -> u8
+        ensures { result ≡ self.now.profile }
+    {
+        self.version
+    }
+
+    /// Whether options have a value under the profile of the set.
+    pub fn has_option_value(&self) -> bool
+        ensures { result ≡ has_option_value self.now }
+    {
+        self.profile() == VALUE_PROFILE
     }
 
     /// The commodities by their numbers.

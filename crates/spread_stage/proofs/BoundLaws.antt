@@ -26,7 +26,7 @@ use Rattle.spread_stage.specs.declared.charges.TheConstants.{MAX_DELIVERY_CHARGE
 use Rattle.spread_stage.specs.declared.months.MonthUnits.{MonthUnits}
 use Rattle.spread_stage.proofs.DeltaLemmas.{month_deltas-cons, size-with_units}
 use Rattle.spread_stage.proofs.MonthLaws.{month_deltas_rise}
-use Rattle.spread_stage.proofs.ProductLemmas.{product_size}
+use Rattle.span_money.proofs.WordLemmas.{product_size}
 use Rattle.spread_stage.proofs.SizeLemmas.{left_le, units_at_le}
 use Rattle.spread_stage.proofs.SpreadLemmas.{formed_falls, legs_rise}
 

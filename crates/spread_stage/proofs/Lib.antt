@@ -1,6 +1,5 @@
 pub mod MonthLaws
 pub mod UseLaws
-pub mod ProductLemmas
 pub mod DeltaLemmas
 pub mod ForwardLemmas
 pub mod PlaceLemmas

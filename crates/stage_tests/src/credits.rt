@@ -2,15 +2,20 @@
 ghost use Rattle.std.specs.Prelude.{◌≡◌, ◌<◌, ◌≤◌, All, IfOk, length, nat_abs};
 ghost use Rattle.span_tables.specs.Accepted.{IsContract, IsInter};
 ghost use Rattle.inter_credit.specs.declared.requirement.TheConstants.{MAX_PART};
+ghost use Rattle.span_tables.specs.declared.limits.TheConstants.{MAX_OPTION_VALUE};
 
 use arrayvec::ArrayVec;
 use inter_credit::credit::credit;
+use inter_credit::option_value::net_value;
 use inter_credit::requirement::{MAX_PART, minimum, requirement};
 use inter_credit::spreads::inter_spread;
 use inter_credit::state::{InterLine, InterState, empty, load};
 use span_money::amounts::{Money, Ratio, Units};
 use span_tables::held::Held;
-use span_tables::limits::{MAX_BASIS_POINTS, MAX_NET, MAX_PRICE2, MAX_RATIO, MAX_UNITS, SCENARIOS};
+use span_tables::limits::{
+    MAX_BASIS_POINTS, MAX_HELD, MAX_NET, MAX_OPTION_VALUE, MAX_PRICE2, MAX_RATIO, MAX_UNITS,
+    SCENARIOS,
+};
 use span_tables::portfolios::Holding;
 use span_tables::records::{CommodityLeg, Contract, Inter, MinimumMethod, ProductKind, Side};
 use span_tables::samples::contract;
@@ -258,6 +263,49 @@ fn minimums(rt: HostRuntime) -> Result<(), Fail> {
     assert_eq!(rt; minimum(&held, 500, MinimumMethod::Sum).get(), 2500);
     assert_eq!(rt; minimum(&held, 500, MinimumMethod::Max).get(), 1500);
     assert_eq!(rt; minimum(&held, 0, MinimumMethod::Sum).get(), 0);
+    Ok(())
+}
+
+// A contract of a kind that is worth so much.
+fn contract_worth(kind: ProductKind, option_value: u32) -> Contract
+    requires { option_value ≤ MAX_OPTION_VALUE }
+    ensures { IsContract result }
+{
+    let mut contract = contract_of(kind);
+    contract.option_value = option_value;
+    contract
+}
+
+// The option value of held contracts: of each the kind, what one is worth, and the net quantity.
+fn net_value_of(
+    rt: &impl Abort,
+    alloc: Global,
+    positions: &[(ProductKind, u32, i64)],
+) -> Result<i128, AllocError> {
+    let mut contracts = Vec::new(alloc);
+    let mut holdings = Vec::new(alloc);
+    for (kind, option_value, net) in positions {
+        assert!(rt; net.unsigned_abs() <= MAX_NET && *option_value <= MAX_OPTION_VALUE);
+        assert!(rt; contracts.len() < MAX_HELD);
+        holdings.push(Holding {
+            contract: contracts.len(),
+            net: *net,
+        })?;
+        contracts.push(contract_worth(*kind, *option_value))?;
+    }
+    let held = Held::new(Arc::new(alloc, contracts)?, holdings);
+    Ok(net_value(&held).get())
+}
+
+#[test]
+fn net_values(rt: HostRuntime) -> Result<(), Fail> {
+    let alloc = rt.alloc();
+    let future = [(ProductKind::Future, 0, 1)];
+    let long_call = [(ProductKind::Call, 120, 1)];
+    let short_options = [(ProductKind::Call, 120, -2), (ProductKind::Put, 80, -3)];
+    assert_eq!(rt; net_value_of(&rt, alloc, &future)?, 0);
+    assert_eq!(rt; net_value_of(&rt, alloc, &long_call)?, 120);
+    assert_eq!(rt; net_value_of(&rt, alloc, &short_options)?, -480);
     Ok(())
 }
 

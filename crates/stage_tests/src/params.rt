@@ -85,7 +85,8 @@ fn names_each_fault(rt: HostRuntime) -> Result<(), Fail> {
         behind_set(alloc, "TIER,GC,1,202613,202602")? == Err(ParamFault::OutOfRange { at: 2 })
     );
     assert!(rt; behind_set(alloc, "SPOT,GC,202601,1,-1")? == Err(ParamFault::OutOfRange { at: 2 }));
-    assert!(rt; count(alloc, b"SET,S1,2,USD\n")? == Err(ParamFault::OutOfRange { at: 1 }));
+    assert!(rt; count(alloc, b"SET,S1,3,USD\n")? == Err(ParamFault::OutOfRange { at: 1 }));
+    assert!(rt; count(alloc, b"SET,S1,2,USD\n")? == Ok(1));
     assert!(rt; count(alloc, b"SET,S1,1,usd\n")? == Err(ParamFault::BadName { at: 1 }));
     Ok(())
 }

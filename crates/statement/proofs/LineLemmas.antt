@@ -1,11 +1,11 @@
 -- A line in its parts is the line of its fields.
-use Rattle.std.proofs.Common.{◌≡◌, ℕ, ℤ, List, [], ◌∷◌, ◌++◌, ◌+◌, refl, sym, ap, ◌∙◌, arith, flat_map}
+use Rattle.std.proofs.Common.{◌≡◌, ℕ, ℤ, List, [], ◌∷◌, ◌++◌, ◌+◌, refl, sym, ap, ◌∙◌, arith, flat_map, map}
 use Rattle.std.specs.Prelude.{decimal}
 use Rattle.std.specs.Fmt.{signed_decimal}
 use Rattle.std.specs.List.{join_with_byte, range_with_len}
 use Rattle.std.proofs.lemmas.List.FromFn.{map-range_with_len_more}
 use Rattle.std.proofs.lemmas.List.{append_assoc, append-nil, map-id}
-use Rattle.statement.specs.near.LineForms.{field, figures_form, total_form}
+use Rattle.statement.specs.near.LineForms.{field, figures_form, number, total_form}
 use Rattle.statement.specs.Statement.{figures_line, total_line}
 use Rattle.plan_ir.specs.declared.figures.Figures.{Figures}
 
@@ -17,8 +17,8 @@ joined first (x ∷ rest) = ap (λ t. first ++ (44 ∷ t)) (joined x rest)
 three_and_more : (x : ℕ) (a s c more e : List ℕ) → ((x ∷ (a ++ s)) ++ c) ++ more ++ e ≡ (x ∷ (a ++ (s ++ (c ++ more)))) ++ e
 three_and_more x a s c more e = simp append_assoc refl
 
-two_and_more : (x : ℕ) (a s more e : List ℕ) → (x ∷ (a ++ s)) ++ more ++ e ≡ (x ∷ (a ++ (s ++ (more ++ [])))) ++ e
-two_and_more x a s more e = simp (append_assoc, append-nil) refl
+two_and_more : (x : ℕ) (a s more e : List ℕ) → (x ∷ (a ++ s)) ++ more ++ e ≡ (x ∷ (a ++ (s ++ more))) ++ e
+two_and_more x a s more e = simp append_assoc refl
 
 pub figures_form_is : (account set_id commodity : List ℕ) (f : Figures)
     → figures_form account set_id commodity f ≡ figures_line account set_id commodity f
@@ -29,11 +29,17 @@ figures_form_is account set_id commodity f =
     three_and_more 82 (field account) (field set_id) (field commodity) (flat_map field texts) (10 ∷ [])
     ∙ ap (λ t. t ++ 10 ∷ []) (sym (joined (82 ∷ []) (account ∷ set_id ∷ commodity ∷ texts)))
 
-pub total_form_is : (account set_id : List ℕ) (total : ℤ) → total_form account set_id total ≡ total_line account set_id total
+numbers_are_fields : (numbers : List ℤ) → flat_map number numbers ≡ flat_map field (map signed_decimal numbers)
+numbers_are_fields [] = refl
+numbers_are_fields (n ∷ numbers) = ap (λ t. number n ++ t) (numbers_are_fields numbers)
+
+pub total_form_is : (account set_id : List ℕ) (numbers : List ℤ)
+    → total_form account set_id numbers ≡ total_line account set_id numbers
 unfolding total_form total_line
-total_form_is account set_id total =
-    two_and_more 84 (field account) (field set_id) (field (signed_decimal total)) (10 ∷ [])
-    ∙ ap (λ t. t ++ 10 ∷ []) (sym (joined (84 ∷ []) (account ∷ set_id ∷ signed_decimal total ∷ [])))
+total_form_is account set_id numbers =
+    ap (λ t. (84 ∷ (field account ++ field set_id)) ++ t ++ 10 ∷ []) (numbers_are_fields numbers)
+    ∙ two_and_more 84 (field account) (field set_id) (flat_map field (map signed_decimal numbers)) (10 ∷ [])
+    ∙ ap (λ t. t ++ 10 ∷ []) (sym (joined (84 ∷ []) (account ∷ set_id ∷ map signed_decimal numbers)))
 
 -- one number more
 pub range_more : (n : ℕ) → range_with_len 0 (n + 1) ≡ range_with_len 0 n ++ n ∷ []

@@ -1,16 +1,17 @@
 -- The text of a statement, from the bytes of both files.
-use Rattle.std.specs.Prelude.{ℕ, List, [], ◌∷◌, ◌++◌, flat_map, codes, ℤ, decimal, length, Result, Ok, Err}
+use Rattle.std.specs.Prelude.{ℕ, List, [], ◌∷◌, ◌++◌, flat_map, map, codes, ℤ, pos, decimal, length, Result, Ok, Err}
 use Rattle.std.specs.Prelude.{if◌then◌else◌, ◌==◌, ◌||◌, nat_lt}
 use Rattle.std.specs.List.{join_with_byte, range_with_len}
 use Rattle.std.specs.Fmt.{signed_decimal}
 use Rattle.span_csv.specs.ParamFaults.{params_of}
 use Rattle.span_csv.specs.PositionFaults.{positions_of}
 use Rattle.param_check.specs.CheckFaults.{checked}
-use Rattle.span_tables.specs.Tables.{AcceptedTables}
+use Rattle.span_tables.specs.Tables.{AcceptedTables, has_option_value}
 use Rattle.span_tables.specs.Net.{AccountHoldings}
 use Rattle.span_tables.specs.declared.records.PositionRecord.{PositionRecord}
 use Rattle.param_check.specs.Binding.{bindings_of}
-use Rattle.plan_ir.specs.Figures.{commodity_at, figures_of, is_held, total_to}
+use Rattle.inter_credit.specs.OptionValue.{due_of, excess_of}
+use Rattle.plan_ir.specs.Figures.{commodity_at, figures_of, is_held, option_value_of, total_to}
 use Rattle.plan_ir.specs.declared.figures.Figures.{Figures}
 use Rattle.statement.specs.declared.faults.SpanFault.{SpanFault}
 use Rattle.statement.specs.declared.faults.SpanFault.TheVariants as fault
@@ -28,9 +29,9 @@ figures_line account set_id commodity f =
     line (codes "R" ∷ account ∷ set_id ∷ commodity ∷ signed_decimal f.scan ∷ decimal f.active ∷ signed_decimal f.intra
     ∷ signed_decimal f.delivery ∷ signed_decimal f.credit ∷ signed_decimal f.minimum ∷ signed_decimal f.requirement ∷ [])
 
--- the line of an account's total
-unfoldable pub total_line : List ℕ → List ℕ → ℤ → List ℕ
-total_line account set_id total = line (codes "T" ∷ account ∷ set_id ∷ signed_decimal total ∷ [])
+-- the last line of an account: its total, and the numbers behind it
+unfoldable pub total_line : List ℕ → List ℕ → List ℤ → List ℕ
+total_line account set_id numbers = line (codes "T" ∷ account ∷ set_id ∷ map signed_decimal numbers)
 
 -- the line of an account for the commodity of a number, where it holds a contract of it
 abbrev pub commodity_text : AcceptedTables → AccountHoldings → ℕ → List ℕ
@@ -43,10 +44,17 @@ commodity_text t p c =
 abbrev pub total_of : AcceptedTables → AccountHoldings → ℤ
 total_of t p = total_to t p.holdings (length t.commodities)
 
+-- The numbers of its last line: the total; and where options have a value, the account's option value, what it has to bring
+-- after it, and what that value is over the total.
+abbrev pub total_numbers : AcceptedTables → ℤ → ℤ → List ℤ
+total_numbers t total value =
+    if has_option_value t then total ∷ value ∷ pos (due_of total value) ∷ pos (excess_of total value) ∷ [] else total ∷ []
+
 -- the lines of an account: its figures in each commodity that it holds, in file order, and its total
 unfoldable pub row_text : AcceptedTables → AccountHoldings → List ℕ
 row_text t p =
-    flat_map (commodity_text t p) (range_with_len 0 (length t.commodities)) ++ total_line p.account t.set_id (total_of t p)
+    flat_map (commodity_text t p) (range_with_len 0 (length t.commodities))
+    ++ total_line p.account t.set_id (total_numbers t (total_of t p) (option_value_of t p.holdings))
 
 -- the statement of some portfolios, in their order
 unfoldable pub statement_text : AcceptedTables → List AccountHoldings → List ℕ

@@ -9,6 +9,7 @@ ghost use Rattle.span_csv.specs.ParamFaults.{params_of};
 ghost use Rattle.span_csv.specs.PositionFaults.{positions_of};
 ghost use Rattle.span_csv.specs.declared.faults.ParamFault.{ParamFault};
 ghost use Rattle.span_csv.specs.declared.faults.PositionFault.{PositionFault};
+ghost use Rattle.plan_ir.specs.Figures.{option_value_of};
 ghost use Rattle.span_tables.specs.Net.{AccountHoldings};
 ghost use Rattle.span_tables.specs.Tables.{AcceptedTables};
 ghost use Rattle.span_tables.specs.declared.records.PositionRecord.{PositionRecord};
@@ -18,7 +19,7 @@ ghost use Rattle.statement.specs.FaultLines.{fault_line, fault_status, memory_li
 ghost use Rattle.statement.specs.Rolls.{roll_of};
 ghost use Rattle.statement.specs.SpanFaults.{of_next};
 ghost use Rattle.statement.specs.Statement.{commodity_text, margin_of, row_text, statement_of, statement_text};
-ghost use Rattle.statement.specs.Statement.{statement_under, total_line, total_of};
+ghost use Rattle.statement.specs.Statement.{statement_under, total_line, total_numbers, total_of};
 ghost use Rattle.statement.specs.declared.faults.SpanFault.{SpanFault};
 ghost use Rattle.statement.specs.declared.faults.SpanFault.TheVariants as fault;
 ghost use Rattle.std.specs.Prelude.{◌++◌, ◌≡◌, ◌<◌, ◌≤◌, ◌∷◌, Err, List, Ok, [], flat_map};
@@ -30,7 +31,7 @@ ghost use Rattle.std.specs.List.{range_with_len};
 pub fn lines_end_with_the_total()
     ensures { (t : AcceptedTables) (p : AccountHoldings) → row_text t p
         ≡ flat_map (commodity_text t p) (range_with_len 0 (length t.commodities))
-        ++ total_line p.account t.set_id (total_of t p) }
+        ++ total_line p.account t.set_id (total_numbers t (total_of t p) (option_value_of t p.holdings)) }
 {}
 
 /// No accounts give no bytes, and neither does an empty position file; the lines of some accounts do not depend on the

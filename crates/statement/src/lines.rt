@@ -1,8 +1,10 @@
 //! The text of a statement.
 ghost use Rattle.statement.specs.near.LineForms.{field, figures_fields, figures_form, number, total_form};
-ghost use Rattle.statement.specs.Statement.{commodity_text, figures_line, row_text, total_line};
+ghost use Rattle.statement.specs.Statement.{commodity_text, figures_line, row_text, total_line, total_numbers, total_of};
+ghost use Rattle.inter_credit.specs.OptionValue.{due_of, excess_of};
+ghost use Rattle.plan_ir.specs.Figures.{option_value_of};
 ghost use Rattle.std.specs.Arc.{arc_value};
-ghost use Rattle.std.specs.Prelude.{[], ◌++◌, ◌∷◌, ◌≡◌, ◌<◌, IfOk, OnOk, flat_map, length, map};
+ghost use Rattle.std.specs.Prelude.{[], ◌++◌, ◌∷◌, ◌≡◌, ◌<◌, IfOk, OnOk, flat_map, length, map, pos};
 
 use itoa::Buffer;
 use plan_ir::figures::Figures;
@@ -124,26 +126,60 @@ fn push_total_parts(
     out: &mut Vec<u8>,
     account: &Name,
     set_id: &Name,
-    total: Money,
+    numbers: &[i128],
 ) -> Result<(), AllocError>
-    ensures { OnOk result (out.new.items ≡ out.old.items ++ total_form account.now set_id.now total) }
+    ensures { OnOk result (out.new.items ≡ out.old.items ++ total_form account.now set_id.now numbers.now) }
 {
     push_start(out, b'T', account, set_id)?;
-    push_number(out, total.get())?;
+    push_numbers(out, numbers)?;
     out.push(b'\n')?;
     Ok(())
 }
 
-// The line of an account's total.
+// The last line of an account: its total, and the numbers behind it.
 fn push_total(
     out: &mut Vec<u8>,
     account: &Name,
     set_id: &Name,
-    total: Money,
+    numbers: &[i128],
 ) -> Result<(), AllocError>
-    ensures { OnOk result (out.new.items ≡ out.old.items ++ total_line account.now set_id.now total) }
+    ensures { OnOk result (out.new.items ≡ out.old.items ++ total_line account.now set_id.now numbers.now) }
 {
-    push_total_parts(out, account, set_id, total)
+    push_total_parts(out, account, set_id, numbers)
+}
+
+// What an account has to bring after its option value, in minor units.
+fn due(total: Money, value: Money) -> i128
+    ensures { result ≡ pos (due_of total value) }
+{
+    (total.get() - value.get()).max(0)
+}
+
+// What an account's option value is over its total, in minor units.
+fn excess(total: Money, value: Money) -> i128
+    ensures { result ≡ pos (excess_of total value) }
+{
+    due(value, total)
+}
+
+// The last line of an account. Where options have a value it has that of the account, too, and what follows from it.
+fn push_account(out: &mut Vec<u8>, row: &Row) -> Result<(), AllocError>
+    ensures { OnOk result (out.new.items ≡ out.old.items ++ total_line row.now.portfolio.account row.now.set.tables.set_id
+        (total_numbers row.now.set.tables (total_of row.now.set.tables row.now.portfolio)
+        (option_value_of row.now.set.tables row.now.portfolio.holdings))) }
+{
+    let total = row.total();
+    if !row.set().tables().has_option_value() {
+        return push_total(out, row.account(), row.set_id(), &[total.get()]);
+    }
+    let value = row.value();
+    let numbers = [
+        total.get(),
+        value.get(),
+        due(total, value),
+        excess(total, value),
+    ];
+    push_total(out, row.account(), row.set_id(), &numbers)
 }
 
 /// Appends the lines of an account: its figures in each commodity that it holds, in file order, and its total
@@ -155,7 +191,7 @@ pub fn push_row(out: &mut Vec<u8>, row: &Row) -> Result<(), AllocError>
     for number in 0..row.set().tables().commodities().len() {
         push_held(out, row, number)?;
     }
-    push_total(out, row.account(), row.set_id(), row.total())
+    push_account(out, row)
 }
 
 /// Appends the lines of these rows, in their order. `Err` is want of memory.

@@ -4,7 +4,7 @@ use result_book::books::{BookFault, ResultBook};
 use sample_files::calendar::{
     BOTH_STATEMENTS, NEXT, NEXT_WITH_A_COMMODITY_TWICE, NEXT_WITHOUT_A_CONTRACT, PARAMS, POSITIONS,
 };
-use sample_files::two_commodities;
+use sample_files::{option_values, two_commodities};
 use span_csv::faults::{ParamFault, PositionFault};
 use span_tables::name::Name;
 use statement::fault_lines::write_fault;
@@ -47,6 +47,39 @@ fn next_set_in_another_order(rt: HostRuntime) -> Result<(), Fail> {
         &book,
     )?;
     assert_eq!(rt; text.as_slice(), two_commodities::BOTH_STATEMENTS);
+    Ok(())
+}
+
+// From a set without option values to one with them, and back: each statement has the lines of its own set.
+#[test]
+fn next_set_of_another_profile(rt: HostRuntime) -> Result<(), Fail> {
+    let alloc = rt.alloc();
+    let cases: [(&[u8], &[u8], &[u8]); 2] = [
+        (
+            option_values::WITHOUT,
+            option_values::PARAMS,
+            option_values::INTO_VALUES,
+        ),
+        (
+            option_values::PARAMS,
+            option_values::WITHOUT,
+            option_values::OUT_OF_VALUES,
+        ),
+    ];
+    for (params, next, expected) in cases {
+        let book = Mutex::new(ResultBook::new(alloc));
+        let text = roll(
+            &rt,
+            alloc,
+            params,
+            next,
+            option_values::POSITIONS,
+            2,
+            &OpenGate,
+            &book,
+        )?;
+        assert_eq!(rt; text.as_slice(), expected);
+    }
     Ok(())
 }
 

@@ -427,6 +427,9 @@ Options:
 Prints a line for each commodity that an account holds, then one for its total:
   R,account,set,commodity,scan,active,intra,delivery,credit,minimum,requirement
   T,account,set,total
+Under a set of version 2, whose options have a value, the last line goes on with the value of the account's
+options, what it has to bring after that, and what their value is over the total:
+  T,account,set,total,value,due,excess
 Amounts are whole numbers in the minor unit of the set's currency, as cents for USD;
 `active` is the scenario, 1 to 16, that decides the scan risk.
 docs/FORMATS.md describes the files and the statement, docs/METHOD.md the figures.
@@ -474,7 +477,9 @@ fn helps(rt: HostRuntime) -> Result<(), Fail> {
 fn names_its_version(rt: HostRuntime) -> Result<(), Fail> {
     let alloc = rt.alloc();
     for word in ["--version", "-V"] {
-        assert!(rt; run(&rt, alloc, &["span", word]).is(0, b"span 1.0.0 (profile 1)\n", b""));
+        assert!(rt;
+            run(&rt, alloc, &["span", word]).is(0, b"span 1.1.0 (profile 1 and profile 2)\n", b"")
+        );
     }
     Ok(())
 }

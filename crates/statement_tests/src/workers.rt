@@ -1,5 +1,5 @@
 //! Statements on many workers.
-use sample_files::{calendar, one_future, three_commodities, two_commodities};
+use sample_files::{calendar, one_future, option_values, three_commodities, two_commodities};
 use statement::faults::SpanFault;
 use statement::margin::margin;
 use std::test::Fail;
@@ -27,7 +27,7 @@ T,Y,D1,1800
 #[test]
 fn the_same_bytes_on_each_number_of_workers(rt: HostRuntime) -> Result<(), Fail> {
     let alloc = rt.alloc();
-    let cases: [(&[u8], &[u8], &[u8]); 5] = [
+    let cases: [(&[u8], &[u8], &[u8]); 6] = [
         (
             one_future::PARAMS,
             one_future::POSITIONS,
@@ -48,6 +48,11 @@ fn the_same_bytes_on_each_number_of_workers(rt: HostRuntime) -> Result<(), Fail>
             three_commodities::PARAMS,
             TWO_ACCOUNTS,
             TWO_ACCOUNTS_STATEMENT,
+        ),
+        (
+            option_values::PARAMS,
+            option_values::POSITIONS,
+            option_values::STATEMENT,
         ),
     ];
     for (params, positions, statement) in cases {

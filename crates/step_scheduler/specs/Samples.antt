@@ -1,7 +1,9 @@
 -- Worked cases that the tests run: records, and what the account holds of them.
 use Rattle.std.specs.Prelude.{ℕ, ℤ, List, [], ◌∷◌, codes, neg_ℤ, pos}
-use Rattle.span_tables.specs.Samples.{commodity, contract, set, spread}
+use Rattle.span_tables.specs.Samples.{commodity, contract, set, spread, value_set}
 use Rattle.span_tables.specs.declared.portfolios.Holding.{Holding}
+use Rattle.std.specs.List.{repeat}
+use Rattle.span_tables.specs.declared.records.ProductKind.{ProductKind}
 use Rattle.span_tables.specs.declared.records.ProductKind.TheVariants as product
 use Rattle.span_tables.specs.declared.records.Record.{Record}
 use Rattle.span_tables.specs.declared.records.Record.TheVariants as record_of
@@ -44,6 +46,28 @@ three_commodities =
     ∷ future (codes "FC") (codes "CC") values_of_fc
     ∷ spread 1 5000 (codes "AA") (codes "BB")
     ∷ spread 2 2000 (codes "AA") (codes "CC")
+    ∷ []
+
+-- an option that gains and loses nothing, and is worth so much
+abbrev pub option : ProductKind → List ℕ → ℕ → Record
+option kind id value = record_of.Contract (record {
+  id = id;
+  commodity = codes "AA";
+  kind = kind;
+  month = 202503;
+  delta = pos 10000;
+  scale = 10000;
+  values = repeat 16 (pos 0 ∷ []);
+  option_value = value;
+})
+
+-- a call and a put, each with an option value
+abbrev pub two_options : List Record
+two_options =
+    value_set (codes "D2")
+    ∷ commodity (codes "AA")
+    ∷ option product.Call (codes "CA") 120
+    ∷ option product.Put (codes "PA") 80
     ∷ []
 
 -- the job of account X with these holdings, the first of its batch

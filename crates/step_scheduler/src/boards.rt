@@ -3,7 +3,7 @@ ghost use Rattle.std.specs.Prelude.{◌≡◌, ◌<◌, ◌↔◌, ◌++◌, ◌
 ghost use Rattle.std.specs.Prelude.{IfOk, IfSome, IfNone, IsTrue, OnOk, OnErr};
 ghost use Rattle.std.specs.Prelude.{IsSome, length};
 ghost use Rattle.std.specs.Arc.{arc_value};
-ghost use Rattle.plan_ir.specs.Figures.{figures_of, total_to};
+ghost use Rattle.plan_ir.specs.Figures.{figures_of, option_value_of, total_to};
 ghost use Rattle.plan_ir.specs.Plans.{inputs_at};
 ghost use Rattle.step_scheduler.specs.Boards.{IsComplete};
 ghost use Rattle.step_scheduler.specs.Jobs.{inputs_for, meaning_at};
@@ -231,5 +231,20 @@ impl Board {
         let step = self.job.set().total_step();
         let value = kept(&self.job, self.places.as_slice(), step as usize);
         Some(value.total())
+    }
+    /// The account's option value, in minor units, once the board is complete, and `None` before. It is 0 under a profile in
+    /// which options have none.
+    pub fn value(&self) -> Option<Money>
+        ensures complete { IsSome result ↔ IsComplete self.now }
+        ensures value { IfSome result (λ value. value ≡ option_value_of self.now.job.set.tables self.now.job.portfolio.holdings) }
+    {
+        if !self.is_complete() {
+            return None;
+        }
+        let Some(step) = self.job.set().value_step() else {
+            return Some(Money::new(0));
+        };
+        let value = kept(&self.job, self.places.as_slice(), step as usize);
+        Some(value.premium())
     }
 }

@@ -8,4 +8,5 @@ abbrev pub IsChangeable : Value → Type 0
 IsChangeable (value.Tiers x) = ⊤
 IsChangeable (value.Inter x) = ⊤
 IsChangeable (value.Total x) = ⊤
+IsChangeable (value.Premium x) = ⊤
 IsChangeable v = ⊥

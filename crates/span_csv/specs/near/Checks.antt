@@ -1,4 +1,4 @@
--- The faults of a parameter record part by part, and the counts that its limits speak of.
+-- The faults of a parameter record part by part, the counts that its limits speak of, and the profile that its forms go by.
 use Rattle.std.specs.Prelude.{◌≡◌, ⊤, ℕ, ◌+◌, Bool, not, ◌&&◌, if◌then◌else◌, List, [], ◌∷◌, ◌++◌}
 use Rattle.std.specs.Prelude.{length, count_by, Some, None, option_map, is_none, unwrap_or, codes, bytes_eq, Result, Ok, Err, MatchBool}
 use Rattle.std.specs.HashMap.{HashMap, get}
@@ -7,8 +7,8 @@ use Rattle.span_tables.specs.declared.records.Record.{Record}
 use Rattle.span_tables.specs.declared.limits.TheConstants.{MAX_COMMODITIES, MAX_CONTRACTS, MAX_TIERS}
 use Rattle.span_tables.specs.declared.limits.TheConstants.{MAX_INTRA_SPREADS, MAX_SPOT_MONTHS, MAX_INTER_SPREADS}
 use Rattle.span_csv.specs.Records.{Fields, RecordKind, a_set, a_commodity, a_contract, a_tier, an_intra, a_spot, an_inter}
-use Rattle.span_csv.specs.Records.{kind_of, layout_of, text_at, has_word_form, has_number_form, is_in_range, param_record}
-use Rattle.span_csv.specs.ParamFaults.{is_set, some_fail, param_faults, is_memory}
+use Rattle.span_csv.specs.Records.{kind_of, layout_of, text_at, count_at, has_word_form, has_number_form, is_in_range, param_record}
+use Rattle.span_csv.specs.ParamFaults.{is_set, profile_of, some_fail, param_faults, is_memory}
 use Rattle.span_csv.specs.declared.faults.ParamFault.{ParamFault}
 use Rattle.span_csv.specs.declared.faults.ParamFault.TheVariants as fault
 use Rattle.span_csv.specs.declared.tally.Tally.{Tally}
@@ -18,12 +18,12 @@ abbrev pub kind_faults : Bool → Fields → List (Bool × (ℕ → ParamFault))
 kind_faults first r =
     (first && not (is_set r), fault.NoSet) ∷ (not first && is_set r, fault.SecondSet) ∷ (is_none (kind_of r), fault.UnknownKind) ∷ []
 
--- the faults of its fields
-abbrev pub field_faults : Fields → List (Bool × (ℕ → ParamFault))
-field_faults r =
-    (is_none (layout_of r), fault.FieldCount) ∷ (some_fail has_word_form r, fault.BadName)
-    ∷ (some_fail has_number_form r, fault.BadNumber)
-    ∷ (some_fail is_in_range r, fault.OutOfRange) ∷ []
+-- the faults of its fields under a profile
+abbrev pub field_faults : ℕ → Fields → List (Bool × (ℕ → ParamFault))
+field_faults profile r =
+    (is_none (layout_of profile r), fault.FieldCount) ∷ (some_fail has_word_form profile r, fault.BadName)
+    ∷ (some_fail has_number_form profile r, fault.BadNumber)
+    ∷ (some_fail is_in_range profile r, fault.OutOfRange) ∷ []
 
 -- the answer is that of the first of these faults that holds, told the record's number
 abbrev pub IsFaultOf : List (Bool × (ℕ → ParamFault)) → ℕ → ParamFault → Type 0
@@ -71,18 +71,19 @@ count_for t an_intra cc = count_in t.intras cc
 count_for t a_spot cc = count_in t.spots cc
 count_for t an_inter cc = t.inters
 
--- a record of a kind and commodity is counted
-abbrev pub Adds : RecordKind → List ℕ → Tally → Tally → Type 0
-Adds a_set cc old new = new ≡ old
-Adds a_commodity cc old new = new ≡ record old { commodities = old.commodities + 1 }
-Adds a_contract cc old new = new ≡ record old { contracts = old.contracts + 1 }
-Adds a_tier cc old new = CountsOne old.tiers cc new.tiers × (new ≡ record old { tiers = new.tiers })
-Adds an_intra cc old new = CountsOne old.intras cc new.intras × (new ≡ record old { intras = new.intras })
-Adds a_spot cc old new = CountsOne old.spots cc new.spots × (new ≡ record old { spots = new.spots })
-Adds an_inter cc old new = new ≡ record old { inters = old.inters + 1 }
+-- a record of a kind is counted, or its profile kept
+abbrev pub Adds : RecordKind → Fields → Tally → Tally → Type 0
+Adds a_set r old new = new ≡ record old { profile = count_at r 2 }
+Adds a_commodity r old new = new ≡ record old { commodities = old.commodities + 1 }
+Adds a_contract r old new = new ≡ record old { contracts = old.contracts + 1 }
+Adds a_tier r old new = CountsOne old.tiers (text_at r 1) new.tiers × (new ≡ record old { tiers = new.tiers })
+Adds an_intra r old new = CountsOne old.intras (text_at r 1) new.intras × (new ≡ record old { intras = new.intras })
+Adds a_spot r old new = CountsOne old.spots (text_at r 1) new.spots × (new ≡ record old { spots = new.spots })
+Adds an_inter r old new = new ≡ record old { inters = old.inters + 1 }
 
--- these records were counted
+-- these records were counted, and the profile of their file kept
 pub record Tallies (t : Tally) (rs : List Fields) : Type 0 where
+  pub profile : t.profile ≡ profile_of rs
   pub commodities : t.commodities ≡ count_word (codes "COMMODITY") rs
   pub contracts : t.contracts ≡ count_word (codes "CONTRACT") rs
   pub tiers : (cc : List ℕ) → count_in t.tiers cc ≡ count_words (codes "TIER") cc rs

@@ -4,6 +4,8 @@ use Rattle.std.specs.Prelude.{List, [], ◌∷◌, length, unwrap_or, slice_inde
 use Rattle.span_csv.specs.Records.{Fields, Form, a_name, a_currency, a_method, a_product, a_side, a_whole}
 use Rattle.span_csv.specs.Records.{a_decimal, a_month, RecordKind, a_set, a_commodity, a_contract, a_tier, an_intra}
 use Rattle.span_csv.specs.Records.{a_spot, an_inter, has_word_form, has_number_form, is_in_range, forms_of, text_at}
+use Rattle.span_tables.specs.declared.limits.TheConstants.{VALUE_PROFILE}
+use Rattle.span_tables.specs.declared.records.ProductKind.TheVariants as product
 use Rattle.span_csv.specs.declared.grammar.FieldForm.{FieldForm}
 use Rattle.span_csv.specs.declared.grammar.FieldForm.TheVariants as form
 use Rattle.span_csv.specs.declared.grammar.Kind.{Kind}
@@ -42,15 +44,15 @@ test_of field_test.Range = is_in_range
 abbrev pub most_fields : RecordKind → ℕ
 most_fields a_set = 3
 most_fields a_commodity = 3
-most_fields a_contract = 22
+most_fields a_contract = 23
 most_fields a_tier = 4
 most_fields an_intra = 15
 most_fields a_spot = 4
 most_fields an_inter = 14
 
--- the forms of the fields of a kind's longest record, of which its other records have the front
+-- the forms of the fields of a kind's longest record, of which its other records have the front, and none a wider range
 abbrev pub longest : RecordKind → List Form
-longest kind = unwrap_or (forms_of kind (most_fields kind)) []
+longest kind = unwrap_or (forms_of kind VALUE_PROFILE product.Call (most_fields kind)) []
 
 -- the form of a field of a kind, from 0 for the one behind the first
 abbrev pub form_at : RecordKind → ℕ → Form
@@ -60,13 +62,13 @@ form_at kind i = slice_index_or (longest kind) i a_side
 abbrev pub HasCount : RecordKind → ℕ → Type 0
 HasCount a_set n = n ≡ 4
 HasCount a_commodity n = n ≡ 4
-HasCount a_contract n = n ≡ 23
+HasCount a_contract n = (n ≡ 23) ⊎ (n ≡ 24)
 HasCount a_tier n = n ≡ 5
 HasCount an_intra n = (n ≡ 10) ⊎ ((n ≡ 13) ⊎ (n ≡ 16))
 HasCount a_spot n = n ≡ 5
 HasCount an_inter n = (n ≡ 9) ⊎ ((n ≡ 12) ⊎ (n ≡ 15))
 
--- a record has as many fields as its kind, each of its form and in its range
+-- a record has as many fields as its kind may have under some profile, each of the form and in the range of the longest record's
 pub record HasForms (kind : RecordKind) (r : Fields) : Type 0 where
   pub count : HasCount kind (length r)
   pub words : (i : ℕ) → i + 1 < length r → has_word_form (form_at kind i) (text_at r (i + 1)) ≡ true

@@ -21,9 +21,9 @@ unfoldable pub figures_form : List ℕ → List ℕ → List ℕ → Figures →
 figures_form account set_id commodity f =
     ((82 ∷ (field account ++ field set_id)) ++ field commodity) ++ figures_fields f ++ 10 ∷ []
 
--- the line of an account's total: 84 is `T`
-unfoldable pub total_form : List ℕ → List ℕ → ℤ → List ℕ
-total_form account set_id total = (84 ∷ (field account ++ field set_id)) ++ number total ++ 10 ∷ []
+-- the last line of an account: 84 is `T`
+unfoldable pub total_form : List ℕ → List ℕ → List ℤ → List ℕ
+total_form account set_id numbers = (84 ∷ (field account ++ field set_id)) ++ flat_map number numbers ++ 10 ∷ []
 
 -- the line of accepted tables
 unfoldable pub counts_form : AcceptedTables → List ℕ

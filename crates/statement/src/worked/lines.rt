@@ -9,7 +9,7 @@ ghost use Rattle.span_csv.specs.declared.faults.PositionFault.TheVariants as pos
 ghost use Rattle.statement.specs.FaultLines.{fault_line};
 ghost use Rattle.statement.specs.Statement.{figures_line, total_line};
 ghost use Rattle.statement.specs.declared.faults.SpanFault.TheVariants as span_fault;
-ghost use Rattle.std.specs.Prelude.{◌≡◌, codes, neg_ℤ, pos};
+ghost use Rattle.std.specs.Prelude.{◌≡◌, ◌∷◌, [], codes, neg_ℤ, pos};
 
 // Parameters that are not read.
 fn lines_of_parameters()
@@ -129,6 +129,8 @@ fn lines_of_a_row()
       requirement = pos 1733;
     })
         ≡ codes "R,X-1,D_1,AA,1200,13,500,40,7,0,1733\n" }
-    ensures total { total_line (codes "X-1") (codes "D_1") (pos 1733) ≡ codes "T,X-1,D_1,1733\n" }
-    ensures below_zero { total_line (codes "Y") (codes "D_1") (neg_ℤ (pos 5)) ≡ codes "T,Y,D_1,-5\n" }
+    ensures total { total_line (codes "X-1") (codes "D_1") (pos 1733 ∷ []) ≡ codes "T,X-1,D_1,1733\n" }
+    ensures below_zero { total_line (codes "Y") (codes "D_1") (neg_ℤ (pos 5) ∷ []) ≡ codes "T,Y,D_1,-5\n" }
+    ensures with_value { total_line (codes "Z") (codes "D_2") (pos 1700 ∷ neg_ℤ (pos 480) ∷ pos 2180 ∷ pos 0 ∷ [])
+        ≡ codes "T,Z,D_2,1700,-480,2180,0\n" }
 {}

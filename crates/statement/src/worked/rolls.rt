@@ -20,6 +20,17 @@ fn two_statements()
         ≡ Ok (codes "R,X,D1,AA,1200,11,0,0,0,0,1200\nT,X,D1,1200\nR,X,D2,AA,1500,11,0,0,0,0,1500\nT,X,D2,1500\n") }
 {}
 
+// A future under a set without option values and then under one with them: each line is of its own set.
+fn into_option_values()
+    ensures { roll_of 1 one_future (
+        codes "SET,D2,2,USD\n"
+        ++ codes "COMMODITY,AA,0,SUM\n"
+        ++ codes "CONTRACT,FA,AA,F,202503,1,1,0,0,-400,-400,400,400,-800,-800,800,800,-1200,-1200,1200,1200,-1188,1188,0\n")
+        (codes "X,FA,1\n")
+        ≡ Ok (codes "R,X,D1,AA,1200,13,0,0,0,0,1200\nT,X,D1,1200\n"
+        ++ codes "R,X,D2,AA,1200,13,0,0,0,0,1200\nT,X,D2,1200,0,1200,0\n") }
+{}
+
 // A contract that the next set does not have.
 fn unknown_contract_of_next()
     ensures { roll_of 1 one_future (codes "SET,D2,1,USD\n") (codes "X,FA,-1\n")

@@ -346,3 +346,24 @@ fn side_a_long_first()
         (codes "X,FA,3\nX,FA2,-2\n")
         ≡ Ok (codes "R,X,D1,AA,1200,13,150,0,0,0,1350\nT,X,D1,1350\n") }
 {}
+
+// Two short calls worth 120 each and three short puts worth 80 each: what is owed for them comes to the minimum.
+fn short_options_with_value()
+    ensures { statement_of (
+        codes "SET,D2,2,USD\n"
+        ++ codes "COMMODITY,AA,500,SUM\n"
+        ++ codes "CONTRACT,CA,AA,C,202503,0.5,1,-5,-3,-9,-7,-4,-2,-12,-11,-3,-1,-20,-19,-2,-1,-15,-1,120\n"
+        ++ codes "CONTRACT,PA,AA,P,202503,-0.5,1,0,0,0,0,0,0,0,0,0,0,0,0,0,0,0,0,80\n")
+        (codes "X,CA,-2\nX,PA,-3\n")
+        ≡ Ok (codes "R,X,D2,AA,40,11,0,0,0,2500,2500\nT,X,D2,2500,-480,2980,0\n") }
+{}
+
+// A long call, worth more than the nothing that it requires.
+fn long_call_with_value()
+    ensures { statement_of (
+        codes "SET,D2,2,USD\n"
+        ++ codes "COMMODITY,AA,0,SUM\n"
+        ++ codes "CONTRACT,CA,AA,C,202503,0.5,1,-5,-3,-9,-7,-4,-2,-12,-11,-3,-1,-20,-19,-2,-1,-15,-1,120\n")
+        (codes "X,CA,1\n")
+        ≡ Ok (codes "R,X,D2,AA,0,10,0,0,0,0,0\nT,X,D2,0,120,0,120\n") }
+{}

@@ -18,8 +18,8 @@ loop-c-preserved c =
       firsts = c.in_ok-push.ensures.items ∙ ap (λ xs. xs ++ c.loop-c.first ∷ []) before.firsts
           ∙ ap (λ x. map (first_step t) (range_with_len 0 n) ++ x ∷ []) before.first
           ∙ sym (map-range_with_len_more (first_step t) 0 n n here);
-      first = let more = first_more t n in let first = before.first in omega (arith, first, spreads, more);
-      small = let small = before.small in omega (arith, small, few);
+      first = let more = first_more t n in let first = before.first in omega (arith, first, spreads, more, c.value_steps.ensures.value);
+      small = let small = before.small in omega (arith, small, few, c.value_steps.ensures.bound);
     }
 
 pub returns : goal.returns

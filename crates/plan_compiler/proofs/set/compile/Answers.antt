@@ -1,9 +1,14 @@
+use Rattle.std.proofs.lemmas.List.Elements.{All-weaker}
+use Rattle.plan_ir.specs.Apply.{IsOp}
+use Rattle.plan_compiler.specs.Plan.{ops_of}
 use Rattle.plan_compiler.proofs.FromPlan.{known_ops}
+use Rattle.plan_compiler.proofs.LayoutLemmas.{IsPlanned, planned_is_op}
 use Rattle.plan_compiler.proofs.PlanLaw.{are_inputs, made_plan, made_set}
 use Rattle.plan_compiler.proofs.set.compile.Goals as goal
 
 pub inputs_of_all-requires-clause-known : goal.inputs_of_all-requires-clause-known
-inputs_of_all-requires-clause-known c = rw (c.deref-2.ensures.value, c.in_ok-ops.ensures) (known_ops c.args.tables)
+inputs_of_all-requires-clause-known c = rw (c.deref-2.ensures.value, c.in_ok-ops.ensures)
+    (All-weaker (IsPlanned c.args.tables) (IsOp c.args.tables) (planned_is_op c.args.tables) (ops_of c.args.tables) (known_ops c.args.tables))
 
 pub new-requires : goal.new-requires
 new-requires c =

@@ -3,7 +3,7 @@ use Rattle.std.specs.Prelude.{pos}
 use Rattle.csv.specs.Records.{fields_of}
 use Rattle.span_csv.specs.Records.{a_contract}
 use Rattle.span_tables.specs.declared.limits.TheConstants.{MAX_DELTA, MAX_SCALE}
-use Rattle.span_csv.proofs.NumberLemmas.{decimal_field, month_field, name_field, ratio_field}
+use Rattle.span_csv.proofs.NumberLemmas.{decimal_field, month_field, name_field, option_value_field, ratio_field}
 use Rattle.span_csv.proofs.contents.contract_record.Goals as goal
 
 pub name_at-requires : goal.name_at-requires
@@ -30,3 +30,6 @@ pub scale_at-requires : goal.scale_at-requires
 scale_at-requires c =
     let few = c.requires.count in
     omega (arith, ratio_field a_contract (fields_of c.args.row.now) 5 (pos 1) MAX_SCALE c.requires (omega arith) refl)
+
+pub count_at-requires-2 : goal.count_at-requires-2
+count_at-requires-2 c = omega (arith, option_value_field (fields_of c.args.row.now) c.requires)

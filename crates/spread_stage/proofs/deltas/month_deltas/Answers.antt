@@ -2,7 +2,7 @@ use Rattle.std.proofs.Common.{◌≡◌, ◌≤◌, ◌<◌, ◌+◌, ◌*◌, �
 use Rattle.std.proofs.Common.{take, suc, ◌∷◌, [], lit<, ℤ, FitsSigned, to_z, of_z, w64, rules}
 use Rattle.std.proofs.Math.Seq.{take-suc}
 use Rattle.std.proofs.lemmas.Int.{to_z-of_z}
-use Rattle.spread_stage.proofs.ProductLemmas.{same_64}
+use Rattle.span_money.proofs.WordLemmas.{same_64}
 use Rattle.span_tables.specs.Net.{HeldContract}
 use Rattle.span_tables.specs.declared.limits.TheConstants.{MAX_DELTA, MAX_HELD, MAX_NET, MAX_SCALE}
 use Rattle.span_tables.proofs.HeldLemmas.{held_here}

@@ -2,7 +2,7 @@ use Rattle.std.proofs.Common.{◌≡◌, ◌≤◌, to_z, of_z, w32, w64, pos, n
 use Rattle.std.proofs.Common.{◌*◌, FitsSigned, ◌^◌, ◌<◌}
 use Rattle.std.proofs.lemmas.Int.{fits_signed_from_abs, to_z-of_z}
 use Rattle.span_tables.specs.declared.limits.TheConstants.{MAX_DELTA, MAX_NET, MAX_SCALE}
-use Rattle.spread_stage.proofs.ProductLemmas.{product_size, fits_64, same_64}
+use Rattle.span_money.proofs.WordLemmas.{product_size, fits_64, same_64}
 use Rattle.spread_stage.proofs.deltas.units_of.Goals as goal
 
 same_32 : (z : ℤ) → nat_abs z ≤ MAX_DELTA → to_z w32 (of_z w32 z) ≡ z

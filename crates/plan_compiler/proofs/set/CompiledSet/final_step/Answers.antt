@@ -9,14 +9,14 @@ returns-clause-in_range c =
     let t = c.self.inside.tables in
     let known : c.args.commodity < length t.commodities = rw (← c.self.view_is) at c.requires in
     let within = place_within t c.self.inside.plan set.is_plan.ops set.wires (op.Final c.args.commodity) known in
-    rw (← c.self.view_is, c.last_tiers_step.ensures.value) within
+    rw (← c.self.view_is, c.final_step.ensures) within
 
 pub returns-clause-op : goal.returns-clause-op
 returns-clause-op c =
     let set = c.self.invariant in
     let t = c.self.inside.tables in
     let known : c.args.commodity < length t.commodities = rw (← c.self.view_is) at c.requires in
-    rw (← c.self.view_is, c.last_tiers_step.ensures.value)
+    rw (← c.self.view_is, c.final_step.ensures)
     (op_at_place t c.self.inside.plan set.is_plan.ops set.wires (op.Final c.args.commodity) known)
 
 pub returns-clause-stays : goal.returns-clause-stays
@@ -24,5 +24,5 @@ returns-clause-stays c =
     let set = c.self.invariant in
     let t = c.self.inside.tables in
     let known : c.args.commodity < length t.commodities = rw (← c.self.view_is) at c.requires in
-    rw (← c.self.view_is, c.last_tiers_step.ensures.value)
+    rw (← c.self.view_is, c.final_step.ensures)
     (final_stays t c.self.inside.plan set.is_plan.ops set.wires c.args.commodity known)

@@ -1,4 +1,4 @@
--- Products of signed numbers that fit.
+-- Numbers of small size and their products in words of 64 bits.
 use Rattle.std.proofs.Common.{◌≡◌, ℕ, ◌*◌, ◌^◌, ◌<◌, ◌≤◌, arith, to_z, of_z, w64, nat_abs, FitsSigned}
 use Rattle.std.specs.Prelude.{ℤ, ◌*ℤ◌}
 use Rattle.std.proofs.Math.Nat.{mul-le-mul}

@@ -1,0 +1,41 @@
+//! The option value of a commodity (docs/METHOD.md, Option value).
+ghost use Rattle.std.specs.Prelude.{◌≡◌, ◌≤◌, ◌*ℤ◌, nat_abs, pos};
+ghost use Rattle.span_tables.specs.Accepted.{IsContract};
+ghost use Rattle.span_tables.specs.declared.limits.TheConstants.{MAX_NET};
+ghost use Rattle.inter_credit.specs.OptionValue.{net_value_of};
+ghost use Rattle.inter_credit.specs.declared.option_value.TheConstants.{MAX_NET_VALUE, MAX_POSITION_VALUE};
+
+use span_money::amounts::Money;
+use span_tables::held::Held;
+use span_tables::limits::{MAX_HELD, MAX_NET, MAX_OPTION_VALUE};
+use span_tables::records::Contract;
+
+/// The size of what a held contract is worth, in minor units: the largest net quantity at the largest option value.
+pub const MAX_POSITION_VALUE: u64 = MAX_NET * MAX_OPTION_VALUE as u64;
+/// The size of the option value of a commodity, in minor units: as many positions as contracts may be held.
+pub const MAX_NET_VALUE: u64 = MAX_HELD as u64 * MAX_POSITION_VALUE;
+
+// What a net quantity of a contract is worth, in minor units.
+#[tactic(auto, using(crate::proofs::ValueLemmas::position_small))]
+fn position_value(contract: &Contract, net: i64) -> i64
+    requires net { nat_abs net ≤ MAX_NET }
+    requires contract { IsContract contract.now }
+    ensures value { result ≡ net *ℤ pos (contract.now).option_value }
+    ensures bound { nat_abs result ≤ MAX_POSITION_VALUE }
+{
+    net * i64::from(contract.option_value)
+}
+
+/// The option value of a commodity, in minor units: net quantity times option value over the held contracts. More short
+/// options than long ones make it negative.
+#[tactic(auto, unfolding(crate::specs::OptionValue::net_value_of))]
+pub fn net_value(held: &Held) -> Money
+    ensures value { result ≡ net_value_of held.now }
+    ensures bound { nat_abs result ≤ MAX_NET_VALUE }
+{
+    let mut sum: i64 = 0;
+    for place in 0..held.len() {
+        sum += position_value(held.contract(place), held.net(place));
+    }
+    Money::new(i128::from(sum))
+}
