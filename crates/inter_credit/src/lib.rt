@@ -1,5 +1,5 @@
-//! Intercommodity spreads and their credits, the short option minimum, and the requirement of a commodity
-//! (docs/METHOD.md, Intercommodity spreads; Minimum and requirement).
+//! Intercommodity spreads and their credits, the short option minimum, the requirement of a commodity, and the value of an
+//! account's options (docs/METHOD.md, Intercommodity spreads; Minimum and requirement; Option value).
 #![tactic(auto)]
 
 pub mod credit;

@@ -1,4 +1,4 @@
-//! Rows of results (docs/METHOD.md, "Minimum and requirement").
+//! Rows of results (docs/METHOD.md, "Minimum and requirement" and "Option value").
 ghost use Rattle.std.specs.Prelude.{◌≡◌, ◌<◌, IfOk, length};
 ghost use Rattle.std.specs.Arc.{arc_value};
 ghost use Rattle.plan_ir.specs.Figures.{figures_of, is_held, option_value_of, total_to};

@@ -232,6 +232,7 @@ impl Board {
         let value = kept(&self.job, self.places.as_slice(), step as usize);
         Some(value.total())
     }
+
     /// The account's option value, in minor units, once the board is complete, and `None` before. It is 0 under a profile in
     /// which options have none.
     pub fn value(&self) -> Option<Money>
