@@ -1,29 +1,50 @@
 -- Months may be gathered from the first held contract on: in whatever order units are added, the months are the same.
-use Rattle.std.proofs.Common.{◌≡◌, ℕ, ◌<◌, List, [], ◌∷◌, ◌++◌}
+use Rattle.std.proofs.Common.{◌≡◌, ℕ, ◌<◌, Bool, true, false, cond, List, [], ◌∷◌, ◌++◌}
 use Rattle.std.proofs.Common.{refl, sym, ap, ◌∙◌, subst, arith, inl, inr}
 use Rattle.std.specs.Prelude.{ℤ, ◌+ℤ◌, ◌==◌, nat_lt}
 use Rattle.std.proofs.lemmas.Int.{ints}
 use Rattle.std.proofs.lemmas.Bool.{cases_order}
+use Rattle.std.proofs.lemmas.Bool.Decides.{nat_tests}
 use Rattle.spread_stage.specs.Deltas.{units_of, month_deltas}
 use Rattle.spread_stage.specs.near.Uses.{with_units}
 use Rattle.span_tables.specs.Net.{HeldContract}
 use Rattle.spread_stage.specs.declared.months.MonthUnits.{MonthUnits}
 use Rattle.spread_stage.proofs.DeltaLemmas.{month_deltas-cons}
-use Rattle.spread_stage.proofs.PlaceLemmas.{earlier_if, later_if, same_if}
+
+module _ (p : ℕ) (u : ℤ) where
+  -- units of a month behind the first, of the first, and of a month before it
+  earlier_if : (b c : Bool) (m : MonthUnits) (ms more : List MonthUnits) → nat_lt p m.month ≡ b → (p == m.month) ≡ c → m.month < p
+      → cond b (record { month = p; units = u } ∷ m ∷ ms)
+      (cond c (record { month = m.month; units = m.units +ℤ u } ∷ ms) (m ∷ more)) ≡ m ∷ more
+  earlier_if true c m ms more e d lt = absurd (grind (arith, nat_tests, e, lt))
+  earlier_if false true m ms more e d lt = absurd (grind (arith, nat_tests, d, lt))
+  earlier_if false false m ms more e d lt = refl
+
+  same_if : (b c : Bool) (m : MonthUnits) (ms more : List MonthUnits) → nat_lt p m.month ≡ b → (p == m.month) ≡ c → m.month ≡ p
+      → cond b (record { month = p; units = u } ∷ m ∷ ms)
+      (cond c (record { month = m.month; units = m.units +ℤ u } ∷ ms) (m ∷ more))
+      ≡ record { month = m.month; units = m.units +ℤ u } ∷ ms
+  same_if true c m ms more e d same = absurd (grind (arith, nat_tests, e, same))
+  same_if false true m ms more e d same = refl
+  same_if false false m ms more e d same = absurd (grind (arith, nat_tests, d, same))
+
+  later_if : (b c : Bool) (m : MonthUnits) (ms more : List MonthUnits) → nat_lt p m.month ≡ b → p < m.month
+      → cond b (record { month = p; units = u } ∷ m ∷ ms)
+      (cond c (record { month = m.month; units = m.units +ℤ u } ∷ ms) (m ∷ more)) ≡ record { month = p; units = u } ∷ m ∷ ms
+  later_if true c m ms more e lt = refl
+  later_if false c m ms more e lt = absurd (grind (arith, nat_tests, e, lt))
 
 -- a month with units
-of_month : ℕ → ℤ → MonthUnits
+abbrev pub of_month : ℕ → ℤ → MonthUnits
 of_month p u = record { month = p; units = u }
 
 module _ (p : ℕ) (u : ℤ) (m : MonthUnits) (ms : List MonthUnits) where
   -- units of a month that is earlier than the first
-  before : p < m.month → with_units p u (m ∷ ms) ≡ of_month p u ∷ m ∷ ms
-  unfolding of_month
+  pub before : p < m.month → with_units p u (m ∷ ms) ≡ of_month p u ∷ m ∷ ms
   before lt = later_if p u (nat_lt p m.month) (p == m.month) m ms (with_units p u ms) refl lt
 
   -- of the first month
-  here : p ≡ m.month → with_units p u (m ∷ ms) ≡ of_month m.month (m.units +ℤ u) ∷ ms
-  unfolding of_month
+  pub here : p ≡ m.month → with_units p u (m ∷ ms) ≡ of_month m.month (m.units +ℤ u) ∷ ms
   here e = same_if p u (nat_lt p m.month) (p == m.month) m ms (with_units p u ms) refl refl (sym e)
 
   -- of a later month
@@ -35,7 +56,6 @@ added a b c = omega (arith, ints)
 
 -- twice to the same month
 same_month : (p : ℕ) (u v : ℤ) (ms : List MonthUnits) → with_units p u (with_units p v ms) ≡ with_units p v (with_units p u ms)
-unfolding of_month
 same_month p u v [] =
     here p u (of_month p v) [] refl ∙ ap (λ (z : ℤ). of_month p z ∷ []) (omega (arith, ints))
     ∙ sym (here p v (of_month p u) [] refl)
@@ -58,7 +78,6 @@ same_month p u v (m ∷ ms) =
 -- to a month and to a later one
 later_month : (p q : ℕ) (u v : ℤ) (ms : List MonthUnits) → p < q
     → with_units p u (with_units q v ms) ≡ with_units q v (with_units p u ms)
-unfolding of_month
 later_month p q u v [] lt = before p u (of_month q v) [] lt ∙ sym (behind q v (of_month p u) [] lt)
 later_month p q u v (m ∷ ms) lt =
     elim (cases_order q m.month) [
@@ -89,7 +108,7 @@ later_month p q u v (m ∷ ms) lt =
     ]
 
 -- the order does not matter
-either_first : (p q : ℕ) (u v : ℤ) (ms : List MonthUnits) → with_units p u (with_units q v ms) ≡ with_units q v (with_units p u ms)
+pub either_first : (p q : ℕ) (u v : ℤ) (ms : List MonthUnits) → with_units p u (with_units q v ms) ≡ with_units q v (with_units p u ms)
 either_first p q u v ms =
     elim (cases_order p q) [
       | inr (inl lt) ↦ later_month p q u v ms lt

@@ -2,7 +2,7 @@ pub mod MonthLaws
 pub mod UseLaws
 pub mod DeltaLemmas
 pub mod ForwardLemmas
-pub mod PlaceLemmas
+pub mod GatherLemmas
 pub mod UseLemmas
 pub mod SizeLemmas
 pub mod SpreadLemmas

@@ -1,10 +1,11 @@
 //! The deltas of the months in which an account holds contracts of a commodity (docs/METHOD.md, Deltas).
-ghost use Rattle.std.specs.Prelude.{◌≡◌, ◌+◌, ◌*◌, ◌≤◌, nat_abs, nat_le, position, OnOk, IfOk};
+ghost use Rattle.std.specs.Prelude.{◌≡◌, ◌+◌, ◌*◌, ◌≤◌, nat_abs, OnOk, IfOk};
+ghost use Rattle.std.specs.List.Sorted.{IsNonDecreasingBy};
 ghost use Rattle.span_tables.specs.Accepted.{IsContract};
 ghost use Rattle.span_tables.specs.declared.limits.TheConstants.{MAX_DELTA, MAX_NET, MAX_SCALE, MAX_UNITS};
 ghost use Rattle.spread_stage.specs.Deltas.{month_deltas, units_of};
-ghost use Rattle.spread_stage.specs.Months.{MonthsRise, total_size};
-ghost use Rattle.spread_stage.specs.near.Uses.{with_units};
+ghost use Rattle.spread_stage.specs.Months.{total_size};
+ghost use Rattle.spread_stage.specs.near.Uses.{gathered, with_units_last};
 
 use crate::months::{MonthUnits, Months};
 use span_money::amounts::Units;
@@ -24,34 +25,18 @@ fn units_of(contract: &Contract, net: i64) -> i64
     net * delta * scale
 }
 
-// The place of the first month that is not earlier.
-fn place_of(months: &[MonthUnits], month: u32) -> Option<usize>
-    requires { MonthsRise months.now }
-    ensures { result ≡ position (λ m. nat_le month m.month) months.now }
-{
-    let place = months.partition_point(|m| m.month < month);
-    (place < months.len()).then_some(place)
-}
-
-// Adds units to a month's, or puts the month with them into its place.
+// Adds units at the end: to those of the last month, if that is the month, or as one month more.
 fn add(months: &mut Vec<MonthUnits>, month: u32, units: i64) -> Result<(), AllocError>
-    requires rise { MonthsRise months.old.items }
     requires small { total_size months.old.items + nat_abs units ≤ MAX_UNITS }
-    ensures { OnOk result (months.new.items ≡ with_units month units months.old.items) }
+    ensures { OnOk result (months.new.items ≡ with_units_last month units months.old.items) }
 {
-    match place_of(months, month) {
-        Some(place) if months[place].month == month => {
-            let sum = months[place].units.get() + units;
+    match months.last() {
+        Some(last) if last.month == month => {
+            let sum = last.units.get() + units;
+            let place = months.len() - 1;
             months[place].units = Units::new(sum);
         }
-        Some(place) => months.insert(
-            place,
-            MonthUnits {
-                month,
-                units: Units::new(units),
-            },
-        )?,
-        None => months.push(MonthUnits {
+        _ => months.push(MonthUnits {
             month,
             units: Units::new(units),
         })?,
@@ -59,16 +44,48 @@ fn add(months: &mut Vec<MonthUnits>, month: u32, units: i64) -> Result<(), Alloc
     Ok(())
 }
 
+// The months of a list that is sorted by month, each once, with the sum of its units.
+fn joined(alloc: Global, sorted: &[MonthUnits]) -> Result<Vec<MonthUnits>, AllocError>
+    requires sorted { IsNonDecreasingBy (λ m. m.month) sorted.now }
+    requires small { total_size sorted.now ≤ MAX_UNITS }
+    ensures { IfOk result (λ months. months.items ≡ gathered sorted.now) }
+{
+    let mut months = Vec::with_capacity(alloc, sorted.len())?;
+    for i in 0..sorted.len() {
+        let next = &sorted[i];
+        add(&mut months, next.month, next.units.get())?;
+    }
+    Ok(months)
+}
+
+// The months of a list in any order, rising and each once, with the sum of its units.
+fn rising(alloc: Global, mut months: Vec<MonthUnits>) -> Result<Vec<MonthUnits>, AllocError>
+    requires { total_size months.items ≤ MAX_UNITS }
+    ensures { IfOk result (λ rising. rising.items ≡ gathered months.items) }
+{
+    months.sort_by_key(|m| m.month)?;
+    joined(alloc, months.as_slice())
+}
+
 /// The months (`yyyymm`) in which contracts are held, rising, each with the sum of its contracts' deltas in units of 10^-8.
 /// `Err` is want of memory.
+///
+/// Where the contracts stand by rising month, as they mostly do, they are gone over once and nothing is sorted.
 #[tactic(auto, unfolding(crate::specs::Deltas::month_deltas))]
 pub fn month_deltas(alloc: Global, held: &Held) -> Result<Months, AllocError>
     ensures { IfOk result (λ months. months ≡ month_deltas held.now) }
 {
     let mut months = Vec::with_capacity(alloc, held.len())?;
+    let mut latest = 0;
+    let mut rise = true;
     for i in 0..held.len() {
         let contract = held.contract(i);
+        rise = rise && latest <= contract.month;
+        latest = contract.month;
         add(&mut months, contract.month, units_of(contract, held.net(i)))?;
     }
-    Ok(Months::new(months))
+    if rise {
+        return Ok(Months::new(months));
+    }
+    Ok(Months::new(rising(alloc, months)?))
 }

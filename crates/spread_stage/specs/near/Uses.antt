@@ -14,6 +14,18 @@ with_units p units (m ∷ ms) =
     else if p == m.month then record { month = m.month; units = m.units +ℤ units } ∷ ms
     else m ∷ with_units p units ms
 
+-- units added at the end: to those of the last month, if that is the month, or as one month more
+abbrev pub with_units_last : ℕ → ℤ → List MonthUnits → List MonthUnits
+with_units_last p units [] = record { month = p; units = units } ∷ []
+with_units_last p units (m ∷ []) =
+    if p == m.month then record { month = m.month; units = m.units +ℤ units } ∷ [] else m ∷ record { month = p; units = units } ∷ []
+with_units_last p units (m ∷ n ∷ ms) = m ∷ with_units_last p units (n ∷ ms)
+
+-- the months of a list in which a month may stand more than once, rising and each once, with the sum of its units
+abbrev pub gathered : List MonthUnits → List MonthUnits
+gathered [] = []
+gathered (m ∷ ms) = with_units m.month m.units (gathered ms)
+
 -- what a leg that still needs so many units uses of a month
 abbrev pub used_now : MarketSide → MonthLeg → ℕ → MonthUnits → ℕ
 used_now on leg needed m = if is_in_tier leg m then min (part_on on m.units) needed else 0

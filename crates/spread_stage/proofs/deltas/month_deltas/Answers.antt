@@ -1,5 +1,7 @@
 use Rattle.std.proofs.Common.{◌≡◌, ◌≤◌, ◌<◌, ◌+◌, ◌*◌, ◌++◌, nat_abs, sym, ap, ◌∙◌, subst, arith, length}
-use Rattle.std.proofs.Common.{take, suc, ◌∷◌, [], lit<, ℤ, FitsSigned, to_z, of_z, w64, rules}
+use Rattle.std.proofs.Common.{take, suc, ◌∷◌, [], lit<, ℤ, FitsSigned, to_z, of_z, w64, rules, true, leb}
+use Rattle.std.proofs.lemmas.Bool.Decides.{nat_tests}
+use Rattle.std.proofs.lemmas.List.{take_all}
 use Rattle.std.proofs.Math.Seq.{take-suc}
 use Rattle.std.proofs.lemmas.Int.{to_z-of_z}
 use Rattle.span_money.proofs.WordLemmas.{same_64}
@@ -8,20 +10,21 @@ use Rattle.span_tables.specs.declared.limits.TheConstants.{MAX_DELTA, MAX_HELD, 
 use Rattle.span_tables.proofs.HeldLemmas.{held_here}
 use Rattle.spread_stage.specs.Months.{total_size, MonthsRise}
 use Rattle.spread_stage.specs.Deltas.{month_deltas, units_of}
-use Rattle.spread_stage.specs.near.Uses.{with_units}
+use Rattle.spread_stage.specs.near.Uses.{gathered, with_units, with_units_last}
 use Rattle.spread_stage.proofs.MonthLaws.{month_deltas_rise}
-use Rattle.spread_stage.proofs.DeltaLemmas.{size-with_units}
 use Rattle.spread_stage.proofs.ForwardLemmas.{month_deltas-push}
+use Rattle.spread_stage.proofs.GatherLemmas.{NoneLater, gathered-last, gathered-rise, none_later_after, none_later_than}
+use Rattle.spread_stage.proofs.GatherLemmas.{rise_after, size-gathered, size-last}
+use Rattle.spread_stage.proofs.deltas.month_deltas.Goals.{then-rise, else-rise}
 use Rattle.spread_stage.proofs.deltas.month_deltas.Goals as goal
-
-pub add-requires-clause-rise : goal.add-requires-clause-rise
-add-requires-clause-rise c = subst MonthsRise (sym c.loop-i.invariant.value) (month_deltas_rise (take c.loop-i.i c.args.held.now))
 
 pub loop-i-preserved : goal.loop-i-preserved
 loop-i-preserved c =
     let held = c.args.held.now in
     let i = c.loop-i.i in
+    let had = c.loop-i.months.items in
     let h : HeldContract = record { contract = c.contract-contract.result.now; net = c.net.result } in
+    let month = (h.contract).month in
     let lt : i < length held = search rules in
     let at = held_here held i h.contract h.net lt c.contract-contract.ensures.value c.net.ensures.value in
     let one : i + 1 ≡ suc i = omega arith in
@@ -34,23 +37,50 @@ loop-i-preserved c =
     ∙ ap (λ (n : ℤ). (let k : HeldContract = record { contract = h.contract; net = n } in units_of k)) same_net in
     let bound : nat_abs c.units_of.result ≤ MAX_NET * MAX_DELTA * MAX_SCALE = c.units_of.ensures.bound in
     let kept = same_64 c.units_of.result (MAX_NET * MAX_DELTA * MAX_SCALE) bound (lit< tt) in
-    let added : c.add.new.months.items ≡ with_units (h.contract).month c.units_of.result c.loop-i.months.items =
-    c.in_ok-add.ensures ∙ ap (λ u. with_units (h.contract).month u c.loop-i.months.items) kept in
-    let larger = size-with_units (h.contract).month c.units_of.result c.loop-i.months.items in
-    let same : total_size c.add.new.months.items ≡ total_size (with_units (h.contract).month c.units_of.result c.loop-i.months.items) =
-    ap total_size added in
-    let before : total_size c.loop-i.months.items ≤ i * (MAX_NET * MAX_DELTA * MAX_SCALE) = c.loop-i.invariant.small in
+    let added : c.add.new.months.items ≡ with_units_last month c.units_of.result had =
+    c.in_ok-add.ensures ∙ ap (λ u. with_units_last month u had) kept in
+    let larger = size-last month c.units_of.result had in
+    let same : total_size c.add.new.months.items ≡ total_size (with_units_last month c.units_of.result had) = ap total_size added in
+    let before : total_size had ≤ i * (MAX_NET * MAX_DELTA * MAX_SCALE) = c.loop-i.invariant.small in
     record {
-      value = added ∙ ap (λ u. with_units (h.contract).month u c.loop-i.months.items) units
-          ∙ ap (with_units (h.contract).month (units_of h)) c.loop-i.invariant.value
+      value = ap gathered added ∙ gathered-last month c.units_of.result had
+          ∙ ap (λ u. with_units month u (gathered had)) units
+          ∙ ap (with_units month (units_of h)) c.loop-i.invariant.value
           ∙ month_deltas-push (take i held) h ∙ ap month_deltas (sym more);
+      rise = λ yes.
+          elim c.if-rise.branch [
+            | then-rise w ↦
+                let up = c.loop-i.invariant.rise w.if-rise.true in
+                let test : leb c.loop-i.latest month ≡ true = sym w.rise-is ∙ yes in
+                let le : c.loop-i.latest ≤ month = grind (arith, nat_tests, test) in
+                let here = none_later_than c.loop-i.latest month had le up.1 in (
+                  subst MonthsRise (sym added) (rise_after month c.units_of.result had up.0 here),
+                  subst (NoneLater month) (sym added) (none_later_after month c.units_of.result had here),
+                )
+            | else-rise w ↦ let no = sym w.rise-is ∙ yes in cc (no, w.if-rise.false)
+          ];
       small = omega (arith, larger, same, bound, before);
     }
 
-pub new-requires : goal.new-requires
-new-requires c = record {
-  rise = subst MonthsRise (sym c.loop-i.invariant.value) (month_deltas_rise (take c.loop-i.i c.args.held.now));
-  small = let few : length c.args.held.now ≤ MAX_HELD = c.len-i-end.ensures.kept.few in
-      let done : c.loop-i.i ≤ length c.args.held.now = search rules in
-      omega (arith, few, done, c.loop-i.invariant.small);
-}
+pub returns-then-rise-2 : goal.returns-then-rise-2
+returns-then-rise-2 c =
+    let held = c.args.held.now in
+    let done : length held ≤ c.loop-i.i = search rules in
+    let up = c.loop-i.invariant.rise c.if-rise-2.true in
+    c.new.ensures ∙ sym (gathered-rise c.loop-i.months.items up.0) ∙ c.loop-i.invariant.value
+    ∙ ap month_deltas (take_all c.loop-i.i held done)
+
+pub new-requires-2 : goal.new-requires-2
+new-requires-2 c =
+    let held = c.args.held.now in
+    let months = c.loop-i.months.items in
+    let now : c.in_ok-rising.field-0.items ≡ gathered months = c.in_ok-rising.ensures in
+    let of_held : c.in_ok-rising.field-0.items ≡ month_deltas (take c.loop-i.i held) = now ∙ c.loop-i.invariant.value in
+    let smaller = size-gathered months in
+    let size : total_size c.in_ok-rising.field-0.items ≡ total_size (gathered months) = ap total_size now in
+    let few : length held ≤ MAX_HELD = c.len-i-end.ensures.kept.few in
+    let done : c.loop-i.i ≤ length held = search rules in
+    record {
+      rise = subst MonthsRise (sym of_held) (month_deltas_rise (take c.loop-i.i held));
+      small = omega (arith, smaller, size, few, done, c.loop-i.invariant.small);
+    }
