@@ -1,8 +1,8 @@
 //! Worked values of the calls. Units are 10^-8 deltas, ratios and spreads 10^-4, amounts minor units.
 ghost use Rattle.std.specs.Prelude.{◌≡◌, ◌<◌, ◌≤◌, All, IfOk, length, nat_abs};
 ghost use Rattle.span_tables.specs.Accepted.{IsContract, IsInter};
+ghost use Rattle.span_tables.specs.Holdings.{ArePortfolio};
 ghost use Rattle.inter_credit.specs.declared.requirement.TheConstants.{MAX_PART};
-ghost use Rattle.span_tables.specs.declared.limits.TheConstants.{MAX_OPTION_VALUE};
 
 use arrayvec::ArrayVec;
 use inter_credit::credit::credit;
@@ -10,15 +10,16 @@ use inter_credit::option_value::net_value;
 use inter_credit::requirement::{MAX_PART, minimum, requirement};
 use inter_credit::spreads::inter_spread;
 use inter_credit::state::{InterLine, InterState, empty, load};
+use param_check::check::check;
+use span_csv::params::read_params;
 use span_money::amounts::{Money, Ratio, Units};
-use span_tables::held::Held;
-use span_tables::limits::{
-    MAX_BASIS_POINTS, MAX_HELD, MAX_NET, MAX_OPTION_VALUE, MAX_PRICE2, MAX_RATIO, MAX_UNITS,
-    SCENARIOS,
-};
-use span_tables::portfolios::Holding;
+use span_tables::held::{Held, gather};
+use span_tables::limits::{MAX_BASIS_POINTS, MAX_NET, MAX_PRICE2, MAX_RATIO, MAX_UNITS, SCENARIOS};
+use span_tables::name::Name;
+use span_tables::portfolios::{Holding, Portfolio};
 use span_tables::records::{CommodityLeg, Contract, Inter, MinimumMethod, ProductKind, Side};
 use span_tables::samples::contract;
+use span_tables::tables::Tables;
 use std::alloc::{AllocError, Global};
 use std::process::Abort;
 use std::sync::Arc;
@@ -266,46 +267,61 @@ fn minimums(rt: HostRuntime) -> Result<(), Fail> {
     Ok(())
 }
 
-// A contract of a kind that is worth so much.
-fn contract_worth(kind: ProductKind, option_value: u32) -> Contract
-    requires { option_value ≤ MAX_OPTION_VALUE }
-    ensures { IsContract result }
-{
-    let mut contract = contract_of(kind);
-    contract.option_value = option_value;
-    contract
-}
+// A set of a future, of a call that is worth 120 and of a put that is worth 80.
+const TWO_OPTIONS: &[u8] = b"SET,D2,2,USD
+COMMODITY,AA,0,SUM
+CONTRACT,FA,AA,F,202503,1,1,0,0,0,0,0,0,0,0,0,0,0,0,0,0,0,0,0
+CONTRACT,CA,AA,C,202503,0.5,1,0,0,0,0,0,0,0,0,0,0,0,0,0,0,0,0,120
+CONTRACT,PA,AA,P,202503,-0.5,1,0,0,0,0,0,0,0,0,0,0,0,0,0,0,0,0,80
+";
 
-// The option value of held contracts: of each the kind, what one is worth, and the net quantity.
+// The option value of an account that has these holdings of the set's first commodity.
 fn net_value_of(
     rt: &impl Abort,
     alloc: Global,
-    positions: &[(ProductKind, u32, i64)],
-) -> Result<i128, AllocError> {
-    let mut contracts = Vec::new(alloc);
-    let mut holdings = Vec::new(alloc);
-    for (kind, option_value, net) in positions {
-        assert!(rt; net.unsigned_abs() <= MAX_NET && *option_value <= MAX_OPTION_VALUE);
-        assert!(rt; contracts.len() < MAX_HELD);
-        holdings.push(Holding {
-            contract: contracts.len(),
-            net: *net,
-        })?;
-        contracts.push(contract_worth(*kind, *option_value))?;
-    }
-    let held = Held::new(Arc::new(alloc, contracts)?, holdings);
+    tables: &Tables,
+    holdings: Vec<Holding>,
+) -> Result<i128, AllocError>
+    requires { ArePortfolio holdings.items }
+{
+    let portfolio = Portfolio::new(Name::of(b"X"), holdings);
+    assert!(rt; portfolio.fits(tables));
+    assert!(rt; !tables.commodities().is_empty());
+    let held = gather(alloc, tables, &portfolio, 0)?;
     Ok(net_value(&held).get())
 }
 
 #[test]
-fn net_values(rt: HostRuntime) -> Result<(), Fail> {
+fn option_values(rt: HostRuntime) -> Result<(), Fail> {
     let alloc = rt.alloc();
-    let future = [(ProductKind::Future, 0, 1)];
-    let long_call = [(ProductKind::Call, 120, 1)];
-    let short_options = [(ProductKind::Call, 120, -2), (ProductKind::Put, 80, -3)];
-    assert_eq!(rt; net_value_of(&rt, alloc, &future)?, 0);
-    assert_eq!(rt; net_value_of(&rt, alloc, &long_call)?, 120);
-    assert_eq!(rt; net_value_of(&rt, alloc, &short_options)?, -480);
+    let Ok(raw) = read_params(alloc, TWO_OPTIONS) else {
+        return Err(Fail::from("refused"));
+    };
+    let tables = check(alloc, raw)?;
+    assert_eq!(rt; tables.profile(), 2);
+    assert!(rt; tables.has_option_value());
+    let mut future = Vec::new(alloc);
+    future.push(Holding {
+        contract: 0,
+        net: 1,
+    })?;
+    assert_eq!(rt; net_value_of(&rt, alloc, &tables, future)?, 0);
+    let mut long_call = Vec::new(alloc);
+    long_call.push(Holding {
+        contract: 1,
+        net: 1,
+    })?;
+    assert_eq!(rt; net_value_of(&rt, alloc, &tables, long_call)?, 120);
+    let mut short_options = Vec::new(alloc);
+    short_options.push(Holding {
+        contract: 1,
+        net: -2,
+    })?;
+    short_options.push(Holding {
+        contract: 2,
+        net: -3,
+    })?;
+    assert_eq!(rt; net_value_of(&rt, alloc, &tables, short_options)?, -480);
     Ok(())
 }
 

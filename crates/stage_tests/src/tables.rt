@@ -17,7 +17,7 @@ use span_tables::raw::RawTables;
 use span_tables::records::{
     Commodity, IntraLeg, IntraRecord, MinimumMethod, ProductKind, Record, Side, Spot, Tier,
 };
-use span_tables::samples::{contract, set, spread, value_set};
+use span_tables::samples::{contract, set, spread};
 use span_tables::tables::Tables;
 use std::alloc::{AllocError, Global};
 use std::process::Abort;
@@ -166,16 +166,6 @@ fn tables_of_a_small_file(rt: HostRuntime) -> Result<(), Fail> {
     let legs = spreads[0].legs();
     assert_eq!(rt; legs.len(), 2);
     assert_eq!(rt; (legs[0].commodity, legs[1].commodity), (1, 0));
-    Ok(())
-}
-
-#[test]
-fn profile_of_a_set_with_option_values(rt: HostRuntime) -> Result<(), Fail> {
-    let alloc = rt.alloc();
-    let raw = RawTables::new(vec![in alloc; value_set(b"D2")]?);
-    let tables = Tables::new(alloc, raw)?;
-    assert_eq!(rt; tables.profile(), 2);
-    assert!(rt; tables.has_option_value());
     Ok(())
 }
 
