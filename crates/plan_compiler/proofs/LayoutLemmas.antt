@@ -1,5 +1,6 @@
 -- Where the steps of a plan stand.
-use Rattle.std.proofs.Common.{◌≡◌, ℕ, zero, suc, ◌+◌, ◌*◌, ◌<◌, ◌≤◌, Bool, true, false, List, [], ◌∷◌, ◌++◌}
+use Rattle.std.proofs.Common.{◌≡◌, ℕ, zero, suc, ◌+◌, ◌*◌, ◌<◌, ◌≤◌}
+use Rattle.std.proofs.Common.{Bool, true, false, List, [], ◌∷◌, ◌++◌}
 use Rattle.std.proofs.Common.{length, Some, slice_get, refl, sym, ap, ◌∙◌, arith, add-one, inl, inr}
 use Rattle.std.specs.Prelude.{if◌then◌else◌}
 use Rattle.std.proofs.lemmas.Bool.{cases_eq}
@@ -100,7 +101,8 @@ length_commodity t c =
     omega (arith, spreads, front, all, back, length_charges t c)
 
 -- a commodity's steps stand before those of the next
-pub first_more : (t : AcceptedTables) (c : ℕ) → first_step t (c + 1) ≡ first_step t c + (COMMODITY_STEPS + value_steps t + length (intras_at t c))
+pub first_more : (t : AcceptedTables) (c : ℕ)
+    → first_step t (c + 1) ≡ first_step t c + (COMMODITY_STEPS + value_steps t + length (intras_at t c))
 first_more t c =
     ap length (each_more (commodity_ops t) c) ∙ length-append (each (commodity_ops t) c) (commodity_ops t c)
     ∙ ap (λ n. first_step t c + n) (length_commodity t c)
@@ -313,7 +315,8 @@ module _ (t : AcceptedTables) where
       (omega arith)
 
   -- a commodity's steps stand before all steps between commodities
-  pub first_before : (c n : ℕ) → c < n → first_step t c + (COMMODITY_STEPS + value_steps t + length (intras_at t c)) ≤ first_step t n
+  pub first_before : (c n : ℕ) → c < n
+      → first_step t c + (COMMODITY_STEPS + value_steps t + length (intras_at t c)) ≤ first_step t n
   first_before c zero lt = elim lt [ ]
   first_before c (suc n) lt = elim (cases_eq c n) [
     | inl same ↦

@@ -96,7 +96,8 @@ module _ (t : AcceptedTables) (limits : IsWithinLimits t) where
       omega (arith, ints, twice)
 
   -- one held contract more is counted at its commodity alone
-  worth_more : (h : HeldContract) (held : List HeldContract) → IsKnown h.contract → worth (h ∷ held) ≡ position_value h +ℤ worth held
+  worth_more : (h : HeldContract) (held : List HeldContract) → IsKnown h.contract
+      → worth (h ∷ held) ≡ position_value h +ℤ worth held
   worth_more h held known =
       let split = sum_of_both (λ c. cond (is_of c h) (position_value h) (pos 0)) (worth_at held) (worth_at (h ∷ held))
       (λ c. int_sum_by-if position_value (is_of c h) h (filter (is_of c) held)) numbers in

@@ -101,7 +101,9 @@ exactly_front all forms n e =
 
 -- a test that an option value passes as the value of a future, it passes as that of an option
 abbrev IsWider : (Form → List ℕ → Bool) → Type 0
-IsWider test = (text : List ℕ) → test (an_option_value product.Future) text ≡ true → test (an_option_value product.Call) text ≡ true
+IsWider test =
+    (text : List ℕ) → test (an_option_value product.Future) text ≡ true
+    → test (an_option_value product.Call) text ≡ true
 
 words_wider : IsWider has_word_form
 words_wider text e = refl
@@ -262,7 +264,8 @@ has_forms kind profile r forms e words ranges =
 -- and none of their faults holds
 pub none_fails : (kind : RecordKind) (profile : ℕ) (r : Fields) (forms : List Form) → kind_of r ≡ Some kind
     → forms_of kind profile (product_at r 3) (length r - 1) ≡ Some forms
-    → all_have has_word_form forms (drop 1 r) ≡ true → all_have is_in_range forms (drop 1 r) ≡ true → IsFree (field_faults profile r)
+    → all_have has_word_form forms (drop 1 r) ≡ true → all_have is_in_range forms (drop 1 r) ≡ true
+    → IsFree (field_faults profile r)
 none_fails kind profile r forms is e words ranges =
     let layout : layout_of profile r ≡ Some forms = rw is e in
     let numbers = all_in_range_number forms (drop 1 r) ranges in

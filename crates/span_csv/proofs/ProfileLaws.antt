@@ -86,7 +86,8 @@ free_values : (r : Fields) (rows : List Fields) → IsFaultFree fault_of [] (r �
     → All HasNoValue (contracts_in (map param_record (r ∷ rows)))
 free_values r rows free other =
     let is = first_kind r (clean [] r free.0) in
-    let apart : IsOther (profile_of (r ∷ [])) = ne_eqb (profile_of (r ∷ [])) VALUE_PROFILE (λ e. other (set_profile r rows is ∙ e)) in
+    let apart : IsOther (profile_of (r ∷ [])) =
+    ne_eqb (profile_of (r ∷ [])) VALUE_PROFILE (λ e. other (set_profile r rows is ∙ e)) in
     rw (set_no_contract r rows is)
     (All-from_recursion HasNoValue (contracts_in (map param_record rows)) (no_values (r ∷ []) rows (omega arith) apart free.1))
 

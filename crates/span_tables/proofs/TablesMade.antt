@@ -66,7 +66,8 @@ module _ (t : AcceptedTables) (accepted : IsAccepted t) where
   }
 
 -- the parts of the tables, each as it was made
-pub same_tables : (rs : List Record) (id : List ℕ) (profile : ℕ) (cs : List Commodity) (xs : List Contract) (ts : List Tier) (is js : List IntraRecord)
+pub same_tables : (rs : List Record) (id : List ℕ) (profile : ℕ)
+    (cs : List Commodity) (xs : List Contract) (ts : List Tier) (is js : List IntraRecord)
     (ss : List Spot) (ns ms : List InterRecord)
     → id ≡ set_id_in rs → profile ≡ profile_in rs → AreByKind rs cs xs ts is ss ns → js ≡ rising_by (λ s. s.priority) is
     → ms ≡ rising_by (λ s. s.priority) ns

@@ -108,7 +108,8 @@ later_month p q u v (m ∷ ms) lt =
     ]
 
 -- the order does not matter
-pub either_first : (p q : ℕ) (u v : ℤ) (ms : List MonthUnits) → with_units p u (with_units q v ms) ≡ with_units q v (with_units p u ms)
+pub either_first : (p q : ℕ) (u v : ℤ) (ms : List MonthUnits)
+    → with_units p u (with_units q v ms) ≡ with_units q v (with_units p u ms)
 either_first p q u v ms =
     elim (cases_order p q) [
       | inr (inl lt) ↦ later_month p q u v ms lt

@@ -1,6 +1,6 @@
 -- Units that are added at the end, and what they are when they are gathered.
-use Rattle.std.proofs.Common.{◌≡◌, ℕ, zero, suc, ◌+◌, ◌<◌, ◌≤◌, Bool, true, false, cond, List, [], ◌∷◌, ◌++◌, refl, sym, ap}
-use Rattle.std.proofs.Common.{◌∙◌, arith, length, set, get_or, nat_abs}
+use Rattle.std.proofs.Common.{◌≡◌, ℕ, zero, suc, ◌+◌, ◌<◌, ◌≤◌, Bool, true, false, cond, List, [], ◌∷◌}
+use Rattle.std.proofs.Common.{◌++◌, refl, sym, ap, ◌∙◌, arith, length, set, get_or, nat_abs}
 use Rattle.std.specs.Prelude.{ℤ, ◌+ℤ◌, ◌==◌, nat_le}
 use Rattle.std.specs.List.{AllByRecursion}
 use Rattle.std.proofs.lemmas.Int.{ints}
@@ -16,7 +16,8 @@ use Rattle.spread_stage.proofs.ForwardLemmas.{before, either_first, here, of_mon
 -- ---- the end of a list
 
 -- the last month has them
-pub set_last : (p : ℕ) (u : ℤ) (ms : List MonthUnits) (i : ℕ) (d v : MonthUnits) → i + 1 ≡ length ms → p ≡ (get_or ms i d).month
+pub set_last : (p : ℕ) (u : ℤ) (ms : List MonthUnits) (i : ℕ) (d v : MonthUnits) → i + 1 ≡ length ms
+    → p ≡ (get_or ms i d).month
     → v ≡ of_month (get_or ms i d).month ((get_or ms i d).units +ℤ u) → set ms i v ≡ with_units_last p u ms
 set_last p u [] i d v at same now = absurd (omega (arith, at))
 set_last p u (m ∷ []) zero d v at same now =
@@ -92,7 +93,8 @@ module _ (key : MonthUnits → ℕ) where
 pub size-last : (p : ℕ) (u : ℤ) (ms : List MonthUnits) → total_size (with_units_last p u ms) ≤ total_size ms + nat_abs u
 size-last p u [] = omega arith
 size-last p u (m ∷ []) = size_if (p == m.month) where
-  size_if : (b : Bool) → total_size (cond b (of_month m.month (m.units +ℤ u) ∷ []) (m ∷ of_month p u ∷ [])) ≤ total_size (m ∷ []) + nat_abs u
+  size_if : (b : Bool)
+      → total_size (cond b (of_month m.month (m.units +ℤ u) ∷ []) (m ∷ of_month p u ∷ [])) ≤ total_size (m ∷ []) + nat_abs u
   size_if true = omega (arith, ints)
   size_if false = omega arith
 size-last p u (m ∷ n ∷ ms) =
@@ -144,7 +146,8 @@ module _ (p : ℕ) (u : ℤ) where
   pub rise_after : (ms : List MonthUnits) → MonthsRise ms → NoneLater p ms → MonthsRise (with_units_last p u ms)
   rise_after [] up h = (tt, tt)
   rise_after (m ∷ []) up h = still (p == m.month) refl where
-    still : (b : Bool) → (p == m.month) ≡ b → MonthsRise (cond b (of_month m.month (m.units +ℤ u) ∷ []) (m ∷ of_month p u ∷ []))
+    still : (b : Bool) → (p == m.month) ≡ b
+        → MonthsRise (cond b (of_month m.month (m.units +ℤ u) ∷ []) (m ∷ of_month p u ∷ []))
     still true e = (tt, tt)
     still false e =
         let le : m.month ≤ p = h.0 in let lt : m.month < p = grind (arith, nat_tests, e, le) in ((lt, tt), (tt, tt))

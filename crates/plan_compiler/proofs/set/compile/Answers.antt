@@ -8,7 +8,8 @@ use Rattle.plan_compiler.proofs.set.compile.Goals as goal
 
 pub inputs_of_all-requires-clause-known : goal.inputs_of_all-requires-clause-known
 inputs_of_all-requires-clause-known c = rw (c.deref-2.ensures.value, c.in_ok-ops.ensures)
-    (All-weaker (IsPlanned c.args.tables) (IsOp c.args.tables) (planned_is_op c.args.tables) (ops_of c.args.tables) (known_ops c.args.tables))
+    (All-weaker (IsPlanned c.args.tables) (IsOp c.args.tables) (planned_is_op c.args.tables)
+    (ops_of c.args.tables) (known_ops c.args.tables))
 
 pub new-requires : goal.new-requires
 new-requires c =

@@ -8,7 +8,8 @@ use Rattle.span_csv.proofs.checks.check_fields.Goals as goal
 pub returns-then-all_have : goal.returns-then-all_have
 returns-then-all_have c =
     let r = fields_of c.args.row.now in
-    let forms : forms_of (record_kind c.args.kind) c.args.profile (product_at r 3) (length r - 1) ≡ Some (map form_of c.in-Some.forms.now) =
+    let forms :
+    forms_of (record_kind c.args.kind) c.args.profile (product_at r 3) (length r - 1) ≡ Some (map form_of c.in-Some.forms.now) =
     sym c.in-Some.ensures.value in
     let words : all_have has_word_form (map form_of c.in-Some.forms.now) (drop 1 (fields_of c.args.row.now)) ≡ true =
     sym c.all_have.ensures ∙ c.if-not-all_have.false in

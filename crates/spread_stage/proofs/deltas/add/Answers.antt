@@ -1,4 +1,5 @@
-use Rattle.std.proofs.Common.{◌≡◌, ◌≤◌, ◌<◌, ◌+◌, ◌-◌, nat_abs, sym, ap, ◌∙◌, arith, get_or, set, length, ◌+ℤ◌, ℤ, List, Some}
+use Rattle.std.proofs.Common.{◌≡◌, ◌≤◌, ◌<◌, ◌+◌, ◌-◌, ◌+ℤ◌, ℤ, nat_abs, sym, ap, ◌∙◌, arith}
+use Rattle.std.proofs.Common.{get_or, set, length, List, Some}
 use Rattle.std.proofs.Common.{◌++◌, ◌∷◌, [], None, rules}
 use Rattle.std.specs.Prelude.{slice_get}
 use Rattle.std.proofs.lemmas.Int.{ints}
@@ -39,7 +40,8 @@ returns-in-Some c =
     let written : v ≡ of_month (get_or ms i m).month ((get_or ms i m).units +ℤ c.args.units) =
     ap (λ p. of_month p c.new.result) (ap (λ (x : MonthUnits). x.month) read) ∙ ap (of_month (get_or ms i m).month) now in
     ap (λ n. set ms n v) count
-    ∙ set_last c.args.month c.args.units ms i m v (omega (arith, inside)) (sym same ∙ ap (λ (x : MonthUnits). x.month) (sym at)) written
+    ∙ set_last c.args.month c.args.units ms i m v (omega (arith, inside))
+    (sym same ∙ ap (λ (x : MonthUnits). x.month) (sym at)) written
 
 pub returns-in_ok-push-in_default : goal.returns-in_ok-push-in_default
 returns-in_ok-push-in_default c =

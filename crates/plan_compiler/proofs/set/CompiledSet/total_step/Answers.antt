@@ -10,7 +10,12 @@ returns-clause-in_range c =
     let set = c.self.invariant in
     let t = c.self.inside.tables in
     let known = known_before_total t (length t.commodities) (omega arith) in
-    rw (← c.self.view_is, c.total_step.ensures.value, c.commodities-commodities.ensures.value, ← place-before_total t (length t.commodities))
+    rw (
+      ← c.self.view_is,
+      c.total_step.ensures.value,
+      c.commodities-commodities.ensures.value,
+      ← place-before_total t (length t.commodities),
+    )
     (place_within t c.self.inside.plan set.is_plan.ops set.wires (last_total t) known)
 
 pub returns-clause-op : goal.returns-clause-op
@@ -18,14 +23,24 @@ returns-clause-op c =
     let set = c.self.invariant in
     let t = c.self.inside.tables in
     let known = known_before_total t (length t.commodities) (omega arith) in
-    rw (← c.self.view_is, c.total_step.ensures.value, c.commodities-commodities.ensures.value, ← place-before_total t (length t.commodities))
+    rw (
+      ← c.self.view_is,
+      c.total_step.ensures.value,
+      c.commodities-commodities.ensures.value,
+      ← place-before_total t (length t.commodities),
+    )
     (op_at_place t c.self.inside.plan set.is_plan.ops set.wires (last_total t) known)
 
 pub returns-clause-stays : goal.returns-clause-stays
 returns-clause-stays c =
     let set = c.self.invariant in
     let t = c.self.inside.tables in
-    rw (← c.self.view_is, c.total_step.ensures.value, c.commodities-commodities.ensures.value, ← place-before_total t (length t.commodities))
+    rw (
+      ← c.self.view_is,
+      c.total_step.ensures.value,
+      c.commodities-commodities.ensures.value,
+      ← place-before_total t (length t.commodities),
+    )
     (total_stays t c.self.inside.plan set.is_plan.ops set.wires)
 
 pub returns-clause-means : goal.returns-clause-means
@@ -34,5 +49,10 @@ returns-clause-means c =
     let t = c.self.inside.tables in
     let known = known_before_total t (length t.commodities) (omega arith) in
     let op = op_at_place t c.self.inside.plan set.is_plan.ops set.wires (last_total t) known in
-    rw (← c.self.view_is, c.total_step.ensures.value, c.commodities-commodities.ensures.value, ← place-before_total t (length t.commodities))
+    rw (
+      ← c.self.view_is,
+      c.total_step.ensures.value,
+      c.commodities-commodities.ensures.value,
+      ← place-before_total t (length t.commodities),
+    )
     (λ holdings. ap (meaning t holdings) op ∙ meaning-before_total t holdings (length t.commodities))

@@ -12,7 +12,12 @@ returns-clause-in_range c =
     let t = c.self.inside.tables in
     let has : has_option_value t ≡ true = search rules in
     let known = known_before_value t has (length t.commodities) (omega arith) in
-    rw (← c.self.view_is, c.premium_step.ensures, c.commodities-commodities.ensures.value, ← place-before_value t (length t.commodities))
+    rw (
+      ← c.self.view_is,
+      c.premium_step.ensures,
+      c.commodities-commodities.ensures.value,
+      ← place-before_value t (length t.commodities),
+    )
     (place_within t c.self.inside.plan set.is_plan.ops set.wires (last_value t) known)
 
 pub returns-clause-op : goal.returns-clause-op
@@ -21,7 +26,12 @@ returns-clause-op c =
     let t = c.self.inside.tables in
     let has : has_option_value t ≡ true = search rules in
     let known = known_before_value t has (length t.commodities) (omega arith) in
-    rw (← c.self.view_is, c.premium_step.ensures, c.commodities-commodities.ensures.value, ← place-before_value t (length t.commodities))
+    rw (
+      ← c.self.view_is,
+      c.premium_step.ensures,
+      c.commodities-commodities.ensures.value,
+      ← place-before_value t (length t.commodities),
+    )
     (op_at_place t c.self.inside.plan set.is_plan.ops set.wires (last_value t) known)
 
 pub returns-clause-stays : goal.returns-clause-stays
@@ -29,7 +39,12 @@ returns-clause-stays c =
     let set = c.self.invariant in
     let t = c.self.inside.tables in
     let has : has_option_value t ≡ true = search rules in
-    rw (← c.self.view_is, c.premium_step.ensures, c.commodities-commodities.ensures.value, ← place-before_value t (length t.commodities))
+    rw (
+      ← c.self.view_is,
+      c.premium_step.ensures,
+      c.commodities-commodities.ensures.value,
+      ← place-before_value t (length t.commodities),
+    )
     (value_stays t c.self.inside.plan set.is_plan.ops set.wires has)
 
 pub returns-clause-means : goal.returns-clause-means
@@ -39,5 +54,10 @@ returns-clause-means c =
     let has : has_option_value t ≡ true = search rules in
     let known = known_before_value t has (length t.commodities) (omega arith) in
     let op = op_at_place t c.self.inside.plan set.is_plan.ops set.wires (last_value t) known in
-    rw (← c.self.view_is, c.premium_step.ensures, c.commodities-commodities.ensures.value, ← place-before_value t (length t.commodities))
+    rw (
+      ← c.self.view_is,
+      c.premium_step.ensures,
+      c.commodities-commodities.ensures.value,
+      ← place-before_value t (length t.commodities),
+    )
     (λ holdings. ap (meaning t holdings) op ∙ meaning-before_value t holdings (length t.commodities))
