@@ -41,7 +41,7 @@ side_falls on used bp zero (line ∷ lines) lt le = used_part on line.rest used 
 side_falls on used bp (suc i) (line ∷ lines) lt le = side_falls on used bp i lines (omega arith) le
 
 -- the lines of other commodities stay
-line_at-change_at : (f : InterLine → InterLine) (i k : ℕ) (lines : List InterLine) → i ≢ k
+pub line_at-change_at : (f : InterLine → InterLine) (i k : ℕ) (lines : List InterLine) → i ≢ k
     → line_at (change_at f i lines) k ≡ line_at lines k
 line_at-change_at f i k [] ne = refl
 line_at-change_at f zero zero (line ∷ lines) ne = absurd (ne refl)

@@ -4,9 +4,11 @@ pub mod MinimumLaws
 pub mod ValueLemmas
 pub mod OnLiterals
 pub mod RestLaws
+pub mod WeightLaws
 pub mod Sizes
 pub mod SpreadLemmas
 pub mod LineLemmas
 mod NothingFormed
 pub mod OpenLemmas
+pub mod DirectionLaws
 pub mod BoundLaws

@@ -20,7 +20,8 @@ use Rattle.span_tables.specs.declared.limits.TheConstants.{MAX_PRICE2, MAX_UNITS
 use Rattle.inter_credit.proofs.NothingFormed.{nothing_formed}
 use Rattle.inter_credit.proofs.RestLaws.{one_way_uses}
 
-some_of_some : (x d : ℕ) → 0 < x / d → 0 < x
+-- what can be divided into some is some
+pub some_of_some : (x d : ℕ) → 0 < x / d → 0 < x
 some_of_some zero d some = absurd (omega (arith, some, zero-div d))
 some_of_some (suc x) d some = omega arith
 
@@ -58,7 +59,8 @@ pub closed_way : (spread : Inter) (d : Direction) (sides : OpenSides) (lines : L
 closed_way spread d sides lines marked tells open_sides not =
     closed_by (spreads_formed (commodity_rooms d spread.legs lines)) spread d sides lines marked refl tells open_sides not
 
-rest_of_line : (lines : List InterLine) (k : ℕ) → rest_at lines k ≡ (line_at lines k).rest
+-- the rest of a commodity stands in its line
+pub rest_of_line : (lines : List InterLine) (k : ℕ) → rest_at lines k ≡ (line_at lines k).rest
 rest_of_line [] k = refl
 rest_of_line (line ∷ lines) zero = refl
 rest_of_line (line ∷ lines) (suc k) = rest_of_line lines k

@@ -88,7 +88,8 @@ change_uses on used bp zero (line ∷ lines) le (suc k) = same_line bp (line_at 
 change_uses on used bp (suc i) (line ∷ lines) le zero = same_line bp line
 change_uses on used bp (suc i) (line ∷ lines) le (suc k) = change_uses on used bp i lines le k
 
-length-lines_after : (d : Direction) (n basis_points : ℕ) (legs : List CommodityLeg) (lines : List InterLine)
+-- spreads keep how many lines there are
+pub length-lines_after : (d : Direction) (n basis_points : ℕ) (legs : List CommodityLeg) (lines : List InterLine)
     → length (lines_after d n basis_points legs lines) ≡ length lines
 length-lines_after d n bp [] lines = refl
 length-lines_after d n bp (leg ∷ legs) lines =

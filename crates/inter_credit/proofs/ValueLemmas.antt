@@ -2,7 +2,7 @@
 use Rattle.std.proofs.Common.{◌≡◌, ℕ, zero, suc, ◌+◌, ◌*◌, ◌<◌, ◌≤◌, List, length, take}
 use Rattle.std.proofs.Common.{ap, sym, ◌∙◌, refl, arith, inl, inr}
 use Rattle.std.proofs.Common.{ℤ, pos, negsuc, neg_ℤ, ◌+ℤ◌, ◌-ℤ◌, ◌*ℤ◌, ◌⊎◌}
-use Rattle.std.specs.Prelude.{IfSome, nat_abs, slice_get}
+use Rattle.std.specs.Prelude.{IfSome, None, Option, Some, nat_abs, slice_get}
 use Rattle.std.proofs.Math.Nat.{mul-le-mul_right}
 use Rattle.std.proofs.lemmas.Int.{ints}
 use Rattle.std.proofs.lemmas.List.Sums.{fold_more}
@@ -21,6 +21,16 @@ use Rattle.inter_credit.specs.declared.option_value.TheConstants.{MAX_NET_VALUE,
 pub position_small : (net : ℤ) (value : ℕ) → nat_abs net ≤ MAX_NET → value ≤ MAX_OPTION_VALUE
     → nat_abs (net *ℤ pos value) ≤ MAX_POSITION_VALUE
 position_small net value x y = product_size net (pos value) MAX_NET MAX_OPTION_VALUE x y
+
+-- what the contract at a place is worth, by its record and its net
+pub position_told : (held : List HeldContract) (i : ℕ) (x : Contract) (n value : ℤ) → value ≡ n *ℤ pos x.option_value
+    → IfSome (slice_get held i) (λ h. x ≡ h.contract) → IfSome (slice_get held i) (λ h. n ≡ h.net)
+    → IfSome (slice_get held i) (λ h. value ≡ position_value h)
+position_told held i x n value is contract net = told (slice_get held i) contract net where
+  told : (o : Option HeldContract) → IfSome o (λ h. x ≡ h.contract) → IfSome o (λ h. n ≡ h.net)
+      → IfSome o (λ h. value ≡ position_value h)
+  told None contract net = tt
+  told (Some h) contract net = is ∙ (λ j. net j *ℤ pos (contract j).option_value)
 
 -- one held contract more, by its record and its net
 pub net_value_more : (held : List HeldContract) (i : ℕ) (x : Contract) (n : ℤ) → i < length held

@@ -5,6 +5,7 @@ use Rattle.span_tables.specs.Sides.{market_side, part_on, less_used, Room, sprea
 use Rattle.span_tables.specs.declared.sides.Direction.{Direction}
 use Rattle.span_tables.specs.declared.sides.Direction.TheVariants.{ALong, AShort}
 use Rattle.span_tables.specs.declared.sides.MarketSide.{MarketSide}
+use Rattle.span_tables.specs.declared.sides.SpreadsFormed.{SpreadsFormed}
 use Rattle.span_tables.specs.declared.records.CommodityLeg.{CommodityLeg}
 use Rattle.span_tables.specs.declared.records.Inter.{Inter}
 use Rattle.inter_credit.specs.declared.state.InterLine.{InterLine}
@@ -43,14 +44,21 @@ lines_after d n basis_points legs lines =
     (λ ls leg. change_at (line_after (market_side d leg.side) (n * leg.ratio) basis_points) leg.commodity ls)
     lines legs
 
+-- how many spreads a spread forms in a direction, in 10^-4 spreads
+abbrev pub formed_in : Inter → Direction → List InterLine → ℕ
+formed_in s d lines = spreads_formed (commodity_rooms d s.legs lines)
+
 -- a spread in one direction
 abbrev pub inter_one_way : Inter → Direction → List InterLine → List InterLine
-inter_one_way s d lines =
-    lines_after d (spreads_formed (commodity_rooms d s.legs lines)) s.basis_points s.legs lines
+inter_one_way s d lines = lines_after d (formed_in s d lines) s.basis_points s.legs lines
 
 -- a spread in both directions, with A long first
 unfoldable pub inter_both_ways : List InterLine → Inter → List InterLine
 inter_both_ways lines s = inter_one_way s AShort (inter_one_way s ALong lines)
+
+-- how many spreads it forms in both directions: with A long of what there is, with A short of what that leaves
+abbrev pub formed_both : List InterLine → Inter → SpreadsFormed
+formed_both lines s = record { a_long = formed_in s ALong lines; a_short = formed_in s AShort (inter_one_way s ALong lines) }
 
 -- after the spreads of the set, in their order
 unfoldable pub after_inter_spreads : List Inter → List InterLine → List InterLine

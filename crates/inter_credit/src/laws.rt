@@ -1,5 +1,5 @@
 //! Laws of the definitions, in the methodology's words: each is the contract of a function that does nothing.
-ghost use Rattle.std.specs.Prelude.{◌≡◌, ◌≢◌, ℕ, ◌+◌, ◌*◌, ◌^◌, ◌≤◌, max, Bool, ◌&&◌, List, [], length};
+ghost use Rattle.std.specs.Prelude.{◌≡◌, ◌≢◌, ◌==◌, ℕ, ◌+◌, ◌*◌, ◌^◌, ◌<◌, ◌≤◌, max, Bool, ◌&&◌, List, [], length};
 ghost use Rattle.std.specs.Prelude.{filter, sum_by, ◌⊎◌, ℤ, pos, ◌+ℤ◌, ◌-ℤ◌, ◌≤ℤ◌, int_lt, nat_abs};
 ghost use Rattle.std.specs.List.{AllByRecursion};
 ghost use Rattle.span_tables.specs.Accepted.{IsInter};
@@ -7,9 +7,9 @@ ghost use Rattle.span_tables.specs.Net.{HeldContract};
 ghost use Rattle.span_tables.specs.declared.records.Inter.{Inter};
 ghost use Rattle.span_tables.specs.declared.records.MinimumMethod.TheVariants as method;
 ghost use Rattle.span_tables.specs.declared.records.ProductKind.{ProductKind};
-ghost use Rattle.span_tables.specs.Sides.{spreads_formed};
 ghost use Rattle.span_tables.specs.declared.sides.Direction.{Direction};
-ghost use Rattle.inter_credit.specs.Credits.{after_inter_spreads, commodity_rooms, credit_of, inter_both_ways, inter_one_way, leg_side};
+ghost use Rattle.inter_credit.specs.Credits.{after_inter_spreads, credit_of, formed_both, formed_in, inter_both_ways};
+ghost use Rattle.inter_credit.specs.Credits.{inter_one_way, leg_side};
 ghost use Rattle.inter_credit.specs.OptionValue.{due_of, excess_of};
 ghost use Rattle.inter_credit.specs.Requirement.{is_call, is_put, minimum_of, requirement_of, short_count};
 ghost use Rattle.inter_credit.specs.States.{IsUnspread, UsesLine, credit_at, line_at};
@@ -49,10 +49,25 @@ pub fn spread_uses_rests()
 pub fn each_leg_uses_its_part()
     ensures legs { (d : Direction) (spread : Inter) (lines : List InterLine) → IsInter (length lines) spread
         → AllByRecursion (λ leg. leg_side d leg (inter_one_way spread d lines)
-        + spreads_formed (commodity_rooms d spread.legs lines) * leg.ratio ≡ leg_side d leg lines) spread.legs }
+        + formed_in spread d lines * leg.ratio ≡ leg_side d leg lines) spread.legs }
     ensures others { (d : Direction) (spread : Inter) (lines : List InterLine) (k : ℕ)
         → AllByRecursion (λ leg. leg.commodity ≢ k) spread.legs
         → line_at (inter_one_way spread d lines) k ≡ line_at lines k }
+{}
+
+/// A commodity's weight grows, for each leg of the commodity, by the spreads formed in both directions times the leg's ratio
+/// times the basis points.
+pub fn spreads_formed_add_weight()
+    ensures { (lines : List InterLine) (spread : Inter) (k : ℕ) → k < length lines
+        → (line_at (inter_both_ways lines spread) k).weight ≡ (line_at lines k).weight
+        + sum_by (λ leg. ((formed_both lines spread).a_long + (formed_both lines spread).a_short) * leg.ratio * spread.basis_points)
+        (filter (λ leg. leg.commodity == k) spread.legs) }
+{}
+
+/// Between commodities a spread forms in one direction at most: a commodity's rest lies on one side of the market.
+pub fn spreads_form_in_one_direction()
+    ensures { (lines : List InterLine) (spread : Inter) → IsInter (length lines) spread
+        → ((formed_both lines spread).a_long ≡ 0) ⊎ ((formed_both lines spread).a_short ≡ 0) }
 {}
 
 /// What is counted of a kind are the sizes of the negative nets; the minimum is the rate times the count of calls and

@@ -1,8 +1,8 @@
 //! The option value of a commodity (docs/METHOD.md, Option value).
-ghost use Rattle.std.specs.Prelude.{◌≡◌, ◌≤◌, ◌*ℤ◌, nat_abs, pos};
+ghost use Rattle.std.specs.Prelude.{◌≡◌, ◌<◌, ◌≤◌, ◌*ℤ◌, IfSome, length, nat_abs, pos, slice_get};
 ghost use Rattle.span_tables.specs.Accepted.{IsContract};
 ghost use Rattle.span_tables.specs.declared.limits.TheConstants.{MAX_NET};
-ghost use Rattle.inter_credit.specs.OptionValue.{net_value_of};
+ghost use Rattle.inter_credit.specs.OptionValue.{net_value_of, position_value};
 ghost use Rattle.inter_credit.specs.declared.option_value.TheConstants.{MAX_NET_VALUE, MAX_POSITION_VALUE};
 
 use span_money::amounts::Money;
@@ -17,13 +17,24 @@ pub const MAX_NET_VALUE: u64 = MAX_HELD as u64 * MAX_POSITION_VALUE;
 
 // What a net quantity of a contract is worth, in minor units.
 #[tactic(auto, using(crate::proofs::ValueLemmas::position_small))]
-fn position_value(contract: &Contract, net: i64) -> i64
+fn worth(contract: &Contract, net: i64) -> i64
     requires net { nat_abs net ≤ MAX_NET }
     requires contract { IsContract contract.now }
     ensures value { result ≡ net *ℤ pos (contract.now).option_value }
     ensures bound { nat_abs result ≤ MAX_POSITION_VALUE }
 {
     net * i64::from(contract.option_value)
+}
+
+/// What the held contract at a place is worth, in minor units: its net quantity times its option value. A short option's
+/// worth is negative.
+#[tactic(auto, using(crate::proofs::ValueLemmas::position_told))]
+pub fn position_value(held: &Held, place: usize) -> Money
+    requires { place < length held.now }
+    ensures value { IfSome (slice_get held.now place) (λ h. result ≡ position_value h) }
+    ensures bound { nat_abs result ≤ MAX_POSITION_VALUE }
+{
+    Money::new(i128::from(worth(held.contract(place), held.net(place))))
 }
 
 /// The option value of a commodity, in minor units: net quantity times option value over the held contracts. More short
@@ -35,7 +46,7 @@ pub fn net_value(held: &Held) -> Money
 {
     let mut sum: i64 = 0;
     for place in 0..held.len() {
-        sum += position_value(held.contract(place), held.net(place));
+        sum += worth(held.contract(place), held.net(place));
     }
     Money::new(i128::from(sum))
 }

@@ -20,15 +20,15 @@ fn short_part(net: i64) -> u64
     if net < 0 { net.unsigned_abs() } else { 0 }
 }
 
-// Short calls and short puts.
-#[derive(Drop)]
-struct ShortCounts {
-    calls: u64,
-    puts: u64,
+/// How many calls and how many puts are short, in contracts.
+#[derive(Clone, Copy, Debug, PartialEq, Eq)]
+pub struct ShortCounts {
+    pub calls: u64,
+    pub puts: u64,
 }
 
-// How many calls and how many puts are short.
-fn short_counts(held: &Held) -> ShortCounts
+/// How many calls and how many puts are short among the held contracts of a commodity, in contracts.
+pub fn short_counts(held: &Held) -> ShortCounts
     ensures calls { result.calls ≡ short_count is_call held.now }
     ensures puts { result.puts ≡ short_count is_put held.now }
     ensures bound { result.calls + result.puts ≤ MAX_HELD * MAX_NET }

@@ -4,7 +4,8 @@ ghost use Rattle.std.specs.Prelude.{◌≡◌, ◌<◌, ◌≤◌, ◌*◌, ◌/
 ghost use Rattle.span_tables.specs.Accepted.{IsInter};
 ghost use Rattle.span_tables.specs.Sides.{market_side, part_on, spreads_formed};
 ghost use Rattle.span_tables.specs.declared.limits.TheConstants.{MAX_BASIS_POINTS};
-ghost use Rattle.inter_credit.specs.Credits.{change_at, commodity_rooms, inter_both_ways, inter_one_way, leg_side, line_after, lines_after};
+ghost use Rattle.inter_credit.specs.Credits.{change_at, commodity_rooms, formed_both, formed_in, inter_both_ways, inter_one_way};
+ghost use Rattle.inter_credit.specs.Credits.{leg_side, line_after, lines_after};
 ghost use Rattle.inter_credit.specs.near.Rooms.{HaveRoom};
 ghost use Rattle.inter_credit.specs.States.{IsLine};
 ghost use Rattle.inter_credit.specs.near.Open.{AreOpen};
@@ -13,7 +14,7 @@ ghost use Rattle.inter_credit.specs.declared.state.InterLine.{InterLine};
 use crate::state::{InterLine, InterState};
 use span_money::division::greatest_fit;
 use span_tables::records::{CommodityLeg, Inter};
-use span_tables::sides::{Direction, MarketSide, less_used, market_side, part_on};
+use span_tables::sides::{Direction, MarketSide, SpreadsFormed, less_used, market_side, part_on};
 use span_tables::slots::OpenSides;
 use std::alloc::{AllocError, Global};
 
@@ -145,6 +146,46 @@ pub(crate) fn spread_both_ways(lines: &mut [InterLine], sides: &OpenSides, sprea
 {
     spread_one_way(lines, sides, spread, Direction::ALong);
     spread_one_way(lines, sides, spread, Direction::AShort);
+}
+
+// A spread in one direction, and how many it forms.
+fn count_one_way(
+    lines: &mut [InterLine],
+    sides: &OpenSides,
+    spread: &Inter,
+    direction: Direction,
+) -> u64
+    requires lines { All IsLine lines.old }
+    requires sides { AreOpen sides.now lines.old }
+    requires spread { IsInter (length lines.old) spread.now }
+    ensures value { lines.new ≡ inter_one_way spread.now direction lines.old }
+    ensures formed { result ≡ formed_in spread.now direction lines.old }
+    ensures lines { All IsLine lines.new }
+    ensures sides { AreOpen sides.now lines.new }
+{
+    let formed = spreads_formed(lines, spread.legs(), direction);
+    spread_one_way(lines, sides, spread, direction);
+    formed
+}
+
+// A spread in both directions, with A long first, and how many it forms in each.
+#[tactic(auto, unfolding(crate::specs::Credits::inter_both_ways))]
+pub(crate) fn count_both_ways(
+    lines: &mut [InterLine],
+    sides: &OpenSides,
+    spread: &Inter,
+) -> SpreadsFormed
+    requires lines { All IsLine lines.old }
+    requires sides { AreOpen sides.now lines.old }
+    requires spread { IsInter (length lines.old) spread.now }
+    ensures value { lines.new ≡ inter_both_ways lines.old spread.now }
+    ensures formed { result ≡ formed_both lines.old spread.now }
+    ensures lines { All IsLine lines.new }
+    ensures sides { AreOpen sides.now lines.new }
+{
+    let a_long = count_one_way(lines, sides, spread, Direction::ALong);
+    let a_short = count_one_way(lines, sides, spread, Direction::AShort);
+    SpreadsFormed { a_long, a_short }
 }
 
 // Whether a spread may be formed in one of the directions. `false` says that none is, `true` nothing.

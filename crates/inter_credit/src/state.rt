@@ -1,14 +1,15 @@
 //! For each commodity its net delta, what spreads have left of it, its price risk, and what earns its credit
 //! (docs/METHOD.md, Intercommodity spreads).
 ghost use Rattle.std.specs.Prelude.{◌≡◌, ◌<◌, ◌≤◌, ◌==◌, false, length, replicate, slice_set, All, IfOk, pos, nat_abs};
-ghost use Rattle.inter_credit.specs.Credits.{inter_both_ways, unspread_line};
+ghost use Rattle.inter_credit.specs.Credits.{formed_both, inter_both_ways, unspread_line};
 ghost use Rattle.span_tables.specs.Accepted.{IsInter};
 ghost use Rattle.inter_credit.specs.States.{IsLine, IsNotLoaded, IsUnspread};
 ghost use Rattle.span_tables.specs.declared.limits.TheConstants.{MAX_PRICE2, MAX_UNITS};
 
-use crate::spreads::{may_form_either, spread_both_ways};
+use crate::spreads::{count_both_ways, may_form_either, spread_both_ways};
 use span_money::amounts::Units;
 use span_tables::records::Inter;
+use span_tables::sides::SpreadsFormed;
 use span_tables::slots::OpenSides;
 use std::alloc::{AllocError, Global};
 use std::marker::Model;
@@ -103,6 +104,16 @@ impl InterState {
         ensures length { length self.new ≡ length self.old }
     {
         spread_both_ways(&mut self.lines, &self.sides, spread);
+    }
+
+    /// The same as `spread`, and tells how many spreads it forms in each direction, in 10^-4 spreads.
+    pub fn spread_counted(&mut self, spread: &Inter) -> SpreadsFormed
+        requires { IsInter (length self.old) spread.now }
+        ensures value { self.new ≡ inter_both_ways self.old spread.now }
+        ensures formed { result ≡ formed_both self.old spread.now }
+        ensures length { length self.new ≡ length self.old }
+    {
+        count_both_ways(&mut self.lines, &self.sides, spread)
     }
 
     /// Whether a spread may be formed. `false` says that none is, and that the state stays as it is; `true` says nothing, since

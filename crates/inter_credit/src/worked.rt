@@ -7,7 +7,7 @@ ghost use Rattle.span_tables.specs.declared.limits.TheConstants.{MAX_BASIS_POINT
 ghost use Rattle.span_tables.specs.declared.limits.TheConstants.{MAX_OPTION_VALUE, MAX_PRICE2, MAX_SUM, MAX_UNITS};
 ghost use Rattle.span_tables.specs.declared.records.MinimumMethod.TheVariants as method;
 ghost use Rattle.span_tables.specs.declared.records.ProductKind.TheVariants as kind;
-ghost use Rattle.inter_credit.specs.Credits.{after_inter_spreads, credit_of, unspread_line};
+ghost use Rattle.inter_credit.specs.Credits.{after_inter_spreads, credit_of, formed_both, unspread_line};
 ghost use Rattle.inter_credit.specs.OptionValue.{due_of, excess_of, net_value_of};
 ghost use Rattle.inter_credit.specs.Requirement.{minimum_of, requirement_of};
 ghost use Rattle.inter_credit.specs.declared.option_value.TheConstants.{MAX_NET_VALUE};
@@ -87,6 +87,14 @@ fn largest_credits_of_an_account()
     ensures { map credit_of (after_inter_spreads (spread_of MAX_BASIS_POINTS 0 10000 1 10000 ∷ [])
         (unspread_line (pos (MAX_UNITS / 2)) (MAX_PRICE2 / 2) ∷ unspread_line (short (MAX_UNITS / 2)) (MAX_PRICE2 / 2) ∷ []))
         ≡ MAX_PRICE2 / 4 ∷ MAX_PRICE2 / 4 ∷ [] }
+{}
+
+// Spreads with A long, of which the first commodity has room for a half, and with A short.
+fn spreads_formed_each_way()
+    ensures a_long { formed_both (unspread_line (pos 100000000) 2400 ∷ unspread_line (short 200000000) 3600 ∷ [])
+        (spread_of 5000 0 20000 1 30000) ≡ record { a_long = 5000; a_short = 0 } }
+    ensures a_short { formed_both (unspread_line (short 100000000) 2400 ∷ unspread_line (pos 200000000) 3600 ∷ [])
+        (spread_of 5000 0 10000 1 10000) ≡ record { a_long = 0; a_short = 10000 } }
 {}
 
 // Two short calls and three short puts, beside long puts and short futures.

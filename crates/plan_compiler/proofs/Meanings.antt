@@ -34,7 +34,7 @@ module _ (t : AcceptedTables) (holdings : List Holding) where
   meaning-before_load zero = refl
   meaning-before_load (suc c) = rw add-one refl
 
-  loaded_all : lines_loaded t holdings (length t.commodities) ≡ lines_after t holdings 0
+  pub loaded_all : lines_loaded t holdings (length t.commodities) ≡ lines_after t holdings 0
   unfolding after_inter_spreads
   loaded_all =
       let gone : length t.commodities - length t.commodities ≡ 0 = omega arith in
@@ -66,7 +66,7 @@ module _ (t : AcceptedTables) (holdings : List Holding) where
   unfolding after_inter_spreads
   inter_more j lt = sym (fold_more inter_both_ways (loaded_lines t holdings) (inters_of t) j no_inter lt)
 
-  load_more : (c : ℕ) → c < length t.commodities
+  pub load_more : (c : ℕ) → c < length t.commodities
       → slice_set (lines_loaded t holdings c) c (line_of t holdings c) ≡ lines_loaded t holdings (c + 1)
   load_more c lt =
       let front = map (line_of t holdings) (range_with_len 0 c) in

@@ -55,7 +55,7 @@ module _ (t : AcceptedTables) (holdings : List Holding) (limits : IsWithinLimits
       length-after_inter_spreads (take j (inters_of t)) (loaded_lines t holdings)
       ∙ length-loaded_lines t holdings limits portfolio known
 
-  length_partly : (c : ℕ) → c ≤ length t.commodities → length (lines_loaded t holdings c) ≡ length t.commodities
+  pub length_partly : (c : ℕ) → c ≤ length t.commodities → length (lines_loaded t holdings c) ≡ length t.commodities
   length_partly c le =
       let front = map (line_of t holdings) (range_with_len 0 c) in
       let rest = replicate (length t.commodities - c) (unspread_line (pos 0) 0) in
@@ -73,7 +73,7 @@ module _ (t : AcceptedTables) (holdings : List Holding) (limits : IsWithinLimits
       let known = (limits.inters_in_range j no_inter lt).known in
       λ i d in_range. let among = known i d in_range in omega (arith, among, length_lines j)
 
-  not_loaded : (c : ℕ) → c < length t.commodities → IsNotLoaded (lines_loaded t holdings c) c
+  pub not_loaded : (c : ℕ) → c < length t.commodities → IsNotLoaded (lines_loaded t holdings c) c
   not_loaded c lt =
       let front = map (line_of t holdings) (range_with_len 0 c) in
       let none = unspread_line (pos 0) 0 in
@@ -85,7 +85,7 @@ module _ (t : AcceptedTables) (holdings : List Holding) (limits : IsWithinLimits
       ∙ at_seam front none (replicate (length t.commodities - (c + 1)) none) in
       rw here (refl, refl)
 
-  unspread : (c : ℕ) → IsUnspread (lines_loaded t holdings c)
+  pub unspread : (c : ℕ) → IsUnspread (lines_loaded t holdings c)
   unspread c =
       All-append IsUnspreadLine (map (line_of t holdings) (range_with_len 0 c)) _
       (All-map IsUnspreadLine (line_of t holdings) (range_with_len 0 c) (λ i d lt. record { rest = refl; weight = refl }))

@@ -60,6 +60,22 @@ R,X,D1,AA,1200,13,500,40,0,0,1740
 T,X,D1,1740
 ";
 
+/// Its lines: two spreads of 250 form, which leaves one of the near month.
+pub const EXPLANATION: &[u8] = b"\
+HELD,X,D1,AA,FA,F,202503,3
+HELD,X,D1,AA,FA2,F,202506,-2
+SUMS,X,D1,AA,0,0,-400,-400,400,400,-800,-800,800,800,-1200,-1200,1200,1200,-1188,1188
+SCAN,X,D1,AA,1200,13,14,1200
+MONTH,X,D1,AA,202503,3,1
+MONTH,X,D1,AA,202506,-2,0
+INTRA,X,D1,AA,1,A,2,250,500
+SPOT,X,D1,AA,202503,2,10,1,20,40
+CREDIT,X,D1,AA,1200,1,0
+SHORT,X,D1,AA,0,0,SUM,0
+R,X,D1,AA,1200,13,500,40,0,0,1740
+T,X,D1,1740
+";
+
 /// The same, and then under the next set two spreads at 300.
 pub const BOTH_STATEMENTS: &[u8] = b"\
 R,X,D1,AA,1200,13,500,40,0,0,1740

@@ -54,3 +54,15 @@ T,X,D1,2500
 R,Y,D1,AA,0,10,0,0,0,0,0
 T,Y,D1,0
 ";
+
+/// What the account Y holds, and why it has to bring nothing.
+pub const EXPLANATION_OF_ONE: &[u8] = b"\
+HELD,Y,D2,AA,CA,C,202503,1,120
+SUMS,Y,D2,AA,-5,-3,-9,-7,-4,-2,-12,-11,-3,-1,-20,-19,-2,-1,-15,-1
+SCAN,Y,D2,AA,0,10,9,2
+MONTH,Y,D2,AA,202503,0.5,0.5
+CREDIT,Y,D2,AA,2,0.5,0
+SHORT,Y,D2,AA,0,0,SUM,500
+R,Y,D2,AA,0,10,0,0,0,0,0
+T,Y,D2,0,120,0,120
+";

@@ -1,3 +1,5 @@
+pub mod AccountWords
+pub mod JoinLemmas
 pub mod NumberLemmas
 pub mod ParseLemmas
 pub mod ServingLemmas

@@ -1,19 +1,26 @@
 -- What `clap` says of a command, said of the program's own.
-use Rattle.std.proofs.Common.{◌≡◌, subst, refl, List, true, Result, IfErr}
-use Rattle.clap.specs.Words.{App, FailsBy, Text, fault_of, is_simple_and_free, kind_of, takes}
+use Rattle.std.proofs.Common.{◌≡◌, subst, refl, List, true, Result, Ok, Err, IfErr, IfOk}
+use Rattle.clap.specs.Words.{App, FailsBy, HasMatchesOf, Text, fault_of, is_simple_and_free, kind_of, subcommand_of, subcommand_rows_of, takes}
 use Rattle.clap.specs.declared.error.Error.{Error}
 use Rattle.clap.specs.declared.error.kind.ErrorKind.TheVariants.{OutOfMemory}
-use Rattle.span_cli.specs.Words.{is_taken, kinds_of, span_app}
+use Rattle.clap.specs.declared.parser.matches.ArgMatches.{ArgMatches}
+use Rattle.span_cli.specs.Words.{form_kinds, has_form, span_app}
 
--- words that are taken are refused only for want of memory
+-- words that have the form are refused only for want of memory
 pub taken_fails : {T : Type 0} (a : App) (words : List Text) (r : Result T Error) → a ≡ span_app
     → IfErr r (λ e. takes a words ≡ true → kind_of e ≡ OutOfMemory)
-    → IfErr r (λ e. is_taken words ≡ true → kind_of e ≡ OutOfMemory)
-unfolding is_taken
+    → IfErr r (λ e. has_form words ≡ true → kind_of e ≡ OutOfMemory)
+unfolding has_form
 taken_fails a words r same h = subst (λ (x : App). IfErr r (λ e. takes x words ≡ true → kind_of e ≡ OutOfMemory)) same h
 
 -- and others for a mistake that they have
 pub mistaken_fails : {T : Type 0} (a : App) (words : List Text) (r : Result T Error) → a ≡ span_app
-    → (is_simple_and_free a ≡ true → FailsBy (fault_of a words) r) → FailsBy (kinds_of words) r
-unfolding kinds_of
+    → (is_simple_and_free a ≡ true → FailsBy (fault_of a words) r) → FailsBy (form_kinds words) r
+unfolding form_kinds
 mistaken_fails a words r same h = subst (λ (x : App). is_simple_and_free x ≡ true → FailsBy (fault_of x words) r) same h refl
+
+-- words that are read name a command
+pub subcommand_read : (a : App) (words : List Text) (r : Result ArgMatches Error) → a ≡ span_app
+    → IfOk r (HasMatchesOf a words) → IfOk r (λ m. subcommand_rows_of m ≡ subcommand_of span_app words)
+subcommand_read a words (Ok m) same h = (subst (λ (x : App). HasMatchesOf x words m) same h refl).1
+subcommand_read a words (Err e) same h = tt

@@ -13,7 +13,7 @@ use Rattle.statement.specs.FaultLines.{fault_line, fault_status}
 use Rattle.statement.specs.declared.faults.SpanFault.{SpanFault}
 use Rattle.statement.specs.declared.faults.SpanFault.TheVariants as fault
 use Rattle.statement.specs.declared.statuses.TheConstants.{FILE_FAILED}
-use Rattle.span_cli.specs.Serving.{Answer, Asked, a_check, a_margin, a_plan, a_roll, OfAnswer, OfFile, OfRoll}
+use Rattle.span_cli.specs.Serving.{Answer, Asked, a_check, a_explain, a_margin, a_plan, a_roll, OfAnswer, OfFile, OfRoll}
 use Rattle.span_cli.specs.Serving.{file_line, memory, refused, unread}
 use Rattle.span_cli.specs.Sources.{File}
 use Rattle.span_cli.specs.Telling.{AnswersWords, RefusesBy, Serves, Tells}
@@ -67,6 +67,8 @@ OfAnswer-map file (a_check params) P Q f h = OfFile-map params (file params) P Q
 OfAnswer-map file (a_plan params) P Q f h = OfFile-map params (file params) P Q _ _ f (λ p. f _) h
 OfAnswer-map file (a_margin workers params positions) P Q f h =
     OfFile-map params (file params) P Q _ _ f (λ p. OfFile-map positions (file positions) P Q _ _ f (λ q. f _)) h
+OfAnswer-map file (a_explain account params positions) P Q f h =
+    OfFile-map params (file params) P Q _ _ f (λ p. OfFile-map positions (file positions) P Q _ _ f (λ q. f _)) h
 OfAnswer-map file (a_roll workers params next positions) P Q f h =
     OfFile-map params (file params) P Q _ _ f (λ p. OfFile-map next (file next) P Q _ _ f (λ n.
     OfFile-map positions (file positions) P Q _ _ f (λ q k.
@@ -90,6 +92,8 @@ OfAsked-each : (file : List ℕ → Option File) (asked : Asked) (P : Answer →
 OfAsked-each file (a_check params) P f = OfFile-each params (file params) P _ f (λ p. f _)
 OfAsked-each file (a_plan params) P f = OfFile-each params (file params) P _ f (λ p. f _)
 OfAsked-each file (a_margin workers params positions) P f =
+    OfFile-each params (file params) P _ f (λ p. OfFile-each positions (file positions) P _ f (λ q. f _))
+OfAsked-each file (a_explain account params positions) P f =
     OfFile-each params (file params) P _ f (λ p. OfFile-each positions (file positions) P _ f (λ q. f _))
 OfAsked-each file (a_roll workers params next positions) P f =
     OfFile-each params (file params) P _ f (λ p. OfFile-each next (file next) P _ f (λ n.

@@ -1,5 +1,6 @@
 -- What is answered to a request.
 use Rattle.std.specs.Prelude.{ℕ, List, [], ◌++◌, codes, Option, Some, None, Result, Ok, Err, ⊤}
+use Rattle.explanation.specs.Explanation.{explanation_of}
 use Rattle.statement.specs.Counts.{counts_of}
 use Rattle.statement.specs.Listing.{listing_of}
 use Rattle.statement.specs.FaultLines.{fault_line, fault_status, memory_line}
@@ -60,11 +61,13 @@ pub record OfRoll (workers : ℕ) (params next positions : List ℕ) (P : Answer
   pub gives : GivesRoll (λ text. text) workers params next positions given
   pub holds : P (answer_of given)
 
--- what a request asks for, with the names of its files as texts; `margin` and `roll` with their number of workers first
+-- what a request asks for, with the names of its files as texts; `margin` and `roll` with their number of workers first, and
+-- `explain` with the account, where one alone is asked for
 pub data Asked : Type 0 where
   a_check : List ℕ → Asked
   a_plan : List ℕ → Asked
   a_margin : ℕ → List ℕ → List ℕ → Asked
+  a_explain : Option (List ℕ) → List ℕ → List ℕ → Asked
   a_roll : ℕ → List ℕ → List ℕ → List ℕ → Asked
 
 -- what a request asks for
@@ -72,6 +75,7 @@ abbrev pub asked_by : Request → Asked
 asked_by (request.Check params) = a_check params.now
 asked_by (request.Plan params) = a_plan params.now
 asked_by (request.Margin params positions workers) = a_margin workers params.now positions.now
+asked_by (request.Explain params positions account) = a_explain account params.now positions.now
 asked_by (request.Roll params next positions workers) = a_roll workers params.now next.now positions.now
 
 -- what holds of the answer to a request, whose files are read in their order
@@ -80,6 +84,8 @@ OfAnswer file (a_check params) P = OfFile params (file params) P (λ p. P (answe
 OfAnswer file (a_plan params) P = OfFile params (file params) P (λ p. P (answer_of (listing_of p)))
 OfAnswer file (a_margin workers params positions) P =
     OfFile params (file params) P (λ p. OfFile positions (file positions) P (λ q. P (answer_of (margin_of workers p q))))
+OfAnswer file (a_explain account params positions) P =
+    OfFile params (file params) P (λ p. OfFile positions (file positions) P (λ q. P (answer_of (explanation_of p q account))))
 OfAnswer file (a_roll workers params next positions) P =
     OfFile params (file params) P (λ p. OfFile next (file next) P (λ n. OfFile positions (file positions) P (λ q.
     OfRoll workers p n q P)))

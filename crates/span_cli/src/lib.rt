@@ -2,6 +2,7 @@
 #![tactic(auto)]
 
 pub mod disk;
+mod joining;
 pub mod laws;
 pub mod memory;
 pub mod reading;

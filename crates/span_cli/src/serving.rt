@@ -1,5 +1,6 @@
 //! Requests, and the bytes that answer them.
-ghost use Rattle.span_cli.specs.Serving.{OfAnswer, OfRoll, a_check, a_margin, a_plan, a_roll, answer_of, asked_by, done};
+ghost use Rattle.explanation.specs.Explanation.{explanation_of};
+ghost use Rattle.span_cli.specs.Serving.{OfAnswer, OfRoll, a_check, a_explain, a_margin, a_plan, a_roll, answer_of, asked_by, done};
 ghost use Rattle.span_cli.specs.Telling.{Serves, Tells};
 ghost use Rattle.span_cli.specs.near.Refusals.{Loads, Runs, refusal_line, refusal_status};
 ghost use Rattle.span_cli.specs.declared.serving.Refusal.TheVariants as refusal;
@@ -10,7 +11,9 @@ ghost use Rattle.statement.specs.Statement.{margin_of};
 ghost use Rattle.std.specs.Prelude.{◌≡◌, IfSome, List, false, ℕ};
 
 use crate::sources::{ReadFault, Sources};
+use explanation::explaining::explain;
 use result_book::books::ResultBook;
+use span_tables::name::Name;
 use span_told::MarkedWriter;
 use statement::counts::check_plain;
 use statement::fault_lines::tell_fault;
@@ -27,7 +30,7 @@ use std::time::Clock;
 use worker_pool::gates::Gate;
 
 /// What the program is asked for, with the names of its files.
-#[derive(Clone, Copy, Debug)]
+#[derive(Debug, Drop)]
 pub enum Request<'a> {
     /// The counts of a parameter file by itself.
     Check {
@@ -42,6 +45,12 @@ pub enum Request<'a> {
         params: &'a str,
         positions: &'a str,
         workers: usize,
+    },
+    /// Why each figure of a statement is what it is, of all accounts or of one alone.
+    Explain {
+        params: &'a str,
+        positions: &'a str,
+        account: Option<Name>,
     },
     /// The statement of a position file under a parameter file, and after it that under the next, on so many workers.
     Roll {
@@ -168,6 +177,40 @@ fn margin_files<'a, S: Sources, R: Threads + Wait + Clock + Sync, G: Gate>(
     statement(rt, alloc, param_bytes, position_bytes, workers, gate)
 }
 
+// The explanation of the bytes of two files, of all accounts or of one alone.
+fn explanation<'a>(
+    alloc: Global,
+    params: Vec<u8>,
+    positions: Vec<u8>,
+    account: Option<Name>,
+) -> Result<Vec<u8>, Refusal<'a>>
+    ensures { Runs (λ text. text.items) (answer_of (explanation_of params.items positions.items account)) result }
+{
+    let text = explain(
+        alloc,
+        params.as_slice(),
+        positions.as_slice(),
+        account.as_ref(),
+    )?;
+    Ok(text)
+}
+
+// The explanation of two files, which are read in their order.
+fn explain_files<'a, S: Sources>(
+    alloc: Global,
+    sources: &mut S,
+    params: &'a str,
+    positions: &'a str,
+    account: Option<Name>,
+) -> Result<Vec<u8>, Refusal<'a>>
+    ensures { OfAnswer (S.file sources.old) (a_explain account params.entry.now positions.entry.now) (λ answer.
+        Runs (λ text. text.items) answer result) }
+{
+    let set_bytes = load(alloc, sources, params)?;
+    let held_bytes = load(alloc, sources, positions)?;
+    explanation(alloc, set_bytes, held_bytes, account)
+}
+
 // The statements of the bytes of a position file under those of two parameter files. The book of the two batches is a new
 // one, which nobody reads.
 fn statements<'a, R: Threads + Wait + Clock + Sync, G: Gate>(
@@ -233,6 +276,11 @@ fn run<'a, S: Sources, R: Threads + Wait + Clock + Sync, G: Gate>(
             positions,
             workers,
         } => margin_files(rt, alloc, sources, params, positions, workers, gate),
+        Request::Explain {
+            params,
+            positions,
+            account,
+        } => explain_files(alloc, sources, params, positions, account),
         Request::Roll {
             params,
             next,

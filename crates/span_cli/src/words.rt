@@ -3,20 +3,23 @@ ghost use Rattle.clap.specs.Words.{FailsBy, app_of, first_of, found_of, kind_of,
 ghost use Rattle.clap.specs.declared.builder.command.Command.TheViews.{out-Command as fields_of};
 ghost use Rattle.span_cli.specs.Serving.{OfAnswer, asked_by, memory};
 ghost use Rattle.span_cli.specs.Telling.{AnswersWords, IsMistake, IsShown, Refuses, Serves, Tells, no_text_line};
-ghost use Rattle.span_cli.specs.Words.{asked_in, asked_under, check_app, check_in, file_rule, files_app, is_taken, kinds_of};
-ghost use Rattle.span_cli.specs.Words.{margin_app, margin_in, number_in, number_of, params_app, plan_app, plan_in, span_app};
-ghost use Rattle.span_cli.specs.Words.{roll_app, roll_in, sets_app, workers_rule};
+ghost use Rattle.span_cli.specs.Words.{account_in, account_rule, asked_in, asked_under, check_app, check_in, explain_app};
+ghost use Rattle.span_cli.specs.Words.{explain_in, explained_app, file_rule, files_app, form_kinds, has_form, is_taken, joined_words};
+ghost use Rattle.span_cli.specs.Words.{kinds_of, margin_app, margin_in, misnames_in, number_in, number_of, one_set_app, params_app};
+ghost use Rattle.span_cli.specs.Words.{plan_app, plan_in, roll_app, roll_in, sets_app, span_app, workers_rule};
 ghost use Rattle.span_told.specs.Streams.{Says};
 ghost use Rattle.statement.specs.FaultLines.{memory_line};
 ghost use Rattle.std.specs.IoError.{error_kind};
 ghost use Rattle.std.specs.declared.io.ErrorKind.TheVariants as kind;
-ghost use Rattle.std.specs.Prelude.{◌≡◌, ◌≢◌, IfErr, IfOk, IfSome, codes, false, map, option_map, true};
+ghost use Rattle.std.specs.Prelude.{◌≡◌, ◌≢◌, ◌⊎◌, IfErr, IfOk, IfSome, codes, false, map, option_map, true};
 
+use crate::joining::join_words;
 use crate::serving::{Request, serve};
 use crate::sources::Sources;
 use clap::builder::ValueParser;
 use clap::error::ErrorKind;
 use clap::{Arg, ArgMatches, Command, Error};
+use span_tables::name::Name;
 use span_told::MarkedWriter;
 use statement::statuses::{DONE, FILE_FAILED, OUT_OF_MEMORY, USAGE};
 use std::alloc::{AllocError, Global};
@@ -72,6 +75,27 @@ Prints the statement under PARAMS, as `margin` does, and after it that under NEX
 NEXT is made ready beside the first batch. The lines of the two statements have the ids of their sets.
 docs/ROLL.md has a day's roll in commands.";
 
+const EXPLAIN_MORE: &str = "\
+Prints for each account, and for each commodity of which it holds a contract, lines from which its figures can be
+computed by hand, and then its R line; after its commodities its T line. Each line begins with its word, the
+account, the set and, but for T, the commodity. Behind them stand:
+  HELD    contract,type,month,quantity; under a set of version 2 also the value of that position
+  SUMS    the sixteen scenario sums
+  SCAN    scan risk,active scenario,paired scenario,price risk
+  MONTH   month,delta,what is left of it after all spreads
+  INTRA   priority,long side,spreads,rate,charge
+  SPOT    month,used,spread rate,left,outright rate,charge
+  INTER   priority,long side,spreads,delta used,basis points
+  CREDIT  price risk,net delta,weight
+  SHORT   short calls,short puts,method,rate
+  R, T    as `margin` prints them
+docs/FORMATS.md describes the lines, docs/METHOD.md the figures.";
+
+const ACCOUNT_HELP: &str = "The account that is explained; without it, all are";
+
+const BAD_ACCOUNT: &str =
+    "invalid value for '--account <NAME>': a name is 1 to 16 bytes of A to Z, 0 to 9, _ and -";
+
 const WORKERS_HELP: &str = "Workers that share the steps, 1 to 16; more than 1 saves no time yet";
 
 // A file's name, which has to be given.
@@ -93,6 +117,17 @@ fn workers<'a>(alloc: Global) -> Arg<'a>
         .value_parser(ValueParser::unsigned(1, MAX_WORKERS as u64))
         .default_value("1")
         .help(WORKERS_HELP)
+}
+
+// The account, which need not be given.
+fn account<'a>(alloc: Global) -> Arg<'a>
+    ensures rule { rule_of result ≡ account_rule }
+    ensures local { result.global ≡ false }
+{
+    Arg::new(alloc, "account")
+        .long("account")
+        .value_name("NAME")
+        .help(ACCOUNT_HELP)
 }
 
 fn check<'a>(alloc: Global) -> Result<Command<'a>, AllocError>
@@ -139,6 +174,28 @@ fn margin<'a>(alloc: Global) -> Result<Command<'a>, AllocError>
     Ok(command)
 }
 
+// The command `explain` with its files alone.
+fn explain_of_files<'a>(alloc: Global) -> Result<Command<'a>, AllocError>
+    ensures shape { IfOk result (λ c. app_of c ≡ explained_app) }
+    ensures local { IfOk result (λ c. (fields_of c).has_globals ≡ false) }
+{
+    let command = Command::new(alloc, "explain")
+        .about("Prints why each figure of a margin statement is what it is")
+        .after_help(EXPLAIN_MORE);
+    let command = command.arg(file(alloc, "PARAMS", PARAMS_HELP))?;
+    let command = command.arg(file(alloc, "POSITIONS", POSITIONS_HELP))?;
+    Ok(command)
+}
+
+fn explain<'a>(alloc: Global) -> Result<Command<'a>, AllocError>
+    ensures shape { IfOk result (λ c. app_of c ≡ explain_app) }
+    ensures local { IfOk result (λ c. (fields_of c).has_globals ≡ false) }
+{
+    let command = explain_of_files(alloc)?;
+    let command = command.arg(account(alloc))?;
+    Ok(command)
+}
+
 // The command `roll` with its files alone.
 fn roll_of_sets<'a>(alloc: Global) -> Result<Command<'a>, AllocError>
     ensures shape { IfOk result (λ c. app_of c ≡ sets_app) }
@@ -178,13 +235,23 @@ fn span_of_params<'a>(alloc: Global) -> Result<Command<'a>, AllocError>
     Ok(command)
 }
 
+// The program with the commands that take one parameter file.
+fn span_of_one_set<'a>(alloc: Global) -> Result<Command<'a>, AllocError>
+    ensures shape { IfOk result (λ c. app_of c ≡ one_set_app) }
+{
+    let margin = margin(alloc)?;
+    let explain = explain(alloc)?;
+    let command = span_of_params(alloc)?;
+    let command = command.subcommand(margin)?;
+    let command = command.subcommand(explain)?;
+    Ok(command)
+}
+
 fn span<'a>(alloc: Global) -> Result<Command<'a>, AllocError>
     ensures shape { IfOk result (λ c. app_of c ≡ span_app) }
 {
-    let margin = margin(alloc)?;
     let roll = roll(alloc)?;
-    let command = span_of_params(alloc)?;
-    let command = command.subcommand(margin)?;
+    let command = span_of_one_set(alloc)?;
     let command = command.subcommand(roll)?;
     Ok(command)
 }
@@ -235,6 +302,29 @@ fn margin_request<'a>(matches: &ArgMatches<'a>) -> Option<Request<'a>>
     })
 }
 
+// The account that is asked for, if one is; `None` where what is given is no name.
+fn account_asked(matches: &ArgMatches<'_>) -> Option<Option<Name>>
+    ensures { result ≡ account_in (rows_of (found_of matches.now)) }
+{
+    match text(matches, "account") {
+        Some(text) => Some(Some(Name::new(text.as_bytes())?)),
+        None => Some(None),
+    }
+}
+
+fn explain_request<'a>(matches: &ArgMatches<'a>) -> Option<Request<'a>>
+    ensures { option_map asked_by result ≡ explain_in (rows_of (found_of matches.now)) }
+{
+    let params = text(matches, "PARAMS")?;
+    let positions = text(matches, "POSITIONS")?;
+    let account = account_asked(matches)?;
+    Some(Request::Explain {
+        params,
+        positions,
+        account,
+    })
+}
+
 fn roll_request<'a>(matches: &ArgMatches<'a>) -> Option<Request<'a>>
     ensures { option_map asked_by result ≡ roll_in (rows_of (found_of matches.now)) }
 {
@@ -256,6 +346,8 @@ fn request_under<'a>(name: &str, matches: &ArgMatches<'a>) -> Option<Request<'a>
         plan_request(matches)
     } else if name == "margin" {
         margin_request(matches)
+    } else if name == "explain" {
+        explain_request(matches)
     } else if name == "roll" {
         roll_request(matches)
     } else {
@@ -263,17 +355,42 @@ fn request_under<'a>(name: &str, matches: &ArgMatches<'a>) -> Option<Request<'a>
     }
 }
 
+// Whether a command of this name has an account that is no name.
+fn misnames(name: &str, matches: &ArgMatches<'_>) -> bool
+    ensures { result ≡ misnames_in name.now (rows_of (found_of matches.now)) }
+{
+    name == "explain" && account_asked(matches).is_none()
+}
+
+// What is said of such an account, with the usage of `explain`.
+fn misnamed(alloc: Global) -> Result<Error, AllocError>
+    ensures { IfOk result (λ e. kind_of e ≡ ErrorKind.ValueValidation) }
+{
+    let mut command = explain(alloc)?.bin_name("span explain")?;
+    command.error(ErrorKind::ValueValidation, BAD_ACCOUNT)
+}
+
+// The same, or want of memory.
+fn refuse_account(alloc: Global) -> Error
+    ensures { (kind_of result ≡ ErrorKind.OutOfMemory) ⊎ (kind_of result ≡ ErrorKind.ValueValidation) }
+{
+    match misnamed(alloc) {
+        Ok(error) => error,
+        Err(error) => Error::from(error),
+    }
+}
+
 // The matches of the words.
 fn parse<'a, S: AsStr>(alloc: Global, words: &'a [S]) -> Result<ArgMatches<'a>, Error>
     ensures ok { IfOk result (λ m. subcommand_rows_of m ≡ subcommand_of span_app (map S.text words.entry.now)) }
-    ensures err { IfErr result (λ e. is_taken (map S.text words.entry.now) ≡ true → kind_of e ≡ ErrorKind.OutOfMemory) }
-    ensures kinds { FailsBy (kinds_of (map S.text words.entry.now)) result }
+    ensures err { IfErr result (λ e. has_form (map S.text words.entry.now) ≡ true → kind_of e ≡ ErrorKind.OutOfMemory) }
+    ensures kinds { FailsBy (form_kinds (map S.text words.entry.now)) result }
 {
     let command = span(alloc)?;
     command.try_get_matches_from(words)
 }
 
-/// What the words ask for, of which the first is the program's name.
+/// What the words ask for, of which the first is the program's name. An account and its option are one word.
 pub fn request<'a, S: AsStr>(alloc: Global, words: &'a [S]) -> Result<Option<Request<'a>>, Error>
     ensures ok { IfOk result (λ found. option_map asked_by found ≡ asked_in (map S.text words.entry.now)) }
     ensures err { IfErr result (λ e. is_taken (map S.text words.entry.now) ≡ true → kind_of e ≡ ErrorKind.OutOfMemory) }
@@ -281,7 +398,12 @@ pub fn request<'a, S: AsStr>(alloc: Global, words: &'a [S]) -> Result<Option<Req
 {
     let matches = parse(alloc, words)?;
     match matches.subcommand() {
-        Some((name, found)) => Ok(request_under(name, found)),
+        Some((name, found)) => {
+            if misnames(name, found) {
+                return Err(refuse_account(alloc));
+            }
+            Ok(request_under(name, found))
+        }
         None => Ok(None),
     }
 }
@@ -345,10 +467,8 @@ fn refuse<W: Write, E: Write>(
     }
 }
 
-/// Answers a command line, of which the first word is the program's name, and gives the status. A request is answered
-/// as by `serve`; help and the version go to `out` alone and a mistake to `err` alone. To `out` no write may have
-/// failed before.
-pub fn run_words<
+// Answers a command line in which an account and its option are one word, and gives the status.
+fn answer_words<
     T: AsStr,
     S: Sources,
     W: Write,
@@ -375,6 +495,39 @@ pub fn run_words<
         Ok(Some(request)) => serve(rt, alloc, request, sources, gate, out, err),
         Ok(None) => say_nothing_asked(err),
         Err(error) => refuse(error, out, err),
+    }
+}
+
+/// Answers a command line, of which the first word is the program's name, and gives the status. A request is answered
+/// as by `serve`; help and the version go to `out` alone and a mistake to `err` alone. The word behind `--account` is its
+/// value, whatever it begins with. To `out` no write may have failed before.
+pub fn run_words<
+    T: AsStr,
+    S: Sources,
+    W: Write,
+    E: Write,
+    R: Threads + Wait + Clock + Sync,
+    G: Gate,
+>(
+    rt: &R,
+    alloc: Global,
+    words: &[T],
+    sources: &mut S,
+    gate: &G,
+    out: &mut MarkedWriter<W>,
+    err: &mut MarkedWriter<E>,
+) -> u8
+    requires { out.old.failed ≡ false }
+    ensures taken { is_taken (joined_words (map T.text words.now)) ≡ true
+        → IfSome (asked_in (joined_words (map T.text words.now))) (λ asked. OfAnswer (S.file sources.old) asked (λ answer.
+        Serves answer result out.old out.new err.old err.new)) }
+    ensures words { AnswersWords (kinds_of (joined_words (map T.text words.now)))
+        (IfSome (asked_in (joined_words (map T.text words.now))) (λ asked. OfAnswer (S.file sources.old) asked (λ answer.
+        Serves answer result out.old out.new err.old err.new))) result out.old out.new err.old err.new }
+{
+    match join_words(alloc, words) {
+        Ok(joined) => answer_words(rt, alloc, &joined, sources, gate, out, err),
+        Err(error) => refuse(Error::from(error), out, err),
     }
 }
 

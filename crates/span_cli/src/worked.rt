@@ -2,8 +2,8 @@
 #![tactic(auto, unfolding(crate::specs::OnLiterals::on_literals))]
 
 ghost use Rattle.clap.specs.declared.error.kind.ErrorKind.TheVariants as kind;
-ghost use Rattle.span_cli.specs.Serving.{OfAnswer, a_check, a_margin, a_plan, a_roll, done, refused};
-ghost use Rattle.span_cli.specs.Words.{asked_in, is_taken, kinds_of};
+ghost use Rattle.span_cli.specs.Serving.{OfAnswer, a_check, a_explain, a_margin, a_plan, a_roll, done, refused};
+ghost use Rattle.span_cli.specs.Words.{asked_in, is_taken, joined_words, kinds_of};
 ghost use Rattle.span_cli.specs.declared.sources.ReadFault.TheVariants as read;
 ghost use Rattle.span_cli.specs.declared.disk.TheConstants.{MAX_TURNS};
 ghost use Rattle.span_cli.specs.declared.sources.TheConstants.{FILE_CAP};
@@ -26,6 +26,59 @@ fn margin_of_two_files()
     ensures taken { is_taken (codes "span" ∷ codes "margin" ∷ codes "p" ∷ codes "q" ∷ []) ≡ true }
     ensures asked { asked_in (codes "span" ∷ codes "margin" ∷ codes "p" ∷ codes "q" ∷ [])
         ≡ Some (a_margin 1 (codes "p") (codes "q")) }
+{}
+
+// `span explain p q` is taken, and asks for just that, with the files in their order and no account.
+fn explain_of_two_files()
+    ensures taken { is_taken (codes "span" ∷ codes "explain" ∷ codes "p" ∷ codes "q" ∷ []) ≡ true }
+    ensures asked { asked_in (codes "span" ∷ codes "explain" ∷ codes "p" ∷ codes "q" ∷ [])
+        ≡ Some (a_explain None (codes "p") (codes "q")) }
+    ensures no_positions { kinds_of (codes "span" ∷ codes "explain" ∷ codes "p" ∷ []) ≡ kind.MissingRequiredArgument ∷ [] }
+    ensures workers { kinds_of (codes "span" ∷ codes "explain" ∷ codes "p" ∷ codes "q" ∷ codes "--workers=2" ∷ [])
+        ≡ kind.UnknownArgument ∷ [] }
+{}
+
+// An account in the option's word, before the files and behind them.
+fn explain_of_an_account()
+    ensures taken { is_taken (codes "span" ∷ codes "explain" ∷ codes "--account=X-1" ∷ codes "p" ∷ codes "q" ∷ []) ≡ true }
+    ensures before { asked_in (codes "span" ∷ codes "explain" ∷ codes "--account=X-1" ∷ codes "p" ∷ codes "q" ∷ [])
+        ≡ Some (a_explain (Some (codes "X-1")) (codes "p") (codes "q")) }
+    ensures minus { asked_in (codes "span" ∷ codes "explain" ∷ codes "p" ∷ codes "q" ∷ codes "--account=-X" ∷ [])
+        ≡ Some (a_explain (Some (codes "-X")) (codes "p") (codes "q")) }
+{}
+
+// Accounts that are refused: no name, an empty one, one of 17 bytes; none behind the option, and two of them.
+fn refused_accounts()
+    ensures small { kinds_of (codes "span" ∷ codes "explain" ∷ codes "p" ∷ codes "q" ∷ codes "--account=x" ∷ [])
+        ≡ kind.ValueValidation ∷ [] }
+    ensures empty { kinds_of (codes "span" ∷ codes "explain" ∷ codes "p" ∷ codes "q" ∷ codes "--account=" ∷ [])
+        ≡ kind.ValueValidation ∷ [] }
+    ensures long { kinds_of (codes "span" ∷ codes "explain" ∷ codes "p" ∷ codes "q" ∷ codes "--account=ABCDEFGHIJKLMNOPQ" ∷ [])
+        ≡ kind.ValueValidation ∷ [] }
+    ensures no_value { kinds_of (codes "span" ∷ codes "explain" ∷ codes "p" ∷ codes "q" ∷ codes "--account" ∷ [])
+        ≡ kind.InvalidValue ∷ [] }
+    ensures twice { kinds_of (codes "span" ∷ codes "explain" ∷ codes "p" ∷ codes "q" ∷ codes "--account=X"
+        ∷ codes "--account=X" ∷ []) ≡ kind.ArgumentConflict ∷ [] }
+    ensures of_margin { kinds_of (codes "span" ∷ codes "margin" ∷ codes "p" ∷ codes "q" ∷ codes "--account=X" ∷ [])
+        ≡ kind.UnknownArgument ∷ [] }
+{}
+
+// The word behind `--account` is its value, whatever it is; behind a `--` no word is an option.
+fn joined_accounts()
+    ensures plain { joined_words (codes "span" ∷ codes "explain" ∷ codes "p" ∷ codes "q" ∷ codes "--account" ∷ codes "X" ∷ [])
+        ≡ codes "span" ∷ codes "explain" ∷ codes "p" ∷ codes "q" ∷ codes "--account=X" ∷ [] }
+    ensures minus { joined_words (codes "span" ∷ codes "explain" ∷ codes "--account" ∷ codes "-X" ∷ codes "p" ∷ codes "q" ∷ [])
+        ≡ codes "span" ∷ codes "explain" ∷ codes "--account=-X" ∷ codes "p" ∷ codes "q" ∷ [] }
+    ensures dashes { joined_words (codes "span" ∷ codes "explain" ∷ codes "--account" ∷ codes "--" ∷ codes "p" ∷ codes "q" ∷ [])
+        ≡ codes "span" ∷ codes "explain" ∷ codes "--account=--" ∷ codes "p" ∷ codes "q" ∷ [] }
+    ensures no_value { joined_words (codes "span" ∷ codes "explain" ∷ codes "p" ∷ codes "q" ∷ codes "--account" ∷ [])
+        ≡ codes "span" ∷ codes "explain" ∷ codes "p" ∷ codes "q" ∷ codes "--account" ∷ [] }
+    ensures twice { joined_words (codes "span" ∷ codes "--account" ∷ codes "--account" ∷ codes "--account" ∷ codes "X" ∷ [])
+        ≡ codes "span" ∷ codes "--account=--account" ∷ codes "--account=X" ∷ [] }
+    ensures behind_dashes { joined_words (codes "span" ∷ codes "explain" ∷ codes "--" ∷ codes "--account" ∷ codes "X" ∷ [])
+        ≡ codes "span" ∷ codes "explain" ∷ codes "--" ∷ codes "--account" ∷ codes "X" ∷ [] }
+    ensures program { joined_words (codes "--account" ∷ codes "check" ∷ codes "p" ∷ [])
+        ≡ codes "--account" ∷ codes "check" ∷ codes "p" ∷ [] }
 {}
 
 // `span roll p n q` is taken, and asks for just that, with the files in their order and one worker; and with three.

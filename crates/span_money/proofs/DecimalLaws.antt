@@ -1,5 +1,5 @@
 -- A decimal is a minus or none, 1 to 6 digits, and a fraction.
-use Rattle.std.proofs.Common.{◌≡◌, ℕ, ◌+◌, ◌-◌, ◌*◌, ◌^◌, ◌&&◌, ◌==◌, Bool, true, false, cond, List, []}
+use Rattle.std.proofs.Common.{◌≡◌, ℕ, ◌+◌, ◌-◌, ◌*◌, ◌^◌, ◌<◌, ◌&&◌, ◌==◌, Bool, true, false, cond, List, []}
 use Rattle.std.proofs.Common.{◌∷◌, ◌++◌, length, drop, refl, sym, ap, ◌∙◌, subst, arith}
 use Rattle.std.specs.Prelude.{ℤ, Some, None, Option, option_map}
 use Rattle.std.specs.Char.{is_ascii_digit}
@@ -18,7 +18,7 @@ and_split true y h = (refl, h)
 and_split false y h = absurd (cc)
 
 -- the digits that digits and what is none begin with
-stops : (front back : List ℕ) → list_all is_ascii_digit front ≡ true → take_while is_ascii_digit back ≡ []
+pub stops : (front back : List ℕ) → list_all is_ascii_digit front ≡ true → take_while is_ascii_digit back ≡ []
     → take_while is_ascii_digit (front ++ back) ≡ front
 stops [] back h e = e
 stops (x ∷ xs) back h e =
@@ -50,11 +50,10 @@ of_parts front back part h e =
     (rw (h, drop-append_seam front back, e) refl)
 
 -- a text that begins with a digit has no minus
-plain : (front back : List ℕ) → are_digits 6 front ≡ true
+pub plain : (front back : List ℕ) → 0 < length front → list_all is_ascii_digit front ≡ true
     → (has_minus (front ++ back) ≡ false) × (without_minus (front ++ back) ≡ front ++ back)
-plain [] back h = absurd (cc)
-plain (x ∷ xs) back h =
-    let all : list_all is_ascii_digit (x ∷ xs) ≡ true = grind (arith, nat_tests) in
+plain [] back some all = absurd (omega arith)
+plain (x ∷ xs) back some all =
     let digit : is_ascii_digit x ≡ true = (and_split (is_ascii_digit x) (list_all is_ascii_digit xs) all).0 in
     let off : (x == 45) ≡ false = grind (arith, nat_tests) in
     (off, ap (λ b. cond b (xs ++ back) (x ∷ (xs ++ back))) off)
@@ -64,7 +63,9 @@ pub reads : (negative : Bool) (front back : List ℕ) (part : ℕ) → are_digit
     → decimal_number (cond negative (45 ∷ []) [] ++ (front ++ back)) ≡ Some (with_sign negative (digits_value front * 10000 + part))
 reads true front back part h e = ap (λ n. option_map (with_sign true) n) (of_parts front back part h e)
 reads false front back part h e =
-    let p = plain front back h in
+    let some : 0 < length front = grind (arith, nat_tests) in
+    let all : list_all is_ascii_digit front ≡ true = grind (arith, nat_tests) in
+    let p = plain front back some all in
     ap (λ b. option_map (with_sign b) (unsigned_decimal (without_minus (front ++ back)))) p.0
     ∙ ap (λ t. option_map (with_sign false) (unsigned_decimal t)) p.1
     ∙ ap (λ n. option_map (with_sign false) n) (of_parts front back part h e)

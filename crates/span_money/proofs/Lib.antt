@@ -3,3 +3,7 @@ pub mod NumberLaws
 pub mod TextLaws
 pub mod DecimalLaws
 pub mod WordLemmas
+pub mod ExactLemmas
+pub mod ExactLaws
+pub mod ShortLaws
+pub mod OnLiterals

@@ -12,7 +12,7 @@ use Rattle.span_money.specs.Numbers.{are_digits, digits_value, whole_number, wit
 
 -- the digits of a text and their value are those that std prints
 
-own : IsNumeralModel (λ ds. list_all is_ascii_digit ds ≡ true) digits_value
+pub own : IsNumeralModel (λ ds. list_all is_ascii_digit ds ≡ true) digits_value
 own = numerals_by_fold (λ ds. list_all is_ascii_digit ds ≡ true) (search rules) (λ n text. fold (λ n d. n * 10 + (d - 48)) n text)
     (search rules)
 

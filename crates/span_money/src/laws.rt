@@ -1,10 +1,15 @@
-//! The digits of the largest amount, and laws of division and of number texts, in plain words: each is the contract of a function that does nothing.
-ghost use Rattle.std.specs.Prelude.{◌≡◌, ℕ, ◌*◌, ◌/◌, ◌^◌, ◌<◌, ◌≤◌, ℤ, List, Some, nat_abs};
+//! The digits of the largest amount, and laws of division, of number texts and of exact decimals, in plain words: each is the
+//! contract of a function that does nothing.
+ghost use Rattle.std.specs.Prelude.{◌≡◌, ◌↔◌, ℕ, ◌*◌, ◌/◌, ◌^◌, ◌<◌, ◌≤◌, ℤ, pos, ◌<ℤ◌, List, Some, None, true, nat_abs};
+ghost use Rattle.std.specs.Prelude.{Contains, codes, slice_index, take_while};
+ghost use Rattle.std.specs.Char.{is_ascii_digit};
 ghost use Rattle.std.specs.Fmt.{signed_decimal};
 ghost use Rattle.std.specs.Int.{div_ceil};
+ghost use Rattle.std.specs.List.{last_or};
+ghost use Rattle.span_money.specs.ExactDecimals.{exact_decimal, exact_value};
 ghost use Rattle.span_money.specs.Forms.{IsDecimal};
 ghost use Rattle.span_money.specs.declared.amounts.TheConstants.{MAX_MONEY};
-ghost use Rattle.span_money.specs.Numbers.{decimal_number, whole_number};
+ghost use Rattle.span_money.specs.Numbers.{decimal_number, has_minus, whole_number, without_minus};
 
 /// An amount of money is at most 10^27 minor units either way.
 pub fn money_has_these_digits()
@@ -33,4 +38,20 @@ pub fn written_numbers_read_back()
 pub fn decimals_are_read()
     ensures reads { (text : List ℕ) (z : ℤ) → IsDecimal text z → decimal_number text ≡ Some z }
     ensures only { (text : List ℕ) (z : ℤ) → decimal_number text ≡ Some z → IsDecimal text z }
+{}
+
+/// An exact decimal reads back as the number that it was written of, of at most 64 digits.
+pub fn exact_decimals_read_back()
+    ensures { (places : ℕ) (z : ℤ) → nat_abs z < 10 ^ 64 → exact_value places (exact_decimal places z) ≡ z }
+{}
+
+/// No byte of an exact decimal could be left out: where it has a point, it ends in a digit other than `0`; its whole part
+/// begins with `0` only where that is all of it; it has a minus just where the number is below 0; and 0 is `0`.
+pub fn exact_decimals_are_short()
+    ensures end { (places : ℕ) (z : ℤ) → nat_abs z < 10 ^ 64 → Contains (exact_decimal places z) 46
+        → (last : ℕ) × (last_or None (exact_decimal places z) ≡ Some last) × (49 ≤ last) × (last ≤ 57) }
+    ensures front { (places : ℕ) (z : ℤ) → nat_abs z < 10 ^ 64 → slice_index (without_minus (exact_decimal places z)) 0 ≡ 48
+        → take_while is_ascii_digit (without_minus (exact_decimal places z)) ≡ codes "0" }
+    ensures sign { (places : ℕ) (z : ℤ) → nat_abs z < 10 ^ 64 → has_minus (exact_decimal places z) ≡ true ↔ (z <ℤ pos 0) }
+    ensures zero { (places : ℕ) → exact_decimal places (pos 0) ≡ codes "0" }
 {}

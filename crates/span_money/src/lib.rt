@@ -3,6 +3,8 @@
 
 pub mod amounts;
 pub mod division;
+pub mod exact;
 pub mod laws;
+pub mod line_fields;
 pub mod texts;
 pub mod worked;

@@ -88,6 +88,10 @@ intra_spread tiers s = record { rate = s.rate; legs = map (month_leg tiers s.com
 unfoldable pub intras_of : AcceptedTables → List ℕ → List Intra
 intras_of tables commodity = map (intra_spread tables.tiers) (filter (λ s. bytes_eq s.commodity commodity) tables.intras)
 
+-- the priorities of these spreads, rising
+abbrev pub priorities_of : AcceptedTables → List ℕ → List ℕ
+priorities_of tables commodity = map (λ s. s.priority) (filter (λ s. bytes_eq s.commodity commodity) tables.intras)
+
 -- the spot months of a commodity, in file order
 unfoldable pub spots_of : AcceptedTables → List ℕ → List Spot
 spots_of tables commodity = filter (λ s. bytes_eq s.commodity commodity) tables.spots

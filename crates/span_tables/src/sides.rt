@@ -21,6 +21,13 @@ pub enum MarketSide {
     Short,
 }
 
+/// How many spreads a spread forms in each direction, in 10^-4 spreads. Direction A long goes first.
+#[derive(Clone, Copy, Debug, PartialEq, Eq)]
+pub struct SpreadsFormed {
+    pub a_long: u64,
+    pub a_short: u64,
+}
+
 /// The market side of a leg's side, in a direction.
 pub fn market_side(direction: Direction, side: Side) -> MarketSide
     ensures { result ≡ market_side direction side }

@@ -8,5 +8,6 @@ pub mod SizeLemmas
 pub mod SpreadLemmas
 pub mod FallLemmas
 pub mod ClosedLemmas
+pub mod BesideLemmas
 pub mod ApartLaws
 pub mod BoundLaws

@@ -2,7 +2,7 @@
 use Rattle.std.proofs.Common.{◌≡◌, ℕ, zero, suc, ◌+◌, ◌*◌, ◌-◌, ◌<◌, ◌≤◌, min, Bool, true, false, cond, List}
 use Rattle.std.proofs.Common.{[], ◌∷◌, refl, ap, ◌∙◌, arith, length, get_or, map, sum_by}
 use Rattle.std.specs.Prelude.{ℤ, All}
-use Rattle.std.proofs.Math.Nat.{mul-le-mul}
+use Rattle.std.proofs.Math.Nat.{add-mul, mul-le-mul}
 use Rattle.std.proofs.lemmas.Int.{ints}
 use Rattle.span_tables.specs.Sides.{market_side, part_on, less_used, spreads_formed}
 use Rattle.span_tables.specs.declared.sides.Direction.{Direction}
@@ -15,7 +15,7 @@ use Rattle.span_tables.specs.declared.records.Intra.{Intra}
 use Rattle.span_tables.specs.declared.records.MonthLeg.{MonthLeg}
 use Rattle.spread_stage.specs.Months.{MonthsRise, total_size, Shrinks}
 use Rattle.spread_stage.specs.Spreads.{is_in_tier, tier_side, side_before, used_of_month, rests_after_leg, rests_after, tier_rooms}
-use Rattle.spread_stage.specs.Spreads.{TierRests, spread_both_ways}
+use Rattle.spread_stage.specs.Spreads.{TierRests, formed_both, spread_both_ways}
 use Rattle.spread_stage.specs.declared.months.MonthUnits.{MonthUnits}
 use Rattle.span_tables.specs.declared.limits.TheConstants.{MAX_UNITS}
 use Rattle.spread_stage.proofs.SizeLemmas.{rise_after, size_after, shrinks_after, tier_side-le}
@@ -155,3 +155,18 @@ pub both_ways : (t : TierRests) (s : Intra) (legs : List MonthLeg) (none first s
     → charge ≡ t.charge + n * s.rate + k * s.rate → record { rests = second; charge = charge } ≡ spread_both_ways t s
 unfolding spread_both_ways
 both_ways t s legs none first second n k charge a b e f g h i = cc
+
+-- the spreads of both directions, those of the second from what the first leaves
+pub formed_both-is : (t : TierRests) (s : Intra) (first : List MonthUnits) (n k : ℕ)
+    → n ≡ spreads_formed (tier_rooms ALong s.legs t.rests) → first ≡ rests_after ALong n s.legs t.rests
+    → k ≡ spreads_formed (tier_rooms AShort s.legs first) → record { a_long = n; a_short = k } ≡ formed_both t s
+formed_both-is t s first n k a b c = cc
+
+two_rates : (c n k r : ℕ) → c + n * r + k * r ≡ c + (n + k) * r
+two_rates c n k r = let e : (n + k) * r ≡ n * r + k * r = add-mul n k r in omega (arith, e)
+
+-- they are charged at the rate
+pub charge-spread_both_ways : (t : TierRests) (s : Intra)
+    → (spread_both_ways t s).charge ≡ t.charge + ((formed_both t s).a_long + (formed_both t s).a_short) * s.rate
+unfolding spread_both_ways
+charge-spread_both_ways t s = two_rates t.charge (formed_both t s).a_long (formed_both t s).a_short s.rate

@@ -5,6 +5,7 @@ use Rattle.span_tables.specs.Sides.{market_side, part_on, less_used, Room, sprea
 use Rattle.span_tables.specs.declared.sides.Direction.{Direction}
 use Rattle.span_tables.specs.declared.sides.Direction.TheVariants.{ALong, AShort}
 use Rattle.span_tables.specs.declared.sides.MarketSide.{MarketSide}
+use Rattle.span_tables.specs.declared.sides.SpreadsFormed.{SpreadsFormed}
 use Rattle.spread_stage.specs.declared.months.MonthUnits.{MonthUnits}
 use Rattle.span_tables.specs.declared.records.MonthLeg.{MonthLeg}
 use Rattle.span_tables.specs.declared.records.Intra.{Intra}
@@ -46,15 +47,23 @@ pub record TierRests : Type 0 where
   pub rests : List MonthUnits
   pub charge : ℕ
 
+-- how many spreads a spread forms in a direction, in 10^-4 spreads
+abbrev pub formed_in : Intra → Direction → TierRests → ℕ
+formed_in s d t = spreads_formed (tier_rooms d s.legs t.rests)
+
 -- a spread in one direction
 abbrev pub spread_one_way : Intra → Direction → TierRests → TierRests
 spread_one_way s d t =
-    let n = spreads_formed (tier_rooms d s.legs t.rests) in
+    let n = formed_in s d t in
     record { rests = rests_after d n s.legs t.rests; charge = t.charge + n * s.rate }
 
 -- a spread in both directions, with A long first
 unfoldable pub spread_both_ways : TierRests → Intra → TierRests
 spread_both_ways t s = spread_one_way s AShort (spread_one_way s ALong t)
+
+-- how many spreads it forms in both directions: with A long of what there is, with A short of what that leaves
+abbrev pub formed_both : TierRests → Intra → SpreadsFormed
+formed_both t s = record { a_long = formed_in s ALong t; a_short = formed_in s AShort (spread_one_way s ALong t) }
 
 -- before any spread, each month's rest is its delta
 abbrev pub unspread : List MonthUnits → TierRests

@@ -38,6 +38,15 @@ pub fn intra_charge(tiers: &TierState) -> Money
     Money::new(ceil_div(tiers.charge(), WHOLE_SPREAD) as i128)
 }
 
+/// A spot month's delta: what spreads used of it and what they left, both without a sign in units of 10^-8, and the month's
+/// exact charge in 10^-8 minor units.
+#[derive(Clone, Copy, Debug, PartialEq, Eq)]
+pub struct SpotUse {
+    pub used: u64,
+    pub left: u64,
+    pub charge: u128,
+}
+
 // The month of a number, where it is held.
 fn find_month(months: &[MonthUnits], month: u32) -> Option<&MonthUnits>
     ensures { option_copied result ≡ find (λ m. m.month == month) months.now }
@@ -57,22 +66,22 @@ fn units_at(months: &[MonthUnits], month: u32) -> Units
 
 // The size of what a month has, in units of 10^-8.
 #[tactic(auto, using(crate::proofs::SizeLemmas::units_at_le))]
-fn size_at(months: &[MonthUnits], month: u32) -> u128
+fn size_at(months: &[MonthUnits], month: u32) -> u64
     requires { total_size months.now ≤ MAX_UNITS }
     ensures value { result ≡ nat_abs (units_at months.now month) }
     ensures bound { result ≤ MAX_UNITS }
 {
-    u128::from(units_at(months, month).get().unsigned_abs())
+    units_at(months, month).get().unsigned_abs()
 }
 
 // So many units at a rate, in 10^-8 minor units.
-fn at_rate(units: u128, rate: u32) -> u128
+fn at_rate(units: u64, rate: u32) -> u128
     requires units { units ≤ MAX_UNITS }
     requires rate { rate ≤ MAX_RATE }
     ensures value { result ≡ units * rate }
     ensures bound { result ≤ MAX_UNITS * MAX_RATE }
 {
-    units * u128::from(rate)
+    u128::from(units) * u128::from(rate)
 }
 
 // The charge of a spot month, in 10^-8 minor units.
@@ -123,4 +132,30 @@ pub fn delivery(months: &Months, tiers: &TierState, spots: &[Spot]) -> Money
 {
     let sum = spot_charges(months.as_slice(), tiers.rests(), spots);
     Money::new(ceil_div(sum, WHOLE_DELTA) as i128)
+}
+
+/// What spreads used and left of a spot month's delta, and its charge at the month's two rates. Without a delta all three
+/// are 0.
+#[tactic(auto, using(crate::proofs::SizeLemmas::left_le))]
+pub fn spot_use(months: &Months, tiers: &TierState, spot: &Spot) -> SpotUse
+    requires shrinks { Shrinks months.now tiers.now.rests }
+    requires spot { IsSpot spot.now }
+    ensures used { result.used ≡ used_of months.now tiers.now.rests spot.now.month }
+    ensures left { result.left ≡ left_of tiers.now.rests spot.now.month }
+    ensures charge { result.charge ≡ spot_charge months.now tiers.now.rests spot.now }
+    ensures units_bound { result.used + result.left ≤ MAX_UNITS }
+    ensures charge_bound { result.charge ≤ 2 * (MAX_UNITS * MAX_RATE) }
+{
+    let whole = size_at(months.as_slice(), spot.month);
+    let left = size_at(tiers.rests(), spot.month);
+    let used = whole - left;
+    let charge = at_rate(used, spot.spread_rate) + at_rate(left, spot.outright_rate);
+    SpotUse { used, left, charge }
+}
+
+/// The delta of a month (`yyyymm`), in units of 10^-8, and 0 where it is not held.
+pub fn month_units(months: &Months, month: u32) -> Units
+    ensures { result ≡ units_at months.now month }
+{
+    units_at(months.as_slice(), month)
 }

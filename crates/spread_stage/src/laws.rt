@@ -13,7 +13,8 @@ ghost use Rattle.spread_stage.specs.Charges.{delivery_charge, intra_charge, spot
 ghost use Rattle.spread_stage.specs.Deltas.{month_deltas, net_delta, units_of};
 ghost use Rattle.spread_stage.specs.Laws.{DrawApart};
 ghost use Rattle.spread_stage.specs.Months.{MonthsRise, Shrinks};
-ghost use Rattle.spread_stage.specs.Spreads.{after_spreads, rests_after, rests_after_leg, side_before, tier_side, used_of_month};
+ghost use Rattle.spread_stage.specs.Spreads.{TierRests, after_spreads, formed_both, rests_after, rests_after_leg, side_before};
+ghost use Rattle.spread_stage.specs.Spreads.{spread_both_ways, tier_side, used_of_month};
 ghost use Rattle.spread_stage.specs.declared.months.MonthUnits.{MonthUnits};
 
 /// The held months rise, and their deltas add up to the sum over all held contracts.
@@ -58,6 +59,12 @@ pub fn each_leg_uses_its_part()
 pub fn rests_never_grow()
     ensures { (spreads : List Intra) (months : List MonthUnits)
         → Shrinks months (after_spreads spreads months).rests }
+{}
+
+/// A spread adds to the charge its rate for each spread that it forms, in both directions together.
+pub fn each_spread_formed_is_charged()
+    ensures { (t : TierRests) (s : Intra)
+        → (spread_both_ways t s).charge ≡ t.charge + ((formed_both t s).a_long + (formed_both t s).a_short) * s.rate }
 {}
 
 /// The intracommodity charge is the least number that is large enough.

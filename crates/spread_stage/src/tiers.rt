@@ -5,7 +5,8 @@ ghost use Rattle.span_tables.specs.Accepted.{IsIntra};
 ghost use Rattle.span_tables.specs.Sides.{spreads_formed};
 ghost use Rattle.span_tables.specs.declared.limits.TheConstants.{MAX_RATE, MAX_UNITS};
 ghost use Rattle.spread_stage.specs.Months.{AreMonths, AreTierRests, MonthsRise, Shrinks, total_size};
-ghost use Rattle.spread_stage.specs.Spreads.{is_in_tier, rests_after, rests_after_leg, spread_both_ways, tier_rooms, tier_side, unspread};
+ghost use Rattle.spread_stage.specs.Spreads.{formed_both, is_in_tier, rests_after, rests_after_leg};
+ghost use Rattle.spread_stage.specs.Spreads.{spread_both_ways, tier_rooms, tier_side, unspread};
 ghost use Rattle.spread_stage.specs.near.Sides.{HaveSides};
 ghost use Rattle.spread_stage.specs.near.Uses.{used_now};
 ghost use Rattle.spread_stage.specs.declared.months.MonthUnits.{MonthUnits};
@@ -14,7 +15,7 @@ use crate::months::{MonthUnits, Months};
 use crate::open_months::open_sides;
 use span_money::division::greatest_fit;
 use span_tables::records::{Intra, MonthLeg};
-use span_tables::sides::{Direction, MarketSide, less_used, market_side, part_on};
+use span_tables::sides::{Direction, MarketSide, SpreadsFormed, less_used, market_side, part_on};
 use span_tables::slots::OpenSides;
 use std::alloc::{AllocError, Global};
 use std::marker::Model;
@@ -87,6 +88,19 @@ impl TierState {
         if self.may_spread(intra) {
             self.charge += spread_rests(&mut self.rests, &self.sides, intra);
         }
+    }
+
+    /// The same as `spread`, and tells how many spreads it forms in each direction, in 10^-4 spreads.
+    pub fn spread_counted(&mut self, intra: &Intra) -> SpreadsFormed
+        requires { IsIntra intra.now }
+        ensures value { self.new ≡ spread_both_ways self.old intra.now }
+        ensures formed { result ≡ formed_both self.old intra.now }
+        ensures shrinks { (months : List MonthUnits) → Shrinks months self.old.rests → Shrinks months self.new.rests }
+    {
+        let formed = form_both(&mut self.rests, &self.sides, intra);
+        self.charge += charge_of(formed.a_long, intra.rate())
+            + charge_of(formed.a_short, intra.rate());
+        formed
     }
 }
 
@@ -263,6 +277,26 @@ fn spread_rests(rests: &mut [MonthUnits], sides: &OpenSides, intra: &Intra) -> u
     let first = spread_one_way(rests, sides, Direction::ALong, intra);
     let second = spread_one_way(rests, sides, Direction::AShort, intra);
     charge_of(first, intra.rate()) + charge_of(second, intra.rate())
+}
+
+// Forms a spread in both directions, with side A long first, and gives how many spreads in each.
+fn form_both(rests: &mut [MonthUnits], sides: &OpenSides, intra: &Intra) -> SpreadsFormed
+    requires have { HaveSides sides.now rests.old }
+    requires intra { IsIntra intra.now }
+    requires rise { MonthsRise rests.old }
+    requires small { total_size rests.old ≤ MAX_UNITS }
+    ensures formed { (charge : ℕ) → result ≡ formed_both (record { rests = rests.old; charge = charge }) intra.now }
+    ensures value { (charge : ℕ)
+        → record { rests = rests.new; charge = charge + (result.a_long * intra.now.rate + result.a_short * intra.now.rate) }
+        ≡ spread_both_ways (record { rests = rests.old; charge = charge }) intra.now }
+    ensures rise { MonthsRise rests.new }
+    ensures have { HaveSides sides.now rests.new }
+    ensures less { result.a_long + result.a_short + total_size rests.new ≤ total_size rests.old }
+    ensures shrinks { (months : List MonthUnits) → Shrinks months rests.old → Shrinks months rests.new }
+{
+    let a_long = spread_one_way(rests, sides, Direction::ALong, intra);
+    let a_short = spread_one_way(rests, sides, Direction::AShort, intra);
+    SpreadsFormed { a_long, a_short }
 }
 
 /// The state after one more spread, formed in both directions, with side A long first. `Err` is want of memory, and `tiers`

@@ -5,7 +5,7 @@ ghost use Rattle.span_tables.specs.declared.limits.TheConstants.{MAX_HELD, MAX_N
 ghost use Rattle.spread_stage.specs.Charges.{delivery_charge, intra_charge};
 ghost use Rattle.spread_stage.specs.Deltas.{month_deltas, net_delta};
 ghost use Rattle.spread_stage.specs.Samples.{calendar_spread, future, held, largest, march, month_units, own_spread};
-ghost use Rattle.spread_stage.specs.Spreads.{after_spreads};
+ghost use Rattle.spread_stage.specs.Spreads.{after_spreads, formed_both, unspread};
 
 // The deltas of two held months.
 #[tactic(auto, unfolding(crate::specs::Deltas::month_deltas))]
@@ -73,6 +73,20 @@ fn rests_of_the_second_direction()
 fn both_sides_of_one_tier()
     ensures { after_spreads (own_spread ∷ []) (month_units 202503 (pos 200000000) ∷ month_units 202506 (neg_ℤ (pos 100000000)) ∷ [])
         ≡ record { rests = month_units 202503 (pos 100000000) ∷ month_units 202506 (pos 0) ∷ []; charge = 2500000 } }
+{}
+
+// Spreads with A long alone, with both, and where those with A long leave nothing for A short.
+fn spreads_formed_each_way()
+    ensures a_long { formed_both
+        (unspread (month_units 202503 (pos 300000000) ∷ month_units 202506 (neg_ℤ (pos 200000000)) ∷ [])) (calendar_spread 10000)
+        ≡ record { a_long = 20000; a_short = 0 } }
+    ensures both { formed_both
+        (unspread (month_units 202503 (pos 100000000) ∷ month_units 202504 (neg_ℤ (pos 200000000))
+        ∷ month_units 202506 (neg_ℤ (pos 100000000)) ∷ month_units 202507 (pos 300000000) ∷ [])) (calendar_spread 10000)
+        ≡ record { a_long = 10000; a_short = 20000 } }
+    ensures left { formed_both
+        (unspread (month_units 202503 (pos 200000000) ∷ month_units 202506 (neg_ℤ (pos 100000000)) ∷ [])) own_spread
+        ≡ record { a_long = 10000; a_short = 0 } }
 {}
 
 // The largest net delta: as many contracts as may be held, each of the largest net.

@@ -6,8 +6,8 @@ ghost use Rattle.inter_credit.specs.declared.requirement.TheConstants.{MAX_PART}
 
 use arrayvec::ArrayVec;
 use inter_credit::credit::credit;
-use inter_credit::option_value::net_value;
-use inter_credit::requirement::{MAX_PART, minimum, requirement};
+use inter_credit::option_value::{net_value, position_value};
+use inter_credit::requirement::{MAX_PART, ShortCounts, minimum, requirement, short_counts};
 use inter_credit::spreads::inter_spread;
 use inter_credit::state::{InterLine, InterState, empty, load};
 use param_check::check::check;
@@ -19,6 +19,7 @@ use span_tables::name::Name;
 use span_tables::portfolios::{Holding, Portfolio};
 use span_tables::records::{CommodityLeg, Contract, Inter, MinimumMethod, ProductKind, Side};
 use span_tables::samples::contract;
+use span_tables::sides::SpreadsFormed;
 use span_tables::tables::Tables;
 use std::alloc::{AllocError, Global};
 use std::process::Abort;
@@ -211,6 +212,26 @@ fn spreads_that_may_be_formed(rt: HostRuntime) -> Result<(), Fail> {
     Ok(())
 }
 
+// One spread with side A long, and one with side A short.
+#[test]
+fn inter_spreads_told_by_direction(rt: HostRuntime) -> Result<(), Fail> {
+    let cases = [
+        (100_000_000, -200_000_000, (10_000, 0)),
+        (-200_000_000, 100_000_000, (0, 10_000)),
+    ];
+    for (first, second, (a_long, a_short)) in cases {
+        let commodities = [
+            commodity((first, 2400), (0, 0, 0)),
+            commodity((second, 3600), (0, 0, 0)),
+        ];
+        let mut state = loaded(&rt, rt.alloc(), &commodities)?;
+        let spread = spread_of(&rt, state.len(), 5000, (0, 10_000), (1, 10_000));
+        let formed = state.spread_counted(&spread);
+        assert_eq!(rt; formed, SpreadsFormed { a_long, a_short });
+    }
+    Ok(())
+}
+
 // The largest net deltas and price risks that a state may have, all of it used at all basis points.
 #[test]
 fn largest_credits(rt: HostRuntime) -> Result<(), Fail> {
@@ -264,6 +285,26 @@ fn minimums(rt: HostRuntime) -> Result<(), Fail> {
     assert_eq!(rt; minimum(&held, 500, MinimumMethod::Sum).get(), 2500);
     assert_eq!(rt; minimum(&held, 500, MinimumMethod::Max).get(), 1500);
     assert_eq!(rt; minimum(&held, 0, MinimumMethod::Sum).get(), 0);
+    assert_eq!(rt; short_counts(&held), ShortCounts { calls: 2, puts: 3 });
+    Ok(())
+}
+
+// Two short calls that are worth 120 each.
+#[test]
+fn worth_of_a_position(rt: HostRuntime) -> Result<(), Fail> {
+    let mut contracts = Vec::new(rt.alloc());
+    let mut holdings = Vec::new(rt.alloc());
+    contracts.push(Contract {
+        option_value: 120,
+        ..contract_of(ProductKind::Call)
+    })?;
+    holdings.push(Holding {
+        contract: 0,
+        net: -2,
+    })?;
+    let held = Held::new(Arc::new(rt.alloc(), contracts)?, holdings);
+    assert_eq!(rt; held.len(), 1);
+    assert_eq!(rt; position_value(&held, 0).get(), -240);
     Ok(())
 }
 

@@ -12,7 +12,8 @@ use span_tables::name::Name;
 use span_tables::portfolios::Holding;
 use span_tables::records::{Contract, Intra, MonthLeg, ProductKind, Side, Spot};
 use span_tables::samples::contract;
-use spread_stage::charges::{delivery, intra_charge};
+use span_tables::sides::SpreadsFormed;
+use spread_stage::charges::{delivery, intra_charge, month_units, spot_use};
 use spread_stage::deltas::month_deltas;
 use spread_stage::months::{MonthUnits, Months};
 use spread_stage::tiers::{TierState, spread, start};
@@ -138,6 +139,29 @@ fn two_tiers_and_a_spot_month(rt: HostRuntime) -> Result<(), Fail> {
         delivery(&months, &tiers, &[spot(&rt, 202503, 10, 20)]).get(),
         40
     );
+    let march = spot_use(&months, &tiers, &spot(&rt, 202503, 10, 20));
+    assert_eq!(rt; march.used, 200_000_000);
+    assert_eq!(rt; march.left, 100_000_000);
+    assert_eq!(rt; march.charge, 4_000_000_000);
+    assert_eq!(rt; month_units(&months, 202506).get(), -200_000_000);
+    assert_eq!(rt; month_units(&months, 202505).get(), 0);
+    Ok(())
+}
+
+// Two spreads with side A long, and two with side A short.
+#[test]
+fn spreads_told_by_direction(rt: HostRuntime) -> Result<(), Fail> {
+    let cases = [
+        ([(202503, 3), (202506, -2)], (20_000, 0)),
+        ([(202503, -3), (202506, 2)], (0, 20_000)),
+    ];
+    for (positions, (a_long, a_short)) in cases {
+        let held = held(&rt, rt.alloc(), &positions)?;
+        let mut tiers = start(rt.alloc(), &month_deltas(rt.alloc(), &held)?)?;
+        let formed = tiers.spread_counted(&intra(&rt, 250, &calendar_legs(1)));
+        assert_eq!(rt; formed, SpreadsFormed { a_long, a_short });
+        assert_eq!(rt; tiers.charge(), 5_000_000);
+    }
     Ok(())
 }
 

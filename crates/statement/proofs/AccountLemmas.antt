@@ -1,5 +1,5 @@
 -- No account has two of the portfolios that positions are bound to, and so none has two of their rows.
-use Rattle.std.proofs.Common.{◌≡◌, ◌∙◌, ℕ, zero, suc, ◌+◌, ◌<◌, Bool, true, false, not, cond, List, [], ◌∷◌, map, filter, take}
+use Rattle.std.proofs.Common.{◌≡◌, ◌∙◌, ℕ, zero, suc, ◌<◌, Bool, true, false, not, cond, List, [], ◌∷◌, map, filter, take}
 use Rattle.std.proofs.Common.{length, Option, Some, None, Ok, get_or, bytes_eq, refl, sym, ap, subst, arith}
 use Rattle.std.specs.List.{AllByRecursion, IsDistinct}
 use Rattle.std.proofs.lemmas.Map.Keys.{IsDistinct-cons, IsDistinct-head, IsDistinct-tail}
@@ -14,7 +14,7 @@ use Rattle.span_tables.specs.declared.records.PositionRecord.{PositionRecord}
 use Rattle.plan_compiler.specs.Compiled.{SetView}
 use Rattle.result_book.specs.Books.{HasNoAccountTwice, account_of, row_for}
 use Rattle.result_book.specs.Rows.{RowView}
-use Rattle.statement.specs.near.Rows.{AreOnce, rows_under}
+use Rattle.statement.specs.Batches.{AreOnce, rows_under}
 
 -- the name is none of the others
 IsNew : List ℕ → List (List ℕ) → Type 0

@@ -5,7 +5,8 @@ use Rattle.std.proofs.lemmas.List.{append_assoc}
 use Rattle.span_tables.specs.Tables.{AcceptedTables}
 use Rattle.statement.proofs.LineLemmas.{joined}
 use Rattle.statement.specs.Counts.{counts_line}
-use Rattle.statement.specs.near.LineForms.{counts_form, field}
+use Rattle.span_money.specs.LineFields.{field}
+use Rattle.statement.specs.near.LineForms.{counts_form}
 
 pub counts_form_is : (t : AcceptedTables) → counts_form t ≡ counts_line t
 unfolding counts_form counts_line

@@ -5,7 +5,8 @@ use Rattle.std.specs.Fmt.{signed_decimal}
 use Rattle.std.specs.List.{join_with_byte, range_with_len}
 use Rattle.std.proofs.lemmas.List.FromFn.{map-range_with_len_more}
 use Rattle.std.proofs.lemmas.List.{append_assoc, append-nil, map-id}
-use Rattle.statement.specs.near.LineForms.{field, figures_form, number, total_form}
+use Rattle.span_money.specs.LineFields.{field, number}
+use Rattle.statement.specs.near.LineForms.{figures_form, total_form}
 use Rattle.statement.specs.Statement.{figures_line, total_line}
 use Rattle.plan_ir.specs.declared.figures.Figures.{Figures}
 

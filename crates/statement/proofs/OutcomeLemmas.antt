@@ -10,8 +10,9 @@ use Rattle.result_book.specs.Rows.{RowView}
 use Rattle.worker_pool.specs.Outcomes.{AreOutcomes}
 use Rattle.worker_pool.specs.declared.outcomes.Outcome.{Outcome}
 use Rattle.worker_pool.specs.declared.outcomes.Outcome.TheVariants.{Margined, NoMemory}
+use Rattle.statement.specs.Batches.{rows_under}
 use Rattle.statement.specs.Statement.{row_text, statement_text}
-use Rattle.statement.specs.near.Rows.{AreRows, rows_under}
+use Rattle.statement.specs.near.Rows.{AreRows}
 
 -- one outcome more
 pub rows_more : (outcomes : List Outcome) (rows : List RowView) (row : Arc RowView Global) → AreRows outcomes rows

@@ -83,6 +83,7 @@ refused_second workers params next positions first records e stands read refused
   by_fault (fault.NextParams f) h = of_second (fault.NextParams f) h
   by_fault (fault.NextCheck f) h = of_second (fault.NextCheck f) h
   by_fault (fault.NextBind f) h = of_second (fault.NextBind f) h
+  by_fault (fault.UnknownAccount account) h = of_second (fault.UnknownAccount account) h
 
 -- a roll is refused for what refuses its first statement
 pub refused_first : (workers : ℕ) (params next positions : List ℕ) (e : SpanFault)
@@ -102,6 +103,7 @@ refused_first workers params next positions e same_text (inr named) =
       by_fault (fault.NextParams f) m h of_files = cc
       by_fault (fault.NextCheck f) m h of_files = cc
       by_fault (fault.NextBind f) m h of_files = cc
+      by_fault (fault.UnknownAccount account) m h of_files = cc
       by_fault fault.Workers m h of_files = cc
       by_fault (fault.Book f) m h of_files = cc
       by_fault fault.Shelf m h of_files = cc
@@ -119,6 +121,7 @@ second_never_workers next records h = by_tables (accepted_of next) (λ e is. acc
   renamed (fault.NextParams f) of_files is = cc
   renamed (fault.NextCheck f) of_files is = cc
   renamed (fault.NextBind f) of_files is = cc
+  renamed (fault.UnknownAccount account) of_files is = cc
   renamed fault.Workers of_files is = cc
   renamed (fault.Book f) of_files is = cc
   renamed fault.Shelf of_files is = cc
@@ -150,6 +153,7 @@ refused_set next e (inr named) = by_fault e named.0 named.1 (accepted_of_files n
   by_fault (fault.NextParams f) m h of_files = cc
   by_fault (fault.NextCheck f) m h of_files = cc
   by_fault (fault.NextBind f) m h of_files = cc
+  by_fault (fault.UnknownAccount account) m h of_files = cc
   by_fault fault.Workers m h of_files = cc
   by_fault (fault.Book f) m h of_files = cc
   by_fault fault.Shelf m h of_files = cc
@@ -172,6 +176,7 @@ refused_bound tables records e (inr named) =
       by_fault (fault.NextParams f) m h of_files = cc
       by_fault (fault.NextCheck f) m h of_files = cc
       by_fault (fault.NextBind f) m h of_files = cc
+      by_fault (fault.UnknownAccount account) m h of_files = cc
       by_fault fault.Workers m h of_files = cc
       by_fault (fault.Book f) m h of_files = cc
       by_fault fault.Shelf m h of_files = cc
@@ -203,6 +208,7 @@ next_refuses next records e refused = by_fault e refused where
   by_fault (fault.NextParams f) h = named (fault.NextParams f) h
   by_fault (fault.NextCheck f) h = named (fault.NextCheck f) h
   by_fault (fault.NextBind f) h = named (fault.NextBind f) h
+  by_fault (fault.UnknownAccount account) h = named (fault.UnknownAccount account) h
 
 -- and so does what refuses the statement under its tables
 pub under_refuses : (next : List ℕ) (records : List PositionRecord) (tables : AcceptedTables) (e : SpanFault)
@@ -226,6 +232,7 @@ under_refuses next records tables e accepted refused = by_fault e refused where
   by_fault (fault.NextParams f) h = named (fault.NextParams f) h
   by_fault (fault.NextCheck f) h = named (fault.NextCheck f) h
   by_fault (fault.NextBind f) h = named (fault.NextBind f) h
+  by_fault (fault.UnknownAccount account) h = named (fault.UnknownAccount account) h
 
 -- the statement under its tables is the second
 pub under_stands : (next : List ℕ) (records : List PositionRecord) (tables : AcceptedTables) (first text : List ℕ)

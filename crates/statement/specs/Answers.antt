@@ -17,6 +17,7 @@ is_memory (fault.Bind e) = bind.is_memory e
 is_memory (fault.NextParams e) = param.is_memory e
 is_memory (fault.NextCheck e) = check.is_memory e
 is_memory (fault.NextBind e) = bind.is_memory e
+is_memory (fault.UnknownAccount account) = false
 is_memory fault.Workers = false
 is_memory (fault.Book e) = book.is_memory e
 is_memory fault.Shelf = false

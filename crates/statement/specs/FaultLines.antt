@@ -24,6 +24,10 @@ use Rattle.statement.specs.declared.statuses.TheConstants.{PARAMETERS_REFUSED, P
 abbrev pub memory_line : List ℕ
 memory_line = codes "memory\n"
 
+-- an account that the positions do not have
+abbrev pub unknown_account_line : List ℕ → List ℕ
+unknown_account_line account = codes "positions: E1 UnknownAccount account " ++ (account ++ codes "\n")
+
 -- a number of workers that cannot be
 abbrev pub workers_line : List ℕ
 workers_line = codes "workers: L1 Workers\n"
@@ -107,6 +111,7 @@ fault_line (fault.Bind e) = bind_line (codes "positions") e
 fault_line (fault.NextParams e) = param_line (codes "next parameters") e
 fault_line (fault.NextCheck e) = check_line (codes "next parameters") e
 fault_line (fault.NextBind e) = bind_line (codes "next positions") e
+fault_line (fault.UnknownAccount account) = unknown_account_line account
 fault_line fault.Workers = workers_line
 fault_line (fault.Book e) = book_line e
 fault_line fault.Shelf = shelf_line
@@ -122,6 +127,7 @@ fault_status (fault.Bind e) = if bind_fault.is_memory e then OUT_OF_MEMORY else 
 fault_status (fault.NextParams e) = if param_fault.is_memory e then OUT_OF_MEMORY else PARAMETERS_REFUSED
 fault_status (fault.NextCheck e) = if check_fault.is_memory e then OUT_OF_MEMORY else PARAMETERS_REFUSED
 fault_status (fault.NextBind e) = if bind_fault.is_memory e then OUT_OF_MEMORY else POSITIONS_REFUSED
+fault_status (fault.UnknownAccount account) = POSITIONS_REFUSED
 fault_status fault.Workers = USAGE
 fault_status (fault.Book e) = if book_fault.is_memory e then OUT_OF_MEMORY else BOOK_REFUSED
 fault_status fault.Shelf = BOOK_REFUSED

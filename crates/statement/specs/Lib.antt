@@ -1,4 +1,5 @@
 pub mod Answers
+pub mod Batches
 pub mod Counts
 pub mod Listing
 pub mod FaultLines

@@ -23,15 +23,23 @@ use Rattle.worker_pool.specs.declared.batch.TheConstants.{MAX_WORKERS}
 abbrev pub line : List (List ℕ) → List ℕ
 line fields = join_with_byte 44 fields ++ (10 ∷ [])
 
--- the line of a commodity's figures, under the ids of the account, the set and the commodity
-unfoldable pub figures_line : List ℕ → List ℕ → List ℕ → Figures → List ℕ
-figures_line account set_id commodity f =
-    line (codes "R" ∷ account ∷ set_id ∷ commodity ∷ signed_decimal f.scan ∷ decimal f.active ∷ signed_decimal f.intra
-    ∷ signed_decimal f.delivery ∷ signed_decimal f.credit ∷ signed_decimal f.minimum ∷ signed_decimal f.requirement ∷ [])
+-- the fields of a commodity's figures, under the ids of the account, the set and the commodity
+abbrev pub figures_record : List ℕ → List ℕ → List ℕ → Figures → List (List ℕ)
+figures_record account set_id commodity f =
+    codes "R" ∷ account ∷ set_id ∷ commodity ∷ signed_decimal f.scan ∷ decimal f.active ∷ signed_decimal f.intra
+    ∷ signed_decimal f.delivery ∷ signed_decimal f.credit ∷ signed_decimal f.minimum ∷ signed_decimal f.requirement ∷ []
 
--- the last line of an account: its total, and the numbers behind it
+-- their line
+unfoldable pub figures_line : List ℕ → List ℕ → List ℕ → Figures → List ℕ
+figures_line account set_id commodity f = line (figures_record account set_id commodity f)
+
+-- the fields of an account's total and of the numbers behind it
+abbrev pub total_record : List ℕ → List ℕ → List ℤ → List (List ℕ)
+total_record account set_id numbers = codes "T" ∷ account ∷ set_id ∷ map signed_decimal numbers
+
+-- their line, the last of an account
 unfoldable pub total_line : List ℕ → List ℕ → List ℤ → List ℕ
-total_line account set_id numbers = line (codes "T" ∷ account ∷ set_id ∷ map signed_decimal numbers)
+total_line account set_id numbers = line (total_record account set_id numbers)
 
 -- the line of an account for the commodity of a number, where it holds a contract of it
 abbrev pub commodity_text : AcceptedTables → AccountHoldings → ℕ → List ℕ

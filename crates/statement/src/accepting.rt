@@ -6,8 +6,8 @@ ghost use Rattle.span_tables.specs.Net.{AccountHoldings};
 ghost use Rattle.span_tables.specs.Tables.{AcceptedTables};
 ghost use Rattle.statement.specs.Answers.{Gives};
 ghost use Rattle.statement.specs.Statement.{accepted_of, portfolios_under, statement_of, statement_text};
+ghost use Rattle.statement.specs.Batches.{AreOnce};
 ghost use Rattle.statement.specs.declared.accepting.Accepted.{Accepted};
-ghost use Rattle.statement.specs.near.Rows.{AreOnce};
 ghost use Rattle.std.specs.Arc.{arc_value};
 ghost use Rattle.std.specs.Prelude.{◌≡◌, All, IfOk, List, Ok, length, true};
 ghost use Rattle.std.specs.declared.alloc.Global.{Global};
@@ -71,19 +71,24 @@ pub(crate) fn portfolios_of(
 
 /// What two accepted files say: a compiled set, the positions, and the portfolios that these are under it.
 #[derive(Drop)]
-pub(crate) struct Accepted {
-    pub(crate) set: Arc<CompiledSet>,
-    pub(crate) positions: RawPositions,
-    pub(crate) portfolios: Portfolios,
+pub struct Accepted {
+    /// The tables of the parameters, with their plan.
+    pub set: Arc<CompiledSet>,
+    /// The records of the positions.
+    pub positions: RawPositions,
+    /// What each account holds, in the order of first appearance.
+    pub portfolios: Portfolios,
 }
 
 /// What two files say, or the first fault: in reading the parameters, in checking them, in reading the positions, in
-/// binding them.
+/// binding them; or want of memory.
 #[tactic(auto, unfolding(crate::specs::Statement::statement_of, crate::specs::Statement::statement_under, crate::specs::Statement::statement_bound))]
-pub(crate) fn accept(alloc: Global, params: &[u8], positions: &[u8]) -> Result<Accepted, SpanFault>
+pub fn accept(alloc: Global, params: &[u8], positions: &[u8]) -> Result<Accepted, SpanFault>
     ensures text { Gives (λ (a : Accepted). statement_text (arc_value a.set).tables a.portfolios)
         result (statement_of params.now positions.now) }
+    ensures tables { IfOk result (λ a. accepted_of params.now ≡ Ok (arc_value a.set).tables) }
     ensures positions { IfOk result (λ a. positions_of positions.now ≡ Ok a.positions) }
+    ensures portfolios { IfOk result (λ a. portfolios_under (arc_value a.set).tables a.positions ≡ Ok a.portfolios) }
     ensures fits { IfOk result (λ a.
         All (λ p. fits (length (arc_value a.set).tables.contracts) p.holdings ≡ true) a.portfolios) }
     ensures once { IfOk result (λ a. AreOnce a.portfolios) }

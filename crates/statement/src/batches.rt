@@ -2,8 +2,9 @@
 ghost use Rattle.plan_compiler.specs.Compiled.{SetView};
 ghost use Rattle.span_tables.specs.Holdings.{fits};
 ghost use Rattle.span_tables.specs.Net.{AccountHoldings};
+ghost use Rattle.statement.specs.Batches.{rows_under};
 ghost use Rattle.statement.specs.Statement.{statement_text};
-ghost use Rattle.statement.specs.near.Rows.{AreRows, rows_under};
+ghost use Rattle.statement.specs.near.Rows.{AreRows};
 ghost use Rattle.std.specs.Arc.{arc_value};
 ghost use Rattle.std.specs.Prelude.{◌≡◌, ◌++◌, All, IfOk, List, OnOk, length, map, true};
 ghost use Rattle.worker_pool.specs.Outcomes.{AreOutcomes};
@@ -44,8 +45,9 @@ fn rows_of(alloc: Global, outcomes: Vec<Outcome>) -> Result<Vec<Arc<Row>>, Alloc
     Ok(rows)
 }
 
-/// The rows of portfolios under a compiled set, on one thread. `Err` is want of memory, also for an account alone.
-pub(crate) fn rows_alone(
+/// The rows of portfolios under a compiled set, in their order, computed on one thread. `Err` is want of memory, also for an
+/// account alone.
+pub fn rows_alone(
     alloc: Global,
     set: &Arc<CompiledSet>,
     portfolios: Portfolios,

@@ -6,7 +6,7 @@ ghost use Rattle.std.specs.Prelude.{◌≡◌, IfOk};
 
 use crate::accepting::tables_of;
 use crate::faults::SpanFault;
-use crate::lines::{push_field, push_numbers};
+use span_money::line_fields::{push_field, push_numbers};
 use span_tables::tables::Tables;
 use std::alloc::{AllocError, Global};
 

@@ -32,6 +32,10 @@ enum Line<'a> {
         at: usize,
         account: &'a Name,
     },
+    // An account that the positions do not have.
+    UnknownAccount {
+        account: &'a Name,
+    },
     // A number of workers that cannot be.
     Workers,
     // What a book refused: the fault's number and name.
@@ -168,6 +172,7 @@ fn line_of(fault: &SpanFault) -> Line<'_>
         SpanFault::NextParams(fault) => param_line("next parameters", fault),
         SpanFault::NextCheck(fault) => check_line("next parameters", fault),
         SpanFault::NextBind(fault) => bind_line("next positions", fault),
+        SpanFault::UnknownAccount { account } => Line::UnknownAccount { account },
         SpanFault::Workers => Line::Workers,
         SpanFault::Book(fault) => book_line(*fault),
         SpanFault::Shelf => Line::Shelf,
@@ -216,6 +221,9 @@ fn write_line<W: Write>(line: &Line<'_>, out: &mut W) -> io::Result<()>
             at,
             account,
         } => write_place(file, code, *at, account, out),
+        Line::UnknownAccount { account } => {
+            writeln!(out, "positions: E1 UnknownAccount account {account}")
+        }
         Line::Workers => writeln!(out, "workers: L1 Workers"),
         Line::Book { code } => writeln!(out, "book: {code}"),
         Line::Shelf => writeln!(out, "shelf"),
@@ -274,6 +282,9 @@ fn tell_line<W: Write>(line: &Line<'_>, out: &mut MarkedWriter<W>)
             at,
             account,
         } => tell_place(file, code, *at, account, out),
+        Line::UnknownAccount { account } => {
+            let _ = writeln!(out, "positions: E1 UnknownAccount account {account}");
+        }
         Line::Workers => {
             let _ = writeln!(out, "workers: L1 Workers");
         }

@@ -9,6 +9,7 @@ use param_check::faults::{BindFault, CheckFault};
 use plan_shelf::faults::{NotPublished, ShelfFault};
 use result_book::books::BookFault;
 use span_csv::faults::{ParamFault, PositionFault};
+use span_tables::name::Name;
 use std::alloc::AllocError;
 use thiserror::Error;
 
@@ -36,6 +37,9 @@ pub enum SpanFault {
     /// The positions do not fit the next set's tables.
     #[error("next positions: {0}")]
     NextBind(BindFault),
+    /// E1: an account that the accepted positions do not have.
+    #[error("positions: E1 UnknownAccount account {account}")]
+    UnknownAccount { account: Name },
     /// The number of workers is 0 or over 16.
     #[error("workers: L1 Workers")]
     Workers,
@@ -165,7 +169,10 @@ pub fn status(fault: &SpanFault) -> u8
         | SpanFault::Check(_)
         | SpanFault::NextParams(_)
         | SpanFault::NextCheck(_) => PARAMETERS_REFUSED,
-        SpanFault::Positions(_) | SpanFault::Bind(_) | SpanFault::NextBind(_) => POSITIONS_REFUSED,
+        SpanFault::Positions(_)
+        | SpanFault::Bind(_)
+        | SpanFault::NextBind(_)
+        | SpanFault::UnknownAccount { .. } => POSITIONS_REFUSED,
         SpanFault::Workers => USAGE,
         SpanFault::Book(_) | SpanFault::Shelf => BOOK_REFUSED,
     }

@@ -1,8 +1,8 @@
 //! Statements: from the bytes of a parameter file and a position file to the bytes of a statement.
 #![tactic(auto)]
 
-mod accepting;
-mod batches;
+pub mod accepting;
+pub mod batches;
 pub mod counts;
 pub mod fault_lines;
 pub mod faults;

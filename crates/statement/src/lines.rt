@@ -1,45 +1,19 @@
 //! The text of a statement.
-ghost use Rattle.statement.specs.near.LineForms.{field, figures_fields, figures_form, number, total_form};
+ghost use Rattle.span_money.specs.LineFields.{field};
+ghost use Rattle.statement.specs.near.LineForms.{figures_fields, figures_form, total_form};
 ghost use Rattle.statement.specs.Statement.{commodity_text, figures_line, row_text, total_line, total_numbers, total_of};
 ghost use Rattle.inter_credit.specs.OptionValue.{due_of, excess_of};
 ghost use Rattle.plan_ir.specs.Figures.{option_value_of};
 ghost use Rattle.std.specs.Arc.{arc_value};
 ghost use Rattle.std.specs.Prelude.{[], ◌++◌, ◌∷◌, ◌≡◌, ◌<◌, IfOk, OnOk, flat_map, length, map, pos};
 
-use itoa::Buffer;
 use plan_ir::figures::Figures;
 use result_book::rows::Row;
 use span_money::amounts::Money;
+use span_money::line_fields::{push_field, push_numbers};
 use span_tables::name::Name;
 use std::alloc::{AllocError, Global};
 use std::sync::Arc;
-
-// A comma and the bytes of a field.
-pub(crate) fn push_field(out: &mut Vec<u8>, text: &[u8]) -> Result<(), AllocError>
-    ensures { OnOk result (out.new.items ≡ out.old.items ++ field text.now) }
-{
-    out.push(b',')?;
-    out.extend_from_slice(text)
-}
-
-fn push_number(out: &mut Vec<u8>, n: i128) -> Result<(), AllocError>
-    ensures { OnOk result (out.new.items ≡ out.old.items ++ number n) }
-{
-    let mut buffer = Buffer::new();
-    match u64::try_from(n) {
-        Ok(small) => push_field(out, buffer.format(small).as_bytes()),
-        Err(_) => push_field(out, buffer.format(n).as_bytes()),
-    }
-}
-
-pub(crate) fn push_numbers(out: &mut Vec<u8>, numbers: &[i128]) -> Result<(), AllocError>
-    ensures { OnOk result (out.new.items ≡ out.old.items ++ flat_map number numbers.now) }
-{
-    for n in numbers {
-        push_number(out, *n)?;
-    }
-    Ok(())
-}
 
 // A letter, the account and the set.
 fn push_start(
@@ -102,8 +76,9 @@ fn push_commodity(
     push_commodity_parts(out, account, set_id, commodity, figures)
 }
 
-// The line of an account for the commodity of a number, where it holds a contract of it.
-fn push_held(out: &mut Vec<u8>, row: &Row, number: usize) -> Result<(), AllocError>
+/// Appends the line of an account for the commodity of a number, where it holds a contract of it, and else nothing
+/// (docs/FORMATS.md, Statement: the R line). `Err` is want of memory.
+pub fn push_commodity_of(out: &mut Vec<u8>, row: &Row, number: usize) -> Result<(), AllocError>
     requires { number < length row.now.set.tables.commodities }
     ensures { OnOk result (out.new.items
         ≡ out.old.items ++ commodity_text row.now.set.tables row.now.portfolio number) }
@@ -162,8 +137,9 @@ fn excess(total: Money, value: Money) -> i128
     due(value, total)
 }
 
-// The last line of an account. Where options have a value it has that of the account, too, and what follows from it.
-fn push_account(out: &mut Vec<u8>, row: &Row) -> Result<(), AllocError>
+/// Appends the last line of an account (docs/FORMATS.md, Statement: the T line). Where options have a value it has that of the
+/// account, too, and what follows from it. `Err` is want of memory.
+pub fn push_total_of(out: &mut Vec<u8>, row: &Row) -> Result<(), AllocError>
     ensures { OnOk result (out.new.items ≡ out.old.items ++ total_line row.now.portfolio.account row.now.set.tables.set_id
         (total_numbers row.now.set.tables (total_of row.now.set.tables row.now.portfolio)
         (option_value_of row.now.set.tables row.now.portfolio.holdings))) }
@@ -189,9 +165,9 @@ pub fn push_row(out: &mut Vec<u8>, row: &Row) -> Result<(), AllocError>
     ensures { OnOk result (out.new.items ≡ out.old.items ++ row_text row.now.set.tables row.now.portfolio) }
 {
     for number in 0..row.set().tables().commodities().len() {
-        push_held(out, row, number)?;
+        push_commodity_of(out, row, number)?;
     }
-    push_account(out, row)
+    push_total_of(out, row)
 }
 
 /// Appends the lines of these rows, in their order. `Err` is want of memory.

@@ -1,10 +1,10 @@
 //! Two statements for the same positions: under a set, and under the next, which is made ready beside the first batch.
 ghost use Rattle.plan_shelf.specs.Publications.{IsLast};
 ghost use Rattle.span_tables.specs.Holdings.{fits};
+ghost use Rattle.statement.specs.Batches.{AreOnce, rows_under};
 ghost use Rattle.statement.specs.Rolls.{GivesRoll};
 ghost use Rattle.statement.specs.Statement.{accepted_of, portfolios_under, statement_text};
 ghost use Rattle.statement.specs.declared.faults.SpanFault.TheVariants as fault;
-ghost use Rattle.statement.specs.near.Rows.{AreOnce, rows_under};
 ghost use Rattle.statement.specs.near.Seconds.{IsPublished, RefusesNext, RefusesSecond, RefusesUnder, Rolls, RollsUnder};
 ghost use Rattle.std.specs.Arc.{arc_value};
 ghost use Rattle.std.specs.Prelude.{◌≡◌, ◌<◌, ◌∷◌, ◌⊎◌, ◌↔◌, [], All, Err, IfErr, IfOk, Ok};

@@ -7,6 +7,8 @@
 #[cfg(test)]
 mod builders;
 #[cfg(test)]
+mod explanations;
+#[cfg(test)]
 mod files;
 #[cfg(test)]
 mod reading;

@@ -147,6 +147,14 @@ fn lines_of_faults(rt: HostRuntime) -> Result<(), Fail> {
         "positions: B2 NetOutOfRange at record 3 account ACC-1\n",
         4,
     )?;
+    let account = name(b"ACC-1");
+    says(
+        &rt,
+        alloc,
+        SpanFault::UnknownAccount { account },
+        "positions: E1 UnknownAccount account ACC-1\n",
+        4,
+    )?;
     says(&rt, alloc, SpanFault::Workers, "workers: L1 Workers\n", 2)?;
     says(&rt, alloc, SpanFault::Memory, "memory\n", 5)
 }

@@ -165,6 +165,54 @@ fn refuses_rolls(rt: HostRuntime) -> Result<(), Fail> {
     Ok(())
 }
 
+// Names that are none, in a word of their own and in the option's: refused before a file is read.
+#[test]
+fn refuses_accounts_that_are_no_names(rt: HostRuntime) -> Result<(), Fail> {
+    let alloc = rt.alloc();
+    for name in ["x", "", "A B", "ABCDEFGHIJKLMNOPQ", "--help", "A,B"] {
+        let words = [
+            "span",
+            "explain",
+            "missing.csv",
+            "missing.csv",
+            "--account",
+            name,
+        ];
+        let given = run(&rt, alloc, &words);
+        assert!(rt; given.is(2, b"", NO_NAME), "{name}");
+        let option = format!(in alloc; "--account={name}")?;
+        let words = [
+            "span",
+            "explain",
+            option.as_str(),
+            "missing.csv",
+            "missing.csv",
+        ];
+        assert!(rt; run(&rt, alloc, &words).is(2, b"", NO_NAME), "{name}");
+    }
+    Ok(())
+}
+
+// Names that the accepted positions do not have: the word behind `--account` is one, whatever it begins with.
+#[test]
+fn refuses_unknown_accounts(rt: HostRuntime) -> Result<(), Fail> {
+    let alloc = rt.alloc();
+    for name in ["Y", "-X", "--", "-", "--WORKERS", "ABCDEFGHIJKLMNOP"] {
+        let line = format!(in alloc; "positions: E1 UnknownAccount account {name}\n")?;
+        let words = [
+            "span",
+            "explain",
+            "params.csv",
+            "--account",
+            name,
+            "positions.csv",
+        ];
+        let given = run(&rt, alloc, &words);
+        assert!(rt; given.is(4, b"", line.as_bytes()), "{name}");
+    }
+    Ok(())
+}
+
 #[test]
 fn refuses_numbers_of_workers(rt: HostRuntime) -> Result<(), Fail> {
     let alloc = rt.alloc();
@@ -363,11 +411,12 @@ Margins futures and options accounts by the SPAN method
 Usage: span <COMMAND>
 
 Commands:
-  check   Checks a parameter file and counts its records
-  plan    Prints the steps of the compiled plan of a parameter file
-  margin  Prints the margin statement of every account
-  roll    Prints the margin statements under a set and under the next
-  help    Print this message or the help of the given subcommand(s)
+  check    Checks a parameter file and counts its records
+  plan     Prints the steps of the compiled plan of a parameter file
+  margin   Prints the margin statement of every account
+  explain  Prints why each figure of a margin statement is what it is
+  roll     Prints the margin statements under a set and under the next
+  help     Print this message or the help of the given subcommand(s)
 
 Options:
   -h, --help     Print help
@@ -435,6 +484,35 @@ Amounts are whole numbers in the minor unit of the set's currency, as cents for 
 docs/FORMATS.md describes the files and the statement, docs/METHOD.md the figures.
 ";
 
+const EXPLAIN_HELP: &[u8] = b"\
+Prints why each figure of a margin statement is what it is
+
+Usage: span explain [OPTIONS] <PARAMS> <POSITIONS>
+
+Arguments:
+  <PARAMS>     Parameter file (CSV): a set with its commodities, contracts, tiers and spreads
+  <POSITIONS>  Position file (CSV): account, contract, quantity in contracts (minus is short)
+
+Options:
+      --account <NAME>  The account that is explained; without it, all are
+  -h, --help            Print help
+
+Prints for each account, and for each commodity of which it holds a contract, lines from which its figures can be
+computed by hand, and then its R line; after its commodities its T line. Each line begins with its word, the
+account, the set and, but for T, the commodity. Behind them stand:
+  HELD    contract,type,month,quantity; under a set of version 2 also the value of that position
+  SUMS    the sixteen scenario sums
+  SCAN    scan risk,active scenario,paired scenario,price risk
+  MONTH   month,delta,what is left of it after all spreads
+  INTRA   priority,long side,spreads,rate,charge
+  SPOT    month,used,spread rate,left,outright rate,charge
+  INTER   priority,long side,spreads,delta used,basis points
+  CREDIT  price risk,net delta,weight
+  SHORT   short calls,short puts,method,rate
+  R, T    as `margin` prints them
+docs/FORMATS.md describes the lines, docs/METHOD.md the figures.
+";
+
 const ROLL_HELP: &[u8] = b"\
 Prints the margin statements under a set and under the next
 
@@ -457,7 +535,7 @@ docs/ROLL.md has a day's roll in commands.
 #[test]
 fn helps(rt: HostRuntime) -> Result<(), Fail> {
     let alloc = rt.alloc();
-    let cases: [(&[&str], &[u8]); 8] = [
+    let cases: [(&[&str], &[u8]); 10] = [
         (&["span", "--help"], SPAN_HELP),
         (&["span", "help"], SPAN_HELP),
         (&["span", "help", "check"], CHECK_HELP),
@@ -465,6 +543,8 @@ fn helps(rt: HostRuntime) -> Result<(), Fail> {
         (&["span", "help", "plan"], PLAN_HELP),
         (&["span", "help", "margin"], MARGIN_HELP),
         (&["span", "margin", "params.csv", "--help"], MARGIN_HELP),
+        (&["span", "help", "explain"], EXPLAIN_HELP),
+        (&["span", "explain", "--account=X", "-h"], EXPLAIN_HELP),
         (&["span", "help", "roll"], ROLL_HELP),
     ];
     for (words, text) in cases {
@@ -505,7 +585,7 @@ fn refuses_words_that_cannot_be_read(rt: HostRuntime) -> Result<(), Fail> {
 
 const NO_COMMAND: &[u8] = b"\
 error: 'span' requires a subcommand but one was not provided
-  [subcommands: check, plan, margin, roll, help]
+  [subcommands: check, plan, margin, explain, roll, help]
 
 Usage: span <COMMAND>
 
@@ -545,6 +625,22 @@ Usage: span margin [OPTIONS] <PARAMS> <POSITIONS>
 For more information, try '--help'.
 ";
 
+const NO_NAME: &[u8] = b"\
+error: invalid value for '--account <NAME>': a name is 1 to 16 bytes of A to Z, 0 to 9, _ and -
+
+Usage: span explain [OPTIONS] <PARAMS> <POSITIONS>
+
+For more information, try '--help'.
+";
+
+const ACCOUNT_TWICE: &[u8] = b"\
+error: the argument '--account <NAME>' cannot be used multiple times
+
+Usage: span explain [OPTIONS] <PARAMS> <POSITIONS>
+
+For more information, try '--help'.
+";
+
 const ONE_TOO_MANY: &[u8] = b"\
 error: unexpected argument 'positions.csv' found
 
@@ -556,7 +652,7 @@ For more information, try '--help'.
 #[test]
 fn refuses_words(rt: HostRuntime) -> Result<(), Fail> {
     let alloc = rt.alloc();
-    let cases: [(&[&str], &[u8]); 6] = [
+    let cases: [(&[&str], &[u8]); 8] = [
         (&["span"], NO_COMMAND),
         (
             &["span", "margn", "params.csv", "positions.csv"],
@@ -567,6 +663,11 @@ fn refuses_words(rt: HostRuntime) -> Result<(), Fail> {
         (
             &["span", "margin", "p", "q", "--workers=1", "--workers=1"],
             WORKERS_TWICE,
+        ),
+        (&["span", "explain", "p", "q", "--account", "x"], NO_NAME),
+        (
+            &["span", "explain", "--account=X", "p", "q", "--account", "X"],
+            ACCOUNT_TWICE,
         ),
         (
             &["span", "check", "params.csv", "positions.csv"],

@@ -3,26 +3,28 @@ use Rattle.std.proofs.Common.{◌≡◌, ℕ, zero, suc, ◌+◌, ◌<◌, ◌�
 use Rattle.std.proofs.Common.{List, [], ◌∷◌, ◌++◌, length, All, refl, sym, ap, ◌∙◌, subst, inl, inr}
 use Rattle.std.proofs.Common.{arith, slice_index, slice_set, replicate, nat_lt, if◌then◌else◌, eq-eqb, zero-add}
 use Rattle.std.proofs.Common.{add-zero, length-append, get_or-set_same, get_or-set_other, Some, Global}
+use Rattle.std.proofs.Common.{◌*◌, sum_by}
+use Rattle.std.proofs.lemmas.List.Sums.{sum_by-cons}
 use Rattle.std.proofs.lemmas.Bool.{cases_eq, cases_lt, ne_eqb, false≢true, lt-ltb, le-ltb}
-use Rattle.std.proofs.lemmas.List.{get_or_append_left, get_or_push}
+use Rattle.std.proofs.lemmas.List.{get_or_append_left, get_or_push, length-replicate}
 use Rattle.std.proofs.lemmas.List.Elements.{All-cons, All-nil, All-head, All-tail, All-weaker, All-push}
 use Rattle.std.specs.declared.sync.Arc.{Arc}
 use Rattle.plan_ir.specs.Plans.{StepView, inputs_at, users_of}
 use Rattle.plan_ir.specs.declared.values.Value.{Value}
 use Rattle.step_scheduler.specs.declared.progress.Progress.{Progress}
 use Rattle.step_scheduler.specs.declared.progress.Progress.TheVariants.{Waiting, Taken, Done}
-use Rattle.step_scheduler.specs.near.Steps.{was_taken, is_done, progress_at, AreDone, CanStart}
+use Rattle.step_scheduler.specs.near.Steps.{was_taken, is_done, events_of, progress_at, AreDone, CanStart}
 use Rattle.step_scheduler.specs.near.Counts.{times, open_inputs, ready_times, freed_times, IsCounted}
 use Rattle.std.specs.Arc.{arc_value}
-use Rattle.plan_compiler.specs.Compiled.{IsFirstInput}
+use Rattle.plan_compiler.specs.Compiled.{Fits, IsCompiled}
 use Rattle.step_scheduler.specs.Jobs.{JobView, meaning_at}
 use Rattle.step_scheduler.specs.Runs.{IsReady, AllFinished, is_finished, unfinished}
 use Rattle.step_scheduler.specs.near.Kept.{IsCountedBoard}
 use Rattle.step_scheduler.specs.declared.events.Event.{Event}
 use Rattle.step_scheduler.specs.declared.events.Event.TheVariants.{Take, Finish}
 use Rattle.step_scheduler.proofs.BoardLemmas.{board_takes, board_finishes, waiting_not_done}
-use Rattle.step_scheduler.specs.near.Keeping.{Place, is_full, place_at, IsHanded}
-use Rattle.step_scheduler.proofs.Places.{kept_at_end, kept_takes, kept_finishes}
+use Rattle.step_scheduler.specs.near.Keeping.{Place, is_full, place_at, IsHanded, MayMove, KeepsMeanings}
+use Rattle.step_scheduler.proofs.Places.{kept_at_end, kept_takes, kept_finishes, kept_new}
 use Rattle.step_scheduler.proofs.Counting.{times_push_same, times_push_other, Released}
 use Rattle.step_scheduler.proofs.UserLemmas.{HasUsers, has_users}
 
@@ -317,6 +319,41 @@ module _ (job : JobView) (steps : List Progress) (places : List Place) (history 
         (has_users _ b.board.compiled) b.counted (let l = b.board.long in omega arith) taken_k open_k r;
   }
 
+nothing_done : (n i : ℕ) → is_done (progress_at (replicate n Waiting) i) ≡ false
+nothing_done zero i = refl
+nothing_done (suc n) zero = refl
+nothing_done (suc n) (suc i) = nothing_done n i
+
+nothing_taken : (n i : ℕ) → was_taken (progress_at (replicate n Waiting) i) ≡ false
+nothing_taken zero i = refl
+nothing_taken (suc n) zero = refl
+nothing_taken (suc n) (suc i) = nothing_taken n i
+
+no_events : (n : ℕ) → sum_by events_of (replicate n Waiting) ≡ 0
+no_events zero = refl
+no_events (suc n) = rw sum_by-cons (zero-add _ ∙ no_events n)
+
+-- a new board
+pub board_new : (job : JobView) (n : ℕ) (places : List Place) (capacity : ℕ) (missing ready : List ℕ) (ready_capacity : ℕ)
+    → IsCompiled job.set → Fits job.set.tables (job.portfolio).holdings → n ≡ length job.set.plan → 2 * n ≤ capacity
+    → length places ≡ length job.set.plan → KeepsMeanings job places
+    → IsCounted job.set.plan (replicate (length job.set.plan) Waiting) missing ready ready_capacity
+    → IsCountedBoard job (replicate n Waiting) places [] capacity missing ready ready_capacity
+board_new job n places capacity missing ready ready_capacity compiled fits is_n room long means counted = record {
+  board = record {
+    compiled = compiled;
+    fits = fits;
+    long = length-replicate n Waiting ∙ is_n;
+    run = tt;
+    taken = λ k. sym (nothing_taken n k);
+    finished = λ k. sym (nothing_done n k);
+    count = no_events n;
+    room = rw (length-replicate n Waiting) room;
+  };
+  kept = kept_new job n places is_n (long ∙ sym is_n) means;
+  counted = rw is_n counted;
+}
+
 -- inputs without a value are those that are not finished
 pub open_is_unfinished : (steps : List Progress) (history : List Event)
     → ((k : ℕ) → is_finished history k ≡ is_done (progress_at steps k)) → (is : List ℕ)
@@ -330,7 +367,7 @@ open_is_unfinished steps history same (i ∷ is) =
 pub kept_when_complete : (job : JobView) (steps : List Progress) (places : List Place) (history : List Event) (capacity : ℕ)
     (missing ready : List ℕ) (ready_capacity j : ℕ)
     → IsCountedBoard job steps places history capacity missing ready ready_capacity → AllFinished job.set.plan history
-    → j < length job.set.plan → (IsFirstInput job.set.plan j → ⊥) → is_full (place_at places j) ≡ true
+    → j < length job.set.plan → (MayMove job.set.plan j → ⊥) → is_full (place_at places j) ≡ true
 kept_when_complete job steps places history capacity missing ready ready_capacity j b all h stays =
     kept_at_end job steps places b.kept b.board.long j (sym (b.board.finished j) ∙ all j h) stays
 
@@ -341,16 +378,6 @@ pub record CountersSoFar (plan : List StepView) (missing ready : List ℕ) (capa
   pub in_range : All (λ x. x < k) ready
   pub listed : (j : ℕ) → times j ready ≡ (if nat_lt j k then ready_times false (length (inputs_at plan j)) else 0)
   pub room : length plan ≤ capacity
-
-nothing_done : (n i : ℕ) → is_done (progress_at (replicate n Waiting) i) ≡ false
-nothing_done zero i = refl
-nothing_done (suc n) zero = refl
-nothing_done (suc n) (suc i) = nothing_done n i
-
-nothing_taken : (n i : ℕ) → was_taken (progress_at (replicate n Waiting) i) ≡ false
-nothing_taken zero i = refl
-nothing_taken (suc n) zero = refl
-nothing_taken (suc n) (suc i) = nothing_taken n i
 
 open_all : (n : ℕ) (is : List ℕ) → open_inputs (replicate n Waiting) is ≡ length is
 open_all n [] = refl

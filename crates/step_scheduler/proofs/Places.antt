@@ -1,5 +1,5 @@
 -- The values of a board after each event.
-use Rattle.std.proofs.Common.{◌≡◌, ◌++◌, length-append, ℕ, zero, suc, ◌+◌, ◌<◌, ◌==◌}
+use Rattle.std.proofs.Common.{◌≡◌, ◌++◌, length-append, ℕ, zero, suc, ◌+◌, ◌<◌, ◌≤◌, ◌==◌, ◌⊎◌, eq-eqb}
 use Rattle.std.proofs.Common.{true, false, Some, None, List, [], ◌∷◌, length, map, All, refl, sym, ap}
 use Rattle.std.proofs.Common.{◌∙◌, subst, inl, inr, arith, get_or, slice_index, slice_set, replicate}
 use Rattle.std.proofs.Common.{if◌then◌else◌, get_or-set_same, get_or-set_other, length-set, Global}
@@ -7,16 +7,18 @@ use Rattle.std.proofs.lemmas.Bool.{cases_eq, ne_eqb, false≢true}
 use Rattle.std.proofs.lemmas.List.{get_or_default, get_or_append_left}
 use Rattle.std.specs.declared.sync.Arc.{Arc}
 use Rattle.std.specs.Arc.{arc_value}
-use Rattle.plan_ir.specs.Plans.{StepView, inputs_at, users_of}
+use Rattle.plan_ir.specs.Plans.{StepView, inputs_at, op_at, users_of}
 use Rattle.plan_ir.specs.declared.values.Value.{Value}
 use Rattle.plan_compiler.specs.Compiled.{IsFirstInput}
+use Rattle.plan_compiler.specs.Meaning.{before_total, before_value}
 use Rattle.step_scheduler.specs.declared.progress.Progress.{Progress}
 use Rattle.step_scheduler.specs.declared.progress.Progress.TheVariants.{Waiting, Taken, Done}
 use Rattle.step_scheduler.specs.Jobs.{JobView, inputs_for, meaning_at}
 use Rattle.step_scheduler.specs.near.Steps.{was_taken, is_done, progress_at, CanStart}
 use Rattle.step_scheduler.specs.near.Counts.{times}
 use Rattle.step_scheduler.specs.near.Keeping.{Place, is_full, value_in, place_at, kept_at, AreKept, KeepsMeanings}
-use Rattle.step_scheduler.specs.near.Keeping.{IsSpent, IsKept, IsOnlyUser, IsHanded}
+use Rattle.step_scheduler.specs.near.Keeping.{IsSpent, IsKept, IsOnlyUser, IsHanded, IsMoved, AreMoved, MayMove}
+use Rattle.step_scheduler.specs.near.Keeping.{IsGiven, AreGiven, is_net_value}
 use Rattle.step_scheduler.proofs.BoardLemmas.{map_same, true_or_false}
 use Rattle.step_scheduler.proofs.Counting.{stands}
 use Rattle.step_scheduler.proofs.UserLemmas.{HasUsers}
@@ -35,7 +37,7 @@ still_spent : (plan : List StepView) (steps : List Progress) (k j : ℕ) (p : Pr
     → was_taken p ≡ true → IsSpent plan steps j → IsSpent plan (slice_set steps k p) j
 still_spent plan steps k j p h taken_p s = record {
   users_taken = λ m l some. still_taken steps k m p h taken_p (s.users_taken m l some);
-  is_first = s.is_first;
+  may_move = s.may_move;
 }
 
 -- a step that another event is about is done as before
@@ -88,12 +90,12 @@ module _ (job : JobView) (steps : List Progress) (places : List Place) (kept : I
   start_fed k s = map_same _ _ _ (λ i d l. kept.means _ (start_kept k s i d l))
 
   -- what is done and no step's first input is kept
-  pub kept_at_end : (j : ℕ) → is_done (progress_at steps j) ≡ true → (IsFirstInput job.set.plan j → ⊥)
+  pub kept_at_end : (j : ℕ) → is_done (progress_at steps j) ≡ true → (MayMove job.set.plan j → ⊥)
       → is_full (place_at places j) ≡ true
   kept_at_end j done stays =
       elim (true_or_false (is_full (place_at places j))) [
         | inl full ↦ full
-        | inr empty ↦ absurd (stays (kept.here j done empty).is_first)
+        | inr empty ↦ absurd (stays (kept.here j done empty).may_move)
       ]
 
   kept_same : (k : ℕ) → k < length steps → IsKept job (slice_set steps k Taken) places
@@ -103,9 +105,10 @@ module _ (job : JobView) (steps : List Progress) (places : List Place) (kept : I
     here = λ j done empty. still_spent job.set.plan steps k j Taken h refl (kept.here j (done_taken steps k j h done) empty);
   }
 
-  kept_moved : (k i : ℕ) → k < length steps → i < length places → k < length job.set.plan
-      → IsOnlyUser job.set.plan k i → IsKept job (slice_set steps k Taken) (slice_set places i None)
-  kept_moved k i h at in_plan only = record {
+  -- the value of a step may be moved to its only user, which was taken
+  kept_without : (k i : ℕ) → was_taken (progress_at steps k) ≡ true → i < length places → IsOnlyUser job.set.plan k i
+      → IsKept job steps (slice_set places i None)
+  kept_without k i taken at user = record {
     long = length-set places i None ∙ kept.long;
     means = λ j full. elim (cases_eq j i) [
       | inl same ↦
@@ -118,16 +121,22 @@ module _ (job : JobView) (steps : List Progress) (places : List Place) (kept : I
           ap value_in same_place ∙ kept.means j (ap is_full (sym same_place) ∙ full)
     ];
     here = λ j done empty. elim (cases_eq j i) [
-      | inl same ↦ subst (λ (x : ℕ). IsSpent job.set.plan (slice_set steps k Taken) x) (sym same) (record {
-        users_taken = λ m l some. subst (λ (x : ℕ). was_taken (progress_at (slice_set steps k Taken) x) ≡ true)
-            (sym (only.only m l some)) (ap was_taken (get_or-set_same steps k Taken Waiting h));
-        is_first = record { user = k; in_range = in_plan; some = only.some; is = only.first };
+      | inl same ↦ subst (λ (x : ℕ). IsSpent job.set.plan steps x) (sym same) (record {
+        users_taken = λ m l some. subst (λ (x : ℕ). was_taken (progress_at steps x) ≡ true) (sym (user.only m l some)) taken;
+        may_move = user.may_move;
       })
-      | inr other ↦
-          still_spent job.set.plan steps k j Taken h refl (kept.here j (done_taken steps k j h done)
-          (ap is_full (sym (get_or-set_other places i j None None other)) ∙ empty))
+      | inr other ↦ kept.here j done (ap is_full (sym (get_or-set_other places i j None None other)) ∙ empty)
     ];
   }
+
+  -- so is one that was moved, or not
+  kept_after : (k i : ℕ) (places' : List Place) → was_taken (progress_at steps k) ≡ true
+      → ((places' ≡ places) ⊎ IsMoved job.set.plan k i places places') → IsKept job steps places'
+  kept_after k i places' taken moved =
+      elim moved [
+        | inl same ↦ subst (λ (ps : List Place). IsKept job steps ps) (sym same) kept
+        | inr out ↦ subst (λ (ps : List Place). IsKept job steps ps) (sym out.after) (kept_without k i taken out.in_range out.only_user)
+      ]
 
   -- its own place may be emptied, since it has had no value
   kept_emptied : (k : ℕ) → k < length steps → IsKept job (slice_set steps k Taken) (slice_set places k None)
@@ -157,21 +166,6 @@ module _ (job : JobView) (steps : List Progress) (places : List Place) (kept : I
         ];
       }
 
-  -- after step k is handed out
-  pub kept_takes : (k : ℕ) (places' : List Place) → CanStart job.set.plan steps k → IsHanded job.set.plan k places places'
-      → IsKept job (slice_set steps k Taken) places'
-  kept_takes k places' s handed =
-      let h : k < length steps = let r = s.in_range in omega arith in
-      elim handed [
-        | inl same ↦ subst (λ (ps : List Place). IsKept job (slice_set steps k Taken) ps) (sym same) (kept_same k h)
-        | inr (inl moved) ↦
-            let i : ℕ = slice_index (inputs_at job.set.plan k) 0 in
-            subst (λ (ps : List Place). IsKept job (slice_set steps k Taken) ps) (sym moved.after)
-            (kept_moved k i h moved.in_range s.in_range moved.only_user)
-        | inr (inr emptied) ↦
-            subst (λ (ps : List Place). IsKept job (slice_set steps k Taken) ps) (sym emptied) (kept_emptied k h)
-      ]
-
   -- after step k gets its value
   pub kept_finishes : (k : ℕ) (v : Arc Value Global) → k < length steps → was_taken (progress_at steps k) ≡ true
       → arc_value v ≡ meaning_at job k → IsKept job (slice_set steps k Done) (slice_set places k (Some v))
@@ -192,6 +186,37 @@ module _ (job : JobView) (steps : List Progress) (places : List Place) (kept : I
               (ap is_full (sym (get_or-set_other places k j (Some v) None other)) ∙ empty))
         ];
       }
+
+-- after step k is handed out
+pub kept_takes : (job : JobView) (steps : List Progress) (places : List Place) → IsKept job steps places
+    → length steps ≡ length job.set.plan → (k : ℕ) (places' : List Place) → CanStart job.set.plan steps k
+    → IsHanded job.set.plan k places places' → IsKept job (slice_set steps k Taken) places'
+kept_takes job steps places kept long k places' s handed =
+    let h : k < length steps = let r = s.in_range in omega arith in
+    let long' : length (slice_set steps k Taken) ≡ length job.set.plan = length-set steps k Taken ∙ long in
+    let taken : was_taken (progress_at (slice_set steps k Taken) k) ≡ true =
+    ap was_taken (get_or-set_same steps k Taken Waiting h) in
+    elim handed [
+      | inl moved ↦
+          let same = kept_same job steps places kept long k h in
+          let first = kept_after job (slice_set steps k Taken) places same long' k moved.one moved.between taken moved.first in
+          kept_after job (slice_set steps k Taken) moved.between first long' k moved.other places' taken moved.second
+      | inr emptied ↦
+          subst (λ (ps : List Place). IsKept job (slice_set steps k Taken) ps) (sym emptied) (kept_emptied job steps places kept long k h)
+    ]
+
+-- what is no step's first input, and no option value of a commodity, stays
+pub stays_kept : (plan : List StepView) (j : ℕ) → (IsFirstInput plan j → ⊥) → is_net_value (op_at plan j) ≡ false
+    → MayMove plan j → ⊥
+stays_kept plan j stays other may = elim may [ inl first ↦ stays first | inr value ↦ false≢true (sym other ∙ value) ]
+
+pub total_stays : (n : ℕ) → is_net_value (before_total n) ≡ false
+total_stays zero = refl
+total_stays (suc n) = refl
+
+pub value_stays : (n : ℕ) → is_net_value (before_value n) ≡ false
+value_stays zero = refl
+value_stays (suc n) = refl
 
 -- a new board
 
@@ -218,19 +243,75 @@ one_element x y [] e hx hy = absurd (omega arith)
 one_element x y (z ∷ []) e hx hy = sym (in_one x z hx) ∙ in_one y z hy
 one_element x y (z ∷ w ∷ ws) e hx hy = absurd (omega arith)
 
--- where the first input of step k has one user, that is k
-pub only_user : (plan : List StepView) (k i : ℕ) → HasUsers plan → k < length plan → 0 < length (inputs_at plan k)
-    → slice_index (inputs_at plan k) 0 ≡ i → length (users_of plan i) ≡ 1 → IsOnlyUser plan k i
-only_user plan k i has h some first one = record {
-  some = some;
-  first = first;
+-- as many places as before
+given_long : (plan : List StepView) (i : ℕ) (old new : List Place) → IsGiven plan i old new → length new ≡ length old
+given_long plan i old new given = elim given [
+  | inl same ↦ ap length same
+  | inr out ↦ ap length out.1 ∙ length-set old i None
+]
+
+-- another place is as before
+pub given_other : (plan : List StepView) (i j : ℕ) (old new : List Place) → IsGiven plan i old new → (i ≡ j → ⊥)
+    → place_at new j ≡ place_at old j
+given_other plan i j old new given other = elim given [
+  | inl same ↦ ap (λ (ps : List Place). place_at ps j) same
+  | inr out ↦ ap (λ (ps : List Place). place_at ps j) out.1 ∙ get_or-set_other old i j None None (λ e. other (sym e))
+]
+
+-- no input of a step stands twice
+pub times_once : (plan : List StepView) (k : ℕ) → HasUsers plan → k < length plan → (i : ℕ) → times i (inputs_at plan k) ≤ 1
+times_once plan k has h i = let a = has.same i k h in let b = has.once i k in omega arith
+
+-- where none stands twice, the first two differ
+pub two_differ : (inputs : List ℕ) → 2 ≤ length inputs → ((i : ℕ) → times i inputs ≤ 1)
+    → slice_index inputs 0 ≡ slice_index inputs 1 → ⊥
+two_differ [] some once same = absurd (omega arith)
+two_differ (a ∷ []) some once same = absurd (omega arith)
+two_differ (a ∷ b ∷ inputs) some once same =
+    let twice = rw (eq-eqb a a refl, eq-eqb b a (sym same)) at (once a) in absurd (omega arith)
+
+-- where an input of step k has one user, that is k
+pub only_user : (plan : List StepView) (k i : ℕ) → HasUsers plan → k < length plan → 0 < times i (inputs_at plan k)
+    → length (users_of plan i) ≡ 1 → MayMove plan i → IsOnlyUser plan k i
+only_user plan k i has h k_uses one may = record {
+  may_move = may;
   only = λ j l used.
-      let k_uses : 0 < times i (inputs_at plan k) = subst (λ (x : ℕ). 0 < times x (inputs_at plan k)) first
-      (stands (inputs_at plan k) 0 some) in
       let a = has.same i j l in
       let b = has.same i k h in
       one_element j k (users_of plan i) one (omega arith) (omega arith);
 }
+
+input_stands : (inputs : List ℕ) (n : ℕ) → n < length inputs → 0 < times (slice_index inputs n) inputs
+input_stands inputs n l = stands inputs n l
+
+-- what was given of a step's inputs was moved to it
+pub moved_to : (plan : List StepView) (k : ℕ) (old new : List Place) → HasUsers plan → k < length plan
+    → length old ≡ length plan → All (λ i. i < length plan) (inputs_at plan k) → 0 < length (inputs_at plan k)
+    → AreGiven plan (inputs_at plan k) old new → AreMoved plan k old new
+moved_to plan k old new has h long range some given =
+    let inputs : List ℕ = inputs_at plan k in
+    record {
+      one = slice_index inputs 0;
+      other = slice_index inputs 1;
+      between = given.between;
+      first = elim given.first [
+        | inl same ↦ inl same
+        | inr out ↦ inr (record {
+          only_user = only_user plan k _ has h (input_stands inputs 0 some) out.0
+              (inl (record { user = k; in_range = h; some = some; is = refl }));
+          in_range = let r = range 0 0 some in omega arith;
+          after = out.1;
+        })
+      ];
+      second = elim given.second [
+        | inl same ↦ inl same
+        | inr out ↦ inr (record {
+          only_user = only_user plan k _ has h (input_stands inputs 1 out.0) (out.1).alone (inr (out.1).net_value);
+          in_range = let r = range 1 0 out.0 in let e = given_long plan _ old given.between given.first in omega arith;
+          after = (out.1).after;
+        })
+      ];
+    }
 
 pub not_none : (n : ℕ) → (n == 0) ≡ false → 0 < n
 not_none zero e = absurd (false≢true (sym e))

@@ -104,6 +104,7 @@ impl Board {
     /// Hands out a ready step, with the values of its inputs.
     ///
     /// `None` where no step is ready or the board has failed. `Err` is want of memory. After either the board is as it was.
+    #[inline(always)]
     pub fn take_ready(&mut self) -> Result<Option<Task>, AllocError>
         ensures same_job { self.new.job ≡ self.old.job }
         ensures ready { IfOk result (λ r. IfSome r (λ task. IsReady self.old.job.set.plan self.old.history task.step)) }
@@ -134,6 +135,7 @@ impl Board {
     ///
     /// The mark that there was none for the value makes the board failed. Refused is, first, every step where the board has
     /// failed, and then one that is not under way; the board is then as it was. The step's job is the board's.
+    #[inline(always)]
     pub fn finish(&mut self, finished: Finished) -> Result<(), Refused>
         requires { finished.job ≡ self.old.job }
         ensures same_job { self.new.job ≡ self.old.job }

@@ -31,7 +31,7 @@ pub(crate) fn counters(alloc: Global, plan: &Plan) -> Result<(Vec<u8>, Vec<u32>)
     let mut ready = Vec::with_capacity(alloc, count)?;
     for k in 0..count {
         let inputs = plan.inputs(k).len();
-        missing.push(inputs as u8)?;
+        missing.push_reserved(inputs as u8);
         if inputs == 0 {
             ready.push(k as u32)?;
         }

@@ -4,6 +4,7 @@ ghost use Rattle.std.specs.Arc.{arc_value};
 ghost use Rattle.span_tables.specs.Holdings.{fits};
 ghost use Rattle.span_tables.specs.declared.portfolios.Holding.{Holding};
 ghost use Rattle.plan_ir.specs.Apply.{IsInPlace, Takes, value_on};
+ghost use Rattle.plan_ir.specs.declared.values.Value.TheVariants as value;
 ghost use Rattle.step_scheduler.specs.Jobs.{inputs_for, meaning_at};
 ghost use Rattle.step_scheduler.specs.near.Tasks.{found_in, inputs_in};
 
@@ -11,16 +12,19 @@ use crate::finished::Finished;
 use crate::inputs::Given;
 use crate::jobs::Job;
 use crate::tasks::Task;
+use inter_credit::option_value::net_value;
 use plan_compiler::set::CompiledSet;
 use plan_ir::evaluation::{apply, apply_beside, apply_in_place, changes_nothing, is_in_place};
 use plan_ir::ops::Op;
 use plan_ir::values::Value;
+use span_money::amounts::Money;
 use span_tables::portfolios::Portfolio;
 use span_tables::tables::Tables;
 use std::alloc::{AllocError, Global};
 use std::sync::Arc;
 
 /// The value of a task's step, or the mark that there was no memory for it.
+#[inline(always)]
 pub fn evaluate(alloc: Global, task: Task) -> Finished
     ensures job { result.job ≡ task.job }
     ensures step { result.step ≡ task.step }
@@ -32,6 +36,7 @@ pub fn evaluate(alloc: Global, task: Task) -> Finished
 }
 
 // The value of a step, from what its task is given. `None` is want of memory.
+#[inline(always)]
 fn value_of(alloc: Global, job: &Arc<Job>, step: u32, given: Given) -> Option<Arc<Value>>
     requires in_range { step < length (arc_value job.now).set.plan }
     requires fed { inputs_in given ≡ inputs_for (arc_value job.now) step }
@@ -43,11 +48,74 @@ fn value_of(alloc: Global, job: &Arc<Job>, step: u32, given: Given) -> Option<Ar
     match given {
         Given::Found(value) => Some(value),
         Given::Nothing => new_without_inputs(alloc, set.tables(), job.portfolio(), op),
-        Given::Inputs { first, rest } => computed(alloc, set, op, first, rest.as_slice()),
+        Given::One(first) => from_one(alloc, set, op, first),
+        Given::Two(first, second) => from_two(alloc, set, op, first, second),
+        Given::Three(first, b, c) => from_many(alloc, set, op, first, &[b, c]),
+        Given::Four(first, b, c, d) => from_many(alloc, set, op, first, &[b, c, d]),
+        Given::Five(first, b, c, d, e) => from_many(alloc, set, op, first, &[b, c, d, e]),
     }
 }
 
+// The value of an operation that has one input. `None` is want of memory.
+#[inline(always)]
+fn from_one(alloc: Global, set: &CompiledSet, op: Op, first: Arc<Value>) -> Option<Arc<Value>>
+    requires { Takes set.now.tables op (arc_value first ∷ []) }
+    ensures { IfSome result (λ v. (holdings : List Holding)
+        → arc_value v ≡ value_on set.now.tables holdings op (arc_value first ∷ [])) }
+{
+    if let Op::NetValue(_) = op {
+        return as_amount(alloc, set, net_value(first.held()));
+    }
+    computed(alloc, set, op, first, &[])
+}
+
+// The value of an operation that has two inputs. `None` is want of memory.
+#[inline(always)]
+fn from_two(
+    alloc: Global,
+    set: &CompiledSet,
+    op: Op,
+    first: Arc<Value>,
+    second: Arc<Value>,
+) -> Option<Arc<Value>>
+    requires { Takes set.now.tables op (arc_value first ∷ arc_value second ∷ []) }
+    ensures { IfSome result (λ v. (holdings : List Holding)
+        → arc_value v ≡ value_on set.now.tables holdings op (arc_value first ∷ arc_value second ∷ [])) }
+{
+    if matches!(op, Op::ValueAdd(_)) && second.amount().get() == 0 {
+        return Some(first);
+    }
+    from_many(alloc, set, op, first, &[second])
+}
+
+// An amount as a value that can be shared: that of the set, where it is 0. `None` is want of memory.
+fn as_amount(alloc: Global, set: &CompiledSet, amount: Money) -> Option<Arc<Value>>
+    ensures { IfSome result (λ v. arc_value v ≡ value.Amount amount) }
+{
+    if amount.get() == 0 {
+        return Arc::try_clone(set.nothing_held().amount()).ok();
+    }
+    Arc::new(alloc, Value::Amount(amount)).ok()
+}
+
+// The value of an operation that has three inputs or more. `None` is want of memory.
+#[inline(never)]
+fn from_many(
+    alloc: Global,
+    set: &CompiledSet,
+    op: Op,
+    first: Arc<Value>,
+    rest: &[Arc<Value>],
+) -> Option<Arc<Value>>
+    requires { Takes set.now.tables op (arc_value first ∷ map arc_value rest.now) }
+    ensures { IfSome result (λ v. (holdings : List Holding)
+        → arc_value v ≡ value_on set.now.tables holdings op (arc_value first ∷ map arc_value rest.now)) }
+{
+    computed(alloc, set, op, first, rest)
+}
+
 // The value of an operation that has inputs. `None` is want of memory.
+#[inline(always)]
 fn computed(
     alloc: Global,
     set: &CompiledSet,

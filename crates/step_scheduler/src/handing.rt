@@ -1,16 +1,20 @@
 //! Tasks, made of the values that a board keeps.
-ghost use Rattle.std.specs.Prelude.{◌≡◌, ◌<◌, ◌⊎◌, All, IfOk, IfSome, OnOk, OnErr, None, length, map, true, slice_set};
+ghost use Rattle.std.specs.Prelude.{◌≡◌, ◌<◌, ◌≤◌, ℕ, [], ◌∷◌, All, IfOk, IfSome, IsTrue, OnOk, OnErr, None};
+ghost use Rattle.std.specs.Prelude.{length, map, true, slice_index, slice_set};
 ghost use Rattle.std.specs.Arc.{arc_value};
-ghost use Rattle.plan_ir.specs.Plans.{inputs_at, users_of};
+ghost use Rattle.plan_ir.specs.Plans.{inputs_at, op_at, users_of};
 ghost use Rattle.plan_ir.specs.declared.plans.TheConstants.{MAX_INPUTS};
 ghost use Rattle.step_scheduler.specs.Jobs.{inputs_for, meaning_at};
-ghost use Rattle.step_scheduler.specs.near.Keeping.{AreKept, IsHanded, KeepsMeanings, is_full, kept_at, place_at};
+ghost use Rattle.step_scheduler.specs.near.Counts.{times};
+ghost use Rattle.step_scheduler.specs.near.Keeping.{AreGiven, AreKept, IsGiven, IsHanded, KeepsMeanings};
+ghost use Rattle.step_scheduler.specs.near.Keeping.{is_full, is_net_value, kept_at, place_at};
 ghost use Rattle.step_scheduler.specs.near.Kept.{AreHoldsOn};
-ghost use Rattle.step_scheduler.specs.near.Tasks.{items_of};
+ghost use Rattle.step_scheduler.specs.near.Tasks.{found_in, inputs_in};
 
-use crate::inputs::{Given, Rest};
+use crate::inputs::Given;
 use crate::jobs::Job;
 use crate::tasks::Task;
+use plan_ir::ops::Op;
 use plan_ir::plans::Plan;
 use plan_ir::values::Value;
 use std::alloc::AllocError;
@@ -19,6 +23,7 @@ use std::sync::Arc;
 // The task of a step that can be handed out.
 //
 // The value of its first input is moved to it, where it is the only user, and so is what was found of its own value.
+#[inline(always)]
 pub(crate) fn task_of(
     job: &Arc<Job>,
     spare: &mut Vec<Arc<Job>>,
@@ -48,9 +53,110 @@ pub(crate) fn task_of(
         };
         return Ok(Task::new(hold, step, given));
     }
-    let rest = rest_of(places.as_slice(), &inputs[1..])?;
-    let first = first_of(plan, places, inputs[0] as usize)?;
-    Ok(Task::new(hold, step, Given::Inputs { first, rest }))
+    let given = inputs_of(plan, places, inputs)?;
+    Ok(Task::new(hold, step, given))
+}
+
+// The values of the inputs of a step. Holds come before the first move, so want of memory changes nothing.
+#[inline(always)]
+fn inputs_of(
+    plan: &Plan,
+    places: &mut Vec<Option<Arc<Value>>>,
+    inputs: &[u32],
+) -> Result<Given, AllocError>
+    requires some { 0 < length inputs.now }
+    requires few { length inputs.now ≤ MAX_INPUTS }
+    requires long { length places.old.items ≡ length plan.now }
+    requires in_range { All (λ i. i < length places.old.items) inputs.now }
+    requires once { (i : ℕ) → times i inputs.now ≤ 1 }
+    requires kept { AreKept places.old.items inputs.now }
+    ensures inputs { IfOk result (λ given. inputs_in given ≡ map (kept_at places.old.items) inputs.now) }
+    ensures found { IfOk result (λ given. found_in given ≡ None) }
+    ensures handed { OnOk result (AreGiven plan.now inputs.now places.old.items places.new.items) }
+    ensures err { OnErr result (places.new.items ≡ places.old.items) }
+{
+    match inputs {
+        [a] => Ok(Given::One(first_of(plan, places, *a as usize)?)),
+        [a, b] => two_of(plan, places, *a as usize, *b as usize),
+        _ => many_of(plan, places, inputs),
+    }
+}
+
+// The values of two inputs. An option value of a commodity is moved to its only user too.
+#[inline(always)]
+fn two_of(
+    plan: &Plan,
+    places: &mut Vec<Option<Arc<Value>>>,
+    first: usize,
+    second: usize,
+) -> Result<Given, AllocError>
+    requires long { length places.old.items ≡ length plan.now }
+    requires first_in_range { first < length places.old.items }
+    requires second_in_range { second < length places.old.items }
+    requires distinct { first ≡ second → ⊥ }
+    requires first_kept { is_full (place_at places.old.items first) ≡ true }
+    requires second_kept { is_full (place_at places.old.items second) ≡ true }
+    ensures inputs { IfOk result (λ given. inputs_in given
+        ≡ kept_at places.old.items first ∷ kept_at places.old.items second ∷ []) }
+    ensures found { IfOk result (λ given. found_in given ≡ None) }
+    ensures handed { OnOk result (AreGiven plan.now (first ∷ second ∷ []) places.old.items places.new.items) }
+    ensures err { OnErr result (places.new.items ≡ places.old.items) }
+{
+    if is_passed_on(plan, second) {
+        let first = first_of(plan, places, first)?;
+        let second = moved(places, second);
+        return Ok(Given::Two(first, second));
+    }
+    let second = hold_at(places.as_slice(), second)?;
+    let first = first_of(plan, places, first)?;
+    Ok(Given::Two(first, second))
+}
+
+// The values of three inputs or more.
+#[inline(never)]
+fn many_of(
+    plan: &Plan,
+    places: &mut Vec<Option<Arc<Value>>>,
+    inputs: &[u32],
+) -> Result<Given, AllocError>
+    requires many { 2 < length inputs.now }
+    requires few { length inputs.now ≤ MAX_INPUTS }
+    requires long { length places.old.items ≡ length plan.now }
+    requires in_range { All (λ i. i < length places.old.items) inputs.now }
+    requires kept { AreKept places.old.items inputs.now }
+    ensures inputs { IfOk result (λ given. inputs_in given ≡ map (kept_at places.old.items) inputs.now) }
+    ensures found { IfOk result (λ given. found_in given ≡ None) }
+    ensures handed { OnOk result (IsGiven plan.now (slice_index inputs.now 0) places.old.items places.new.items) }
+    ensures err { OnErr result (places.new.items ≡ places.old.items) }
+{
+    let held = places.as_slice();
+    match inputs {
+        [a, b, c] => {
+            let (b, c) = (hold_at(held, *b as usize)?, hold_at(held, *c as usize)?);
+            Ok(Given::Three(first_of(plan, places, *a as usize)?, b, c))
+        }
+        [a, b, c, d] => {
+            let (b, c) = (hold_at(held, *b as usize)?, hold_at(held, *c as usize)?);
+            let d = hold_at(held, *d as usize)?;
+            Ok(Given::Four(first_of(plan, places, *a as usize)?, b, c, d))
+        }
+        [a, b, c, d, e] => {
+            let (b, c) = (hold_at(held, *b as usize)?, hold_at(held, *c as usize)?);
+            let (d, e) = (hold_at(held, *d as usize)?, hold_at(held, *e as usize)?);
+            Ok(Given::Five(first_of(plan, places, *a as usize)?, b, c, d, e))
+        }
+        _ => unreachable!(),
+    }
+}
+
+// Whether the value of a step is moved to its only user, also where that has it behind another input: the option value of a
+// commodity is. Figures are not: the board keeps them to the end.
+fn is_passed_on(plan: &Plan, step: usize) -> bool
+    requires { step < length plan.now }
+    ensures net_value { IsTrue result → is_net_value (op_at plan.now step) ≡ true }
+    ensures alone { IsTrue result → length (users_of plan.now step) ≡ 1 }
+{
+    matches!(plan.op(step), Op::NetValue(_)) && plan.users(step).len() == 1
 }
 
 // A hold on the job: a spare one, where there is one.
@@ -76,6 +182,7 @@ pub(crate) fn keep_hold(spare: &mut Vec<Arc<Job>>, hold: Arc<Job>)
 }
 
 // The value of a step: moved out to its only user, or a further hold on it.
+#[inline(always)]
 fn first_of(
     plan: &Plan,
     places: &mut Vec<Option<Arc<Value>>>,
@@ -85,8 +192,7 @@ fn first_of(
     requires in_plan { step < length plan.now }
     requires kept { is_full (place_at places.old.items step) ≡ true }
     ensures value { IfOk result (λ v. arc_value v ≡ kept_at places.old.items step) }
-    ensures handed { OnOk result ((places.new.items ≡ places.old.items)
-        ⊎ ((length (users_of plan.now step) ≡ 1) × (places.new.items ≡ slice_set places.old.items step None))) }
+    ensures handed { OnOk result (IsGiven plan.now step places.old.items places.new.items) }
     ensures err { OnErr result (places.new.items ≡ places.old.items) }
 {
     if plan.users(step).len() == 1 {
@@ -121,38 +227,12 @@ fn full(places: &[Option<Arc<Value>>], step: usize) -> &Arc<Value>
 }
 
 // A further hold on the value of a step.
-fn hold_at(places: &[Option<Arc<Value>>], step: u32) -> Result<Arc<Value>, AllocError>
+fn hold_at(places: &[Option<Arc<Value>>], step: usize) -> Result<Arc<Value>, AllocError>
     requires in_range { step < length places.now }
     requires kept { is_full (place_at places.now step) ≡ true }
     ensures { IfOk result (λ v. arc_value v ≡ kept_at places.now step) }
 {
-    Arc::try_clone(full(places, step as usize))
-}
-
-// Further holds on the values of these steps.
-fn rest_of(places: &[Option<Arc<Value>>], inputs: &[u32]) -> Result<Rest, AllocError>
-    requires few { length inputs.now < MAX_INPUTS }
-    requires in_range { All (λ i. i < length places.now) inputs.now }
-    requires kept { AreKept places.now inputs.now }
-    ensures { IfOk result (λ rest. map arc_value (items_of rest) ≡ map (kept_at places.now) inputs.now) }
-{
-    Ok(match inputs {
-        [] => Rest::Nothing,
-        [a] => Rest::One([hold_at(places, *a)?]),
-        [a, b] => Rest::Two([hold_at(places, *a)?, hold_at(places, *b)?]),
-        [a, b, c] => Rest::Three([
-            hold_at(places, *a)?,
-            hold_at(places, *b)?,
-            hold_at(places, *c)?,
-        ]),
-        [a, b, c, d] => Rest::Four([
-            hold_at(places, *a)?,
-            hold_at(places, *b)?,
-            hold_at(places, *c)?,
-            hold_at(places, *d)?,
-        ]),
-        _ => unreachable!(),
-    })
+    Arc::try_clone(full(places, step))
 }
 
 // The value of a step that is kept.

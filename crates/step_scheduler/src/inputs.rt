@@ -5,37 +5,16 @@ ghost use Rattle.step_scheduler.specs.near.Tasks.{items_of};
 use plan_ir::values::Value;
 use std::sync::Arc;
 
-// What a task is given: its step's own value, where that was found when the board was opened; no inputs; or the values of its
-// inputs, the first of them apart.
+// What a task is given: its step's own value, where that was found when the board was opened; or the values of its inputs.
+//
+// Each number of inputs has a variant of its own: a list would be moved whole at each step.
 #[derive(Drop)]
 pub(crate) enum Given {
     Found(Arc<Value>),
     Nothing,
-    Inputs { first: Arc<Value>, rest: Rest },
-}
-
-// The inputs behind the first: at most four values, in the task itself. An `ArrayVec` of them can't be made, since it fills its
-// unused places.
-#[derive(Drop)]
-pub(crate) enum Rest {
-    Nothing,
-    One([Arc<Value>; 1]),
-    Two([Arc<Value>; 2]),
-    Three([Arc<Value>; 3]),
-    Four([Arc<Value>; 4]),
-}
-
-impl Rest {
-    // The values, in their order.
-    pub(crate) fn as_slice(&self) -> &[Arc<Value>]
-        ensures { result.now ≡ items_of self.now }
-    {
-        match self {
-            Rest::Nothing => &[],
-            Rest::One(values) => values,
-            Rest::Two(values) => values,
-            Rest::Three(values) => values,
-            Rest::Four(values) => values,
-        }
-    }
+    One(Arc<Value>),
+    Two(Arc<Value>, Arc<Value>),
+    Three(Arc<Value>, Arc<Value>, Arc<Value>),
+    Four(Arc<Value>, Arc<Value>, Arc<Value>, Arc<Value>),
+    Five(Arc<Value>, Arc<Value>, Arc<Value>, Arc<Value>, Arc<Value>),
 }

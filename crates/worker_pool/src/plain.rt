@@ -54,6 +54,18 @@ fn margined<G: Gate>(
     Row::of(alloc, &board)
 }
 
+/// The row of an account under a set, on one thread. The portfolio fits the set's tables. `Err` is want of memory.
+pub fn run_account(
+    alloc: Global,
+    set: &Arc<CompiledSet>,
+    portfolio: Portfolio,
+) -> Result<Arc<Row>, AllocError>
+    requires { fits (length (arc_value set.now).tables.contracts) portfolio.holdings ≡ true }
+    ensures { IfOk result (λ row. arc_value row ≡ record { set = arc_value set.now; portfolio = portfolio }) }
+{
+    margined(alloc, set, portfolio, 0, &OpenGate)
+}
+
 // The outcome of an account under a set.
 fn outcome_of<G: Gate>(
     alloc: Global,

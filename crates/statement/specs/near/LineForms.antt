@@ -1,16 +1,8 @@
 -- The parts that the lines of a statement are written in: each field with the comma in front of it.
 use Rattle.std.specs.Prelude.{ℕ, List, [], ◌∷◌, ◌++◌, codes, flat_map, length, ℤ, pos}
-use Rattle.std.specs.Fmt.{signed_decimal}
+use Rattle.span_money.specs.LineFields.{field, number}
 use Rattle.span_tables.specs.Tables.{AcceptedTables}
 use Rattle.plan_ir.specs.declared.figures.Figures.{Figures}
-
--- a comma, and the bytes of a field
-abbrev pub field : List ℕ → List ℕ
-field text = 44 ∷ text
-
--- a comma, and a whole number
-abbrev pub number : ℤ → List ℕ
-number n = field (signed_decimal n)
 
 -- the figures of a commodity
 abbrev pub figures_fields : Figures → List ℕ

@@ -1,17 +1,10 @@
 -- The rows that a statement is written from, and what a book has of them.
-use Rattle.std.specs.Prelude.{◌≡◌, ◌+◌, ⊤, ℕ, List, [], ◌∷◌, bytes_eq, map, take}
-use Rattle.std.specs.List.{IsDistinct}
+use Rattle.std.specs.Prelude.{◌≡◌, ◌+◌, ⊤, ℕ, List, [], ◌∷◌, take}
 use Rattle.std.specs.Arc.{arc_value}
-use Rattle.span_tables.specs.Net.{AccountHoldings}
-use Rattle.plan_compiler.specs.Compiled.{SetView}
 use Rattle.result_book.specs.Books.{BookView, rows_of}
 use Rattle.result_book.specs.Rows.{RowView}
 use Rattle.worker_pool.specs.declared.outcomes.Outcome.{Outcome}
 use Rattle.worker_pool.specs.declared.outcomes.Outcome.TheVariants.{Margined, NoMemory}
-
--- the row of each portfolio under a set
-abbrev pub rows_under : SetView → List AccountHoldings → List RowView
-rows_under set portfolios = map (λ p. record { set = set; portfolio = p }) portfolios
 
 -- each outcome has its row
 abbrev pub AreRows : List Outcome → List RowView → Type 0
@@ -20,10 +13,6 @@ AreRows [] (r ∷ rows) = ⊥
 AreRows (Margined row ∷ outcomes) [] = ⊥
 AreRows (Margined row ∷ outcomes) (r ∷ rows) = (arc_value row ≡ r) × AreRows outcomes rows
 AreRows (NoMemory account ∷ outcomes) rows = ⊥
-
--- no account has two of the portfolios
-abbrev pub AreOnce : List AccountHoldings → Type 0
-AreOnce portfolios = IsDistinct bytes_eq (map (λ p. p.account) portfolios)
 
 -- one batch more is open, and it has the first of the rows, in their order
 pub record IsPartlyKept (before after : BookView) (rows : List RowView) : Type 0 where

@@ -1,5 +1,5 @@
 -- The second half of a roll, where the first statement is known and the positions are read.
-use Rattle.std.specs.Prelude.{◌≡◌, ℕ, List, [], ◌∷◌, ◌++◌, true, false, Result, Ok, Err}
+use Rattle.std.specs.Prelude.{◌≡◌, ℕ, List, [], ◌∷◌, ◌++◌, true, false, Result, Ok}
 use Rattle.span_tables.specs.Tables.{AcceptedTables}
 use Rattle.span_tables.specs.declared.records.PositionRecord.{PositionRecord}
 use Rattle.plan_compiler.specs.Compiled.{SetView}
@@ -7,7 +7,6 @@ use Rattle.statement.specs.Rolls.{Refuses, is_ok}
 use Rattle.statement.specs.SpanFaults.{of_next}
 use Rattle.statement.specs.Statement.{accepted_of, and_then, same, statement_bound}
 use Rattle.statement.specs.declared.faults.SpanFault.{SpanFault}
-use Rattle.statement.specs.declared.faults.SpanFault.TheVariants as fault
 
 -- the statement of position records under the next parameters, or the first fault, under the name that it has there
 unfoldable pub second_of : List ℕ → List PositionRecord → Result (List ℕ) SpanFault

@@ -54,6 +54,13 @@ fn lines_of_positions()
         ≡ codes "positions: B3 TooManyHeld at record 3 account A_B\n" }
 {}
 
+// An account that the positions do not have.
+fn lines_of_unknown_accounts()
+    ensures short { fault_line (span_fault.UnknownAccount (codes "X")) ≡ codes "positions: E1 UnknownAccount account X\n" }
+    ensures long { fault_line (span_fault.UnknownAccount (codes "ACCOUNT-1234567_"))
+        ≡ codes "positions: E1 UnknownAccount account ACCOUNT-1234567_\n" }
+{}
+
 // Parameters of the next set that are not read.
 fn lines_of_next_parameters()
     ensures p1 { fault_line (span_fault.NextParams (params.NoSet 0)) ≡ codes "next parameters: P1 NoSet at record 0\n" }

@@ -95,8 +95,9 @@ fn statuses_of_next_binding()
     ensures memory { fault_status (span_fault.NextBind bind.OutOfMemory) ≡ 5 }
 {}
 
-// Workers, a book, a shelf and want of memory.
+// An unknown account, workers, a book, a shelf and want of memory.
 fn statuses_of_the_rest()
+    ensures e1 { fault_status (span_fault.UnknownAccount (codes "X")) ≡ 4 }
     ensures workers { fault_status span_fault.Workers ≡ 2 }
     ensures k1 { fault_status (span_fault.Book book.NoSuchBatch) ≡ 7 }
     ensures k2 { fault_status (span_fault.Book book.AlreadyThere) ≡ 7 }

@@ -1,10 +1,9 @@
-use Rattle.std.proofs.Common.{rules, ◌≡◌, ◌∙◌, ◌+◌, ◌<◌, ℕ, Err, List, Bool, true, false, Option, None, map, take, length, get_or, refl, sym, ap, inl, inr, arith}
-use Rattle.std.specs.Prelude.{◌&&◌, nat_le, nat_lt, if◌then◌else◌, is_some}
-use Rattle.std.specs.Option.{unwrap_or}
+use Rattle.std.proofs.Common.{rules, ◌≡◌, ◌∙◌, ℕ, Err, List, true, None, take, get_or, refl, sym, ap, inr, arith}
+use Rattle.std.specs.Prelude.{nat_le, nat_lt}
 use Rattle.std.specs.Arc.{arc_value}
 use Rattle.std.proofs.lemmas.Bool.Decides.{nat_tests}
 use Rattle.std.proofs.lemmas.List.{take-map}
-use Rattle.result_book.specs.Books.{BookView, is_opened, put_fault, row_for, rows_of}
+use Rattle.result_book.specs.Books.{BookView, put_fault, row_for}
 use Rattle.result_book.specs.Rows.{RowView}
 use Rattle.result_book.specs.declared.books.BookFault.TheVariants as fault
 use Rattle.statement.proofs.AccountLemmas.{none_before}

@@ -1,4 +1,4 @@
-use Rattle.std.proofs.Common.{◌≡◌, ◌≢◌, ◌+◌, ◌<◌, ◌^◌, ℕ, List, map, take}
+use Rattle.std.proofs.Common.{◌≡◌, ◌≢◌, ◌+◌, ℕ, List, map, take}
 use Rattle.std.specs.Arc.{arc_value}
 use Rattle.result_book.specs.Books.{BookView, rows_of}
 use Rattle.result_book.specs.Rows.{RowView}

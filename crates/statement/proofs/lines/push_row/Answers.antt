@@ -10,6 +10,6 @@ pub loop-number-preserved : goal.loop-number-preserved
 loop-number-preserved c =
     let f = commodity_text c.args.row.now.set.tables c.args.row.now.portfolio in
     let n = c.loop-number.number in
-    c.in_ok-push_held.ensures ∙ ap (λ t. t ++ f n) c.loop-number.invariant
+    c.in_ok-push_commodity_of.ensures ∙ ap (λ t. t ++ f n) c.loop-number.invariant
     ∙ flat_map_more f c.args.out.now.items (range_with_len 0 n) n
     ∙ ap (λ ns. c.args.out.now.items ++ flat_map f ns) (sym (range_more n))

@@ -1,9 +1,9 @@
-use Rattle.std.proofs.Common.{◌≡◌, ◌∙◌, Err, map, rules}
+use Rattle.std.proofs.Common.{◌≡◌, ◌∙◌, Err, rules}
 use Rattle.std.specs.Arc.{arc_value}
 use Rattle.statement.proofs.AccountLemmas.{rows_once}
 use Rattle.statement.proofs.RollLemmas.{next_is_last, next_refuses, refused_rows, under_refuses, under_stands}
+use Rattle.statement.specs.Batches.{rows_under}
 use Rattle.statement.specs.SpanFaults.{of_book}
-use Rattle.statement.specs.near.Rows.{rows_under}
 use Rattle.statement.proofs.roll.roll_named.Goals as goal
 
 pub keep_rows-requires : goal.keep_rows-requires

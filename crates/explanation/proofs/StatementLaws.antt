@@ -1,0 +1,172 @@
+-- Of the lines of an explanation those of the statement are the statement.
+use Rattle.std.proofs.Common.{◌≡◌, ℕ, Bool, true, false, cond, List, [], ◌∷◌, ◌++◌, length, map, filter, flat_map, refl, sym, ap}
+use Rattle.std.proofs.Common.{◌∙◌, Ok, Err, Result}
+use Rattle.std.specs.Prelude.{None}
+use Rattle.std.specs.List.{range_with_len}
+use Rattle.std.proofs.lemmas.List.{append-nil, map-append}
+use Rattle.std.proofs.lemmas.List.Elements.{filter-append}
+use Rattle.std.proofs.lemmas.Grind.{flat_map-append}
+use Rattle.span_csv.specs.PositionFaults.{positions_of}
+use Rattle.span_csv.specs.declared.faults.PositionFault.{PositionFault}
+use Rattle.span_tables.specs.Net.{AccountHoldings}
+use Rattle.span_tables.specs.Tables.{AcceptedTables}
+use Rattle.span_tables.specs.declared.portfolios.Holding.{Holding}
+use Rattle.span_tables.specs.declared.records.PositionRecord.{PositionRecord}
+use Rattle.plan_ir.specs.Figures.{commodity_at, figures_of, held_at, is_held, option_value_of}
+use Rattle.reasons.specs.Reasons.{Reason, credit_reasons, held_reason, held_reasons, inter_reason, inters_shown_at, intra_reason}
+use Rattle.reasons.specs.Reasons.{intras_shown_at, month_reason, month_reasons, months_shown_at, reasons_of, scan_reasons}
+use Rattle.reasons.specs.Reasons.{credit_reason, line_after_all, short_reason, spot_reason, spots_shown_at}
+use Rattle.statement.specs.Statement.{accepted_of, and_then, commodity_text, figures_line, figures_record, line, portfolios_under}
+use Rattle.statement.specs.Statement.{row_text, same, statement_bound, statement_of, statement_text, statement_under, total_line}
+use Rattle.statement.specs.Statement.{total_numbers, total_of, total_record}
+use Rattle.statement.specs.declared.faults.SpanFault.{SpanFault}
+use Rattle.statement.specs.declared.faults.SpanFault.TheVariants as fault
+use Rattle.explanation.specs.Explanation.{account_lines, account_text, commodity_lines, explained, explanation_of, reason_line}
+use Rattle.explanation.specs.Laws.{is_of_statement}
+use Rattle.explanation.proofs.TextLemmas.{texts_of}
+
+-- the lines of the statement among some
+abbrev pub of_statement : List (List (List ℕ)) → List (List (List ℕ))
+of_statement lines = filter is_of_statement lines
+
+passed_if : (b : Bool) (l : List (List ℕ)) (ls : List (List (List ℕ))) → b ≡ false → cond b (l ∷ ls) ls ≡ ls
+passed_if true l ls e = cc
+passed_if false l ls e = refl
+
+-- ---- no reason is a line of the statement
+
+module _ (account set_id commodity : List ℕ) where
+  abbrev lines_of : List Reason → List (List (List ℕ))
+  lines_of rs = map (reason_line account set_id commodity) rs
+
+  none-append : (a b : List Reason) → of_statement (lines_of a) ≡ [] → of_statement (lines_of b) ≡ []
+      → of_statement (lines_of (a ++ b)) ≡ []
+  none-append a b none nor =
+      ap of_statement (map-append (reason_line account set_id commodity) a b)
+      ∙ filter-append is_of_statement (lines_of a) (lines_of b) ∙ (λ k. none k ++ nor k)
+
+  none-map : {A : Type 0} (f : A → Reason) → ((x : A) → is_of_statement (reason_line account set_id commodity (f x)) ≡ false)
+      → (xs : List A) → of_statement (lines_of (map f xs)) ≡ []
+  none-map f none [] = refl
+  none-map f none (x ∷ xs) =
+      let l = reason_line account set_id commodity (f x) in
+      passed_if (is_of_statement l) l (of_statement (lines_of (map f xs))) (none x) ∙ none-map f none xs
+
+  none_of_months : (t : AcceptedTables) (holdings : List Holding) (c : ℕ)
+      → of_statement (lines_of (month_reasons t holdings c)) ≡ []
+  none_of_months t holdings c =
+      let months = months_shown_at t holdings c in
+      let intras = intras_shown_at t holdings c in
+      let spots = spots_shown_at t holdings c in
+      none-append (map month_reason months) (map intra_reason intras ++ map spot_reason spots)
+      (none-map month_reason (λ m. refl) months)
+      (none-append (map intra_reason intras) (map spot_reason spots)
+      (none-map intra_reason (λ s. refl) intras) (none-map spot_reason (λ s. refl) spots))
+
+  none_of_credit : (t : AcceptedTables) (holdings : List Holding) (c : ℕ)
+      → of_statement (lines_of (credit_reasons t holdings c)) ≡ []
+  none_of_credit t holdings c =
+      let inters = inters_shown_at t holdings c in
+      none-append (map inter_reason inters) (credit_reason (line_after_all t holdings c) ∷ [])
+      (none-map inter_reason (λ s. refl) inters) refl
+
+  none_of_reasons : (t : AcceptedTables) (holdings : List Holding) (c : ℕ)
+      → of_statement (lines_of (reasons_of t holdings c)) ≡ []
+  unfolding reasons_of
+  none_of_reasons t holdings c =
+      let short = short_reason (commodity_at t c) (held_at t holdings c) ∷ [] in
+      let credit = credit_reasons t holdings c in
+      let months = month_reasons t holdings c in
+      let scan = scan_reasons t holdings c in
+      none-append (held_reasons t holdings c) (scan ++ (months ++ (credit ++ short)))
+      (none-map (held_reason t) (λ h. refl) (held_at t holdings c))
+      (none-append scan (months ++ (credit ++ short)) refl
+      (none-append months (credit ++ short) (none_of_months t holdings c)
+      (none-append credit short (none_of_credit t holdings c) refl)))
+
+-- ---- the lines of an account
+
+module _ (t : AcceptedTables) (p : AccountHoldings) where
+  commodity_if : (b : Bool) (c : ℕ)
+      → flat_map line (of_statement (cond b
+      (map (reason_line p.account t.set_id (commodity_at t c).id) (reasons_of t p.holdings c)
+      ++ figures_record p.account t.set_id (commodity_at t c).id (figures_of t p.holdings c) ∷ []) []))
+      ≡ cond b (figures_line p.account t.set_id (commodity_at t c).id (figures_of t p.holdings c)) []
+  unfolding figures_line
+  commodity_if true c =
+      let id = (commodity_at t c).id in
+      let reasons = map (reason_line p.account t.set_id id) (reasons_of t p.holdings c) in
+      let figures = figures_record p.account t.set_id id (figures_of t p.holdings c) in
+      ap (flat_map line) (filter-append is_of_statement reasons (figures ∷ []))
+      ∙ ap (λ ls. flat_map line (ls ++ figures ∷ [])) (none_of_reasons p.account t.set_id id t p.holdings c)
+      ∙ append-nil (line figures)
+  commodity_if false c = refl
+
+  commodity_contained : (c : ℕ) → flat_map line (of_statement (commodity_lines t p c)) ≡ commodity_text t p c
+  commodity_contained c = commodity_if (is_held t p.holdings c) c
+
+of_statement-flat_map : {A : Type 0} (f : A → List (List (List ℕ))) (xs : List A)
+    → flat_map line (of_statement (flat_map f xs)) ≡ flat_map (λ x. flat_map line (of_statement (f x))) xs
+of_statement-flat_map f [] = refl
+of_statement-flat_map f (x ∷ xs) =
+    ap (flat_map line) (filter-append is_of_statement (f x) (flat_map f xs))
+    ∙ flat_map-append line (of_statement (f x)) (of_statement (flat_map f xs))
+    ∙ ap (λ text. flat_map line (of_statement (f x)) ++ text) (of_statement-flat_map f xs)
+
+pub account_contained : (t : AcceptedTables) (p : AccountHoldings)
+    → flat_map line (of_statement (account_lines t p)) ≡ row_text t p
+unfolding row_text total_line
+account_contained t p =
+    let numbers = range_with_len 0 (length t.commodities) in
+    let lines = flat_map (commodity_lines t p) numbers in
+    let total = total_record p.account t.set_id (total_numbers t (total_of t p) (option_value_of t p.holdings)) in
+    ap (flat_map line) (filter-append is_of_statement lines (total ∷ []))
+    ∙ flat_map-append line (of_statement lines) (total ∷ [])
+    ∙ (λ k. of_statement-flat_map (commodity_lines t p) numbers k ++ append-nil (line total) k)
+    ∙ (λ k. flat_map (λ c. commodity_contained t p c k) numbers ++ line total)
+
+-- ---- of two files
+
+accounts_contained : (t : AcceptedTables) (portfolios : List AccountHoldings)
+    → flat_map line (of_statement (flat_map (account_lines t) portfolios)) ≡ statement_text t portfolios
+unfolding statement_text
+accounts_contained t portfolios =
+    of_statement-flat_map (account_lines t) portfolios ∙ (λ k. flat_map (λ p. account_contained t p k) portfolios)
+
+-- an explanation has lines, of which those of the statement are this text
+abbrev pub Contains : Result (List ℕ) SpanFault → List ℕ → Type 0
+Contains explanation text =
+    (lines : List (List (List ℕ))) × (explanation ≡ Ok (flat_map line lines)) × (flat_map line (of_statement lines) ≡ text)
+
+module _ (text : List ℕ) where
+  of_portfolios : (t : AcceptedTables) (r : Result (List AccountHoldings) SpanFault)
+      → and_then same r (λ portfolios. Ok (statement_text t portfolios)) ≡ Ok text
+      → Contains (and_then same r (λ portfolios. explained t portfolios None)) text
+  unfolding account_text
+  of_portfolios t (Ok portfolios) is = (
+    flat_map (account_lines t) portfolios,
+    ap Ok (sym (texts_of (account_lines t) portfolios)),
+    (let found : statement_text t portfolios ≡ text = cc in accounts_contained t portfolios ∙ found),
+  )
+  of_portfolios t (Err e) is = let none : ⊥ = cc in absurd none
+
+  of_positions : (t : AcceptedTables) (r : Result (List PositionRecord) PositionFault)
+      → and_then fault.Positions r (λ records. statement_bound t records) ≡ Ok text
+      → Contains (and_then fault.Positions r (λ records.
+      and_then same (portfolios_under t records) (λ portfolios. explained t portfolios None))) text
+  unfolding statement_bound
+  of_positions t (Ok records) is = of_portfolios t (portfolios_under t records) is
+  of_positions t (Err e) is = let none : ⊥ = cc in absurd none
+
+  of_tables : (positions : List ℕ) (r : Result AcceptedTables SpanFault)
+      → and_then same r (λ t. statement_under t positions) ≡ Ok text
+      → Contains (and_then same r (λ t. and_then fault.Positions (positions_of positions) (λ records.
+      and_then same (portfolios_under t records) (λ portfolios. explained t portfolios None)))) text
+  unfolding statement_under
+  of_tables positions (Ok t) is = of_positions t (positions_of positions) is
+  of_tables positions (Err e) is = let none : ⊥ = cc in absurd none
+
+pub files_contained : (params positions text : List ℕ) → statement_of params positions ≡ Ok text
+    → Contains (explanation_of params positions None) text
+unfolding statement_of explanation_of
+files_contained params positions text is = of_tables text positions (accepted_of params) is

@@ -1,0 +1,73 @@
+//! The lines of one account (docs/FORMATS.md, Explanation).
+ghost use Rattle.std.specs.Prelude.{◌≡◌, ◌++◌, ◌<◌, IfOk, OnOk, flat_map, length, true};
+ghost use Rattle.span_money.specs.LineFields.{field};
+ghost use Rattle.span_tables.specs.Holdings.{fits};
+ghost use Rattle.reasons.specs.Stages.{stages_of};
+ghost use Rattle.statement.specs.Statement.{line};
+ghost use Rattle.explanation.specs.Explanation.{account_text, commodity_lines};
+
+use reasons::stages::{Stages, push_reasons, stages_of};
+use result_book::rows::Row;
+use span_money::line_fields::push_field;
+use span_tables::name::Name;
+use statement::lines::{push_commodity_of, push_total_of};
+use std::alloc::{AllocError, Global};
+
+// The ids behind each word of a commodity's lines: those of the account, the set and the commodity.
+fn head_of(
+    alloc: Global,
+    account: &Name,
+    set_id: &Name,
+    commodity: &Name,
+) -> Result<Vec<u8>, AllocError>
+    ensures { IfOk result (λ head. head.items ≡ field account.now ++ (field set_id.now ++ field commodity.now)) }
+{
+    let mut head = Vec::new(alloc);
+    push_field(&mut head, account.as_bytes())?;
+    push_field(&mut head, set_id.as_bytes())?;
+    push_field(&mut head, commodity.as_bytes())?;
+    Ok(head)
+}
+
+// Appends the lines of an account for the commodity of a number, where it holds a contract of it.
+fn push_commodity(
+    alloc: Global,
+    out: &mut Vec<u8>,
+    row: &Row,
+    stages: &Stages,
+    number: usize,
+) -> Result<(), AllocError>
+    requires fits { fits (length row.now.set.tables.contracts) row.now.portfolio.holdings ≡ true }
+    requires number { number < length row.now.set.tables.commodities }
+    requires stages { stages.now ≡ stages_of row.now.set.tables row.now.portfolio.holdings }
+    ensures { OnOk result (out.new.items
+        ≡ out.old.items ++ flat_map line (commodity_lines row.now.set.tables row.now.portfolio number)) }
+{
+    if !row.held(number) {
+        return Ok(());
+    }
+    // Called for its clause: the holdings are those of a portfolio.
+    let _kept = row.portfolio().holdings();
+    let tables = row.set().tables();
+    let commodity = &tables.commodities()[number].id;
+    let head = head_of(alloc, row.account(), row.set_id(), commodity)?;
+    push_reasons(alloc, out, &head, tables, stages, number)?;
+    push_commodity_of(out, row, number)?;
+    Ok(())
+}
+
+/// Appends the lines of an account: for each commodity that it holds the reasons and the figures, and its total. `Err` is
+/// want of memory.
+#[tactic(auto, unfolding(crate::specs::Explanation::account_text))]
+pub(crate) fn push_account(alloc: Global, out: &mut Vec<u8>, row: &Row) -> Result<(), AllocError>
+    requires { fits (length row.now.set.tables.contracts) row.now.portfolio.holdings ≡ true }
+    ensures { OnOk result (out.new.items ≡ out.old.items ++ account_text row.now.set.tables row.now.portfolio) }
+{
+    let tables = row.set().tables();
+    let stages = stages_of(alloc, tables, row.portfolio())?;
+    for number in 0..tables.commodities().len() {
+        push_commodity(alloc, out, row, &stages, number)?;
+    }
+    push_total_of(out, row)?;
+    Ok(())
+}

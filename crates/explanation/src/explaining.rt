@@ -1,0 +1,122 @@
+//! From the bytes of both files to the bytes of an explanation (docs/FORMATS.md, Explanation).
+ghost use Rattle.std.specs.Arc.{arc_value};
+ghost use Rattle.std.specs.Prelude.{◌≡◌, ◌++◌, All, IfOk, IfSome, OnOk, bytes_eq, find, flat_map, length, true};
+ghost use Rattle.std.specs.Option.{option_copied};
+ghost use Rattle.span_tables.specs.Holdings.{fits};
+ghost use Rattle.statement.specs.Answers.{Gives};
+ghost use Rattle.statement.specs.declared.faults.SpanFault.TheVariants as fault;
+ghost use Rattle.explanation.specs.Explanation.{account_text, explained, explanation_of};
+
+use crate::accounts::push_account;
+use plan_compiler::set::CompiledSet;
+use span_tables::name::Name;
+use span_tables::portfolios::{Portfolio, Portfolios};
+use statement::accepting::{Accepted, accept};
+use statement::faults::SpanFault;
+use std::alloc::{AllocError, Global};
+use std::sync::Arc;
+use worker_pool::plain::run_account;
+
+// Appends the lines of the account of a portfolio under a set. Its figures come from a run of the plan.
+fn push_portfolio(
+    alloc: Global,
+    out: &mut Vec<u8>,
+    set: &Arc<CompiledSet>,
+    portfolio: Portfolio,
+) -> Result<(), AllocError>
+    requires { fits (length (arc_value set.now).tables.contracts) portfolio.holdings ≡ true }
+    ensures { OnOk result (out.new.items ≡ out.old.items ++ account_text (arc_value set.now).tables portfolio) }
+{
+    let row = run_account(alloc, set, portfolio)?;
+    push_account(alloc, out, &row)?;
+    Ok(())
+}
+
+// The lines of all accounts, in their order. One account after the other is in memory beside the text.
+fn all_lines(
+    alloc: Global,
+    set: &Arc<CompiledSet>,
+    portfolios: Vec<Portfolio>,
+) -> Result<Vec<u8>, AllocError>
+    requires { All (λ p. fits (length (arc_value set.now).tables.contracts) p.holdings ≡ true) portfolios.items }
+    ensures { IfOk result (λ text. text.items ≡ flat_map (account_text (arc_value set.now).tables) portfolios.items) }
+{
+    let mut out = Vec::new(alloc);
+    for portfolio in portfolios {
+        push_portfolio(alloc, &mut out, set, portfolio)?;
+    }
+    Ok(out)
+}
+
+// The portfolio of the account of a name, if there is one.
+fn portfolio_of(portfolios: Vec<Portfolio>, name: &Name) -> Option<Portfolio>
+    ensures { result ≡ find (λ p. bytes_eq p.account name.now) portfolios.items }
+{
+    portfolios
+        .into_iter()
+        .find(|portfolio| portfolio.account() == name)
+}
+
+// The lines of the account of a portfolio.
+fn lines_of(
+    alloc: Global,
+    set: &Arc<CompiledSet>,
+    portfolio: Portfolio,
+) -> Result<Vec<u8>, AllocError>
+    requires { fits (length (arc_value set.now).tables.contracts) portfolio.holdings ≡ true }
+    ensures { IfOk result (λ text. text.items ≡ account_text (arc_value set.now).tables portfolio) }
+{
+    let mut out = Vec::new(alloc);
+    push_portfolio(alloc, &mut out, set, portfolio)?;
+    Ok(out)
+}
+
+// The fault of a name that no account has.
+fn unknown(name: &Name) -> SpanFault
+    ensures { result ≡ fault.UnknownAccount name.now }
+{
+    SpanFault::UnknownAccount {
+        account: name.copied(),
+    }
+}
+
+// The lines of all accounts, or of the one of a name.
+fn explained(
+    alloc: Global,
+    set: &Arc<CompiledSet>,
+    portfolios: Portfolios,
+    account: Option<&Name>,
+) -> Result<Vec<u8>, SpanFault>
+    requires { All (λ p. fits (length (arc_value set.now).tables.contracts) p.holdings ≡ true) portfolios }
+    ensures { Gives (λ text. text.items) result
+        (explained (arc_value set.now).tables portfolios (option_copied account.entry)) }
+{
+    let portfolios = portfolios.into_vec();
+    let Some(name) = account else {
+        return Ok(all_lines(alloc, set, portfolios)?);
+    };
+    match portfolio_of(portfolios, name) {
+        Some(portfolio) => Ok(lines_of(alloc, set, portfolio)?),
+        None => Err(unknown(name)),
+    }
+}
+
+/// The explanation of two files, of all accounts or of the one of a name: the first fault in reading the parameters, checking
+/// them, reading the positions and binding them, and then that the positions do not have the account; or want of memory.
+#[tactic(auto, unfolding(crate::specs::Explanation::explanation_of))]
+pub fn explain(
+    alloc: Global,
+    params: &[u8],
+    positions: &[u8],
+    account: Option<&Name>,
+) -> Result<Vec<u8>, SpanFault>
+    ensures { Gives (λ text. text.items) result
+        (explanation_of params.now positions.now (option_copied account.entry)) }
+{
+    let Accepted {
+        set,
+        portfolios,
+        ..
+    } = accept(alloc, params, positions)?;
+    explained(alloc, &set, portfolios, account)
+}

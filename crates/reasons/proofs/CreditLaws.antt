@@ -1,0 +1,205 @@
+-- The net delta, the price risk and the weight of a commodity follow from its months, its scan and its spreads shown.
+use Rattle.std.proofs.Common.{◌≡◌, ℕ, zero, suc, ◌+◌, ◌*◌, ◌<◌, Bool, true, false, cond, List, [], ◌∷◌, length, refl, sym}
+use Rattle.std.proofs.Common.{ap, ◌∙◌, arith, filter, subst, sum_by, zero-add}
+use Rattle.std.specs.Prelude.{All, Some, ◌==◌, ℤ, ◌+ℤ◌, find, fold, option_map, pos}
+use Rattle.std.specs.List.{list_any}
+use Rattle.std.proofs.Math.Nat.{add-mul, zero-mul}
+use Rattle.std.proofs.lemmas.Bool.Decides.{nat_tests}
+use Rattle.std.proofs.lemmas.List.{length-map}
+use Rattle.std.proofs.lemmas.List.Elements.{All-head, All-tail}
+use Rattle.std.proofs.lemmas.List.Folds.{fold-map}
+use Rattle.std.proofs.lemmas.List.FromFn.{get_or-map-range_with_len, length-map-range_with_len}
+use Rattle.std.proofs.lemmas.List.Sums.{sum_by-append, sum_by-cons}
+use Rattle.std.proofs.lemmas.Option.{unwrap_or-slice_get}
+use Rattle.span_money.specs.Numbers.{int_sum_by}
+use Rattle.span_tables.specs.Accepted.{IsInter, IsWithinLimits}
+use Rattle.span_tables.specs.Names.{has_repeat}
+use Rattle.span_tables.specs.Sides.{market_side}
+use Rattle.span_tables.specs.Tables.{AcceptedTables, inter_spread, inters_of}
+use Rattle.span_tables.specs.declared.portfolios.Holding.{Holding}
+use Rattle.span_tables.specs.declared.records.CommodityLeg.{CommodityLeg}
+use Rattle.span_tables.specs.declared.records.Inter.{Inter}
+use Rattle.span_tables.specs.declared.records.InterRecord.{InterRecord}
+use Rattle.span_tables.specs.declared.sides.Direction.{Direction}
+use Rattle.span_tables.specs.declared.sides.Direction.TheVariants.{ALong, AShort}
+use Rattle.span_tables.specs.declared.sides.MarketSide.{MarketSide}
+use Rattle.span_tables.specs.declared.sides.SpreadsFormed.{SpreadsFormed}
+use Rattle.spread_stage.specs.Deltas.{units_at}
+use Rattle.spread_stage.specs.declared.months.MonthUnits.{MonthUnits}
+use Rattle.inter_credit.specs.Credits.{after_inter_spreads, change_at, formed_both, formed_in, inter_both_ways, inter_one_way}
+use Rattle.inter_credit.specs.Credits.{line_after, lines_after, unspread_line}
+use Rattle.inter_credit.specs.States.{line_at}
+use Rattle.inter_credit.specs.declared.state.InterLine.{InterLine}
+use Rattle.inter_credit.proofs.LineLemmas.{or_left, or_right}
+use Rattle.inter_credit.proofs.RestLaws.{length-inter_both_ways}
+use Rattle.inter_credit.proofs.WeightLaws.{weight-inter_both_ways}
+use Rattle.plan_ir.specs.Figures.{deltas_at, inter_lines, line_of, loaded_lines, scan_at, tiers_at}
+use Rattle.reasons.specs.Reasons.{inters_shown_at, line_after_all, months_shown_at}
+use Rattle.reasons.specs.Shown.{inter_in, inter_ways, inters_formed, inters_shown, ratio_in, weight_of}
+use Rattle.reasons.specs.declared.shown.ShownInter.{ShownInter}
+use Rattle.reasons.specs.declared.shown.ShownMonth.{ShownMonth}
+
+-- ---- what spreads keep of a line
+
+module _ {A : Type 0} (of : InterLine → A)
+    (keeps : (on : MarketSide) (used bp : ℕ) (line : InterLine) → of (line_after on used bp line) ≡ of line) where
+  kept_change : (on : MarketSide) (used bp i : ℕ) (lines : List InterLine) (k : ℕ)
+      → of (line_at (change_at (line_after on used bp) i lines) k) ≡ of (line_at lines k)
+  kept_change on used bp i [] k = refl
+  kept_change on used bp zero (line ∷ lines) zero = keeps on used bp line
+  kept_change on used bp zero (line ∷ lines) (suc k) = refl
+  kept_change on used bp (suc i) (line ∷ lines) zero = refl
+  kept_change on used bp (suc i) (line ∷ lines) (suc k) = kept_change on used bp i lines k
+
+  kept_legs : (d : Direction) (n bp : ℕ) (legs : List CommodityLeg) (lines : List InterLine) (k : ℕ)
+      → of (line_at (lines_after d n bp legs lines) k) ≡ of (line_at lines k)
+  kept_legs d n bp [] lines k = refl
+  kept_legs d n bp (leg ∷ legs) lines k =
+      kept_legs d n bp legs (change_at (line_after (market_side d leg.side) (n * leg.ratio) bp) leg.commodity lines) k
+      ∙ kept_change (market_side d leg.side) (n * leg.ratio) bp leg.commodity lines k
+
+  kept_ways : (lines : List InterLine) (s : Inter) (k : ℕ) → of (line_at (inter_both_ways lines s) k) ≡ of (line_at lines k)
+  unfolding inter_both_ways
+  kept_ways lines s k =
+      let first : List InterLine = inter_one_way s ALong lines in
+      kept_legs AShort (formed_in s AShort first) s.basis_points s.legs first k
+      ∙ kept_legs ALong (formed_in s ALong lines) s.basis_points s.legs lines k
+
+  kept : (spreads : List Inter) (lines : List InterLine) (k : ℕ)
+      → of (line_at (fold inter_both_ways lines spreads) k) ≡ of (line_at lines k)
+  kept [] lines k = refl
+  kept (s ∷ spreads) lines k = kept spreads (inter_both_ways lines s) k ∙ kept_ways lines s k
+
+-- the line that was loaded for a commodity
+loaded_at : (t : AcceptedTables) (holdings : List Holding) (c : ℕ) → c < length t.commodities
+    → line_at (loaded_lines t holdings) c ≡ line_of t holdings c
+loaded_at t holdings c lt =
+    let none = unspread_line (pos 0) 0 in
+    unwrap_or-slice_get (loaded_lines t holdings) c none
+    ∙ get_or-map-range_with_len (line_of t holdings) 0 (length t.commodities) c c none lt (zero-add c)
+
+pub net_shown : (t : AcceptedTables) (holdings : List Holding) (c : ℕ) → c < length t.commodities
+    → (line_after_all t holdings c).net ≡ int_sum_by (λ m. m.delta) (months_shown_at t holdings c)
+unfolding inter_lines after_inter_spreads
+net_shown t holdings c lt =
+    let rests = (tiers_at t holdings c).rests in
+    let shown : MonthUnits → ShownMonth = λ m. record { month = m.month; delta = m.units; left = units_at rests m.month } in
+    kept (λ line. line.net) (λ on used bp line. refl) (inters_of t) (loaded_lines t holdings) c
+    ∙ ap (λ (line : InterLine). line.net) (loaded_at t holdings c lt)
+    ∙ sym (fold-map (λ (z : ℤ) (m : ShownMonth). z +ℤ m.delta) shown (pos 0) (deltas_at t holdings c))
+
+pub price2_shown : (t : AcceptedTables) (holdings : List Holding) (c : ℕ) → c < length t.commodities
+    → (line_after_all t holdings c).price2 ≡ (scan_at t holdings c).price2
+unfolding inter_lines after_inter_spreads
+price2_shown t holdings c lt =
+    kept (λ line. line.price2) (λ on used bp line. refl) (inters_of t) (loaded_lines t holdings) c
+    ∙ ap (λ (line : InterLine). line.price2) (loaded_at t holdings c lt)
+
+-- ---- the weight
+
+shown_if : (b : Bool) (n ratio bp : ℕ) (s : ShownInter) → (n == 0) ≡ b → weight_of s ≡ n * ratio * bp
+    → sum_by weight_of (cond b [] (s ∷ [])) ≡ n * ratio * bp
+shown_if true n ratio bp s e is =
+    let none : n ≡ 0 = grind (arith, nat_tests, e) in
+    sym (ap (λ k. k * ratio * bp) none ∙ ap (λ k. k * bp) (zero-mul ratio) ∙ zero-mul bp)
+shown_if false n ratio bp s e is = let all = sum_by-cons weight_of s [] in omega (arith, all, is)
+
+-- what is shown of a spread in a direction has its whole weight
+weight_in : (priority bp : ℕ) (d : Direction) (n ratio : ℕ) → sum_by weight_of (inter_in priority bp d n ratio) ≡ n * ratio * bp
+weight_in priority bp d n ratio =
+    shown_if (n == 0) n ratio bp
+    (record { priority = priority; direction = d; formed = n; used = n * ratio; basis_points = bp }) refl refl
+
+module _ (priority bp : ℕ) (f : SpreadsFormed) (c : ℕ) where
+  -- what a leg adds to the weight of its commodity
+  abbrev part : CommodityLeg → ℕ
+  part leg = (f.a_long + f.a_short) * leg.ratio * bp
+
+  abbrev is_leg : CommodityLeg → Bool
+  is_leg leg = leg.commodity == c
+
+  weight_ways : (leg : CommodityLeg) → sum_by weight_of (inter_ways priority bp f (Some leg.ratio)) ≡ part leg
+  weight_ways leg =
+      let n = f.a_long in
+      let k = f.a_short in
+      let all = sum_by-append weight_of (inter_in priority bp ALong n leg.ratio) (inter_in priority bp AShort k leg.ratio) in
+      let long = weight_in priority bp ALong n leg.ratio in
+      let short = weight_in priority bp AShort k leg.ratio in
+      let both : (n + k) * leg.ratio * bp ≡ n * leg.ratio * bp + k * leg.ratio * bp =
+      ap (λ m. m * bp) (add-mul n k leg.ratio) ∙ add-mul (n * leg.ratio) (k * leg.ratio) bp in
+      omega (arith, all, long, short, both)
+
+  passed_if : (b : Bool) (leg : CommodityLeg) (legs : List CommodityLeg) → b ≡ false → cond b (leg ∷ legs) legs ≡ legs
+  passed_if true leg legs e = cc
+  passed_if false leg legs e = refl
+
+  -- no leg behind one of the commodity is of it
+  none_behind : (leg : CommodityLeg) (legs : List CommodityLeg) → leg.commodity ≡ c
+      → list_any (λ other. leg.commodity == other.commodity) legs ≡ false → filter is_leg legs ≡ []
+  none_behind leg [] same apart = refl
+  none_behind leg (x ∷ legs) same apart =
+      let alike : CommodityLeg → Bool = λ other. leg.commodity == other.commodity in
+      let other : (leg.commodity == x.commodity) ≡ false = or_left (alike x) (list_any alike legs) apart in
+      let passed : (x.commodity == c) ≡ false = grind (arith, nat_tests, other, same) in
+      passed_if (x.commodity == c) x (filter is_leg legs) passed
+      ∙ none_behind leg legs same (or_right (alike x) (list_any alike legs) apart)
+
+  leg_if : (b : Bool) (leg : CommodityLeg) (legs : List CommodityLeg) → (leg.commodity == c) ≡ b
+      → list_any (λ other. leg.commodity == other.commodity) legs ≡ false
+      → sum_by weight_of (inter_ways priority bp f (ratio_in c legs)) ≡ sum_by part (filter is_leg legs)
+      → sum_by weight_of (inter_ways priority bp f (option_map (λ (x : CommodityLeg). x.ratio) (cond b (Some leg) (find is_leg legs))))
+      ≡ sum_by part (cond b (leg ∷ filter is_leg legs) (filter is_leg legs))
+  leg_if true leg legs e apart rest =
+      let same : leg.commodity ≡ c = grind (arith, nat_tests, e) in
+      let one = weight_ways leg in
+      let all = sum_by-cons part leg (filter is_leg legs) in
+      let none = ap (sum_by part) (none_behind leg legs same apart) in
+      omega (arith, one, all, none)
+  leg_if false leg legs e apart rest = rest
+
+  -- what is shown of a spread has the weight that its legs of the commodity add
+  weight_legs : (legs : List CommodityLeg) → has_repeat (λ a b. a.commodity == b.commodity) legs ≡ false
+      → sum_by weight_of (inter_ways priority bp f (ratio_in c legs)) ≡ sum_by part (filter is_leg legs)
+  weight_legs [] apart = refl
+  weight_legs (leg ∷ legs) apart =
+      let alike : CommodityLeg → Bool = λ other. leg.commodity == other.commodity in
+      let others = has_repeat (λ (a b : CommodityLeg). a.commodity == b.commodity) legs in
+      leg_if (leg.commodity == c) leg legs refl (or_left (list_any alike legs) others apart)
+      (weight_legs legs (or_right (list_any alike legs) others apart))
+
+-- the weight after some spreads is what it was before, more by what is shown of them
+weights_shown : (n c : ℕ) (records : List InterRecord) (spreads : List Inter) (lines : List InterLine)
+    → length records ≡ length spreads → c < length lines → All (IsInter n) spreads
+    → (line_at (fold inter_both_ways lines spreads) c).weight
+    ≡ (line_at lines c).weight + sum_by weight_of (inters_shown c records spreads (inters_formed spreads lines))
+weights_shown n c [] [] lines e lt inters = omega arith
+weights_shown n c [] (s ∷ spreads) lines e lt inters = absurd (omega (arith, e))
+weights_shown n c (r ∷ records) [] lines e lt inters = absurd (omega (arith, e))
+weights_shown n c (r ∷ records) (s ∷ spreads) lines e lt inters =
+    let next = inter_both_ways lines s in
+    let f = formed_both lines s in
+    let inside : c < length next = subst (λ k. c < k) (sym (length-inter_both_ways lines s)) lt in
+    let rest = weights_shown n c records spreads next (omega (arith, e)) inside (All-tail (IsInter n) s spreads inters) in
+    let first = weight-inter_both_ways lines s c lt in
+    let is_inter : IsInter n s = All-head (IsInter n) s spreads inters in
+    let here = weight_legs r.priority s.basis_points f c s.legs is_inter.apart in
+    let all =
+    sum_by-append weight_of (inter_ways r.priority s.basis_points f (ratio_in c s.legs))
+    (inters_shown c records spreads (inters_formed spreads next)) in
+    omega (arith, rest, first, here, all)
+
+-- there are as many records as spreads
+as_many : (t : AcceptedTables) → length t.inters ≡ length (inters_of t)
+unfolding inters_of
+as_many t = sym (length-map t.inters (inter_spread t.commodities))
+
+pub weight_shown : (t : AcceptedTables) (holdings : List Holding) (c : ℕ) → IsWithinLimits t → c < length t.commodities
+    → (line_after_all t holdings c).weight ≡ sum_by weight_of (inters_shown_at t holdings c)
+unfolding inter_lines after_inter_spreads
+weight_shown t holdings c limits lt =
+    let loaded = loaded_lines t holdings in
+    let long : length loaded ≡ length t.commodities = length-map-range_with_len (line_of t holdings) 0 (length t.commodities) in
+    let inside : c < length loaded = subst (λ k. c < k) (sym long) lt in
+    let all = weights_shown (length t.commodities) c t.inters (inters_of t) loaded (as_many t) inside limits.inters_in_range in
+    let begun : (line_at loaded c).weight ≡ 0 = ap (λ (line : InterLine). line.weight) (loaded_at t holdings c lt) in
+    omega (arith, all, begun)

@@ -1,0 +1,57 @@
+-- What the figures of a commodity are of the lines that its explanation shows.
+use Rattle.std.proofs.Common.{◌≡◌, ◌*◌, ℕ, List, refl, ap}
+use Rattle.std.specs.Prelude.{None, Some, option_map, pos, slice_get, unwrap_or}
+use Rattle.span_tables.specs.Tables.{AcceptedTables}
+use Rattle.span_tables.specs.declared.portfolios.Holding.{Holding}
+use Rattle.span_tables.specs.declared.records.MinimumMethod.{MinimumMethod}
+use Rattle.span_tables.specs.declared.records.MinimumMethod.TheVariants as method
+use Rattle.scan_risk.specs.Scenarios.{active_scenario, scan_of, scan_risk, scenario_sums}
+use Rattle.span_tables.specs.Net.{HeldContract}
+use Rattle.inter_credit.specs.Credits.{credit_of, unspread_line}
+use Rattle.inter_credit.specs.Requirement.{is_call, is_put, minimum_of, requirement_of, short_count, short_options}
+use Rattle.inter_credit.specs.States.{credit_at, line_at}
+use Rattle.inter_credit.specs.declared.state.InterLine.{InterLine}
+use Rattle.plan_ir.specs.Figures.{commodity_at, figures_of, held_at, inter_lines}
+use Rattle.reasons.specs.Laws.{counted}
+use Rattle.reasons.specs.Reasons.{line_after_all}
+
+-- the credit of a commodity is that of its line
+credit_at-line : (lines : List InterLine) (c : ℕ) → credit_at lines c ≡ credit_of (line_at lines c)
+unfolding credit_of
+credit_at-line lines c =
+    elim (slice_get lines c) as (λ o. unwrap_or (option_map credit_of o) 0 ≡ credit_of (unwrap_or o (unspread_line (pos 0) 0))) [
+      | Some line ↦ refl
+      | None ↦ refl
+    ]
+
+-- the count of short options is that of its calls and its puts
+counted_shown : (m : MinimumMethod) (held : List HeldContract)
+    → short_options m held ≡ counted m (short_count is_call held) (short_count is_put held)
+counted_shown method.Sum held = refl
+counted_shown method.Max held = refl
+
+module _ (t : AcceptedTables) (holdings : List Holding) (c : ℕ) where
+  pub risk_shown : (figures_of t holdings c).scan ≡ scan_risk (scenario_sums (held_at t holdings c))
+  unfolding figures_of scan_of
+  risk_shown = refl
+
+  pub active_shown : (figures_of t holdings c).active ≡ active_scenario (scenario_sums (held_at t holdings c))
+  unfolding figures_of scan_of
+  active_shown = refl
+
+  pub credit_shown : (figures_of t holdings c).credit ≡ pos (credit_of (line_after_all t holdings c))
+  unfolding figures_of
+  credit_shown = ap pos (credit_at-line (inter_lines t holdings) c)
+
+  pub minimum_shown : (figures_of t holdings c).minimum
+      ≡ pos ((commodity_at t c).minimum_rate
+      * counted (commodity_at t c).method (short_count is_call (held_at t holdings c)) (short_count is_put (held_at t holdings c)))
+  unfolding figures_of minimum_of
+  minimum_shown =
+      ap (λ n. pos ((commodity_at t c).minimum_rate * n)) (counted_shown (commodity_at t c).method (held_at t holdings c))
+
+  pub requirement_shown : (figures_of t holdings c).requirement
+      ≡ requirement_of (figures_of t holdings c).scan (figures_of t holdings c).intra (figures_of t holdings c).delivery
+      (figures_of t holdings c).credit (figures_of t holdings c).minimum
+  unfolding figures_of
+  requirement_shown = refl

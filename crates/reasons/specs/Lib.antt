@@ -1,0 +1,5 @@
+pub mod Laws
+pub mod Reasons
+pub mod Shown
+pub mod Stages
+pub mod near

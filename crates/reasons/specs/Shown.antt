@@ -1,0 +1,116 @@
+-- What an explanation shows of a commodity beside what its stages give: months with what is left of them, spreads in the
+-- directions in which they form, and what spreads used of spot months.
+use Rattle.std.specs.Prelude.{ℕ, ◌*◌, ◌==◌, if◌then◌else◌, List, [], ◌∷◌, ◌++◌, map, filter, find, not}
+use Rattle.std.specs.Prelude.{Option, Some, None, option_map, nat_abs, ◌+◌}
+use Rattle.span_tables.specs.declared.records.CommodityLeg.{CommodityLeg}
+use Rattle.span_tables.specs.declared.records.Inter.{Inter}
+use Rattle.span_tables.specs.declared.records.InterRecord.{InterRecord}
+use Rattle.span_tables.specs.declared.records.Intra.{Intra}
+use Rattle.span_tables.specs.declared.records.Spot.{Spot}
+use Rattle.span_tables.specs.declared.sides.Direction.{Direction}
+use Rattle.span_tables.specs.declared.sides.Direction.TheVariants.{ALong, AShort}
+use Rattle.span_tables.specs.declared.sides.SpreadsFormed.{SpreadsFormed}
+use Rattle.spread_stage.specs.Charges.{left_of, used_of}
+use Rattle.spread_stage.specs.Deltas.{units_at}
+use Rattle.spread_stage.specs.Spreads.{TierRests, spread_both_ways}
+use Rattle.spread_stage.specs.Spreads as months
+use Rattle.spread_stage.specs.declared.months.MonthUnits.{MonthUnits}
+use Rattle.inter_credit.specs.Credits.{inter_both_ways}
+use Rattle.inter_credit.specs.Credits as commodities
+use Rattle.inter_credit.specs.declared.state.InterLine.{InterLine}
+use Rattle.reasons.specs.declared.shown.ShownInter.{ShownInter}
+use Rattle.reasons.specs.declared.shown.ShownIntra.{ShownIntra}
+use Rattle.reasons.specs.declared.shown.ShownMonth.{ShownMonth}
+use Rattle.reasons.specs.declared.shown.ShownSpot.{ShownSpot}
+
+-- ---- months
+
+-- the held months, each with its delta and what is left of it
+abbrev pub months_shown : List MonthUnits → List MonthUnits → List ShownMonth
+months_shown deltas rests = map (λ m. record { month = m.month; delta = m.units; left = units_at rests m.month }) deltas
+
+-- the spot months whose delta is not 0, each with what spreads used of it and what they left
+abbrev pub spots_shown : List MonthUnits → List MonthUnits → List Spot → List ShownSpot
+spots_shown deltas rests spots =
+    map
+    (λ s. record {
+      month = s.month;
+      used = used_of deltas rests s.month;
+      spread_rate = s.spread_rate;
+      left = left_of rests s.month;
+      outright_rate = s.outright_rate;
+    })
+    (filter (λ s. not (nat_abs (units_at deltas s.month) == 0)) spots)
+
+-- the charge of a spot month, in 10^-8 minor units
+abbrev pub spot_charge : ShownSpot → ℕ
+spot_charge s = s.used * s.spread_rate + s.left * s.outright_rate
+
+-- ---- spreads between months
+
+-- how many each of the spreads forms in each direction, from the rests that those before it left
+abbrev pub intras_formed : List Intra → TierRests → List SpreadsFormed
+intras_formed [] t = []
+intras_formed (s ∷ spreads) t = months.formed_both t s ∷ intras_formed spreads (spread_both_ways t s)
+
+-- a spread in a direction, where it forms more than 0
+abbrev pub intra_in : ℕ → ℕ → Direction → ℕ → List ShownIntra
+intra_in priority rate d formed =
+    if formed == 0 then [] else record { priority = priority; direction = d; formed = formed; rate = rate } ∷ []
+
+-- a spread in both directions, with A long first
+abbrev pub intra_ways : ℕ → ℕ → SpreadsFormed → List ShownIntra
+intra_ways priority rate f = intra_in priority rate ALong f.a_long ++ intra_in priority rate AShort f.a_short
+
+-- the spreads of a commodity with their priorities, as they formed
+abbrev pub intras_shown : List ℕ → List Intra → List SpreadsFormed → List ShownIntra
+intras_shown [] spreads formed = []
+intras_shown (p ∷ priorities) [] formed = []
+intras_shown (p ∷ priorities) (s ∷ spreads) [] = []
+intras_shown (p ∷ priorities) (s ∷ spreads) (f ∷ formed) = intra_ways p s.rate f ++ intras_shown priorities spreads formed
+
+-- the charge of a spread in a direction, in 10^-4 minor units
+abbrev pub intra_charge : ShownIntra → ℕ
+intra_charge s = s.formed * s.rate
+
+-- ---- spreads between commodities
+
+-- how many each of the spreads forms in each direction, from the rests that those before it left
+abbrev pub inters_formed : List Inter → List InterLine → List SpreadsFormed
+inters_formed [] lines = []
+inters_formed (s ∷ spreads) lines = commodities.formed_both lines s ∷ inters_formed spreads (inter_both_ways lines s)
+
+-- the ratio of the leg in the commodity of a number, if there is one
+abbrev pub ratio_in : ℕ → List CommodityLeg → Option ℕ
+ratio_in c legs = option_map (λ leg. leg.ratio) (find (λ leg. leg.commodity == c) legs)
+
+-- a spread in a direction, where it forms more than 0, with what it uses of a commodity by the ratio of its leg there
+abbrev pub inter_in : ℕ → ℕ → Direction → ℕ → ℕ → List ShownInter
+inter_in priority basis_points d formed ratio =
+    if formed == 0
+    then []
+    else record {
+      priority = priority;
+      direction = d;
+      formed = formed;
+      used = formed * ratio;
+      basis_points = basis_points;
+    } ∷ []
+
+-- a spread in both directions, with A long first, where it has a leg in the commodity
+abbrev pub inter_ways : ℕ → ℕ → SpreadsFormed → Option ℕ → List ShownInter
+inter_ways priority basis_points f None = []
+inter_ways priority basis_points f (Some ratio) =
+    inter_in priority basis_points ALong f.a_long ratio ++ inter_in priority basis_points AShort f.a_short ratio
+
+-- the spreads of the set with their records, as they formed, that have a leg in the commodity of a number
+abbrev pub inters_shown : ℕ → List InterRecord → List Inter → List SpreadsFormed → List ShownInter
+inters_shown c [] spreads formed = []
+inters_shown c (r ∷ records) [] formed = []
+inters_shown c (r ∷ records) (s ∷ spreads) [] = []
+inters_shown c (r ∷ records) (s ∷ spreads) (f ∷ formed) =
+    inter_ways r.priority s.basis_points f (ratio_in c s.legs) ++ inters_shown c records spreads formed
+
+-- what of the weight of a commodity is a spread's in a direction
+abbrev pub weight_of : ShownInter → ℕ
+weight_of s = s.used * s.basis_points

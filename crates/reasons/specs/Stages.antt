@@ -1,0 +1,27 @@
+-- What an account holds of each commodity, and what its commodities have between them.
+use Rattle.std.specs.Prelude.{List, map}
+use Rattle.span_tables.specs.Net.{HeldContract, held_of}
+use Rattle.span_tables.specs.Tables.{AcceptedTables, inters_of}
+use Rattle.span_tables.specs.declared.portfolios.Holding.{Holding}
+use Rattle.span_tables.specs.declared.sides.SpreadsFormed.{SpreadsFormed}
+use Rattle.inter_credit.specs.declared.state.InterLine.{InterLine}
+use Rattle.plan_ir.specs.Figures.{inter_lines, loaded_lines}
+use Rattle.reasons.specs.Shown.{inters_formed}
+
+-- the held contracts of each commodity, the commodities after all spreads between them, and how many each spread formed
+pub record StagesView : Type 0 where
+  pub held : List (List HeldContract)
+  pub lines : List InterLine
+  pub formed : List SpreadsFormed
+
+-- the held contracts of each commodity
+abbrev pub all_held : AcceptedTables → List Holding → List (List HeldContract)
+all_held t holdings = map (λ c. held_of t.contracts holdings c.id) t.commodities
+
+-- those of an account with these holdings
+abbrev pub stages_of : AcceptedTables → List Holding → StagesView
+stages_of t holdings = record {
+  held = all_held t holdings;
+  lines = inter_lines t holdings;
+  formed = inters_formed (inters_of t) (loaded_lines t holdings);
+}

@@ -1,0 +1,72 @@
+//! Laws: the figures of a commodity follow from what its lines show. Each is the contract of a function that does nothing.
+ghost use Rattle.inter_credit.specs.Credits.{credit_of};
+ghost use Rattle.inter_credit.specs.Requirement.{is_call, is_put, requirement_of, short_count};
+ghost use Rattle.plan_ir.specs.Figures.{commodity_at, figures_of, held_at, scan_at};
+ghost use Rattle.reasons.specs.Laws.{counted};
+ghost use Rattle.reasons.specs.Reasons.{inters_shown_at, intras_shown_at, line_after_all, months_shown_at, spots_shown_at};
+ghost use Rattle.reasons.specs.Shown.{intra_charge, spot_charge, weight_of};
+ghost use Rattle.scan_risk.specs.Scenarios.{active_scenario, scan_risk, scenario_sums};
+ghost use Rattle.span_money.specs.Numbers.{int_sum_by};
+ghost use Rattle.span_tables.specs.Accepted.{IsWithinLimits};
+ghost use Rattle.span_tables.specs.Tables.{AcceptedTables};
+ghost use Rattle.span_tables.specs.declared.portfolios.Holding.{Holding};
+ghost use Rattle.std.specs.Int.{div_ceil};
+ghost use Rattle.std.specs.Prelude.{◌*◌, ◌<◌, ◌^◌, ◌≡◌, List, length, pos, sum_by, ℕ};
+
+/// The scan risk is the largest of the sums shown, or 0, and the active scenario the first one that has the largest sum.
+pub fn scan_risk_is_the_largest_sum_shown()
+    ensures risk { (t : AcceptedTables) (holdings : List Holding) (c : ℕ)
+        → (figures_of t holdings c).scan ≡ scan_risk (scenario_sums (held_at t holdings c)) }
+    ensures active { (t : AcceptedTables) (holdings : List Holding) (c : ℕ)
+        → (figures_of t holdings c).active ≡ active_scenario (scenario_sums (held_at t holdings c)) }
+{}
+
+/// The intracommodity charge is the sum of the charges of the spreads shown, divided by 10^4 and rounded up: no spread that
+/// forms is left out.
+pub fn intracommodity_charge_is_that_of_the_spreads_shown()
+    ensures { (t : AcceptedTables) (holdings : List Holding) (c : ℕ) → (figures_of t holdings c).intra
+        ≡ pos (div_ceil (sum_by intra_charge (intras_shown_at t holdings c)) (10 ^ 4)) }
+{}
+
+/// The delivery charge is the sum of the charges of the spot months shown, divided by 10^8 and rounded up: a spot month whose
+/// delta is 0 has none.
+pub fn delivery_charge_is_that_of_the_months_shown()
+    ensures { (t : AcceptedTables) (holdings : List Holding) (c : ℕ) → (figures_of t holdings c).delivery
+        ≡ pos (div_ceil (sum_by spot_charge (spots_shown_at t holdings c)) (10 ^ 8)) }
+{}
+
+/// The net delta of the credit is the sum of the deltas of the months shown, and its price risk is that of the scan: spreads
+/// between commodities keep both.
+pub fn net_delta_is_the_sum_of_the_months_shown()
+    ensures net { (t : AcceptedTables) (holdings : List Holding) (c : ℕ) → c < length t.commodities
+        → (line_after_all t holdings c).net ≡ int_sum_by (λ m. m.delta) (months_shown_at t holdings c) }
+    ensures price_risk { (t : AcceptedTables) (holdings : List Holding) (c : ℕ) → c < length t.commodities
+        → (line_after_all t holdings c).price2 ≡ (scan_at t holdings c).price2 }
+{}
+
+/// The weight of the credit is the sum of the weights of the spreads shown, each what it uses times its basis points: no
+/// spread that forms is left out.
+pub fn weight_is_the_sum_of_the_spreads_shown()
+    ensures { (t : AcceptedTables) (holdings : List Holding) (c : ℕ) → IsWithinLimits t → c < length t.commodities
+        → (line_after_all t holdings c).weight ≡ sum_by weight_of (inters_shown_at t holdings c) }
+{}
+
+/// The credit is that of the price risk, the net delta and the weight shown.
+pub fn credit_follows_from_what_is_shown()
+    ensures { (t : AcceptedTables) (holdings : List Holding) (c : ℕ)
+        → (figures_of t holdings c).credit ≡ pos (credit_of (line_after_all t holdings c)) }
+{}
+
+/// The minimum is the rate times the short calls and short puts shown, as the method counts them.
+pub fn minimum_follows_from_the_counts_shown()
+    ensures { (t : AcceptedTables) (holdings : List Holding) (c : ℕ) → (figures_of t holdings c).minimum
+        ≡ pos ((commodity_at t c).minimum_rate * counted (commodity_at t c).method
+        (short_count is_call (held_at t holdings c)) (short_count is_put (held_at t holdings c))) }
+{}
+
+/// The requirement is that of the other five figures.
+pub fn requirement_is_of_the_figures_shown()
+    ensures { (t : AcceptedTables) (holdings : List Holding) (c : ℕ) → (figures_of t holdings c).requirement
+        ≡ requirement_of (figures_of t holdings c).scan (figures_of t holdings c).intra (figures_of t holdings c).delivery
+        (figures_of t holdings c).credit (figures_of t holdings c).minimum }
+{}

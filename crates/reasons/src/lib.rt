@@ -1,0 +1,11 @@
+//! The lines that say why the figures of a commodity are what they are (docs/FORMATS.md, Explanation).
+#![tactic(auto)]
+
+mod commodities;
+mod fields;
+mod held;
+pub mod laws;
+mod months;
+pub mod shown;
+pub mod stages;
+mod words;

@@ -1,0 +1,207 @@
+//! The lines of a commodity's months, of the spreads between them, and of its spot months.
+ghost use Rattle.std.specs.Prelude.{[], ◌∷◌, ◌≡◌, ◌++◌, ◌*◌, All, IfOk, List, OnOk, fold, map, pos};
+ghost use Rattle.span_tables.specs.Accepted.{IsIntra, IsSpot};
+ghost use Rattle.spread_stage.specs.Months.{Shrinks};
+ghost use Rattle.spread_stage.specs.Spreads.{spread_both_ways};
+ghost use Rattle.spread_stage.specs.declared.months.MonthUnits.{MonthUnits};
+ghost use Rattle.reasons.specs.Reasons.{intra_reason, month_reason, spot_reason};
+ghost use Rattle.reasons.specs.Shown.{intra_in, intra_ways, intras_formed, intras_shown, months_shown, spots_shown};
+ghost use Rattle.reasons.specs.near.Fields.{reason_text, reasons_text};
+
+use crate::fields::{Field, push_line};
+use crate::shown::{ShownIntra, ShownMonth, ShownSpot};
+use crate::words::long_side;
+use span_tables::records::{Intra, Spot};
+use span_tables::sides::{Direction, SpreadsFormed};
+use spread_stage::charges::{month_units, spot_use};
+use spread_stage::months::Months;
+use spread_stage::tiers::TierState;
+use std::alloc::{AllocError, Global};
+
+// Appends the line of a month.
+fn push_month(out: &mut Vec<u8>, head: &[u8], shown: &ShownMonth) -> Result<(), AllocError>
+    ensures { OnOk result (out.new.items ≡ out.old.items ++ reason_text head.now (month_reason shown.now)) }
+{
+    let fields = [
+        Field::Whole(i128::from(shown.month)),
+        Field::EightPlaces(i128::from(shown.delta.get())),
+        Field::EightPlaces(i128::from(shown.left.get())),
+    ];
+    push_line(out, "MONTH", head, &fields)
+}
+
+/// Appends the lines of the held months, whose rests stand beside them.
+pub(crate) fn push_months(
+    out: &mut Vec<u8>,
+    head: &[u8],
+    months: &Months,
+    tiers: &TierState,
+) -> Result<(), AllocError>
+    requires { Shrinks months.now tiers.now.rests }
+    ensures { OnOk result (out.new.items
+        ≡ out.old.items ++ reasons_text head.now (map month_reason (months_shown months.now tiers.now.rests))) }
+{
+    let deltas = months.as_slice();
+    let rests = tiers.rests();
+    for place in 0..deltas.len() {
+        let month = deltas[place];
+        let rest = rests[place];
+        let shown = ShownMonth {
+            month: month.month,
+            delta: month.units,
+            left: rest.units,
+        };
+        push_month(out, head, &shown)?;
+    }
+    Ok(())
+}
+
+/// Forms the spreads in their order, and tells how many each forms in each direction. `Err` is want of memory.
+pub(crate) fn form_intras(
+    alloc: Global,
+    tiers: &mut TierState,
+    intras: &[Intra],
+) -> Result<Vec<SpreadsFormed>, AllocError>
+    requires { All IsIntra intras.now }
+    ensures tiers { IfOk result (λ _. tiers.new ≡ fold spread_both_ways tiers.old intras.now) }
+    ensures formed { IfOk result (λ formed. formed.items ≡ intras_formed intras.now tiers.old) }
+    ensures shrinks { (months : List MonthUnits) → Shrinks months tiers.old.rests
+        → IfOk result (λ _. Shrinks months tiers.new.rests) }
+{
+    let mut formed = Vec::with_capacity(alloc, intras.len())?;
+    for intra in intras {
+        formed.push(tiers.spread_counted(intra))?;
+    }
+    Ok(formed)
+}
+
+// So many at a rate.
+fn at_rate(count: u64, rate: u32) -> i128
+    ensures { result ≡ pos (count * rate) }
+{
+    i128::from(count) * i128::from(rate)
+}
+
+// Appends the line of an intracommodity spread in a direction.
+fn push_intra(out: &mut Vec<u8>, head: &[u8], shown: &ShownIntra) -> Result<(), AllocError>
+    ensures { OnOk result (out.new.items ≡ out.old.items ++ reason_text head.now (intra_reason shown.now)) }
+{
+    let fields = [
+        Field::Whole(i128::from(shown.priority)),
+        Field::Text(long_side(shown.direction)),
+        Field::FourPlaces(i128::from(shown.formed)),
+        Field::Whole(i128::from(shown.rate)),
+        Field::FourPlaces(at_rate(shown.formed, shown.rate)),
+    ];
+    push_line(out, "INTRA", head, &fields)
+}
+
+// Appends that line, where the spread forms more than 0.
+fn push_intra_in(
+    out: &mut Vec<u8>,
+    head: &[u8],
+    priority: u32,
+    rate: u32,
+    direction: Direction,
+    formed: u64,
+) -> Result<(), AllocError>
+    ensures { OnOk result (out.new.items
+        ≡ out.old.items ++ reasons_text head.now (map intra_reason (intra_in priority rate direction formed))) }
+{
+    if formed == 0 {
+        return Ok(());
+    }
+    let shown = ShownIntra {
+        priority,
+        direction,
+        formed,
+        rate,
+    };
+    push_intra(out, head, &shown)
+}
+
+// Appends the lines of an intracommodity spread, in both directions.
+fn push_intra_ways(
+    out: &mut Vec<u8>,
+    head: &[u8],
+    priority: u32,
+    rate: u32,
+    formed: SpreadsFormed,
+) -> Result<(), AllocError>
+    ensures { OnOk result (out.new.items
+        ≡ out.old.items ++ reasons_text head.now (map intra_reason (intra_ways priority rate formed))) }
+{
+    push_intra_in(out, head, priority, rate, Direction::ALong, formed.a_long)?;
+    push_intra_in(out, head, priority, rate, Direction::AShort, formed.a_short)
+}
+
+/// Appends the lines of intracommodity spreads with their priorities, as they formed.
+pub(crate) fn push_intras(
+    out: &mut Vec<u8>,
+    head: &[u8],
+    priorities: &[u32],
+    intras: &[Intra],
+    formed: &[SpreadsFormed],
+) -> Result<(), AllocError>
+    ensures { OnOk result (out.new.items
+        ≡ out.old.items ++ reasons_text head.now (map intra_reason (intras_shown priorities.now intras.now formed.now))) }
+{
+    let [priority, priorities @ ..] = priorities else {
+        return Ok(());
+    };
+    let [intra, intras @ ..] = intras else {
+        return Ok(());
+    };
+    let [ways, formed @ ..] = formed else {
+        return Ok(());
+    };
+    push_intra_ways(out, head, *priority, intra.rate(), *ways)?;
+    push_intras(out, head, priorities, intras, formed)
+}
+
+// Appends the line of a spot month, where its delta is not 0.
+fn push_spot(
+    out: &mut Vec<u8>,
+    head: &[u8],
+    months: &Months,
+    tiers: &TierState,
+    spot: &Spot,
+) -> Result<(), AllocError>
+    requires shrinks { Shrinks months.now tiers.now.rests }
+    requires spot { IsSpot spot.now }
+    ensures { OnOk result (out.new.items
+        ≡ out.old.items ++ reasons_text head.now (map spot_reason (spots_shown months.now tiers.now.rests (spot.now ∷ [])))) }
+{
+    if month_units(months, spot.month).get() == 0 {
+        return Ok(());
+    }
+    let spot_use = spot_use(months, tiers, spot);
+    let fields = [
+        Field::Whole(i128::from(spot.month)),
+        Field::EightPlaces(i128::from(spot_use.used)),
+        Field::Whole(i128::from(spot.spread_rate)),
+        Field::EightPlaces(i128::from(spot_use.left)),
+        Field::Whole(i128::from(spot.outright_rate)),
+        Field::EightPlaces(spot_use.charge as i128),
+    ];
+    push_line(out, "SPOT", head, &fields)
+}
+
+/// Appends the lines of spot months.
+pub(crate) fn push_spots(
+    out: &mut Vec<u8>,
+    head: &[u8],
+    months: &Months,
+    tiers: &TierState,
+    spots: &[Spot],
+) -> Result<(), AllocError>
+    requires shrinks { Shrinks months.now tiers.now.rests }
+    requires spots { All IsSpot spots.now }
+    ensures { OnOk result (out.new.items
+        ≡ out.old.items ++ reasons_text head.now (map spot_reason (spots_shown months.now tiers.now.rests spots.now))) }
+{
+    for spot in spots {
+        push_spot(out, head, months, tiers, spot)?;
+    }
+    Ok(())
+}

@@ -1,0 +1,140 @@
+//! The reasons for the figures of a commodity: what an account's commodities have between them, and the lines of one.
+ghost use Rattle.std.specs.Prelude.{◌≡◌, ◌++◌, ◌<◌, IfOk, List, OnOk, length, true};
+ghost use Rattle.span_tables.specs.Holdings.{fits};
+ghost use Rattle.span_tables.specs.declared.portfolios.Holding.{Holding};
+ghost use Rattle.plan_ir.specs.Figures.{held_at, loaded_lines};
+ghost use Rattle.reasons.specs.Reasons.{month_reasons, reasons_of};
+ghost use Rattle.reasons.specs.Stages.{all_held, stages_of};
+ghost use Rattle.reasons.specs.near.Fields.{reasons_text};
+
+use crate::commodities::{form_inters, push_credit, push_inters};
+use crate::held::{push_held, push_scan, push_short};
+use crate::months::{form_intras, push_intras, push_months, push_spots};
+use inter_credit::state::{InterState, empty};
+use scan_risk::scanning::scan;
+use scan_risk::scenarios::sums;
+use span_tables::held::{Held, gather_all};
+use span_tables::portfolios::Portfolio;
+use span_tables::sides::SpreadsFormed;
+use span_tables::tables::Tables;
+use spread_stage::deltas::month_deltas;
+use spread_stage::tiers::start;
+use std::alloc::{AllocError, Global};
+use std::marker::Model;
+
+/// What an account holds of each commodity, by the commodities' numbers, and what its commodities have between them: their
+/// net deltas, rests and weights after all intercommodity spreads, and how many each of these formed.
+#[derive(Drop)]
+pub struct Stages {
+    held: Vec<Held>,
+    state: InterState,
+    formed: Vec<SpreadsFormed>,
+}
+
+impl Model for Stages {
+    ghost use Rattle.reasons.specs.Stages.{StagesView};
+
+    ghost Value = { StagesView };
+
+    ghost view = { λ s. record { held = s.held.items; lines = s.state; formed = s.formed.items } };
+}
+
+// The commodities before any spread between them. `Err` is want of memory.
+fn loaded(
+    alloc: Global,
+    tables: &Tables,
+    portfolio: &Portfolio,
+    held: &[Held],
+) -> Result<InterState, AllocError>
+    requires fits { fits (length tables.now.contracts) portfolio.now.holdings ≡ true }
+    requires held { held.now ≡ all_held tables.now portfolio.now.holdings }
+    ensures value { IfOk result (λ lines. lines ≡ loaded_lines tables.now portfolio.now.holdings) }
+    ensures long { IfOk result (λ lines. length lines ≡ length tables.now.commodities) }
+{
+    let count = tables.commodities().len();
+    // Called for its clause: the holdings are those of a portfolio.
+    let _kept = portfolio.holdings();
+    let mut state = empty(alloc, count)?;
+    for commodity in 0..count {
+        let of_commodity = &held[commodity];
+        let months = month_deltas(alloc, of_commodity)?;
+        let scan = scan(&sums(of_commodity));
+        state.load(commodity, months.net(), scan.price2);
+    }
+    Ok(state)
+}
+
+/// The stages of an account that its commodities share. `Err` is want of memory.
+pub fn stages_of(
+    alloc: Global,
+    tables: &Tables,
+    portfolio: &Portfolio,
+) -> Result<Stages, AllocError>
+    requires { fits (length tables.now.contracts) portfolio.now.holdings ≡ true }
+    ensures { IfOk result (λ stages. stages ≡ stages_of tables.now portfolio.now.holdings) }
+{
+    let held = gather_all(alloc, tables, portfolio)?;
+    let mut state = loaded(alloc, tables, portfolio, &held)?;
+    let formed = form_inters(alloc, &mut state, tables.inters())?;
+    Ok(Stages {
+        held,
+        state,
+        formed,
+    })
+}
+
+// Appends the lines of a commodity's months, of the spreads between them, and of its spot months.
+fn push_month_reasons(
+    alloc: Global,
+    out: &mut Vec<u8>,
+    head: &[u8],
+    tables: &Tables,
+    commodity: usize,
+    held: &Held,
+) -> Result<(), AllocError>
+    requires { commodity < length tables.now.commodities }
+    ensures { (holdings : List Holding) → held.now ≡ held_at tables.now holdings commodity → OnOk result
+        (out.new.items ≡ out.old.items ++ reasons_text head.now (month_reasons tables.now holdings commodity)) }
+{
+    let months = month_deltas(alloc, held)?;
+    let mut tiers = start(alloc, &months)?;
+    let intras = tables.intras(commodity);
+    let formed = form_intras(alloc, &mut tiers, intras)?;
+    push_months(out, head, &months, &tiers)?;
+    push_intras(out, head, tables.priorities(commodity), intras, &formed)?;
+    push_spots(out, head, &months, &tiers, tables.spots(commodity))?;
+    Ok(())
+}
+
+/// Appends the lines of the reasons for the figures of the commodity of a number, with these bytes behind each word: those
+/// of its held contracts, scan, months, spreads and spot months, credit and short options. `Err` is want of memory.
+pub fn push_reasons(
+    alloc: Global,
+    out: &mut Vec<u8>,
+    head: &[u8],
+    tables: &Tables,
+    stages: &Stages,
+    commodity: usize,
+) -> Result<(), AllocError>
+    requires commodity { commodity < length tables.now.commodities }
+    requires held { commodity < length stages.now.held }
+    requires lines { commodity < length stages.now.lines }
+    ensures { (holdings : List Holding) → stages.now ≡ stages_of tables.now holdings → OnOk result
+        (out.new.items ≡ out.old.items ++ reasons_text head.now (reasons_of tables.now holdings commodity)) }
+{
+    let held = &stages.held[commodity];
+    push_held(out, head, tables, held)?;
+    push_scan(out, head, held)?;
+    push_month_reasons(alloc, out, head, tables, commodity, held)?;
+    push_inters(
+        out,
+        head,
+        commodity,
+        tables.inter_records(),
+        tables.inters(),
+        &stages.formed,
+    )?;
+    push_credit(out, head, &stages.state.lines()[commodity])?;
+    push_short(out, head, &tables.commodities()[commodity], held)?;
+    Ok(())
+}

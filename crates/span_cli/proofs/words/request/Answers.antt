@@ -1,0 +1,45 @@
+use Rattle.std.proofs.Common.{◌≡◌, ◌∙◌, Err, Some, None, true, false, map, rules}
+use Rattle.clap.specs.Words.{found_of, rows_of, subcommand_of}
+use Rattle.span_cli.specs.Words.{misnames_in, span_app}
+use Rattle.span_cli.proofs.AccountWords.{form_mistake, misnamed_mistake, misnamed_not_taken, misnames_read, no_mistake, taken_form}
+use Rattle.span_cli.proofs.words.request.Goals as goal
+
+pub returns-in_err-matches-clause-err : goal.returns-in_err-matches-clause-err
+returns-in_err-matches-clause-err g c =
+    let is : c.from_residual.result ≡ Err c.in_err-matches.field-0.0 = search rules in
+    rw (is) (λ taken. c.in_err-matches.ensures.err (taken_form _ taken))
+
+pub returns-in_err-matches-clause-kinds : goal.returns-in_err-matches-clause-kinds
+returns-in_err-matches-clause-kinds g c =
+    let is : c.from_residual.result ≡ Err c.in_err-matches.field-0.0 = search rules in
+    rw (is) (form_mistake _ c.in_err-matches.field-0.0 c.in_err-matches.ensures.kinds)
+
+pub returns-then-misnames-clause-err : goal.returns-then-misnames-clause-err
+returns-then-misnames-clause-err g c = λ taken.
+    let words = map g.S.AsStr.text c.args.words.now in
+    let found : subcommand_of span_app words
+    ≡ Some (c.in-Some.name.now, rows_of (found_of c.in-Some.found.now)) = search rules in
+    let misnamed : misnames_in c.in-Some.name.now (rows_of (found_of c.in-Some.found.now)) ≡ true = search rules in
+    absurd (misnamed_not_taken words (misnames_read words _ found ∙ misnamed) taken)
+
+pub returns-then-misnames-clause-kinds : goal.returns-then-misnames-clause-kinds
+returns-then-misnames-clause-kinds g c =
+    let words = map g.S.AsStr.text c.args.words.now in
+    let found : subcommand_of span_app words
+    ≡ Some (c.in-Some.name.now, rows_of (found_of c.in-Some.found.now)) = search rules in
+    let misnamed : misnames_in c.in-Some.name.now (rows_of (found_of c.in-Some.found.now)) ≡ true = search rules in
+    misnamed_mistake words c.refuse_account.result c.in_ok-matches.ensures.kinds (misnames_read words _ found ∙ misnamed) c.refuse_account.ensures
+
+pub returns-in-Some-clause-kinds : goal.returns-in-Some-clause-kinds
+returns-in-Some-clause-kinds g c =
+    let words = map g.S.AsStr.text c.args.words.now in
+    let found : subcommand_of span_app words
+    ≡ Some (c.in-Some.name.now, rows_of (found_of c.in-Some.found.now)) = search rules in
+    let named : misnames_in c.in-Some.name.now (rows_of (found_of c.in-Some.found.now)) ≡ false = search rules in
+    no_mistake words c.in_ok-matches.ensures.kinds (misnames_read words _ found ∙ named)
+
+pub returns-clause-kinds : goal.returns-clause-kinds
+returns-clause-kinds g c =
+    let words = map g.S.AsStr.text c.args.words.now in
+    let found : subcommand_of span_app words ≡ None = search rules in
+    no_mistake words c.in_ok-matches.ensures.kinds (misnames_read words _ found)
