@@ -92,7 +92,7 @@ exact_end places (pos n) small point =
 exact_end places (negsuc n) small point =
     elim (unsigned_end places (suc n) small (eq-zero-or-pos (suc n % 10 ^ places))) [
       | inl none ↦
-        contradicts (45 ∷ unsigned_exact places (suc n)) (All-cons (λ b. b ≢ 46) 45 _ (λ e. absurd (omega arith)) none) point
+          contradicts (45 ∷ unsigned_exact places (suc n)) (All-cons (λ b. b ≢ 46) 45 _ (λ e. absurd (omega arith)) none) point
       | inr end ↦ with_front_byte 45 (unsigned_exact places (suc n)) end
     ]
 
