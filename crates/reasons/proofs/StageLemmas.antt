@@ -109,9 +109,12 @@ reasons_are t holdings c head o o1 o2 o3 o4 o5 o6 held records spreads formed li
     let d2 : o2 ≡ o1 ++ text two =
     e2 ∙ ap (λ x. o1 ++ text (sums_reason (scenario_sums x) ∷ scan_reason (scan_of (scenario_sums x)) ∷ [])) h in
     let d4 : o4 ≡ o3 ++ text four = e4 ∙ (λ k. o3 ++ text (map inter_reason (inters_shown c (r k) (s k) (f k)))) in
-    let d5 : o5 ≡ o4 ++ text five = e5 ∙ ap (λ x. o4 ++ reason_text head (credit_reason x)) l ∙ one_line head o4 (credit_reason (line_after_all t holdings c)) in
+    let d5 : o5 ≡ o4 ++ text five =
+    e5 ∙ ap (λ x. o4 ++ reason_text head (credit_reason x)) l
+    ∙ one_line head o4 (credit_reason (line_after_all t holdings c)) in
     let d6 : o6 ≡ o5 ++ text six =
-    e6 ∙ (λ k. o5 ++ reason_text head (short_reason (cm k) (h k))) ∙ one_line head o5 (short_reason (commodity_at t c) (held_at t holdings c)) in
+    e6 ∙ (λ k. o5 ++ reason_text head (short_reason (cm k) (h k)))
+    ∙ one_line head o5 (short_reason (commodity_at t c) (held_at t holdings c)) in
     let b1 = lines-append head o one two in
     let u2 : o2 ≡ o ++ text (one ++ two) = d2 ∙ ap (λ x. x ++ text two) d1 ∙ b1 in
     let u3 : o3 ≡ o ++ text ((one ++ two) ++ three) =

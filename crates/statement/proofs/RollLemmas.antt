@@ -16,7 +16,8 @@ use Rattle.result_book.specs.declared.books.BookFault.TheVariants as book
 use Rattle.span_tables.specs.Net.{AccountHoldings}
 use Rattle.statement.specs.Rolls.{GivesRoll, Refuses, RefusesRoll, is_ok, roll_of}
 use Rattle.statement.specs.SpanFaults.{of_book, of_next}
-use Rattle.statement.specs.Statement.{accepted_of, and_then, margin_of, portfolios_under, same, statement_bound, statement_of, statement_text, statement_under}
+use Rattle.statement.specs.Statement.{accepted_of, and_then, margin_of, portfolios_under, same}
+use Rattle.statement.specs.Statement.{statement_bound, statement_of, statement_text, statement_under}
 use Rattle.statement.specs.near.Seconds.{IsPublished, RefusesNext, RefusesSecond, RefusesUnder, Rolls, RollsUnder, second_of}
 use Rattle.statement.specs.declared.faults.SpanFault.{SpanFault}
 use Rattle.statement.specs.declared.faults.SpanFault.TheVariants as fault

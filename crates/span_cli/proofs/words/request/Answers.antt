@@ -28,7 +28,8 @@ returns-then-misnames-clause-kinds g c =
     let found : subcommand_of span_app words
     ≡ Some (c.in-Some.name.now, rows_of (found_of c.in-Some.found.now)) = search rules in
     let misnamed : misnames_in c.in-Some.name.now (rows_of (found_of c.in-Some.found.now)) ≡ true = search rules in
-    misnamed_mistake words c.refuse_account.result c.in_ok-matches.ensures.kinds (misnames_read words _ found ∙ misnamed) c.refuse_account.ensures
+    misnamed_mistake words c.refuse_account.result c.in_ok-matches.ensures.kinds (misnames_read words _ found ∙ misnamed)
+    c.refuse_account.ensures
 
 pub returns-in-Some-clause-kinds : goal.returns-in-Some-clause-kinds
 returns-in-Some-clause-kinds g c =
