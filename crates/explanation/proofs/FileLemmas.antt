@@ -1,16 +1,16 @@
 -- What two files say and what an explanation says of them.
 use Rattle.std.proofs.Common.{◌≡◌, ℕ, suc, Bool, true, false, cond, List, [], ◌∷◌, Option, Some, Ok, Err, Result, refl, sym, ap, ◌∙◌}
-use Rattle.std.proofs.Common.{arith, subst}
+use Rattle.std.proofs.Common.{arith, flat_map, None, subst}
 use Rattle.std.specs.Prelude.{All, bytes_eq, find}
 use Rattle.span_tables.specs.Holdings.{fits}
 use Rattle.span_csv.specs.PositionFaults.{positions_of}
 use Rattle.span_tables.specs.Net.{AccountHoldings}
 use Rattle.span_tables.specs.Tables.{AcceptedTables}
 use Rattle.span_tables.specs.declared.records.PositionRecord.{PositionRecord}
-use Rattle.statement.specs.Statement.{accepted_of, and_then, portfolios_under, same, statement_bound, statement_of, statement_under}
+use Rattle.statement.specs.Statement.{accepted_of, and_then, line, portfolios_under, same, statement_bound, statement_of, statement_under}
 use Rattle.statement.specs.declared.faults.SpanFault.{SpanFault}
 use Rattle.statement.specs.declared.faults.SpanFault.TheVariants as fault
-use Rattle.explanation.specs.Explanation.{explained, explanation_of}
+use Rattle.explanation.specs.Explanation.{account_lines, account_text, explained, explanation_of, named_text}
 
 module _ (params positions : List ℕ) (account : Option (List ℕ)) where
   -- of accepted files, what is said of their tables and portfolios
@@ -19,6 +19,23 @@ module _ (params positions : List ℕ) (account : Option (List ℕ)) where
       → explanation_of params positions account ≡ explained t portfolios account
   unfolding explanation_of
   accepted_explained t records portfolios a q b = rw (a, q, b) refl
+
+-- the account of a name, where the positions have it
+pub account_explained : (params positions name : List ℕ) (t : AcceptedTables) (records : List PositionRecord)
+    (portfolios : List AccountHoldings) (p : AccountHoldings) → accepted_of params ≡ Ok t → positions_of positions ≡ Ok records
+    → portfolios_under t records ≡ Ok portfolios → find (λ q. bytes_eq q.account name) portfolios ≡ Some p
+    → explanation_of params positions (Some name) ≡ Ok (flat_map line (account_lines t p))
+unfolding account_text
+account_explained params positions name t records portfolios p a q b found =
+    accepted_explained params positions (Some name) t records portfolios a q b ∙ ap (named_text t name) found
+
+-- and where they do not
+pub account_unknown : (params positions name : List ℕ) (t : AcceptedTables) (records : List PositionRecord)
+    (portfolios : List AccountHoldings) → accepted_of params ≡ Ok t → positions_of positions ≡ Ok records
+    → portfolios_under t records ≡ Ok portfolios → find (λ q. bytes_eq q.account name) portfolios ≡ None
+    → explanation_of params positions (Some name) ≡ Err (fault.UnknownAccount name)
+account_unknown params positions name t records portfolios a q b found =
+    accepted_explained params positions (Some name) t records portfolios a q b ∙ ap (named_text t name) found
 
 -- a fault that follows an outcome, where what follows its value has that fault too
 fault_stays : {A B C F : Type 0} (named : F → SpanFault) (r : Result A F) (next : A → Result B SpanFault)

@@ -21,6 +21,7 @@ use Rattle.plan_compiler.specs.Compiled.{IsCompiled, IsFirstInput}
 use Rattle.plan_compiler.specs.Meaning.{last_total, last_value, meaning, rank_of, wanted}
 use Rattle.plan_compiler.specs.Plan.{IsPlanOf, ops_of}
 use Rattle.plan_compiler.specs.Places.{inputs_of, place_of, plan_of}
+use Rattle.plan_compiler.specs.Beginnings.{AreInputCounts, AreWithoutInputs}
 use Rattle.plan_compiler.specs.near.Layout.{AreFirsts}
 use Rattle.plan_compiler.specs.near.Sets.{IsSet}
 use Rattle.plan_compiler.proofs.FromPlan.{inputs_within, known_before_total, known_before_value, known_ops, known_wanted, wired}
@@ -209,12 +210,18 @@ module _ (t : AcceptedTables) where
       plan_is ∙ ap (steps_with items) (lists_are ∙ ap (map (inputs_of t)) (same ∙ items_are))
       ∙ ap (λ os. steps_with os (map (inputs_of t) (ops_of t))) items_are
 
-  pub made_set : IsWithinLimits t → (plan : List StepView) (firsts : List ℕ) → plan ≡ plan_of t
-      → AreFirsts t firsts → IsSet t plan firsts
-  made_set limits plan firsts is firsts_are = rw is (record {
-    limits = limits;
-    is_plan = plan_is_wired;
-    compiled = plan_keeps_law limits;
-    wires = plan_wires;
-    firsts_are = firsts_are;
-  })
+  pub made_set : IsWithinLimits t → (plan : List StepView) (firsts missing ready : List ℕ) → plan ≡ plan_of t
+      → AreFirsts t firsts → AreInputCounts plan missing (length plan) → AreWithoutInputs plan ready (length plan)
+      → IsSet t plan firsts missing ready
+  made_set limits plan firsts missing ready is firsts_are missing_are ready_are =
+      let counts = rw is at missing_are in
+      let without = rw is at ready_are in
+      rw is (record {
+        limits = limits;
+        is_plan = plan_is_wired;
+        compiled = plan_keeps_law limits;
+        wires = plan_wires;
+        firsts_are = firsts_are;
+        missing_are = counts;
+        ready_are = without;
+      })

@@ -5,3 +5,4 @@ pub mod Compiled
 pub mod Samples
 pub mod OnLiterals
 pub mod near
+pub mod Beginnings

@@ -10,7 +10,9 @@ ghost use Rattle.plan_compiler.specs.Compiled.{IsCompiled, IsFirstInput, step_me
 ghost use Rattle.plan_compiler.specs.Meaning.{last_total, last_value};
 ghost use Rattle.plan_compiler.specs.Places.{plan_of};
 ghost use Rattle.plan_compiler.specs.Plan.{IsPlanOf};
+ghost use Rattle.plan_compiler.specs.Beginnings.{AreInputCounts, AreWithoutInputs};
 
+use crate::counters::{input_counts, without_inputs};
 use crate::layout::{final_step, first_step, first_steps, inputs_of_all, premium_step, total_step};
 use crate::operations::ops_of;
 use plan_ir::nothing::NothingHeld;
@@ -18,6 +20,18 @@ use plan_ir::plans::Plan;
 use span_tables::tables::Tables;
 use std::alloc::{AllocError, Global};
 use std::marker::Model;
+use std::sync::Arc;
+
+// What compiled sets of the same tables share: nothing of it changes. `firsts` are the numbers of the commodities' first
+// steps, `missing` how many inputs each step has, `ready` the steps without inputs.
+#[derive(Drop)]
+struct Shared {
+    tables: Tables,
+    plan: Plan,
+    firsts: Vec<u32>,
+    missing: Vec<u8>,
+    ready: Vec<u32>,
+}
 
 /// Accepted tables with the plan of their steps.
 ///
@@ -25,21 +39,21 @@ use std::marker::Model;
 /// held. Contracts see the tables and the plan.
 #[derive(Drop)]
 pub struct CompiledSet {
-    tables: Tables,
-    plan: Plan,
-    firsts: Vec<u32>,
+    shared: Arc<Shared>,
     nothing: NothingHeld,
 }
 
 impl Model for CompiledSet {
+    ghost use Rattle.std.specs.Arc.{arc_value};
     ghost use Rattle.plan_compiler.specs.Compiled.{SetView};
     ghost use Rattle.plan_compiler.specs.near.Sets.{IsSet};
 
     ghost Value = { SetView };
 
-    ghost view = { λ set. record { tables = set.tables; plan = set.plan } };
+    ghost view = { λ set. record { tables = (arc_value set.shared).tables; plan = (arc_value set.shared).plan } };
 
-    ghost invariant = { λ set. IsSet set.tables set.plan set.firsts.items };
+    ghost invariant = { λ set. IsSet (arc_value set.shared).tables (arc_value set.shared).plan
+        (arc_value set.shared).firsts.items (arc_value set.shared).missing.items (arc_value set.shared).ready.items };
 }
 
 impl CompiledSet {
@@ -48,7 +62,7 @@ impl CompiledSet {
         ensures tables { result.now ≡ self.now.tables }
         ensures compiled { IsCompiled self.now }
     {
-        &self.tables
+        &self.shared.tables
     }
 
     /// The plan of their steps, which keeps the plan law.
@@ -57,12 +71,36 @@ impl CompiledSet {
         ensures is_plan { IsPlanOf self.now.tables self.now.plan }
         ensures compiled { IsCompiled self.now }
     {
-        &self.plan
+        &self.shared.plan
     }
 
     /// The values of a commodity of which nothing is held.
     pub fn nothing_held(&self) -> &NothingHeld {
         &self.nothing
+    }
+
+    /// How many inputs each step has, which it misses where nothing has a value yet.
+    pub fn missing(&self) -> &[u8]
+        ensures { AreInputCounts self.now.plan result.now (length self.now.plan) }
+    {
+        &self.shared.missing
+    }
+
+    /// The steps without inputs, which are ready where nothing has a value yet.
+    pub fn ready(&self) -> &[u32]
+        ensures { AreWithoutInputs self.now.plan result.now (length self.now.plan) }
+    {
+        &self.shared.ready
+    }
+
+    /// Another set of the same tables and plan, which it shares, with values of nothing held of its own: threads that take
+    /// and drop holds on these would else wait for one another. `Err` is want of memory.
+    pub fn another(&self, alloc: Global) -> Result<CompiledSet, AllocError>
+        ensures { IfOk result (λ set. set ≡ self.now) }
+    {
+        let shared = Arc::try_clone(&self.shared)?;
+        let nothing = NothingHeld::new(alloc, &shared.tables)?;
+        Ok(CompiledSet { shared, nothing })
     }
 
     /// The number of the step that has the held contracts of a commodity, whose number is from 0 in file order.
@@ -71,7 +109,7 @@ impl CompiledSet {
         ensures in_range { result < length self.now.plan }
         ensures op { op_at self.now.plan result ≡ operation.Gather commodity }
     {
-        first_step(&self.tables, &self.firsts, commodity)
+        first_step(&self.shared.tables, &self.shared.firsts, commodity)
     }
 
     /// The number of the step that has the figures of a commodity, whose number is from 0 in file order. It is no
@@ -82,7 +120,7 @@ impl CompiledSet {
         ensures op { op_at self.now.plan result ≡ operation.Final commodity }
         ensures stays { IsFirstInput self.now.plan result → ⊥ }
     {
-        final_step(&self.tables, &self.firsts, commodity)
+        final_step(&self.shared.tables, &self.shared.firsts, commodity)
     }
 
     /// The number of the step that has the total. It is no step's first input.
@@ -93,8 +131,8 @@ impl CompiledSet {
             ≡ value.Total (total_to self.now.tables holdings (length self.now.tables.commodities)) }
         ensures stays { IsFirstInput self.now.plan result → ⊥ }
     {
-        let commodities = self.tables.commodities().len();
-        total_step(&self.tables, &self.firsts, commodities as u32)
+        let Shared { tables, firsts, .. } = &*self.shared;
+        total_step(tables, firsts, tables.commodities().len() as u32)
     }
 
     /// The number of the step that has the account's option value, where options have one. It is no step's first input.
@@ -106,11 +144,11 @@ impl CompiledSet {
             ≡ value.Premium (value_to self.now.tables holdings (length self.now.tables.commodities))) }
         ensures stays { IfSome result (λ k. IsFirstInput self.now.plan k → ⊥) }
     {
-        if !self.tables.has_option_value() {
+        let Shared { tables, firsts, .. } = &*self.shared;
+        if !tables.has_option_value() {
             return None;
         }
-        let commodities = self.tables.commodities().len();
-        Some(premium_step(&self.tables, &self.firsts, commodities as u32))
+        Some(premium_step(tables, firsts, tables.commodities().len() as u32))
     }
 }
 
@@ -125,11 +163,18 @@ pub fn compile(alloc: Global, tables: Tables) -> Result<CompiledSet, AllocError>
     let firsts = first_steps(alloc, &tables)?;
     let inputs = inputs_of_all(alloc, &tables, &firsts, &ops)?;
     let plan = Plan::new(alloc, ops, inputs)?;
+    let missing = input_counts(alloc, &plan)?;
+    let ready = without_inputs(alloc, &plan)?;
     let nothing = NothingHeld::new(alloc, &tables)?;
-    Ok(CompiledSet {
+    let shared = Shared {
         tables,
         plan,
         firsts,
+        missing,
+        ready,
+    };
+    Ok(CompiledSet {
+        shared: Arc::new(alloc, shared)?,
         nothing,
     })
 }

@@ -1,27 +1,34 @@
 //! Lists of numbers, kept one behind the other.
-ghost use Rattle.std.specs.Prelude.{◌≡◌, ◌-◌, ◌<◌, ◌≤◌, [], ◌∷◌, ◌++◌};
-ghost use Rattle.std.specs.Prelude.{drop, length, slice_index_or, take, OnOk, OnErr};
-ghost use Rattle.plan_ir.specs.near.Packing.{AreEnds, lists_between, start_of};
+ghost use Rattle.std.specs.Prelude.{◌≡◌, ◌+◌, ◌<◌, ◌≤◌, [], ◌∷◌, ◌++◌};
+ghost use Rattle.std.specs.Prelude.{All, drop, length, map, slice_index_or, take, OnOk, OnErr};
+ghost use Rattle.plan_ir.specs.near.Packing.{IsWithin, list_in};
 
 use std::alloc::{AllocError, Global};
 use std::marker::Model;
 
-/// Lists of numbers in one vector, with the place where each list ends. Contracts see the lists.
+// Where a list begins among the numbers, and how long it is.
+#[derive(Clone, Copy)]
+struct Span {
+    start: usize,
+    len: usize,
+}
+
+/// Lists of numbers in one vector, with the place and the length of each. Contracts see the lists.
 #[derive(Drop)]
 pub struct NumberLists {
     numbers: Vec<u32>,
-    ends: Vec<usize>,
+    spans: Vec<Span>,
 }
 
 impl Model for NumberLists {
-    ghost use Rattle.std.specs.Prelude.{List, ℕ};
-    ghost use Rattle.plan_ir.specs.near.Packing.{AreEnds, lists_between};
+    ghost use Rattle.std.specs.Prelude.{All, List, map, ℕ};
+    ghost use Rattle.plan_ir.specs.near.Packing.{IsWithin, list_in};
 
     ghost Value = { List (List ℕ) };
 
-    ghost view = { λ lists. lists_between lists.numbers.items 0 lists.ends.items };
+    ghost view = { λ lists. map (list_in lists.numbers.items) lists.spans.items };
 
-    ghost invariant = { λ lists. AreEnds lists.numbers.items 0 lists.ends.items };
+    ghost invariant = { λ lists. All (IsWithin lists.numbers.items) lists.spans.items };
 }
 
 impl NumberLists {
@@ -31,7 +38,7 @@ impl NumberLists {
     {
         NumberLists {
             numbers: Vec::new(alloc),
-            ends: Vec::new(alloc),
+            spans: Vec::new(alloc),
         }
     }
 
@@ -39,7 +46,7 @@ impl NumberLists {
     pub fn len(&self) -> usize
         ensures { result ≡ length self.now }
     {
-        self.ends.as_slice().len()
+        self.spans.as_slice().len()
     }
 
     /// Appends a list. `Err` is want of memory.
@@ -47,10 +54,11 @@ impl NumberLists {
         ensures ok { OnOk result (self.new ≡ self.old ++ list.now ∷ []) }
         ensures err { OnErr result (self.new ≡ self.old) }
     {
-        self.ends.reserve(1)?;
+        self.spans.reserve(1)?;
+        let start = self.numbers.as_slice().len();
         self.numbers.extend_from_slice(list)?;
-        let end = self.numbers.as_slice().len();
-        self.ends.push_reserved(end);
+        let len = list.len();
+        self.spans.push_reserved(Span { start, len });
         Ok(())
     }
 
@@ -59,32 +67,23 @@ impl NumberLists {
         requires { place < length self.now }
         ensures { result.now ≡ slice_index_or self.now place [] }
     {
-        list_at(&self.numbers, &self.ends, place)
+        list_at(&self.numbers, &self.spans, place)
     }
 }
 
-// Where the list at a place begins: at the end of the one before it.
-fn start_of(ends: &[usize], place: usize) -> usize
-    requires { place < length ends.now }
-    ensures { result ≡ start_of 0 ends.now place }
+// So many numbers from a place on.
+fn numbers_in(numbers: &[u32], span: Span) -> &[u32]
+    requires { span.start + span.len ≤ length numbers.now }
+    ensures { result.now ≡ take span.len (drop span.start numbers.now) }
 {
-    if place == 0 { 0 } else { ends[place - 1] }
-}
-
-// The numbers from a place to another.
-fn between(numbers: &[u32], start: usize, end: usize) -> &[u32]
-    requires order { start ≤ end }
-    requires inside { end ≤ length numbers.now }
-    ensures { result.now ≡ take (end - start) (drop start numbers.now) }
-{
-    &numbers[start..end]
+    &numbers[span.start..][..span.len]
 }
 
 // The list at a place.
-fn list_at<'a>(numbers: &'a [u32], ends: &[usize], place: usize) -> &'a [u32]
-    requires place { place < length ends.now }
-    requires ends { AreEnds numbers.now 0 ends.now }
-    ensures { result.now ≡ slice_index_or (lists_between numbers.entry.now 0 ends.now) place [] }
+fn list_at<'a>(numbers: &'a [u32], spans: &[Span], place: usize) -> &'a [u32]
+    requires place { place < length spans.now }
+    requires within { All (IsWithin numbers.now) spans.now }
+    ensures { result.now ≡ slice_index_or (map (list_in numbers.entry.now) spans.now) place [] }
 {
-    between(numbers, start_of(ends, place), ends[place])
+    numbers_in(numbers, spans[place])
 }

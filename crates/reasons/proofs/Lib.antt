@@ -4,4 +4,5 @@ pub mod StageLemmas
 pub mod FigureLaws
 pub mod ChargeLaws
 pub mod CreditLaws
+pub mod SpreadLaws
 pub mod TotalLaws

@@ -1,5 +1,5 @@
 -- What the laws speak of.
-use Rattle.std.specs.Prelude.{ℕ, ◌+◌, max, List, filter, length, ℤ}
+use Rattle.std.specs.Prelude.{ℕ, ◌≡◌, ◌+◌, ◌++◌, max, List, filter, length, ℤ}
 use Rattle.std.specs.List.{range_with_len}
 use Rattle.span_money.specs.Numbers.{int_sum_by}
 use Rattle.span_tables.specs.Tables.{AcceptedTables}
@@ -21,3 +21,7 @@ numbers_shown t holdings = filter (is_held t holdings) (range_with_len 0 (length
 -- the sum of the values of the positions in the commodity of a number
 abbrev pub values_shown_at : AcceptedTables → List Holding → ℕ → ℤ
 values_shown_at t holdings c = int_sum_by position_value (held_at t holdings c)
+
+-- a list stands in another, in one piece
+abbrev pub StandsIn : {A : Type 0} → List A → List A → Type 0
+StandsIn {A} part whole = (before : List A) × ((behind : List A) × (whole ≡ before ++ (part ++ behind)))

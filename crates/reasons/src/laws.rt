@@ -1,17 +1,23 @@
 //! Laws: the figures of a commodity follow from what its lines show. Each is the contract of a function that does nothing.
-ghost use Rattle.inter_credit.specs.Credits.{credit_of};
+ghost use Rattle.inter_credit.specs.Credits as commodities;
+ghost use Rattle.inter_credit.specs.Credits.{credit_of, inter_both_ways};
 ghost use Rattle.inter_credit.specs.Requirement.{is_call, is_put, requirement_of, short_count};
-ghost use Rattle.plan_ir.specs.Figures.{commodity_at, figures_of, held_at, scan_at};
-ghost use Rattle.reasons.specs.Laws.{counted};
+ghost use Rattle.plan_ir.specs.Figures.{commodity_at, deltas_at, figures_of, held_at, intras_at, loaded_lines, scan_at};
+ghost use Rattle.reasons.specs.Laws.{StandsIn, counted};
 ghost use Rattle.reasons.specs.Reasons.{inters_shown_at, intras_shown_at, line_after_all, months_shown_at, spots_shown_at};
-ghost use Rattle.reasons.specs.Shown.{intra_charge, spot_charge, weight_of};
+ghost use Rattle.reasons.specs.Shown.{inter_ways, intra_charge, intra_ways, ratio_in, spot_charge, weight_of};
 ghost use Rattle.scan_risk.specs.Scenarios.{active_scenario, scan_risk, scenario_sums};
 ghost use Rattle.span_money.specs.Numbers.{int_sum_by};
-ghost use Rattle.span_tables.specs.Accepted.{IsWithinLimits};
-ghost use Rattle.span_tables.specs.Tables.{AcceptedTables};
+ghost use Rattle.span_tables.specs.Accepted.{IsWithinLimits, commodity_id};
+ghost use Rattle.span_tables.specs.Tables.{AcceptedTables, inters_of, priorities_of};
 ghost use Rattle.span_tables.specs.declared.portfolios.Holding.{Holding};
+ghost use Rattle.span_tables.specs.declared.records.Inter.{Inter};
+ghost use Rattle.span_tables.specs.declared.records.InterRecord.{InterRecord};
+ghost use Rattle.span_tables.specs.declared.records.Intra.{Intra};
+ghost use Rattle.spread_stage.specs.Spreads as months;
+ghost use Rattle.spread_stage.specs.Spreads.{spread_both_ways, unspread};
 ghost use Rattle.std.specs.Int.{div_ceil};
-ghost use Rattle.std.specs.Prelude.{◌*◌, ◌<◌, ◌^◌, ◌≡◌, List, length, pos, sum_by, ℕ};
+ghost use Rattle.std.specs.Prelude.{◌*◌, ◌<◌, ◌^◌, ◌≡◌, List, Some, fold, length, pos, slice_get, sum_by, take, ℕ};
 
 /// The scan risk is the largest of the sums shown, or 0, and the active scenario the first one that has the largest sum.
 pub fn scan_risk_is_the_largest_sum_shown()
@@ -21,11 +27,20 @@ pub fn scan_risk_is_the_largest_sum_shown()
         → (figures_of t holdings c).active ≡ active_scenario (scenario_sums (held_at t holdings c)) }
 {}
 
-/// The intracommodity charge is the sum of the charges of the spreads shown, divided by 10^4 and rounded up: no spread that
-/// forms is left out.
+/// The intracommodity charge is the sum of the charges of the spreads shown, divided by 10^4 and rounded up.
 pub fn intracommodity_charge_is_that_of_the_spreads_shown()
     ensures { (t : AcceptedTables) (holdings : List Holding) (c : ℕ) → (figures_of t holdings c).intra
         ≡ pos (div_ceil (sum_by intra_charge (intras_shown_at t holdings c)) (10 ^ 4)) }
+{}
+
+/// Each spread between months has its lines, one for each direction in which it forms more than 0, of as many as it forms from
+/// the rests that the spreads before it left.
+pub fn each_spread_between_months_has_its_lines()
+    ensures { (t : AcceptedTables) (holdings : List Holding) (c k priority : ℕ) (spread : Intra)
+        → slice_get (priorities_of t (commodity_id t c)) k ≡ Some priority → slice_get (intras_at t c) k ≡ Some spread
+        → StandsIn (intra_ways priority spread.rate (months.formed_both
+        (fold spread_both_ways (unspread (deltas_at t holdings c)) (take k (intras_at t c))) spread))
+        (intras_shown_at t holdings c) }
 {}
 
 /// The delivery charge is the sum of the charges of the spot months shown, divided by 10^8 and rounded up: a spot month whose
@@ -44,11 +59,20 @@ pub fn net_delta_is_the_sum_of_the_months_shown()
         → (line_after_all t holdings c).price2 ≡ (scan_at t holdings c).price2 }
 {}
 
-/// The weight of the credit is the sum of the weights of the spreads shown, each what it uses times its basis points: no
-/// spread that forms is left out.
+/// The weight of the credit is the sum of the weights of the spreads shown, each what it uses times its basis points.
 pub fn weight_is_the_sum_of_the_spreads_shown()
     ensures { (t : AcceptedTables) (holdings : List Holding) (c : ℕ) → IsWithinLimits t → c < length t.commodities
         → (line_after_all t holdings c).weight ≡ sum_by weight_of (inters_shown_at t holdings c) }
+{}
+
+/// Each spread between commodities has its lines in those in which it has a leg, one for each direction in which it forms more
+/// than 0, of as many as it forms from the rests that the spreads before it left.
+pub fn each_spread_between_commodities_has_its_lines()
+    ensures { (t : AcceptedTables) (holdings : List Holding) (c k : ℕ) (record_of : InterRecord) (spread : Inter)
+        → slice_get t.inters k ≡ Some record_of → slice_get (inters_of t) k ≡ Some spread
+        → StandsIn (inter_ways record_of.priority spread.basis_points (commodities.formed_both
+        (fold inter_both_ways (loaded_lines t holdings) (take k (inters_of t))) spread) (ratio_in c spread.legs))
+        (inters_shown_at t holdings c) }
 {}
 
 /// The credit is that of the price risk, the net delta and the weight shown.

@@ -89,14 +89,14 @@ account, the set and, but for T, the commodity. Behind them stand:
   CREDIT  price risk,net delta,weight
   SHORT   short calls,short puts,method,rate
   R, T    as `margin` prints them
-docs/FORMATS.md describes the lines, docs/METHOD.md the figures.";
+docs/FORMATS.md describes the lines, docs/METHOD.md the figures; docs/EXPLAIN.md reads them for one account.";
 
 const ACCOUNT_HELP: &str = "The account that is explained; without it, all are";
 
 const BAD_ACCOUNT: &str =
     "invalid value for '--account <NAME>': a name is 1 to 16 bytes of A to Z, 0 to 9, _ and -";
 
-const WORKERS_HELP: &str = "Workers that share the steps, 1 to 16; more than 1 saves no time yet";
+const WORKERS_HELP: &str = "Workers that share the accounts, 1 to 16; as many as processors save time";
 
 // A file's name, which has to be given.
 fn file<'a>(alloc: Global, id: &'a str, help: &'a str) -> Arg<'a>

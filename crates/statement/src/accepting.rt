@@ -5,7 +5,7 @@ ghost use Rattle.span_tables.specs.Holdings.{fits};
 ghost use Rattle.span_tables.specs.Net.{AccountHoldings};
 ghost use Rattle.span_tables.specs.Tables.{AcceptedTables};
 ghost use Rattle.statement.specs.Answers.{Gives};
-ghost use Rattle.statement.specs.Statement.{accepted_of, portfolios_under, statement_of, statement_text};
+ghost use Rattle.statement.specs.Statement.{accepted_of, portfolios_under, statement_bound, statement_of, statement_text};
 ghost use Rattle.statement.specs.Batches.{AreOnce};
 ghost use Rattle.statement.specs.declared.accepting.Accepted.{Accepted};
 ghost use Rattle.std.specs.Arc.{arc_value};
@@ -24,6 +24,8 @@ use span_tables::raw::RawPositions;
 use span_tables::tables::Tables;
 use std::alloc::{AllocError, Global};
 use std::sync::Arc;
+use std::thread;
+use std::thread::Threads;
 
 /// The accepted tables of a parameter file, or the first fault in reading it and checking it.
 #[tactic(auto, unfolding(crate::specs::Statement::accepted_of))]
@@ -80,9 +82,33 @@ pub struct Accepted {
     pub portfolios: Portfolios,
 }
 
+// What an accepted set and the positions of a file say, or the fault in binding these.
+#[tactic(auto, unfolding(crate::specs::Statement::statement_bound))]
+fn accept_positions(
+    alloc: Global,
+    set: Arc<CompiledSet>,
+    positions: RawPositions,
+) -> Result<Accepted, SpanFault>
+    ensures text { Gives (λ (a : Accepted). statement_text (arc_value a.set).tables a.portfolios)
+        result (statement_bound (arc_value set).tables positions) }
+    ensures tables { IfOk result (λ a. (arc_value a.set).tables ≡ (arc_value set).tables) }
+    ensures positions { IfOk result (λ a. a.positions ≡ positions) }
+    ensures portfolios { IfOk result (λ a. portfolios_under (arc_value a.set).tables a.positions ≡ Ok a.portfolios) }
+    ensures fits { IfOk result (λ a.
+        All (λ p. fits (length (arc_value a.set).tables.contracts) p.holdings ≡ true) a.portfolios) }
+    ensures once { IfOk result (λ a. AreOnce a.portfolios) }
+{
+    let portfolios = portfolios_of(alloc, &set, &positions)?;
+    Ok(Accepted {
+        set,
+        positions,
+        portfolios,
+    })
+}
+
 /// What two files say, or the first fault: in reading the parameters, in checking them, in reading the positions, in
 /// binding them; or want of memory.
-#[tactic(auto, unfolding(crate::specs::Statement::statement_of, crate::specs::Statement::statement_under, crate::specs::Statement::statement_bound))]
+#[tactic(auto, unfolding(crate::specs::Statement::statement_of, crate::specs::Statement::statement_under))]
 pub fn accept(alloc: Global, params: &[u8], positions: &[u8]) -> Result<Accepted, SpanFault>
     ensures text { Gives (λ (a : Accepted). statement_text (arc_value a.set).tables a.portfolios)
         result (statement_of params.now positions.now) }
@@ -95,10 +121,35 @@ pub fn accept(alloc: Global, params: &[u8], positions: &[u8]) -> Result<Accepted
 {
     let set = set_of(alloc, params)?;
     let positions = read_positions(alloc, positions)?;
-    let portfolios = portfolios_of(alloc, &set, &positions)?;
-    Ok(Accepted {
-        set,
-        positions,
-        portfolios,
-    })
+    accept_positions(alloc, set, positions)
+}
+
+/// As [`accept`]. With two workers or more a thread of its own reads, checks and compiles the parameters beside reading the
+/// positions; where no thread is started, it is done after that. The order of the faults is the same.
+#[tactic(auto, unfolding(crate::specs::Statement::statement_of, crate::specs::Statement::statement_under))]
+pub(crate) fn accept_together<R: Threads>(
+    rt: &R,
+    alloc: Global,
+    params: &[u8],
+    positions: &[u8],
+    workers: usize,
+) -> Result<Accepted, SpanFault>
+    ensures text { Gives (λ (a : Accepted). statement_text (arc_value a.set).tables a.portfolios)
+        result (statement_of params.now positions.now) }
+    ensures tables { IfOk result (λ a. accepted_of params.now ≡ Ok (arc_value a.set).tables) }
+    ensures positions { IfOk result (λ a. positions_of positions.now ≡ Ok a.positions) }
+    ensures portfolios { IfOk result (λ a. portfolios_under (arc_value a.set).tables a.positions ≡ Ok a.portfolios) }
+    ensures fits { IfOk result (λ a.
+        All (λ p. fits (length (arc_value a.set).tables.contracts) p.holdings ≡ true) a.portfolios) }
+    ensures once { IfOk result (λ a. AreOnce a.portfolios) }
+{
+    if workers < 2 {
+        return accept(alloc, params, positions);
+    }
+    let (set, positions) = thread::join(
+        rt,
+        || set_of(alloc, params),
+        || read_positions(alloc, positions),
+    );
+    accept_positions(alloc, set?, positions?)
 }

@@ -17,10 +17,10 @@ use std::alloc::{AllocError, Global};
 use std::sync::{Arc, Wait};
 use std::thread::Threads;
 use std::time::Clock;
-use worker_pool::batch::run_batch;
 use worker_pool::gates::Gate;
 use worker_pool::outcomes::Outcome;
 use worker_pool::plain::run_plain;
+use worker_teams::teams::run_in_teams;
 
 // The rows of all outcomes; want of memory, where an account has none: a statement is whole, or not given.
 fn all_rows(alloc: Global, outcomes: Vec<Outcome>) -> Result<Vec<Arc<Row>>, AllocError>
@@ -59,7 +59,7 @@ pub fn rows_alone(
     rows_of(alloc, outcomes)
 }
 
-/// The same on 1 to 16 workers.
+/// The same on 1 to 16 workers, in teams.
 pub(crate) fn rows_together<R: Threads + Wait + Clock + Sync, G: Gate>(
     rt: &R,
     alloc: Global,
@@ -71,7 +71,7 @@ pub(crate) fn rows_together<R: Threads + Wait + Clock + Sync, G: Gate>(
     requires { All (λ p. fits (length (arc_value set.now).tables.contracts) p.holdings ≡ true) portfolios }
     ensures { IfOk result (λ rows. map arc_value rows.items ≡ rows_under (arc_value set.now) portfolios) }
 {
-    match run_batch(rt, alloc, set, portfolios.into_vec(), workers, gate) {
+    match run_in_teams(rt, alloc, set, portfolios.into_vec(), workers, gate) {
         Ok(outcomes) => rows_of(alloc, outcomes),
         Err(_) => Err(AllocError),
     }

@@ -4,7 +4,7 @@ ghost use Rattle.statement.specs.Statement.{margin_of, statement_of};
 ghost use Rattle.std.specs.Prelude.{◌≡◌, ◌<◌, ◌⊎◌, ◌↔◌, Err};
 ghost use Rattle.statement.specs.declared.faults.SpanFault.TheVariants as fault;
 
-use crate::accepting::{Accepted, accept};
+use crate::accepting::{Accepted, accept, accept_together};
 use crate::batches::{rows_alone, rows_together, text_of};
 use crate::faults::SpanFault;
 use std::alloc::Global;
@@ -52,7 +52,7 @@ pub fn margin<R: Threads + Wait + Clock + Sync, G: Gate>(
         set,
         portfolios,
         ..
-    } = accept(alloc, params, positions)?;
+    } = accept_together(rt, alloc, params, positions, workers)?;
     let rows = rows_together(rt, alloc, &set, portfolios, workers, gate)?;
     let text = text_of(alloc, &rows)?;
     Ok(text)

@@ -10,7 +10,7 @@ ghost use Rattle.std.specs.Arc.{arc_value};
 ghost use Rattle.std.specs.Prelude.{◌≡◌, ◌<◌, ◌∷◌, ◌⊎◌, ◌↔◌, [], All, Err, IfErr, IfOk, Ok};
 ghost use Rattle.std.specs.Prelude.{OnOk, length, map, true};
 
-use crate::accepting::{Accepted, accept, portfolios_of, set_of};
+use crate::accepting::{Accepted, accept_together, portfolios_of, set_of};
 use crate::batches::rows_together;
 use crate::faults::SpanFault;
 use crate::kept::keep_rows;
@@ -235,6 +235,6 @@ pub fn roll<R: Threads + Wait + Clock + Sync, G: Gate>(
     if workers == 0 || workers > MAX_WORKERS {
         return Err(SpanFault::Workers);
     }
-    let today = accept(alloc, params, positions)?;
+    let today = accept_together(rt, alloc, params, positions, workers)?;
     roll_named::<Brand, R, G>(rt, alloc, History::new(), today, next, workers, gate, book)
 }

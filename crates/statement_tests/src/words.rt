@@ -470,7 +470,7 @@ Arguments:
   <POSITIONS>  Position file (CSV): account, contract, quantity in contracts (minus is short)
 
 Options:
-      --workers <N>  Workers that share the steps, 1 to 16; more than 1 saves no time yet [default: 1]
+      --workers <N>  Workers that share the accounts, 1 to 16; as many as processors save time [default: 1]
   -h, --help         Print help
 
 Prints a line for each commodity that an account holds, then one for its total:
@@ -510,7 +510,7 @@ account, the set and, but for T, the commodity. Behind them stand:
   CREDIT  price risk,net delta,weight
   SHORT   short calls,short puts,method,rate
   R, T    as `margin` prints them
-docs/FORMATS.md describes the lines, docs/METHOD.md the figures.
+docs/FORMATS.md describes the lines, docs/METHOD.md the figures; docs/EXPLAIN.md reads them for one account.
 ";
 
 const ROLL_HELP: &[u8] = b"\
@@ -524,7 +524,7 @@ Arguments:
   <POSITIONS>  Position file (CSV): account, contract, quantity in contracts (minus is short)
 
 Options:
-      --workers <N>  Workers that share the steps, 1 to 16; more than 1 saves no time yet [default: 1]
+      --workers <N>  Workers that share the accounts, 1 to 16; as many as processors save time [default: 1]
   -h, --help         Print help
 
 Prints the statement under PARAMS, as `margin` does, and after it that under NEXT, for the same positions.

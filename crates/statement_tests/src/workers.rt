@@ -1,10 +1,15 @@
 //! Statements on many workers.
 use sample_files::{calendar, one_future, option_values, three_commodities, two_commodities};
+use span_tables::name::Name;
 use statement::faults::SpanFault;
-use statement::margin::margin;
+use statement::margin::{margin, margin_plain};
+use std::alloc::{AllocError, Global};
+use std::sync::atomic::AtomicU64;
+use std::sync::atomic::Ordering::SeqCst;
 use std::test::Fail;
+use std::thread;
 use worker_pool::batch::MAX_WORKERS;
-use worker_pool::gates::OpenGate;
+use worker_pool::gates::{Gate, OpenGate};
 
 // A second account, which is long two of the second commodity.
 const TWO_ACCOUNTS: &[u8] = b"\
@@ -85,4 +90,78 @@ fn numbers_of_workers_that_cannot_be(rt: HostRuntime) {
             assert!(rt; refused == Err(SpanFault::Workers));
         }
     }
+}
+
+/// The commodities of a set in which many steps of an account are ready at once.
+const MANY: usize = 16;
+
+// A future of each of many commodities, which loses 100 when prices fall by the whole range.
+fn wide_params(alloc: Global) -> Result<String, AllocError> {
+    let mut text = format!(in alloc; "SET,D1,1,USD\n")?;
+    for commodity in 0..MANY {
+        text.write_fmt(format_args!("COMMODITY,C{commodity},0,SUM\n"))?;
+    }
+    for contract in 0..MANY {
+        text.write_fmt(format_args!(
+            "CONTRACT,K{contract},C{contract},F,202503,1,1,0,0,0,0,0,0,0,0,0,0,-100,-100,100,100,0,0\n"
+        ))?;
+    }
+    Ok(text)
+}
+
+// Two accounts that are long each future.
+fn wide_positions(alloc: Global) -> Result<String, AllocError> {
+    let mut text = String::new(alloc);
+    for account in ["X", "Y"] {
+        for contract in 0..MANY {
+            text.write_fmt(format_args!("{account},K{contract},1\n"))?;
+        }
+    }
+    Ok(text)
+}
+
+// Each pass waits until all workers that there may be have entered, or its turns are used up.
+#[derive(Drop)]
+struct AllAtOnce {
+    entered: AtomicU64,
+    late: AtomicU64,
+}
+
+impl Gate for AllAtOnce {
+    fn pass(&self, worker: usize, _account: &Name, _step: usize) {
+        if worker < 64 {
+            self.entered.fetch_or(1 << worker, SeqCst);
+        }
+        for _ in 0..10_000_000 {
+            if self.entered.load(SeqCst).count_ones() as usize >= MAX_WORKERS {
+                return;
+            }
+            thread::yield_now();
+        }
+        self.late.fetch_add(1, SeqCst);
+    }
+}
+
+#[test]
+fn two_teams_of_eight(rt: HostRuntime) -> Result<(), Fail> {
+    let alloc = rt.alloc();
+    let params = wide_params(alloc)?;
+    let positions = wide_positions(alloc)?;
+    let gate = AllAtOnce {
+        entered: AtomicU64::new(0),
+        late: AtomicU64::new(0),
+    };
+    let text = margin(
+        &rt,
+        alloc,
+        params.as_bytes(),
+        positions.as_bytes(),
+        MAX_WORKERS,
+        &gate,
+    )?;
+    let alone = margin_plain(alloc, params.as_bytes(), positions.as_bytes())?;
+    assert!(rt; text.as_slice() == alone.as_slice());
+    assert_eq!(rt; gate.late.load(SeqCst), 0);
+    assert_eq!(rt; gate.entered.load(SeqCst), (1 << MAX_WORKERS) - 1);
+    Ok(())
 }

@@ -14,7 +14,8 @@ use Rattle.plan_ir.specs.declared.values.Value.{Value}
 use Rattle.step_scheduler.specs.declared.progress.Progress.{Progress}
 use Rattle.step_scheduler.specs.declared.progress.Progress.TheVariants.{Waiting, Taken, Done}
 use Rattle.step_scheduler.specs.near.Steps.{was_taken, is_done, events_of, progress_at, AreDone, CanStart}
-use Rattle.step_scheduler.specs.near.Counts.{times, open_inputs, ready_times, freed_times, IsCounted}
+use Rattle.plan_compiler.specs.Beginnings.{times, AreInputCounts, AreWithoutInputs}
+use Rattle.step_scheduler.specs.near.Counts.{open_inputs, ready_times, freed_times, IsCounted}
 use Rattle.std.specs.Arc.{arc_value}
 use Rattle.plan_compiler.specs.Compiled.{Fits, IsCompiled}
 use Rattle.step_scheduler.specs.Jobs.{JobView, meaning_at}
@@ -25,7 +26,8 @@ use Rattle.step_scheduler.specs.declared.events.Event.TheVariants.{Take, Finish}
 use Rattle.step_scheduler.proofs.BoardLemmas.{board_takes, board_finishes, waiting_not_done}
 use Rattle.step_scheduler.specs.near.Keeping.{Place, is_full, place_at, IsHanded, MayMove, KeepsMeanings}
 use Rattle.step_scheduler.proofs.Places.{kept_at_end, kept_takes, kept_finishes, kept_new}
-use Rattle.step_scheduler.proofs.Counting.{times_push_same, times_push_other, Released}
+use Rattle.plan_compiler.proofs.CounterLemmas.{times_push_same, times_push_other}
+use Rattle.step_scheduler.proofs.Counting.{Released}
 use Rattle.step_scheduler.proofs.UserLemmas.{HasUsers, has_users}
 
 open_same : (steps steps' : List Progress) → ((i : ℕ) → is_done (progress_at steps' i) ≡ is_done (progress_at steps i))
@@ -371,94 +373,19 @@ pub kept_when_complete : (job : JobView) (steps : List Progress) (places : List 
 kept_when_complete job steps places history capacity missing ready ready_capacity j b all h stays =
     kept_at_end job steps places b.kept b.board.long j (sym (b.board.finished j) ∙ all j h) stays
 
--- the counters of the first k steps of a plan
-pub record CountersSoFar (plan : List StepView) (missing ready : List ℕ) (capacity k : ℕ) : Type 0 where
-  pub long : length missing ≡ k
-  pub counts : (j : ℕ) → j < k → slice_index missing j ≡ length (inputs_at plan j)
-  pub in_range : All (λ x. x < k) ready
-  pub listed : (j : ℕ) → times j ready ≡ (if nat_lt j k then ready_times false (length (inputs_at plan j)) else 0)
-  pub room : length plan ≤ capacity
-
 open_all : (n : ℕ) (is : List ℕ) → open_inputs (replicate n Waiting) is ≡ length is
 open_all n [] = refl
 open_all n (i ∷ is) = rw (nothing_done n i, open_all n is) (omega arith)
 
 -- the counters of a whole plan
 pub counters_all : (plan : List StepView) (missing ready : List ℕ) (capacity : ℕ)
-    → CountersSoFar plan missing ready capacity (length plan)
+    → AreInputCounts plan missing (length plan) → AreWithoutInputs plan ready (length plan) → length plan ≤ capacity
     → IsCounted plan (replicate (length plan) Waiting) missing ready capacity
-counters_all plan missing ready capacity c = record {
-  long = c.long;
-  missing_is = λ k h. c.counts k h ∙ sym (open_all (length plan) (inputs_at plan k));
+counters_all plan missing ready capacity counts without room = record {
+  long = counts.long;
+  missing_is = λ k h. counts.counts k h ∙ sym (open_all (length plan) (inputs_at plan k));
   fed = λ k h t. absurd (false≢true (sym (nothing_taken (length plan) k) ∙ t));
-  in_range = c.in_range;
-  listed = λ k h. c.listed k ∙ rw (lt-ltb k (length plan) h, nothing_taken (length plan) k, c.counts k h) refl;
-  room = c.room;
-}
-
-pub counters_none : (plan : List StepView) (capacity : ℕ) → length plan ≤ capacity → CountersSoFar plan [] [] capacity 0
-counters_none plan capacity room = record {
-  long = refl;
-  counts = λ j h. absurd (omega arith);
-  in_range = All-nil (λ x. x < 0);
-  listed = λ j. rw (le-ltb j 0 (omega arith)) refl;
+  in_range = without.in_range;
+  listed = λ k h. without.listed k ∙ rw (lt-ltb k (length plan) h, nothing_taken (length plan) k, counts.counts k h) refl;
   room = room;
-}
-
--- one more step is counted
-
-counts_more : (plan : List StepView) (missing : List ℕ) (k n : ℕ) → length missing ≡ k
-    → ((j : ℕ) → j < k → slice_index missing j ≡ length (inputs_at plan j)) → n ≡ length (inputs_at plan k)
-    → (j : ℕ) → j < k + 1 → slice_index (missing ++ n ∷ []) j ≡ length (inputs_at plan j)
-counts_more plan missing k n long counts e j h =
-    elim (cases_eq j k) [
-      | inl same ↦ rw (get_or_push missing n 0 j (long ∙ sym same), same) e
-      | inr other ↦ get_or_append_left missing (n ∷ []) 0 j (omega arith) ∙ counts j (omega arith)
-    ]
-
-not_there : (k : ℕ) (ready : List ℕ) → All (λ x. x < k) ready → times k ready ≡ 0
-not_there k [] all = refl
-not_there k (x ∷ xs) all =
-    let h = All-head (λ y. y < k) x xs all in
-    rw (ne_eqb x k (λ e. absurd (omega arith))) (zero-add _ ∙ not_there k xs (All-tail (λ y. y < k) x xs all))
-
-pub same_test : (j k : ℕ) → (j ≡ k → ⊥) → nat_lt j (k + 1) ≡ nat_lt j k
-same_test j k n =
-    elim (cases_lt j k) [
-      | inl below ↦ lt-ltb j (k + 1) (omega arith) ∙ sym (lt-ltb j k below)
-      | inr above ↦ le-ltb j (k + 1) (omega arith) ∙ sym (le-ltb j k above)
-    ]
-
-pub counters_waits : (plan : List StepView) (missing ready : List ℕ) (capacity k n : ℕ)
-    → CountersSoFar plan missing ready capacity k → n ≡ length (inputs_at plan k) → (n ≡ 0 → ⊥)
-    → CountersSoFar plan (missing ++ n ∷ []) ready capacity (k + 1)
-counters_waits plan missing ready capacity k n c e some = record {
-  long = let l = c.long in omega (arith, length-append missing (n ∷ []));
-  counts = counts_more plan missing k n c.long c.counts e;
-  in_range = All-weaker (λ x. x < k) (λ x. x < k + 1) (λ x h. omega arith) ready c.in_range;
-  listed = λ j. elim (cases_eq j k) [
-    | inl same ↦ subst (λ (x : ℕ). times x ready ≡ (if nat_lt x (k + 1) then ready_times false
-        (length (inputs_at plan x)) else 0)) (sym same) (rw (lt-ltb k (k + 1) (omega arith), ← e, ne_eqb n 0 some)
-        (not_there k ready c.in_range))
-    | inr other ↦ c.listed j ∙ rw (same_test j k other) refl
-  ];
-  room = c.room;
-}
-
-pub counters_ready : (plan : List StepView) (missing ready : List ℕ) (capacity capacity' k n : ℕ)
-    → CountersSoFar plan missing ready capacity k → n ≡ length (inputs_at plan k) → n ≡ 0 → capacity ≤ capacity'
-    → CountersSoFar plan (missing ++ n ∷ []) (ready ++ k ∷ []) capacity' (k + 1)
-counters_ready plan missing ready capacity capacity' k n c e none more = record {
-  long = let l = c.long in omega (arith, length-append missing (n ∷ []));
-  counts = counts_more plan missing k n c.long c.counts e;
-  in_range = All-push (λ x. x < k + 1) ready k (All-weaker (λ x. x < k) (λ x. x < k + 1)
-      (λ x h. omega arith) ready c.in_range) (omega arith);
-  listed = λ j. elim (cases_eq j k) [
-    | inl same ↦ subst (λ (x : ℕ). times x (ready ++ k ∷ []) ≡
-        (if nat_lt x (k + 1) then ready_times false (length (inputs_at plan x)) else 0)) (sym same)
-        (rw (lt-ltb k (k + 1) (omega arith), ← e, none, times_push_same k ready) (let z = not_there k ready c.in_range in
-        omega arith))
-    | inr other ↦ times_push_other j k ready (λ x. other (sym x)) ∙ c.listed j ∙ rw (same_test j k other) refl
-  ];
-  room = let r = c.room in omega arith;
 }

@@ -6,18 +6,9 @@ use Rattle.std.proofs.Common.{get_or-set_other, length-append, add_assoc, zero-a
 use Rattle.std.proofs.lemmas.Bool.{cases_eq, ne_eqb}
 use Rattle.std.proofs.lemmas.List.{take_more, length-set, take-append-drop}
 use Rattle.std.proofs.lemmas.List.Elements.{All-push}
-use Rattle.step_scheduler.specs.near.Counts.{times, freed_times}
-
-pub times-append : (x : ℕ) (ys zs : List ℕ) → times x (ys ++ zs) ≡ times x ys + times x zs
-times-append x [] zs = sym (zero-add (times x zs))
-times-append x (y ∷ ys) zs = ap (λ n. (if y == x then 1 else 0) + n) (times-append x ys zs)
-    ∙ sym (add_assoc (if y == x then 1 else 0) (times x ys) (times x zs))
-
-pub times_push_same : (x : ℕ) (ys : List ℕ) → times x (ys ++ x ∷ []) ≡ times x ys + 1
-times_push_same x ys = times-append x ys (x ∷ []) ∙ rw (eq-eqb x x refl) refl
-
-pub times_push_other : (x y : ℕ) (ys : List ℕ) → (y ≡ x → ⊥) → times x (ys ++ y ∷ []) ≡ times x ys
-times_push_other x y ys n = times-append x ys (y ∷ []) ∙ rw (ne_eqb y x n) (omega arith)
+use Rattle.plan_compiler.specs.Beginnings.{times}
+use Rattle.plan_compiler.proofs.CounterLemmas.{times-append, times_push_other, times_push_same}
+use Rattle.step_scheduler.specs.near.Counts.{freed_times}
 
 -- after these users are counted down
 pub record Released (users missing missing' ready ready' : List ℕ) (capacity capacity' : ℕ) : Type 0 where

@@ -15,7 +15,7 @@ use Rattle.step_scheduler.specs.declared.progress.Progress.{Progress}
 use Rattle.step_scheduler.specs.declared.progress.Progress.TheVariants.{Waiting, Taken, Done}
 use Rattle.step_scheduler.specs.Jobs.{JobView, inputs_for, meaning_at}
 use Rattle.step_scheduler.specs.near.Steps.{was_taken, is_done, progress_at, CanStart}
-use Rattle.step_scheduler.specs.near.Counts.{times}
+use Rattle.plan_compiler.specs.Beginnings.{times}
 use Rattle.step_scheduler.specs.near.Keeping.{Place, is_full, value_in, place_at, kept_at, AreKept, KeepsMeanings}
 use Rattle.step_scheduler.specs.near.Keeping.{IsSpent, IsKept, IsOnlyUser, IsHanded, IsMoved, AreMoved, MayMove}
 use Rattle.step_scheduler.specs.near.Keeping.{IsGiven, AreGiven, is_net_value}

@@ -78,7 +78,7 @@ impl Board {
     {
         let count = job.plan().len();
         let steps = vec![in alloc; Progress::Waiting; count]?;
-        let (missing, ready) = counters(alloc, job.plan())?;
+        let (missing, ready) = counters(alloc, job.set())?;
         let places = found_values(alloc, &job)?;
         let history = Vec::with_capacity(alloc, 2 * count)?;
         let spare = Vec::with_capacity(alloc, SPARE_HOLDS)?;

@@ -2,12 +2,11 @@
 ghost use Rattle.std.specs.Prelude.{◌≡◌, ℕ, ◌+◌, ◌<◌, ◌≤◌, ◌++◌, ◌∷◌, [], ◌-◌};
 ghost use Rattle.std.specs.Prelude.{All, IfOk, MatchOption, length, replicate};
 ghost use Rattle.std.specs.Prelude.{slice_index, take, vec_capacity};
-ghost use Rattle.plan_ir.specs.Plans.{inputs_at};
-ghost use Rattle.plan_ir.specs.declared.plans.TheConstants.{MAX_INPUTS, MAX_STEPS};
+ghost use Rattle.plan_compiler.specs.Beginnings.{times};
 ghost use Rattle.step_scheduler.specs.declared.progress.Progress.TheVariants.{Waiting};
-ghost use Rattle.step_scheduler.specs.near.Counts.{times, freed_times, IsCounted};
+ghost use Rattle.step_scheduler.specs.near.Counts.{freed_times, IsCounted};
 
-use plan_ir::plans::Plan;
+use plan_compiler::set::CompiledSet;
 use std::alloc::{AllocError, Global};
 
 // The last number of the list.
@@ -20,22 +19,16 @@ pub(crate) fn last_of(ready: &[u32]) -> Option<u32>
     Some(ready[ready.len() - 1])
 }
 
-// The counters of a plan of which no step has its value, and the steps that miss nothing.
-pub(crate) fn counters(alloc: Global, plan: &Plan) -> Result<(Vec<u8>, Vec<u32>), AllocError>
-    requires few_steps { length plan.now ≤ MAX_STEPS }
-    requires few_inputs { (k : ℕ) → k < length plan.now → length (inputs_at plan.now k) ≤ MAX_INPUTS }
-    ensures { IfOk result (λ r. IsCounted plan.now (replicate (length plan.now) Waiting) r.0.items r.1.items (vec_capacity r.1)) }
+// The counters of a set's plan of which no step has its value, and the steps that miss nothing.
+pub(crate) fn counters(alloc: Global, set: &CompiledSet) -> Result<(Vec<u8>, Vec<u32>), AllocError>
+    ensures { IfOk result (λ r. IsCounted set.now.plan (replicate (length set.now.plan) Waiting)
+        r.0.items r.1.items (vec_capacity r.1)) }
 {
-    let count = plan.len();
+    let count = set.plan().len();
     let mut missing = Vec::with_capacity(alloc, count)?;
+    missing.extend_from_slice(set.missing())?;
     let mut ready = Vec::with_capacity(alloc, count)?;
-    for k in 0..count {
-        let inputs = plan.inputs(k).len();
-        missing.push_reserved(inputs as u8);
-        if inputs == 0 {
-            ready.push(k as u32)?;
-        }
-    }
+    ready.extend_from_slice(set.ready())?;
     Ok((missing, ready))
 }
 

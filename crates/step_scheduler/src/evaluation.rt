@@ -89,6 +89,7 @@ fn from_two(
 }
 
 // An amount as a value that can be shared: that of the set, where it is 0. `None` is want of memory.
+#[inline(always)]
 fn as_amount(alloc: Global, set: &CompiledSet, amount: Money) -> Option<Arc<Value>>
     ensures { IfSome result (λ v. arc_value v ≡ value.Amount amount) }
 {
@@ -136,6 +137,7 @@ fn computed(
 
 // The value of an operation that changes its first input: that input itself, where nothing changes; written over it, where
 // nothing else holds it; else written over a copy. `None` is want of memory.
+#[inline(always)]
 fn updated(
     alloc: Global,
     tables: &Tables,
@@ -156,6 +158,7 @@ fn updated(
 
 // The value of an operation that makes another of its inputs: the set's, where nothing is held; else a new one. `None` is
 // want of memory.
+#[inline(always)]
 fn constant_or_new(
     alloc: Global,
     set: &CompiledSet,

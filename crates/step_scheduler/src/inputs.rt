@@ -1,6 +1,4 @@
 //! What a task is given.
-ghost use Rattle.std.specs.Prelude.{◌≡◌};
-ghost use Rattle.step_scheduler.specs.near.Tasks.{items_of};
 
 use plan_ir::values::Value;
 use std::sync::Arc;

@@ -17,7 +17,7 @@ fn empty(alloc: Global, count: usize) -> Result<Vec<Option<Arc<Value>>>, AllocEr
 {
     let mut places = Vec::with_capacity(alloc, count)?;
     for _ in 0..count {
-        places.push(None)?;
+        places.push_reserved(None);
     }
     Ok(places)
 }

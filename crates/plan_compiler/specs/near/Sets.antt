@@ -6,12 +6,16 @@ use Rattle.plan_ir.specs.Plans.{StepView, inputs_at, op_at}
 use Rattle.plan_compiler.specs.Compiled.{IsCompiled}
 use Rattle.plan_compiler.specs.Plan.{IsPlanOf}
 use Rattle.plan_compiler.specs.Places.{inputs_of}
+use Rattle.plan_compiler.specs.Beginnings.{AreInputCounts, AreWithoutInputs}
 use Rattle.plan_compiler.specs.near.Layout.{AreFirsts}
 
--- the plan is that of the tables, each input where it stands, and keeps the plan law; the numbers are those of first steps
-pub record IsSet (t : AcceptedTables) (plan : List StepView) (firsts : List ℕ) : Type 0 where
+-- The plan is that of the tables, each input where it stands, and keeps the plan law. The numbers are those of first steps,
+-- of the inputs of each step, and of the steps without inputs.
+pub record IsSet (t : AcceptedTables) (plan : List StepView) (firsts missing ready : List ℕ) : Type 0 where
   pub limits : IsWithinLimits t
   pub is_plan : IsPlanOf t plan
   pub compiled : IsCompiled (record { tables = t; plan = plan })
   pub wires : (k : ℕ) → k < length plan → inputs_at plan k ≡ inputs_of t (op_at plan k)
   pub firsts_are : AreFirsts t firsts
+  pub missing_are : AreInputCounts plan missing (length plan)
+  pub ready_are : AreWithoutInputs plan ready (length plan)

@@ -3,13 +3,9 @@ use Rattle.std.specs.Prelude.{◌≡◌, ℕ, ◌+◌, ◌<◌, ◌≤◌, ◌==
 use Rattle.std.specs.Prelude.{length, All, slice_index}
 use Rattle.std.specs.Prelude.{if◌then◌else◌}
 use Rattle.plan_ir.specs.Plans.{StepView, inputs_at}
+use Rattle.plan_compiler.specs.Beginnings.{times}
 use Rattle.step_scheduler.specs.declared.progress.Progress.{Progress}
 use Rattle.step_scheduler.specs.near.Steps.{was_taken, is_done, progress_at}
-
--- how often x stands in the list
-abbrev pub times : ℕ → List ℕ → ℕ
-times x [] = 0
-times x (y ∷ ys) = (if y == x then 1 else 0) + times x ys
 
 -- how many of these steps have no value yet
 abbrev pub open_inputs : List Progress → List ℕ → ℕ

@@ -13,7 +13,7 @@ use Rattle.plan_compiler.specs.Compiled.{IsFirstInput}
 use Rattle.step_scheduler.specs.declared.progress.Progress.{Progress}
 use Rattle.step_scheduler.specs.Jobs.{JobView, meaning_at}
 use Rattle.step_scheduler.specs.near.Steps.{was_taken, is_done, progress_at}
-use Rattle.step_scheduler.specs.near.Counts.{times}
+use Rattle.plan_compiler.specs.Beginnings.{times}
 
 -- a place for a value, which may be empty
 abbrev pub Place : Type 0

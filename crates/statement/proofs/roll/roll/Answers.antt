@@ -11,8 +11,8 @@ returns-then-workers-eq0-clause-text g c =
 
 pub returns-in_err-today-clause-workers : goal.returns-in_err-today-clause-workers
 returns-in_err-today-clause-workers g c =
-    let refused : c.from_residual.result ≡ Err fault.Workers → c.accept.result ≡ Err fault.Workers = search rules in
-    (λ e. absurd (never_workers _ c.accept.result _ _ c.accept.ensures.text (refused e)), λ w. absurd (omega arith))
+    let refused : c.from_residual.result ≡ Err fault.Workers → c.accept_together.result ≡ Err fault.Workers = search rules in
+    (λ e. absurd (never_workers _ c.accept_together.result _ _ c.accept_together.ensures.text (refused e)), λ w. absurd (omega arith))
 
 pub returns-in_err-today-clause-text : goal.returns-in_err-today-clause-text
 returns-in_err-today-clause-text g c =

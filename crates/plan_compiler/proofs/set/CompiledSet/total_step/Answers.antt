@@ -1,4 +1,5 @@
 use Rattle.std.proofs.Common.{◌∙◌, ap, length, arith}
+use Rattle.std.specs.Arc.{arc_value}
 use Rattle.plan_compiler.specs.Meaning.{last_total, meaning}
 use Rattle.plan_compiler.proofs.Meanings.{meaning-before_total}
 use Rattle.plan_compiler.proofs.FromPlan.{known_before_total, place-before_total}
@@ -8,51 +9,55 @@ use Rattle.plan_compiler.proofs.set.CompiledSet.total_step.Goals as goal
 pub returns-clause-in_range : goal.returns-clause-in_range
 returns-clause-in_range c =
     let set = c.self.invariant in
-    let t = c.self.inside.tables in
+    let t = (arc_value c.self.inside.shared).tables in
     let known = known_before_total t (length t.commodities) (omega arith) in
     rw (
       ← c.self.view_is,
       c.total_step.ensures.value,
-      c.commodities-commodities.ensures.value,
+      c.commodities.ensures.value,
+      c.deref.ensures,
       ← place-before_total t (length t.commodities),
     )
-    (place_within t c.self.inside.plan set.is_plan.ops set.wires (last_total t) known)
+    (place_within t (arc_value c.self.inside.shared).plan set.is_plan.ops set.wires (last_total t) known)
 
 pub returns-clause-op : goal.returns-clause-op
 returns-clause-op c =
     let set = c.self.invariant in
-    let t = c.self.inside.tables in
+    let t = (arc_value c.self.inside.shared).tables in
     let known = known_before_total t (length t.commodities) (omega arith) in
     rw (
       ← c.self.view_is,
       c.total_step.ensures.value,
-      c.commodities-commodities.ensures.value,
+      c.commodities.ensures.value,
+      c.deref.ensures,
       ← place-before_total t (length t.commodities),
     )
-    (op_at_place t c.self.inside.plan set.is_plan.ops set.wires (last_total t) known)
+    (op_at_place t (arc_value c.self.inside.shared).plan set.is_plan.ops set.wires (last_total t) known)
 
 pub returns-clause-stays : goal.returns-clause-stays
 returns-clause-stays c =
     let set = c.self.invariant in
-    let t = c.self.inside.tables in
+    let t = (arc_value c.self.inside.shared).tables in
     rw (
       ← c.self.view_is,
       c.total_step.ensures.value,
-      c.commodities-commodities.ensures.value,
+      c.commodities.ensures.value,
+      c.deref.ensures,
       ← place-before_total t (length t.commodities),
     )
-    (total_stays t c.self.inside.plan set.is_plan.ops set.wires)
+    (total_stays t (arc_value c.self.inside.shared).plan set.is_plan.ops set.wires)
 
 pub returns-clause-means : goal.returns-clause-means
 returns-clause-means c =
     let set = c.self.invariant in
-    let t = c.self.inside.tables in
+    let t = (arc_value c.self.inside.shared).tables in
     let known = known_before_total t (length t.commodities) (omega arith) in
-    let op = op_at_place t c.self.inside.plan set.is_plan.ops set.wires (last_total t) known in
+    let op = op_at_place t (arc_value c.self.inside.shared).plan set.is_plan.ops set.wires (last_total t) known in
     rw (
       ← c.self.view_is,
       c.total_step.ensures.value,
-      c.commodities-commodities.ensures.value,
+      c.commodities.ensures.value,
+      c.deref.ensures,
       ← place-before_total t (length t.commodities),
     )
     (λ holdings. ap (meaning t holdings) op ∙ meaning-before_total t holdings (length t.commodities))

@@ -1,8 +1,9 @@
 use Rattle.std.proofs.Common.{◌∙◌, ap, sym, length}
-use Rattle.plan_ir.proofs.PackingLemmas.{length_lists}
+use Rattle.std.proofs.lemmas.List.{length-map}
+use Rattle.plan_ir.specs.near.Packing.{list_in}
 use Rattle.plan_ir.proofs.lists.NumberLists.len.Goals as goal
 
 pub returns : goal.returns
 returns c =
-    ap length c.as_slice.ensures.value ∙ sym (length_lists c.self.inside.numbers.items 0 c.self.inside.ends.items)
+    ap length c.as_slice.ensures.value ∙ sym (length-map c.self.inside.spans.items (list_in c.self.inside.numbers.items))
     ∙ ap length c.self.view_is

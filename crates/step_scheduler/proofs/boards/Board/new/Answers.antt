@@ -11,9 +11,9 @@ invariant_of-result c =
     let compiled = rw c.deref.ensures at c.plan.ensures.compiled in
     let fits = rw c.deref.ensures at c.plan.ensures.fits in
     let count = rw (c.plan.ensures.plan, c.deref.ensures) at c.len-count.ensures in
-    let counted = rw (c.plan-2.ensures.plan, c.deref-2.ensures) at c.in_ok-missing.ensures in
-    let long = rw c.deref-3.ensures at c.in_ok-places.ensures.long in
-    let means = rw c.deref-3.ensures at c.in_ok-places.ensures.means in
+    let counted = rw (c.deref-3.ensures, c.set.ensures.set, c.deref-2.ensures) at c.in_ok-missing.ensures in
+    let long = rw c.deref-4.ensures at c.in_ok-places.ensures.long in
+    let means = rw c.deref-4.ensures at c.in_ok-places.ensures.means in
     let steps : c.in_ok-steps.steps.items ≡ replicate c.len-count.result Waiting =
     c.in_ok-steps.ensures.items_if_clones_equal (λ y same. same) in
     rw (steps, c.in_ok-history.ensures.items, c.in_ok-spare.ensures.items)

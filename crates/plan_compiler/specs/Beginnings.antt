@@ -1,0 +1,19 @@
+-- What a run of a plan begins with: how many inputs each step misses, and which steps miss none.
+use Rattle.std.specs.Prelude.{◌≡◌, ℕ, ◌+◌, ◌<◌, ◌==◌, List, [], ◌∷◌, All, length, nat_lt, slice_index}
+use Rattle.std.specs.Prelude.{if◌then◌else◌}
+use Rattle.plan_ir.specs.Plans.{StepView, inputs_at}
+
+-- how often x stands in the list
+abbrev pub times : ℕ → List ℕ → ℕ
+times x [] = 0
+times x (y ∷ ys) = (if y == x then 1 else 0) + times x ys
+
+-- the numbers of inputs of the first k steps
+pub record AreInputCounts (plan : List StepView) (missing : List ℕ) (k : ℕ) : Type 0 where
+  pub long : length missing ≡ k
+  pub counts : (j : ℕ) → j < k → slice_index missing j ≡ length (inputs_at plan j)
+
+-- those of the first k steps that have no input, each once
+pub record AreWithoutInputs (plan : List StepView) (ready : List ℕ) (k : ℕ) : Type 0 where
+  pub in_range : All (λ x. x < k) ready
+  pub listed : (j : ℕ) → times j ready ≡ (if nat_lt j k then (if length (inputs_at plan j) == 0 then 1 else 0) else 0)

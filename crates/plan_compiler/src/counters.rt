@@ -1,0 +1,35 @@
+//! What a run of a plan begins with, counted once for all runs.
+ghost use Rattle.std.specs.Prelude.{◌<◌, ◌≤◌, ℕ, IfOk, length};
+ghost use Rattle.plan_ir.specs.Plans.{inputs_at};
+ghost use Rattle.plan_ir.specs.declared.plans.TheConstants.{MAX_INPUTS, MAX_STEPS};
+ghost use Rattle.plan_compiler.specs.Beginnings.{AreInputCounts, AreWithoutInputs};
+
+use plan_ir::plans::Plan;
+use std::alloc::{AllocError, Global};
+
+/// How many inputs each step has.
+pub(crate) fn input_counts(alloc: Global, plan: &Plan) -> Result<Vec<u8>, AllocError>
+    requires { (k : ℕ) → k < length plan.now → length (inputs_at plan.now k) ≤ MAX_INPUTS }
+    ensures { IfOk result (λ counts. AreInputCounts plan.now counts.items (length plan.now)) }
+{
+    let mut counts = Vec::with_capacity(alloc, plan.len())?;
+    for k in 0..plan.len() {
+        counts.push_reserved(plan.inputs(k).len() as u8);
+    }
+    Ok(counts)
+}
+
+/// The steps that have no input.
+pub(crate) fn without_inputs(alloc: Global, plan: &Plan) -> Result<Vec<u32>, AllocError>
+    requires { length plan.now ≤ MAX_STEPS }
+    ensures { IfOk result (λ steps. AreWithoutInputs plan.now steps.items (length plan.now)) }
+{
+    let mut steps = Vec::new(alloc);
+    for k in 0..plan.len() {
+        let inputs = plan.inputs(k).len();
+        if inputs == 0 {
+            steps.push(k as u32)?;
+        }
+    }
+    Ok(steps)
+}

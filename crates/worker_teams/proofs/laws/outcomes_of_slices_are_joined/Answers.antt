@@ -1,0 +1,5 @@
+use Rattle.worker_teams.proofs.JoinLemmas.{outcomes_joined}
+use Rattle.worker_teams.proofs.laws.outcomes_of_slices_are_joined.Goals as goal
+
+pub returns : goal.returns
+returns c = outcomes_joined
