@@ -1,5 +1,5 @@
 -- Each spread has its lines, of as many as it forms from what the spreads before it left.
-use Rattle.std.proofs.Common.{◌≡◌, ℕ, zero, suc, List, [], ◌∷◌, ◌++◌, take, Some, refl, sym, ap, ◌∙◌, append_assoc}
+use Rattle.std.proofs.Common.{◌≡◌, ℕ, zero, suc, List, [], ◌∷◌, ◌++◌, take, Some, sym, ap, ◌∙◌, append_assoc}
 use Rattle.std.specs.Prelude.{fold, slice_get}
 use Rattle.span_tables.specs.declared.records.Inter.{Inter}
 use Rattle.span_tables.specs.declared.records.InterRecord.{InterRecord}

@@ -96,7 +96,8 @@ const ACCOUNT_HELP: &str = "The account that is explained; without it, all are";
 const BAD_ACCOUNT: &str =
     "invalid value for '--account <NAME>': a name is 1 to 16 bytes of A to Z, 0 to 9, _ and -";
 
-const WORKERS_HELP: &str = "Workers that share the accounts, 1 to 16; as many as processors save time";
+const WORKERS_HELP: &str =
+    "Workers that share the accounts, 1 to 16; as many as processors save time";
 
 // A file's name, which has to be given.
 fn file<'a>(alloc: Global, id: &'a str, help: &'a str) -> Arg<'a>

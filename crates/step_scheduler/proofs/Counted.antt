@@ -1,13 +1,13 @@
 -- The counters of a board after each event.
 use Rattle.std.proofs.Common.{◌≡◌, ℕ, zero, suc, ◌+◌, ◌<◌, ◌≤◌, ◌==◌, Bool, true, false}
 use Rattle.std.proofs.Common.{List, [], ◌∷◌, ◌++◌, length, All, refl, sym, ap, ◌∙◌, subst, inl, inr}
-use Rattle.std.proofs.Common.{arith, slice_index, slice_set, replicate, nat_lt, if◌then◌else◌, eq-eqb, zero-add}
+use Rattle.std.proofs.Common.{arith, slice_index, slice_set, replicate, if◌then◌else◌, eq-eqb, zero-add}
 use Rattle.std.proofs.Common.{add-zero, length-append, get_or-set_same, get_or-set_other, Some, Global}
 use Rattle.std.proofs.Common.{◌*◌, sum_by}
 use Rattle.std.proofs.lemmas.List.Sums.{sum_by-cons}
-use Rattle.std.proofs.lemmas.Bool.{cases_eq, cases_lt, ne_eqb, false≢true, lt-ltb, le-ltb}
-use Rattle.std.proofs.lemmas.List.{get_or_append_left, get_or_push, length-replicate}
-use Rattle.std.proofs.lemmas.List.Elements.{All-cons, All-nil, All-head, All-tail, All-weaker, All-push}
+use Rattle.std.proofs.lemmas.Bool.{cases_eq, ne_eqb, false≢true, lt-ltb}
+use Rattle.std.proofs.lemmas.List.{get_or_append_left, length-replicate}
+use Rattle.std.proofs.lemmas.List.Elements.{All-cons, All-nil, All-head, All-tail}
 use Rattle.std.specs.declared.sync.Arc.{Arc}
 use Rattle.plan_ir.specs.Plans.{StepView, inputs_at, users_of}
 use Rattle.plan_ir.specs.declared.values.Value.{Value}

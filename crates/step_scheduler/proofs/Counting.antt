@@ -1,8 +1,8 @@
 -- Counting users down.
-use Rattle.std.proofs.Common.{◌≡◌, ℕ, ◌+◌, ◌-◌, ◌<◌, ◌≤◌, ◌==◌, List, [], ◌∷◌}
-use Rattle.std.proofs.Common.{◌++◌, length, All, take, drop, refl, sym, ap, ◌∙◌, subst, inl, inr, arith}
-use Rattle.std.proofs.Common.{get_or, slice_index, slice_set, if◌then◌else◌, eq-eqb, get_or-set_same}
-use Rattle.std.proofs.Common.{get_or-set_other, length-append, add_assoc, zero-add}
+use Rattle.std.proofs.Common.{◌≡◌, ℕ, ◌+◌, ◌-◌, ◌<◌, ◌≤◌, List, [], ◌∷◌}
+use Rattle.std.proofs.Common.{◌++◌, length, All, take, drop, sym, ap, ◌∙◌, subst, inl, inr, arith}
+use Rattle.std.proofs.Common.{get_or, slice_index, slice_set, get_or-set_same}
+use Rattle.std.proofs.Common.{get_or-set_other, length-append}
 use Rattle.std.proofs.lemmas.Bool.{cases_eq, ne_eqb}
 use Rattle.std.proofs.lemmas.List.{take_more, length-set, take-append-drop}
 use Rattle.std.proofs.lemmas.List.Elements.{All-push}

@@ -89,7 +89,6 @@ fn from_two(
 }
 
 // An amount as a value that can be shared: that of the set, where it is 0. `None` is want of memory.
-#[inline(always)]
 fn as_amount(alloc: Global, set: &CompiledSet, amount: Money) -> Option<Arc<Value>>
     ensures { IfSome result (λ v. arc_value v ≡ value.Amount amount) }
 {

@@ -1,0 +1,39 @@
+-- Parts of a position file that have no account in common.
+use Rattle.std.specs.Prelude.{◌≡◌, ℕ, Bool, true, false, ◌==◌, List, [], ◌∷◌, ◌++◌, map, filter, bytes_eq}
+use Rattle.std.specs.List.{list_any}
+use Rattle.csv.specs.Reading.{strip_bom}
+use Rattle.span_csv.specs.Records.{Fields, records_of, text_at}
+use Rattle.span_tables.specs.Names.{is_among}
+use Rattle.span_tables.specs.declared.records.PositionRecord.{PositionRecord}
+
+-- what is among these names is not among the others
+abbrev pub ShareNoName : List (List ℕ) → List (List ℕ) → Type 0
+ShareNoName names others = (name : List ℕ) → is_among names name ≡ true → is_among others name ≡ false
+
+-- no account has records in both parts
+abbrev pub AreApart : List PositionRecord → List PositionRecord → Type 0
+AreApart ps qs = ShareNoName (map (λ p. p.account) ps) (map (λ p. p.account) qs)
+
+-- the records of an account, in their order
+abbrev pub records_of_account : List PositionRecord → List ℕ → List PositionRecord
+records_of_account ps account = filter (λ p. bytes_eq p.account account) ps
+
+-- the account of each record of a file
+abbrev pub accounts_in : List Fields → List (List ℕ)
+accounts_in rs = map (λ r. text_at r 0) rs
+
+-- no account has records in both files
+abbrev pub AreFilesApart : List ℕ → List ℕ → Type 0
+AreFilesApart first second = ShareNoName (accounts_in (records_of first)) (accounts_in (records_of second))
+
+-- the last byte is a line feed
+abbrev pub EndsInLineFeed : List ℕ → Type 0
+EndsInLineFeed bytes = (front : List ℕ) × (bytes ≡ front ++ 10 ∷ [])
+
+-- a byte is a double quote
+abbrev pub has_quote : List ℕ → Bool
+has_quote bytes = list_any (λ b. b == 34) bytes
+
+-- the file does not begin with a byte order mark, which a reader passes over at the start of a file alone
+abbrev pub BeginsWithNoMark : List ℕ → Type 0
+BeginsWithNoMark bytes = strip_bom bytes ≡ bytes
