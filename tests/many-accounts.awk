@@ -27,8 +27,8 @@ function contracts_of(c, m,    kind, k, i, range, delta, values, move, loss) {
             values = values sprintf(",%d", loss * range)
         }
         if (version == 2) values = values "," (kind == "F" ? 0 : pick(500, 90000))
-        printf "CONTRACT,C%02d%s%d,C%02d,%s,%d,%s%.4f,%s%s\n", c, kind, month(m), c, kind, month(m), kind == "P" ? "-" : "",
-            delta / 10000, m % 4 == 3 ? "0.5" : "1", values >params
+        printf "CONTRACT,C%02d%s%d,C%02d,%s,%d,%s%.4f,%s%s\n", c, kind, month(m), c, kind, month(m),
+            (kind == "P" ? "-" : ""), delta / 10000, (m % 4 == 3 ? "0.5" : "1"), values >params
     }
 }
 
@@ -36,7 +36,7 @@ BEGIN {
     if (version != 2) version = 1
     state = 20251114
     printf "SET,MANY%d,%d,USD\n", version, version >params
-    for (c = 1; c <= 64; c++) printf "COMMODITY,C%02d,%d,%s\n", c, 2000 + c * 100, c % 2 ? "SUM" : "MAX" >params
+    for (c = 1; c <= 64; c++) printf "COMMODITY,C%02d,%d,%s\n", c, 2000 + c * 100, (c % 2 ? "SUM" : "MAX") >params
     for (c = 1; c <= 64; c++) {
         for (m = 0; m < 8; m++) contracts_of(c, m)
         for (t = 1; t <= 6; t++)
@@ -52,7 +52,7 @@ BEGIN {
         for (m = 0; m < 2; m++) printf "SPOT,C%02d,%d,%d,%d\n", c, month(m), 3000 - m * 1000, 5000 - m * 1500 >params
     }
     for (s = 1; s <= 64; s++)
-        printf "INTER,%d,%d,C%02d,A,%s,C%02d,B,1\n", s, 8500 - s * 50, s, s % 5 ? "1" : "2.5", s % 64 + 1 >params
+        printf "INTER,%d,%d,C%02d,A,%s,C%02d,B,1\n", s, 8500 - s * 50, s, (s % 5 ? "1" : "2.5"), s % 64 + 1 >params
 
     late = last = ""
     for (a = 1; a <= accounts; a++) {
