@@ -1,5 +1,6 @@
 -- The records of two files, one behind the other.
-use Rattle.std.proofs.Common.{◌≡◌, ◌∙◌, ℕ, zero, suc, ◌+◌, ◌≤◌, ◌<◌, Bool, true, false, ◌&&◌, ◌||◌, ◌==◌}
+use Rattle.std.proofs.Common.{◌≡◌, ◌∙◌, ℕ, zero, suc, ◌+◌, ◌≤◌, ◌<◌}
+use Rattle.std.proofs.Common.{Bool, true, false, ◌&&◌, ◌||◌, ◌==◌}
 use Rattle.std.proofs.Common.{if◌then◌else◌, inl, inr, List, [], ◌∷◌, ◌++◌}
 use Rattle.std.proofs.Common.{Some, None, length, refl, sym, ap, subst, arith, append_assoc}
 use Rattle.std.proofs.lemmas.Bool.{cases_Bool, eqb-true, or_parts}
@@ -57,7 +58,8 @@ rows_are (c ∷ rest) n s fields field le =
   where
     by : (s2 : State) (a : Action)
         → ((s3 : State) (fields3 : Fields) (field3 : List ℕ)
-        → records_next (records_from default_config n) (next_record default_config s3 fields3 field3 rest) ≡ rows s3 fields3 field3 rest)
+        → records_next (records_from default_config n) (next_record default_config s3 fields3 field3 rest)
+        ≡ rows s3 fields3 field3 rest)
         → ((s3 : State) → records_from default_config n s3 rest ≡ rows s3 [] [] rest)
         → records_next (records_from default_config n)
         (if is_end a then Some (fields_after a fields field, s2, rest)
@@ -187,7 +189,8 @@ mark_front [] ys = mark_first ys
 mark_front (a ∷ []) ys = mark_second a ys
 mark_front (a ∷ b ∷ []) ys = ap (λ z. if z then ys else a ∷ b ∷ 10 ∷ ys) (never ((a == 0xEF) && (b == 0xBB)))
 mark_front (a ∷ b ∷ c ∷ front) ys = by (is_bom a b c) where
-  by : (z : Bool) → (if z then front ++ 10 ∷ ys else a ∷ b ∷ c ∷ (front ++ 10 ∷ ys)) ≡ (if z then front else a ∷ b ∷ c ∷ front) ++ 10 ∷ ys
+  by : (z : Bool) → (if z then front ++ 10 ∷ ys else a ∷ b ∷ c ∷ (front ++ 10 ∷ ys))
+      ≡ (if z then front else a ∷ b ∷ c ∷ front) ++ 10 ∷ ys
   by true = refl
   by false = refl
 

@@ -1,5 +1,6 @@
 -- Position files that have no account in common.
-use Rattle.std.proofs.Common.{◌≡◌, ◌∙◌, ℕ, ◌≤◌, Bool, true, false, not, ◌&&◌, ◌==◌, List, [], ◌∷◌, ◌++◌, map, length}
+use Rattle.std.proofs.Common.{◌≡◌, ◌∙◌, ℕ, ◌≤◌, Bool, true, false, not, ◌&&◌, ◌==◌}
+use Rattle.std.proofs.Common.{List, [], ◌∷◌, ◌++◌, map, length}
 use Rattle.std.proofs.Common.{Option, Some, None, Ok, Err, Result, refl, sym, ap, subst, arith, append_assoc, inl, inr}
 use Rattle.std.proofs.lemmas.Bool.{cases_Bool, ne_eqb}
 use Rattle.std.proofs.lemmas.Bool.Decides.{nat_tests}
@@ -193,7 +194,8 @@ of_records : (t : AcceptedTables) (bytes text : List ℕ) → statement_under t 
 unfolding statement_under positions_of position_fault
 of_records t bytes text is = by (position_fault (records_of bytes)) refl is where
   by : (o : Option PositionFault) → position_fault (records_of bytes) ≡ o
-      → and_then fault.Positions (ok_unless o (map position_record (records_of bytes))) (λ records. statement_bound t records) ≡ Ok text
+      → and_then fault.Positions (ok_unless o (map position_record (records_of bytes)))
+      (λ records. statement_bound t records) ≡ Ok text
       → IsFaultFree fault_of [] (records_of bytes) × (statement_bound t (map position_record (records_of bytes)) ≡ Ok text)
   by (Some f) e is = cc
   by None e is = (first_fault_none fault_of [] (records_of bytes) e, is)
@@ -253,7 +255,8 @@ module _ (whole first second : List ℕ) (cut : records_of whole ≡ records_of 
 
   -- the statements of two files, joined, are that of a file with the records of both
   pub files_joined : (params one other : List ℕ) → count (records_of whole) ≤ MAX_ACCOUNTS
-      → statement_of params first ≡ Ok one → statement_of params second ≡ Ok other → statement_of params whole ≡ Ok (one ++ other)
+      → statement_of params first ≡ Ok one → statement_of params second ≡ Ok other
+      → statement_of params whole ≡ Ok (one ++ other)
   unfolding statement_of
   files_joined params one other few is_one is_other = by (accepted_of params) is_one is_other where
     by : (r : Result AcceptedTables SpanFault) → and_then same r (λ tables. statement_under tables first) ≡ Ok one

@@ -1,5 +1,6 @@
 -- Parts of a position file that have no account in common.
-use Rattle.std.proofs.Common.{◌≡◌, ◌∙◌, ℕ, Bool, true, false, cond, not, ◌||◌, ◌&&◌, List, [], ◌∷◌, ◌++◌, map, filter}
+use Rattle.std.proofs.Common.{◌≡◌, ◌∙◌, ℕ, Bool, true, false, cond, not, ◌||◌, ◌&&◌}
+use Rattle.std.proofs.Common.{List, [], ◌∷◌, ◌++◌, map, filter}
 use Rattle.std.proofs.Common.{Option, Some, None, Ok, refl, sym, ap}
 use Rattle.std.specs.Prelude.{bytes_eq, flat_map, length, nat_abs, nat_lt}
 use Rattle.std.specs.List.{enumerate_from, list_any}
@@ -145,7 +146,8 @@ portfolio contracts ps account = record { account = account; holdings = holdings
 
 -- it goes by the records of the account alone
 portfolio_alone : (contracts : List Contract) (ps qs : List PositionRecord) (account : List ℕ)
-    → records_of_account ps account ≡ records_of_account qs account → portfolio contracts ps account ≡ portfolio contracts qs account
+    → records_of_account ps account ≡ records_of_account qs account
+    → portfolio contracts ps account ≡ portfolio contracts qs account
 portfolio_alone contracts ps qs account alike =
     ap (λ held. (let it : AccountHoldings = record { account = account; holdings = held } in it))
     (holdings_alone contracts ps qs account alike)
@@ -191,7 +193,8 @@ record IsFit (contracts : List Contract) (all : List PositionRecord) : Type 0 wh
   few : list_any (exceeds_held contracts all) all ≡ false
 
 -- the first of three faults is none just where all are
-none_of : (a b c : Option BindFault) → option_or a (option_or b (option_or c None)) ≡ None → (a ≡ None) × (b ≡ None) × (c ≡ None)
+none_of : (a b c : Option BindFault) → option_or a (option_or b (option_or c None)) ≡ None
+    → (a ≡ None) × (b ≡ None) × (c ≡ None)
 none_of (Some x) b c e = cc
 none_of None (Some x) c e = cc
 none_of None None (Some x) e = cc
@@ -229,7 +232,8 @@ module _ (contracts : List Contract) (all : List PositionRecord) where
 
 -- tests that agree on the records, by their accounts, find one in the same lists
 any_alike : (f g : PositionRecord → Bool) (ps : List PositionRecord)
-    → ((p : PositionRecord) → is_among (map (λ q. q.account) ps) p.account ≡ true → f p ≡ g p) → list_any f ps ≡ list_any g ps
+    → ((p : PositionRecord) → is_among (map (λ q. q.account) ps) p.account ≡ true → f p ≡ g p)
+    → list_any f ps ≡ list_any g ps
 any_alike f g [] alike = refl
 any_alike f g (p ∷ ps) alike =
     let here = alike p (first_among p.account (map (λ q. q.account) ps)) in
@@ -288,7 +292,8 @@ module _ (contracts : List Contract) (ps qs : List PositionRecord) (apart : AreA
   fit_parts both =
       let known = or_parts (list_any (is_unknown contracts) ps) (list_any (is_unknown contracts) qs) (sym known_joined ∙ both.known) in
       let within = or_parts (list_any (exceeds_net ps) ps) (list_any (exceeds_net qs) qs) (sym nets_joined ∙ both.within) in
-      let few = or_parts (list_any (exceeds_held contracts ps) ps) (list_any (exceeds_held contracts qs) qs) (sym held_joined ∙ both.few) in
+      let few = or_parts (list_any (exceeds_held contracts ps) ps) (list_any (exceeds_held contracts qs) qs)
+      (sym held_joined ∙ both.few) in
       let one : IsFit contracts ps = record { known = known.0; within = within.0; few = few.0 } in
       let other : IsFit contracts qs = record { known = known.1; within = within.1; few = few.1 } in
       (one, other)
