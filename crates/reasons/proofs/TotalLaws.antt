@@ -1,5 +1,6 @@
 -- A commodity of which nothing is held adds nothing to the total of an account and to its option value.
-use Rattle.std.proofs.Common.{◌≡◌, ℕ, zero, suc, ◌+◌, ◌<◌, Bool, true, false, cond, List, [], ◌∷◌, length, refl, ap, ◌∙◌, arith}
+use Rattle.std.proofs.Common.{◌≡◌, ℕ, zero, suc, ◌+◌, ◌<◌, Bool, true, false, cond}
+use Rattle.std.proofs.Common.{List, [], ◌∷◌, length, refl, ap, ◌∙◌, arith}
 use Rattle.std.proofs.Common.{filter, sym}
 use Rattle.std.specs.Prelude.{◌==◌, ℤ, nat_abs, not, pos}
 use Rattle.std.specs.List.{range_with_len}
@@ -32,7 +33,8 @@ use Rattle.reasons.proofs.CreditLaws.{net_shown}
 use Rattle.reasons.proofs.FigureLaws.{credit_shown, requirement_shown, risk_shown}
 
 -- a sum over numbers is that over those which pass a test, where what it takes of the others is 0
-module _ (passes : ℕ → Bool) (f : ℕ → ℤ) (end : ℕ) (others : (c : ℕ) → c < end → passes c ≡ false → f c ≡ pos 0) where
+module _ (passes : ℕ → Bool) (f : ℕ → ℤ) (end : ℕ)
+    (others : (c : ℕ) → c < end → passes c ≡ false → f c ≡ pos 0) where
   value_if : (b : Bool) (c : ℕ) → c < end → passes c ≡ b → f c ≡ cond b (f c) (pos 0)
   value_if true c lt e = refl
   value_if false c lt e = others c lt e
