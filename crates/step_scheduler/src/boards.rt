@@ -5,7 +5,7 @@ ghost use Rattle.std.specs.Prelude.{IsSome, length};
 ghost use Rattle.std.specs.Arc.{arc_value};
 ghost use Rattle.plan_ir.specs.Figures.{figures_of, option_value_of, total_to};
 ghost use Rattle.plan_ir.specs.Plans.{inputs_at};
-ghost use Rattle.step_scheduler.specs.Boards.{IsComplete};
+ghost use Rattle.step_scheduler.specs.Boards.{IsComplete, IsTakenInVain};
 ghost use Rattle.step_scheduler.specs.Jobs.{inputs_for, meaning_at};
 ghost use Rattle.step_scheduler.specs.Runs.{AllFinished, CanGoOn, IsOnce, IsReady, IsRun, IsUnderWay, is_finished, run_values, unfinished};
 ghost use Rattle.step_scheduler.specs.declared.events.Event.TheVariants.{Take, Finish};
@@ -17,6 +17,7 @@ use crate::handing::{keep_hold, kept, task_of};
 use crate::jobs::Job;
 use crate::opening::found_values;
 use crate::progress::{Progress, all_done, is_under_way};
+use crate::running::value_at;
 use crate::tasks::Task;
 use plan_ir::figures::Figures;
 use plan_ir::values::Value;
@@ -156,6 +157,20 @@ impl Board {
             return Err(Refused::NotTaken);
         }
         keep_hold(&mut self.spare, hold);
+        self.keep(step, value);
+        Ok(())
+    }
+
+    // Keeps the value of a step that is under way, or fails where there was no memory for it.
+    #[inline(always)]
+    fn keep(&mut self, step: u32, value: Option<Arc<Value>>)
+        requires in_range { step < length self.old.job.set.plan }
+        requires under_way { IsUnderWay self.old.history step }
+        requires means { IfSome value (λ v. arc_value v ≡ meaning_at self.old.job step) }
+        ensures value { IfSome value (λ v. self.new ≡ record self.old { history = self.old.history ++ Finish step ∷ [] }) }
+        ensures no_memory { IfNone value (self.new ≡ record self.old { failed = true }) }
+    {
+        let place = step as usize;
         match value {
             Some(value) => {
                 self.steps[place] = Progress::Done;
@@ -169,7 +184,56 @@ impl Board {
             }
             None => self.failed = true,
         }
-        Ok(())
+    }
+
+    /// The ready step that [`Board::run_next`] runs. `None` where no step is ready or the board has failed.
+    #[inline(always)]
+    pub fn next_ready(&self) -> Option<usize>
+        ensures ready { IfSome result (λ k. IsReady self.now.job.set.plan self.now.history k) }
+        ensures live { IfSome result (λ k. self.now.failed ≡ false) }
+        ensures none { IfNone result (self.now.failed ≡ false → (k : ℕ) → IsReady self.now.job.set.plan self.now.history k → ⊥) }
+    {
+        if self.failed {
+            return None;
+        }
+        let Some(step) = last_of(self.ready.as_slice()) else {
+            return None;
+        };
+        Some(step as usize)
+    }
+
+    /// Takes a ready step, evaluates it and keeps its value, all at once, and gives its number: what [`Board::take_ready`],
+    /// `evaluate` and [`Board::finish`] do one after the other, without a task.
+    ///
+    /// `None` where no step is ready or the board has failed; it is then as it was. At `Err`, want of memory, it has failed.
+    #[inline(always)]
+    pub fn run_next(&mut self, alloc: Global) -> Result<Option<usize>, AllocError>
+        ensures ready { IfOk result (λ r. IfSome r (λ k. IsReady self.old.job.set.plan self.old.history k)) }
+        ensures live { IfOk result (λ r. IfSome r (λ k. self.old.failed ≡ false)) }
+        ensures done { IfOk result (λ r. IfSome r (λ k.
+            self.new ≡ record self.old { history = self.old.history ++ Take k ∷ Finish k ∷ [] })) }
+        ensures none { IfOk result (λ r. IfNone r (self.old.failed ≡ false
+            → (k : ℕ) → IsReady self.old.job.set.plan self.old.history k → ⊥)) }
+        ensures unchanged { IfOk result (λ r. IfNone r (self.new ≡ self.old)) }
+        ensures err { OnErr result (IsTakenInVain self.old self.new) }
+    {
+        if self.failed {
+            return Ok(None);
+        }
+        let Some(step) = last_of(self.ready.as_slice()) else {
+            return Ok(None);
+        };
+        let value = value_at(alloc, &self.job, &mut self.places, step);
+        let is_done = value.is_some();
+        self.ready.truncate(self.ready.len() - 1);
+        self.steps[step as usize] = Progress::Taken;
+        self.history.push_reserved(Event::Take(step));
+        self.keep(step, value);
+        if is_done {
+            Ok(Some(step as usize))
+        } else {
+            Err(AllocError)
+        }
     }
 
     /// Makes the board failed; what has happened stays.

@@ -37,7 +37,7 @@ pub fn evaluate(alloc: Global, task: Task) -> Finished
 
 // The value of a step, from what its task is given. `None` is want of memory.
 #[inline(always)]
-fn value_of(alloc: Global, job: &Arc<Job>, step: u32, given: Given) -> Option<Arc<Value>>
+pub(crate) fn value_of(alloc: Global, job: &Arc<Job>, step: u32, given: Given) -> Option<Arc<Value>>
     requires in_range { step < length (arc_value job.now).set.plan }
     requires fed { inputs_in given ≡ inputs_for (arc_value job.now) step }
     requires found { IfSome (found_in given) (λ v. v ≡ meaning_at (arc_value job.now) step) }
@@ -63,9 +63,6 @@ fn from_one(alloc: Global, set: &CompiledSet, op: Op, first: Arc<Value>) -> Opti
     ensures { IfSome result (λ v. (holdings : List Holding)
         → arc_value v ≡ value_on set.now.tables holdings op (arc_value first ∷ [])) }
 {
-    if let Op::NetValue(_) = op {
-        return as_amount(alloc, set, net_value(first.held()));
-    }
     computed(alloc, set, op, first, &[])
 }
 
@@ -137,7 +134,7 @@ fn computed(
 // The value of an operation that changes its first input: that input itself, where nothing changes; written over it, where
 // nothing else holds it; else written over a copy. `None` is want of memory.
 #[inline(always)]
-fn updated(
+pub(crate) fn updated(
     alloc: Global,
     tables: &Tables,
     op: Op,
@@ -158,7 +155,7 @@ fn updated(
 // The value of an operation that makes another of its inputs: the set's, where nothing is held; else a new one. `None` is
 // want of memory.
 #[inline(always)]
-fn constant_or_new(
+pub(crate) fn constant_or_new(
     alloc: Global,
     set: &CompiledSet,
     op: Op,
@@ -169,6 +166,9 @@ fn constant_or_new(
     ensures { IfSome result (λ v. (holdings : List Holding)
         → arc_value v ≡ value_on set.now.tables holdings op (first.now ∷ map arc_value rest.now)) }
 {
+    if let Op::NetValue(_) = op {
+        return as_amount(alloc, set, net_value(first.held()));
+    }
     match set.nothing_held().value_for(op, first) {
         Some(value) => Arc::try_clone(value).ok(),
         None => new_with_inputs(alloc, set.tables(), op, first, rest),
@@ -179,7 +179,7 @@ fn constant_or_new(
 //
 // Few steps need a new value, so this and the next function stand apart from the steps that need none.
 #[inline(never)]
-fn new_without_inputs(
+pub(crate) fn new_without_inputs(
     alloc: Global,
     tables: &Tables,
     portfolio: &Portfolio,

@@ -114,7 +114,7 @@ fn two_of(
 
 // The values of three inputs or more.
 #[inline(never)]
-fn many_of(
+pub(crate) fn many_of(
     plan: &Plan,
     places: &mut Vec<Option<Arc<Value>>>,
     inputs: &[u32],
@@ -183,7 +183,7 @@ pub(crate) fn keep_hold(spare: &mut Vec<Arc<Job>>, hold: Arc<Job>)
 
 // The value of a step: moved out to its only user, or a further hold on it.
 #[inline(always)]
-fn first_of(
+pub(crate) fn first_of(
     plan: &Plan,
     places: &mut Vec<Option<Arc<Value>>>,
     step: usize,
@@ -215,7 +215,7 @@ fn moved(places: &mut Vec<Option<Arc<Value>>>, step: usize) -> Arc<Value>
 }
 
 // The value that lies in a place.
-fn full(places: &[Option<Arc<Value>>], step: usize) -> &Arc<Value>
+pub(crate) fn full(places: &[Option<Arc<Value>>], step: usize) -> &Arc<Value>
     requires in_range { step < length places.now }
     requires kept { is_full (place_at places.now step) ≡ true }
     ensures { arc_value result.now ≡ kept_at places.now step }

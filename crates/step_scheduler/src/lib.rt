@@ -12,4 +12,5 @@ pub mod jobs;
 pub mod laws;
 mod opening;
 pub mod progress;
+mod running;
 pub mod tasks;

@@ -12,7 +12,6 @@ use span_tables::portfolios::Portfolio;
 use std::alloc::{AllocError, Global};
 use std::sync::Arc;
 use step_scheduler::boards::Board;
-use step_scheduler::evaluation::evaluate;
 use step_scheduler::jobs::Job;
 
 /// The number of the worker that hands out steps, which is the only one where there are no helpers.
@@ -23,13 +22,11 @@ fn run<G: Gate>(alloc: Global, board: &mut Board, gate: &G) -> Result<(), AllocE
     ensures { board.new.job ≡ board.old.job }
 {
     for _ in 0..board.job().plan().len() {
-        let Some(task) = board.take_ready()? else {
+        let Some(step) = board.next_ready() else {
             return Ok(());
         };
-        gate.pass(COORDINATOR, task.job().portfolio().account(), task.step());
-        if board.finish(evaluate(alloc, task)).is_err() {
-            return Ok(());
-        }
+        gate.pass(COORDINATOR, board.job().portfolio().account(), step);
+        board.run_next(alloc)?;
     }
     Ok(())
 }
