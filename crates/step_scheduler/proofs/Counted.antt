@@ -2,7 +2,7 @@
 use Rattle.std.proofs.Common.{◌≡◌, ℕ, zero, suc, ◌+◌, ◌<◌, ◌≤◌, ◌==◌, Bool, true, false}
 use Rattle.std.proofs.Common.{List, [], ◌∷◌, ◌++◌, length, All, refl, sym, ap, ◌∙◌, subst, inl, inr}
 use Rattle.std.proofs.Common.{arith, slice_index, slice_set, replicate, if◌then◌else◌, eq-eqb, zero-add}
-use Rattle.std.proofs.Common.{add-zero, length-append, get_or-set_same, get_or-set_other, Some, Global}
+use Rattle.std.proofs.Common.{add-zero, length-append, get_or-set_same, get_or-set_other, Global}
 use Rattle.std.proofs.Common.{◌*◌, sum_by}
 use Rattle.std.proofs.lemmas.List.Sums.{sum_by-cons}
 use Rattle.std.proofs.lemmas.Bool.{cases_eq, ne_eqb, false≢true, lt-ltb}
@@ -11,6 +11,8 @@ use Rattle.std.proofs.lemmas.List.Elements.{All-cons, All-nil, All-head, All-tai
 use Rattle.std.specs.declared.sync.Arc.{Arc}
 use Rattle.plan_ir.specs.Plans.{StepView, inputs_at, users_of}
 use Rattle.plan_ir.specs.declared.values.Value.{Value}
+use Rattle.step_scheduler.specs.declared.place.Place.{Place}
+use Rattle.step_scheduler.specs.declared.place.Place.TheVariants.{Full}
 use Rattle.step_scheduler.specs.declared.progress.Progress.{Progress}
 use Rattle.step_scheduler.specs.declared.progress.Progress.TheVariants.{Waiting, Taken, Done}
 use Rattle.step_scheduler.specs.near.Steps.{was_taken, is_done, events_of, progress_at, AreDone, CanStart}
@@ -24,7 +26,7 @@ use Rattle.step_scheduler.specs.near.Kept.{IsCountedBoard}
 use Rattle.step_scheduler.specs.declared.events.Event.{Event}
 use Rattle.step_scheduler.specs.declared.events.Event.TheVariants.{Take, Finish}
 use Rattle.step_scheduler.proofs.BoardLemmas.{board_takes, board_finishes, waiting_not_done}
-use Rattle.step_scheduler.specs.near.Keeping.{Place, is_full, place_at, IsHanded, MayMove, KeepsMeanings}
+use Rattle.step_scheduler.specs.near.Keeping.{is_full, place_at, IsHanded, MayMove, KeepsMeanings}
 use Rattle.step_scheduler.proofs.Places.{kept_at_end, kept_takes, kept_finishes, kept_new}
 use Rattle.plan_compiler.proofs.CounterLemmas.{times_push_same, times_push_other}
 use Rattle.step_scheduler.proofs.Counting.{Released}
@@ -312,7 +314,7 @@ module _ (job : JobView) (steps : List Progress) (places : List Place) (history 
       → k < length steps → was_taken (progress_at steps k) ≡ true → is_done (progress_at steps k) ≡ false
       → arc_value v ≡ meaning_at job k
       → Released (users_of job.set.plan k) missing missing' ready ready' ready_capacity ready_capacity'
-      → IsCountedBoard job (slice_set steps k Done) (slice_set places k (Some v))
+      → IsCountedBoard job (slice_set steps k Done) (slice_set places k (Full v))
       (history ++ Finish k ∷ []) capacity missing' ready' ready_capacity'
   board_finishes_and_releases ready missing' ready' ready_capacity ready_capacity' k v b h taken_k open_k right r = record {
     board = board_finishes job steps history capacity k b.board h taken_k open_k;

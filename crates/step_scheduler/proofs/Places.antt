@@ -1,6 +1,6 @@
 -- The values of a board after each event.
 use Rattle.std.proofs.Common.{◌≡◌, ◌++◌, length-append, ℕ, zero, suc, ◌+◌, ◌<◌, ◌≤◌, ◌==◌, ◌⊎◌, eq-eqb}
-use Rattle.std.proofs.Common.{true, false, Some, None, List, [], ◌∷◌, length, map, All, refl, sym, ap}
+use Rattle.std.proofs.Common.{true, false, List, [], ◌∷◌, length, map, All, refl, sym, ap}
 use Rattle.std.proofs.Common.{◌∙◌, subst, inl, inr, arith, get_or, slice_index, slice_set, replicate}
 use Rattle.std.proofs.Common.{if◌then◌else◌, get_or-set_same, get_or-set_other, length-set, Global}
 use Rattle.std.proofs.lemmas.Bool.{cases_eq, ne_eqb, false≢true}
@@ -11,12 +11,14 @@ use Rattle.plan_ir.specs.Plans.{StepView, inputs_at, op_at, users_of}
 use Rattle.plan_ir.specs.declared.values.Value.{Value}
 use Rattle.plan_compiler.specs.Compiled.{IsFirstInput}
 use Rattle.plan_compiler.specs.Meaning.{before_total, before_value}
+use Rattle.step_scheduler.specs.declared.place.Place.{Place}
+use Rattle.step_scheduler.specs.declared.place.Place.TheVariants.{Full, Empty}
 use Rattle.step_scheduler.specs.declared.progress.Progress.{Progress}
 use Rattle.step_scheduler.specs.declared.progress.Progress.TheVariants.{Waiting, Taken, Done}
 use Rattle.step_scheduler.specs.Jobs.{JobView, inputs_for, meaning_at}
 use Rattle.step_scheduler.specs.near.Steps.{was_taken, is_done, progress_at, CanStart}
 use Rattle.plan_compiler.specs.Beginnings.{times}
-use Rattle.step_scheduler.specs.near.Keeping.{Place, is_full, value_in, place_at, kept_at, AreKept, KeepsMeanings}
+use Rattle.step_scheduler.specs.near.Keeping.{is_full, value_in, place_at, kept_at, AreKept, KeepsMeanings}
 use Rattle.step_scheduler.specs.near.Keeping.{IsSpent, IsKept, IsOnlyUser, IsHanded, IsMoved, AreMoved, MayMove}
 use Rattle.step_scheduler.specs.near.Keeping.{IsGiven, AreGiven, is_net_value}
 use Rattle.step_scheduler.proofs.BoardLemmas.{map_same, true_or_false}
@@ -59,14 +61,14 @@ done_taken steps k j h done =
 
 -- what is kept of another step stays
 pub keeps_more : (job : JobView) (places : List Place) (k : ℕ) (v : Arc Value Global) → k < length places
-    → KeepsMeanings job places → arc_value v ≡ meaning_at job k → KeepsMeanings job (slice_set places k (Some v))
+    → KeepsMeanings job places → arc_value v ≡ meaning_at job k → KeepsMeanings job (slice_set places k (Full v))
 keeps_more job places k v at means right j full =
     elim (cases_eq j k) [
       | inl same ↦
-          subst (λ (x : ℕ). kept_at (slice_set places k (Some v)) x ≡ meaning_at job x) (sym same)
-          (ap value_in (get_or-set_same places k (Some v) None at) ∙ right)
+          subst (λ (x : ℕ). kept_at (slice_set places k (Full v)) x ≡ meaning_at job x) (sym same)
+          (ap value_in (get_or-set_same places k (Full v) Empty at) ∙ right)
       | inr other ↦
-          let same_place = get_or-set_other places k j (Some v) None other in
+          let same_place = get_or-set_other places k j (Full v) Empty other in
           ap value_in same_place ∙ means j (ap is_full (sym same_place) ∙ full)
     ]
 
@@ -107,17 +109,17 @@ module _ (job : JobView) (steps : List Progress) (places : List Place) (kept : I
 
   -- the value of a step may be moved to its only user, which was taken
   kept_without : (k i : ℕ) → was_taken (progress_at steps k) ≡ true → i < length places → IsOnlyUser job.set.plan k i
-      → IsKept job steps (slice_set places i None)
+      → IsKept job steps (slice_set places i Empty)
   kept_without k i taken at user = record {
-    long = length-set places i None ∙ kept.long;
+    long = length-set places i Empty ∙ kept.long;
     means = λ j full. elim (cases_eq j i) [
       | inl same ↦
-          let never : is_full (place_at (slice_set places i None) j) ≡ false =
-          ap (λ (x : ℕ). is_full (place_at (slice_set places i None) x)) same
-          ∙ ap is_full (get_or-set_same places i None None at) in
+          let never : is_full (place_at (slice_set places i Empty) j) ≡ false =
+          ap (λ (x : ℕ). is_full (place_at (slice_set places i Empty) x)) same
+          ∙ ap is_full (get_or-set_same places i Empty Empty at) in
           absurd (false≢true (sym never ∙ full))
       | inr other ↦
-          let same_place = get_or-set_other places i j None None other in
+          let same_place = get_or-set_other places i j Empty Empty other in
           ap value_in same_place ∙ kept.means j (ap is_full (sym same_place) ∙ full)
     ];
     here = λ j done empty. elim (cases_eq j i) [
@@ -125,7 +127,7 @@ module _ (job : JobView) (steps : List Progress) (places : List Place) (kept : I
         users_taken = λ m l some. subst (λ (x : ℕ). was_taken (progress_at steps x) ≡ true) (sym (user.only m l some)) taken;
         may_move = user.may_move;
       })
-      | inr other ↦ kept.here j done (ap is_full (sym (get_or-set_other places i j None None other)) ∙ empty)
+      | inr other ↦ kept.here j done (ap is_full (sym (get_or-set_other places i j Empty Empty other)) ∙ empty)
     ];
   }
 
@@ -139,19 +141,19 @@ module _ (job : JobView) (steps : List Progress) (places : List Place) (kept : I
       ]
 
   -- its own place may be emptied, since it has had no value
-  kept_emptied : (k : ℕ) → k < length steps → IsKept job (slice_set steps k Taken) (slice_set places k None)
+  kept_emptied : (k : ℕ) → k < length steps → IsKept job (slice_set steps k Taken) (slice_set places k Empty)
   kept_emptied k h =
       let at : k < length places = let l = kept.long in let m = long in omega arith in
       record {
-        long = length-set places k None ∙ kept.long;
+        long = length-set places k Empty ∙ kept.long;
         means = λ j full. elim (cases_eq j k) [
           | inl same ↦
-              let never : is_full (place_at (slice_set places k None) j) ≡ false =
-              ap (λ (x : ℕ). is_full (place_at (slice_set places k None) x)) same
-              ∙ ap is_full (get_or-set_same places k None None at) in
+              let never : is_full (place_at (slice_set places k Empty) j) ≡ false =
+              ap (λ (x : ℕ). is_full (place_at (slice_set places k Empty) x)) same
+              ∙ ap is_full (get_or-set_same places k Empty Empty at) in
               absurd (false≢true (sym never ∙ full))
           | inr other ↦
-              let same_place = get_or-set_other places k j None None other in
+              let same_place = get_or-set_other places k j Empty Empty other in
               ap value_in same_place ∙ kept.means j (ap is_full (sym same_place) ∙ full)
         ];
         here = λ j done empty. elim (cases_eq j k) [
@@ -162,28 +164,28 @@ module _ (job : JobView) (steps : List Progress) (places : List Place) (kept : I
               absurd (false≢true (sym never ∙ done))
           | inr other ↦
               still_spent job.set.plan steps k j Taken h refl
-              (kept.here j (done_taken steps k j h done) (ap is_full (sym (get_or-set_other places k j None None other)) ∙ empty))
+              (kept.here j (done_taken steps k j h done) (ap is_full (sym (get_or-set_other places k j Empty Empty other)) ∙ empty))
         ];
       }
 
   -- after step k gets its value
   pub kept_finishes : (k : ℕ) (v : Arc Value Global) → k < length steps → was_taken (progress_at steps k) ≡ true
-      → arc_value v ≡ meaning_at job k → IsKept job (slice_set steps k Done) (slice_set places k (Some v))
+      → arc_value v ≡ meaning_at job k → IsKept job (slice_set steps k Done) (slice_set places k (Full v))
   kept_finishes k v h taken_k right =
       let at : k < length places = let l = kept.long in omega arith in
       record {
-        long = length-set places k (Some v) ∙ kept.long;
+        long = length-set places k (Full v) ∙ kept.long;
         means = keeps_more job places k v at kept.means right;
         here = λ j done empty. elim (cases_eq j k) [
           | inl same ↦
-              let never : is_full (place_at (slice_set places k (Some v)) j) ≡ true =
-              ap (λ (x : ℕ). is_full (place_at (slice_set places k (Some v)) x)) same
-              ∙ ap is_full (get_or-set_same places k (Some v) None at) in
+              let never : is_full (place_at (slice_set places k (Full v)) j) ≡ true =
+              ap (λ (x : ℕ). is_full (place_at (slice_set places k (Full v)) x)) same
+              ∙ ap is_full (get_or-set_same places k (Full v) Empty at) in
               absurd (false≢true (sym empty ∙ never))
           | inr other ↦
               still_spent job.set.plan steps k j Done h refl
               (kept.here j (done_other steps k j Done other done)
-              (ap is_full (sym (get_or-set_other places k j (Some v) None other)) ∙ empty))
+              (ap is_full (sym (get_or-set_other places k j (Full v) Empty other)) ∙ empty))
         ];
       }
 
@@ -247,7 +249,7 @@ one_element x y (z ∷ w ∷ ws) e hx hy = absurd (omega arith)
 given_long : (plan : List StepView) (i : ℕ) (old new : List Place) → IsGiven plan i old new → length new ≡ length old
 given_long plan i old new given = elim given [
   | inl same ↦ ap length same
-  | inr out ↦ ap length out.1 ∙ length-set old i None
+  | inr out ↦ ap length out.1 ∙ length-set old i Empty
 ]
 
 -- another place is as before
@@ -255,7 +257,7 @@ pub given_other : (plan : List StepView) (i j : ℕ) (old new : List Place) → 
     → place_at new j ≡ place_at old j
 given_other plan i j old new given other = elim given [
   | inl same ↦ ap (λ (ps : List Place). place_at ps j) same
-  | inr out ↦ ap (λ (ps : List Place). place_at ps j) out.1 ∙ get_or-set_other old i j None None (λ e. other (sym e))
+  | inr out ↦ ap (λ (ps : List Place). place_at ps j) out.1 ∙ get_or-set_other old i j Empty Empty (λ e. other (sym e))
 ]
 
 -- no input of a step stands twice

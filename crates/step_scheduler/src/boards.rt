@@ -15,6 +15,7 @@ use crate::events::Event;
 use crate::finished::Finished;
 use crate::handing::{keep_hold, kept, task_of};
 use crate::jobs::Job;
+use crate::place::Place;
 use crate::opening::found_values;
 use crate::progress::{Progress, all_done, is_under_way};
 use crate::running::value_at;
@@ -50,7 +51,7 @@ pub struct Board {
     steps: Vec<Progress>,
     missing: Vec<u8>,
     ready: Vec<u32>,
-    places: Vec<Option<Arc<Value>>>,
+    places: Vec<Place>,
     history: Vec<Event>,
     spare: Vec<Arc<Job>>,
     failed: bool,
@@ -174,7 +175,7 @@ impl Board {
         match value {
             Some(value) => {
                 self.steps[place] = Progress::Done;
-                self.places[place] = Some(value);
+                self.places[place] = Place::Full(value);
                 self.history.push_reserved(Event::Finish(step));
                 release(
                     self.job.plan().users(place),

@@ -9,10 +9,12 @@ ghost use Rattle.step_scheduler.specs.Jobs.{inputs_for, meaning_at};
 ghost use Rattle.step_scheduler.specs.near.Keeping.{AreGiven, AreKept, IsGiven, IsHanded, KeepsMeanings};
 ghost use Rattle.step_scheduler.specs.near.Keeping.{is_full, is_net_value, kept_at, place_at};
 ghost use Rattle.step_scheduler.specs.near.Kept.{AreHoldsOn};
+ghost use Rattle.step_scheduler.specs.declared.place.Place.TheVariants.{Empty};
 ghost use Rattle.step_scheduler.specs.near.Tasks.{found_in, inputs_in};
 
 use crate::inputs::Given;
 use crate::jobs::Job;
+use crate::place::Place;
 use crate::tasks::Task;
 use plan_ir::ops::Op;
 use plan_ir::plans::Plan;
@@ -27,7 +29,7 @@ use std::sync::Arc;
 pub(crate) fn task_of(
     job: &Arc<Job>,
     spare: &mut Vec<Arc<Job>>,
-    places: &mut Vec<Option<Arc<Value>>>,
+    places: &mut Vec<Place>,
     step: u32,
 ) -> Result<Task, AllocError>
     requires spare { AreHoldsOn (arc_value job.now) (map arc_value spare.old.items) }
@@ -61,7 +63,7 @@ pub(crate) fn task_of(
 #[inline(always)]
 fn inputs_of(
     plan: &Plan,
-    places: &mut Vec<Option<Arc<Value>>>,
+    places: &mut Vec<Place>,
     inputs: &[u32],
 ) -> Result<Given, AllocError>
     requires some { 0 < length inputs.now }
@@ -86,7 +88,7 @@ fn inputs_of(
 #[inline(always)]
 fn two_of(
     plan: &Plan,
-    places: &mut Vec<Option<Arc<Value>>>,
+    places: &mut Vec<Place>,
     first: usize,
     second: usize,
 ) -> Result<Given, AllocError>
@@ -116,7 +118,7 @@ fn two_of(
 #[inline(never)]
 pub(crate) fn many_of(
     plan: &Plan,
-    places: &mut Vec<Option<Arc<Value>>>,
+    places: &mut Vec<Place>,
     inputs: &[u32],
 ) -> Result<Given, AllocError>
     requires many { 2 < length inputs.now }
@@ -185,7 +187,7 @@ pub(crate) fn keep_hold(spare: &mut Vec<Arc<Job>>, hold: Arc<Job>)
 #[inline(always)]
 pub(crate) fn first_of(
     plan: &Plan,
-    places: &mut Vec<Option<Arc<Value>>>,
+    places: &mut Vec<Place>,
     step: usize,
 ) -> Result<Arc<Value>, AllocError>
     requires in_range { step < length places.old.items }
@@ -202,11 +204,11 @@ pub(crate) fn first_of(
 }
 
 // The value that lies in a place, which is empty from then on.
-fn moved(places: &mut Vec<Option<Arc<Value>>>, step: usize) -> Arc<Value>
+fn moved(places: &mut Vec<Place>, step: usize) -> Arc<Value>
     requires in_range { step < length places.old.items }
     requires kept { is_full (place_at places.old.items step) ≡ true }
     ensures value { arc_value result ≡ kept_at places.old.items step }
-    ensures after { places.new.items ≡ slice_set places.old.items step None }
+    ensures after { places.new.items ≡ slice_set places.old.items step Empty }
 {
     match places[step].take() {
         Some(value) => value,
@@ -215,19 +217,19 @@ fn moved(places: &mut Vec<Option<Arc<Value>>>, step: usize) -> Arc<Value>
 }
 
 // The value that lies in a place.
-pub(crate) fn full(places: &[Option<Arc<Value>>], step: usize) -> &Arc<Value>
+pub(crate) fn full(places: &[Place], step: usize) -> &Arc<Value>
     requires in_range { step < length places.now }
     requires kept { is_full (place_at places.now step) ≡ true }
     ensures { arc_value result.now ≡ kept_at places.now step }
 {
     match &places[step] {
-        Some(value) => value,
-        None => unreachable!(),
+        Place::Full(value) => value,
+        Place::Empty => unreachable!(),
     }
 }
 
 // A further hold on the value of a step.
-fn hold_at(places: &[Option<Arc<Value>>], step: usize) -> Result<Arc<Value>, AllocError>
+fn hold_at(places: &[Place], step: usize) -> Result<Arc<Value>, AllocError>
     requires in_range { step < length places.now }
     requires kept { is_full (place_at places.now step) ≡ true }
     ensures { IfOk result (λ v. arc_value v ≡ kept_at places.now step) }
@@ -236,7 +238,7 @@ fn hold_at(places: &[Option<Arc<Value>>], step: usize) -> Result<Arc<Value>, All
 }
 
 // The value of a step that is kept.
-pub(crate) fn kept<'a>(job: &Arc<Job>, places: &'a [Option<Arc<Value>>], step: usize) -> &'a Value
+pub(crate) fn kept<'a>(job: &Arc<Job>, places: &'a [Place], step: usize) -> &'a Value
     requires in_range { step < length places.now }
     requires kept { is_full (place_at places.now step) ≡ true }
     requires means { KeepsMeanings (arc_value job.now) places.now }

@@ -11,6 +11,7 @@ mod inputs;
 pub mod jobs;
 pub mod laws;
 mod opening;
+mod place;
 pub mod progress;
 mod running;
 pub mod tasks;

@@ -13,6 +13,7 @@ ghost use Rattle.step_scheduler.specs.near.Keeping.{is_full, kept_at, place_at};
 use crate::evaluation::{constant_or_new, new_without_inputs, updated, value_of};
 use crate::handing::{first_of, full, many_of};
 use crate::jobs::Job;
+use crate::place::Place;
 use plan_compiler::set::CompiledSet;
 use plan_ir::evaluation::is_in_place;
 use plan_ir::ops::Op;
@@ -28,7 +29,7 @@ use std::sync::Arc;
 pub(crate) fn value_at(
     alloc: Global,
     job: &Arc<Job>,
-    places: &mut Vec<Option<Arc<Value>>>,
+    places: &mut Vec<Place>,
     step: u32,
 ) -> Option<Arc<Value>>
     requires long { length places.old.items ≡ length (arc_value job.now).set.plan }
@@ -52,7 +53,7 @@ pub(crate) fn value_at(
 fn found_or_new(
     alloc: Global,
     job: &Arc<Job>,
-    places: &mut Vec<Option<Arc<Value>>>,
+    places: &mut Vec<Place>,
     step: u32,
 ) -> Option<Arc<Value>>
     requires long { length places.old.items ≡ length (arc_value job.now).set.plan }
@@ -77,7 +78,7 @@ fn found_or_new(
 fn from_inputs(
     alloc: Global,
     job: &Arc<Job>,
-    places: &mut Vec<Option<Arc<Value>>>,
+    places: &mut Vec<Place>,
     step: u32,
     inputs: &[u32],
 ) -> Option<Arc<Value>>
@@ -107,7 +108,7 @@ fn from_one_at(
     alloc: Global,
     set: &CompiledSet,
     op: Op,
-    places: &mut Vec<Option<Arc<Value>>>,
+    places: &mut Vec<Place>,
     first: usize,
 ) -> Option<Arc<Value>>
     requires long { length places.old.items ≡ length set.now.plan }
@@ -131,7 +132,7 @@ fn from_two_at(
     alloc: Global,
     set: &CompiledSet,
     op: Op,
-    places: &mut Vec<Option<Arc<Value>>>,
+    places: &mut Vec<Place>,
     first: usize,
     second: usize,
 ) -> Option<Arc<Value>>
@@ -154,7 +155,7 @@ fn from_two_at(
 }
 
 // The value that lies in a place, as a list.
-fn only(places: &[Option<Arc<Value>>], step: usize) -> &[Arc<Value>]
+fn only(places: &[Place], step: usize) -> &[Arc<Value>]
     requires in_range { step < length places.now }
     requires kept { is_full (place_at places.now step) ≡ true }
     ensures { map arc_value result.now ≡ kept_at places.now step ∷ [] }
@@ -167,7 +168,7 @@ fn only(places: &[Option<Arc<Value>>], step: usize) -> &[Arc<Value>]
 fn from_many_at(
     alloc: Global,
     job: &Arc<Job>,
-    places: &mut Vec<Option<Arc<Value>>>,
+    places: &mut Vec<Place>,
     step: u32,
     inputs: &[u32],
 ) -> Option<Arc<Value>>

@@ -1,8 +1,6 @@
 -- The values that a board keeps, and those that it has given away.
-use Rattle.std.specs.Prelude.{◌≡◌, ℕ, ◌<◌, Bool, true, false, List, Option, Some, None, length, All, pos}
+use Rattle.std.specs.Prelude.{◌≡◌, ℕ, ◌<◌, Bool, true, false, List, length, All, pos}
 use Rattle.std.specs.Prelude.{slice_index, slice_index_or, slice_set, ◌⊎◌}
-use Rattle.std.specs.declared.alloc.Global.{Global}
-use Rattle.std.specs.declared.sync.Arc.{Arc}
 use Rattle.std.specs.Arc.{arc_value}
 use Rattle.plan_ir.specs.Plans.{StepView, inputs_at, op_at, users_of}
 use Rattle.plan_ir.specs.declared.ops.Op.{Op}
@@ -10,28 +8,26 @@ use Rattle.plan_ir.specs.declared.ops.Op.TheVariants as operation
 use Rattle.plan_ir.specs.declared.values.Value.{Value}
 use Rattle.plan_ir.specs.declared.values.Value.TheVariants as value
 use Rattle.plan_compiler.specs.Compiled.{IsFirstInput}
+use Rattle.step_scheduler.specs.declared.place.Place.{Place}
+use Rattle.step_scheduler.specs.declared.place.Place.TheVariants.{Full, Empty}
 use Rattle.step_scheduler.specs.declared.progress.Progress.{Progress}
 use Rattle.step_scheduler.specs.Jobs.{JobView, meaning_at}
 use Rattle.step_scheduler.specs.near.Steps.{was_taken, is_done, progress_at}
 use Rattle.plan_compiler.specs.Beginnings.{times}
 
--- a place for a value, which may be empty
-abbrev pub Place : Type 0
-Place = Option (Arc Value Global)
-
 -- a value lies there
 abbrev pub is_full : Place → Bool
-is_full None = false
-is_full (Some v) = true
+is_full Empty = false
+is_full (Full v) = true
 
 -- the value that lies there
 abbrev pub value_in : Place → Value
-value_in None = value.Total (pos 0)
-value_in (Some v) = arc_value v
+value_in Empty = value.Total (pos 0)
+value_in (Full v) = arc_value v
 
 -- the place of step k
 abbrev pub place_at : List Place → ℕ → Place
-place_at places k = slice_index_or places k None
+place_at places k = slice_index_or places k Empty
 
 -- the value that is kept of step k
 abbrev pub kept_at : List Place → ℕ → Value
@@ -91,7 +87,7 @@ pub record IsOnlyUser (plan : List StepView) (k i : ℕ) : Type 0 where
 pub record IsMoved (plan : List StepView) (k i : ℕ) (old new : List Place) : Type 0 where
   pub only_user : IsOnlyUser plan k i
   pub in_range : i < length old
-  pub after : new ≡ slice_set old i None
+  pub after : new ≡ slice_set old i Empty
 
 -- what was moved to step k: the values of two steps at most
 pub record AreMoved (plan : List StepView) (k : ℕ) (old new : List Place) : Type 0 where
@@ -103,17 +99,17 @@ pub record AreMoved (plan : List StepView) (k : ℕ) (old new : List Place) : Ty
 
 -- step k was handed its values: of its inputs; or what lay in its own place, which it has for its value
 abbrev pub IsHanded : List StepView → ℕ → List Place → List Place → Type 0
-IsHanded plan k old new = AreMoved plan k old new ⊎ (new ≡ slice_set old k None)
+IsHanded plan k old new = AreMoved plan k old new ⊎ (new ≡ slice_set old k Empty)
 
 -- the value of step i was handed to its only user, or stays
 abbrev pub IsGiven : List StepView → ℕ → List Place → List Place → Type 0
-IsGiven plan i old new = (new ≡ old) ⊎ ((length (users_of plan i) ≡ 1) × (new ≡ slice_set old i None))
+IsGiven plan i old new = (new ≡ old) ⊎ ((length (users_of plan i) ≡ 1) × (new ≡ slice_set old i Empty))
 
 -- the value of step i, the option value of a commodity, was handed to its only user
 pub record IsPassedOn (plan : List StepView) (i : ℕ) (old new : List Place) : Type 0 where
   pub net_value : is_net_value (op_at plan i) ≡ true
   pub alone : length (users_of plan i) ≡ 1
-  pub after : new ≡ slice_set old i None
+  pub after : new ≡ slice_set old i Empty
 
 -- the values of these inputs were handed out: the first may have been moved, and an option value behind it
 pub record AreGiven (plan : List StepView) (inputs : List ℕ) (old new : List Place) : Type 0 where
