@@ -119,6 +119,17 @@ fn run(alloc: Global, board: &mut Board) -> Result<(), AllocError>
     Ok(())
 }
 
+// Lets a board run by itself until no step is ready. Each step is the one that was told before.
+fn run_by_itself(alloc: Global, rt: &impl Abort, board: &mut Board) -> Result<(), AllocError>
+    ensures { board.new.job ≡ board.old.job }
+{
+    for _ in 0..=board.job().plan().len() {
+        let told = board.next_ready();
+        assert_eq!(rt; board.run_next(alloc)?, told);
+    }
+    Ok(())
+}
+
 #[test]
 fn run_of_one_future(rt: HostRuntime) -> Result<(), Fail> {
     let alloc = rt.alloc();
@@ -239,7 +250,8 @@ fn run_of_two_options(rt: HostRuntime) -> Result<(), Fail> {
     let job = job_of_x(alloc, &rt, &set, vec![in alloc; short_calls, short_puts]?)?;
     let mut board = Board::new(alloc, job)?;
     assert_eq!(rt; board.job().plan().len(), 15);
-    run(alloc, &mut board)?;
+    run_by_itself(alloc, &rt, &mut board)?;
+    assert_eq!(rt; board.history().len(), 30);
     assert_eq!(rt; board.total().map(|total| total.get()), Some(0));
     assert_eq!(rt; board.value().map(|value| value.get()), Some(-480));
     assert!(rt; board.is_complete());

@@ -20,7 +20,7 @@ fn main(rt: HostRuntime) -> ExitCode {
     let mut err = MarkedWriter::new(rt.stderr());
     let status = match words_of(&rt, alloc) {
         Ok(words) => {
-            let mut disk = Disk::new(&rt);
+            let mut disk = Disk::new(alloc, &rt);
             run_words(
                 &rt,
                 alloc,

@@ -15,8 +15,8 @@ use crate::events::Event;
 use crate::finished::Finished;
 use crate::handing::{keep_hold, kept, task_of};
 use crate::jobs::Job;
-use crate::place::Place;
 use crate::opening::found_values;
+use crate::place::Place;
 use crate::progress::{Progress, all_done, is_under_way};
 use crate::running::value_at;
 use crate::tasks::Task;
@@ -192,7 +192,8 @@ impl Board {
     pub fn next_ready(&self) -> Option<usize>
         ensures ready { IfSome result (λ k. IsReady self.now.job.set.plan self.now.history k) }
         ensures live { IfSome result (λ k. self.now.failed ≡ false) }
-        ensures none { IfNone result (self.now.failed ≡ false → (k : ℕ) → IsReady self.now.job.set.plan self.now.history k → ⊥) }
+        ensures none { IfNone result (self.now.failed ≡ false
+            → (k : ℕ) → IsReady self.now.job.set.plan self.now.history k → ⊥) }
     {
         if self.failed {
             return None;

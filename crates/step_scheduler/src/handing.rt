@@ -61,11 +61,7 @@ pub(crate) fn task_of(
 
 // The values of the inputs of a step. Holds come before the first move, so want of memory changes nothing.
 #[inline(always)]
-fn inputs_of(
-    plan: &Plan,
-    places: &mut Vec<Place>,
-    inputs: &[u32],
-) -> Result<Given, AllocError>
+fn inputs_of(plan: &Plan, places: &mut Vec<Place>, inputs: &[u32]) -> Result<Given, AllocError>
     requires some { 0 < length inputs.now }
     requires few { length inputs.now ≤ MAX_INPUTS }
     requires long { length places.old.items ≡ length plan.now }

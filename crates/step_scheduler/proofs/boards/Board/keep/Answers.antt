@@ -24,14 +24,14 @@ invariant_of-self c =
     rw (c.push_reserved.ensures.items, c.push_reserved.ensures.capacity)
     (record {
       counted_board = (board_finishes_and_releases _ _ _ _ _ _ _ _ _ _ _ _ _ b range (sym (b.board.taken _) ∙ way.taken)
-      (sym (b.board.finished _) ∙ way.unfinished) right (record {
-        long = c.release.ensures.long;
-        left = λ k. rw (← users) (c.release.ensures.missing k);
-        freed = λ k. rw (← users) (c.release.ensures.ready k);
-        in_range = c.release.ensures.ready_in_range;
-        room = rw (← users) c.release.ensures.few;
-        same_room = c.release.ensures.capacity;
-      }));
+          (sym (b.board.finished _) ∙ way.unfinished) right (record {
+            long = c.release.ensures.long;
+            left = λ k. rw (← users) (c.release.ensures.missing k);
+            freed = λ k. rw (← users) (c.release.ensures.ready k);
+            in_range = c.release.ensures.ready_in_range;
+            room = rw (← users) c.release.ensures.few;
+            same_room = c.release.ensures.capacity;
+          }));
       own_spare = c.self.invariant.own_spare;
     })
 
