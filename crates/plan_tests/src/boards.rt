@@ -120,9 +120,7 @@ fn run(alloc: Global, board: &mut Board) -> Result<(), AllocError>
 }
 
 // Lets a board run by itself until no step is ready. Each step is the one that was told before.
-fn run_by_itself(alloc: Global, rt: &impl Abort, board: &mut Board) -> Result<(), AllocError>
-    ensures { board.new.job ≡ board.old.job }
-{
+fn run_by_itself(alloc: Global, rt: &impl Abort, board: &mut Board) -> Result<(), AllocError> {
     for _ in 0..=board.job().plan().len() {
         let told = board.next_ready();
         assert_eq!(rt; board.run_next(alloc)?, told);
