@@ -259,6 +259,18 @@ pub refused_rows : {A X Y : Type 0} (answer : Result A SpanFault) (may_publish :
 refused_rows answer may_publish e (inl full) = rw (full.0) (refl, refl)
 refused_rows answer may_publish e (inr memory) = rw (memory.0) tt
 
+-- such a refusal, as a fault of the whole
+pub unkept_rows : {X Y : Type 0} (e : BookFault) → ((e ≡ book.NoMoreBatches) × X) ⊎ ((e ≡ book.OutOfMemory) × Y)
+    → (of_book e ≡ fault.Memory) ⊎ (of_book e ≡ fault.Book book.NoMoreBatches)
+unkept_rows e (inl full) = rw (full.0) (inr refl)
+unkept_rows e (inr memory) = rw (memory.0) (inl refl)
+
+-- what keeps the rows of the first statement from the book refuses the second
+pub kept_refuses : {A : Type 0} (answer : Result A SpanFault) (may_publish : Bool) (e : SpanFault)
+    → (e ≡ fault.Memory) ⊎ (e ≡ fault.Book book.NoMoreBatches) → Refuses answer true may_publish e
+kept_refuses answer may_publish e (inl memory) = rw (memory) tt
+kept_refuses answer may_publish e (inr full) = rw (full) (refl, refl)
+
 -- the last of two publications is the next set
 pub next_is_last : (next : List ℕ) (first set : SetView) (told : List SetView) → IsPublished next (first ∷ []) told
     → IsLast told set → accepted_of next ≡ Ok set.tables

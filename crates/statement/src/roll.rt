@@ -1,13 +1,17 @@
 //! Two statements for the same positions: under a set, and under the next, which is made ready beside the first batch.
+ghost use Rattle.plan_compiler.specs.Compiled.{SetView};
 ghost use Rattle.plan_shelf.specs.Publications.{IsLast};
+ghost use Rattle.result_book.specs.Books.{HasNoAccountTwice};
+ghost use Rattle.result_book.specs.declared.books.BookFault.TheVariants as book_fault;
 ghost use Rattle.span_tables.specs.Holdings.{fits};
+ghost use Rattle.span_tables.specs.Net.{AccountHoldings};
 ghost use Rattle.statement.specs.Batches.{AreOnce, rows_under};
 ghost use Rattle.statement.specs.Rolls.{GivesRoll};
 ghost use Rattle.statement.specs.Statement.{accepted_of, portfolios_under, statement_text};
 ghost use Rattle.statement.specs.declared.faults.SpanFault.TheVariants as fault;
 ghost use Rattle.statement.specs.near.Seconds.{IsPublished, RefusesNext, RefusesSecond, RefusesUnder, Rolls, RollsUnder};
 ghost use Rattle.std.specs.Arc.{arc_value};
-ghost use Rattle.std.specs.Prelude.{◌≡◌, ◌<◌, ◌∷◌, ◌⊎◌, ◌↔◌, [], All, Err, IfErr, IfOk, Ok};
+ghost use Rattle.std.specs.Prelude.{◌≡◌, ◌<◌, ◌∷◌, ◌⊎◌, ◌↔◌, [], All, Err, IfErr, IfOk, List, Ok};
 ghost use Rattle.std.specs.Prelude.{OnOk, length, map, true};
 
 use crate::accepting::{Accepted, accept_together, portfolios_of, set_of};
@@ -148,6 +152,19 @@ fn second_statement<R: Threads + Wait + Clock + Sync, G: Gate>(
     Ok(())
 }
 
+// Publishes a set as the first.
+fn publish_first<S: ShelfName, R: Wait + Drop>(
+    publisher: &mut Publisher<S, R>,
+    set: &Arc<CompiledSet>,
+) -> Result<(), SpanFault>
+    requires { publisher.old ≡ [] }
+    ensures first { OnOk result (publisher.new ≡ arc_value set.now ∷ []) }
+    ensures fault { IfErr result (λ e. e ≡ fault.Memory) }
+{
+    publisher.publish(Arc::try_clone(set)?)?;
+    Ok(())
+}
+
 // A shelf with a reader, on which a set is the first publication.
 fn shelf_with<S: ShelfName, R: Wait + Drop>(
     rt: R,
@@ -160,9 +177,58 @@ fn shelf_with<S: ShelfName, R: Wait + Drop>(
     ensures fault { IfErr result (λ e. e ≡ fault.Memory) }
 {
     let (mut publisher, mut readers) = shelf::<S, R>(rt, alloc, history, 1)?;
+    publish_first(&mut publisher, set)?;
     let reader = readers.pop().unwrap();
-    publisher.publish(Arc::try_clone(set)?)?;
     Ok((publisher, reader))
+}
+
+// Keeps the rows of the first batch in a book, and gives their statement.
+fn first_statement<R: Wait>(
+    rt: &R,
+    alloc: Global,
+    rows: Vec<Arc<Row>>,
+    book: &Mutex<ResultBook>,
+) -> Result<Vec<u8>, SpanFault>
+    requires { HasNoAccountTwice (map arc_value rows.items) }
+    ensures text { (set : SetView) (portfolios : List AccountHoldings) → map arc_value rows.items ≡ rows_under set portfolios
+        → IfOk result (λ text. text.items ≡ statement_text set.tables portfolios) }
+    ensures fault { IfErr result (λ e. (e ≡ fault.Memory) ⊎ (e ≡ fault.Book book_fault.NoMoreBatches)) }
+{
+    let first = keep_rows(&mut book.lock(rt), rows)?;
+    let text = first.text(alloc)?;
+    Ok(text)
+}
+
+// The roll on a shelf whose only publication is the set of the first statement.
+fn roll_on_shelf<S: ShelfName + Send + Sync, R: Threads + Wait + Clock + Sync, G: Gate>(
+    rt: &R,
+    alloc: Global,
+    publisher: &mut Publisher<S, &R>,
+    reader: Reader<S>,
+    set: &Arc<CompiledSet>,
+    positions: &RawPositions,
+    portfolios: Portfolios,
+    next: &[u8],
+    workers: usize,
+    gate: &G,
+    book: &Mutex<ResultBook>,
+) -> Result<Vec<u8>, SpanFault>
+    requires first { publisher.old ≡ arc_value set.now ∷ [] }
+    requires fits { All (λ p. fits (length (arc_value set.now).tables.contracts) p.holdings ≡ true) portfolios }
+    requires once { AreOnce portfolios }
+    ensures text { IfOk result (λ text. Rolls next.now positions.now
+        (statement_text (arc_value set.now).tables portfolios) text.items) }
+    ensures fault { IfErr result (λ e. RefusesSecond next.now positions.now e) }
+{
+    let (rows, told) = first_rows_and_next_set(
+        rt, alloc, publisher, set, portfolios, next, workers, gate,
+    );
+    let mut text = first_statement(rt, alloc, rows?, book)?;
+    let second = second_set(rt, reader, told?)?;
+    second_statement(
+        rt, alloc, &second, positions, workers, gate, book, &mut text,
+    )?;
+    Ok(text)
 }
 
 // The roll on a shelf of its own. Its type names the shelf, and no type of the signature does.
@@ -189,24 +255,19 @@ fn roll_named<S: ShelfName + Send + Sync, R: Threads + Wait + Clock + Sync, G: G
         portfolios,
     } = today;
     let (mut publisher, reader) = shelf_with::<S, &R>(rt, alloc, history, &set)?;
-    let (rows, told) = first_rows_and_next_set(
+    roll_on_shelf(
         rt,
         alloc,
         &mut publisher,
+        reader,
         &set,
+        &positions,
         portfolios,
         next,
         workers,
         gate,
-    );
-    let rows = rows?;
-    let first = keep_rows(&mut book.lock(rt), rows)?;
-    let mut text = first.text(alloc)?;
-    let second = second_set(rt, reader, told?)?;
-    second_statement(
-        rt, alloc, &second, &positions, workers, gate, book, &mut text,
-    )?;
-    Ok(text)
+        book,
+    )
 }
 
 /// The statement of the positions under a set, and after it that under the next; or the first fault in the number of
