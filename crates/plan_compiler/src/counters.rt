@@ -7,8 +7,8 @@ ghost use Rattle.plan_compiler.specs.Beginnings.{AreInputCounts, AreWithoutInput
 use plan_ir::plans::Plan;
 use std::alloc::{AllocError, Global};
 
-/// How many inputs each step has.
-pub(crate) fn input_counts(alloc: Global, plan: &Plan) -> Result<Vec<u8>, AllocError>
+// How many inputs each step has.
+fn input_counts(alloc: Global, plan: &Plan) -> Result<Vec<u8>, AllocError>
     requires { (k : ℕ) → k < length plan.now → length (inputs_at plan.now k) ≤ MAX_INPUTS }
     ensures { IfOk result (λ counts. AreInputCounts plan.now counts.items (length plan.now)) }
 {
@@ -19,8 +19,8 @@ pub(crate) fn input_counts(alloc: Global, plan: &Plan) -> Result<Vec<u8>, AllocE
     Ok(counts)
 }
 
-/// The steps that have no input.
-pub(crate) fn without_inputs(alloc: Global, plan: &Plan) -> Result<Vec<u32>, AllocError>
+// The steps that have no input.
+fn without_inputs(alloc: Global, plan: &Plan) -> Result<Vec<u32>, AllocError>
     requires { length plan.now ≤ MAX_STEPS }
     ensures { IfOk result (λ steps. AreWithoutInputs plan.now steps.items (length plan.now)) }
 {
@@ -32,4 +32,16 @@ pub(crate) fn without_inputs(alloc: Global, plan: &Plan) -> Result<Vec<u32>, All
         }
     }
     Ok(steps)
+}
+
+/// How many inputs each step has, and the steps that have none.
+pub(crate) fn beginnings(alloc: Global, plan: &Plan) -> Result<(Vec<u8>, Vec<u32>), AllocError>
+    requires few_steps { length plan.now ≤ MAX_STEPS }
+    requires few_inputs { (k : ℕ) → k < length plan.now → length (inputs_at plan.now k) ≤ MAX_INPUTS }
+    ensures counts { IfOk result (λ counted. AreInputCounts plan.now counted.0.items (length plan.now)) }
+    ensures without { IfOk result (λ counted. AreWithoutInputs plan.now counted.1.items (length plan.now)) }
+{
+    let counts = input_counts(alloc, plan)?;
+    let without = without_inputs(alloc, plan)?;
+    Ok((counts, without))
 }

@@ -11,8 +11,10 @@ ghost use Rattle.plan_compiler.specs.Meaning.{last_total, last_value};
 ghost use Rattle.plan_compiler.specs.Places.{plan_of};
 ghost use Rattle.plan_compiler.specs.Plan.{IsPlanOf};
 ghost use Rattle.plan_compiler.specs.Beginnings.{AreInputCounts, AreWithoutInputs};
+ghost use Rattle.plan_compiler.specs.near.Layout.{AreFirsts};
+ghost use Rattle.plan_compiler.specs.near.Sets.{IsSet};
 
-use crate::counters::{input_counts, without_inputs};
+use crate::counters::beginnings;
 use crate::layout::{final_step, first_step, first_steps, inputs_of_all, premium_step, total_step};
 use crate::operations::ops_of;
 use plan_ir::nothing::NothingHeld;
@@ -152,27 +154,46 @@ impl CompiledSet {
     }
 }
 
-/// The tables with the plan of their steps (docs/METHOD.md, "The plan of steps"). `Err` is want of memory.
-pub fn compile(alloc: Global, tables: Tables) -> Result<CompiledSet, AllocError>
-    ensures tables { IfOk result (λ set. set.tables ≡ tables) }
-    ensures plan { IfOk result (λ set. set.plan ≡ plan_of tables) }
+// The plan of the tables' operations, whose first steps are given. `Err` is want of memory.
+fn plan_of(alloc: Global, tables: &Tables, firsts: &[u32]) -> Result<Plan, AllocError>
+    requires { AreFirsts tables.now firsts.now }
+    ensures { IfOk result (λ plan. plan ≡ plan_of tables.now) }
 {
     // Called for its clause: the tables are within their limits.
     let _limits = tables.commodities();
-    let ops = ops_of(alloc, &tables)?;
-    let firsts = first_steps(alloc, &tables)?;
-    let inputs = inputs_of_all(alloc, &tables, &firsts, &ops)?;
+    let ops = ops_of(alloc, tables)?;
+    let inputs = inputs_of_all(alloc, tables, firsts, &ops)?;
     let plan = Plan::new(alloc, ops, inputs)?;
-    let missing = input_counts(alloc, &plan)?;
-    let ready = without_inputs(alloc, &plan)?;
-    let nothing = NothingHeld::new(alloc, &tables)?;
-    let shared = Shared {
+    Ok(plan)
+}
+
+// What compiled sets of these tables share. `Err` is want of memory.
+fn shared_of(alloc: Global, tables: Tables) -> Result<Shared, AllocError>
+    ensures tables { IfOk result (λ shared. shared.tables ≡ tables) }
+    ensures plan { IfOk result (λ shared. shared.plan ≡ plan_of tables) }
+    ensures set { IfOk result (λ shared. IsSet shared.tables shared.plan shared.firsts.items shared.missing.items shared.ready.items) }
+{
+    // Called for its clause: the tables are within their limits.
+    let _limits = tables.commodities();
+    let firsts = first_steps(alloc, &tables)?;
+    let plan = plan_of(alloc, &tables, &firsts)?;
+    let (missing, ready) = beginnings(alloc, &plan)?;
+    Ok(Shared {
         tables,
         plan,
         firsts,
         missing,
         ready,
-    };
+    })
+}
+
+/// The tables with the plan of their steps (docs/METHOD.md, "The plan of steps"). `Err` is want of memory.
+pub fn compile(alloc: Global, tables: Tables) -> Result<CompiledSet, AllocError>
+    ensures tables { IfOk result (λ set. set.tables ≡ tables) }
+    ensures plan { IfOk result (λ set. set.plan ≡ plan_of tables) }
+{
+    let shared = shared_of(alloc, tables)?;
+    let nothing = NothingHeld::new(alloc, &shared.tables)?;
     Ok(CompiledSet {
         shared: Arc::new(alloc, shared)?,
         nothing,
