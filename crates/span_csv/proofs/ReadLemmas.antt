@@ -7,7 +7,7 @@ use Rattle.std.proofs.lemmas.Bool.{eqb-true, false≢true}
 use Rattle.std.proofs.lemmas.List.{append_assoc, append-nil, map-append, length-map}
 use Rattle.span_tables.specs.Faults.{first_that_holds, first_fault_after, ok_unless}
 use Rattle.span_tables.specs.declared.records.Record.{Record}
-use Rattle.span_csv.specs.near.Checks.{HasTallied, IsFaultOf, NextIs, Tallies}
+use Rattle.span_csv.specs.near.Checks.{HasTallied, IsFaultOf, NextIs, Tallies, params_in}
 use Rattle.span_csv.specs.ParamFaults.{param_faults, param_fault, params_of, is_memory}
 use Rattle.span_csv.specs.Records.{Fields, records_of, param_record}
 use Rattle.span_csv.specs.declared.faults.ParamFault.{ParamFault}
@@ -60,14 +60,11 @@ so_far_more all xs t u r before rest x s is next = record {
 
 -- ---- the answer
 
-params_fault : (bytes : List ℕ) (e : ParamFault) → param_fault (records_of bytes) ≡ Some e → params_of bytes ≡ Err e
-unfolding params_of
-params_fault bytes e is = ap (λ o. ok_unless o (map param_record (records_of bytes))) is
+params_fault : (all : List Fields) (e : ParamFault) → param_fault all ≡ Some e → params_in all ≡ Err e
+params_fault all e is = ap (λ o. ok_unless o (map param_record all)) is
 
-params_none : (bytes : List ℕ) → param_fault (records_of bytes) ≡ None
-    → params_of bytes ≡ Ok (map param_record (records_of bytes))
-unfolding params_of
-params_none bytes is = ap (λ o. ok_unless o (map param_record (records_of bytes))) is
+params_none : (all : List Fields) → param_fault all ≡ None → params_in all ≡ Ok (map param_record all)
+params_none all is = ap (λ o. ok_unless o (map param_record all)) is
 
 some_records : (all : List Fields) → (all ≡ [] → ⊥) → param_fault all ≡ first_fault_after fault_of [] all
 unfolding param_fault
@@ -96,36 +93,38 @@ ended : (all : List Fields) (xs : List Record) (t : Tally) (rest : List Fields) 
 ended all xs t rest s end = sym (append-nil s.earlier) ∙ ap (λ zs. s.earlier ++ zs) (sym end) ∙ s.whole
 
 -- a file without a record
-pub read_empty : (bytes : List ℕ) (xs : List Record) (t : Tally) (rest : List Fields) → IsSoFar (records_of bytes) xs t rest
-    → rest ≡ [] → xs ≡ [] → params_of bytes ≡ Err (fault.NoSet 0)
-read_empty bytes xs t rest s end none =
-    params_fault bytes (fault.NoSet 0) (no_records (records_of bytes)
-    (sym (ended (records_of bytes) xs t rest s end) ∙ map_empty s.earlier (sym s.said ∙ none)))
+pub read_empty : (all : List Fields) (xs : List Record) (t : Tally) (rest : List Fields) → IsSoFar all xs t rest
+    → rest ≡ [] → xs ≡ [] → params_in all ≡ Err (fault.NoSet 0)
+read_empty all xs t rest s end none =
+    params_fault all (fault.NoSet 0) (no_records all (sym (ended all xs t rest s end) ∙ map_empty s.earlier (sym s.said ∙ none)))
 
 -- all records of a file
-pub read_all : (bytes : List ℕ) (xs : List Record) (t : Tally) (rest : List Fields) → IsSoFar (records_of bytes) xs t rest
-    → rest ≡ [] → (xs ≡ [] → ⊥) → params_of bytes ≡ Ok xs
-read_all bytes xs t rest s end some =
-    let all = ended (records_of bytes) xs t rest s end in
-    let none : first_fault_after fault_of [] (records_of bytes) ≡ None = sym s.answer ∙ ap (first_fault_after fault_of s.earlier) end in
-    let given : records_of bytes ≡ [] → ⊥ = λ e. some (s.said ∙ ap (map param_record) (all ∙ e)) in
-    params_none bytes (some_records (records_of bytes) given ∙ none) ∙ ap Ok (ap (map param_record) (sym all) ∙ sym s.said)
+pub read_all : (all : List Fields) (xs : List Record) (t : Tally) (rest : List Fields) → IsSoFar all xs t rest
+    → rest ≡ [] → (xs ≡ [] → ⊥) → params_in all ≡ Ok xs
+read_all all xs t rest s end some =
+    let whole = ended all xs t rest s end in
+    let none : first_fault_after fault_of [] all ≡ None = sym s.answer ∙ ap (first_fault_after fault_of s.earlier) end in
+    let given : all ≡ [] → ⊥ = λ e. some (s.said ∙ ap (map param_record) (whole ∙ e)) in
+    params_none all (some_records all given ∙ none) ∙ ap Ok (ap (map param_record) (sym whole) ∙ sym s.said)
 
 -- a record with a fault
-pub read_fault : (bytes : List ℕ) (xs : List Record) (t : Tally) (r : Fields) (before rest : List Fields) (e : ParamFault)
-    (s : IsSoFar (records_of bytes) xs t before) → before ≡ r ∷ rest
+pub read_fault : (all : List Fields) (xs : List Record) (t : Tally) (r : Fields) (before rest : List Fields) (e : ParamFault)
+    (s : IsSoFar all xs t before) → before ≡ r ∷ rest
     → MatchBool (is_memory e) ⊤ (IsFaultOf (param_faults s.earlier r) (length s.earlier + 1) e)
-    → MatchBool (is_memory e) ⊤ (params_of bytes ≡ Err e)
-read_fault bytes xs t r before rest e s is h =
-    let given : records_of bytes ≡ [] → ⊥ =
-    λ none. not_empty s.earlier r rest (ap (λ zs. s.earlier ++ zs) (sym is) ∙ s.whole ∙ none) in
-    on_match (is_memory e) (IsFaultOf (param_faults s.earlier r) (length s.earlier + 1) e) (params_of bytes ≡ Err e)
+    → MatchBool (is_memory e) ⊤ (params_in all ≡ Err e)
+read_fault all xs t r before rest e s is h =
+    let given : all ≡ [] → ⊥ = λ none. not_empty s.earlier r rest (ap (λ zs. s.earlier ++ zs) (sym is) ∙ s.whole ∙ none) in
+    on_match (is_memory e) (IsFaultOf (param_faults s.earlier r) (length s.earlier + 1) e) (params_in all ≡ Err e)
     (λ here.
     let first : first_fault_after fault_of s.earlier (r ∷ rest) ≡ Some e =
     ap (λ o. option_or o (first_fault_after fault_of (s.earlier ++ r ∷ []) rest)) here in
-    params_fault bytes e (some_records (records_of bytes) given ∙ sym s.answer ∙ ap (first_fault_after fault_of s.earlier) is
-    ∙ first))
+    params_fault all e (some_records all given ∙ sym s.answer ∙ ap (first_fault_after fault_of s.earlier) is ∙ first))
     h
+
+-- what the records of a file say is what its bytes say
+pub params_read : (bytes : List ℕ) → params_of bytes ≡ params_in (records_of bytes)
+unfolding params_of
+params_read bytes = refl
 
 -- ---- a test for no records
 

@@ -1,7 +1,7 @@
 //! The reader of parameter files.
-ghost use Rattle.std.specs.Prelude.{◌≡◌, ◌+◌, ◌<◌, ◌^◌, Err, List, MatchBool, MatchResult, Ok, length, ⊤};
+ghost use Rattle.std.specs.Prelude.{◌≡◌, ◌+◌, ◌<◌, ◌^◌, [], Err, List, MatchBool, MatchResult, Ok, length, ⊤};
 ghost use Rattle.csv.specs.Records.{fields_of};
-ghost use Rattle.span_csv.specs.near.Checks.{HasTallied, NextIs, Tallies};
+ghost use Rattle.span_csv.specs.near.Checks.{HasTallied, NextIs, Tallies, params_in};
 ghost use Rattle.span_csv.specs.ParamFaults.{is_memory, params_of};
 ghost use Rattle.span_csv.specs.Records.{Fields};
 ghost use Rattle.span_tables.specs.Gives.{Gives};
@@ -31,22 +31,51 @@ fn next_record(tally: &mut Tally, earlier: usize, row: &ByteRecord) -> Result<Re
     Ok(record_of_kind(kind, row))
 }
 
+// Reads each row of a file onto `records`, of which there are none before.
+fn read_rows(
+    rows: &mut Rows,
+    row: &mut ByteRecord,
+    tally: &mut Tally,
+    records: &mut Vec<Record>,
+) -> Result<(), ParamFault>
+    requires none { records.old.items ≡ [] }
+    requires tallied { Tallies tally.old [] }
+    ensures { MatchResult result (λ _. params_in rows.old ≡ Ok records.new.items)
+        (λ e. MatchBool (is_memory e) ⊤ (params_in rows.old ≡ Err e)) }
+{
+    while rows.next(row)? {
+        let record = next_record(tally, records.len(), row)?;
+        records.push(record)?;
+    }
+    if records.is_empty() {
+        return Err(ParamFault::NoSet { at: 0 });
+    }
+    Ok(())
+}
+
+// The same, counting the records in a tally of its own.
+fn read_and_tally(
+    alloc: Global,
+    rows: &mut Rows,
+    records: &mut Vec<Record>,
+) -> Result<(), ParamFault>
+    requires { records.old.items ≡ [] }
+    ensures { MatchResult result (λ _. params_in rows.old ≡ Ok records.new.items)
+        (λ e. MatchBool (is_memory e) ⊤ (params_in rows.old ≡ Err e)) }
+{
+    let mut row = ByteRecord::new(alloc);
+    let mut tally = Tally::new(alloc);
+    read_rows(rows, &mut row, &mut tally, records)
+}
+
 // The records of a file.
 fn read_records(alloc: Global, bytes: &[u8]) -> Result<Vec<Record>, ParamFault>
     ensures { MatchResult result (λ records. params_of bytes.now ≡ Ok records.items)
         (λ e. MatchBool (is_memory e) ⊤ (params_of bytes.now ≡ Err e)) }
 {
     let mut rows = Rows::new(alloc, bytes);
-    let mut row = ByteRecord::new(alloc);
-    let mut tally = Tally::new(alloc);
     let mut records = Vec::new(alloc);
-    while rows.next(&mut row)? {
-        let record = next_record(&mut tally, records.len(), &row)?;
-        records.push(record)?;
-    }
-    if records.is_empty() {
-        return Err(ParamFault::NoSet { at: 0 });
-    }
+    read_and_tally(alloc, &mut rows, &mut records)?;
     Ok(records)
 }
 

@@ -7,7 +7,7 @@ ghost use Rattle.span_csv.specs.PositionFaults.{is_memory, positions_of};
 ghost use Rattle.span_csv.specs.Records.{text_at};
 ghost use Rattle.span_csv.specs.declared.faults.PositionFault.TheVariants as fault;
 ghost use Rattle.span_csv.specs.near.PositionReading.{is_one_too_many, is_quantity, next_position};
-ghost use Rattle.span_csv.specs.near.PositionReading.{quantity_alone, quantity_from, with_account};
+ghost use Rattle.span_csv.specs.near.PositionReading.{positions_after, quantity_alone, quantity_from, with_account};
 ghost use Rattle.span_tables.specs.Gives.{Gives};
 ghost use Rattle.span_tables.specs.Names.{is_among, is_name};
 ghost use Rattle.span_tables.specs.Positions.{named_position, named_positions, AreNumbered};
@@ -141,6 +141,28 @@ fn next_position(
     })
 }
 
+// Reads each row that is left of a file onto `records`, and its account, where it is new, into `accounts`.
+fn read_rows(
+    rows: &mut Rows,
+    row: &mut ByteRecord,
+    accounts: &mut IndexSet<Name>,
+    records: &mut Vec<NumberedPosition>,
+) -> Result<(), PositionFault>
+    requires { AreNumbered accounts.old.keys records.old.items }
+    ensures read { MatchResult result
+        (λ _. positions_after (named_positions accounts.old.keys records.old.items) rows.old
+        ≡ Ok (named_positions accounts.new.keys records.new.items))
+        (λ e. MatchBool (is_memory e) ⊤
+        (positions_after (named_positions accounts.old.keys records.old.items) rows.old ≡ Err e)) }
+    ensures numbered { OnOk result (AreNumbered accounts.new.keys records.new.items) }
+{
+    while rows.next(row)? {
+        let position = next_position(records, accounts, row)?;
+        records.push(position)?;
+    }
+    Ok(())
+}
+
 /// The records of a position file, or the first record with a fault and its lowest-numbered fault, of Q1 to Q5
 /// (docs/FORMATS.md, "Position file" and "Faults").
 pub fn read_positions(alloc: Global, bytes: &[u8]) -> Result<RawPositions, PositionFault>
@@ -150,9 +172,6 @@ pub fn read_positions(alloc: Global, bytes: &[u8]) -> Result<RawPositions, Posit
     let mut row = ByteRecord::new(alloc);
     let mut accounts = IndexSet::new(alloc);
     let mut records: Vec<NumberedPosition> = Vec::new(alloc);
-    while rows.next(&mut row)? {
-        let position = next_position(&records, &mut accounts, &row)?;
-        records.push(position)?;
-    }
+    read_rows(&mut rows, &mut row, &mut accounts, &mut records)?;
     Ok(RawPositions::new(accounts, records))
 }

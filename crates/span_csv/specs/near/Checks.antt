@@ -1,14 +1,14 @@
 -- The faults of a parameter record part by part, the counts that its limits speak of, and the profile that its forms go by.
 use Rattle.std.specs.Prelude.{◌≡◌, ⊤, ℕ, ◌+◌, Bool, not, ◌&&◌, if◌then◌else◌, List, [], ◌∷◌, ◌++◌}
-use Rattle.std.specs.Prelude.{length, count_by, Some, None, option_map, is_none, unwrap_or, codes, bytes_eq, Result, Ok, Err, MatchBool}
+use Rattle.std.specs.Prelude.{length, map, count_by, Some, None, option_map, is_none, unwrap_or, codes, bytes_eq, Result, Ok, Err, MatchBool}
 use Rattle.std.specs.HashMap.{HashMap, get}
-use Rattle.span_tables.specs.Faults.{first_that_holds}
+use Rattle.span_tables.specs.Faults.{first_that_holds, ok_unless}
 use Rattle.span_tables.specs.declared.records.Record.{Record}
 use Rattle.span_tables.specs.declared.limits.TheConstants.{MAX_COMMODITIES, MAX_CONTRACTS, MAX_TIERS}
 use Rattle.span_tables.specs.declared.limits.TheConstants.{MAX_INTRA_SPREADS, MAX_SPOT_MONTHS, MAX_INTER_SPREADS}
 use Rattle.span_csv.specs.Records.{Fields, RecordKind, a_set, a_commodity, a_contract, a_tier, an_intra, a_spot, an_inter}
 use Rattle.span_csv.specs.Records.{kind_of, layout_of, text_at, count_at, has_word_form, has_number_form, is_in_range, param_record}
-use Rattle.span_csv.specs.ParamFaults.{is_set, profile_of, some_fail, param_faults, is_memory}
+use Rattle.span_csv.specs.ParamFaults.{is_set, profile_of, some_fail, param_faults, param_fault, is_memory}
 use Rattle.span_csv.specs.declared.faults.ParamFault.{ParamFault}
 use Rattle.span_csv.specs.declared.faults.ParamFault.TheVariants as fault
 use Rattle.span_csv.specs.declared.tally.Tally.{Tally}
@@ -102,3 +102,9 @@ abbrev pub NextIs : List Fields → Fields → Result Record ParamFault → Tall
 NextIs earlier r (Ok x) t =
     (first_that_holds (param_faults earlier r) ≡ None) × (x ≡ param_record r) × Tallies t (earlier ++ r ∷ [])
 NextIs earlier r (Err e) t = MatchBool (is_memory e) ⊤ (IsFaultOf (param_faults earlier r) (length earlier + 1) e)
+
+-- ---- all records
+
+-- what a parameter file with these records says, or its fault
+abbrev pub params_in : List Fields → Result (List Record) ParamFault
+params_in rows = ok_unless (param_fault rows) (map param_record rows)

@@ -1,0 +1,37 @@
+use Rattle.std.proofs.Common.{◌≡◌, ◌∙◌, sym, rules, true}
+use Rattle.std.specs.Result.{is_ok}
+use Rattle.std.proofs.lemmas.Result.{err_from_is_err_and}
+use Rattle.csv.specs.Records.{fields_of}
+use Rattle.span_tables.specs.Positions.{named_position, named_positions}
+use Rattle.span_csv.proofs.PositionLemmas.{positions_after-ok, positions_after-refused, positions_after-end}
+use Rattle.span_csv.proofs.positions.read_rows.Goals as goal
+
+pub returns-in_err-position-clause-read : goal.returns-in_err-position-clause-read
+returns-in_err-position-clause-read c =
+    let p = err_from_is_err_and c.from_residual-in_err-position.result c.from_residual-in_err-position.ensures.1 in
+    let next = rw c.if-branch.true at c.in_ok-next.ensures.found in
+    let earlier = named_positions c.loop-records.accounts.keys c.loop-records.records.items in
+    rw (p.1, p.2, ← c.loop-records.invariant.rest, next)
+    (positions_after-refused earlier (fields_of c.next.new.row) c.next.new.self
+    _ (rw c.deref.ensures.value at c.in_err-position.ensures.found))
+
+pub loop-records-preserved : goal.loop-records-preserved
+loop-records-preserved c =
+    let good : is_ok c.push.result ≡ true = search rules in
+    let items = rw good at c.push.ensures.items in
+    let next = rw c.if-branch.true at c.in_ok-next.ensures.found in
+    let rest = rw next at c.loop-records.invariant.rest in
+    let earlier = named_positions c.loop-records.accounts.keys c.loop-records.records.items in
+    let position = named_position c.next_position.new.accounts.keys c.in_ok-position.position in
+    let named = rw c.deref.ensures.value at c.in_ok-position.ensures.named in
+    let read = rw c.deref.ensures.value at c.in_ok-position.ensures.found in
+    record {
+      numbered = rw items (rw c.deref.ensures.value at c.in_ok-position.ensures.numbered);
+      rest = rw (items, named) (sym (positions_after-ok earlier (fields_of c.next.new.row) c.next.new.self position read) ∙ rest);
+    }
+
+pub returns-clause-read : goal.returns-clause-read
+returns-clause-read c =
+    let none = rw c.if-branch.false at c.in_ok-next.ensures.found in
+    let rest = rw none at c.loop-records.invariant.rest in
+    sym rest ∙ positions_after-end (named_positions c.loop-records.accounts.keys c.loop-records.records.items)
