@@ -1,0 +1,171 @@
+//! Each call that may give up, once, where there is memory: no clause says that it succeeds. What it answers was worked by
+//! hand: the account of the calendar spread is long three of the near month and short two of the far one.
+ghost use Rattle.span_tables.specs.Holdings.{fits};
+ghost use Rattle.std.specs.Prelude.{◌≡◌, IfOk, length, true};
+
+use crate::credits::{loaded, two_commodities};
+use inter_credit::credit::credit;
+use inter_credit::spreads::inter_spread;
+use param_check::binding::{bind, bind_positions};
+use param_check::check::check;
+use sample_files::calendar::{PARAMS, POSITIONS};
+use span_csv::params::read_params;
+use span_csv::positions::read_positions;
+use span_money::exact::push_exact;
+use span_money::line_fields::{push_field, push_number, push_numbers};
+use span_tables::groups::{empty_lists, push_at};
+use span_tables::held::{Held, gather, gather_all};
+use span_tables::portfolios::{Portfolio, Portfolios};
+use span_tables::tables::Tables;
+use span_told::MarkedWriter;
+use spread_stage::deltas::month_deltas;
+use spread_stage::months::MonthUnits;
+use spread_stage::tiers::{spread, start};
+use std::alloc::{AllocError, Global};
+use std::process::Abort;
+use std::test::Fail;
+
+#[test]
+fn calls_succeed(rt: HostRuntime) -> Result<(), Fail> {
+    let alloc = rt.alloc();
+    fields(&rt, alloc)?;
+    writes(&rt, alloc)?;
+    lists(&rt, alloc)?;
+    let tables = tables_read(&rt, alloc)?;
+    let account = account_read(&rt, alloc, &tables)?;
+    let held = held_of(&rt, alloc, &tables, &account)?;
+    spreads_of_months(&rt, alloc, &tables, &held)?;
+    spreads_of_commodities(&rt, alloc)
+}
+
+// `span_money`: a decimal, a name, a number and two numbers.
+fn fields(rt: &impl Abort, alloc: Global) -> Result<(), AllocError> {
+    let mut line = Vec::new(alloc);
+    push_exact(&mut line, 50_000_000, 8)?;
+    push_field(&mut line, b"AA")?;
+    push_number(&mut line, -12)?;
+    push_numbers(&mut line, &[0, 1740])?;
+    assert_eq!(rt; line.as_slice(), b"0.5,AA,-12,0,1740".as_slice());
+    Ok(())
+}
+
+// `span_told`: bytes and a text.
+fn writes(rt: &impl Abort, alloc: Global) -> Result<(), Fail> {
+    let mut told = MarkedWriter::new(Vec::new(alloc));
+    told.write_all(b"one,")?;
+    told.write_fmt("two\n")?;
+    assert!(rt; !told.failed());
+    assert_eq!(rt; told.into_inner().as_slice(), b"one,two\n".as_slice());
+    Ok(())
+}
+
+// `span_tables`: lists of which one has a value.
+fn lists(rt: &impl Abort, alloc: Global) -> Result<(), AllocError> {
+    let mut lists = empty_lists(alloc, 2)?;
+    push_at(&mut lists, 1, 7)?;
+    let lengths = lists.iter().map(|list| list.len());
+    assert!(rt; lengths.eq([0, 1]));
+    Ok(())
+}
+
+// `span_csv` and `param_check`: the tables of a file of eight records.
+fn tables_read(rt: &impl Abort, alloc: Global) -> Result<Tables, Fail> {
+    let raw = read_params(alloc, PARAMS)?;
+    assert_eq!(rt; raw.records().len(), 8);
+    let tables = check(alloc, raw)?;
+    assert_eq!(rt; tables.set_id().as_bytes(), b"D1".as_slice());
+    Ok(tables)
+}
+
+// Whether the one account holds three of the first contract, and is short two of the second.
+fn is_calendar(portfolios: &Portfolios) -> bool {
+    match portfolios.as_slice() {
+        [account] => match account.holdings() {
+            [near, far] => (near.contract, near.net, far.contract, far.net) == (0, 3, 1, -2),
+            _ => false,
+        },
+        _ => false,
+    }
+}
+
+// `span_csv` and `param_check`: the account of a file of two records.
+fn account_read(rt: &impl Abort, alloc: Global, tables: &Tables) -> Result<Portfolio, Fail>
+    ensures { IfOk result (λ account. fits (length tables.now.contracts) account.holdings ≡ true) }
+{
+    let positions = read_positions(alloc, POSITIONS)?;
+    assert_eq!(rt; positions.records().len(), 2);
+    assert!(rt; is_calendar(&bind_positions(alloc, tables.contracts(), &positions)?));
+    let portfolios = bind(alloc, tables, &positions)?;
+    assert!(rt; is_calendar(&portfolios));
+    let account = portfolios.into_vec().pop().ok_or("an account")?;
+    assert!(rt; account.fits(tables));
+    Ok(account)
+}
+
+// `span_tables`: what is held of the one commodity, and nothing.
+fn held_of(
+    rt: &impl Abort,
+    alloc: Global,
+    tables: &Tables,
+    account: &Portfolio,
+) -> Result<Held, AllocError>
+    requires { fits (length tables.now.contracts) account.now.holdings ≡ true }
+{
+    assert!(rt; Held::none(alloc, tables)?.is_empty());
+    assert_eq!(rt; tables.commodities().len(), 1);
+    let all = gather_all(alloc, tables, account)?;
+    assert_eq!(rt; all.len(), 1);
+    assert_eq!(rt; all[0].len(), 2);
+    let held = gather(alloc, tables, account, 0)?;
+    assert_eq!(rt; held.len(), 2);
+    assert_eq!(rt; (held.net(0), held.net(1)), (3, -2));
+    Ok(held)
+}
+
+// Whether these are March and June with so many units of 10^-8.
+fn are_march_and_june(months: &[MonthUnits], march: i64, june: i64) -> bool {
+    match months {
+        [first, second] => {
+            (first.month, first.units.get()) == (202_503, march)
+                && (second.month, second.units.get()) == (202_506, june)
+        }
+        _ => false,
+    }
+}
+
+// `spread_stage`: two spreads of one against one, at 250 each.
+fn spreads_of_months(
+    rt: &impl Abort,
+    alloc: Global,
+    tables: &Tables,
+    held: &Held,
+) -> Result<(), Fail> {
+    let months = month_deltas(alloc, held)?;
+    assert!(rt; are_march_and_june(months.as_slice(), 300_000_000, -200_000_000));
+    let begun = start(alloc, &months)?;
+    assert!(rt; are_march_and_june(begun.rests(), 300_000_000, -200_000_000));
+    let begun = begun.copied(alloc)?;
+    assert_eq!(rt; tables.commodities().len(), 1);
+    let intra = tables.intras(0).first().ok_or("a spread")?;
+    let spread = spread(alloc, &begun, intra)?;
+    assert!(rt; are_march_and_june(spread.rests(), 100_000_000, 0));
+    assert_eq!(rt; spread.charge(), 5_000_000);
+    Ok(())
+}
+
+// `inter_credit`: one spread of one against one, of a price risk doubled of 2400 and of 3600, at half of them.
+fn spreads_of_commodities(rt: &impl Abort, alloc: Global) -> Result<(), Fail> {
+    let tables = two_commodities(rt, alloc)?;
+    let inter = tables.inters().first().ok_or("a spread")?;
+    let state = loaded(alloc, (100_000_000, 2400), (-200_000_000, 3600))?;
+    let state = state.copied(alloc)?;
+    let state = inter_spread(alloc, &state, inter)?;
+    assert_eq!(rt; state.len(), 2);
+    let rests = (state.lines()[0].rest.get(), state.lines()[1].rest.get());
+    assert_eq!(rt; rests, (0, -100_000_000));
+    assert_eq!(rt;
+        (credit(&state, 0).get(), credit(&state, 1).get()),
+        (600, 450)
+    );
+    Ok(())
+}
