@@ -1,5 +1,6 @@
-//! Tests of the crates from the plan to batches of accounts: of what no clause says, as that the calls succeed where there is
-//! memory, on cases worked by hand.
+//! Tests of the crates from the plan to batches of accounts, each of what no clause says: that a call which may want memory
+//! succeeds where there is memory; that a board and a book go by their own events alone; that workers take part, and in which
+//! order tasks and results come out; that readers find what was published; and what a hint tells that may be silent.
 //!
 //! They stand in a crate of their own, since a crate with tests is proved twice.
 #![tactic(auto)]
@@ -11,12 +12,12 @@ mod boards;
 #[cfg(test)]
 mod books;
 #[cfg(test)]
-mod compiled;
+mod calls;
 #[cfg(test)]
-mod operations;
+mod ends;
 #[cfg(test)]
-mod rows;
+mod files;
 #[cfg(test)]
-mod samples;
+mod hints;
 #[cfg(test)]
 mod shelf;
