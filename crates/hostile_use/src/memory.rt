@@ -5,6 +5,7 @@ ghost use Rattle.std.specs.Prelude.{◌≡◌, IfOk, length, true};
 ghost use Rattle.span_tables.specs.Holdings.{fits};
 
 use crate::files::{portfolios_of, set_of};
+use crate::streams::margin_into;
 use param_check::binding::bind;
 use param_check::check::check;
 use plan_compiler::set::{CompiledSet, compile};
@@ -13,8 +14,8 @@ use plan_shelf::history::{History, ShelfName};
 use plan_shelf::shelves::shelf;
 use result_book::books::{BookFault, ResultBook};
 use result_book::rows::Row;
-use sample_files::one_future;
 use sample_files::three_commodities::{PARAMS, POSITIONS, STATEMENT};
+use sample_files::{calendar, one_future};
 use span_csv::params::read_params;
 use span_csv::positions::read_positions;
 use span_tables::name::Name;
@@ -105,6 +106,37 @@ fn statement_on_four_workers(rt: HostRuntime) -> Result<(), Fail> {
     let alloc = rt.alloc();
     if was_refused(statement_on(&rt, alloc, 4))? {
         statement_on(&rt, alloc, 4)?;
+    }
+    Ok(())
+}
+
+// What is printed of the files, on streams in memory. Where these cannot grow, the output has failed.
+fn printed<R: Threads + Wait + Clock + Sync + Abort>(
+    rt: &R,
+    alloc: Global,
+) -> Result<(), SpanFault> {
+    let (status, out, err) = margin_into(rt, alloc, PARAMS, usize::MAX, usize::MAX);
+    let is_right = match status {
+        0 => out.as_slice() == STATEMENT && err.is_empty(),
+        5 => out.is_empty() && err.as_slice() == b"memory\n".as_slice(),
+        6 => {
+            STATEMENT.starts_with(out.as_slice()) && err.as_slice() == b"file: output\n".as_slice()
+        }
+        _ => false,
+    };
+    assert!(rt; is_right, "status {status}");
+    if status == 0 {
+        Ok(())
+    } else {
+        Err(SpanFault::Memory)
+    }
+}
+
+#[test]
+fn statement_printed(rt: HostRuntime) -> Result<(), Fail> {
+    let alloc = rt.alloc();
+    if was_refused(printed(&rt, alloc))? {
+        printed(&rt, alloc)?;
     }
     Ok(())
 }
@@ -262,19 +294,6 @@ fn publish(rt: HostRuntime) -> Result<(), Fail> {
     Ok(())
 }
 
-const NEXT: &[u8] = b"\
-SET,D2,1,USD
-COMMODITY,AA,0,SUM
-CONTRACT,FA,AA,F,202503,1,1,0,0,-500,-500,500,500,-1000,-1000,1000,1000,-1500,-1500,1500,1500,-1485,1485
-";
-
-const STATEMENTS: &[u8] = b"\
-R,X,D1,AA,1200,11,0,0,0,0,1200
-T,X,D1,1200
-R,X,D2,AA,1500,11,0,0,0,0,1500
-T,X,D2,1500
-";
-
 // The total of X in a batch, if it has a row there.
 fn total_in(book: &ResultBook, batch: u64) -> Option<i128> {
     let name = Name::new(b"X")?;
@@ -291,21 +310,21 @@ fn roll_once<R: Threads + Wait + Clock + Sync + Abort>(
     let answer = roll(
         rt,
         alloc,
-        one_future::PARAMS,
-        NEXT,
-        b"X,FA,-1\n",
+        calendar::PARAMS,
+        calendar::NEXT,
+        calendar::POSITIONS,
         1,
         &OpenGate,
         &book,
     );
     let book = book.into_inner();
     let totals = [total_in(&book, 1), total_in(&book, 2)];
-    assert!(rt; totals[0] == Some(1200) || totals == [None, None]);
-    assert!(rt; totals[1] == Some(1500) || totals[1] == None);
+    assert!(rt; totals[0] == Some(1740) || totals == [None, None]);
+    assert!(rt; totals[1] == Some(1840) || totals[1] == None);
     match answer {
         Ok(text) => {
-            assert_eq!(rt; text.as_slice(), STATEMENTS);
-            assert!(rt; totals == [Some(1200), Some(1500)]);
+            assert_eq!(rt; text.as_slice(), calendar::BOTH_STATEMENTS);
+            assert!(rt; totals == [Some(1740), Some(1840)]);
             Ok(())
         }
         Err(SpanFault::Shelf) => Err(SpanFault::Memory),

@@ -36,8 +36,8 @@ impl Write for Narrow {
     }
 }
 
-// The status of a margin of two files in memory, and what went out on both streams, of which each has so much room.
-fn margin_into<R: Threads + Wait + Clock + Sync>(
+/// The status of a margin of two files in memory, and what went out on both streams, of which each has so much room.
+pub(crate) fn margin_into<R: Threads + Wait + Clock + Sync>(
     rt: &R,
     alloc: Global,
     params: &[u8],

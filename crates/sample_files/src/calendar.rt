@@ -35,19 +35,6 @@ INTRA,AA,1,300,1,A,1,2,B,1
 SPOT,AA,202503,10,20
 ";
 
-/// A next set with its commodity twice, the second time as record 9.
-pub const NEXT_WITH_A_COMMODITY_TWICE: &[u8] = b"\
-SET,D2,1,USD
-COMMODITY,AA,0,SUM
-CONTRACT,FA,AA,F,202503,1,1,0,0,-400,-400,400,400,-800,-800,800,800,-1200,-1200,1200,1200,-1188,1188
-CONTRACT,FA2,AA,F,202506,1,1,0,0,-400,-400,400,400,-800,-800,800,800,-1200,-1200,1200,1200,-1188,1188
-TIER,AA,1,202501,202504
-TIER,AA,2,202505,202512
-INTRA,AA,1,300,1,A,1,2,B,1
-SPOT,AA,202503,10,20
-COMMODITY,AA,0,SUM
-";
-
 /// An account that is long three of the near month and short two of the far one.
 pub const POSITIONS: &[u8] = b"\
 X,FA,3

@@ -4,6 +4,5 @@
 
 pub mod calendar;
 pub mod one_future;
-pub mod option_values;
 pub mod three_commodities;
 pub mod two_commodities;

@@ -1,4 +1,4 @@
-//! Two commodities with a spread between them, under a set and under a next one in another order.
+//! Two commodities with a spread between them.
 
 /// Two commodities with a future each, and an intercommodity spread.
 pub const PARAMS: &[u8] = b"\
@@ -8,15 +8,6 @@ COMMODITY,BB,0,SUM
 CONTRACT,FA,AA,F,202503,1,1,0,0,-400,-400,400,400,-800,-800,800,800,-1200,-1200,1200,1200,-1188,1188
 CONTRACT,FB,BB,F,202503,1,1,0,0,-300,-300,300,300,-600,-600,600,600,-900,-900,900,900,-891,891
 INTER,1,5000,AA,A,1,BB,B,1
-";
-
-/// The next set has its commodities in another order, FA is of the other commodity, and there is no spread.
-pub const NEXT: &[u8] = b"\
-SET,D2,1,USD
-COMMODITY,BB,0,SUM
-COMMODITY,AA,0,SUM
-CONTRACT,FA,BB,F,202503,1,1,0,0,-400,-400,400,400,-800,-800,800,800,-1200,-1200,1200,1200,-1188,1188
-CONTRACT,FB,BB,F,202503,1,1,0,0,-300,-300,300,300,-600,-600,600,600,-900,-900,900,900,-891,891
 ";
 
 /// An account that is long one in the first commodity, and short two in the second.
@@ -51,13 +42,4 @@ CREDIT,X,D1,BB,1800,-2,5000
 SHORT,X,D1,BB,0,0,SUM,0
 R,X,D1,BB,1800,11,0,0,450,0,1350
 T,X,D1,1950
-";
-
-/// The same, and then under the next set a gain of 1200 against a loss of 1800.
-pub const BOTH_STATEMENTS: &[u8] = b"\
-R,X,D1,AA,1200,13,0,0,600,0,600
-R,X,D1,BB,1800,11,0,0,450,0,1350
-T,X,D1,1950
-R,X,D2,BB,600,11,0,0,0,0,600
-T,X,D2,600
 ";

@@ -1,6 +1,4 @@
-//! What the tests share: a writer that breaks, and what a command line and a request give.
-use span_cli::memory::InMemory;
-use span_cli::serving::{Request, serve};
+//! What the tests share: a writer that breaks, and what a command line gives.
 use span_cli::sources::Sources;
 use span_cli::words::run_words;
 use span_told::MarkedWriter;
@@ -10,7 +8,7 @@ use std::io::{ErrorKind, Write};
 use std::sync::Wait;
 use std::thread::Threads;
 use std::time::Clock;
-use worker_pool::gates::OpenGate;
+use worker_pool::gates::Gate;
 
 /// A status, and what was written.
 #[derive(Drop)]
@@ -26,42 +24,17 @@ impl Given {
     }
 }
 
-/// What a command line gives over these sources.
-pub(crate) fn run_on<S: Sources, R: Threads + Wait + Clock + Sync>(
+/// What a command line gives over these sources, whose workers pass this gate.
+pub(crate) fn run_on<S: Sources, R: Threads + Wait + Clock + Sync, G: Gate>(
     rt: &R,
     alloc: Global,
     words: &[&str],
     sources: &mut S,
+    gate: &G,
 ) -> Given {
     let mut out = MarkedWriter::new(Vec::new(alloc));
     let mut err = MarkedWriter::new(Vec::new(alloc));
-    let status = run_words(rt, alloc, words, sources, &OpenGate, &mut out, &mut err);
-    Given {
-        status,
-        out: out.into_inner(),
-        err: err.into_inner(),
-    }
-}
-
-/// What a request gives over files in memory.
-pub(crate) fn answer<R: Threads + Wait + Clock + Sync>(
-    rt: &R,
-    alloc: Global,
-    request: Request<'_>,
-    files: &[(&str, &[u8])],
-) -> Given {
-    let mut sources = InMemory { files };
-    let mut out = MarkedWriter::new(Vec::new(alloc));
-    let mut err = MarkedWriter::new(Vec::new(alloc));
-    let status = serve(
-        rt,
-        alloc,
-        request,
-        &mut sources,
-        &OpenGate,
-        &mut out,
-        &mut err,
-    );
+    let status = run_words(rt, alloc, words, sources, gate, &mut out, &mut err);
     Given {
         status,
         out: out.into_inner(),

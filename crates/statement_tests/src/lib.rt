@@ -1,5 +1,5 @@
-//! Tests of statements and of the command line: of what no clause says, as that the calls succeed where there is memory, and the
-//! texts of usage and help.
+//! Tests of statements, of their reasons and of the command line, from the teams of workers up: of what no clause says, as that
+//! the calls succeed where there is memory, what workers do at the same time, and the texts of faults.
 //!
 //! They stand in a crate of their own, since a crate with tests is proved twice.
 #![tactic(auto)]
@@ -7,15 +7,13 @@
 #[cfg(test)]
 mod builders;
 #[cfg(test)]
-mod explanations;
+mod calls;
 #[cfg(test)]
-mod files;
+mod faults;
 #[cfg(test)]
 mod reading;
 #[cfg(test)]
 mod rolls;
-#[cfg(test)]
-mod statements;
 #[cfg(test)]
 mod words;
 #[cfg(test)]

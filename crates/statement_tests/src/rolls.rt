@@ -1,20 +1,20 @@
 //! Rolls: the bytes of both statements, the thread beside the first batch, and what stays in the book.
-use param_check::faults::{BindFault, CheckFault};
-use result_book::books::{BookFault, ResultBook};
-use sample_files::calendar::{
-    BOTH_STATEMENTS, NEXT, NEXT_WITH_A_COMMODITY_TWICE, NEXT_WITHOUT_A_CONTRACT, PARAMS, POSITIONS,
-};
-use sample_files::{option_values, two_commodities};
-use span_csv::faults::{ParamFault, PositionFault};
+use param_check::faults::BindFault;
+use result_book::books::ResultBook;
+use sample_files::calendar::{BOTH_STATEMENTS, NEXT, NEXT_WITHOUT_A_CONTRACT, PARAMS, POSITIONS};
+use span_csv::faults::ParamFault;
 use span_tables::name::Name;
-use statement::fault_lines::write_fault;
-use statement::faults::{SpanFault, status};
+use statement::faults::SpanFault;
 use statement::roll::roll;
-use std::sync::Mutex;
+use std::alloc::Global;
+use std::process::Abort;
 use std::sync::atomic::AtomicBool;
 use std::sync::atomic::Ordering::SeqCst;
+use std::sync::{Mutex, Wait};
 use std::test::Fail;
 use std::thread;
+use std::thread::Threads;
+use std::time::Clock;
 use worker_pool::batch::MAX_WORKERS;
 use worker_pool::gates::{Gate, OpenGate};
 
@@ -31,59 +31,8 @@ fn two_statements_on_each_number_of_workers(rt: HostRuntime) -> Result<(), Fail>
     Ok(())
 }
 
-// Under the next set FA is of the other commodity, which comes first.
-#[test]
-fn next_set_in_another_order(rt: HostRuntime) -> Result<(), Fail> {
-    let alloc = rt.alloc();
-    let book = Mutex::new(ResultBook::new(alloc));
-    let text = roll(
-        &rt,
-        alloc,
-        two_commodities::PARAMS,
-        two_commodities::NEXT,
-        two_commodities::POSITIONS,
-        1,
-        &OpenGate,
-        &book,
-    )?;
-    assert_eq!(rt; text.as_slice(), two_commodities::BOTH_STATEMENTS);
-    Ok(())
-}
-
-// From a set without option values to one with them, and back: each statement has the lines of its own set.
-#[test]
-fn next_set_of_another_profile(rt: HostRuntime) -> Result<(), Fail> {
-    let alloc = rt.alloc();
-    let cases: [(&[u8], &[u8], &[u8]); 2] = [
-        (
-            option_values::WITHOUT,
-            option_values::PARAMS,
-            option_values::INTO_VALUES,
-        ),
-        (
-            option_values::PARAMS,
-            option_values::WITHOUT,
-            option_values::OUT_OF_VALUES,
-        ),
-    ];
-    for (params, next, expected) in cases {
-        let book = Mutex::new(ResultBook::new(alloc));
-        let text = roll(
-            &rt,
-            alloc,
-            params,
-            next,
-            option_values::POSITIONS,
-            2,
-            &OpenGate,
-            &book,
-        )?;
-        assert_eq!(rt; text.as_slice(), expected);
-    }
-    Ok(())
-}
-
-// The thread of the next set and the first step of the first batch wait for each other, or their turns are used up.
+// The thread of the next set and the first step of the first batch wait for each other. When the turns of one of them are used up,
+// it is too late, and nothing waits any more.
 #[derive(Drop)]
 struct Beside {
     of_set: AtomicBool,
@@ -94,7 +43,7 @@ struct Beside {
 impl Beside {
     fn wait_for(&self, other: &AtomicBool) {
         for _ in 0..10_000_000 {
-            if other.load(SeqCst) {
+            if other.load(SeqCst) || self.late.load(SeqCst) {
                 return;
             }
             thread::yield_now();
@@ -147,83 +96,36 @@ fn rows_of_both_batches_in_the_book(rt: HostRuntime) -> Result<(), Fail> {
     Ok(())
 }
 
-// What the first batch put stays in the book where the next set is refused.
-#[test]
-fn rows_of_the_first_batch_stay(rt: HostRuntime) -> Result<(), Fail> {
-    let alloc = rt.alloc();
-    let account = Name::new(b"X").ok_or("a name")?;
-    let faults = [
-        (
-            NEXT_WITHOUT_A_CONTRACT,
-            SpanFault::NextBind(BindFault::UnknownContract { at: 2, account }),
-        ),
-        (
-            b"".as_slice(),
-            SpanFault::NextParams(ParamFault::NoSet { at: 0 }),
-        ),
-        (
-            NEXT_WITH_A_COMMODITY_TWICE,
-            SpanFault::NextCheck(CheckFault::DuplicateCommodity { at: 9 }),
-        ),
-    ];
-    for (next, fault) in faults {
-        let book = Mutex::new(ResultBook::new(alloc));
-        let refused = roll(&rt, alloc, PARAMS, next, POSITIONS, 1, &OpenGate, &book);
-        assert!(rt; refused == Err(fault));
-        let rows = book.into_inner().rows(1)?;
-        assert_eq!(rt; rows.len(), 1);
-        assert_eq!(rt; rows[0].total().get(), 1740);
-    }
+// A roll with this next set is refused so, and what the first batch put stays in the book.
+fn row_stays<R: Threads + Wait + Clock + Sync + Abort>(
+    rt: &R,
+    alloc: Global,
+    next: &[u8],
+    fault: SpanFault,
+) -> Result<(), Fail> {
+    let book = Mutex::new(ResultBook::new(alloc));
+    let refused = roll(rt, alloc, PARAMS, next, POSITIONS, 1, &OpenGate, &book);
+    assert!(rt; refused == Err(fault));
+    let rows = book.into_inner().rows(1)?;
+    assert_eq!(rt; rows.len(), 1);
+    assert_eq!(rt; rows[0].set_id().as_bytes(), b"D1".as_slice());
+    assert_eq!(rt; rows[0].total().get(), 1740);
     Ok(())
 }
 
-// The faults of today's files come before those of the next set, and leave the book as it was.
 #[test]
-fn faults_of_today_come_first(rt: HostRuntime) -> Result<(), Fail> {
+fn row_of_the_first_batch_stays(rt: HostRuntime) -> Result<(), Fail> {
     let alloc = rt.alloc();
     let account = Name::new(b"X").ok_or("a name")?;
-    let book = Mutex::new(ResultBook::new(alloc));
-    let faults = [
-        (
-            b"".as_slice(),
-            POSITIONS,
-            1,
-            SpanFault::Params(ParamFault::NoSet { at: 0 }),
-        ),
-        (
-            b"SET,D1,1,USD\nSET,D1,1,USD\n".as_slice(),
-            b"X,FZ\n".as_slice(),
-            1,
-            SpanFault::Params(ParamFault::SecondSet { at: 2 }),
-        ),
-        (
-            PARAMS,
-            b"X,FA".as_slice(),
-            1,
-            SpanFault::Positions(PositionFault::FieldCount { at: 1 }),
-        ),
-        (
-            PARAMS,
-            b"X,FZ,1\n".as_slice(),
-            1,
-            SpanFault::Bind(BindFault::UnknownContract { at: 1, account }),
-        ),
-        (b"".as_slice(), POSITIONS, 0, SpanFault::Workers),
-        (
-            b"".as_slice(),
-            POSITIONS,
-            MAX_WORKERS + 1,
-            SpanFault::Workers,
-        ),
-    ];
-    for (params, positions, workers, fault) in faults {
-        let refused = roll(
-            &rt, alloc, params, b"", positions, workers, &OpenGate, &book,
-        );
-        assert!(rt; refused == Err(fault));
-    }
-    assert!(rt; book.into_inner().rows(1)?.is_empty());
-    Ok(())
+    let unknown = BindFault::UnknownContract { at: 2, account };
+    row_stays(
+        &rt,
+        alloc,
+        NEXT_WITHOUT_A_CONTRACT,
+        SpanFault::NextBind(unknown),
+    )?;
+    let no_set = ParamFault::NoSet { at: 0 };
+    row_stays(&rt, alloc, b"", SpanFault::NextParams(no_set))
 }
 
 #[test]
@@ -248,39 +150,5 @@ fn two_threads_on_one_book(rt: HostRuntime) -> Result<(), Fail> {
     }
     assert_eq!(rt; of_today, 2);
     assert!(rt; book.rows(5)?.is_empty());
-    Ok(())
-}
-
-#[test]
-fn lines_of_books_and_shelves(rt: HostRuntime) -> Result<(), Fail> {
-    let lines = [
-        (
-            SpanFault::Book(BookFault::NoSuchBatch),
-            b"book: K1 NoSuchBatch\n".as_slice(),
-            7,
-        ),
-        (
-            SpanFault::Book(BookFault::AlreadyThere),
-            b"book: K2 AlreadyThere\n".as_slice(),
-            7,
-        ),
-        (
-            SpanFault::Book(BookFault::NoMoreBatches),
-            b"book: K4 NoMoreBatches\n".as_slice(),
-            7,
-        ),
-        (SpanFault::Shelf, b"shelf\n".as_slice(), 7),
-        (
-            SpanFault::Book(BookFault::OutOfMemory),
-            b"memory\n".as_slice(),
-            5,
-        ),
-    ];
-    for (fault, line, number) in lines {
-        let mut out = Vec::new(rt.alloc());
-        write_fault(&fault, &mut out)?;
-        assert_eq!(rt; out.as_slice(), line);
-        assert_eq!(rt; status(&fault), number);
-    }
     Ok(())
 }

@@ -1,95 +1,113 @@
-//! Statements on many workers.
-use sample_files::{calendar, one_future, option_values, three_commodities, two_commodities};
+//! Workers: that those that are asked for take part, all at the same time, and that each step is evaluated once.
+use crate::builders::{Given, run_on};
+use sample_files::two_commodities::{PARAMS, POSITIONS, STATEMENT};
+use span_cli::memory::InMemory;
 use span_tables::name::Name;
-use statement::faults::SpanFault;
 use statement::margin::{margin, margin_plain};
 use std::alloc::{AllocError, Global};
-use std::sync::atomic::AtomicU64;
+use std::sync::Wait;
 use std::sync::atomic::Ordering::SeqCst;
+use std::sync::atomic::{AtomicBool, AtomicU64};
 use std::test::Fail;
 use std::thread;
+use std::thread::Threads;
+use std::time::Clock;
 use worker_pool::batch::MAX_WORKERS;
-use worker_pool::gates::{Gate, OpenGate};
+use worker_pool::gates::Gate;
 
-// A second account, which is long two of the second commodity.
-const TWO_ACCOUNTS: &[u8] = b"\
-X,FA,3
-X,FB,-1
-X,FC,-1
-Y,FB,2
-";
+/// The steps of the plan of two commodities with a spread between them.
+const STEPS: usize = 23;
 
-// X as alone; Y has two at 900.
-const TWO_ACCOUNTS_STATEMENT: &[u8] = b"\
-R,X,D1,AA,3600,13,0,0,840,0,2760
-R,X,D1,BB,900,11,0,0,450,0,450
-R,X,D1,CC,300,11,0,0,60,0,240
-T,X,D1,3450
-R,Y,D1,BB,1800,13,0,0,0,0,1800
-T,Y,D1,1800
-";
+// A gate at which each pass waits until so many workers have entered. When the turns of one pass are used up, it is too late, and
+// lets everything pass. It notes the workers and the steps that passed by bits, and how many passes there were.
+#[derive(Drop)]
+struct Together {
+    awaited: u32,
+    workers: AtomicU64,
+    steps: AtomicU64,
+    passes: AtomicU64,
+    late: AtomicBool,
+}
 
+impl Together {
+    fn new(awaited: u32) -> Together {
+        Together {
+            awaited,
+            workers: AtomicU64::new(0),
+            steps: AtomicU64::new(0),
+            passes: AtomicU64::new(0),
+            late: AtomicBool::new(false),
+        }
+    }
+
+    // Whether these workers, numbered from 0, passed and no other, and none in vain.
+    fn were_together(&self, workers: u64) -> bool {
+        self.workers.load(SeqCst) == workers && !self.late.load(SeqCst)
+    }
+
+    // Whether each step of the plan passed once, and no other.
+    fn was_passed_once_by_each_step(&self) -> bool {
+        self.steps.load(SeqCst) == (1 << STEPS) - 1 && self.passes.load(SeqCst) == STEPS as u64
+    }
+}
+
+impl Gate for Together {
+    fn pass(&self, worker: usize, _account: &Name, step: usize) {
+        self.passes.fetch_add(1, SeqCst);
+        if worker < 64 {
+            self.workers.fetch_or(1 << worker, SeqCst);
+        }
+        if step < 64 {
+            self.steps.fetch_or(1 << step, SeqCst);
+        }
+        for _ in 0..10_000_000 {
+            let entered = self.workers.load(SeqCst).count_ones();
+            if entered >= self.awaited || self.late.load(SeqCst) {
+                return;
+            }
+            thread::yield_now();
+        }
+        self.late.store(true, SeqCst);
+    }
+}
+
+// What a command line gives for the files of two commodities with a credit.
+fn run<R: Threads + Wait + Clock + Sync>(
+    rt: &R,
+    alloc: Global,
+    words: &[&str],
+    gate: &Together,
+) -> Given {
+    let mut sources = InMemory {
+        files: &[("params.csv", PARAMS), ("positions.csv", POSITIONS)],
+    };
+    run_on(rt, alloc, words, &mut sources, gate)
+}
+
+// One account, whose steps three workers share.
 #[test]
-fn the_same_bytes_on_each_number_of_workers(rt: HostRuntime) -> Result<(), Fail> {
-    let alloc = rt.alloc();
-    let cases: [(&[u8], &[u8], &[u8]); 6] = [
-        (
-            one_future::PARAMS,
-            one_future::POSITIONS,
-            one_future::STATEMENT,
-        ),
-        (calendar::PARAMS, calendar::POSITIONS, calendar::STATEMENT),
-        (
-            two_commodities::PARAMS,
-            two_commodities::POSITIONS,
-            two_commodities::STATEMENT,
-        ),
-        (
-            three_commodities::PARAMS,
-            three_commodities::POSITIONS,
-            three_commodities::STATEMENT,
-        ),
-        (
-            three_commodities::PARAMS,
-            TWO_ACCOUNTS,
-            TWO_ACCOUNTS_STATEMENT,
-        ),
-        (
-            option_values::PARAMS,
-            option_values::POSITIONS,
-            option_values::STATEMENT,
-        ),
+fn three_workers_at_once(rt: HostRuntime) {
+    let gate = Together::new(3);
+    let words = [
+        "span",
+        "margin",
+        "--workers",
+        "3",
+        "params.csv",
+        "positions.csv",
     ];
-    for (params, positions, statement) in cases {
-        for workers in [1, 2, 3, MAX_WORKERS] {
-            let text = margin(&rt, alloc, params, positions, workers, &OpenGate)?;
-            assert_eq!(rt; text.as_slice(), statement);
-        }
-    }
-    Ok(())
+    assert!(rt; run(&rt, rt.alloc(), &words, &gate).is(0, STATEMENT, b""));
+    assert!(rt; gate.were_together(0b111));
+    assert!(rt; gate.was_passed_once_by_each_step());
 }
 
 #[test]
-fn the_same_bytes_a_hundred_times(rt: HostRuntime) -> Result<(), Fail> {
-    let alloc = rt.alloc();
-    let params = three_commodities::PARAMS;
-    for _ in 0..100 {
-        let text = margin(&rt, alloc, params, TWO_ACCOUNTS, MAX_WORKERS, &OpenGate)?;
-        assert_eq!(rt; text.as_slice(), TWO_ACCOUNTS_STATEMENT);
-    }
-    Ok(())
-}
-
-#[test]
-fn numbers_of_workers_that_cannot_be(rt: HostRuntime) {
-    let alloc = rt.alloc();
-    for workers in [0, MAX_WORKERS + 1] {
-        for params in [two_commodities::PARAMS, b"".as_slice()] {
-            let positions = two_commodities::POSITIONS;
-            let refused = margin(&rt, alloc, params, positions, workers, &OpenGate);
-            assert!(rt; refused == Err(SpanFault::Workers));
-        }
-    }
+fn each_step_once_on_one_worker(rt: HostRuntime) {
+    let gate = Together::new(1);
+    let words = ["span", "margin", "params.csv", "positions.csv"];
+    assert!(rt; run(&rt, rt.alloc(), &words, &gate).is(0, STATEMENT, b""));
+    assert!(rt; gate.were_together(0b1));
+    assert!(rt; gate.was_passed_once_by_each_step());
 }
 
 /// The commodities of a set in which many steps of an account are ready at once.
@@ -120,37 +138,13 @@ fn wide_positions(alloc: Global) -> Result<String, AllocError> {
     Ok(text)
 }
 
-// Each pass waits until all workers that there may be have entered, or its turns are used up.
-#[derive(Drop)]
-struct AllAtOnce {
-    entered: AtomicU64,
-    late: AtomicU64,
-}
-
-impl Gate for AllAtOnce {
-    fn pass(&self, worker: usize, _account: &Name, _step: usize) {
-        if worker < 64 {
-            self.entered.fetch_or(1 << worker, SeqCst);
-        }
-        for _ in 0..10_000_000 {
-            if self.entered.load(SeqCst).count_ones() as usize >= MAX_WORKERS {
-                return;
-            }
-            thread::yield_now();
-        }
-        self.late.fetch_add(1, SeqCst);
-    }
-}
-
+// The accounts are cut into two slices, each for a team of eight.
 #[test]
 fn two_teams_of_eight(rt: HostRuntime) -> Result<(), Fail> {
     let alloc = rt.alloc();
     let params = wide_params(alloc)?;
     let positions = wide_positions(alloc)?;
-    let gate = AllAtOnce {
-        entered: AtomicU64::new(0),
-        late: AtomicU64::new(0),
-    };
+    let gate = Together::new(MAX_WORKERS as u32);
     let text = margin(
         &rt,
         alloc,
@@ -161,7 +155,6 @@ fn two_teams_of_eight(rt: HostRuntime) -> Result<(), Fail> {
     )?;
     let alone = margin_plain(alloc, params.as_bytes(), positions.as_bytes())?;
     assert!(rt; text.as_slice() == alone.as_slice());
-    assert_eq!(rt; gate.late.load(SeqCst), 0);
-    assert_eq!(rt; gate.entered.load(SeqCst), (1 << MAX_WORKERS) - 1);
+    assert!(rt; gate.were_together((1 << MAX_WORKERS) - 1));
     Ok(())
 }

@@ -1,0 +1,255 @@
+//! The lines of faults and their statuses, the texts that `Display` gives of each kind of fault, and a line without room.
+use param_check::faults::{BindFault, CheckFault};
+use plan_shelf::faults::ShelfFault;
+use result_book::books::BookFault;
+use span_cli::sources::ReadFault;
+use span_csv::faults::{ParamFault, PositionFault};
+use span_tables::name::Name;
+use span_told::MarkedWriter;
+use statement::fault_lines::{tell_fault, write_fault};
+use statement::faults::{SpanFault, status};
+use std::alloc::Global;
+use std::fmt::Display;
+use std::io::Write;
+use std::process::Abort;
+use std::test::Fail;
+use step_scheduler::boards::Refused;
+use worker_pool::batch::PoolFault;
+
+// The account of the faults below.
+fn account() -> Name {
+    Name::new(b"ACC-1").unwrap_or(Name::default())
+}
+
+// Each fault has this line, and this status.
+fn have_lines(rt: &impl Abort, alloc: Global, lines: &[(SpanFault, &str, u8)]) -> Result<(), Fail> {
+    for (fault, line, number) in lines {
+        let mut written = Vec::new(alloc);
+        write_fault(fault, &mut written)?;
+        assert_eq!(rt; written.as_slice(), line.as_bytes());
+        assert_eq!(rt; status(fault), *number);
+    }
+    Ok(())
+}
+
+// One of each kind that names no account.
+const LINES: [(SpanFault, &str, u8); 9] = [
+    (
+        SpanFault::Params(ParamFault::NoSet { at: 0 }),
+        "parameters: P1 NoSet at record 0\n",
+        3,
+    ),
+    (
+        SpanFault::Check(CheckFault::DuplicateSpot { at: 12 }),
+        "parameters: C11 DuplicateSpot at record 12\n",
+        3,
+    ),
+    (
+        SpanFault::Positions(PositionFault::TooManyAccounts { at: 12 }),
+        "positions: Q5 TooManyAccounts at record 12\n",
+        4,
+    ),
+    (
+        SpanFault::NextParams(ParamFault::FieldCount { at: 2 }),
+        "next parameters: P4 FieldCount at record 2\n",
+        3,
+    ),
+    (
+        SpanFault::NextCheck(CheckFault::OneSided { at: 9 }),
+        "next parameters: C9 OneSided at record 9\n",
+        3,
+    ),
+    (SpanFault::Workers, "workers: L1 Workers\n", 2),
+    (
+        SpanFault::Book(BookFault::AlreadyThere),
+        "book: K2 AlreadyThere\n",
+        7,
+    ),
+    (SpanFault::Shelf, "shelf\n", 7),
+    (SpanFault::Memory, "memory\n", 5),
+];
+
+// One of each kind that names an account.
+fn lines_of_accounts(rt: &impl Abort, alloc: Global) -> Result<(), Fail> {
+    let bound = BindFault::NetOutOfRange {
+        at: 3,
+        account: account(),
+    };
+    let bound_next = BindFault::TooManyHeld {
+        at: 4,
+        account: account(),
+    };
+    let lines = [
+        (
+            SpanFault::Bind(bound),
+            "positions: B2 NetOutOfRange at record 3 account ACC-1\n",
+            4,
+        ),
+        (
+            SpanFault::NextBind(bound_next),
+            "next positions: B3 TooManyHeld at record 4 account ACC-1\n",
+            4,
+        ),
+        (
+            SpanFault::UnknownAccount { account: account() },
+            "positions: E1 UnknownAccount account ACC-1\n",
+            4,
+        ),
+    ];
+    have_lines(rt, alloc, &lines)
+}
+
+#[test]
+fn lines_and_statuses(rt: HostRuntime) -> Result<(), Fail> {
+    let alloc = rt.alloc();
+    have_lines(&rt, alloc, &LINES)?;
+    lines_of_accounts(&rt, alloc)
+}
+
+// The fault is shown as its line, without the line end.
+fn is_shown_as_line(rt: &impl Abort, alloc: Global, fault: &SpanFault) -> Result<(), Fail> {
+    let mut shown = Vec::new(alloc);
+    writeln!(shown, "{fault}")?;
+    let mut written = Vec::new(alloc);
+    write_fault(fault, &mut written)?;
+    assert_eq!(rt; shown.as_slice(), written.as_slice());
+    Ok(())
+}
+
+const PARAM_FAULTS: [ParamFault; 8] = [
+    ParamFault::NoSet { at: 0 },
+    ParamFault::SecondSet { at: 2 },
+    ParamFault::UnknownKind { at: 3 },
+    ParamFault::FieldCount { at: 4 },
+    ParamFault::BadName { at: 5 },
+    ParamFault::BadNumber { at: 6 },
+    ParamFault::OutOfRange { at: 7 },
+    ParamFault::TooMany { at: 8 },
+];
+
+const CHECK_FAULTS: [CheckFault; 11] = [
+    CheckFault::DuplicateCommodity { at: 1 },
+    CheckFault::UnknownCommodity { at: 2 },
+    CheckFault::DuplicateContract { at: 3 },
+    CheckFault::DuplicateTier { at: 4 },
+    CheckFault::TierBackwards { at: 5 },
+    CheckFault::TierOverlap { at: 6 },
+    CheckFault::UnknownTier { at: 7 },
+    CheckFault::RepeatedLeg { at: 8 },
+    CheckFault::OneSided { at: 9 },
+    CheckFault::DuplicatePriority { at: 10 },
+    CheckFault::DuplicateSpot { at: 11 },
+];
+
+const POSITION_FAULTS: [PositionFault; 5] = [
+    PositionFault::FieldCount { at: 1 },
+    PositionFault::BadName { at: 2 },
+    PositionFault::BadNumber { at: 3 },
+    PositionFault::OutOfRange { at: 4 },
+    PositionFault::TooManyAccounts { at: 5 },
+];
+
+const BOOK_FAULTS: [BookFault; 3] = [
+    BookFault::NoSuchBatch,
+    BookFault::AlreadyThere,
+    BookFault::NoMoreBatches,
+];
+
+#[test]
+fn faults_of_records_and_books_are_shown(rt: HostRuntime) -> Result<(), Fail> {
+    let alloc = rt.alloc();
+    for fault in PARAM_FAULTS {
+        is_shown_as_line(&rt, alloc, &SpanFault::Params(fault))?;
+    }
+    for fault in CHECK_FAULTS {
+        is_shown_as_line(&rt, alloc, &SpanFault::NextCheck(fault))?;
+    }
+    for fault in POSITION_FAULTS {
+        is_shown_as_line(&rt, alloc, &SpanFault::Positions(fault))?;
+    }
+    for fault in BOOK_FAULTS {
+        is_shown_as_line(&rt, alloc, &SpanFault::Book(fault))?;
+    }
+    Ok(())
+}
+
+#[test]
+fn other_faults_are_shown(rt: HostRuntime) -> Result<(), Fail> {
+    let faults = [
+        SpanFault::Bind(BindFault::UnknownContract {
+            at: 1,
+            account: account(),
+        }),
+        SpanFault::Bind(BindFault::NetOutOfRange {
+            at: 2,
+            account: account(),
+        }),
+        SpanFault::NextBind(BindFault::TooManyHeld {
+            at: 3,
+            account: account(),
+        }),
+        SpanFault::NextParams(ParamFault::NoSet { at: 0 }),
+        SpanFault::Check(CheckFault::OneSided { at: 4 }),
+        SpanFault::UnknownAccount { account: account() },
+        SpanFault::Workers,
+        SpanFault::Shelf,
+        SpanFault::Memory,
+    ];
+    for fault in &faults {
+        is_shown_as_line(&rt, rt.alloc(), fault)?;
+    }
+    Ok(())
+}
+
+// The value is shown as this text.
+fn is_shown<T: Display>(rt: &impl Abort, alloc: Global, value: &T, text: &str) -> Result<(), Fail> {
+    let shown = format!(in alloc; "{value}")?;
+    assert_eq!(rt; shown.as_str(), text);
+    Ok(())
+}
+
+// Faults that no statement is refused with.
+#[test]
+fn faults_of_calls_are_shown(rt: HostRuntime) -> Result<(), Fail> {
+    let alloc = rt.alloc();
+    is_shown(&rt, alloc, &ShelfFault::Readers, "Readers")?;
+    is_shown(&rt, alloc, &ShelfFault::Last, "Last")?;
+    is_shown(&rt, alloc, &PoolFault::Workers, "L1 Workers")?;
+    is_shown(&rt, alloc, &Refused::NotTaken, "NotTaken")?;
+    is_shown(&rt, alloc, &Refused::Failed, "Failed")?;
+    is_shown(&rt, alloc, &ReadFault::Failed, "the file cannot be read")?;
+    is_shown(&rt, alloc, &ReadFault::TooLong, "the file is too long")
+}
+
+#[test]
+fn want_of_memory_is_shown(rt: HostRuntime) -> Result<(), Fail> {
+    let alloc = rt.alloc();
+    is_shown(&rt, alloc, &ParamFault::OutOfMemory, "memory")?;
+    is_shown(&rt, alloc, &CheckFault::OutOfMemory, "memory")?;
+    is_shown(&rt, alloc, &PositionFault::OutOfMemory, "memory")?;
+    is_shown(&rt, alloc, &BindFault::OutOfMemory, "memory")?;
+    is_shown(&rt, alloc, &BookFault::OutOfMemory, "memory")?;
+    is_shown(&rt, alloc, &ShelfFault::OutOfMemory, "memory")?;
+    is_shown(&rt, alloc, &PoolFault::OutOfMemory, "memory")?;
+    is_shown(&rt, alloc, &ReadFault::OutOfMemory, "memory")
+}
+
+// A writer that has no room for the whole line refuses it.
+#[test]
+fn line_without_room(rt: HostRuntime) {
+    let fault = SpanFault::Bind(BindFault::TooManyHeld {
+        at: 9,
+        account: account(),
+    });
+    let mut room = [0; 40];
+    let mut out = &mut room[..];
+    assert!(rt; write_fault(&fault, &mut out).is_err());
+    assert_eq!(rt;
+        room.as_slice(),
+        b"positions: B3 TooManyHeld at record 9 ac".as_slice()
+    );
+    let mut room = [0; 40];
+    let mut out = MarkedWriter::new(&mut room[..]);
+    tell_fault(&fault, &mut out);
+    assert!(rt; out.failed());
+}
