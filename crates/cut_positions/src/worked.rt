@@ -1,0 +1,57 @@
+//! Positions in parts, and their statements, computed by the definitions: each is the contract of a function that does nothing.
+#![tactic(auto, unfolding(statement::specs::OnLiterals::on_literals))]
+
+ghost use Rattle.param_check.specs.Samples.{contract_of, position_of};
+ghost use Rattle.span_csv.specs.Records.{records_of};
+ghost use Rattle.span_tables.specs.Net.{holdings_of};
+ghost use Rattle.span_tables.specs.Samples.{commodity, set};
+ghost use Rattle.span_tables.specs.Tables.{tables_of};
+ghost use Rattle.span_tables.specs.declared.records.Record.TheVariants as record_of;
+ghost use Rattle.statement.specs.Samples.{one_future};
+ghost use Rattle.statement.specs.Statement.{statement_bound, statement_of};
+ghost use Rattle.std.specs.Prelude.{◌++◌, ◌≡◌, ◌∷◌, [], Ok, codes, neg_ℤ, pos};
+
+// The records of two accounts: the statement of the first account stands in front.
+fn statements_of_two_accounts()
+    ensures first { statement_bound (tables_of (set (codes "D1") ∷ commodity (codes "AA")
+        ∷ record_of.Contract (contract_of (codes "FA")) ∷ []))
+        (position_of (codes "X") (codes "FA") (pos 1) ∷ [])
+        ≡ Ok (codes "R,X,D1,AA,0,1,0,0,0,0,0\nT,X,D1,0\n") }
+    ensures second { statement_bound (tables_of (set (codes "D1") ∷ commodity (codes "AA")
+        ∷ record_of.Contract (contract_of (codes "FA")) ∷ []))
+        (position_of (codes "B") (codes "FA") (pos 1) ∷ [])
+        ≡ Ok (codes "R,B,D1,AA,0,1,0,0,0,0,0\nT,B,D1,0\n") }
+    ensures both { statement_bound (tables_of (set (codes "D1") ∷ commodity (codes "AA")
+        ∷ record_of.Contract (contract_of (codes "FA")) ∷ []))
+        (position_of (codes "X") (codes "FA") (pos 1) ∷ position_of (codes "B") (codes "FA") (pos 1) ∷ [])
+        ≡ Ok (codes "R,X,D1,AA,0,1,0,0,0,0,0\nT,X,D1,0\nR,B,D1,AA,0,1,0,0,0,0,0\nT,B,D1,0\n") }
+{}
+
+// A file that is cut behind its first line.
+fn statements_of_a_cut_file()
+    ensures first { statement_of one_future (codes "X,FA,1\n") ≡ Ok (codes "R,X,D1,AA,1200,13,0,0,0,0,1200\nT,X,D1,1200\n") }
+    ensures second { statement_of one_future (codes "B,FA,-1\n") ≡ Ok (codes "R,B,D1,AA,1200,11,0,0,0,0,1200\nT,B,D1,1200\n") }
+    ensures whole { statement_of one_future (codes "X,FA,1\n" ++ codes "B,FA,-1\n")
+        ≡ Ok (codes "R,X,D1,AA,1200,13,0,0,0,0,1200\nT,X,D1,1200\n"
+        ++ codes "R,B,D1,AA,1200,11,0,0,0,0,1200\nT,B,D1,1200\n") }
+{}
+
+// A file that is cut behind a line feed inside quotes: it has one record, and its parts have two others.
+fn records_of_a_file_cut_inside_quotes()
+    ensures whole { records_of (codes "X,\"FA\n" ++ codes "B,FA,1\n") ≡ (codes "X" ∷ codes "FA\nB,FA,1\n" ∷ []) ∷ [] }
+    ensures first { records_of (codes "X,\"FA\n") ≡ (codes "X" ∷ codes "FA\n" ∷ []) ∷ [] }
+    ensures second { records_of (codes "B,FA,1\n") ≡ (codes "B" ∷ codes "FA" ∷ codes "1" ∷ []) ∷ [] }
+{}
+
+// An account with records in both parts: it has a net of its own in each, and neither is that in the whole.
+fn account_in_both_parts()
+    ensures first { holdings_of (contract_of (codes "FA") ∷ []) (position_of (codes "X") (codes "FA") (pos 3) ∷ []) (codes "X")
+        ≡ record { contract = 0; net = pos 3 } ∷ [] }
+    ensures second { holdings_of (contract_of (codes "FA") ∷ []) (position_of (codes "X") (codes "FA") (neg_ℤ (pos 1)) ∷ [])
+        (codes "X") ≡ record { contract = 0; net = neg_ℤ (pos 1) } ∷ [] }
+    ensures whole { holdings_of (contract_of (codes "FA") ∷ [])
+        (position_of (codes "X") (codes "FA") (pos 3) ∷ position_of (codes "X") (codes "FA") (neg_ℤ (pos 1)) ∷ []) (codes "X")
+        ≡ record { contract = 0; net = pos 2 } ∷ [] }
+    ensures statement { statement_of one_future (codes "X,FA,3\nX,FA,-1\n")
+        ≡ Ok (codes "R,X,D1,AA,2400,13,0,0,0,0,2400\nT,X,D1,2400\n") }
+{}
