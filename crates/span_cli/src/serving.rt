@@ -141,21 +141,14 @@ fn plan<'a, S: Sources>(
 fn statement<'a, R: Threads + Wait + Clock + Sync, G: Gate>(
     rt: &R,
     alloc: Global,
-    params: Vec<u8>,
-    positions: Vec<u8>,
+    params: &[u8],
+    positions: &[u8],
     workers: usize,
     gate: &G,
 ) -> Result<Vec<u8>, Refusal<'a>>
-    ensures { Runs (λ text. text.items) (answer_of (margin_of workers params.items positions.items)) result }
+    ensures { Runs (λ text. text.items) (answer_of (margin_of workers params.now positions.now)) result }
 {
-    let text = margin(
-        rt,
-        alloc,
-        params.as_slice(),
-        positions.as_slice(),
-        workers,
-        gate,
-    )?;
+    let text = margin(rt, alloc, params, positions, workers, gate)?;
     Ok(text)
 }
 
@@ -174,24 +167,19 @@ fn margin_files<'a, S: Sources, R: Threads + Wait + Clock + Sync, G: Gate>(
 {
     let param_bytes = load(alloc, sources, params)?;
     let position_bytes = load(alloc, sources, positions)?;
-    statement(rt, alloc, param_bytes, position_bytes, workers, gate)
+    statement(rt, alloc, &param_bytes, &position_bytes, workers, gate)
 }
 
 // The explanation of the bytes of two files, of all accounts or of one alone.
 fn explanation<'a>(
     alloc: Global,
-    params: Vec<u8>,
-    positions: Vec<u8>,
-    account: Option<Name>,
+    params: &[u8],
+    positions: &[u8],
+    account: &Option<Name>,
 ) -> Result<Vec<u8>, Refusal<'a>>
-    ensures { Runs (λ text. text.items) (answer_of (explanation_of params.items positions.items account)) result }
+    ensures { Runs (λ text. text.items) (answer_of (explanation_of params.now positions.now account.now)) result }
 {
-    let text = explain(
-        alloc,
-        params.as_slice(),
-        positions.as_slice(),
-        account.as_ref(),
-    )?;
+    let text = explain(alloc, params, positions, account.as_ref())?;
     Ok(text)
 }
 
@@ -208,7 +196,7 @@ fn explain_files<'a, S: Sources>(
 {
     let set_bytes = load(alloc, sources, params)?;
     let held_bytes = load(alloc, sources, positions)?;
-    explanation(alloc, set_bytes, held_bytes, account)
+    explanation(alloc, &set_bytes, &held_bytes, &account)
 }
 
 // The statements of the bytes of a position file under those of two parameter files. The book of the two batches is a new

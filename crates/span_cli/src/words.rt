@@ -1,9 +1,10 @@
 //! The words of a command line.
-ghost use Rattle.clap.specs.Words.{FailsBy, app_of, first_of, found_of, kind_of, rows_of, rule_of, subcommand_of, subcommand_rows_of};
+ghost use Rattle.clap.specs.Words.{FailsBy, app_of, first_of, found_of, kind_of, rows_of, rule_of, subcommand_of};
+ghost use Rattle.clap.specs.Words.{subcommand_rows_of, with_rule, with_subcommand};
 ghost use Rattle.clap.specs.declared.builder.command.Command.TheViews.{out-Command as fields_of};
 ghost use Rattle.span_cli.specs.Serving.{OfAnswer, asked_by, memory};
 ghost use Rattle.span_cli.specs.Telling.{AnswersWords, IsMistake, IsShown, Refuses, Serves, Tells, no_text_line};
-ghost use Rattle.span_cli.specs.Words.{account_in, account_rule, asked_in, asked_under, check_app, check_in, explain_app};
+ghost use Rattle.span_cli.specs.Words.{account_in, account_rule, asked_in, asked_under, bare_app, check_app, check_in, explain_app};
 ghost use Rattle.span_cli.specs.Words.{explain_in, explained_app, file_rule, files_app, form_kinds, has_form, is_taken, joined_words};
 ghost use Rattle.span_cli.specs.Words.{kinds_of, margin_app, margin_in, misnames_in, number_in, number_of, one_set_app, params_app};
 ghost use Rattle.span_cli.specs.Words.{plan_app, plan_in, roll_app, roll_in, sets_app, span_app, workers_rule};
@@ -131,6 +132,26 @@ fn account<'a>(alloc: Global) -> Arg<'a>
         .help(ACCOUNT_HELP)
 }
 
+// A command with one argument more.
+fn with_arg<'a>(command: Command<'a>, arg: Arg<'a>) -> Result<Command<'a>, AllocError>
+    requires command { (fields_of command).has_globals ≡ false }
+    requires arg { arg.global ≡ false }
+    ensures shape { IfOk result (λ c. app_of c ≡ with_rule (app_of command.entry) (rule_of arg.entry)) }
+    ensures local { IfOk result (λ c. (fields_of c).has_globals ≡ false) }
+{
+    let command = command.arg(arg)?;
+    Ok(command)
+}
+
+// The program with one command more.
+fn with_command<'a>(program: Command<'a>, command: Command<'a>) -> Result<Command<'a>, AllocError>
+    requires { (fields_of command).has_globals ≡ false }
+    ensures { IfOk result (λ p. app_of p ≡ with_subcommand (app_of program.entry) (app_of command.entry).top) }
+{
+    let program = program.subcommand(command)?;
+    Ok(program)
+}
+
 fn check<'a>(alloc: Global) -> Result<Command<'a>, AllocError>
     ensures shape { IfOk result (λ c. app_of c ≡ check_app) }
     ensures local { IfOk result (λ c. (fields_of c).has_globals ≡ false) }
@@ -138,7 +159,7 @@ fn check<'a>(alloc: Global) -> Result<Command<'a>, AllocError>
     let command = Command::new(alloc, "check")
         .about("Checks a parameter file and counts its records")
         .after_help(CHECK_MORE);
-    let command = command.arg(file(alloc, "PARAMS", PARAMS_HELP))?;
+    let command = with_arg(command, file(alloc, "PARAMS", PARAMS_HELP))?;
     Ok(command)
 }
 
@@ -149,7 +170,7 @@ fn plan<'a>(alloc: Global) -> Result<Command<'a>, AllocError>
     let command = Command::new(alloc, "plan")
         .about("Prints the steps of the compiled plan of a parameter file")
         .after_help(PLAN_MORE);
-    let command = command.arg(file(alloc, "PARAMS", PARAMS_HELP))?;
+    let command = with_arg(command, file(alloc, "PARAMS", PARAMS_HELP))?;
     Ok(command)
 }
 
@@ -161,8 +182,8 @@ fn margin_of_files<'a>(alloc: Global) -> Result<Command<'a>, AllocError>
     let command = Command::new(alloc, "margin")
         .about("Prints the margin statement of every account")
         .after_help(MARGIN_MORE);
-    let command = command.arg(file(alloc, "PARAMS", PARAMS_HELP))?;
-    let command = command.arg(file(alloc, "POSITIONS", POSITIONS_HELP))?;
+    let command = with_arg(command, file(alloc, "PARAMS", PARAMS_HELP))?;
+    let command = with_arg(command, file(alloc, "POSITIONS", POSITIONS_HELP))?;
     Ok(command)
 }
 
@@ -171,7 +192,7 @@ fn margin<'a>(alloc: Global) -> Result<Command<'a>, AllocError>
     ensures local { IfOk result (λ c. (fields_of c).has_globals ≡ false) }
 {
     let command = margin_of_files(alloc)?;
-    let command = command.arg(workers(alloc))?;
+    let command = with_arg(command, workers(alloc))?;
     Ok(command)
 }
 
@@ -183,8 +204,8 @@ fn explain_of_files<'a>(alloc: Global) -> Result<Command<'a>, AllocError>
     let command = Command::new(alloc, "explain")
         .about("Prints why each figure of a margin statement is what it is")
         .after_help(EXPLAIN_MORE);
-    let command = command.arg(file(alloc, "PARAMS", PARAMS_HELP))?;
-    let command = command.arg(file(alloc, "POSITIONS", POSITIONS_HELP))?;
+    let command = with_arg(command, file(alloc, "PARAMS", PARAMS_HELP))?;
+    let command = with_arg(command, file(alloc, "POSITIONS", POSITIONS_HELP))?;
     Ok(command)
 }
 
@@ -193,7 +214,7 @@ fn explain<'a>(alloc: Global) -> Result<Command<'a>, AllocError>
     ensures local { IfOk result (λ c. (fields_of c).has_globals ≡ false) }
 {
     let command = explain_of_files(alloc)?;
-    let command = command.arg(account(alloc))?;
+    let command = with_arg(command, account(alloc))?;
     Ok(command)
 }
 
@@ -205,9 +226,9 @@ fn roll_of_sets<'a>(alloc: Global) -> Result<Command<'a>, AllocError>
     let command = Command::new(alloc, "roll")
         .about("Prints the margin statements under a set and under the next")
         .after_help(ROLL_MORE);
-    let command = command.arg(file(alloc, "PARAMS", PARAMS_HELP))?;
-    let command = command.arg(file(alloc, "NEXT", NEXT_HELP))?;
-    let command = command.arg(file(alloc, "POSITIONS", POSITIONS_HELP))?;
+    let command = with_arg(command, file(alloc, "PARAMS", PARAMS_HELP))?;
+    let command = with_arg(command, file(alloc, "NEXT", NEXT_HELP))?;
+    let command = with_arg(command, file(alloc, "POSITIONS", POSITIONS_HELP))?;
     Ok(command)
 }
 
@@ -216,45 +237,61 @@ fn roll<'a>(alloc: Global) -> Result<Command<'a>, AllocError>
     ensures local { IfOk result (λ c. (fields_of c).has_globals ≡ false) }
 {
     let command = roll_of_sets(alloc)?;
-    let command = command.arg(workers(alloc))?;
+    let command = with_arg(command, workers(alloc))?;
     Ok(command)
+}
+
+// The program with the command `check` alone.
+fn span_of_check<'a>(alloc: Global) -> Result<Command<'a>, AllocError>
+    ensures shape { IfOk result (λ c. app_of c ≡ with_subcommand bare_app check_app.top) }
+{
+    let check = check(alloc)?;
+    let program = Command::new(alloc, "span")
+        .about("Margins futures and options accounts by the SPAN method")
+        .after_help(SPAN_MORE)
+        .version(VERSION)
+        .subcommand_required(true);
+    let program = with_command(program, check)?;
+    Ok(program)
 }
 
 // The program with the commands that take a parameter file alone.
 fn span_of_params<'a>(alloc: Global) -> Result<Command<'a>, AllocError>
     ensures shape { IfOk result (λ c. app_of c ≡ params_app) }
 {
-    let check = check(alloc)?;
     let plan = plan(alloc)?;
-    let command = Command::new(alloc, "span")
-        .about("Margins futures and options accounts by the SPAN method")
-        .after_help(SPAN_MORE)
-        .version(VERSION)
-        .subcommand_required(true);
-    let command = command.subcommand(check)?;
-    let command = command.subcommand(plan)?;
-    Ok(command)
+    let program = span_of_check(alloc)?;
+    let program = with_command(program, plan)?;
+    Ok(program)
+}
+
+// The program with the command `margin` too.
+fn span_with_margin<'a>(alloc: Global) -> Result<Command<'a>, AllocError>
+    ensures shape { IfOk result (λ c. app_of c ≡ with_subcommand params_app margin_app.top) }
+{
+    let margin = margin(alloc)?;
+    let program = span_of_params(alloc)?;
+    let program = with_command(program, margin)?;
+    Ok(program)
 }
 
 // The program with the commands that take one parameter file.
 fn span_of_one_set<'a>(alloc: Global) -> Result<Command<'a>, AllocError>
     ensures shape { IfOk result (λ c. app_of c ≡ one_set_app) }
 {
-    let margin = margin(alloc)?;
     let explain = explain(alloc)?;
-    let command = span_of_params(alloc)?;
-    let command = command.subcommand(margin)?;
-    let command = command.subcommand(explain)?;
-    Ok(command)
+    let program = span_with_margin(alloc)?;
+    let program = with_command(program, explain)?;
+    Ok(program)
 }
 
 fn span<'a>(alloc: Global) -> Result<Command<'a>, AllocError>
     ensures shape { IfOk result (λ c. app_of c ≡ span_app) }
 {
     let roll = roll(alloc)?;
-    let command = span_of_one_set(alloc)?;
-    let command = command.subcommand(roll)?;
-    Ok(command)
+    let program = span_of_one_set(alloc)?;
+    let program = with_command(program, roll)?;
+    Ok(program)
 }
 
 fn text<'a>(matches: &ArgMatches<'a>, id: &str) -> Option<&'a str>

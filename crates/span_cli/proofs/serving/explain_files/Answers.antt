@@ -22,4 +22,5 @@ returns-in_err-held_bytes g c =
 pub returns : goal.returns
 returns g c = file_read c.args.params.now _ _ _ _ _ refl c.in_ok-set_bytes.ensures.known
     (file_read c.args.positions.now _ _ _ _ _ (c.in_ok-set_bytes.ensures.same c.args.positions.now)
-    c.in_ok-held_bytes.ensures.known c.explanation.ensures)
+    c.in_ok-held_bytes.ensures.known
+    (rw (← c.deref.ensures.value, ← c.deref-2.ensures.value) c.explanation.ensures))

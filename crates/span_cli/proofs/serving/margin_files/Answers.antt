@@ -22,4 +22,5 @@ returns-in_err-position_bytes g c =
 pub returns : goal.returns
 returns g c = file_read c.args.params.now _ _ _ _ _ refl c.in_ok-param_bytes.ensures.known
     (file_read c.args.positions.now _ _ _ _ _ (c.in_ok-param_bytes.ensures.same c.args.positions.now)
-    c.in_ok-position_bytes.ensures.known c.statement.ensures)
+    c.in_ok-position_bytes.ensures.known
+    (rw (← c.deref.ensures.value, ← c.deref-2.ensures.value) c.statement.ensures))
