@@ -10,13 +10,13 @@ ghost use Rattle.worker_pool.specs.declared.batch.TheConstants.{MAX_WORKERS};
 ghost use Rattle.worker_pool.specs.near.Places.{AreOutcomesOf};
 
 use crate::accounts::{Outcomes, Waiting};
-use crate::coordinator::{Coordinator, MOST_OPEN};
+use crate::coordinator::Coordinator;
 use crate::ends::{OwnEnd, ThiefEnd, open_deque};
 use crate::gates::Gate;
 use crate::helpers::Helper;
 use crate::laws::{Batch, new_queue};
 use crate::outcomes::Outcome;
-use crate::plain::run_alone;
+use crate::plain::{COORDINATOR, run_alone};
 use crate::queue_ends::{ResultEnd, open_results};
 use plan_compiler::set::CompiledSet;
 use span_tables::portfolios::Portfolio;
@@ -55,84 +55,83 @@ impl From<AllocError> for PoolFault {
     }
 }
 
-// What a worker holds of the deques: its own end of its own, and a thief's end of each other.
-type Ends<B> = (OwnEnd<B>, Vec<ThiefEnd<B>>);
-
-// A list of thieves' ends for each helper, begun with one.
-fn start_shares<B: Batch>(
+// The helpers of a batch, numbered from 1, each with a deque of its own. The thieves' ends of these deques go onto `left`,
+// those of one after another's. `Err` is want of memory.
+fn helpers_of<'a, B: Batch>(
     alloc: Global,
-    thieves: Vec<ThiefEnd<B>>,
-) -> Result<Vec<Vec<ThiefEnd<B>>>, AllocError> {
-    let mut shares = Vec::with_capacity(alloc, thieves.len())?;
-    for thief in thieves {
-        let mut share = Vec::new(alloc);
-        share.push(thief)?;
-        shares.push(share)?;
+    helpers: usize,
+    results: Vec<ResultEnd<'a, B>>,
+    left: &mut Vec<Vec<ThiefEnd<B>>>,
+) -> Result<Vec<Helper<'a, B>>, AllocError>
+    requires { helpers < MAX_WORKERS }
+{
+    let mut all = Vec::with_capacity(alloc, helpers)?;
+    let mut number = 0usize;
+    for results in results {
+        let (own, thieves) = open_deque::<B>(alloc, DEQUE_PLACES, helpers)?;
+        left.push(thieves)?;
+        number = number.saturating_add(1);
+        all.push(Helper {
+            number,
+            own,
+            thieves: Vec::new(alloc),
+            results,
+        })?;
     }
-    Ok(shares)
+    Ok(all)
 }
 
-// Gives each helper but the owner a thief's end.
+// Gives each helper but the owner of a deque a thief's end of it.
 fn share_out<B: Batch>(
     thieves: Vec<ThiefEnd<B>>,
     owner: usize,
-    shares: &mut Vec<Vec<ThiefEnd<B>>>,
+    helpers: &mut Vec<Helper<B>>,
 ) -> Result<(), AllocError> {
     let mut thieves = thieves;
-    for (helper, share) in shares.iter_mut().enumerate() {
-        if helper != owner {
+    for helper in helpers.iter_mut() {
+        if helper.number != owner {
             if let Some(thief) = thieves.pop() {
-                share.push(thief)?;
+                helper.thieves.push(thief)?;
             }
         }
     }
     Ok(())
 }
 
-// A deque for the coordinator and one for each helper, and thieves' ends of each for all others. `Err` is want of memory.
-fn open_deques<B: Batch>(
+// Shares out the thieves' ends that are left of the helpers' deques: those of each go to the coordinator, whose list comes
+// back, and to each other helper. `Err` is want of memory.
+fn share_out_all<B: Batch>(
     alloc: Global,
-    helpers: usize,
-) -> Result<(Ends<B>, Vec<Ends<B>>), AllocError>
-    requires { helpers < MAX_WORKERS }
-{
-    let (own, thieves) = open_deque::<B>(alloc, DEQUE_PLACES, helpers)?;
-    let mut shares = start_shares(alloc, thieves)?;
-    let mut share = Vec::with_capacity(alloc, helpers)?;
-    let mut owns = Vec::with_capacity(alloc, helpers)?;
-    for owner in 0..helpers {
-        let (own, mut thieves) = open_deque::<B>(alloc, DEQUE_PLACES, helpers)?;
-        owns.push(own)?;
+    left: Vec<Vec<ThiefEnd<B>>>,
+    helpers: &mut Vec<Helper<B>>,
+) -> Result<Vec<ThiefEnd<B>>, AllocError> {
+    let mut share = Vec::with_capacity(alloc, left.len())?;
+    let mut owner = COORDINATOR;
+    for mut thieves in left {
+        owner = owner.saturating_add(1);
         if let Some(thief) = thieves.pop() {
             share.push(thief)?;
         }
-        share_out(thieves, owner, &mut shares)?;
+        share_out(thieves, owner, helpers)?;
     }
-    let mut ends = Vec::with_capacity(alloc, helpers)?;
-    for pair in owns.into_iter().zip(shares) {
-        ends.push(pair)?;
-    }
-    Ok(((own, share), ends))
+    Ok(share)
 }
 
-// The helpers of a batch, numbered from 1. `Err` is want of memory.
-fn helpers_of<'a, B: Batch>(
+// A deque for the coordinator and one for each helper, and thieves' ends of each for all others: what the coordinator has of
+// these, and the helpers with their ends of the queue. `Err` is want of memory.
+fn open_deques<'a, B: Batch>(
     alloc: Global,
-    ends: Vec<Ends<B>>,
+    helpers: usize,
     results: Vec<ResultEnd<'a, B>>,
-) -> Result<Vec<Helper<'a, B>>, AllocError> {
-    let mut helpers = Vec::with_capacity(alloc, results.len())?;
-    let mut number = 0usize;
-    for ((own, thieves), results) in ends.into_iter().zip(results) {
-        number = number.saturating_add(1);
-        helpers.push(Helper {
-            number,
-            own,
-            thieves,
-            results,
-        })?;
-    }
-    Ok(helpers)
+) -> Result<(OwnEnd<B>, Vec<ThiefEnd<B>>, Vec<Helper<'a, B>>), AllocError>
+    requires { helpers < MAX_WORKERS }
+{
+    let mut left = Vec::new(alloc);
+    let mut crew = helpers_of(alloc, helpers, results, &mut left)?;
+    let (own, thieves) = open_deque::<B>(alloc, DEQUE_PLACES, helpers)?;
+    share_out(thieves, COORDINATOR, &mut crew)?;
+    let share = share_out_all(alloc, left, &mut crew)?;
+    Ok((own, share, crew))
 }
 
 // Runs the coordinator here and each helper in a thread of its own. A helper whose thread is not started is done without.
@@ -164,6 +163,25 @@ fn run_all<'a, B: Batch + Send + Sync, R: Threads + Wait + Clock + Sync, G: Gate
     )
 }
 
+// Runs the accounts that wait, with so many helpers. `Err` is want of memory.
+fn run_waiting<B: Batch + Send + Sync, R: Threads + Wait + Clock + Sync, G: Gate>(
+    rt: &R,
+    alloc: Global,
+    gate: &G,
+    waiting: Waiting<B>,
+    outcomes: Outcomes<B>,
+    helpers: usize,
+) -> Result<Vec<Outcome>, AllocError>
+    requires { helpers < MAX_WORKERS }
+    ensures { IfOk result (λ outcomes. AreOutcomesOf B.jobs outcomes.items) }
+{
+    let (queue, pass) = new_queue::<B>(alloc)?;
+    let (results, theirs) = open_results(alloc, &queue, pass, helpers)?;
+    let (own, thieves, crew) = open_deques(alloc, helpers, theirs)?;
+    let coordinator = Coordinator::new(alloc, waiting, outcomes, own, thieves, results)?;
+    Ok(run_all(rt, alloc, gate, coordinator, crew))
+}
+
 // The batch on more than one worker. Its type names the jobs, and no type of the signature does.
 fn run_named<B: Batch + Send + Sync, R: Threads + Wait + Clock + Sync, G: Gate>(
     rt: &R,
@@ -180,19 +198,7 @@ fn run_named<B: Batch + Send + Sync, R: Threads + Wait + Clock + Sync, G: Gate>(
 {
     let outcomes = Outcomes::<B>::new(alloc, set, portfolios.as_slice())?;
     let waiting = Waiting::<B>::new(Arc::try_clone(set)?, portfolios);
-    let (queue, pass) = new_queue::<B>(alloc)?;
-    let (results, theirs) = open_results(alloc, &queue, pass, workers - 1)?;
-    let ((own, thieves), ends) = open_deques::<B>(alloc, workers - 1)?;
-    let helpers = helpers_of(alloc, ends, theirs)?;
-    let coordinator = Coordinator {
-        waiting,
-        boards: Vec::with_capacity(alloc, MOST_OPEN)?,
-        outcomes,
-        own,
-        thieves,
-        results,
-    };
-    Ok(run_all(rt, alloc, gate, coordinator, helpers))
+    run_waiting(rt, alloc, gate, waiting, outcomes, workers - 1)
 }
 
 /// The outcomes of accounts under a set, in their order, on 1 to 16 workers. The portfolios fit the set's tables.

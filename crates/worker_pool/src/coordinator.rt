@@ -12,13 +12,13 @@ use crate::open_boards::OpenBoard;
 use crate::outcomes::Outcome;
 use crate::plain::COORDINATOR;
 use crate::queue_ends::ResultEnd;
-use std::alloc::Global;
+use std::alloc::{AllocError, Global};
 use std::sync::{Arc, Wait};
 use std::time::Clock;
 use step_scheduler::jobs::Job;
 
 /// How many boards are open at one moment, at most.
-pub(crate) const MOST_OPEN: usize = 4;
+const MOST_OPEN: usize = 4;
 
 /// After how many steps of its own the coordinator looks for results.
 const STEPS_BETWEEN_LOOKS: usize = 64;
@@ -26,15 +26,34 @@ const STEPS_BETWEEN_LOOKS: usize = 64;
 /// What the coordinator holds.
 #[derive(Drop)]
 pub(crate) struct Coordinator<'a, B: Batch> {
-    pub(crate) waiting: Waiting<B>,
-    pub(crate) boards: Vec<OpenBoard<B>>,
-    pub(crate) outcomes: Outcomes<B>,
-    pub(crate) own: OwnEnd<B>,
-    pub(crate) thieves: Vec<ThiefEnd<B>>,
-    pub(crate) results: ResultEnd<'a, B>,
+    waiting: Waiting<B>,
+    boards: Vec<OpenBoard<B>>,
+    outcomes: Outcomes<B>,
+    own: OwnEnd<B>,
+    thieves: Vec<ThiefEnd<B>>,
+    results: ResultEnd<'a, B>,
 }
 
-impl<B: Batch> Coordinator<'_, B> {
+impl<'a, B: Batch> Coordinator<'a, B> {
+    /// A coordinator of these accounts, with these ends and no open board. `Err` is want of memory.
+    pub(crate) fn new(
+        alloc: Global,
+        waiting: Waiting<B>,
+        outcomes: Outcomes<B>,
+        own: OwnEnd<B>,
+        thieves: Vec<ThiefEnd<B>>,
+        results: ResultEnd<'a, B>,
+    ) -> Result<Coordinator<'a, B>, AllocError> {
+        Ok(Coordinator {
+            waiting,
+            boards: Vec::with_capacity(alloc, MOST_OPEN)?,
+            outcomes,
+            own,
+            thieves,
+            results,
+        })
+    }
+
     /// Runs until each account has ended.
     pub(crate) fn run<R: Wait + Clock, G: Gate>(&mut self, rt: &R, alloc: Global, gate: &G) {
         let mut patience = Patience::of_coordinator();
