@@ -1,11 +1,15 @@
 //! Each public call of `statement`, `explanation`, `reasons`, `worker_teams` and `span_cli` whose clause lets it give up, for want
 //! of memory or where a reader or writer fails: that it succeeds where there is memory and nothing fails, once.
+ghost use Rattle.span_tables.specs.Holdings.{fits};
+ghost use Rattle.std.specs.Prelude.{◌≡◌, ◌<◌, length, true};
+
 use crate::builders::run_on;
 use explanation::explaining::explain;
 use param_check::binding::bind;
 use param_check::check::check;
 use reasons::stages::{push_reasons, stages_of};
 use result_book::books::ResultBook;
+use result_book::rows::Row;
 use sample_files::{calendar, two_commodities};
 use span_cli::disk::Disk;
 use span_cli::memory::InMemory;
@@ -15,6 +19,8 @@ use span_cli::sources::Sources;
 use span_cli::words::request;
 use span_csv::params::read_params;
 use span_csv::positions::read_positions;
+use span_tables::portfolios::Portfolio;
+use span_tables::tables::Tables;
 use span_told::MarkedWriter;
 use statement::accepting::{Accepted, accept};
 use statement::batches::rows_alone;
@@ -25,10 +31,10 @@ use statement::lines::{push_commodity_of, push_row, push_total_of, write};
 use statement::margin::{margin, margin_plain};
 use statement::plans::plan_plain;
 use statement::roll::roll;
-use std::alloc::Global;
+use std::alloc::{AllocError, Global};
 use std::process::Abort;
 use std::rt::Files;
-use std::sync::{Mutex, Wait};
+use std::sync::{Arc, Mutex, Wait};
 use std::test::Fail;
 use std::thread::Threads;
 use std::time::Clock;
@@ -98,24 +104,37 @@ fn of_two_sets<R: Threads + Wait + Clock + Sync + Abort>(
     Ok(())
 }
 
-// The lines of the one account of two files, written in each way.
-fn of_rows(rt: &impl Abort, alloc: Global) -> Result<(), Fail> {
+// The rows of two files.
+fn rows_of_two_files(alloc: Global) -> Result<Vec<Arc<Row>>, SpanFault> {
     let Accepted {
         set,
         portfolios,
         ..
     } = accept(alloc, two_commodities::PARAMS, two_commodities::POSITIONS)?;
-    let rows = rows_alone(alloc, &set, portfolios)?;
-    assert_eq!(rt; write(alloc, &rows)?.as_slice(), two_commodities::STATEMENT);
-    let row = rows.first().ok_or("a row")?;
-    let mut out = Vec::new(alloc);
-    push_row(&mut out, row)?;
-    assert_eq!(rt; out.as_slice(), two_commodities::STATEMENT);
+    Ok(rows_alone(alloc, &set, portfolios)?)
+}
+
+// The lines of a row, one after the other.
+fn lines_of(alloc: Global, row: &Row) -> Result<Vec<u8>, AllocError> {
     let mut out = Vec::new(alloc);
     for number in 0..row.set().tables().commodities().len() {
         push_commodity_of(&mut out, row, number)?;
     }
     push_total_of(&mut out, row)?;
+    Ok(out)
+}
+
+// The statement of rows of one account, written in three ways.
+fn of_rows(rt: &impl Abort, alloc: Global) -> Result<(), Fail> {
+    let rows = rows_of_two_files(alloc)?;
+    assert_eq!(rt; write(alloc, &rows)?.as_slice(), two_commodities::STATEMENT);
+    let row = rows.first().ok_or("a row")?;
+    assert_eq!(rt;
+        lines_of(alloc, row)?.as_slice(),
+        two_commodities::STATEMENT
+    );
+    let mut out = Vec::new(alloc);
+    push_row(&mut out, row)?;
     assert_eq!(rt; out.as_slice(), two_commodities::STATEMENT);
     Ok(())
 }
@@ -155,22 +174,30 @@ fn of_reasons(rt: &impl Abort, alloc: Global) -> Result<(), Fail> {
     Ok(())
 }
 
-// The reasons for the figures of a calendar spread, and behind them its statement, are its explanation.
-fn of_stages(rt: &impl Abort, alloc: Global) -> Result<(), Fail> {
-    let tables = check(alloc, read_params(alloc, calendar::PARAMS)?)?;
-    let positions = read_positions(alloc, calendar::POSITIONS)?;
-    let portfolios = bind(alloc, &tables, &positions)?;
-    let portfolio = portfolios.as_slice().first().ok_or("an account")?;
-    assert!(rt; portfolio.fits(&tables));
-    let stages = stages_of(alloc, &tables, portfolio)?;
+// The reasons for the figures of the first commodity, under the ids of an account of a calendar spread.
+fn reasons_of(alloc: Global, tables: &Tables, portfolio: &Portfolio) -> Result<Vec<u8>, AllocError>
+    requires commodity { 0 < length tables.now.commodities }
+    requires fits { fits (length tables.now.contracts) portfolio.now.holdings ≡ true }
+{
+    let stages = stages_of(alloc, tables, portfolio)?;
     // Called for their clauses: the holdings are those of a portfolio, and the tables are within their limits.
     let _kept = portfolio.holdings();
-    let commodities = tables.commodities();
-    assert!(rt; !commodities.is_empty());
+    let _limits = tables.commodities();
     let mut out = Vec::new(alloc);
-    push_reasons(alloc, &mut out, b",X,D1,AA", &tables, &stages, 0)?;
-    out.extend_from_slice(calendar::STATEMENT)?;
-    assert_eq!(rt; out.as_slice(), calendar::EXPLANATION);
+    push_reasons(alloc, &mut out, b",X,D1,AA", tables, &stages, 0)?;
+    Ok(out)
+}
+
+// The reasons, and behind them the statement, are the explanation.
+fn of_stages(rt: &impl Abort, alloc: Global) -> Result<(), Fail> {
+    let tables = check(alloc, read_params(alloc, calendar::PARAMS)?)?;
+    let portfolios = bind(alloc, &tables, &read_positions(alloc, calendar::POSITIONS)?)?;
+    let portfolio = portfolios.as_slice().first().ok_or("an account")?;
+    assert!(rt; portfolio.fits(&tables));
+    assert!(rt; tables.commodities().len() == 1);
+    let mut text = reasons_of(alloc, &tables, portfolio)?;
+    text.extend_from_slice(calendar::STATEMENT)?;
+    assert_eq!(rt; text.as_slice(), calendar::EXPLANATION);
     Ok(())
 }
 

@@ -1,4 +1,4 @@
-//! The lines of faults and their statuses, the texts that `Display` gives of each kind of fault, and a line without room.
+//! The lines of faults and their statuses, the texts that `Display` gives of faults, which no clause has, and a line without room.
 use param_check::faults::{BindFault, CheckFault};
 use plan_shelf::faults::ShelfFault;
 use result_book::books::BookFault;
@@ -100,7 +100,7 @@ fn lines_of_accounts(rt: &impl Abort, alloc: Global) -> Result<(), Fail> {
 }
 
 #[test]
-fn lines_and_statuses(rt: HostRuntime) -> Result<(), Fail> {
+fn lines_of_faults(rt: HostRuntime) -> Result<(), Fail> {
     let alloc = rt.alloc();
     have_lines(&rt, alloc, &LINES)?;
     lines_of_accounts(&rt, alloc)
@@ -155,26 +155,25 @@ const BOOK_FAULTS: [BookFault; 3] = [
     BookFault::NoMoreBatches,
 ];
 
-#[test]
-fn faults_of_records_and_books_are_shown(rt: HostRuntime) -> Result<(), Fail> {
-    let alloc = rt.alloc();
+// The texts of faults of records, by the reader or the checker that finds them, and of those of a book.
+fn of_records_and_books(rt: &impl Abort, alloc: Global) -> Result<(), Fail> {
     for fault in PARAM_FAULTS {
-        is_shown_as_line(&rt, alloc, &SpanFault::Params(fault))?;
+        is_shown_as_line(rt, alloc, &SpanFault::Params(fault))?;
     }
     for fault in CHECK_FAULTS {
-        is_shown_as_line(&rt, alloc, &SpanFault::NextCheck(fault))?;
+        is_shown_as_line(rt, alloc, &SpanFault::NextCheck(fault))?;
     }
     for fault in POSITION_FAULTS {
-        is_shown_as_line(&rt, alloc, &SpanFault::Positions(fault))?;
+        is_shown_as_line(rt, alloc, &SpanFault::Positions(fault))?;
     }
     for fault in BOOK_FAULTS {
-        is_shown_as_line(&rt, alloc, &SpanFault::Book(fault))?;
+        is_shown_as_line(rt, alloc, &SpanFault::Book(fault))?;
     }
     Ok(())
 }
 
-#[test]
-fn other_faults_are_shown(rt: HostRuntime) -> Result<(), Fail> {
+// The texts of faults that name an account, and of the other kinds.
+fn of_accounts_and_sets(rt: &impl Abort, alloc: Global) -> Result<(), Fail> {
     let faults = [
         SpanFault::Bind(BindFault::UnknownContract {
             at: 1,
@@ -196,7 +195,7 @@ fn other_faults_are_shown(rt: HostRuntime) -> Result<(), Fail> {
         SpanFault::Memory,
     ];
     for fault in &faults {
-        is_shown_as_line(&rt, rt.alloc(), fault)?;
+        is_shown_as_line(rt, alloc, fault)?;
     }
     Ok(())
 }
@@ -208,30 +207,36 @@ fn is_shown<T: Display>(rt: &impl Abort, alloc: Global, value: &T, text: &str) -
     Ok(())
 }
 
-// Faults that no statement is refused with.
-#[test]
-fn faults_of_calls_are_shown(rt: HostRuntime) -> Result<(), Fail> {
-    let alloc = rt.alloc();
-    is_shown(&rt, alloc, &ShelfFault::Readers, "Readers")?;
-    is_shown(&rt, alloc, &ShelfFault::Last, "Last")?;
-    is_shown(&rt, alloc, &PoolFault::Workers, "L1 Workers")?;
-    is_shown(&rt, alloc, &Refused::NotTaken, "NotTaken")?;
-    is_shown(&rt, alloc, &Refused::Failed, "Failed")?;
-    is_shown(&rt, alloc, &ReadFault::Failed, "the file cannot be read")?;
-    is_shown(&rt, alloc, &ReadFault::TooLong, "the file is too long")
+// The texts of faults that calls answer and no statement is refused with.
+fn of_calls(rt: &impl Abort, alloc: Global) -> Result<(), Fail> {
+    is_shown(rt, alloc, &ShelfFault::Readers, "Readers")?;
+    is_shown(rt, alloc, &ShelfFault::Last, "Last")?;
+    is_shown(rt, alloc, &PoolFault::Workers, "L1 Workers")?;
+    is_shown(rt, alloc, &Refused::NotTaken, "NotTaken")?;
+    is_shown(rt, alloc, &Refused::Failed, "Failed")?;
+    is_shown(rt, alloc, &ReadFault::Failed, "the file cannot be read")?;
+    is_shown(rt, alloc, &ReadFault::TooLong, "the file is too long")
+}
+
+// The text of want of memory, which is a fault of each of these kinds.
+fn of_memory(rt: &impl Abort, alloc: Global) -> Result<(), Fail> {
+    is_shown(rt, alloc, &ParamFault::OutOfMemory, "memory")?;
+    is_shown(rt, alloc, &CheckFault::OutOfMemory, "memory")?;
+    is_shown(rt, alloc, &PositionFault::OutOfMemory, "memory")?;
+    is_shown(rt, alloc, &BindFault::OutOfMemory, "memory")?;
+    is_shown(rt, alloc, &BookFault::OutOfMemory, "memory")?;
+    is_shown(rt, alloc, &ShelfFault::OutOfMemory, "memory")?;
+    is_shown(rt, alloc, &PoolFault::OutOfMemory, "memory")?;
+    is_shown(rt, alloc, &ReadFault::OutOfMemory, "memory")
 }
 
 #[test]
-fn want_of_memory_is_shown(rt: HostRuntime) -> Result<(), Fail> {
+fn texts_of_faults(rt: HostRuntime) -> Result<(), Fail> {
     let alloc = rt.alloc();
-    is_shown(&rt, alloc, &ParamFault::OutOfMemory, "memory")?;
-    is_shown(&rt, alloc, &CheckFault::OutOfMemory, "memory")?;
-    is_shown(&rt, alloc, &PositionFault::OutOfMemory, "memory")?;
-    is_shown(&rt, alloc, &BindFault::OutOfMemory, "memory")?;
-    is_shown(&rt, alloc, &BookFault::OutOfMemory, "memory")?;
-    is_shown(&rt, alloc, &ShelfFault::OutOfMemory, "memory")?;
-    is_shown(&rt, alloc, &PoolFault::OutOfMemory, "memory")?;
-    is_shown(&rt, alloc, &ReadFault::OutOfMemory, "memory")
+    of_records_and_books(&rt, alloc)?;
+    of_accounts_and_sets(&rt, alloc)?;
+    of_calls(&rt, alloc)?;
+    of_memory(&rt, alloc)
 }
 
 // A writer that has no room for the whole line refuses it.

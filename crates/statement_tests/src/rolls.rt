@@ -97,7 +97,7 @@ fn rows_of_both_batches_in_the_book(rt: HostRuntime) -> Result<(), Fail> {
 }
 
 // A roll with this next set is refused so, and what the first batch put stays in the book.
-fn row_stays<R: Threads + Wait + Clock + Sync + Abort>(
+fn rows_stay<R: Threads + Wait + Clock + Sync + Abort>(
     rt: &R,
     alloc: Global,
     next: &[u8],
@@ -114,18 +114,18 @@ fn row_stays<R: Threads + Wait + Clock + Sync + Abort>(
 }
 
 #[test]
-fn row_of_the_first_batch_stays(rt: HostRuntime) -> Result<(), Fail> {
+fn rows_of_the_first_batch_stay(rt: HostRuntime) -> Result<(), Fail> {
     let alloc = rt.alloc();
     let account = Name::new(b"X").ok_or("a name")?;
     let unknown = BindFault::UnknownContract { at: 2, account };
-    row_stays(
+    rows_stay(
         &rt,
         alloc,
         NEXT_WITHOUT_A_CONTRACT,
         SpanFault::NextBind(unknown),
     )?;
     let no_set = ParamFault::NoSet { at: 0 };
-    row_stays(&rt, alloc, b"", SpanFault::NextParams(no_set))
+    rows_stay(&rt, alloc, b"", SpanFault::NextParams(no_set))
 }
 
 #[test]

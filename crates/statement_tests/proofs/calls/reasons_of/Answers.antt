@@ -1,0 +1,14 @@
+use Rattle.std.proofs.Common.{length, arith, ap}
+use Rattle.plan_ir.proofs.BoundLaws.{length-inter_lines}
+use Rattle.statement_tests.proofs.calls.reasons_of.Goals as goal
+
+pub push_reasons-requires-clause-lines : goal.push_reasons-requires-clause-lines
+push_reasons-requires-clause-lines c =
+    let t = c.args.tables.now in
+    let holdings = c.args.portfolio.now.holdings in
+    omega (
+      arith,
+      c.requires.commodity,
+      ap (λ s. length s.lines) c.in_ok-stages.ensures,
+      length-inter_lines t holdings c.commodities-limits.ensures.limits c.holdings-kept.ensures.kept c.requires.fits,
+    )
