@@ -5,7 +5,6 @@ use sample_files::one_future::PARAMS;
 use std::alloc::Global;
 use std::process::Abort;
 use std::sync::{Arc, Wait};
-use std::test::Fail;
 use std::thread::Threads;
 use std::time::Clock;
 use worker_pool::batch::{MAX_WORKERS, run_batch};
@@ -41,27 +40,27 @@ fn run_both<R: Threads + Wait + Clock + Sync + Abort>(
     alloc: Global,
     set: &Arc<CompiledSet>,
     workers: usize,
-) -> Result<(), Fail> {
-    let accounts = accounts_of(alloc, set, TWO_ACCOUNTS)?;
-    let outcomes = run_batch(rt, alloc, set, accounts, workers, &OpenGate)?;
-    assert!(rt; are_rows_of_both(&outcomes), "{workers} workers");
-    Ok(())
+) {
+    let accounts = accounts_of(rt, alloc, set, TWO_ACCOUNTS);
+    let outcomes = run_batch(rt, alloc, set, accounts, workers, &OpenGate);
+    assert!(rt;
+        are_rows_of_both(&outcomes.expect(rt, "a batch")),
+        "{workers} workers"
+    );
 }
 
 #[test]
-fn numbers_of_workers(rt: HostRuntime) -> Result<(), Fail> {
-    let set = set_of(rt.alloc(), PARAMS)?;
+fn numbers_of_workers(rt: HostRuntime) {
+    let set = set_of(&rt, rt.alloc(), PARAMS);
     for workers in 1..=MAX_WORKERS {
-        run_both(&rt, rt.alloc(), &set, workers)?;
+        run_both(&rt, rt.alloc(), &set, workers);
     }
-    Ok(())
 }
 
 #[test]
-fn a_hundred_batches(rt: HostRuntime) -> Result<(), Fail> {
-    let set = set_of(rt.alloc(), PARAMS)?;
+fn a_hundred_batches(rt: HostRuntime) {
+    let set = set_of(&rt, rt.alloc(), PARAMS);
     for _ in 0..100 {
-        run_both(&rt, rt.alloc(), &set, MAX_WORKERS)?;
+        run_both(&rt, rt.alloc(), &set, MAX_WORKERS);
     }
-    Ok(())
 }

@@ -1,164 +1,174 @@
 //! Results that are offered to a board: it takes one only of a step that it handed out and that is not finished.
-ghost use Rattle.std.specs.Prelude.{◌≡◌, IfOk, IfSome};
+ghost use Rattle.std.specs.Prelude.{◌≡◌, IfSome};
 ghost use Rattle.std.specs.Arc.{arc_value};
 
 use crate::files::job_of;
-use plan_ir::figures::Figures;
 use sample_files::{one_future, three_commodities};
 use span_tables::portfolios::Portfolio;
-use std::alloc::{AllocError, Global};
+use std::alloc::Global;
 use std::process::Abort;
 use std::sync::Arc;
-use std::test::Fail;
 use step_scheduler::boards::{Board, Refused};
 use step_scheduler::evaluation::evaluate;
 use step_scheduler::finished::Finished;
 use step_scheduler::jobs::Job;
 use step_scheduler::tasks::Task;
 
+/// A new board of a job.
+pub(crate) fn board_of(rt: &impl Abort, alloc: Global, job: &Arc<Job>) -> Board
+    ensures { result.job ≡ arc_value job.now }
+{
+    let job = Arc::try_clone(job).expect(rt, "a hold on the job");
+    Board::new(alloc, job).expect(rt, "a board")
+}
+
+/// The next task of a board.
+pub(crate) fn next_task(rt: &impl Abort, board: &mut Board) -> Task
+    ensures job { board.new.job ≡ board.old.job }
+    ensures task { result.job ≡ board.old.job }
+{
+    let task = board.take_ready().expect(rt, "memory for a task");
+    task.expect(rt, "a task")
+}
+
 // The task of the first step, of the three that a new board of one future hands out.
-fn first_task(rt: &impl Abort, board: &mut Board) -> Result<Option<Task>, AllocError>
+fn first_task(rt: &impl Abort, board: &mut Board) -> Task
     ensures board { board.new.job ≡ board.old.job }
-    ensures task { IfOk result (λ r. IfSome r (λ task. task.job ≡ board.old.job)) }
+    ensures task { result.job ≡ board.old.job }
 {
     let mut first = None;
     for _ in 0..3 {
-        let task = board.take_ready()?.expect(rt, "a task");
+        let task = next_task(rt, board);
         if task.step() == 0 {
             first = Some(task);
         }
     }
-    assert!(rt; board.take_ready()?.is_none());
-    assert_eq!(rt; board.history().len(), 3);
-    Ok(first)
+    first.expect(rt, "the first step")
 }
 
 // The result of a step, by a new board of the job that is run until it hands the step out.
-fn result_of(alloc: Global, job: &Arc<Job>, step: usize) -> Result<Option<Finished>, AllocError>
-    ensures { IfOk result (λ r. IfSome r (λ finished. finished.job ≡ arc_value job.now)) }
+fn result_of(rt: &impl Abort, alloc: Global, job: &Arc<Job>, step: usize) -> Finished
+    ensures { result.job ≡ arc_value job.now }
 {
-    let mut board = Board::new(alloc, Arc::try_clone(job)?)?;
+    let mut board = board_of(rt, alloc, job);
+    let mut finished = evaluate(alloc, next_task(rt, &mut board));
     for _ in 0..job.plan().len() {
-        let Some(task) = board.take_ready()? else {
-            return Ok(None);
-        };
-        let finished = evaluate(alloc, task);
         if finished.step() == step {
-            return Ok(Some(finished));
+            return finished;
         }
-        let _kept = board.finish(finished);
+        assert!(rt; board.finish(finished) == Ok(()));
+        finished = evaluate(alloc, next_task(rt, &mut board));
     }
-    Ok(None)
+    finished
 }
 
 // Offers a board a result that it does not take, for this reason: nothing happens to the board.
-fn expect_refused(
-    rt: &impl Abort,
-    board: &mut Board,
-    finished: Option<Finished>,
-    reason: Refused,
-) -> Result<(), Fail>
-    requires { IfSome finished (λ finished. finished.job ≡ board.old.job) }
+fn expect_refused(rt: &impl Abort, board: &mut Board, finished: Finished, reason: Refused)
+    requires { finished.job ≡ board.old.job }
     ensures { board.new.job ≡ board.old.job }
 {
     let before = board.history().len();
-    let finished = finished.ok_or("a result")?;
-    assert_eq!(rt; board.finish(finished), Err(reason));
-    assert_eq!(rt; board.history().len(), before);
-    Ok(())
+    assert!(rt; board.finish(finished) == Err(reason));
+    assert!(rt; board.history().len() == before);
 }
 
-// Two boards of one job that have handed out all that is ready, with the task of the first step of each.
+// Two boards of one job, each with the task of its first step.
 #[test]
-fn results_on_other_boards(rt: HostRuntime) -> Result<(), Fail> {
+fn results_on_other_boards(rt: HostRuntime) {
     let alloc = rt.alloc();
-    let job = job_of(alloc, one_future::PARAMS, one_future::POSITIONS)?;
-    let mut a = Board::new(alloc, Arc::try_clone(&job)?)?;
-    let mut b = Board::new(alloc, Arc::try_clone(&job)?)?;
-    let of_a = first_task(&rt, &mut a)?.ok_or("a's first step")?;
-    let of_b = first_task(&rt, &mut b)?.ok_or("b's first step")?;
-    assert_eq!(rt; a.finish(evaluate(alloc, of_a)), Ok(()));
-    expect_refused(&rt, &mut a, Some(evaluate(alloc, of_b)), Refused::NotTaken)?;
-    expect_refused(&rt, &mut b, result_of(alloc, &job, 1)?, Refused::NotTaken)?;
+    let job = job_of(&rt, alloc, one_future::PARAMS, one_future::POSITIONS);
+    let mut a = board_of(&rt, alloc, &job);
+    let of_a = first_task(&rt, &mut a);
+    let mut b = board_of(&rt, alloc, &job);
+    let of_b = first_task(&rt, &mut b);
+    assert!(rt; a.finish(evaluate(alloc, of_a)) == Ok(()));
+    expect_refused(&rt, &mut a, evaluate(alloc, of_b), Refused::NotTaken);
+    expect_refused(
+        &rt,
+        &mut b,
+        result_of(&rt, alloc, &job, 1),
+        Refused::NotTaken,
+    );
     a.fail();
-    expect_refused(&rt, &mut a, result_of(alloc, &job, 10)?, Refused::Failed)?;
-    assert!(rt; a.take_ready()?.is_none());
-    assert_eq!(rt; (a.history().len(), b.history().len()), (4, 3));
-    Ok(())
+    expect_refused(
+        &rt,
+        &mut a,
+        result_of(&rt, alloc, &job, 10),
+        Refused::Failed,
+    );
+    assert!(rt; a.history().len() == 4 && b.history().len() == 3);
 }
 
 // Another job that is equal: the same set, and an account that holds the same.
-fn equal_job(alloc: Global, job: &Arc<Job>) -> Result<Arc<Job>, AllocError>
-    ensures { IfOk result (λ equal. arc_value equal ≡ arc_value job.now) }
+fn equal_job(rt: &impl Abort, alloc: Global, job: &Arc<Job>) -> Arc<Job>
+    ensures { arc_value result ≡ arc_value job.now }
 {
-    let set = Arc::try_clone(job.set())?;
-    let holdings = Vec::from_slice(alloc, job.portfolio().holdings())?;
+    let set = Arc::try_clone(job.set()).expect(rt, "a hold on the set");
+    let holdings = Vec::from_slice(alloc, job.portfolio().holdings()).expect(rt, "holdings");
     let portfolio = Portfolio::new(job.portfolio().account().copied(), holdings);
-    Ok(Arc::new(alloc, Job::new(set, portfolio, job.place()))?)
+    let job = Job::new(set, portfolio, job.place());
+    Arc::new(alloc, job).ok().expect(rt, "a job")
 }
 
-// Offers the board a result of each step, of a new board of an equal job. None is taken.
-fn offer_strangers(
-    rt: &impl Abort,
-    alloc: Global,
-    board: &mut Board,
-    equal: &Arc<Job>,
-) -> Result<(), Fail>
+// Offers a board a result of each step, of a new board of an equal job. None is taken.
+fn offer_strangers(rt: &impl Abort, alloc: Global, board: &mut Board, equal: &Arc<Job>)
     requires { board.old.job ≡ arc_value equal.now }
     ensures { board.new.job ≡ board.old.job }
 {
     for step in 0..equal.plan().len() {
-        expect_refused(rt, board, result_of(alloc, equal, step)?, Refused::NotTaken)?;
+        expect_refused(
+            rt,
+            board,
+            result_of(rt, alloc, equal, step),
+            Refused::NotTaken,
+        );
     }
-    Ok(())
 }
 
-// Runs a board to its end. Before each of its steps and at the end it is offered the results of another's.
-fn run_among_strangers(
-    rt: &impl Abort,
-    alloc: Global,
-    board: &mut Board,
-    equal: &Arc<Job>,
-) -> Result<(), Fail>
+// Runs a board to its end. Before each of its steps and at the end it is offered the results of others.
+fn run_among_strangers(rt: &impl Abort, alloc: Global, board: &mut Board, equal: &Arc<Job>)
     requires { board.old.job ≡ arc_value equal.now }
 {
     for _ in 0..equal.plan().len() {
-        offer_strangers(rt, alloc, board, equal)?;
-        let task = board.take_ready()?.ok_or("a task")?;
-        assert_eq!(rt; board.finish(evaluate(alloc, task)), Ok(()));
+        offer_strangers(rt, alloc, board, equal);
+        let task = next_task(rt, board);
+        assert!(rt; board.finish(evaluate(alloc, task)) == Ok(()));
     }
-    offer_strangers(rt, alloc, board, equal)
+    offer_strangers(rt, alloc, board, equal);
 }
 
-// The scan risk, the credit and the requirement of a commodity.
-fn numbers(figures: Figures) -> [i128; 3] {
-    [
-        figures.scan.get(),
-        figures.credit.get(),
-        figures.requirement.get(),
-    ]
+// Whether a commodity of a board has this scan risk, this credit and this requirement.
+fn has_figures(
+    board: &Board,
+    commodity: usize,
+    scan: i128,
+    credit: i128,
+    requirement: i128,
+) -> bool {
+    match board.figures(commodity) {
+        Some(figures) => {
+            figures.scan.get() == scan
+                && figures.credit.get() == credit
+                && figures.requirement.get() == requirement
+        }
+        None => false,
+    }
 }
 
 // Between its own steps, a board takes no result of another: not of a step that waits, nor of one that is finished.
 #[test]
-fn results_of_strangers(rt: HostRuntime) -> Result<(), Fail> {
+fn results_of_strangers(rt: HostRuntime) {
     let alloc = rt.alloc();
     let job = job_of(
+        &rt,
         alloc,
         three_commodities::PARAMS,
         three_commodities::POSITIONS,
-    )?;
-    let equal = equal_job(alloc, &job)?;
-    let mut board = Board::new(alloc, job)?;
-    run_among_strangers(&rt, alloc, &mut board, &equal)?;
-    assert!(rt; board.is_complete());
-    for (commodity, figures) in [
-        (0, [3600, 840, 2760]),
-        (1, [900, 450, 450]),
-        (2, [300, 60, 240]),
-    ] {
-        assert_eq!(rt; board.figures(commodity).map(numbers), Some(figures));
-    }
-    assert_eq!(rt; board.total().map(|total| total.get()), Some(3450));
-    Ok(())
+    );
+    let equal = equal_job(&rt, alloc, &job);
+    let mut board = board_of(&rt, alloc, &job);
+    run_among_strangers(&rt, alloc, &mut board, &equal);
+    assert!(rt; has_figures(&board, 0, 3600, 840, 2760));
+    assert!(rt; has_figures(&board, 1, 900, 450, 450));
+    assert!(rt; has_figures(&board, 2, 300, 60, 240));
 }

@@ -5,32 +5,32 @@ use result_book::rows::Row;
 use sample_files::one_future::{PARAMS, POSITIONS};
 use span_tables::name::Name;
 use std::alloc::Global;
+use std::process::Abort;
 use std::sync::Arc;
-use std::test::Fail;
 use worker_pool::plain::run_account;
 
 // The row of the account that is long one future.
-fn row_of_one_future(alloc: Global) -> Result<Arc<Row>, Fail> {
-    let set = set_of(alloc, PARAMS)?;
-    let account = account_of(alloc, &set, POSITIONS)?;
-    Ok(run_account(alloc, &set, account)?)
+fn row_of_one_future(rt: &impl Abort, alloc: Global) -> Arc<Row> {
+    let set = set_of(rt, alloc, PARAMS);
+    let account = account_of(rt, alloc, &set, POSITIONS);
+    run_account(alloc, &set, account).expect(rt, "a row")
 }
 
 // The row that comes back where it is refused for this reason.
-fn refused_for(put: Result<(), PutRefused>, fault: BookFault) -> Result<Arc<Row>, Fail> {
+fn refused_for(rt: &impl Abort, put: Result<(), PutRefused>, fault: BookFault) -> Arc<Row> {
     match put {
-        Ok(()) => Err(Fail::from("put")),
-        Err(refused) if refused.fault == fault => Ok(refused.row),
-        Err(refused) => Err(Fail::from(refused.fault)),
+        Err(refused) if refused.fault == fault => refused.row,
+        _ => panic!(rt; "not refused for that"),
     }
 }
 
-/// A put that is not refused.
-pub(crate) fn done(put: Result<(), PutRefused>) -> Result<(), Fail> {
-    match put {
-        Ok(()) => Ok(()),
-        Err(refused) => Err(Fail::from(refused.fault)),
-    }
+// Puts a row in a batch that was never opened, in the first one, and there again.
+fn put_thrice(rt: &impl Abort, book: &mut ResultBook, row: Arc<Row>) {
+    let row = refused_for(rt, book.put(7, row), BookFault::NoSuchBatch);
+    let again = Arc::try_clone(&row).expect(rt, "a hold on the row");
+    assert!(rt; book.put(1, row).is_ok());
+    let again = refused_for(rt, book.put(1, again), BookFault::AlreadyThere);
+    assert!(rt; again.total().get() == 1200);
 }
 
 // The total of the account X in a batch.
@@ -39,20 +39,14 @@ fn total_in(book: &ResultBook, batch: u64) -> Option<i128> {
 }
 
 #[test]
-fn calls_on_a_new_book(rt: HostRuntime) -> Result<(), Fail> {
+fn calls_on_a_new_book(rt: HostRuntime) {
     let alloc = rt.alloc();
-    let row = row_of_one_future(alloc)?;
-    let again = Arc::try_clone(&row)?;
     let mut book = ResultBook::new(alloc);
-    assert_eq!(rt; book.open_batch()?, 1);
-    assert_eq!(rt; book.open_batch()?, 2);
-    let row = refused_for(book.put(7, row), BookFault::NoSuchBatch)?;
-    done(book.put(1, row))?;
-    let again = refused_for(book.put(1, again), BookFault::AlreadyThere)?;
-    assert_eq!(rt; again.total().get(), 1200);
+    assert!(rt; book.open_batch() == Ok(1));
+    assert!(rt; book.open_batch() == Ok(2));
+    put_thrice(&rt, &mut book, row_of_one_future(&rt, alloc));
     assert!(rt; total_in(&book, 1) == Some(1200));
     assert!(rt; total_in(&book, 2) == None);
-    assert_eq!(rt; book.rows(1)?.len(), 1);
-    assert_eq!(rt; book.rows(7)?.len(), 0);
-    Ok(())
+    assert!(rt; book.rows(1).expect(&rt, "rows").len() == 1);
+    assert!(rt; book.rows(7).expect(&rt, "rows").is_empty());
 }

@@ -15,7 +15,6 @@ use std::process::Abort;
 use std::sync::atomic::AtomicBool;
 use std::sync::atomic::Ordering::SeqCst;
 use std::sync::{Arc, Wait};
-use std::test::Fail;
 use std::thread;
 use std::thread::Threads;
 
@@ -35,39 +34,40 @@ fn publishes_and_reads<S: ShelfName, R: Wait + Abort>(
     alloc: Global,
     publisher: &mut Publisher<S, &R>,
     reader: &mut Reader<S>,
-) -> Result<(), Fail> {
-    let set = set_of(alloc, PARAMS)?;
-    let first = publisher.publish(set).ok().ok_or("a publication")?;
-    let set = set_of(alloc, NEXT)?;
-    let second = publisher.publish(set).ok().ok_or("a second publication")?;
-    assert_eq!(rt; (first.number(), second.number()), (1, 2));
+) {
+    let first = publisher.publish(set_of(rt, alloc, PARAMS)).ok();
+    let first = first.expect(rt, "a publication");
+    let second = publisher.publish(set_of(rt, alloc, NEXT)).ok();
+    let second = second.expect(rt, "a second publication");
+    assert!(rt; first.number() == 1 && second.number() == 2);
     reader.learn(second);
     reader.learn(first);
-    let (number, set) = reader.current(rt)?.ok_or("a current set")?;
+    let found = reader.current(rt).expect(rt, "memory for a set");
+    let (number, set) = found.expect(rt, "a current set");
     assert!(rt; number == 2 && is_publication(number, &set));
-    Ok(())
+}
+
+// Whether the reader finds no set.
+fn finds_nothing<S: ShelfName, R: Wait + Abort>(rt: &R, reader: &mut Reader<S>) -> bool {
+    reader.current(rt).expect(rt, "no want of memory").is_none()
 }
 
 // What a reader finds before the first publication, after the second, and once the publisher is dropped.
-fn learns<S: ShelfName, R: Wait + Abort>(
-    rt: &R,
-    alloc: Global,
-    history: History,
-) -> Result<(), Fail>
+fn learns<S: ShelfName, R: Wait + Abort>(rt: &R, alloc: Global, history: History)
     requires { history ≡ S.book }
 {
-    let (mut publisher, mut readers) = shelf::<S, &R>(rt, alloc, history, 1)?;
-    let mut reader = readers.pop().ok_or("a reader")?;
-    assert!(rt; reader.current(rt)?.is_none());
-    publishes_and_reads(rt, alloc, &mut publisher, &mut reader)?;
+    let made = shelf::<S, &R>(rt, alloc, history, 1);
+    let (mut publisher, mut readers) = made.expect(rt, "a shelf");
+    let mut reader = readers.pop().expect(rt, "a reader");
+    assert!(rt; finds_nothing(rt, &mut reader));
+    publishes_and_reads(rt, alloc, &mut publisher, &mut reader);
     drop(publisher);
-    assert!(rt; reader.current(rt)?.is_none());
-    Ok(())
+    assert!(rt; finds_nothing(rt, &mut reader));
 }
 
 #[test]
-fn one_reader(rt: HostRuntime) -> Result<(), Fail> {
-    learns::<Brand, _>(&rt, rt.alloc(), History::new())
+fn one_reader(rt: HostRuntime) {
+    learns::<Brand, _>(&rt, rt.alloc(), History::new());
 }
 
 // Looks until publication 2 is current, 10^7 times at most, and once after the publisher has ended. Whether it was, no
@@ -95,14 +95,14 @@ fn reads_to_the_second<S: ShelfName, R: Wait>(
     false
 }
 
-// Publishes two sets, and says when that is done: whether both were published.
+// Publishes a set and the next, and says when that is done: whether both were published.
 fn publishes_both<S: ShelfName, R: Wait>(
     publisher: &mut Publisher<S, &R>,
-    sets: [Arc<CompiledSet>; 2],
+    set: Arc<CompiledSet>,
+    next: Arc<CompiledSet>,
     ended: &AtomicBool,
 ) -> bool {
-    let [first, second] = sets;
-    let are_published = publisher.publish(first).is_ok() && publisher.publish(second).is_ok();
+    let are_published = publisher.publish(set).is_ok() && publisher.publish(next).is_ok();
     ended.store(true, SeqCst);
     are_published
 }
@@ -111,13 +111,15 @@ fn beside<S: ShelfName + Send + Sync, R: Threads + Wait + Abort + Sync>(
     rt: &R,
     alloc: Global,
     history: History,
-    sets: [Arc<CompiledSet>; 2],
-) -> Result<(), Fail>
+)
     requires { history ≡ S.book }
 {
-    let (mut publisher, mut readers) = shelf::<S, &R>(rt, alloc, history, 2)?;
-    let one = readers.pop().ok_or("a reader")?;
-    let other = readers.pop().ok_or("a second reader")?;
+    let set = set_of(rt, alloc, PARAMS);
+    let next = set_of(rt, alloc, NEXT);
+    let made = shelf::<S, &R>(rt, alloc, history, 2);
+    let (mut publisher, mut readers) = made.expect(rt, "a shelf");
+    let one = readers.pop().expect(rt, "a reader");
+    let other = readers.pop().expect(rt, "a second reader");
     let lent = &mut publisher;
     let ended = AtomicBool::new(false);
     let ended = &ended;
@@ -130,15 +132,12 @@ fn beside<S: ShelfName + Send + Sync, R: Threads + Wait + Abort + Sync>(
                 move || reads_to_the_second(rt, other, ended),
             )
         },
-        move || publishes_both(lent, sets, ended),
+        move || publishes_both(lent, set, next, ended),
     );
     assert!(rt; first && second && published);
-    Ok(())
 }
 
 #[test]
-fn readers_beside_a_publisher(rt: HostRuntime) -> Result<(), Fail> {
-    let alloc = rt.alloc();
-    let sets = [set_of(alloc, PARAMS)?, set_of(alloc, NEXT)?];
-    beside::<Brand, _>(&rt, alloc, History::new(), sets)
+fn readers_beside_a_publisher(rt: HostRuntime) {
+    beside::<Brand, _>(&rt, rt.alloc(), History::new());
 }
