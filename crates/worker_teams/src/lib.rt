@@ -5,3 +5,4 @@ mod cuts;
 mod gates;
 pub mod laws;
 pub mod teams;
+mod worked;

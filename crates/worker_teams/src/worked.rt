@@ -1,0 +1,15 @@
+//! The outcomes of two accounts, computed by the definitions: the contract of a function that does nothing.
+ghost use Rattle.plan_compiler.specs.Compiled.{SetView};
+ghost use Rattle.std.specs.Prelude.{◌∷◌, [], codes};
+ghost use Rattle.worker_pool.specs.Outcomes.{AreOutcomes};
+ghost use Rattle.worker_pool.specs.declared.outcomes.Outcome.TheVariants.{NoMemory};
+
+// The outcomes of two accounts in their order; exchanged, they are not those of the accounts.
+fn outcomes_of_two_accounts()
+    ensures in_order { (set : SetView) → AreOutcomes set
+        (record { account = codes "X"; holdings = [] } ∷ record { account = codes "B"; holdings = [] } ∷ [])
+        (NoMemory (codes "X") ∷ NoMemory (codes "B") ∷ []) }
+    ensures exchanged { (set : SetView) → AreOutcomes set
+        (record { account = codes "X"; holdings = [] } ∷ record { account = codes "B"; holdings = [] } ∷ [])
+        (NoMemory (codes "B") ∷ NoMemory (codes "X") ∷ []) → ⊥ }
+{}
