@@ -44,6 +44,35 @@ fn push_next<B: Batch>(
     step
 }
 
+// Pushes the three tasks that a new board of the job hands out, and gives their steps.
+fn push_three<B: Batch>(
+    rt: &impl Abort,
+    alloc: Global,
+    owner: &mut Deque<B>,
+    job: &Arc<Job>,
+) -> [usize; 3]
+    requires part { 0 < (worker_view owner.old).parts }
+    requires batch { (worker_view owner.old).batch ≡ arc_value job.now ∷ [] }
+    requires job { (arc_value job.now).place ≡ 0 }
+    ensures same { SameWorker owner.old owner.new }
+    ensures parts { (worker_view owner.new).parts ≡ (worker_view owner.old).parts }
+{
+    let mut board = board_of(rt, alloc, job);
+    let first = push_next(rt, owner, &mut board, job);
+    let second = push_next(rt, owner, &mut board, job);
+    let third = push_next(rt, owner, &mut board, job);
+    [first, second, third]
+}
+
+// The step of the task that the owner takes.
+fn owned_step<B: Batch>(rt: &impl Abort, owner: &mut Deque<B>) -> usize
+    requires { 0 < (worker_view owner.old).parts }
+    ensures same { SameWorker owner.old owner.new }
+    ensures parts { (worker_view owner.new).parts ≡ (worker_view owner.old).parts }
+{
+    pop_task(owner).expect(rt, "a task").step()
+}
+
 // The step of the task that a thief takes.
 fn stolen_step<B: Batch>(rt: &impl Abort, thief: &Thief<B>, pass: &mut DequePass) -> usize
     requires deque { IsDequePassOf (stealer_deque thief.now) pass.old }
@@ -63,23 +92,20 @@ fn are_first_steps(steps: &[usize]) -> bool {
 }
 
 // Of three tasks a steal gives the first that was pushed, the owner's pop the second, a steal the third.
-fn tasks_in_order<B: Batch, R: Abort>(rt: &R, alloc: Global, job: &Arc<Job>)
+fn tasks_in_order<B: Batch>(rt: &impl Abort, alloc: Global, job: &Arc<Job>)
     requires batch { B.jobs ≡ arc_value job.now ∷ [] }
     requires job { (arc_value job.now).place ≡ 0 }
 {
-    let mut board = board_of(rt, alloc, job);
     let mut owner = new_deque::<B>(alloc, 4).expect(rt, "a deque");
     let thief = owner.stealer().expect(rt, "a thief's end");
     let mut pass = split_deque_pass(&mut owner);
-    let first = push_next(rt, &mut owner, &mut board, job);
-    let second = push_next(rt, &mut owner, &mut board, job);
-    let third = push_next(rt, &mut owner, &mut board, job);
-    assert!(rt; are_first_steps(&[first, second, third]));
-    assert!(rt; stolen_step(rt, &thief, &mut pass) == first);
-    let popped = pop_task(&mut owner).expect(rt, "a task");
-    assert!(rt; popped.step() == second);
-    assert!(rt; stolen_step(rt, &thief, &mut pass) == third);
-    assert!(rt; pop_task(&mut settle_deque(owner, pass)).is_none());
+    let pushed = push_three(rt, alloc, &mut owner, job);
+    let first = stolen_step(rt, &thief, &mut pass);
+    let second = owned_step(rt, &mut owner);
+    let third = stolen_step(rt, &thief, &mut pass);
+    assert!(rt; pushed == [first, second, third] && are_first_steps(&pushed));
+    let mut owner = settle_deque(owner, pass);
+    assert!(rt; pop_task(&mut owner).is_none());
 }
 
 // Pushes the result of the next task of a board of the job that is the whole batch, and gives its step.
@@ -122,21 +148,40 @@ fn popped_step<B: Batch, R: Wait + Abort>(
     finished.step()
 }
 
+// Pushes the results of the three tasks that a new board of the job hands out, and gives their steps.
+fn push_three_results<B: Batch, R: Wait + Abort>(
+    rt: &R,
+    alloc: Global,
+    queue: &Results<B>,
+    pass: &mut ResultPass,
+    job: &Arc<Job>,
+) -> [usize; 3]
+    requires queue { IsPassOf queue.now pass.old }
+    requires part { 0 < (view pass.old).parts }
+    requires batch { (view pass.old).batch ≡ arc_value job.now ∷ [] }
+    requires job { (arc_value job.now).place ≡ 0 }
+    ensures same { IsSamePass pass.old pass.new }
+    ensures parts { (view pass.new).parts ≡ (view pass.old).parts }
+{
+    let mut board = board_of(rt, alloc, job);
+    let first = push_next_result(rt, alloc, queue, pass, &mut board, job);
+    let second = push_next_result(rt, alloc, queue, pass, &mut board, job);
+    let third = push_next_result(rt, alloc, queue, pass, &mut board, job);
+    [first, second, third]
+}
+
 // Three results come out in the order in which they were pushed.
 fn results_in_order<B: Batch, R: Wait + Abort>(rt: &R, alloc: Global, job: &Arc<Job>)
     requires batch { B.jobs ≡ arc_value job.now ∷ [] }
     requires job { (arc_value job.now).place ≡ 0 }
 {
-    let mut board = board_of(rt, alloc, job);
     let (queue, mut pass) = new_queue::<B>(alloc).expect(rt, "a queue");
     let mut other = split_queue_pass(&queue, &mut pass);
-    let first = push_next_result(rt, alloc, &queue, &mut other, &mut board, job);
-    let second = push_next_result(rt, alloc, &queue, &mut other, &mut board, job);
-    let third = push_next_result(rt, alloc, &queue, &mut other, &mut board, job);
-    assert!(rt; are_first_steps(&[first, second, third]));
-    assert!(rt; popped_step(rt, &queue, &mut pass) == first);
-    assert!(rt; popped_step(rt, &queue, &mut pass) == second);
-    assert!(rt; popped_step(rt, &queue, &mut pass) == third);
+    let pushed = push_three_results(rt, alloc, &queue, &mut other, job);
+    let first = popped_step(rt, &queue, &mut pass);
+    let second = popped_step(rt, &queue, &mut pass);
+    let third = popped_step(rt, &queue, &mut pass);
+    assert!(rt; pushed == [first, second, third] && are_first_steps(&pushed));
     let (queue, mut pass) = settle_queue(queue, pass, other);
     assert!(rt; pop_result(rt, &queue, &mut pass).is_none());
 }
@@ -145,6 +190,6 @@ fn results_in_order<B: Batch, R: Wait + Abort>(rt: &R, alloc: Global, job: &Arc<
 fn front_and_back(rt: HostRuntime) {
     let alloc = rt.alloc();
     let job = job_of(&rt, alloc, PARAMS, POSITIONS);
-    tasks_in_order::<Brand, _>(&rt, alloc, &job);
+    tasks_in_order::<Brand>(&rt, alloc, &job);
     results_in_order::<Brand, _>(&rt, alloc, &job);
 }

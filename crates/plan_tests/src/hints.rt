@@ -1,11 +1,13 @@
 //! What hints tell: that a step's value is kept, or is that of its first input. No clause says that they tell anything.
-ghost use Rattle.std.specs.Prelude.{◌≡◌, ◌≤◌, length};
+ghost use Rattle.std.specs.Arc.{arc_value};
+ghost use Rattle.std.specs.Prelude.{◌≡◌, ◌≤◌, ◌++◌, ◌∷◌, [], length, map};
 ghost use Rattle.span_tables.specs.declared.limits.TheConstants.{MAX_PRICE2};
 
 use crate::files::{set_of, tables_of};
 use inter_credit::state::empty;
 use plan_ir::evaluation::changes_nothing;
 use plan_ir::figures::Figures;
+use plan_ir::nothing::NothingHeld;
 use plan_ir::ops::Op;
 use plan_ir::values::Value;
 use sample_files::one_future::PARAMS;
@@ -14,21 +16,26 @@ use span_money::amounts::Money;
 use span_tables::held::Held;
 use span_tables::tables::Tables;
 use spread_stage::deltas::month_deltas;
-use std::alloc::{AllocError, Global};
+use std::alloc::Global;
+use std::process::Abort;
 use std::sync::Arc;
+
+// Expects that the value of an operation on nothing is kept.
+fn expect_kept(rt: &impl Abort, nothing: &NothingHeld, op: Op, first: &Value) {
+    assert!(rt; nothing.value_for(op, first).is_some());
+}
 
 // Each operation on no contracts, on no months and on sums of 0 has its value kept; one on the tiers of nothing has not.
 #[test]
 fn values_of_nothing_held(rt: HostRuntime) {
     let set = set_of(&rt, rt.alloc(), PARAMS);
     let nothing = set.nothing_held();
-    for op in [Op::Sums(0), Op::Months(0), Op::Minimum(0)] {
-        assert!(rt; nothing.value_for(op, nothing.held()).is_some());
-    }
-    for op in [Op::TierStart(0), Op::Delivery(0)] {
-        assert!(rt; nothing.value_for(op, nothing.months()).is_some());
-    }
-    assert!(rt; nothing.value_for(Op::ScanMax(0), nothing.sums()).is_some());
+    expect_kept(&rt, nothing, Op::Sums(0), nothing.held());
+    expect_kept(&rt, nothing, Op::Months(0), nothing.held());
+    expect_kept(&rt, nothing, Op::Minimum(0), nothing.held());
+    expect_kept(&rt, nothing, Op::TierStart(0), nothing.months());
+    expect_kept(&rt, nothing, Op::Delivery(0), nothing.months());
+    expect_kept(&rt, nothing, Op::ScanMax(0), nothing.sums());
     assert!(rt;
         nothing
             .value_for(Op::Spread(0, 0), nothing.tiers())
@@ -36,8 +43,16 @@ fn values_of_nothing_held(rt: HostRuntime) {
     );
 }
 
+// Appends a value to the inputs of a step.
+fn add_input(rt: &impl Abort, alloc: Global, inputs: &mut Vec<Arc<Value>>, value: Value)
+    ensures { map arc_value inputs.new.items ≡ map arc_value inputs.old.items ++ value ∷ [] }
+{
+    let value = Arc::new(alloc, value).ok().expect(rt, "a value");
+    inputs.push(value).ok().expect(rt, "an input");
+}
+
 // Whether it is told that a load of no months, and of this price risk doubled, changes nothing.
-fn is_load_of_nothing(alloc: Global, tables: &Tables, price2: u64) -> Result<bool, AllocError>
+fn is_load_of_nothing(rt: &impl Abort, alloc: Global, tables: &Tables, price2: u64) -> bool
     requires one { length tables.now.commodities ≡ 1 }
     requires price2 { price2 ≤ MAX_PRICE2 }
 {
@@ -47,28 +62,29 @@ fn is_load_of_nothing(alloc: Global, tables: &Tables, price2: u64) -> Result<boo
         paired: 2,
         price2,
     };
-    let months = month_deltas(alloc, &Held::none(alloc, tables)?)?;
-    let lines = Value::Inter(empty(alloc, 1)?);
+    let held = Held::none(alloc, tables).expect(rt, "nothing held");
+    let months = month_deltas(alloc, &held).expect(rt, "no months");
     let mut rest = Vec::new(alloc);
-    rest.push(Arc::new(alloc, Value::Months(months))?)?;
-    rest.push(Arc::new(alloc, Value::Scan(scan))?)?;
-    Ok(changes_nothing(tables, Op::InterLoad(0), &lines, &rest))
+    add_input(rt, alloc, &mut rest, Value::Months(months));
+    add_input(rt, alloc, &mut rest, Value::Scan(scan));
+    let lines = Value::Inter(empty(alloc, 1).expect(rt, "a commodity"));
+    changes_nothing(tables, Op::InterLoad(0), &lines, &rest)
 }
 
 // A load of a commodity of which nothing is held changes nothing; one with a price risk may.
 #[test]
 fn load_of_nothing(rt: HostRuntime) {
-    let alloc = rt.alloc();
-    let tables = tables_of(&rt, alloc, PARAMS);
+    let tables = tables_of(&rt, rt.alloc(), PARAMS);
     assert!(rt; tables.commodities().len() == 1);
-    assert!(rt; is_load_of_nothing(alloc, &tables, 0) == Ok(true));
-    assert!(rt; is_load_of_nothing(alloc, &tables, 2400) == Ok(false));
+    assert!(rt; is_load_of_nothing(&rt, rt.alloc(), &tables, 0));
+    assert!(rt; !is_load_of_nothing(&rt, rt.alloc(), &tables, 2400));
 }
 
-// Whether it is told that the total is not changed by figures that are all 0.
-fn is_total_of_nothing(alloc: Global, tables: &Tables) -> Result<bool, AllocError>
-    requires { length tables.now.commodities ≡ 1 }
-{
+// A total with a requirement of 0 stays as it is.
+#[test]
+fn total_of_nothing(rt: HostRuntime) {
+    let tables = tables_of(&rt, rt.alloc(), PARAMS);
+    assert!(rt; tables.commodities().len() == 1);
     let none = Figures {
         scan: Money::new(0),
         active: 1,
@@ -78,16 +94,8 @@ fn is_total_of_nothing(alloc: Global, tables: &Tables) -> Result<bool, AllocErro
         minimum: Money::new(0),
         requirement: Money::new(0),
     };
-    let mut rest = Vec::new(alloc);
-    rest.push(Arc::new(alloc, Value::Figures(none))?)?;
+    let mut rest = Vec::new(rt.alloc());
+    add_input(&rt, rt.alloc(), &mut rest, Value::Figures(none));
     let total = Value::Total(Money::new(500));
-    Ok(changes_nothing(tables, Op::TotalAdd(0), &total, &rest))
-}
-
-// A total with a requirement of 0 stays as it is.
-#[test]
-fn total_of_nothing(rt: HostRuntime) {
-    let tables = tables_of(&rt, rt.alloc(), PARAMS);
-    assert!(rt; tables.commodities().len() == 1);
-    assert!(rt; is_total_of_nothing(rt.alloc(), &tables) == Ok(true));
+    assert!(rt; changes_nothing(&tables, Op::TotalAdd(0), &total, &rest));
 }

@@ -95,16 +95,50 @@ fn reads_to_the_second<S: ShelfName, R: Wait>(
     false
 }
 
-// Publishes a set and the next, and says when that is done: whether both were published.
-fn publishes_both<S: ShelfName, R: Wait>(
-    publisher: &mut Publisher<S, &R>,
-    set: Arc<CompiledSet>,
-    next: Arc<CompiledSet>,
+// Two readers, each in a thread of its own: whether both read to the second publication.
+fn both_read<S: ShelfName + Send + Sync, R: Threads + Wait + Sync>(
+    rt: &R,
+    one: Reader<S>,
+    other: Reader<S>,
     ended: &AtomicBool,
 ) -> bool {
-    let are_published = publisher.publish(set).is_ok() && publisher.publish(next).is_ok();
+    let (first, second) = thread::join(
+        rt,
+        move || reads_to_the_second(rt, one, ended),
+        move || reads_to_the_second(rt, other, ended),
+    );
+    first && second
+}
+
+// Publishes a set and the next, and says when that is done: whether both were published.
+fn publishes_both<S: ShelfName, R: Wait + Abort>(
+    rt: &R,
+    alloc: Global,
+    publisher: &mut Publisher<S, &R>,
+    ended: &AtomicBool,
+) -> bool {
+    let first = publisher.publish(set_of(rt, alloc, PARAMS)).is_ok();
+    let second = publisher.publish(set_of(rt, alloc, NEXT)).is_ok();
     ended.store(true, SeqCst);
-    are_published
+    first && second
+}
+
+// Whether two readers beside a publisher read to its second publication.
+fn reads_beside<S: ShelfName + Send + Sync, R: Threads + Wait + Abort + Sync>(
+    rt: &R,
+    alloc: Global,
+    publisher: &mut Publisher<S, &R>,
+    one: Reader<S>,
+    other: Reader<S>,
+) -> bool {
+    let ended = AtomicBool::new(false);
+    let ended = &ended;
+    let (read, published) = thread::join(
+        rt,
+        move || both_read(rt, one, other, ended),
+        move || publishes_both(rt, alloc, publisher, ended),
+    );
+    read && published
 }
 
 fn beside<S: ShelfName + Send + Sync, R: Threads + Wait + Abort + Sync>(
@@ -114,27 +148,11 @@ fn beside<S: ShelfName + Send + Sync, R: Threads + Wait + Abort + Sync>(
 )
     requires { history ≡ S.book }
 {
-    let set = set_of(rt, alloc, PARAMS);
-    let next = set_of(rt, alloc, NEXT);
     let made = shelf::<S, &R>(rt, alloc, history, 2);
     let (mut publisher, mut readers) = made.expect(rt, "a shelf");
     let one = readers.pop().expect(rt, "a reader");
     let other = readers.pop().expect(rt, "a second reader");
-    let lent = &mut publisher;
-    let ended = AtomicBool::new(false);
-    let ended = &ended;
-    let ((first, second), published) = thread::join(
-        rt,
-        move || {
-            thread::join(
-                rt,
-                move || reads_to_the_second(rt, one, ended),
-                move || reads_to_the_second(rt, other, ended),
-            )
-        },
-        move || publishes_both(lent, set, next, ended),
-    );
-    assert!(rt; first && second && published);
+    assert!(rt; reads_beside(rt, alloc, &mut publisher, one, other));
 }
 
 #[test]
