@@ -1,4 +1,4 @@
-//! What the tests share: what calls and command lines give, and a writer that breaks.
+//! What the tests share: a writer that breaks, and what a command line gives.
 use span_cli::sources::Sources;
 use span_cli::words::run_words;
 use span_told::MarkedWriter;
@@ -9,14 +9,6 @@ use std::sync::Wait;
 use std::thread::Threads;
 use std::time::Clock;
 use worker_pool::gates::Gate;
-
-/// Whether a call answered these bytes. (Tests ask so, since each `?` beside what a body owns makes its proof longer.)
-pub(crate) fn gives<E: Drop>(answer: Result<Vec<u8>, E>, bytes: &[u8]) -> bool {
-    match answer {
-        Ok(text) => text.as_slice() == bytes,
-        Err(_) => false,
-    }
-}
 
 /// A status, and what was written.
 #[derive(Drop)]

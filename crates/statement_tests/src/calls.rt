@@ -3,7 +3,7 @@
 ghost use Rattle.span_tables.specs.Holdings.{fits};
 ghost use Rattle.std.specs.Prelude.{◌≡◌, ◌<◌, length, true};
 
-use crate::builders::{gives, run_on};
+use crate::builders::run_on;
 use explanation::explaining::explain;
 use param_check::binding::bind;
 use param_check::check::check;
@@ -61,39 +61,34 @@ const PLAN: &[u8] = b"\
 12 TotalAdd(0) 11 8
 ";
 
-// The tables of a calendar spread.
-fn tables_of_calendar(alloc: Global) -> Result<Tables, SpanFault> {
-    let raw = read_params(alloc, calendar::PARAMS)?;
-    Ok(check(alloc, raw)?)
-}
-
 // What is said of a parameter file by itself.
-fn of_parameters(rt: &impl Abort, alloc: Global) -> Result<(), SpanFault> {
-    assert!(rt; gives(check_plain(alloc, calendar::PARAMS), COUNTS));
-    assert!(rt; gives(plan_plain(alloc, calendar::PARAMS), PLAN));
-    let tables = tables_of_calendar(alloc)?;
-    assert!(rt; gives(write_counts(alloc, &tables), COUNTS));
+fn of_parameters(rt: &impl Abort, alloc: Global) -> Result<(), Fail> {
+    assert_eq!(rt; check_plain(alloc, calendar::PARAMS)?.as_slice(), COUNTS);
+    assert_eq!(rt; plan_plain(alloc, calendar::PARAMS)?.as_slice(), PLAN);
+    let tables = check(alloc, read_params(alloc, calendar::PARAMS)?)?;
+    assert_eq!(rt; write_counts(alloc, &tables)?.as_slice(), COUNTS);
     Ok(())
 }
 
-// The statement of two files, alone and on workers, and why its figures are what they are.
-fn of_two_files<R: Threads + Wait + Clock + Sync + Abort>(rt: &R, alloc: Global) {
+// The statement of two files, alone and on workers.
+fn of_two_files<R: Threads + Wait + Clock + Sync + Abort>(
+    rt: &R,
+    alloc: Global,
+) -> Result<(), Fail> {
     let params = two_commodities::PARAMS;
     let positions = two_commodities::POSITIONS;
-    let statement = two_commodities::STATEMENT;
-    assert!(rt; gives(margin_plain(alloc, params, positions), statement));
-    assert!(rt;
-        gives(
-            margin(rt, alloc, params, positions, 2, &OpenGate),
-            statement
-        )
-    );
-    let explanation = two_commodities::EXPLANATION;
-    assert!(rt; gives(explain(alloc, params, positions, None), explanation));
+    let text = margin_plain(alloc, params, positions)?;
+    assert_eq!(rt; text.as_slice(), two_commodities::STATEMENT);
+    let text = margin(rt, alloc, params, positions, 2, &OpenGate)?;
+    assert_eq!(rt; text.as_slice(), two_commodities::STATEMENT);
+    Ok(())
 }
 
 // The statements under two sets.
-fn of_two_sets<R: Threads + Wait + Clock + Sync + Abort>(rt: &R, alloc: Global) {
+fn of_two_sets<R: Threads + Wait + Clock + Sync + Abort>(
+    rt: &R,
+    alloc: Global,
+) -> Result<(), Fail> {
     let book = Mutex::new(ResultBook::new(alloc));
     let text = roll(
         rt,
@@ -104,8 +99,9 @@ fn of_two_sets<R: Threads + Wait + Clock + Sync + Abort>(rt: &R, alloc: Global) 
         2,
         &OpenGate,
         &book,
-    );
-    assert!(rt; gives(text, calendar::BOTH_STATEMENTS));
+    )?;
+    assert_eq!(rt; text.as_slice(), calendar::BOTH_STATEMENTS);
+    Ok(())
 }
 
 // The rows of two files.
@@ -116,13 +112,6 @@ fn rows_of_two_files(alloc: Global) -> Result<Vec<Arc<Row>>, SpanFault> {
         ..
     } = accept(alloc, two_commodities::PARAMS, two_commodities::POSITIONS)?;
     Ok(rows_alone(alloc, &set, portfolios)?)
-}
-
-// The lines of a row, all at once.
-fn text_of(alloc: Global, row: &Row) -> Result<Vec<u8>, AllocError> {
-    let mut out = Vec::new(alloc);
-    push_row(&mut out, row)?;
-    Ok(out)
 }
 
 // The lines of a row, one after the other.
@@ -136,57 +125,56 @@ fn lines_of(alloc: Global, row: &Row) -> Result<Vec<u8>, AllocError> {
 }
 
 // The statement of rows of one account, written in three ways.
-fn of_rows(rt: &impl Abort, alloc: Global) -> Result<(), SpanFault> {
+fn of_rows(rt: &impl Abort, alloc: Global) -> Result<(), Fail> {
     let rows = rows_of_two_files(alloc)?;
-    assert!(rt; gives(write(alloc, &rows), two_commodities::STATEMENT));
-    assert_eq!(rt; rows.len(), 1);
-    for row in &rows {
-        assert!(rt; gives(text_of(alloc, row), two_commodities::STATEMENT));
-        assert!(rt; gives(lines_of(alloc, row), two_commodities::STATEMENT));
-    }
+    assert_eq!(rt; write(alloc, &rows)?.as_slice(), two_commodities::STATEMENT);
+    let row = rows.first().ok_or("a row")?;
+    assert_eq!(rt;
+        lines_of(alloc, row)?.as_slice(),
+        two_commodities::STATEMENT
+    );
+    let mut out = Vec::new(alloc);
+    push_row(&mut out, row)?;
+    assert_eq!(rt; out.as_slice(), two_commodities::STATEMENT);
     Ok(())
 }
 
-// Whether an outcome is a row with this total.
-fn has_total(outcome: &Outcome, total: i128) -> bool {
+// The total of an outcome that has a row.
+fn total_of(outcome: &Outcome) -> Option<i128> {
     match outcome {
-        Outcome::Margined(row) => row.total().get() == total,
-        Outcome::NoMemory(_) => false,
-    }
-}
-
-// Whether these are the outcomes of the two accounts below.
-fn have_totals(outcomes: &[Outcome]) -> bool {
-    match outcomes {
-        [first, second] => has_total(first, 1950) && has_total(second, 1800),
-        _ => false,
+        Outcome::Margined(row) => Some(row.total().get()),
+        Outcome::NoMemory(_) => None,
     }
 }
 
 // The outcomes of two accounts, each of a team: the first earns a credit, the second has two at 900.
-fn of_teams<R: Threads + Wait + Clock + Sync + Abort>(
-    rt: &R,
-    alloc: Global,
-) -> Result<(), SpanFault> {
+fn of_teams<R: Threads + Wait + Clock + Sync + Abort>(rt: &R, alloc: Global) -> Result<(), Fail> {
     let positions = b"X,FA,1\nX,FB,-2\nY,FB,2\n";
     let Accepted {
         set,
         portfolios,
         ..
     } = accept(alloc, two_commodities::PARAMS, positions)?;
-    let outcomes = run_in_teams(rt, alloc, &set, portfolios.into_vec(), 2, &OpenGate);
-    assert!(rt; matches!(outcomes, Ok(outcomes) if have_totals(&outcomes)));
+    let outcomes = run_in_teams(rt, alloc, &set, portfolios.into_vec(), 2, &OpenGate)?;
+    assert_eq!(rt; outcomes.len(), 2);
+    assert!(rt; outcomes.first().and_then(total_of) == Some(1950));
+    assert!(rt; outcomes.last().and_then(total_of) == Some(1800));
     Ok(())
 }
 
-// What the account of a calendar spread holds.
-fn portfolio_of_calendar(alloc: Global, tables: &Tables) -> Result<Option<Portfolio>, SpanFault> {
-    let positions = read_positions(alloc, calendar::POSITIONS)?;
-    let portfolios = bind(alloc, tables, &positions)?;
-    Ok(portfolios.into_vec().pop())
+// The explanation of two files.
+fn of_reasons(rt: &impl Abort, alloc: Global) -> Result<(), Fail> {
+    let text = explain(
+        alloc,
+        two_commodities::PARAMS,
+        two_commodities::POSITIONS,
+        None,
+    )?;
+    assert_eq!(rt; text.as_slice(), two_commodities::EXPLANATION);
+    Ok(())
 }
 
-// The reasons for the figures of the first commodity, and behind them the statement.
+// The reasons for the figures of the first commodity, under the ids of an account of a calendar spread.
 fn reasons_of(alloc: Global, tables: &Tables, portfolio: &Portfolio) -> Result<Vec<u8>, AllocError>
     requires commodity { 0 < length tables.now.commodities }
     requires fits { fits (length tables.now.contracts) portfolio.now.holdings ≡ true }
@@ -197,59 +185,57 @@ fn reasons_of(alloc: Global, tables: &Tables, portfolio: &Portfolio) -> Result<V
     let _limits = tables.commodities();
     let mut out = Vec::new(alloc);
     push_reasons(alloc, &mut out, b",X,D1,AA", tables, &stages, 0)?;
-    out.extend_from_slice(calendar::STATEMENT)?;
     Ok(out)
 }
 
-// The reasons are what the explanation has in front of the statement.
-fn of_reasons(rt: &impl Abort, alloc: Global) -> Result<(), SpanFault> {
-    let tables = tables_of_calendar(alloc)?;
-    let portfolio = portfolio_of_calendar(alloc, &tables)?.expect(rt, "an account");
+// The reasons, and behind them the statement, are the explanation.
+fn of_stages(rt: &impl Abort, alloc: Global) -> Result<(), Fail> {
+    let tables = check(alloc, read_params(alloc, calendar::PARAMS)?)?;
+    let portfolios = bind(alloc, &tables, &read_positions(alloc, calendar::POSITIONS)?)?;
+    let portfolio = portfolios.as_slice().first().ok_or("an account")?;
     assert!(rt; portfolio.fits(&tables));
-    assert_eq!(rt; tables.commodities().len(), 1);
-    assert!(rt;
-        gives(
-            reasons_of(alloc, &tables, &portfolio),
-            calendar::EXPLANATION
-        )
-    );
+    assert!(rt; tables.commodities().len() == 1);
+    let mut text = reasons_of(alloc, &tables, portfolio)?;
+    text.extend_from_slice(calendar::STATEMENT)?;
+    assert_eq!(rt; text.as_slice(), calendar::EXPLANATION);
     Ok(())
 }
 
 // Sources that are read: files in memory, a stream of the system, and a reader.
-fn of_sources<R: Files + Abort>(rt: &R, alloc: Global) {
+fn of_sources<R: Files + Abort>(rt: &R, alloc: Global) -> Result<(), Fail> {
     let mut sources = InMemory {
         files: &[("params.csv", b"P"), ("positions.csv", b"Q")],
     };
-    assert!(rt; gives(sources.read(alloc, "positions.csv"), b"Q"));
+    assert_eq!(rt;
+        sources.read(alloc, "positions.csv")?.as_slice(),
+        b"Q".as_slice()
+    );
     let mut disk = Disk::new(alloc, rt);
-    assert!(rt; gives(disk.read(alloc, "/dev/null"), b""));
+    assert!(rt; disk.read(alloc, "/dev/null")?.is_empty());
     let mut turns = Turns::new(b"abc".as_slice(), 4);
-    assert!(rt; gives(read_within(alloc, &mut turns, 3), b"abc"));
+    assert_eq!(rt;
+        read_within(alloc, &mut turns, 3)?.as_slice(),
+        b"abc".as_slice()
+    );
+    Ok(())
 }
 
-// What words ask for, and a command line that is answered.
-fn of_words<R: Threads + Wait + Clock + Sync + Abort>(rt: &R, alloc: Global) {
+// What words ask for, and a request and a command line that are answered.
+fn of_words<R: Threads + Wait + Clock + Sync + Abort>(rt: &R, alloc: Global) -> Result<(), Fail> {
     let words = ["span", "check", "params.csv"];
+    let asked = request(alloc, &words)?;
     assert!(rt;
         matches!(
-            request(alloc, &words),
-            Ok(Some(Request::Check {
+            asked,
+            Some(Request::Check {
                 params: "params.csv"
-            }))
+            })
         )
     );
     let mut sources = InMemory {
         files: &[("params.csv", calendar::PARAMS)],
     };
     assert!(rt; run_on(rt, alloc, &words, &mut sources, &OpenGate).is(0, COUNTS, b""));
-}
-
-// A request that is answered.
-fn of_requests<R: Threads + Wait + Clock + Sync + Abort>(rt: &R, alloc: Global) {
-    let mut sources = InMemory {
-        files: &[("params.csv", calendar::PARAMS)],
-    };
     let mut out = MarkedWriter::new(Vec::new(alloc));
     let mut err = MarkedWriter::new(Vec::new(alloc));
     let request = Request::Check {
@@ -266,32 +252,33 @@ fn of_requests<R: Threads + Wait + Clock + Sync + Abort>(rt: &R, alloc: Global) 
     );
     assert_eq!(rt; status, 0);
     assert_eq!(rt; out.into_inner().as_slice(), COUNTS);
+    Ok(())
 }
 
 // The line of a fault.
-fn of_faults(rt: &impl Abort, alloc: Global) {
+fn of_faults(rt: &impl Abort, alloc: Global) -> Result<(), Fail> {
     let line = b"workers: L1 Workers\n".as_slice();
     let mut out = Vec::new(alloc);
-    assert!(rt; write_fault(&SpanFault::Workers, &mut out).is_ok());
+    write_fault(&SpanFault::Workers, &mut out)?;
     assert_eq!(rt; out.as_slice(), line);
     let mut out = MarkedWriter::new(Vec::new(alloc));
     tell_fault(&SpanFault::Workers, &mut out);
     assert!(rt; !out.failed());
     assert_eq!(rt; out.into_inner().as_slice(), line);
+    Ok(())
 }
 
 #[test]
 fn calls_succeed(rt: HostRuntime) -> Result<(), Fail> {
     let alloc = rt.alloc();
     of_parameters(&rt, alloc)?;
-    of_two_files(&rt, alloc);
-    of_two_sets(&rt, alloc);
+    of_two_files(&rt, alloc)?;
+    of_two_sets(&rt, alloc)?;
     of_rows(&rt, alloc)?;
     of_teams(&rt, alloc)?;
     of_reasons(&rt, alloc)?;
-    of_sources(&rt, alloc);
-    of_words(&rt, alloc);
-    of_requests(&rt, alloc);
-    of_faults(&rt, alloc);
-    Ok(())
+    of_stages(&rt, alloc)?;
+    of_sources(&rt, alloc)?;
+    of_words(&rt, alloc)?;
+    of_faults(&rt, alloc)
 }

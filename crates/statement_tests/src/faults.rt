@@ -12,6 +12,7 @@ use std::alloc::Global;
 use std::fmt::Display;
 use std::io::Write;
 use std::process::Abort;
+use std::test::Fail;
 use step_scheduler::boards::Refused;
 use worker_pool::batch::PoolFault;
 
@@ -20,18 +21,15 @@ fn account() -> Name {
     Name::new(b"ACC-1").unwrap_or(Name::default())
 }
 
-// Whether the line of a fault is this.
-fn has_line(alloc: Global, fault: &SpanFault, line: &str) -> bool {
-    let mut written = Vec::new(alloc);
-    write_fault(fault, &mut written).is_ok() && written.as_slice() == line.as_bytes()
-}
-
 // Each fault has this line, and this status.
-fn have_lines(rt: &impl Abort, alloc: Global, lines: &[(SpanFault, &str, u8)]) {
+fn have_lines(rt: &impl Abort, alloc: Global, lines: &[(SpanFault, &str, u8)]) -> Result<(), Fail> {
     for (fault, line, number) in lines {
-        assert!(rt; has_line(alloc, fault, line), "{line}");
-        assert_eq!(rt; status(fault), *number, "{line}");
+        let mut written = Vec::new(alloc);
+        write_fault(fault, &mut written)?;
+        assert_eq!(rt; written.as_slice(), line.as_bytes());
+        assert_eq!(rt; status(fault), *number);
     }
+    Ok(())
 }
 
 // One of each kind that names no account.
@@ -72,7 +70,7 @@ const LINES: [(SpanFault, &str, u8); 9] = [
 ];
 
 // One of each kind that names an account.
-fn lines_of_accounts(rt: &impl Abort, alloc: Global) {
+fn lines_of_accounts(rt: &impl Abort, alloc: Global) -> Result<(), Fail> {
     let bound = BindFault::NetOutOfRange {
         at: 3,
         account: account(),
@@ -98,23 +96,24 @@ fn lines_of_accounts(rt: &impl Abort, alloc: Global) {
             4,
         ),
     ];
-    have_lines(rt, alloc, &lines);
+    have_lines(rt, alloc, &lines)
 }
 
 #[test]
-fn lines_of_faults(rt: HostRuntime) {
+fn lines_of_faults(rt: HostRuntime) -> Result<(), Fail> {
     let alloc = rt.alloc();
-    have_lines(&rt, alloc, &LINES);
-    lines_of_accounts(&rt, alloc);
+    have_lines(&rt, alloc, &LINES)?;
+    lines_of_accounts(&rt, alloc)
 }
 
-// Whether a fault is shown as its line, without the line end.
-fn is_shown_as_line(alloc: Global, fault: &SpanFault) -> bool {
+// The fault is shown as its line, without the line end.
+fn is_shown_as_line(rt: &impl Abort, alloc: Global, fault: &SpanFault) -> Result<(), Fail> {
     let mut shown = Vec::new(alloc);
+    writeln!(shown, "{fault}")?;
     let mut written = Vec::new(alloc);
-    writeln!(shown, "{fault}").is_ok()
-        && write_fault(fault, &mut written).is_ok()
-        && shown.as_slice() == written.as_slice()
+    write_fault(fault, &mut written)?;
+    assert_eq!(rt; shown.as_slice(), written.as_slice());
+    Ok(())
 }
 
 const PARAM_FAULTS: [ParamFault; 8] = [
@@ -157,23 +156,24 @@ const BOOK_FAULTS: [BookFault; 3] = [
 ];
 
 // The texts of faults of records, by the reader or the checker that finds them, and of those of a book.
-fn of_records_and_books(rt: &impl Abort, alloc: Global) {
+fn of_records_and_books(rt: &impl Abort, alloc: Global) -> Result<(), Fail> {
     for fault in PARAM_FAULTS {
-        assert!(rt; is_shown_as_line(alloc, &SpanFault::Params(fault)));
+        is_shown_as_line(rt, alloc, &SpanFault::Params(fault))?;
     }
     for fault in CHECK_FAULTS {
-        assert!(rt; is_shown_as_line(alloc, &SpanFault::NextCheck(fault)));
+        is_shown_as_line(rt, alloc, &SpanFault::NextCheck(fault))?;
     }
     for fault in POSITION_FAULTS {
-        assert!(rt; is_shown_as_line(alloc, &SpanFault::Positions(fault)));
+        is_shown_as_line(rt, alloc, &SpanFault::Positions(fault))?;
     }
     for fault in BOOK_FAULTS {
-        assert!(rt; is_shown_as_line(alloc, &SpanFault::Book(fault)));
+        is_shown_as_line(rt, alloc, &SpanFault::Book(fault))?;
     }
+    Ok(())
 }
 
 // The texts of faults that name an account, and of the other kinds.
-fn of_accounts_and_sets(rt: &impl Abort, alloc: Global) {
+fn of_accounts_and_sets(rt: &impl Abort, alloc: Global) -> Result<(), Fail> {
     let faults = [
         SpanFault::Bind(BindFault::UnknownContract {
             at: 1,
@@ -195,48 +195,48 @@ fn of_accounts_and_sets(rt: &impl Abort, alloc: Global) {
         SpanFault::Memory,
     ];
     for fault in &faults {
-        assert!(rt; is_shown_as_line(alloc, fault));
+        is_shown_as_line(rt, alloc, fault)?;
     }
+    Ok(())
 }
 
-// Whether a value is shown as this text.
-fn shows<T: Display>(alloc: Global, value: &T, text: &str) -> bool {
-    match format!(in alloc; "{value}") {
-        Ok(shown) => shown.as_str() == text,
-        Err(_) => false,
-    }
+// The value is shown as this text.
+fn is_shown<T: Display>(rt: &impl Abort, alloc: Global, value: &T, text: &str) -> Result<(), Fail> {
+    let shown = format!(in alloc; "{value}")?;
+    assert_eq!(rt; shown.as_str(), text);
+    Ok(())
 }
 
 // The texts of faults that calls answer and no statement is refused with.
-fn of_calls(rt: &impl Abort, alloc: Global) {
-    assert!(rt; shows(alloc, &ShelfFault::Readers, "Readers"));
-    assert!(rt; shows(alloc, &ShelfFault::Last, "Last"));
-    assert!(rt; shows(alloc, &PoolFault::Workers, "L1 Workers"));
-    assert!(rt; shows(alloc, &Refused::NotTaken, "NotTaken"));
-    assert!(rt; shows(alloc, &Refused::Failed, "Failed"));
-    assert!(rt; shows(alloc, &ReadFault::Failed, "the file cannot be read"));
-    assert!(rt; shows(alloc, &ReadFault::TooLong, "the file is too long"));
+fn of_calls(rt: &impl Abort, alloc: Global) -> Result<(), Fail> {
+    is_shown(rt, alloc, &ShelfFault::Readers, "Readers")?;
+    is_shown(rt, alloc, &ShelfFault::Last, "Last")?;
+    is_shown(rt, alloc, &PoolFault::Workers, "L1 Workers")?;
+    is_shown(rt, alloc, &Refused::NotTaken, "NotTaken")?;
+    is_shown(rt, alloc, &Refused::Failed, "Failed")?;
+    is_shown(rt, alloc, &ReadFault::Failed, "the file cannot be read")?;
+    is_shown(rt, alloc, &ReadFault::TooLong, "the file is too long")
 }
 
 // The text of want of memory, which is a fault of each of these kinds.
-fn of_memory(rt: &impl Abort, alloc: Global) {
-    assert!(rt; shows(alloc, &ParamFault::OutOfMemory, "memory"));
-    assert!(rt; shows(alloc, &CheckFault::OutOfMemory, "memory"));
-    assert!(rt; shows(alloc, &PositionFault::OutOfMemory, "memory"));
-    assert!(rt; shows(alloc, &BindFault::OutOfMemory, "memory"));
-    assert!(rt; shows(alloc, &BookFault::OutOfMemory, "memory"));
-    assert!(rt; shows(alloc, &ShelfFault::OutOfMemory, "memory"));
-    assert!(rt; shows(alloc, &PoolFault::OutOfMemory, "memory"));
-    assert!(rt; shows(alloc, &ReadFault::OutOfMemory, "memory"));
+fn of_memory(rt: &impl Abort, alloc: Global) -> Result<(), Fail> {
+    is_shown(rt, alloc, &ParamFault::OutOfMemory, "memory")?;
+    is_shown(rt, alloc, &CheckFault::OutOfMemory, "memory")?;
+    is_shown(rt, alloc, &PositionFault::OutOfMemory, "memory")?;
+    is_shown(rt, alloc, &BindFault::OutOfMemory, "memory")?;
+    is_shown(rt, alloc, &BookFault::OutOfMemory, "memory")?;
+    is_shown(rt, alloc, &ShelfFault::OutOfMemory, "memory")?;
+    is_shown(rt, alloc, &PoolFault::OutOfMemory, "memory")?;
+    is_shown(rt, alloc, &ReadFault::OutOfMemory, "memory")
 }
 
 #[test]
-fn texts_of_faults(rt: HostRuntime) {
+fn texts_of_faults(rt: HostRuntime) -> Result<(), Fail> {
     let alloc = rt.alloc();
-    of_records_and_books(&rt, alloc);
-    of_accounts_and_sets(&rt, alloc);
-    of_calls(&rt, alloc);
-    of_memory(&rt, alloc);
+    of_records_and_books(&rt, alloc)?;
+    of_accounts_and_sets(&rt, alloc)?;
+    of_calls(&rt, alloc)?;
+    of_memory(&rt, alloc)
 }
 
 // A writer that has no room for the whole line refuses it.

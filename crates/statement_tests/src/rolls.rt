@@ -1,5 +1,4 @@
 //! Rolls: the bytes of both statements, the thread beside the first batch, and what stays in the book.
-use crate::builders::gives;
 use param_check::faults::BindFault;
 use result_book::books::ResultBook;
 use sample_files::calendar::{BOTH_STATEMENTS, NEXT, NEXT_WITHOUT_A_CONTRACT, PARAMS, POSITIONS};
@@ -12,31 +11,24 @@ use std::process::Abort;
 use std::sync::atomic::AtomicBool;
 use std::sync::atomic::Ordering::SeqCst;
 use std::sync::{Mutex, Wait};
+use std::test::Fail;
 use std::thread;
 use std::thread::Threads;
 use std::time::Clock;
 use worker_pool::batch::MAX_WORKERS;
 use worker_pool::gates::{Gate, OpenGate};
 
-// What a roll to the next set gives on so many workers.
-fn roll_to_next<R: Threads + Wait + Clock + Sync, G: Gate>(
-    rt: &R,
-    alloc: Global,
-    workers: usize,
-    gate: &G,
-    book: &Mutex<ResultBook>,
-) -> Result<Vec<u8>, SpanFault> {
-    roll(rt, alloc, PARAMS, NEXT, POSITIONS, workers, gate, book)
-}
-
 #[test]
-fn two_statements_on_each_number_of_workers(rt: HostRuntime) {
+fn two_statements_on_each_number_of_workers(rt: HostRuntime) -> Result<(), Fail> {
     let alloc = rt.alloc();
     for workers in [1, 2, 4, MAX_WORKERS] {
         let book = Mutex::new(ResultBook::new(alloc));
-        let text = roll_to_next(&rt, alloc, workers, &OpenGate, &book);
-        assert!(rt; gives(text, BOTH_STATEMENTS), "{workers} workers");
+        let text = roll(
+            &rt, alloc, PARAMS, NEXT, POSITIONS, workers, &OpenGate, &book,
+        )?;
+        assert_eq!(rt; text.as_slice(), BOTH_STATEMENTS);
     }
+    Ok(())
 }
 
 // The thread of the next set and the first step of the first batch wait for each other. When the turns of one of them are used up,
@@ -73,7 +65,7 @@ impl Gate for Beside {
 }
 
 #[test]
-fn the_next_set_beside_the_first_batch(rt: HostRuntime) {
+fn the_next_set_beside_the_first_batch(rt: HostRuntime) -> Result<(), Fail> {
     let alloc = rt.alloc();
     let book = Mutex::new(ResultBook::new(alloc));
     let gate = Beside {
@@ -81,53 +73,27 @@ fn the_next_set_beside_the_first_batch(rt: HostRuntime) {
         of_batch: AtomicBool::new(false),
         late: AtomicBool::new(false),
     };
-    assert!(rt; gives(roll_to_next(&rt, alloc, 1, &gate, &book), BOTH_STATEMENTS));
+    let text = roll(&rt, alloc, PARAMS, NEXT, POSITIONS, 1, &gate, &book)?;
+    assert_eq!(rt; text.as_slice(), BOTH_STATEMENTS);
     assert!(rt; !gate.late.load(SeqCst));
-}
-
-// Whether a batch of a book has one row, which is that of X under the set of this id.
-fn has_row(book: &ResultBook, batch: u64, set: &[u8], total: i128) -> bool {
-    match book.rows(batch) {
-        Ok(rows) => {
-            rows.len() == 1
-                && rows.iter().all(|row| {
-                    row.account().as_bytes() == b"X".as_slice()
-                        && row.set_id().as_bytes() == set
-                        && row.total().get() == total
-                })
-        }
-        Err(_) => false,
-    }
-}
-
-fn has_row_of_today(book: &ResultBook, batch: u64) -> bool {
-    has_row(book, batch, b"D1", 1740)
-}
-
-fn has_row_of_next(book: &ResultBook, batch: u64) -> bool {
-    has_row(book, batch, b"D2", 1840)
-}
-
-fn has_no_row(book: &ResultBook, batch: u64) -> bool {
-    match book.rows(batch) {
-        Ok(rows) => rows.is_empty(),
-        Err(_) => false,
-    }
+    Ok(())
 }
 
 #[test]
-fn rows_of_both_batches_in_the_book(rt: HostRuntime) {
+fn rows_of_both_batches_in_the_book(rt: HostRuntime) -> Result<(), Fail> {
     let alloc = rt.alloc();
     let book = Mutex::new(ResultBook::new(alloc));
-    assert!(rt;
-        gives(
-            roll_to_next(&rt, alloc, 1, &OpenGate, &book),
-            BOTH_STATEMENTS
-        )
-    );
+    roll(&rt, alloc, PARAMS, NEXT, POSITIONS, 1, &OpenGate, &book)?;
     let book = book.into_inner();
-    assert!(rt; has_row_of_today(&book, 1) && has_row_of_next(&book, 2));
-    assert!(rt; has_no_row(&book, 3));
+    for (batch, id, total) in [(1, b"D1", 1740), (2, b"D2", 1840)] {
+        let rows = book.rows(batch)?;
+        assert_eq!(rt; rows.len(), 1);
+        assert_eq!(rt; rows[0].set_id().as_bytes(), id.as_slice());
+        assert_eq!(rt; rows[0].account().as_bytes(), b"X".as_slice());
+        assert_eq!(rt; rows[0].total().get(), total);
+    }
+    assert!(rt; book.rows(3)?.is_empty());
+    Ok(())
 }
 
 // A roll with this next set is refused so, and what the first batch put stays in the book.
@@ -136,49 +102,53 @@ fn rows_stay<R: Threads + Wait + Clock + Sync + Abort>(
     alloc: Global,
     next: &[u8],
     fault: SpanFault,
-) {
+) -> Result<(), Fail> {
     let book = Mutex::new(ResultBook::new(alloc));
     let refused = roll(rt, alloc, PARAMS, next, POSITIONS, 1, &OpenGate, &book);
     assert!(rt; refused == Err(fault));
-    let book = book.into_inner();
-    assert!(rt; has_row_of_today(&book, 1) && has_no_row(&book, 2));
+    let rows = book.into_inner().rows(1)?;
+    assert_eq!(rt; rows.len(), 1);
+    assert_eq!(rt; rows[0].set_id().as_bytes(), b"D1".as_slice());
+    assert_eq!(rt; rows[0].total().get(), 1740);
+    Ok(())
 }
 
 #[test]
-fn rows_of_the_first_batch_stay(rt: HostRuntime) {
+fn rows_of_the_first_batch_stay(rt: HostRuntime) -> Result<(), Fail> {
     let alloc = rt.alloc();
-    let account = Name::new(b"X").expect(&rt, "a name");
+    let account = Name::new(b"X").ok_or("a name")?;
     let unknown = BindFault::UnknownContract { at: 2, account };
     rows_stay(
         &rt,
         alloc,
         NEXT_WITHOUT_A_CONTRACT,
         SpanFault::NextBind(unknown),
-    );
+    )?;
     let no_set = ParamFault::NoSet { at: 0 };
-    rows_stay(&rt, alloc, b"", SpanFault::NextParams(no_set));
+    rows_stay(&rt, alloc, b"", SpanFault::NextParams(no_set))
 }
 
 #[test]
-fn two_threads_on_one_book(rt: HostRuntime) {
+fn two_threads_on_one_book(rt: HostRuntime) -> Result<(), Fail> {
     let alloc = rt.alloc();
     let book = Mutex::new(ResultBook::new(alloc));
     let (one, other) = thread::join(
         &rt,
-        || roll_to_next(&rt, alloc, 2, &OpenGate, &book),
-        || roll_to_next(&rt, alloc, 2, &OpenGate, &book),
+        || roll(&rt, alloc, PARAMS, NEXT, POSITIONS, 2, &OpenGate, &book),
+        || roll(&rt, alloc, PARAMS, NEXT, POSITIONS, 2, &OpenGate, &book),
     );
-    assert!(rt; gives(one, BOTH_STATEMENTS));
-    assert!(rt; gives(other, BOTH_STATEMENTS));
+    assert_eq!(rt; one?.as_slice(), BOTH_STATEMENTS);
+    assert_eq!(rt; other?.as_slice(), BOTH_STATEMENTS);
     let book = book.into_inner();
     let mut of_today = 0usize;
     for batch in 1..5 {
-        if has_row_of_today(&book, batch) {
+        let rows = book.rows(batch)?;
+        assert_eq!(rt; rows.len(), 1);
+        if rows[0].set_id().as_bytes() == b"D1".as_slice() {
             of_today = of_today.saturating_add(1);
-        } else {
-            assert!(rt; has_row_of_next(&book, batch));
         }
     }
     assert_eq!(rt; of_today, 2);
-    assert!(rt; has_no_row(&book, 5));
+    assert!(rt; book.rows(5)?.is_empty());
+    Ok(())
 }

@@ -9,6 +9,7 @@ use std::alloc::Global;
 use std::io;
 use std::io::{ErrorKind, Write};
 use std::sync::Wait;
+use std::test::Fail;
 use std::thread::Threads;
 use std::time::Clock;
 use worker_pool::gates::OpenGate;
@@ -93,7 +94,7 @@ fn run_into<W: Write, E: Write, R: Threads + Wait + Clock + Sync>(
 }
 
 #[test]
-fn says_that_the_output_failed(rt: HostRuntime) {
+fn says_that_the_output_failed(rt: HostRuntime) -> Result<(), Fail> {
     let alloc = rt.alloc();
     let lines: [&[&str]; 3] = [
         &["span", "margin", "params.csv", "positions.csv"],
@@ -107,6 +108,7 @@ fn says_that_the_output_failed(rt: HostRuntime) {
             assert!(rt; err.as_slice() == b"file: output\n".as_slice());
         }
     }
+    Ok(())
 }
 
 #[test]
@@ -131,7 +133,7 @@ fn keeps_its_status_where_the_error_stream_fails(rt: HostRuntime) {
 }
 
 #[test]
-fn keeps_its_status_where_both_streams_fail(rt: HostRuntime) {
+fn keeps_its_status_where_both_streams_fail(rt: HostRuntime) -> Result<(), Fail> {
     let words = ["span", "margin", "params.csv", "positions.csv"];
     let (status, _, _) = run_into(
         &rt,
@@ -141,11 +143,12 @@ fn keeps_its_status_where_both_streams_fail(rt: HostRuntime) {
         Breaking { room: 0 },
     );
     assert_eq!(rt; status, 6);
+    Ok(())
 }
 
 // A word that is no text is a mistake of usage; another fault in reading the words is want of memory.
 #[test]
-fn refuses_words_that_cannot_be_read(rt: HostRuntime) {
+fn refuses_words_that_cannot_be_read(rt: HostRuntime) -> Result<(), Fail> {
     let cases: [(ErrorKind, u8, &[u8]); 2] = [
         (
             ErrorKind::InvalidData,
@@ -159,4 +162,5 @@ fn refuses_words_that_cannot_be_read(rt: HostRuntime) {
         assert_eq!(rt; refuse_words(&io::Error::from(kind), &mut err), status);
         assert!(rt; err.into_inner().as_slice() == line);
     }
+    Ok(())
 }
