@@ -1,21 +1,23 @@
 //! What calls answer where one growth of memory is refused: what they answer with ample memory, or want of memory.
 //! Nothing is lost then, and the next call works: a case that was refused is run once more, and has to come to its end.
 ghost use Rattle.std.specs.Arc.{arc_value};
-ghost use Rattle.std.specs.Prelude.{◌≡◌, IfOk, length, true};
+ghost use Rattle.std.specs.Prelude.{◌≡◌, All, IfOk, length, true};
 ghost use Rattle.span_tables.specs.Holdings.{fits};
 
-use crate::files::{portfolios_of, set_of};
-use crate::streams::margin_into;
 use param_check::binding::bind;
 use param_check::check::check;
 use plan_compiler::set::{CompiledSet, compile};
 use plan_shelf::faults::ShelfFault;
 use plan_shelf::history::{History, ShelfName};
+use plan_shelf::publishers::{Publisher, Told};
+use plan_shelf::readers::Reader;
 use plan_shelf::shelves::shelf;
 use result_book::books::{BookFault, ResultBook};
 use result_book::rows::Row;
 use sample_files::three_commodities::{PARAMS, POSITIONS, STATEMENT};
 use sample_files::{calendar, one_future};
+use sample_sets::boards::board_of;
+use sample_sets::files::{accounts_of, job_of, set_of};
 use span_csv::params::read_params;
 use span_csv::positions::read_positions;
 use span_tables::name::Name;
@@ -23,7 +25,7 @@ use span_tables::portfolios::Portfolio;
 use statement::faults::SpanFault;
 use statement::margin::{margin, margin_plain};
 use statement::roll::roll;
-use std::alloc::{AllocError, Global};
+use std::alloc::Global;
 use std::marker::Brand;
 use std::process::Abort;
 use std::sync::{Arc, Mutex, Wait};
@@ -110,37 +112,6 @@ fn statement_on_four_workers(rt: HostRuntime) -> Result<(), Fail> {
     Ok(())
 }
 
-// What is printed of the files, on streams in memory. Where these cannot grow, the output has failed.
-fn printed<R: Threads + Wait + Clock + Sync + Abort>(
-    rt: &R,
-    alloc: Global,
-) -> Result<(), SpanFault> {
-    let (status, out, err) = margin_into(rt, alloc, PARAMS, usize::MAX, usize::MAX);
-    let is_right = match status {
-        0 => out.as_slice() == STATEMENT && err.is_empty(),
-        5 => out.is_empty() && err.as_slice() == b"memory\n".as_slice(),
-        6 => {
-            STATEMENT.starts_with(out.as_slice()) && err.as_slice() == b"file: output\n".as_slice()
-        }
-        _ => false,
-    };
-    assert!(rt; is_right, "status {status}");
-    if status == 0 {
-        Ok(())
-    } else {
-        Err(SpanFault::Memory)
-    }
-}
-
-#[test]
-fn statement_printed(rt: HostRuntime) -> Result<(), Fail> {
-    let alloc = rt.alloc();
-    if was_refused(printed(&rt, alloc))? {
-        printed(&rt, alloc)?;
-    }
-    Ok(())
-}
-
 // The word for an outcome of this account, which has this total where it has a row.
 fn word_of(outcome: &Outcome, account: &[u8], total: i128) -> Option<&'static str> {
     match outcome {
@@ -162,6 +133,45 @@ pub(crate) struct TwoAccounts {
     pub(crate) second_total: i128,
 }
 
+// The outcomes of a batch, or want of memory.
+fn outcomes_of<R: Threads + Wait + Clock + Sync + Abort, G: Gate>(
+    rt: &R,
+    alloc: Global,
+    set: &Arc<CompiledSet>,
+    portfolios: Vec<Portfolio>,
+    workers: usize,
+    gate: &G,
+) -> Result<Vec<Outcome>, SpanFault>
+    requires { All (λ p. fits (length (arc_value set.now).tables.contracts) p.holdings ≡ true) portfolios.items }
+{
+    match run_batch(rt, alloc, set, portfolios, workers, gate) {
+        Ok(outcomes) => Ok(outcomes),
+        Err(fault) => {
+            assert!(rt; fault == PoolFault::OutOfMemory);
+            Err(SpanFault::Memory)
+        }
+    }
+}
+
+// The words for the outcomes of two accounts.
+fn words_of(
+    rt: &impl Abort,
+    accounts: &TwoAccounts,
+    outcomes: &[Outcome],
+) -> (&'static str, &'static str) {
+    match outcomes {
+        [first, second] => {
+            let first = word_of(first, accounts.first, accounts.first_total);
+            let second = word_of(second, accounts.second, accounts.second_total);
+            (
+                first.expect(rt, "the first account's outcome"),
+                second.expect(rt, "the second account's outcome"),
+            )
+        }
+        _ => panic!(rt; "not two outcomes"),
+    }
+}
+
 /// What a batch of two accounts gives for each of them.
 pub(crate) fn words_of_two<R: Threads + Wait + Clock + Sync + Abort, G: Gate>(
     rt: &R,
@@ -170,21 +180,10 @@ pub(crate) fn words_of_two<R: Threads + Wait + Clock + Sync + Abort, G: Gate>(
     workers: usize,
     gate: &G,
 ) -> Result<(&'static str, &'static str), SpanFault> {
-    let set = set_of(alloc, accounts.params)?;
-    let portfolios = portfolios_of(alloc, &set, accounts.positions)?;
-    let outcomes = match run_batch(rt, alloc, &set, portfolios, workers, gate) {
-        Ok(outcomes) => outcomes,
-        Err(fault) => {
-            assert!(rt; fault == PoolFault::OutOfMemory);
-            return Err(SpanFault::Memory);
-        }
-    };
-    assert_eq!(rt; outcomes.len(), 2);
-    let first = word_of(&outcomes[0], accounts.first, accounts.first_total);
-    let second = word_of(&outcomes[1], accounts.second, accounts.second_total);
-    let first = first.expect(rt, "the first account's outcome");
-    let second = second.expect(rt, "the second account's outcome");
-    Ok((first, second))
+    let set = set_of(alloc, accounts.params).ok_or(SpanFault::Memory)?;
+    let portfolios = accounts_of(alloc, &set, accounts.positions).ok_or(SpanFault::Memory)?;
+    let outcomes = outcomes_of(rt, alloc, &set, portfolios, workers, gate)?;
+    Ok(words_of(rt, accounts, &outcomes))
 }
 
 // Y is long two futures and X short one.
@@ -223,30 +222,44 @@ fn batch_of_two_accounts(rt: HostRuntime) -> Result<(), Fail> {
 
 // The row of an account that is short one future, which loses 1200.
 fn short_row(alloc: Global) -> Result<Arc<Row>, SpanFault> {
-    let set = set_of(alloc, one_future::PARAMS)?;
-    let portfolios = portfolios_of(alloc, &set, b"X,FA,-1\n")?;
+    let set = set_of(alloc, one_future::PARAMS).ok_or(SpanFault::Memory)?;
+    let portfolios = accounts_of(alloc, &set, b"X,FA,-1\n").ok_or(SpanFault::Memory)?;
     match run_plain(alloc, &set, portfolios)?.pop() {
         Some(Outcome::Margined(row)) => Ok(row),
         _ => Err(SpanFault::Memory),
     }
 }
 
-// A put, and where it is refused the same put again.
-fn put_row<R: Abort>(rt: &R, alloc: Global) -> Result<(), SpanFault> {
-    let row = short_row(alloc)?;
-    let account = Name::new(b"X").expect(rt, "a name");
-    let mut book = ResultBook::new(alloc);
-    let batch = book.open_batch()?;
+// The total of X in a batch, if it has a row there.
+fn total_in(book: &ResultBook, batch: u64) -> Option<i128> {
+    let name = Name::new(b"X")?;
+    Some(book.get(batch, &name)?.total().get())
+}
+
+// Puts a row in a batch. Where that is refused, nothing is there, and the same put again is not refused.
+fn put_again(
+    rt: &impl Abort,
+    book: &mut ResultBook,
+    batch: u64,
+    row: Arc<Row>,
+) -> Result<(), SpanFault> {
     if let Err(refused) = book.put(batch, row) {
         assert!(rt; refused.fault == BookFault::OutOfMemory);
         assert_eq!(rt; refused.row.total().get(), 1200);
-        assert!(rt; book.get(batch, &account).is_none());
+        assert!(rt; total_in(book, batch).is_none());
         assert!(rt; book.rows(batch)?.is_empty());
         assert!(rt; book.put(batch, refused.row).is_ok());
     }
+    Ok(())
+}
+
+fn put_row(rt: &impl Abort, alloc: Global) -> Result<(), SpanFault> {
+    let row = short_row(alloc)?;
+    let mut book = ResultBook::new(alloc);
+    let batch = book.open_batch()?;
+    put_again(rt, &mut book, batch, row)?;
     assert_eq!(rt; book.rows(batch)?.len(), 1);
-    let row = book.get(batch, &account).expect(rt, "the row");
-    assert_eq!(rt; row.total().get(), 1200);
+    assert!(rt; total_in(&book, batch) == Some(1200));
     Ok(())
 }
 
@@ -259,7 +272,37 @@ fn put(rt: HostRuntime) -> Result<(), Fail> {
     Ok(())
 }
 
-// A publication, and where it is refused the same again.
+// Publishes a set. Where that is refused, nothing is current, and the same again is not refused.
+fn publish_again<S: ShelfName, R: Wait + Abort>(
+    rt: &R,
+    publisher: &mut Publisher<S, &R>,
+    reader: &mut Reader<S>,
+    set: Arc<CompiledSet>,
+) -> Result<Told<S>, SpanFault> {
+    match publisher.publish(set) {
+        Ok(told) => Ok(told),
+        Err(refused) => {
+            assert!(rt; refused.cause == ShelfFault::OutOfMemory);
+            assert!(rt; reader.current(rt)?.is_none());
+            Ok(publisher.publish(refused.set)?)
+        }
+    }
+}
+
+// The reader finds the first publication, of twelve steps, once it has learned of it.
+fn finds_first<S: ShelfName, R: Wait + Abort>(
+    rt: &R,
+    reader: &mut Reader<S>,
+    told: Told<S>,
+) -> Result<(), SpanFault> {
+    assert_eq!(rt; told.number(), 1);
+    reader.learn(told);
+    let (number, set) = reader.current(rt)?.expect(rt, "a current set");
+    assert_eq!(rt; number, 1);
+    assert_eq!(rt; set.plan().len(), 12);
+    Ok(())
+}
+
 fn publish_set<S: ShelfName, R: Wait + Abort>(
     rt: &R,
     alloc: Global,
@@ -267,22 +310,11 @@ fn publish_set<S: ShelfName, R: Wait + Abort>(
 ) -> Result<(), SpanFault>
     requires { history ≡ S.book }
 {
+    let set = set_of(alloc, one_future::PARAMS).ok_or(SpanFault::Memory)?;
     let (mut publisher, mut readers) = shelf::<S, &R>(rt, alloc, history, 1)?;
     let mut reader = readers.pop().expect(rt, "a reader");
-    let told = match publisher.publish(set_of(alloc, one_future::PARAMS)?) {
-        Ok(told) => told,
-        Err(refused) => {
-            assert!(rt; refused.cause == ShelfFault::OutOfMemory);
-            assert!(rt; reader.current(rt)?.is_none());
-            publisher.publish(refused.set)?
-        }
-    };
-    assert_eq!(rt; told.number(), 1);
-    reader.learn(told);
-    let (number, set) = reader.current(rt)?.expect(rt, "a current set");
-    assert_eq!(rt; number, 1);
-    assert_eq!(rt; set.plan().len(), 12);
-    Ok(())
+    let told = publish_again(rt, &mut publisher, &mut reader, set)?;
+    finds_first(rt, &mut reader, told)
 }
 
 #[test]
@@ -292,12 +324,6 @@ fn publish(rt: HostRuntime) -> Result<(), Fail> {
         publish_set::<Brand, _>(&rt, alloc, History::new())?;
     }
     Ok(())
-}
-
-// The total of X in a batch, if it has a row there.
-fn total_in(book: &ResultBook, batch: u64) -> Option<i128> {
-    let name = Name::new(b"X")?;
-    Some(book.get(batch, &name)?.total().get())
 }
 
 // Two statements, or the rows that were put before want of memory. A shelf that cannot be read for want of memory is
@@ -364,19 +390,13 @@ fn is_failed<R: Abort>(
     requires { board.old.job ≡ arc_value job.now }
     ensures { board.new.job ≡ board.old.job }
 {
-    let mut other = Board::new(alloc, Arc::try_clone(job)?)?;
+    let mut other = board_of(alloc, job).ok_or(SpanFault::Memory)?;
     let task = next_task(rt, &mut other)?;
     let finished = evaluate(alloc, task);
     assert!(rt; board.finish(finished) == Err(Refused::Failed));
     assert!(rt; board.take_ready()?.is_none());
     assert!(rt; !board.is_complete() && board.total().is_none());
     Ok(())
-}
-
-fn job_of(alloc: Global, set: Arc<CompiledSet>, account: Portfolio) -> Result<Arc<Job>, AllocError>
-    requires { fits (length (arc_value set).tables.contracts) account.holdings ≡ true }
-{
-    Ok(Arc::new(alloc, Job::new(set, account, 0))?)
 }
 
 // Each step of a board of this job: a value is kept, and the mark of want of memory makes the board fail.
@@ -398,13 +418,8 @@ fn run<R: Abort>(rt: &R, alloc: Global, job: &Arc<Job>, board: &mut Board) -> Re
 }
 
 fn run_steps<R: Abort>(rt: &R, alloc: Global) -> Result<(), SpanFault> {
-    let set = set_of(alloc, PARAMS)?;
-    let account = portfolios_of(alloc, &set, POSITIONS)?
-        .pop()
-        .expect(rt, "an account");
-    assert!(rt; account.fits(set.tables()));
-    let job = job_of(alloc, set, account)?;
-    let mut board = Board::new(alloc, Arc::try_clone(&job)?)?;
+    let job = job_of(alloc, PARAMS, POSITIONS).ok_or(SpanFault::Memory)?;
+    let mut board = board_of(alloc, &job).ok_or(SpanFault::Memory)?;
     run(rt, alloc, &job, &mut board)?;
     assert!(rt; board.total().map(|total| total.get()) == Some(3450));
     Ok(())

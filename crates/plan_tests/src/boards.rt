@@ -2,8 +2,9 @@
 ghost use Rattle.std.specs.Prelude.{◌≡◌, IfSome};
 ghost use Rattle.std.specs.Arc.{arc_value};
 
-use crate::files::job_of;
 use sample_files::{one_future, three_commodities};
+use sample_sets::boards::{board_of, next_task};
+use sample_sets::files::job_of;
 use span_tables::portfolios::Portfolio;
 use std::alloc::Global;
 use std::process::Abort;
@@ -14,23 +15,6 @@ use step_scheduler::finished::Finished;
 use step_scheduler::jobs::Job;
 use step_scheduler::tasks::Task;
 
-/// A new board of a job.
-pub(crate) fn board_of(rt: &impl Abort, alloc: Global, job: &Arc<Job>) -> Board
-    ensures { result.job ≡ arc_value job.now }
-{
-    let job = Arc::try_clone(job).expect(rt, "a hold on the job");
-    Board::new(alloc, job).expect(rt, "a board")
-}
-
-/// The next task of a board.
-pub(crate) fn next_task(rt: &impl Abort, board: &mut Board) -> Task
-    ensures job { board.new.job ≡ board.old.job }
-    ensures task { result.job ≡ board.old.job }
-{
-    let task = board.take_ready().expect(rt, "memory for a task");
-    task.expect(rt, "a task")
-}
-
 // The task of the first step, of the three that a new board of one future hands out.
 fn first_task(rt: &impl Abort, board: &mut Board) -> Task
     ensures board { board.new.job ≡ board.old.job }
@@ -38,7 +22,7 @@ fn first_task(rt: &impl Abort, board: &mut Board) -> Task
 {
     let mut first = None;
     for _ in 0..3 {
-        let task = next_task(rt, board);
+        let task = next_task(board).expect(rt, "a task");
         if task.step() == 0 {
             first = Some(task);
         }
@@ -50,14 +34,14 @@ fn first_task(rt: &impl Abort, board: &mut Board) -> Task
 fn result_of(rt: &impl Abort, alloc: Global, job: &Arc<Job>, step: usize) -> Finished
     ensures { result.job ≡ arc_value job.now }
 {
-    let mut board = board_of(rt, alloc, job);
-    let mut finished = evaluate(alloc, next_task(rt, &mut board));
+    let mut board = board_of(alloc, job).expect(rt, "a board");
+    let mut finished = evaluate(alloc, next_task(&mut board).expect(rt, "a task"));
     for _ in 0..job.plan().len() {
         if finished.step() == step {
             return finished;
         }
         assert!(rt; board.finish(finished) == Ok(()));
-        finished = evaluate(alloc, next_task(rt, &mut board));
+        finished = evaluate(alloc, next_task(&mut board).expect(rt, "a task"));
     }
     finished
 }
@@ -76,10 +60,10 @@ fn expect_refused(rt: &impl Abort, board: &mut Board, finished: Finished, reason
 #[test]
 fn results_on_other_boards(rt: HostRuntime) {
     let alloc = rt.alloc();
-    let job = job_of(&rt, alloc, one_future::PARAMS, one_future::POSITIONS);
-    let mut a = board_of(&rt, alloc, &job);
+    let job = job_of(alloc, one_future::PARAMS, one_future::POSITIONS).expect(&rt, "a job");
+    let mut a = board_of(alloc, &job).expect(&rt, "a board");
     let of_a = first_task(&rt, &mut a);
-    let mut b = board_of(&rt, alloc, &job);
+    let mut b = board_of(alloc, &job).expect(&rt, "a board");
     let of_b = first_task(&rt, &mut b);
     assert!(rt; a.finish(evaluate(alloc, of_a)) == Ok(()));
     expect_refused(&rt, &mut a, evaluate(alloc, of_b), Refused::NotTaken);
@@ -131,7 +115,7 @@ fn run_among_strangers(rt: &impl Abort, alloc: Global, board: &mut Board, equal:
 {
     for _ in 0..equal.plan().len() {
         offer_strangers(rt, alloc, board, equal);
-        let task = next_task(rt, board);
+        let task = next_task(board).expect(rt, "a task");
         assert!(rt; board.finish(evaluate(alloc, task)) == Ok(()));
     }
     offer_strangers(rt, alloc, board, equal);
@@ -160,13 +144,13 @@ fn has_figures(
 fn results_of_strangers(rt: HostRuntime) {
     let alloc = rt.alloc();
     let job = job_of(
-        &rt,
         alloc,
         three_commodities::PARAMS,
         three_commodities::POSITIONS,
-    );
+    )
+    .expect(&rt, "a job");
     let equal = equal_job(&rt, alloc, &job);
-    let mut board = board_of(&rt, alloc, &job);
+    let mut board = board_of(alloc, &job).expect(&rt, "a board");
     run_among_strangers(&rt, alloc, &mut board, &equal);
     assert!(rt; has_figures(&board, 0, 3600, 840, 2760));
     assert!(rt; has_figures(&board, 1, 900, 450, 450));

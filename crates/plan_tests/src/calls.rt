@@ -1,13 +1,10 @@
 //! Each call that may give up, once, where there is memory: no clause says that it succeeds. What it answers was worked by
 //! hand: the account is long one future, which loses 1200 at most.
 //!
-//! The calls of a shelf, of deques and of the queue are those of `one_reader` and `front_and_back`.
+//! The calls of a shelf are those of `one_reader`.
 ghost use Rattle.std.specs.Prelude.{◌≡◌, length, true};
 ghost use Rattle.span_tables.specs.Holdings.{fits};
 
-use crate::batches::{TWO_ACCOUNTS, are_rows_of_both};
-use crate::boards::{board_of, next_task};
-use crate::files::{account_of, accounts_of, tables_of};
 use plan_compiler::set::{CompiledSet, compile};
 use plan_ir::evaluation::{apply, apply_beside};
 use plan_ir::listing::list;
@@ -19,27 +16,23 @@ use plan_ir::values::Value;
 use result_book::books::ResultBook;
 use result_book::rows::Row;
 use sample_files::one_future::{PARAMS, POSITIONS};
+use sample_sets::boards::{board_of, next_task};
+use sample_sets::files::{account_of, tables_of};
 use span_tables::portfolios::Portfolio;
 use span_tables::tables::Tables;
 use std::alloc::Global;
 use std::process::Abort;
-use std::sync::{Arc, Wait};
-use std::thread::Threads;
-use std::time::Clock;
+use std::sync::Arc;
 use step_scheduler::evaluation::evaluate;
 use step_scheduler::jobs::Job;
-use worker_pool::batch::run_batch;
-use worker_pool::gates::OpenGate;
-use worker_pool::plain::{run_account, run_plain};
 
 #[test]
 fn calls_succeed(rt: HostRuntime) {
     let alloc = rt.alloc();
     plan_listed(&rt, alloc);
     let set = set_compiled(&rt, alloc);
-    let account = account_of(&rt, alloc, &set, POSITIONS);
+    let account = account_of(alloc, &set, POSITIONS).expect(&rt, "an account");
     values_of_steps(&rt, alloc, set.tables(), &account);
-    batches(&rt, alloc, &set);
     let job = Arc::new(alloc, Job::new(set, account, 0)).ok();
     let row = board_run(&rt, alloc, &job.expect(&rt, "a job"));
     row_kept(&rt, alloc, row);
@@ -58,7 +51,7 @@ fn plan_listed(rt: &impl Abort, alloc: Global) {
 
 // `plan_compiler`: a set of twelve steps, and another one of them.
 fn set_compiled(rt: &impl Abort, alloc: Global) -> Arc<CompiledSet> {
-    let set = compile(alloc, tables_of(rt, alloc, PARAMS)).expect(rt, "a set");
+    let set = compile(alloc, tables_of(alloc, PARAMS).expect(rt, "tables")).expect(rt, "a set");
     assert!(rt; set.plan().len() == 12);
     let another = set.another(alloc).expect(rt, "another");
     assert!(rt; another.plan().len() == 12);
@@ -87,8 +80,8 @@ fn values_of_steps(rt: &impl Abort, alloc: Global, tables: &Tables, account: &Po
 
 // `step_scheduler` and `result_book`: a board that is run to its end, one step of it by a task, and its row.
 fn board_run(rt: &impl Abort, alloc: Global, job: &Arc<Job>) -> Arc<Row> {
-    let mut board = board_of(rt, alloc, job);
-    let task = next_task(rt, &mut board);
+    let mut board = board_of(alloc, job).expect(rt, "a board");
+    let task = next_task(&mut board).expect(rt, "a task");
     assert!(rt; board.finish(evaluate(alloc, task)) == Ok(()));
     for _ in 1..job.plan().len() {
         assert!(rt;
@@ -109,21 +102,4 @@ fn row_kept(rt: &impl Abort, alloc: Global, row: Arc<Row>) {
     assert!(rt; book.open_batch() == Ok(1));
     assert!(rt; book.put(1, row).is_ok());
     assert!(rt; book.rows(1).expect(rt, "rows").len() == 1);
-}
-
-// `worker_pool`: an account, two accounts, and two accounts on two workers.
-fn batches<R: Threads + Wait + Clock + Sync + Abort>(
-    rt: &R,
-    alloc: Global,
-    set: &Arc<CompiledSet>,
-) {
-    let account = account_of(rt, alloc, set, POSITIONS);
-    let row = run_account(alloc, set, account).expect(rt, "a row");
-    assert!(rt; row.total().get() == 1200);
-    let accounts = accounts_of(rt, alloc, set, TWO_ACCOUNTS);
-    let outcomes = run_plain(alloc, set, accounts).expect(rt, "outcomes");
-    assert!(rt; are_rows_of_both(&outcomes));
-    let accounts = accounts_of(rt, alloc, set, TWO_ACCOUNTS);
-    let outcomes = run_batch(rt, alloc, set, accounts, 2, &OpenGate).expect(rt, "outcomes");
-    assert!(rt; are_rows_of_both(&outcomes));
 }

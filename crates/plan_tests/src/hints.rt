@@ -3,7 +3,6 @@ ghost use Rattle.std.specs.Arc.{arc_value};
 ghost use Rattle.std.specs.Prelude.{◌≡◌, ◌≤◌, ◌++◌, ◌∷◌, [], length, map};
 ghost use Rattle.span_tables.specs.declared.limits.TheConstants.{MAX_PRICE2};
 
-use crate::files::{set_of, tables_of};
 use inter_credit::state::empty;
 use plan_ir::evaluation::changes_nothing;
 use plan_ir::figures::Figures;
@@ -11,6 +10,7 @@ use plan_ir::nothing::NothingHeld;
 use plan_ir::ops::Op;
 use plan_ir::values::Value;
 use sample_files::one_future::PARAMS;
+use sample_sets::files::{set_of, tables_of};
 use scan_risk::Scan;
 use span_money::amounts::Money;
 use span_tables::held::Held;
@@ -28,7 +28,7 @@ fn expect_kept(rt: &impl Abort, nothing: &NothingHeld, op: Op, first: &Value) {
 // Each operation on no contracts, on no months and on sums of 0 has its value kept; one on the tiers of nothing has not.
 #[test]
 fn values_of_nothing_held(rt: HostRuntime) {
-    let set = set_of(&rt, rt.alloc(), PARAMS);
+    let set = set_of(rt.alloc(), PARAMS).expect(&rt, "a set");
     let nothing = set.nothing_held();
     expect_kept(&rt, nothing, Op::Sums(0), nothing.held());
     expect_kept(&rt, nothing, Op::Months(0), nothing.held());
@@ -74,7 +74,7 @@ fn is_load_of_nothing(rt: &impl Abort, alloc: Global, tables: &Tables, price2: u
 // A load of a commodity of which nothing is held changes nothing; one with a price risk may.
 #[test]
 fn load_of_nothing(rt: HostRuntime) {
-    let tables = tables_of(&rt, rt.alloc(), PARAMS);
+    let tables = tables_of(rt.alloc(), PARAMS).expect(&rt, "tables");
     assert!(rt; tables.commodities().len() == 1);
     assert!(rt; is_load_of_nothing(&rt, rt.alloc(), &tables, 0));
     assert!(rt; !is_load_of_nothing(&rt, rt.alloc(), &tables, 2400));
@@ -83,7 +83,7 @@ fn load_of_nothing(rt: HostRuntime) {
 // A total with a requirement of 0 stays as it is.
 #[test]
 fn total_of_nothing(rt: HostRuntime) {
-    let tables = tables_of(&rt, rt.alloc(), PARAMS);
+    let tables = tables_of(rt.alloc(), PARAMS).expect(&rt, "tables");
     assert!(rt; tables.commodities().len() == 1);
     let none = Figures {
         scan: Money::new(0),

@@ -2,13 +2,13 @@
 //! find nothing any more once the publisher is dropped.
 ghost use Rattle.std.specs.Prelude.{◌≡◌};
 
-use crate::files::set_of;
 use plan_compiler::set::CompiledSet;
 use plan_shelf::history::{History, ShelfName};
 use plan_shelf::publishers::Publisher;
 use plan_shelf::readers::Reader;
 use plan_shelf::shelves::shelf;
 use sample_files::calendar::{NEXT, PARAMS};
+use sample_sets::files::set_of;
 use std::alloc::Global;
 use std::marker::Brand;
 use std::process::Abort;
@@ -35,9 +35,13 @@ fn publishes_and_reads<S: ShelfName, R: Wait + Abort>(
     publisher: &mut Publisher<S, &R>,
     reader: &mut Reader<S>,
 ) {
-    let first = publisher.publish(set_of(rt, alloc, PARAMS)).ok();
+    let first = publisher
+        .publish(set_of(alloc, PARAMS).expect(rt, "a set"))
+        .ok();
     let first = first.expect(rt, "a publication");
-    let second = publisher.publish(set_of(rt, alloc, NEXT)).ok();
+    let second = publisher
+        .publish(set_of(alloc, NEXT).expect(rt, "a set"))
+        .ok();
     let second = second.expect(rt, "a second publication");
     assert!(rt; first.number() == 1 && second.number() == 2);
     reader.learn(second);
@@ -117,8 +121,12 @@ fn publishes_both<S: ShelfName, R: Wait + Abort>(
     publisher: &mut Publisher<S, &R>,
     ended: &AtomicBool,
 ) -> bool {
-    let first = publisher.publish(set_of(rt, alloc, PARAMS)).is_ok();
-    let second = publisher.publish(set_of(rt, alloc, NEXT)).is_ok();
+    let first = publisher
+        .publish(set_of(alloc, PARAMS).expect(rt, "a set"))
+        .is_ok();
+    let second = publisher
+        .publish(set_of(alloc, NEXT).expect(rt, "a set"))
+        .is_ok();
     ended.store(true, SeqCst);
     first && second
 }

@@ -35,6 +35,9 @@ INTRA,AA,1,300,1,A,1,2,B,1
 SPOT,AA,202503,10,20
 ";
 
+/// What a check of the first set says of it.
+pub const COUNTS: &[u8] = b"OK,D1,1,2,2,1,1,0\n";
+
 /// An account that is long three of the near month and short two of the far one.
 pub const POSITIONS: &[u8] = b"\
 X,FA,3

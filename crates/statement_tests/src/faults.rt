@@ -2,7 +2,6 @@
 use param_check::faults::{BindFault, CheckFault};
 use plan_shelf::faults::ShelfFault;
 use result_book::books::BookFault;
-use span_cli::sources::ReadFault;
 use span_csv::faults::{ParamFault, PositionFault};
 use span_tables::name::Name;
 use span_told::MarkedWriter;
@@ -10,9 +9,7 @@ use statement::fault_lines::{tell_fault, write_fault};
 use statement::faults::{SpanFault, status};
 use std::alloc::Global;
 use std::fmt::Display;
-use std::io::Write;
 use std::process::Abort;
-use std::test::Fail;
 use step_scheduler::boards::Refused;
 use worker_pool::batch::PoolFault;
 
@@ -22,14 +19,13 @@ fn account() -> Name {
 }
 
 // Each fault has this line, and this status.
-fn have_lines(rt: &impl Abort, alloc: Global, lines: &[(SpanFault, &str, u8)]) -> Result<(), Fail> {
+fn have_lines(rt: &impl Abort, alloc: Global, lines: &[(SpanFault, &str, u8)]) {
     for (fault, line, number) in lines {
         let mut written = Vec::new(alloc);
-        write_fault(fault, &mut written)?;
+        assert!(rt; write_fault(fault, &mut written).is_ok());
         assert_eq!(rt; written.as_slice(), line.as_bytes());
         assert_eq!(rt; status(fault), *number);
     }
-    Ok(())
 }
 
 // One of each kind that names no account.
@@ -70,7 +66,7 @@ const LINES: [(SpanFault, &str, u8); 9] = [
 ];
 
 // One of each kind that names an account.
-fn lines_of_accounts(rt: &impl Abort, alloc: Global) -> Result<(), Fail> {
+fn lines_of_accounts(rt: &impl Abort, alloc: Global) {
     let bound = BindFault::NetOutOfRange {
         at: 3,
         account: account(),
@@ -96,24 +92,21 @@ fn lines_of_accounts(rt: &impl Abort, alloc: Global) -> Result<(), Fail> {
             4,
         ),
     ];
-    have_lines(rt, alloc, &lines)
+    have_lines(rt, alloc, &lines);
 }
 
 #[test]
-fn lines_of_faults(rt: HostRuntime) -> Result<(), Fail> {
-    let alloc = rt.alloc();
-    have_lines(&rt, alloc, &LINES)?;
-    lines_of_accounts(&rt, alloc)
+fn lines_of_faults(rt: HostRuntime) {
+    have_lines(&rt, rt.alloc(), &LINES);
+    lines_of_accounts(&rt, rt.alloc());
 }
 
 // The fault is shown as its line, without the line end.
-fn is_shown_as_line(rt: &impl Abort, alloc: Global, fault: &SpanFault) -> Result<(), Fail> {
-    let mut shown = Vec::new(alloc);
-    writeln!(shown, "{fault}")?;
+fn is_shown_as_line(rt: &impl Abort, alloc: Global, fault: &SpanFault) {
+    let shown = format!(in alloc; "{fault}\n").expect(rt, "a text");
     let mut written = Vec::new(alloc);
-    write_fault(fault, &mut written)?;
-    assert_eq!(rt; shown.as_slice(), written.as_slice());
-    Ok(())
+    assert!(rt; write_fault(fault, &mut written).is_ok());
+    assert_eq!(rt; shown.as_bytes(), written.as_slice());
 }
 
 const PARAM_FAULTS: [ParamFault; 8] = [
@@ -156,24 +149,23 @@ const BOOK_FAULTS: [BookFault; 3] = [
 ];
 
 // The texts of faults of records, by the reader or the checker that finds them, and of those of a book.
-fn of_records_and_books(rt: &impl Abort, alloc: Global) -> Result<(), Fail> {
+fn of_records_and_books(rt: &impl Abort, alloc: Global) {
     for fault in PARAM_FAULTS {
-        is_shown_as_line(rt, alloc, &SpanFault::Params(fault))?;
+        is_shown_as_line(rt, alloc, &SpanFault::Params(fault));
     }
     for fault in CHECK_FAULTS {
-        is_shown_as_line(rt, alloc, &SpanFault::NextCheck(fault))?;
+        is_shown_as_line(rt, alloc, &SpanFault::NextCheck(fault));
     }
     for fault in POSITION_FAULTS {
-        is_shown_as_line(rt, alloc, &SpanFault::Positions(fault))?;
+        is_shown_as_line(rt, alloc, &SpanFault::Positions(fault));
     }
     for fault in BOOK_FAULTS {
-        is_shown_as_line(rt, alloc, &SpanFault::Book(fault))?;
+        is_shown_as_line(rt, alloc, &SpanFault::Book(fault));
     }
-    Ok(())
 }
 
 // The texts of faults that name an account, and of the other kinds.
-fn of_accounts_and_sets(rt: &impl Abort, alloc: Global) -> Result<(), Fail> {
+fn of_accounts_and_sets(rt: &impl Abort, alloc: Global) {
     let faults = [
         SpanFault::Bind(BindFault::UnknownContract {
             at: 1,
@@ -195,48 +187,43 @@ fn of_accounts_and_sets(rt: &impl Abort, alloc: Global) -> Result<(), Fail> {
         SpanFault::Memory,
     ];
     for fault in &faults {
-        is_shown_as_line(rt, alloc, fault)?;
+        is_shown_as_line(rt, alloc, fault);
     }
-    Ok(())
 }
 
 // The value is shown as this text.
-fn is_shown<T: Display>(rt: &impl Abort, alloc: Global, value: &T, text: &str) -> Result<(), Fail> {
-    let shown = format!(in alloc; "{value}")?;
+fn is_shown<T: Display>(rt: &impl Abort, alloc: Global, value: &T, text: &str) {
+    let shown = format!(in alloc; "{value}").expect(rt, "a text");
     assert_eq!(rt; shown.as_str(), text);
-    Ok(())
 }
 
 // The texts of faults that calls answer and no statement is refused with.
-fn of_calls(rt: &impl Abort, alloc: Global) -> Result<(), Fail> {
-    is_shown(rt, alloc, &ShelfFault::Readers, "Readers")?;
-    is_shown(rt, alloc, &ShelfFault::Last, "Last")?;
-    is_shown(rt, alloc, &PoolFault::Workers, "L1 Workers")?;
-    is_shown(rt, alloc, &Refused::NotTaken, "NotTaken")?;
-    is_shown(rt, alloc, &Refused::Failed, "Failed")?;
-    is_shown(rt, alloc, &ReadFault::Failed, "the file cannot be read")?;
-    is_shown(rt, alloc, &ReadFault::TooLong, "the file is too long")
+fn of_calls(rt: &impl Abort, alloc: Global) {
+    is_shown(rt, alloc, &ShelfFault::Readers, "Readers");
+    is_shown(rt, alloc, &ShelfFault::Last, "Last");
+    is_shown(rt, alloc, &PoolFault::Workers, "L1 Workers");
+    is_shown(rt, alloc, &Refused::NotTaken, "NotTaken");
+    is_shown(rt, alloc, &Refused::Failed, "Failed");
 }
 
 // The text of want of memory, which is a fault of each of these kinds.
-fn of_memory(rt: &impl Abort, alloc: Global) -> Result<(), Fail> {
-    is_shown(rt, alloc, &ParamFault::OutOfMemory, "memory")?;
-    is_shown(rt, alloc, &CheckFault::OutOfMemory, "memory")?;
-    is_shown(rt, alloc, &PositionFault::OutOfMemory, "memory")?;
-    is_shown(rt, alloc, &BindFault::OutOfMemory, "memory")?;
-    is_shown(rt, alloc, &BookFault::OutOfMemory, "memory")?;
-    is_shown(rt, alloc, &ShelfFault::OutOfMemory, "memory")?;
-    is_shown(rt, alloc, &PoolFault::OutOfMemory, "memory")?;
-    is_shown(rt, alloc, &ReadFault::OutOfMemory, "memory")
+fn of_memory(rt: &impl Abort, alloc: Global) {
+    is_shown(rt, alloc, &ParamFault::OutOfMemory, "memory");
+    is_shown(rt, alloc, &CheckFault::OutOfMemory, "memory");
+    is_shown(rt, alloc, &PositionFault::OutOfMemory, "memory");
+    is_shown(rt, alloc, &BindFault::OutOfMemory, "memory");
+    is_shown(rt, alloc, &BookFault::OutOfMemory, "memory");
+    is_shown(rt, alloc, &ShelfFault::OutOfMemory, "memory");
+    is_shown(rt, alloc, &PoolFault::OutOfMemory, "memory");
 }
 
 #[test]
-fn texts_of_faults(rt: HostRuntime) -> Result<(), Fail> {
+fn texts_of_faults(rt: HostRuntime) {
     let alloc = rt.alloc();
-    of_records_and_books(&rt, alloc)?;
-    of_accounts_and_sets(&rt, alloc)?;
-    of_calls(&rt, alloc)?;
-    of_memory(&rt, alloc)
+    of_records_and_books(&rt, alloc);
+    of_accounts_and_sets(&rt, alloc);
+    of_calls(&rt, alloc);
+    of_memory(&rt, alloc);
 }
 
 // A writer that has no room for the whole line refuses it.

@@ -1,6 +1,7 @@
 //! Rolls: the bytes of both statements, the thread beside the first batch, and what stays in the book.
 use param_check::faults::BindFault;
 use result_book::books::ResultBook;
+use result_book::rows::Row;
 use sample_files::calendar::{BOTH_STATEMENTS, NEXT, NEXT_WITHOUT_A_CONTRACT, PARAMS, POSITIONS};
 use span_csv::faults::ParamFault;
 use span_tables::name::Name;
@@ -10,25 +11,34 @@ use std::alloc::Global;
 use std::process::Abort;
 use std::sync::atomic::AtomicBool;
 use std::sync::atomic::Ordering::SeqCst;
-use std::sync::{Mutex, Wait};
-use std::test::Fail;
+use std::sync::{Arc, Mutex, Wait};
 use std::thread;
 use std::thread::Threads;
 use std::time::Clock;
 use worker_pool::batch::MAX_WORKERS;
 use worker_pool::gates::{Gate, OpenGate};
 
+// A roll from the first set to the next gives both statements.
+fn gives_both<R: Threads + Wait + Clock + Sync + Abort, G: Gate>(
+    rt: &R,
+    alloc: Global,
+    workers: usize,
+    gate: &G,
+    book: &Mutex<ResultBook>,
+) {
+    let text = roll(rt, alloc, PARAMS, NEXT, POSITIONS, workers, gate, book);
+    assert_eq!(rt;
+        text.expect(rt, "both statements").as_slice(),
+        BOTH_STATEMENTS
+    );
+}
+
 #[test]
-fn two_statements_on_each_number_of_workers(rt: HostRuntime) -> Result<(), Fail> {
-    let alloc = rt.alloc();
+fn two_statements_on_each_number_of_workers(rt: HostRuntime) {
     for workers in [1, 2, 4, MAX_WORKERS] {
-        let book = Mutex::new(ResultBook::new(alloc));
-        let text = roll(
-            &rt, alloc, PARAMS, NEXT, POSITIONS, workers, &OpenGate, &book,
-        )?;
-        assert_eq!(rt; text.as_slice(), BOTH_STATEMENTS);
+        let book = Mutex::new(ResultBook::new(rt.alloc()));
+        gives_both(&rt, rt.alloc(), workers, &OpenGate, &book);
     }
-    Ok(())
 }
 
 // The thread of the next set and the first step of the first batch wait for each other. When the turns of one of them are used up,
@@ -65,35 +75,37 @@ impl Gate for Beside {
 }
 
 #[test]
-fn the_next_set_beside_the_first_batch(rt: HostRuntime) -> Result<(), Fail> {
-    let alloc = rt.alloc();
-    let book = Mutex::new(ResultBook::new(alloc));
+fn the_next_set_beside_the_first_batch(rt: HostRuntime) {
+    let book = Mutex::new(ResultBook::new(rt.alloc()));
     let gate = Beside {
         of_set: AtomicBool::new(false),
         of_batch: AtomicBool::new(false),
         late: AtomicBool::new(false),
     };
-    let text = roll(&rt, alloc, PARAMS, NEXT, POSITIONS, 1, &gate, &book)?;
-    assert_eq!(rt; text.as_slice(), BOTH_STATEMENTS);
+    gives_both(&rt, rt.alloc(), 1, &gate, &book);
     assert!(rt; !gate.late.load(SeqCst));
-    Ok(())
+}
+
+// Whether a batch has one row, of the account X under this set, with this total.
+fn is_only_row(rows: &[Arc<Row>], id: &[u8], total: i128) -> bool {
+    match rows {
+        [row] => {
+            row.set_id().as_bytes() == id
+                && row.account().as_bytes() == b"X".as_slice()
+                && row.total().get() == total
+        }
+        _ => false,
+    }
 }
 
 #[test]
-fn rows_of_both_batches_in_the_book(rt: HostRuntime) -> Result<(), Fail> {
-    let alloc = rt.alloc();
-    let book = Mutex::new(ResultBook::new(alloc));
-    roll(&rt, alloc, PARAMS, NEXT, POSITIONS, 1, &OpenGate, &book)?;
+fn rows_of_both_batches_in_the_book(rt: HostRuntime) {
+    let book = Mutex::new(ResultBook::new(rt.alloc()));
+    gives_both(&rt, rt.alloc(), 1, &OpenGate, &book);
     let book = book.into_inner();
-    for (batch, id, total) in [(1, b"D1", 1740), (2, b"D2", 1840)] {
-        let rows = book.rows(batch)?;
-        assert_eq!(rt; rows.len(), 1);
-        assert_eq!(rt; rows[0].set_id().as_bytes(), id.as_slice());
-        assert_eq!(rt; rows[0].account().as_bytes(), b"X".as_slice());
-        assert_eq!(rt; rows[0].total().get(), total);
-    }
-    assert!(rt; book.rows(3)?.is_empty());
-    Ok(())
+    assert!(rt; is_only_row(&book.rows(1).expect(&rt, "rows"), b"D1", 1740));
+    assert!(rt; is_only_row(&book.rows(2).expect(&rt, "rows"), b"D2", 1840));
+    assert!(rt; book.rows(3).expect(&rt, "no rows").is_empty());
 }
 
 // A roll with this next set is refused so, and what the first batch put stays in the book.
@@ -102,53 +114,44 @@ fn rows_stay<R: Threads + Wait + Clock + Sync + Abort>(
     alloc: Global,
     next: &[u8],
     fault: SpanFault,
-) -> Result<(), Fail> {
+) {
     let book = Mutex::new(ResultBook::new(alloc));
     let refused = roll(rt, alloc, PARAMS, next, POSITIONS, 1, &OpenGate, &book);
     assert!(rt; refused == Err(fault));
-    let rows = book.into_inner().rows(1)?;
-    assert_eq!(rt; rows.len(), 1);
-    assert_eq!(rt; rows[0].set_id().as_bytes(), b"D1".as_slice());
-    assert_eq!(rt; rows[0].total().get(), 1740);
-    Ok(())
+    let rows = book.into_inner().rows(1).expect(rt, "rows");
+    assert!(rt; is_only_row(&rows, b"D1", 1740));
 }
 
 #[test]
-fn rows_of_the_first_batch_stay(rt: HostRuntime) -> Result<(), Fail> {
-    let alloc = rt.alloc();
-    let account = Name::new(b"X").ok_or("a name")?;
-    let unknown = BindFault::UnknownContract { at: 2, account };
-    rows_stay(
-        &rt,
-        alloc,
-        NEXT_WITHOUT_A_CONTRACT,
-        SpanFault::NextBind(unknown),
-    )?;
-    let no_set = ParamFault::NoSet { at: 0 };
-    rows_stay(&rt, alloc, b"", SpanFault::NextParams(no_set))
+fn rows_of_the_first_batch_stay(rt: HostRuntime) {
+    let account = Name::new(b"X").expect(&rt, "a name");
+    let unknown = SpanFault::NextBind(BindFault::UnknownContract { at: 2, account });
+    rows_stay(&rt, rt.alloc(), NEXT_WITHOUT_A_CONTRACT, unknown);
+    let no_set = SpanFault::NextParams(ParamFault::NoSet { at: 0 });
+    rows_stay(&rt, rt.alloc(), b"", no_set);
 }
 
-#[test]
-fn two_threads_on_one_book(rt: HostRuntime) -> Result<(), Fail> {
-    let alloc = rt.alloc();
-    let book = Mutex::new(ResultBook::new(alloc));
-    let (one, other) = thread::join(
-        &rt,
-        || roll(&rt, alloc, PARAMS, NEXT, POSITIONS, 2, &OpenGate, &book),
-        || roll(&rt, alloc, PARAMS, NEXT, POSITIONS, 2, &OpenGate, &book),
-    );
-    assert_eq!(rt; one?.as_slice(), BOTH_STATEMENTS);
-    assert_eq!(rt; other?.as_slice(), BOTH_STATEMENTS);
-    let book = book.into_inner();
-    let mut of_today = 0usize;
+// How many of the first four batches have this row alone.
+fn batches_with(rt: &impl Abort, book: &ResultBook, id: &[u8], total: i128) -> usize {
+    let mut found = 0usize;
     for batch in 1..5 {
-        let rows = book.rows(batch)?;
-        assert_eq!(rt; rows.len(), 1);
-        if rows[0].set_id().as_bytes() == b"D1".as_slice() {
-            of_today = of_today.saturating_add(1);
+        if is_only_row(&book.rows(batch).expect(rt, "rows"), id, total) {
+            found = found.saturating_add(1);
         }
     }
-    assert_eq!(rt; of_today, 2);
-    assert!(rt; book.rows(5)?.is_empty());
-    Ok(())
+    found
+}
+
+#[test]
+fn two_threads_on_one_book(rt: HostRuntime) {
+    let book = Mutex::new(ResultBook::new(rt.alloc()));
+    thread::join(
+        &rt,
+        || gives_both(&rt, rt.alloc(), 2, &OpenGate, &book),
+        || gives_both(&rt, rt.alloc(), 2, &OpenGate, &book),
+    );
+    let book = book.into_inner();
+    assert_eq!(rt; batches_with(&rt, &book, b"D1", 1740), 2);
+    assert_eq!(rt; batches_with(&rt, &book, b"D2", 1840), 2);
+    assert!(rt; book.rows(5).expect(&rt, "no rows").is_empty());
 }

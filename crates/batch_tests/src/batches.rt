@@ -1,7 +1,7 @@
 //! Batches on each number of workers: no clause says that an account has its row where there is memory.
-use crate::files::{accounts_of, set_of};
 use plan_compiler::set::CompiledSet;
 use sample_files::one_future::PARAMS;
+use sample_sets::files::{accounts_of, set_of};
 use std::alloc::Global;
 use std::process::Abort;
 use std::sync::{Arc, Wait};
@@ -41,7 +41,7 @@ fn run_both<R: Threads + Wait + Clock + Sync + Abort>(
     set: &Arc<CompiledSet>,
     workers: usize,
 ) {
-    let accounts = accounts_of(rt, alloc, set, TWO_ACCOUNTS);
+    let accounts = accounts_of(alloc, set, TWO_ACCOUNTS).expect(rt, "accounts");
     let outcomes = run_batch(rt, alloc, set, accounts, workers, &OpenGate);
     assert!(rt;
         are_rows_of_both(&outcomes.expect(rt, "a batch")),
@@ -51,7 +51,7 @@ fn run_both<R: Threads + Wait + Clock + Sync + Abort>(
 
 #[test]
 fn numbers_of_workers(rt: HostRuntime) {
-    let set = set_of(&rt, rt.alloc(), PARAMS);
+    let set = set_of(rt.alloc(), PARAMS).expect(&rt, "a set");
     for workers in 1..=MAX_WORKERS {
         run_both(&rt, rt.alloc(), &set, workers);
     }
@@ -59,7 +59,7 @@ fn numbers_of_workers(rt: HostRuntime) {
 
 #[test]
 fn a_hundred_batches(rt: HostRuntime) {
-    let set = set_of(&rt, rt.alloc(), PARAMS);
+    let set = set_of(rt.alloc(), PARAMS).expect(&rt, "a set");
     for _ in 0..100 {
         run_both(&rt, rt.alloc(), &set, MAX_WORKERS);
     }

@@ -1,8 +1,8 @@
 //! A book behind no lock: what it refuses and what it keeps.
-use crate::files::{account_of, set_of};
 use result_book::books::{BookFault, PutRefused, ResultBook};
 use result_book::rows::Row;
 use sample_files::one_future::{PARAMS, POSITIONS};
+use sample_sets::files::{account_of, set_of};
 use span_tables::name::Name;
 use std::alloc::Global;
 use std::process::Abort;
@@ -11,8 +11,8 @@ use worker_pool::plain::run_account;
 
 // The row of the account that is long one future.
 fn row_of_one_future(rt: &impl Abort, alloc: Global) -> Arc<Row> {
-    let set = set_of(rt, alloc, PARAMS);
-    let account = account_of(rt, alloc, &set, POSITIONS);
+    let set = set_of(alloc, PARAMS).expect(rt, "a set");
+    let account = account_of(alloc, &set, POSITIONS).expect(rt, "an account");
     run_account(alloc, &set, account).expect(rt, "a row")
 }
 

@@ -9,7 +9,6 @@ use std::alloc::Global;
 use std::io;
 use std::io::{ErrorKind, Write};
 use std::sync::Wait;
-use std::test::Fail;
 use std::thread::Threads;
 use std::time::Clock;
 use worker_pool::gates::OpenGate;
@@ -94,7 +93,7 @@ fn run_into<W: Write, E: Write, R: Threads + Wait + Clock + Sync>(
 }
 
 #[test]
-fn says_that_the_output_failed(rt: HostRuntime) -> Result<(), Fail> {
+fn says_that_the_output_failed(rt: HostRuntime) {
     let alloc = rt.alloc();
     let lines: [&[&str]; 3] = [
         &["span", "margin", "params.csv", "positions.csv"],
@@ -108,7 +107,6 @@ fn says_that_the_output_failed(rt: HostRuntime) -> Result<(), Fail> {
             assert!(rt; err.as_slice() == b"file: output\n".as_slice());
         }
     }
-    Ok(())
 }
 
 #[test]
@@ -133,7 +131,7 @@ fn keeps_its_status_where_the_error_stream_fails(rt: HostRuntime) {
 }
 
 #[test]
-fn keeps_its_status_where_both_streams_fail(rt: HostRuntime) -> Result<(), Fail> {
+fn keeps_its_status_where_both_streams_fail(rt: HostRuntime) {
     let words = ["span", "margin", "params.csv", "positions.csv"];
     let (status, _, _) = run_into(
         &rt,
@@ -143,12 +141,11 @@ fn keeps_its_status_where_both_streams_fail(rt: HostRuntime) -> Result<(), Fail>
         Breaking { room: 0 },
     );
     assert_eq!(rt; status, 6);
-    Ok(())
 }
 
 // A word that is no text is a mistake of usage; another fault in reading the words is want of memory.
 #[test]
-fn refuses_words_that_cannot_be_read(rt: HostRuntime) -> Result<(), Fail> {
+fn refuses_words_that_cannot_be_read(rt: HostRuntime) {
     let cases: [(ErrorKind, u8, &[u8]); 2] = [
         (
             ErrorKind::InvalidData,
@@ -162,5 +159,4 @@ fn refuses_words_that_cannot_be_read(rt: HostRuntime) -> Result<(), Fail> {
         assert_eq!(rt; refuse_words(&io::Error::from(kind), &mut err), status);
         assert!(rt; err.into_inner().as_slice() == line);
     }
-    Ok(())
 }

@@ -1,6 +1,6 @@
 use Rattle.std.proofs.Common.{[], ◌∷◌}
 use Rattle.std.specs.Arc.{arc_value}
-use Rattle.plan_tests.proofs.ends.front_and_back.Given as goal
+use Rattle.batch_tests.proofs.ends.front_and_back.Given as goal
 
 -- the batch is the one job
 abbrev pub ghosts-tasks_in_order : goal.ghosts-tasks_in_order

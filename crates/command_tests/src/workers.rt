@@ -3,12 +3,11 @@ use crate::builders::{Given, run_on};
 use sample_files::two_commodities::{PARAMS, POSITIONS, STATEMENT};
 use span_cli::memory::InMemory;
 use span_tables::name::Name;
-use statement::margin::{margin, margin_plain};
 use std::alloc::{AllocError, Global};
+use std::process::Abort;
 use std::sync::Wait;
 use std::sync::atomic::Ordering::SeqCst;
 use std::sync::atomic::{AtomicBool, AtomicU64};
-use std::test::Fail;
 use std::thread;
 use std::thread::Threads;
 use std::time::Clock;
@@ -71,18 +70,22 @@ impl Gate for Together {
     }
 }
 
-// What a command line gives for the files of two commodities with a credit.
+// What a command line gives for two files.
 fn run<R: Threads + Wait + Clock + Sync>(
     rt: &R,
     alloc: Global,
     words: &[&str],
+    params: &[u8],
+    positions: &[u8],
     gate: &Together,
 ) -> Given {
     let mut sources = InMemory {
-        files: &[("params.csv", PARAMS), ("positions.csv", POSITIONS)],
+        files: &[("params.csv", params), ("positions.csv", positions)],
     };
     run_on(rt, alloc, words, &mut sources, gate)
 }
+
+const ALONE: [&str; 4] = ["span", "margin", "params.csv", "positions.csv"];
 
 // One account, whose steps three workers share.
 #[test]
@@ -96,7 +99,7 @@ fn three_workers_at_once(rt: HostRuntime) {
         "params.csv",
         "positions.csv",
     ];
-    assert!(rt; run(&rt, rt.alloc(), &words, &gate).is(0, STATEMENT, b""));
+    assert!(rt; run(&rt, rt.alloc(), &words, PARAMS, POSITIONS, &gate).is(0, STATEMENT, b""));
     assert!(rt; gate.were_together(0b111));
     assert!(rt; gate.was_passed_once_by_each_step());
 }
@@ -104,8 +107,7 @@ fn three_workers_at_once(rt: HostRuntime) {
 #[test]
 fn each_step_once_on_one_worker(rt: HostRuntime) {
     let gate = Together::new(1);
-    let words = ["span", "margin", "params.csv", "positions.csv"];
-    assert!(rt; run(&rt, rt.alloc(), &words, &gate).is(0, STATEMENT, b""));
+    assert!(rt; run(&rt, rt.alloc(), &ALONE, PARAMS, POSITIONS, &gate).is(0, STATEMENT, b""));
     assert!(rt; gate.were_together(0b1));
     assert!(rt; gate.was_passed_once_by_each_step());
 }
@@ -138,23 +140,39 @@ fn wide_positions(alloc: Global) -> Result<String, AllocError> {
     Ok(text)
 }
 
-// The accounts are cut into two slices, each for a team of eight.
-#[test]
-fn two_teams_of_eight(rt: HostRuntime) -> Result<(), Fail> {
-    let alloc = rt.alloc();
-    let params = wide_params(alloc)?;
-    let positions = wide_positions(alloc)?;
-    let gate = Together::new(MAX_WORKERS as u32);
-    let text = margin(
-        &rt,
+// What the set of many commodities gives for its two accounts, by these words.
+fn run_wide<R: Threads + Wait + Clock + Sync + Abort>(
+    rt: &R,
+    alloc: Global,
+    words: &[&str],
+    gate: &Together,
+) -> Given {
+    let params = wide_params(alloc).expect(rt, "a set");
+    let positions = wide_positions(alloc).expect(rt, "positions");
+    run(
+        rt,
         alloc,
+        words,
         params.as_bytes(),
         positions.as_bytes(),
-        MAX_WORKERS,
-        &gate,
-    )?;
-    let alone = margin_plain(alloc, params.as_bytes(), positions.as_bytes())?;
-    assert!(rt; text.as_slice() == alone.as_slice());
+        gate,
+    )
+}
+
+// The accounts are cut into two slices, each for a team of eight.
+#[test]
+fn two_teams_of_eight(rt: HostRuntime) {
+    let gate = Together::new(MAX_WORKERS as u32);
+    let words = [
+        "span",
+        "margin",
+        "--workers",
+        "16",
+        "params.csv",
+        "positions.csv",
+    ];
+    let given = run_wide(&rt, rt.alloc(), &words, &gate);
+    let alone = run_wide(&rt, rt.alloc(), &ALONE, &Together::new(1));
+    assert!(rt; alone.status == 0 && given.is(0, alone.out.as_slice(), b""));
     assert!(rt; gate.were_together((1 << MAX_WORKERS) - 1));
-    Ok(())
 }

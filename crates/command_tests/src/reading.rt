@@ -4,7 +4,6 @@ use span_cli::sources::ReadFault;
 use std::alloc::Global;
 use std::io;
 use std::io::{ErrorKind, Read};
-use std::test::Fail;
 
 // What a reader does in a turn.
 #[derive(Clone, Copy)]
@@ -47,7 +46,7 @@ fn read(alloc: Global, turns: &'static [Turn], last: Turn) -> Result<Vec<u8>, Re
 }
 
 #[test]
-fn reads_to_the_end(rt: HostRuntime) -> Result<(), Fail> {
+fn reads_to_the_end(rt: HostRuntime) {
     let cases: [(&'static [Turn], &[u8]); 5] = [
         (&[], b""),
         (&[Turn::Gives(b"ab")], b"ab"),
@@ -75,7 +74,6 @@ fn reads_to_the_end(rt: HostRuntime) -> Result<(), Fail> {
             Err(fault) => assert_eq!(rt; fault, ReadFault::OutOfMemory),
         }
     }
-    Ok(())
 }
 
 // Whether a reading is refused so.
@@ -128,7 +126,7 @@ fn fails_where_the_turns_run_out(rt: HostRuntime) {
 }
 
 #[test]
-fn remembers_what_failed(rt: HostRuntime) -> Result<(), Fail> {
+fn remembers_what_failed(rt: HostRuntime) {
     let alloc = rt.alloc();
     let script = Script {
         turns: &[Turn::IsInterrupted],
@@ -144,5 +142,4 @@ fn remembers_what_failed(rt: HostRuntime) -> Result<(), Fail> {
     };
     let mut turns = Turns::new(script, 8);
     assert!(rt; read_within(alloc, &mut turns, 3).is_err() && turns.failed());
-    Ok(())
 }

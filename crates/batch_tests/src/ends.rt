@@ -5,10 +5,10 @@ ghost use Rattle.crossbeam_queue.specs.Passes.{IsPassOf, IsSamePass, view};
 ghost use Rattle.std.specs.Arc.{arc_value};
 ghost use Rattle.std.specs.Prelude.{◌≡◌, ◌<◌, ◌∷◌, []};
 
-use crate::boards::{board_of, next_task};
-use crate::files::job_of;
 use crossbeam_deque::Steal;
 use sample_files::calendar::{PARAMS, POSITIONS};
+use sample_sets::boards::{board_of, next_task};
+use sample_sets::files::job_of;
 use std::alloc::Global;
 use std::marker::Brand;
 use std::process::Abort;
@@ -38,7 +38,7 @@ fn push_next<B: Batch>(
     ensures batch { (worker_view owner.new).batch ≡ (worker_view owner.old).batch }
     ensures board { board.new.job ≡ board.old.job }
 {
-    let task = next_task(rt, board);
+    let task = next_task(board).expect(rt, "a task");
     let step = task.step();
     assert!(rt; push_task(owner, task).is_ok());
     step
@@ -57,7 +57,7 @@ fn push_three<B: Batch>(
     ensures same { SameWorker owner.old owner.new }
     ensures parts { (worker_view owner.new).parts ≡ (worker_view owner.old).parts }
 {
-    let mut board = board_of(rt, alloc, job);
+    let mut board = board_of(alloc, job).expect(rt, "a board");
     let first = push_next(rt, owner, &mut board, job);
     let second = push_next(rt, owner, &mut board, job);
     let third = push_next(rt, owner, &mut board, job);
@@ -127,7 +127,7 @@ fn push_next_result<B: Batch, R: Wait + Abort>(
     ensures batch { (view pass.new).batch ≡ (view pass.old).batch }
     ensures board { board.new.job ≡ board.old.job }
 {
-    let finished = evaluate(alloc, next_task(rt, board));
+    let finished = evaluate(alloc, next_task(board).expect(rt, "a task"));
     let step = finished.step();
     assert!(rt; push_result(rt, queue, pass, finished).is_ok());
     step
@@ -163,7 +163,7 @@ fn push_three_results<B: Batch, R: Wait + Abort>(
     ensures same { IsSamePass pass.old pass.new }
     ensures parts { (view pass.new).parts ≡ (view pass.old).parts }
 {
-    let mut board = board_of(rt, alloc, job);
+    let mut board = board_of(alloc, job).expect(rt, "a board");
     let first = push_next_result(rt, alloc, queue, pass, &mut board, job);
     let second = push_next_result(rt, alloc, queue, pass, &mut board, job);
     let third = push_next_result(rt, alloc, queue, pass, &mut board, job);
@@ -189,7 +189,7 @@ fn results_in_order<B: Batch, R: Wait + Abort>(rt: &R, alloc: Global, job: &Arc<
 #[test]
 fn front_and_back(rt: HostRuntime) {
     let alloc = rt.alloc();
-    let job = job_of(&rt, alloc, PARAMS, POSITIONS);
+    let job = job_of(alloc, PARAMS, POSITIONS).expect(&rt, "a job");
     tasks_in_order::<Brand>(&rt, alloc, &job);
     results_in_order::<Brand, _>(&rt, alloc, &job);
 }

@@ -8,7 +8,6 @@ use std::alloc::Global;
 use std::io;
 use std::io::{ErrorKind, Write};
 use std::sync::Wait;
-use std::test::Fail;
 use std::thread::Threads;
 use std::time::Clock;
 use worker_pool::gates::OpenGate;
@@ -37,7 +36,7 @@ impl Write for Narrow {
 }
 
 /// The status of a margin of two files in memory, and what went out on both streams, of which each has so much room.
-pub(crate) fn margin_into<R: Threads + Wait + Clock + Sync>(
+fn margin_into<R: Threads + Wait + Clock + Sync>(
     rt: &R,
     alloc: Global,
     params: &[u8],
@@ -74,7 +73,7 @@ pub(crate) fn margin_into<R: Threads + Wait + Clock + Sync>(
 
 // What went out is the beginning of the statement, and the error stream says that the output failed.
 #[test]
-fn output_that_fails(rt: HostRuntime) -> Result<(), Fail> {
+fn output_that_fails(rt: HostRuntime) {
     for room in 0..STATEMENT.len() {
         let (status, out, err) = margin_into(&rt, rt.alloc(), PARAMS, room, 100);
         assert_eq!(rt; status, 6);
@@ -85,26 +84,24 @@ fn output_that_fails(rt: HostRuntime) -> Result<(), Fail> {
     assert_eq!(rt; status, 0);
     assert_eq!(rt; out.as_slice(), STATEMENT);
     assert!(rt; err.is_empty());
-    Ok(())
 }
 
 const LINE: &[u8] = b"positions: B1 UnknownContract at record 2 account X\n";
 
 // The status of a fault stands, and what went out is the beginning of its line.
 #[test]
-fn line_that_fails(rt: HostRuntime) -> Result<(), Fail> {
+fn line_that_fails(rt: HostRuntime) {
     for room in 0..=LINE.len() {
         let (status, out, err) = margin_into(&rt, rt.alloc(), one_future::PARAMS, 0, room);
         assert_eq!(rt; status, 4);
         assert!(rt; out.is_empty());
         assert_eq!(rt; err.as_slice(), &LINE[..room]);
     }
-    Ok(())
 }
 
 // Where both streams fail, the status is that of the output.
 #[test]
-fn both_that_fail(rt: HostRuntime) -> Result<(), Fail> {
+fn both_that_fail(rt: HostRuntime) {
     let line = b"file: output\n".as_slice();
     for room in 0..=line.len() {
         let (status, out, err) = margin_into(&rt, rt.alloc(), PARAMS, 3, room);
@@ -112,5 +109,4 @@ fn both_that_fail(rt: HostRuntime) -> Result<(), Fail> {
         assert_eq!(rt; out.as_slice(), &STATEMENT[..3]);
         assert_eq!(rt; err.as_slice(), &line[..room]);
     }
-    Ok(())
 }

@@ -1,0 +1,49 @@
+//! Each call of `worker_pool` that may give up, once, where there is memory: no clause says that it succeeds.
+//!
+//! The calls of deques and of the queue are those of `front_and_back`.
+use crate::batches::{TWO_ACCOUNTS, are_rows_of_both};
+use plan_compiler::set::CompiledSet;
+use sample_files::one_future::{PARAMS, POSITIONS};
+use sample_sets::files::{account_of, accounts_of, set_of};
+use std::alloc::Global;
+use std::process::Abort;
+use std::sync::{Arc, Wait};
+use std::thread::Threads;
+use std::time::Clock;
+use worker_pool::batch::run_batch;
+use worker_pool::gates::OpenGate;
+use worker_pool::plain::{run_account, run_plain};
+
+// One account, which is long one future and loses 1200 at most.
+fn of_one(rt: &impl Abort, alloc: Global, set: &Arc<CompiledSet>) {
+    let account = account_of(alloc, set, POSITIONS).expect(rt, "an account");
+    let row = run_account(alloc, set, account).expect(rt, "a row");
+    assert!(rt; row.total().get() == 1200);
+}
+
+// Two accounts on one worker.
+fn of_two(rt: &impl Abort, alloc: Global, set: &Arc<CompiledSet>) {
+    let accounts = accounts_of(alloc, set, TWO_ACCOUNTS).expect(rt, "accounts");
+    let outcomes = run_plain(alloc, set, accounts).expect(rt, "outcomes");
+    assert!(rt; are_rows_of_both(&outcomes));
+}
+
+// Two accounts on two workers.
+fn of_two_workers<R: Threads + Wait + Clock + Sync + Abort>(
+    rt: &R,
+    alloc: Global,
+    set: &Arc<CompiledSet>,
+) {
+    let accounts = accounts_of(alloc, set, TWO_ACCOUNTS).expect(rt, "accounts");
+    let outcomes = run_batch(rt, alloc, set, accounts, 2, &OpenGate).expect(rt, "outcomes");
+    assert!(rt; are_rows_of_both(&outcomes));
+}
+
+#[test]
+fn calls_succeed(rt: HostRuntime) {
+    let alloc = rt.alloc();
+    let set = set_of(alloc, PARAMS).expect(&rt, "a set");
+    of_one(&rt, alloc, &set);
+    of_two(&rt, alloc, &set);
+    of_two_workers(&rt, alloc, &set);
+}

@@ -1,0 +1,110 @@
+//! Each public call of `span_cli` whose clause lets it give up, for want of memory or where a reader or writer fails: that it
+//! succeeds where there is memory and nothing fails, once; and the texts of what cannot be read.
+use crate::builders::run_on;
+use sample_files::calendar::{COUNTS, PARAMS};
+use span_cli::disk::Disk;
+use span_cli::memory::InMemory;
+use span_cli::reading::{Turns, read_within};
+use span_cli::serving::{Request, serve};
+use span_cli::sources::{ReadFault, Sources};
+use span_cli::words::request;
+use span_told::MarkedWriter;
+use std::alloc::Global;
+use std::process::Abort;
+use std::rt::Files;
+use std::sync::Wait;
+use std::thread::Threads;
+use std::time::Clock;
+use worker_pool::gates::OpenGate;
+
+// The file of a calendar spread, in memory.
+const FILES: [(&str, &[u8]); 1] = [("params.csv", PARAMS)];
+
+// Sources that are read: files in memory, and a stream of the system.
+fn of_sources<R: Files + Abort>(rt: &R, alloc: Global) {
+    let mut sources = InMemory {
+        files: &[("params.csv", b"P"), ("positions.csv", b"Q")],
+    };
+    let read = sources.read(alloc, "positions.csv").expect(rt, "a file");
+    assert_eq!(rt; read.as_slice(), b"Q".as_slice());
+    let mut disk = Disk::new(alloc, rt);
+    let read = disk.read(alloc, "/dev/null").expect(rt, "a stream");
+    assert!(rt; read.is_empty());
+}
+
+// A reader that is read to its end.
+fn of_readers(rt: &impl Abort, alloc: Global) {
+    let mut turns = Turns::new(b"abc".as_slice(), 4);
+    let read = read_within(alloc, &mut turns, 3).expect(rt, "bytes");
+    assert_eq!(rt; read.as_slice(), b"abc".as_slice());
+}
+
+// What words ask for.
+fn of_words(rt: &impl Abort, alloc: Global) {
+    let words = ["span", "check", "params.csv"];
+    let asked = request(alloc, &words).expect(rt, "a command line");
+    assert!(rt;
+        matches!(
+            asked,
+            Some(Request::Check {
+                params: "params.csv"
+            })
+        )
+    );
+}
+
+// A command line that is answered.
+fn of_lines<R: Threads + Wait + Clock + Sync + Abort>(rt: &R, alloc: Global) {
+    let mut sources = InMemory { files: &FILES };
+    let words = ["span", "check", "params.csv"];
+    assert!(rt; run_on(rt, alloc, &words, &mut sources, &OpenGate).is(0, COUNTS, b""));
+}
+
+// A request that is answered.
+fn of_requests<R: Threads + Wait + Clock + Sync + Abort>(rt: &R, alloc: Global) {
+    let mut sources = InMemory { files: &FILES };
+    let mut out = MarkedWriter::new(Vec::new(alloc));
+    let mut err = MarkedWriter::new(Vec::new(alloc));
+    let request = Request::Check {
+        params: "params.csv",
+    };
+    let status = serve(
+        rt,
+        alloc,
+        request,
+        &mut sources,
+        &OpenGate,
+        &mut out,
+        &mut err,
+    );
+    assert_eq!(rt; status, 0);
+    assert_eq!(rt; out.into_inner().as_slice(), COUNTS);
+}
+
+#[test]
+fn calls_succeed(rt: HostRuntime) {
+    let alloc = rt.alloc();
+    of_sources(&rt, alloc);
+    of_readers(&rt, alloc);
+    of_words(&rt, alloc);
+    of_lines(&rt, alloc);
+    of_requests(&rt, alloc);
+}
+
+// The fault is shown as this text.
+fn is_shown(rt: &impl Abort, alloc: Global, fault: ReadFault, text: &str) {
+    let shown = format!(in alloc; "{fault}").expect(rt, "a text");
+    assert_eq!(rt; shown.as_str(), text);
+}
+
+#[test]
+fn texts_of_faults(rt: HostRuntime) {
+    is_shown(
+        &rt,
+        rt.alloc(),
+        ReadFault::Failed,
+        "the file cannot be read",
+    );
+    is_shown(&rt, rt.alloc(), ReadFault::TooLong, "the file is too long");
+    is_shown(&rt, rt.alloc(), ReadFault::OutOfMemory, "memory");
+}
