@@ -78,10 +78,9 @@ fn one_reader(rt: HostRuntime) {
 // number fell, and each had its set.
 fn reads_to_the_second<S: ShelfName, R: Wait>(
     rt: &R,
-    reader: Reader<S>,
+    reader: &mut Reader<S>,
     ended: &AtomicBool,
 ) -> bool {
-    let mut reader = reader;
     let mut last = 0u64;
     for _ in 0..10_000_000 {
         let is_last_look = ended.load(SeqCst);
@@ -102,8 +101,8 @@ fn reads_to_the_second<S: ShelfName, R: Wait>(
 // Two readers, each in a thread of its own: whether both read to the second publication.
 fn both_read<S: ShelfName + Send + Sync, R: Threads + Wait + Sync>(
     rt: &R,
-    one: Reader<S>,
-    other: Reader<S>,
+    one: &mut Reader<S>,
+    other: &mut Reader<S>,
     ended: &AtomicBool,
 ) -> bool {
     let (first, second) = thread::join(
@@ -136,8 +135,8 @@ fn reads_beside<S: ShelfName + Send + Sync, R: Threads + Wait + Abort + Sync>(
     rt: &R,
     alloc: Global,
     publisher: &mut Publisher<S, &R>,
-    one: Reader<S>,
-    other: Reader<S>,
+    one: &mut Reader<S>,
+    other: &mut Reader<S>,
 ) -> bool {
     let ended = AtomicBool::new(false);
     let ended = &ended;
@@ -158,9 +157,9 @@ fn beside<S: ShelfName + Send + Sync, R: Threads + Wait + Abort + Sync>(
 {
     let made = shelf::<S, &R>(rt, alloc, history, 2);
     let (mut publisher, mut readers) = made.expect(rt, "a shelf");
-    let one = readers.pop().expect(rt, "a reader");
-    let other = readers.pop().expect(rt, "a second reader");
-    assert!(rt; reads_beside(rt, alloc, &mut publisher, one, other));
+    let mut one = readers.pop().expect(rt, "a reader");
+    let mut other = readers.pop().expect(rt, "a second reader");
+    assert!(rt; reads_beside(rt, alloc, &mut publisher, &mut one, &mut other));
 }
 
 #[test]
