@@ -49,7 +49,7 @@ module _ (s t : AcceptedTables) (numbers : List ℕ) (same : s ≡ t) (kept : Is
       (subst IsWithinLimits same kept).contracts_known
 
 -- what is told of the contract of a holding is told of the commodity that is held
-known_at : {X : Type 0} (xs : List X) (k : ℕ) (name : X → List ℕ) (P : List ℕ → Type 0) → k < length xs
+pub known_at : {X : Type 0} (xs : List X) (k : ℕ) (name : X → List ℕ) (P : List ℕ → Type 0) → k < length xs
     → IfSome (slice_get xs k) (λ x. P (name x))
     → P (unwrap_or (option_map name (slice_get xs k)) [])
 known_at [] k name P lt is = absurd (omega arith)

@@ -25,4 +25,5 @@ pub mod NameTexts
 pub mod NumberedLaws
 pub mod GatherLemmas
 pub mod HeldFlags
+pub mod RunLemmas
 pub mod BoundLaws

@@ -1,13 +1,15 @@
 -- The months of tiers in words of slots.
-use Rattle.std.proofs.Common.{◌≡◌, ℕ, ◌+◌, ◌%◌, ◌<◌, ◌≤◌, ◌==◌, Bool, true, false, List}
-use Rattle.std.proofs.Common.{[], ◌∷◌, ◌++◌, length, get_or, zero, suc, refl, ap, ◌∙◌, arith, bit_and}
+use Rattle.std.proofs.Common.{◌≡◌, ℕ, ◌+◌, ◌%◌, ◌<◌, ◌≤◌, ◌==◌, Bool, true, false, not, List}
+use Rattle.std.proofs.Common.{refl, ap, ◌∙◌, subst, inl, inr, arith, bit_and}
+use Rattle.std.specs.Prelude.{◌||◌, All}
 use Rattle.std.proofs.lemmas.Bool.Decides.{nat_tests}
 use Rattle.std.specs.Int.{bit_at}
 use Rattle.std.proofs.lemmas.Nat.Bits.{bit_at-zero, bit_at_and, bit_at_ones}
-use Rattle.span_tables.specs.Slots.{IsMarked, IsTierMarked, month_count, with_slot}
+use Rattle.span_tables.specs.Slots.{IsMarked, IsTierMarked, meets, month_count, with_slot}
 use Rattle.span_tables.specs.declared.records.MonthLeg.{MonthLeg}
+use Rattle.span_tables.specs.declared.records.Side.{Side}
 use Rattle.span_tables.specs.declared.slots.TheConstants.{SLOTS}
-use Rattle.span_tables.specs.near.Tiers.{HasMonths, HaveMonths}
+use Rattle.span_tables.specs.near.Tiers.{HasMonths, IsOfSide, may_have}
 use Rattle.span_tables.proofs.SlotLemmas.{marked_kept, marked_new}
 
 -- a later month has no smaller place
@@ -37,33 +39,29 @@ marked_more word next count number false e below is before =
     let lt : number < count = grind (arith, nat_tests, e, below) in
     rw is (marked_kept word count number (before lt))
 
--- ---- words of legs
-
-pub have_push : (words : List ℕ) (legs : List MonthLeg) (word : ℕ) (leg : MonthLeg) → HaveMonths words legs
-    → HasMonths word leg.first leg.last
-    → HaveMonths (words ++ word ∷ []) (legs ++ leg ∷ [])
-have_push [] [] word leg have has = (has, tt)
-have_push [] (l ∷ legs) word leg have has = absurd have
-have_push (w ∷ words) [] word leg have has = absurd have
-have_push (w ∷ words) (l ∷ legs) word leg have has = (have.0, have_push words legs word leg have.1 has)
-
-pub have_as_many : (words : List ℕ) (legs : List MonthLeg) → HaveMonths words legs → length words ≡ length legs
-have_as_many [] [] have = refl
-have_as_many [] (l ∷ legs) have = absurd have
-have_as_many (w ∷ words) [] have = absurd have
-have_as_many (w ∷ words) (l ∷ legs) have = ap suc (have_as_many words legs have.1)
-
-pub have_at : (words : List ℕ) (legs : List MonthLeg) (i : ℕ) (word : ℕ) (leg : MonthLeg) → HaveMonths words legs
-    → i < length legs
-    → HasMonths (get_or words i word) (get_or legs i leg).first (get_or legs i leg).last
-have_at [] [] i word leg have lt = absurd (omega (arith, lt))
-have_at [] (l ∷ legs) i word leg have lt = absurd have
-have_at (w ∷ words) [] i word leg have lt = absurd have
-have_at (w ∷ words) (l ∷ legs) zero word leg have lt = have.0
-have_at (w ∷ words) (l ∷ legs) (suc i) word leg have lt = have_at words legs i word leg have.1 (omega (arith, lt))
+-- ---- words of sides
 
 -- a leg whose word has no bit in common with another has no month that is marked there
-pub never_marked : (sides word : ℕ) (leg : MonthLeg) → HasMonths word leg.first leg.last → bit_and sides word ≡ 0
+never_marked : (sides word : ℕ) (leg : MonthLeg) → HasMonths word leg.first leg.last → bit_and sides word ≡ 0
     → IsTierMarked sides leg → ⊥
 never_marked sides word leg has none tier =
     marked_twice sides word (month_count tier.month) tier.marked (has tier.month tier.first tier.last) none
+
+meets_if : (on months : ℕ) (b : Bool) → (bit_and on months == 0) ≡ b → (bit_and on months ≡ 0 → ⊥) → not b ≡ true
+meets_if on months true e some = absurd (some (grind (arith, nat_tests, e)))
+meets_if on months false e some = refl
+
+or_true : (a b : Bool) → b ≡ true → (a || b) ≡ true
+or_true true b e = refl
+or_true false b e = e
+
+-- where the tier of each leg has a month that is marked, so have the months of a side
+pub side_marked : (word : Side → ℕ) (s : Side) (months : ℕ) (legs : List MonthLeg) → IsOfSide months s legs
+    → All (λ leg. IsTierMarked (word leg.side) leg) legs → may_have (word s) months ≡ true
+side_marked word s months legs (inl none) all = grind (arith, nat_tests, none)
+side_marked word s months legs (inr has) all =
+    let here : IsTierMarked (word (has.leg).side) has.leg =
+    subst (λ (leg : MonthLeg). IsTierMarked (word leg.side) leg) (has.among).2 (all (has.among).0 has.leg (has.among).1) in
+    let marked : IsTierMarked (word s) has.leg = subst (λ (t : Side). IsTierMarked (word t) has.leg) has.on_side here in
+    or_true (months == 0) (meets (word s) months)
+    (meets_if (word s) months (bit_and (word s) months == 0) refl (λ none. never_marked (word s) months has.leg has.months none marked))

@@ -8,6 +8,7 @@ pub mod Accepted
 pub mod Net
 pub mod Positions
 pub mod Holdings
+pub mod HeldCommodities
 pub mod Sides
 pub mod Slots
 pub mod Spreads

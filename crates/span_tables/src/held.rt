@@ -1,13 +1,17 @@
 //! The contracts of one commodity that an account holds (docs/METHOD.md, "Positions").
-ghost use Rattle.std.specs.Prelude.{[], ◌≡◌, ◌==◌, ◌<◌, ◌≤◌, ℕ, false, true, not};
+ghost use Rattle.std.specs.Prelude.{[], ◌++◌, ◌≡◌, ◌==◌, ◌<◌, ◌≤◌, ℕ, List, false, true, not};
 ghost use Rattle.std.specs.Prelude.{length, map, nat_abs, slice_get, slice_index_or};
-ghost use Rattle.std.specs.Prelude.{All, IfOk, IfSome};
+ghost use Rattle.std.specs.Prelude.{All, IfOk, IfSome, OnOk};
+ghost use Rattle.std.specs.List.{AllWithin};
 ghost use Rattle.std.specs.Arc.{arc_value};
 ghost use Rattle.span_tables.specs.Accepted.{IsContract, IsWithinLimits, commodity_id};
+ghost use Rattle.span_tables.specs.HeldCommodities.{AreHeldCommodities};
 ghost use Rattle.span_tables.specs.Holdings.{AreHeld, AreHoldings, fits};
 ghost use Rattle.span_tables.specs.Net.{held_contracts, held_of};
 ghost use Rattle.span_tables.specs.declared.limits.TheConstants.{MAX_HELD, MAX_NET};
-ghost use Rattle.span_tables.specs.near.Gathered.{holdings_in};
+ghost use Rattle.span_tables.specs.Tables.{AcceptedTables};
+ghost use Rattle.span_tables.specs.declared.portfolios.Holding.{Holding};
+ghost use Rattle.span_tables.specs.near.Gathered.{AreGathered, IsOf, commodity_held_of, holdings_in};
 
 use crate::groups::{lists_with_room, push_at};
 use crate::limits::MAX_COMMODITIES;
@@ -177,6 +181,121 @@ pub fn gather_all(
 {
     let lists = holdings_by_commodity(alloc, tables, portfolio)?;
     as_held(alloc, tables, lists)
+}
+
+/// The contracts of a commodity that an account holds, with the commodity's number.
+#[derive(Drop)]
+pub struct CommodityHeld {
+    pub commodity: usize,
+    pub held: Held,
+}
+
+// The holdings of a commodity, with the commodity's number.
+#[derive(Drop)]
+struct HoldingsOf {
+    commodity: usize,
+    holdings: Vec<Holding>,
+}
+
+// Where the holdings end that are of one commodity and follow one another, from the holding at a place on.
+fn end_of_run(tables: &Tables, holdings: &[Holding], start: usize, commodity: usize) -> usize
+    requires known { All (λ h. h.contract < length tables.now.contracts) holdings.now }
+    requires inside { start ≤ length holdings.now }
+    ensures begins { start ≤ result }
+    ensures inside { result ≤ length holdings.now }
+    ensures same { AllWithin (IsOf tables.now commodity) holdings.now start result }
+{
+    let mut end = start;
+    while end < holdings.len() && tables.commodity_of(holdings[end].contract) == commodity {
+        end += 1;
+    }
+    end
+}
+
+// Adds holdings of a commodity to those that are gathered.
+fn add_run(
+    alloc: Global,
+    lists: &mut Vec<HoldingsOf>,
+    commodity: usize,
+    run: &[Holding],
+) -> Result<(), AllocError>
+    requires { 0 < length run.now }
+    ensures { OnOk result ((t : AcceptedTables) (holdings : List Holding) → IsWithinLimits t → commodity < length t.commodities
+        → All (IsOf t commodity) run.now → AreGathered t holdings lists.old.items
+        → AreGathered t (holdings ++ run.now) lists.new.items) }
+{
+    let place = lists.partition_point(|list| list.commodity < commodity);
+    if place < lists.len() && lists[place].commodity == commodity {
+        lists[place].holdings.extend_from_slice(run)?;
+    } else {
+        let holdings = Vec::from_slice(alloc, run)?;
+        lists.insert(
+            place,
+            HoldingsOf {
+                commodity,
+                holdings,
+            },
+        )?;
+    }
+    Ok(())
+}
+
+// The holdings of each commodity of which there are any.
+fn held_by_commodity(
+    alloc: Global,
+    tables: &Tables,
+    portfolio: &Portfolio,
+) -> Result<Vec<HoldingsOf>, AllocError>
+    requires { fits (length tables.now.contracts) portfolio.now.holdings ≡ true }
+    ensures gathered { IfOk result (λ lists. AreGathered tables.now portfolio.now.holdings lists.items) }
+    ensures in_range { IfOk result (λ lists. All (λ l. AreHoldings tables.now.contracts l.holdings.items) lists.items) }
+{
+    // Called for its clause: the tables are within their limits.
+    let _limits = tables.commodities();
+    let holdings = portfolio.holdings();
+    let mut lists = Vec::new(alloc);
+    let mut done = 0;
+    while done < holdings.len() {
+        let commodity = tables.commodity_of(holdings[done].contract);
+        let end = end_of_run(tables, holdings, done + 1, commodity);
+        add_run(alloc, &mut lists, commodity, &holdings[done..end])?;
+        done = end;
+    }
+    Ok(lists)
+}
+
+// The held contracts of each of these commodities.
+fn with_records(
+    alloc: Global,
+    tables: &Tables,
+    lists: Vec<HoldingsOf>,
+) -> Result<Vec<CommodityHeld>, AllocError>
+    requires { All (λ l. AreHoldings tables.now.contracts l.holdings.items) lists.items }
+    ensures { IfOk result (λ list. list.items ≡ map (commodity_held_of tables.now.contracts) lists.items) }
+{
+    let mut list = Vec::with_capacity(alloc, lists.len())?;
+    for of in lists {
+        let held = Held::new(tables.share_contracts()?, of.holdings);
+        list.push(CommodityHeld {
+            commodity: of.commodity,
+            held,
+        })?;
+    }
+    Ok(list)
+}
+
+/// The commodities of which an account holds something, by rising numbers, each with its held contracts, in one pass over
+/// the holdings. What is not held costs nothing.
+pub fn gather_held(
+    alloc: Global,
+    tables: &Tables,
+    portfolio: &Portfolio,
+) -> Result<Vec<CommodityHeld>, AllocError>
+    requires { fits (length tables.now.contracts) portfolio.now.holdings ≡ true }
+    ensures { IfOk result (λ list. AreHeldCommodities tables.now portfolio.now.holdings list.items) }
+{
+    let lists = held_by_commodity(alloc, tables, portfolio)?;
+    with_records(alloc, tables, lists)
 }
 
 /// Which commodities an account holds a contract of, by the commodities' numbers, in one pass over the holdings. It takes

@@ -6,7 +6,7 @@ ghost use Rattle.span_tables.specs.near.Legs.{slots_on};
 use crate::name::Name;
 use crate::sides::{Direction, market_side};
 use crate::slots::{OpenSides, Slots};
-use crate::tier_slots::{may_form, months_of_legs};
+use crate::tier_slots::{may_have, months_on};
 use arrayvec::ArrayVec;
 use span_money::amounts::{Delta, Ratio, Scale};
 use std::marker::Model;
@@ -213,19 +213,21 @@ pub struct MonthLeg {
 #[derive(Drop)]
 pub struct Intra {
     legs: ArrayVec<MonthLeg, 4>,
-    months: ArrayVec<Slots, 4>,
+    // The months of the tier of the first leg on side A, and of the first leg on side B.
+    a: Slots,
+    b: Slots,
     rate: u32,
 }
 
 impl Model for Intra {
     ghost use Rattle.span_tables.specs.Spreads.{IntraSpread};
-    ghost use Rattle.span_tables.specs.near.Tiers.{HaveMonths};
+    ghost use Rattle.span_tables.specs.near.Tiers.{AreOfTiers};
 
     ghost Value = { IntraSpread };
 
     ghost view = { λ s. record { rate = s.rate; legs = s.legs.items } };
 
-    ghost invariant = { λ s. HaveMonths s.months.items s.legs.items };
+    ghost invariant = { λ s. AreOfTiers s.a s.b s.legs.items };
 }
 
 impl Intra {
@@ -237,8 +239,9 @@ impl Intra {
     pub fn new(rate: u32, legs: ArrayVec<MonthLeg, 4>) -> Intra
         ensures { result ≡ record { rate = rate; legs = legs.items } }
     {
-        let months = months_of_legs(&legs);
-        Intra { legs, months, rate }
+        let a = months_on(&legs, Side::A);
+        let b = months_on(&legs, Side::B);
+        Intra { legs, a, b, rate }
     }
 
     /// The rate, in minor units a spread.
@@ -255,18 +258,16 @@ impl Intra {
         &self.legs
     }
 
-    /// Whether the tier of each leg may have a rest on the side of the market that the leg needs in a direction.
+    /// Whether the tier of each leg may have a rest on the side of the market that the leg needs in a direction. Only the
+    /// first leg on each side is looked at.
     ///
     /// `false` tells that one of them has none.
+    #[inline(always)]
     pub fn may_form(&self, direction: Direction, sides: &OpenSides) -> bool
         ensures { All (λ leg. IsTierMarked (numbers_on (market_side direction leg.side) sides.now) leg) self.now.legs → result ≡ true }
     {
-        may_form(
-            self.legs.as_slice(),
-            self.months.as_slice(),
-            direction,
-            sides,
-        )
+        may_have(sides.on(market_side(direction, Side::A)), self.a)
+            && may_have(sides.on(market_side(direction, Side::B)), self.b)
     }
 }
 

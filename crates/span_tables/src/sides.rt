@@ -29,6 +29,7 @@ pub struct SpreadsFormed {
 }
 
 /// The market side of a leg's side, in a direction.
+#[inline(always)]
 pub fn market_side(direction: Direction, side: Side) -> MarketSide
     ensures { result ≡ market_side direction side }
 {

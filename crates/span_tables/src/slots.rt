@@ -1,5 +1,5 @@
 //! Sets of numbers in a word each: of some numbers they tell that they are not in the set.
-ghost use Rattle.std.specs.Prelude.{◌≡◌, ◌^◌, ◌-◌, ℕ, ℤ};
+ghost use Rattle.std.specs.Prelude.{◌≡◌, ◌==◌, ◌^◌, ◌-◌, ℕ, ℤ};
 ghost use Rattle.span_tables.specs.Slots.{IsOpenAt, has_all, meets, numbers_on, with_slot};
 ghost use Rattle.span_tables.specs.declared.slots.OpenSides.{OpenSides};
 ghost use Rattle.span_tables.specs.declared.slots.TheConstants.{SLOTS};
@@ -61,7 +61,16 @@ impl Slots {
         self.word & other.word == other.word
     }
 
+    /// Whether no slot is marked.
+    #[inline(always)]
+    pub fn is_none(self) -> bool
+        ensures { result ≡ (self == 0) }
+    {
+        self.word == 0
+    }
+
     /// Whether some slot is marked in this set and in another.
+    #[inline(always)]
     pub fn meets(self, other: Slots) -> bool
         ensures { result ≡ meets self other }
     {
@@ -88,6 +97,7 @@ impl OpenSides {
     }
 
     /// The numbers that may have a rest on a side of the market.
+    #[inline(always)]
     pub fn on(&self, side: MarketSide) -> Slots
         ensures { result ≡ numbers_on side self.now }
     {

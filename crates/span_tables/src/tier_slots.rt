@@ -1,13 +1,10 @@
 //! The months of tiers in words of slots, by which a leg that has nothing to use is mostly seen at once.
-ghost use Rattle.std.specs.Prelude.{◌≡◌, ◌≤◌, All, length, true};
-ghost use Rattle.span_tables.specs.Sides.{market_side};
-ghost use Rattle.span_tables.specs.Slots.{IsTierMarked, month_count, numbers_on};
-ghost use Rattle.span_tables.specs.near.Tiers.{HasMonths, HaveMonths};
+ghost use Rattle.std.specs.Prelude.{◌≡◌};
+ghost use Rattle.span_tables.specs.Slots.{month_count};
+ghost use Rattle.span_tables.specs.near.Tiers.{HasMonths, IsOfSide, may_have};
 
-use crate::records::MonthLeg;
-use crate::sides::{Direction, market_side};
-use crate::slots::{OpenSides, SLOTS, Slots};
-use arrayvec::ArrayVec;
+use crate::records::{MonthLeg, Side};
+use crate::slots::{SLOTS, Slots};
 
 /// The place of a month (`yyyymm`) among all months.
 pub fn month_count(month: u32) -> usize
@@ -33,33 +30,22 @@ fn months_between(first: u32, last: u32) -> Slots
     slots
 }
 
-/// For each leg the slots of its tier's months.
-pub(crate) fn months_of_legs(legs: &[MonthLeg]) -> ArrayVec<Slots, 4>
-    requires { length legs.now ≤ 4 }
-    ensures { HaveMonths result.items legs.now }
+/// The slots of the months of the first leg's tier on a side, and no slot where no leg is on it.
+pub(crate) fn months_on(legs: &[MonthLeg], side: Side) -> Slots
+    ensures { IsOfSide result side legs.now }
 {
-    let mut months = ArrayVec::new();
     for leg in legs {
-        months.push(months_between(leg.first, leg.last));
-    }
-    months
-}
-
-/// Whether the tier of each leg, of these months, may have a rest on the market side that the leg needs.
-pub(crate) fn may_form(
-    legs: &[MonthLeg],
-    months: &[Slots],
-    direction: Direction,
-    sides: &OpenSides,
-) -> bool
-    requires { HaveMonths months.now legs.now }
-    ensures { All (λ leg. IsTierMarked (numbers_on (market_side direction leg.side) sides.now) leg) legs.now → result ≡ true }
-{
-    for i in 0..legs.len() {
-        let on = sides.on(market_side(direction, legs[i].side));
-        if !on.meets(months[i]) {
-            return false;
+        if leg.side == side {
+            return months_between(leg.first, leg.last);
         }
     }
-    true
+    Slots::none()
+}
+
+/// Whether some of these months may have a rest, where months are marked that may have one. Of no months none is asked for.
+#[inline(always)]
+pub(crate) fn may_have(marked: Slots, months: Slots) -> bool
+    ensures { result ≡ may_have marked months }
+{
+    months.is_none() || marked.meets(months)
 }

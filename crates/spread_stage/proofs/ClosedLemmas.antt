@@ -17,11 +17,12 @@ use Rattle.span_tables.specs.declared.sides.MarketSide.TheVariants.{Long, Short}
 use Rattle.span_tables.specs.declared.records.Intra.{Intra}
 use Rattle.span_tables.specs.declared.records.MonthLeg.{MonthLeg}
 use Rattle.span_tables.specs.declared.records.Spot.{Spot}
+use Rattle.span_tables.specs.declared.limits.TheConstants.{MAX_RATE}
 use Rattle.spread_stage.specs.Charges.{delivery_charge, spot_charge}
-use Rattle.spread_stage.specs.Months.{IsPartOf, Shrinks}
+use Rattle.spread_stage.specs.Months.{IsPartOf, MonthsRise, Shrinks, total_size}
 use Rattle.spread_stage.specs.Spreads.{after_spreads, is_in_tier, spread_both_ways, spread_one_way, TierRests, tier_rooms, tier_side}
 use Rattle.spread_stage.specs.Spreads.{unspread}
-use Rattle.spread_stage.specs.near.Sides.{HaveSides}
+use Rattle.spread_stage.specs.near.Sides.{AreTiers, HaveSides}
 use Rattle.spread_stage.specs.declared.months.MonthUnits.{MonthUnits}
 use Rattle.spread_stage.proofs.SpreadLemmas.{legs_none}
 use Rattle.spread_stage.proofs.UseLaws.{side-cons, weight}
@@ -62,6 +63,15 @@ have_rests sides (m ∷ months) (r ∷ rests) h have =
     let there : IsOpenAt sides (month_count m.month) r.units = λ on above. here on (omega (arith, less on, above)) in
     All-cons P r rests (subst (λ (k : ℕ). IsOpenAt sides (month_count k) r.units) (sym h.0) there)
     (have_rests sides months rests (h.1).1 (All-tail P m months have))
+
+-- rests and charge after spreads stay within their bounds, and on the sides of the rests before them
+pub tiers_after : (t : TierRests) (sides : OpenSides) (rests : List MonthUnits) (charge : ℕ) → AreTiers t sides
+    → MonthsRise rests → Shrinks t.rests rests → charge + MAX_RATE * total_size rests ≤ t.charge + MAX_RATE * total_size t.rests
+    → AreTiers (record { rests = rests; charge = charge }) sides
+tiers_after t sides rests charge are rise shrinks small = record {
+  rests = record { rise = rise; small = (let before = (are.rests).small in omega (arith, before, small)) };
+  have = have_rests sides t.rests rests shrinks are.have;
+}
 
 -- ---- a leg that has something to use
 
@@ -134,7 +144,8 @@ formed_of_nothing d [] = refl
 formed_of_nothing d (leg ∷ []) = zero-div leg.ratio
 formed_of_nothing d (leg ∷ x ∷ xs) = let none = zero-div leg.ratio in omega (arith, none)
 
-one_way_none : (t : TierRests) (s : Intra) (d : Direction) → spreads_formed (tier_rooms d s.legs t.rests) ≡ 0
+-- a spread that forms nothing in a direction changes nothing
+pub one_way_none : (t : TierRests) (s : Intra) (d : Direction) → spreads_formed (tier_rooms d s.legs t.rests) ≡ 0
     → spread_one_way s d t ≡ t
 one_way_none t s d e =
     let n = spreads_formed (tier_rooms d s.legs t.rests) in

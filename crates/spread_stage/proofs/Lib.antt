@@ -4,6 +4,7 @@ pub mod DeltaLemmas
 pub mod ForwardLemmas
 pub mod GatherLemmas
 pub mod UseLemmas
+pub mod PlaceLemmas
 pub mod SizeLemmas
 pub mod SpreadLemmas
 pub mod FallLemmas

@@ -6,7 +6,6 @@ use Rattle.std.proofs.Math.Nat.{add-mul, mul-le-mul}
 use Rattle.std.proofs.lemmas.Int.{ints}
 use Rattle.span_tables.specs.Sides.{market_side, part_on, less_used, spreads_formed}
 use Rattle.span_tables.specs.declared.sides.Direction.{Direction}
-use Rattle.span_tables.specs.declared.sides.Direction.TheVariants.{ALong, AShort}
 use Rattle.span_tables.specs.declared.sides.MarketSide.{MarketSide}
 use Rattle.span_tables.specs.declared.sides.MarketSide.TheVariants.{Long, Short}
 use Rattle.span_tables.specs.Laws.{Fits}
@@ -146,21 +145,6 @@ module _ (d : Direction) where
       let others = tier_rooms d legs rests in
       let fits = formed_fit (record { side = tier_side rests (market_side d leg.side) leg; ratio = leg.ratio }) others in
       first_falls d (spreads_formed (tier_rooms d (leg ∷ legs) rests)) leg legs rests rise (above 0 leg (omega arith)) fits.0
-
--- both directions, one after the other
-pub both_ways : (t : TierRests) (s : Intra) (legs : List MonthLeg) (none first second : List MonthUnits) (n k charge : ℕ)
-    → legs ≡ s.legs → none ≡ t.rests
-    → n ≡ spreads_formed (tier_rooms ALong legs none) → first ≡ rests_after ALong n legs none
-    → k ≡ spreads_formed (tier_rooms AShort legs first) → second ≡ rests_after AShort k legs first
-    → charge ≡ t.charge + n * s.rate + k * s.rate → record { rests = second; charge = charge } ≡ spread_both_ways t s
-unfolding spread_both_ways
-both_ways t s legs none first second n k charge a b e f g h i = cc
-
--- the spreads of both directions, those of the second from what the first leaves
-pub formed_both-is : (t : TierRests) (s : Intra) (first : List MonthUnits) (n k : ℕ)
-    → n ≡ spreads_formed (tier_rooms ALong s.legs t.rests) → first ≡ rests_after ALong n s.legs t.rests
-    → k ≡ spreads_formed (tier_rooms AShort s.legs first) → record { a_long = n; a_short = k } ≡ formed_both t s
-formed_both-is t s first n k a b c = cc
 
 two_rates : (c n k r : ℕ) → c + n * r + k * r ≡ c + (n + k) * r
 two_rates c n k r = let e : (n + k) * r ≡ n * r + k * r = add-mul n k r in omega (arith, e)

@@ -1,14 +1,16 @@
 //! The rests of months after intracommodity spreads, and the exact charge of the spreads (docs/METHOD.md, Intracommodity
 //! spreads; Charges).
-ghost use Rattle.std.specs.Prelude.{◌≡◌, false, ℕ, ◌+◌, ◌*◌, ◌<◌, ◌≤◌, List, [], ◌∷◌, length, All, IfOk};
+ghost use Rattle.std.specs.Prelude.{◌≡◌, false, ◌+◌, ◌*◌, ◌<◌, ◌≤◌, List, [], ◌∷◌, length, sum_by, All, IfOk};
+ghost use Rattle.std.specs.List.{AllWithin};
+ghost use Rattle.std.specs.List.Sorted.{IsPartitionPoint};
 ghost use Rattle.span_tables.specs.Accepted.{IsIntra};
-ghost use Rattle.span_tables.specs.Sides.{spreads_formed};
+ghost use Rattle.span_tables.specs.Sides.{part_on, spreads_formed};
 ghost use Rattle.span_tables.specs.declared.limits.TheConstants.{MAX_RATE, MAX_UNITS};
 ghost use Rattle.spread_stage.specs.Months.{AreMonths, AreTierRests, MonthsRise, Shrinks, total_size};
-ghost use Rattle.spread_stage.specs.Spreads.{formed_both, is_in_tier, rests_after, rests_after_leg};
-ghost use Rattle.spread_stage.specs.Spreads.{spread_both_ways, tier_rooms, tier_side, unspread};
-ghost use Rattle.spread_stage.specs.near.Sides.{HaveSides};
-ghost use Rattle.spread_stage.specs.near.Uses.{used_now};
+ghost use Rattle.spread_stage.specs.Spreads.{formed_both, formed_in, rests_after, rests_after_leg, spread_both_ways};
+ghost use Rattle.spread_stage.specs.Spreads.{spread_one_way, tier_rooms, tier_side, unspread};
+ghost use Rattle.spread_stage.specs.near.Places.{IsTierAt};
+ghost use Rattle.spread_stage.specs.near.Uses.{used_in_turn};
 ghost use Rattle.spread_stage.specs.declared.months.MonthUnits.{MonthUnits};
 
 use crate::months::{MonthUnits, Months};
@@ -19,6 +21,9 @@ use span_tables::sides::{Direction, MarketSide, SpreadsFormed, less_used, market
 use span_tables::slots::OpenSides;
 use std::alloc::{AllocError, Global};
 use std::marker::Model;
+
+// So many months are gone through one by one.
+const FEW_MONTHS: usize = 8;
 
 /// What spreads left of the delta of each month, and the exact sum of the spreads formed times their rates.
 ///
@@ -72,6 +77,7 @@ impl TierState {
 
     /// Whether a spread may be formed. `false` tells that it changes nothing; `true` tells nothing, since a side that spreads
     /// used up still counts.
+    #[inline(always)]
     pub fn may_spread(&self, intra: &Intra) -> bool
         ensures { result ≡ false → spread_both_ways self.now intra.now ≡ self.now }
     {
@@ -80,53 +86,125 @@ impl TierState {
     }
 
     /// Forms one more spread in both directions, with side A long first.
+    #[inline(always)]
     pub fn spread(&mut self, intra: &Intra)
         requires { IsIntra intra.now }
         ensures value { self.new ≡ spread_both_ways self.old intra.now }
         ensures shrinks { (months : List MonthUnits) → Shrinks months self.old.rests → Shrinks months self.new.rests }
     {
-        if self.may_spread(intra) {
-            self.charge += spread_rests(&mut self.rests, &self.sides, intra);
-        }
+        self.spread_counted(intra);
     }
 
     /// The same as `spread`, and tells how many spreads it forms in each direction, in 10^-4 spreads.
+    #[inline(always)]
     pub fn spread_counted(&mut self, intra: &Intra) -> SpreadsFormed
         requires { IsIntra intra.now }
         ensures value { self.new ≡ spread_both_ways self.old intra.now }
         ensures formed { result ≡ formed_both self.old intra.now }
         ensures shrinks { (months : List MonthUnits) → Shrinks months self.old.rests → Shrinks months self.new.rests }
     {
-        let formed = form_both(&mut self.rests, &self.sides, intra);
-        self.charge += charge_of(formed.a_long, intra.rate())
-            + charge_of(formed.a_short, intra.rate());
+        let a_long = self.spread_one_way(Direction::ALong, intra);
+        let a_short = self.spread_one_way(Direction::AShort, intra);
+        SpreadsFormed { a_long, a_short }
+    }
+
+    // Forms a spread in one direction, and gives how many spreads, in 10^-4 spreads. Of most spreads the words of their legs'
+    // months tell that they form nothing.
+    #[inline(always)]
+    fn spread_one_way(&mut self, direction: Direction, intra: &Intra) -> u64
+        requires { IsIntra intra.now }
+        ensures value { self.new ≡ spread_one_way intra.now direction self.old }
+        ensures formed { result ≡ formed_in intra.now direction self.old }
+        ensures shrinks { (months : List MonthUnits) → Shrinks months self.old.rests → Shrinks months self.new.rests }
+    {
+        if intra.may_form(direction, &self.sides) {
+            self.form_one_way(direction, intra)
+        } else {
+            0
+        }
+    }
+
+    // The same, with no look at the words.
+    #[inline(never)]
+    fn form_one_way(&mut self, direction: Direction, intra: &Intra) -> u64
+        requires { IsIntra intra.now }
+        ensures value { self.new ≡ spread_one_way intra.now direction self.old }
+        ensures formed { result ≡ formed_in intra.now direction self.old }
+        ensures shrinks { (months : List MonthUnits) → Shrinks months self.old.rests → Shrinks months self.new.rests }
+    {
+        let formed = form(&mut self.rests, direction, intra.legs());
+        self.charge += charge_of(formed, intra.rate());
         formed
     }
 }
 
-// Whether a month is one of a leg's tier.
-fn is_in_tier(leg: &MonthLeg, month: &MonthUnits) -> bool
-    ensures { result ≡ is_in_tier leg.now month.now }
+// A place that no month from this one on stands before, near to the first place of such a month: the months are halved
+// until few are left.
+fn place_near(rests: &[MonthUnits], month: u32) -> usize
+    requires { MonthsRise rests.now }
+    ensures bound { result ≤ length rests.now }
+    ensures earlier { AllWithin (λ m. m.month < month) rests.now 0 result }
 {
-    leg.first <= month.month && month.month <= leg.last
+    let mut place = 0;
+    let mut left = rests.len();
+    while left > FEW_MONTHS {
+        let half = left / 2;
+        if rests[place + half].month < month {
+            place += half;
+        }
+        left -= half;
+    }
+    place
+}
+
+// How many months are earlier than this one.
+fn months_before(rests: &[MonthUnits], month: u32) -> usize
+    requires { MonthsRise rests.now }
+    ensures bound { result ≤ length rests.now }
+    ensures parted { IsPartitionPoint (λ m. m.month < month) (λ m. month ≤ m.month) rests.now result }
+{
+    let mut place = place_near(rests, month);
+    while place < rests.len() && rests[place].month < month {
+        place += 1;
+    }
+    place
+}
+
+// Where the months of a leg's tier stand: from the first of the two places on, and before the second. They stand together,
+// since months rise.
+fn tier_places(rests: &[MonthUnits], leg: &MonthLeg) -> (usize, usize)
+    requires { MonthsRise rests.now }
+    ensures { IsTierAt leg.now rests.now result.0 result.1 }
+{
+    let start = months_before(rests, leg.first);
+    let mut end = start;
+    while end < rests.len() && rests[end].month <= leg.last {
+        end += 1;
+    }
+    (start, end)
+}
+
+// What months have on a side of the market, in units of 10^-8.
+fn sum_on(months: &[MonthUnits], on: MarketSide) -> u64
+    requires { sum_by (λ m. part_on on m.units) months.now ≤ MAX_UNITS }
+    ensures { result ≡ sum_by (λ m. part_on on m.units) months.now }
+{
+    months.iter().map(|month| part_on(on, month.units)).sum()
 }
 
 // The side of a leg's tier, in units of 10^-8: the sum of its months' parts.
 fn tier_side(rests: &[MonthUnits], on: MarketSide, leg: &MonthLeg) -> u64
-    requires { total_size rests.now ≤ MAX_UNITS }
+    requires rise { MonthsRise rests.now }
+    requires small { total_size rests.now ≤ MAX_UNITS }
     ensures { result ≡ tier_side rests.now on leg.now }
 {
-    let mut side = 0;
-    for rest in rests {
-        if is_in_tier(leg, rest) {
-            side += part_on(on, rest.units);
-        }
-    }
-    side
+    let (start, end) = tier_places(rests, leg);
+    sum_on(&rests[start..end], on)
 }
 
 // How many spreads a leg has room for, in 10^-4 spreads.
 fn room(rests: &[MonthUnits], direction: Direction, leg: &MonthLeg) -> u64
+    requires rise { MonthsRise rests.now }
     requires small { total_size rests.now ≤ MAX_UNITS }
     requires ratio { 0 < leg.now.ratio }
     ensures { result ≡ spreads_formed (tier_rooms direction (leg.now ∷ []) rests.now) }
@@ -140,6 +218,7 @@ fn room(rests: &[MonthUnits], direction: Direction, leg: &MonthLeg) -> u64
 
 // The number of spreads that the legs have room for, in 10^-4 spreads.
 fn spreads_formed(rests: &[MonthUnits], direction: Direction, legs: &[MonthLeg]) -> u64
+    requires rise { MonthsRise rests.now }
     requires small { total_size rests.now ≤ MAX_UNITS }
     requires ratios { All (λ leg. 0 < leg.ratio) legs.now }
     ensures { result ≡ spreads_formed (tier_rooms direction legs.now rests.now) }
@@ -157,14 +236,16 @@ fn spreads_formed(rests: &[MonthUnits], direction: Direction, legs: &[MonthLeg])
     }
 }
 
-// What a leg that still needs so many units uses of a month.
-fn used_now(month: &MonthUnits, on: MarketSide, leg: &MonthLeg, needed: u64) -> u64
-    ensures { result ≡ used_now on leg.now needed month.now }
+// Takes so many units on a side of the market, from the earliest month on.
+fn use_months(months: &mut [MonthUnits], on: MarketSide, needed: u64)
+    requires { total_size months.old ≤ MAX_UNITS }
+    ensures { months.new ≡ used_in_turn on needed months.old }
 {
-    if is_in_tier(leg, month) {
-        part_on(on, month.units).min(needed)
-    } else {
-        0
+    let mut needed = needed;
+    for month in months.iter_mut() {
+        let used = part_on(on, month.units).min(needed);
+        month.units = less_used(on, month.units, used);
+        needed -= used;
     }
 }
 
@@ -174,12 +255,8 @@ fn use_leg(rests: &mut [MonthUnits], on: MarketSide, leg: &MonthLeg, needed: u64
     requires small { total_size rests.old ≤ MAX_UNITS }
     ensures { rests.new ≡ rests_after_leg on needed rests.old leg.now }
 {
-    let mut needed = needed;
-    for rest in rests.iter_mut() {
-        let used = used_now(rest, on, leg, needed);
-        rest.units = less_used(on, rest.units, used);
-        needed -= used;
-    }
+    let (start, end) = tier_places(rests, leg);
+    use_months(&mut rests[start..end], on, needed);
 }
 
 // Takes what each leg of so many spreads needs, one leg after the other.
@@ -214,29 +291,6 @@ fn form(rests: &mut [MonthUnits], direction: Direction, legs: &[MonthLeg]) -> u6
     formed
 }
 
-// The same, looked at where each leg may have something to use on its side.
-fn spread_one_way(
-    rests: &mut [MonthUnits],
-    sides: &OpenSides,
-    direction: Direction,
-    intra: &Intra,
-) -> u64
-    requires have { HaveSides sides.now rests.old }
-    requires intra { IsIntra intra.now }
-    requires rise { MonthsRise rests.old }
-    requires small { total_size rests.old ≤ MAX_UNITS }
-    ensures formed { result ≡ spreads_formed (tier_rooms direction intra.now.legs rests.old) }
-    ensures rests { rests.new ≡ rests_after direction result intra.now.legs rests.old }
-    ensures rise { MonthsRise rests.new }
-    ensures less { result + total_size rests.new ≤ total_size rests.old }
-    ensures shrinks { (months : List MonthUnits) → Shrinks months rests.old → Shrinks months rests.new }
-{
-    if !intra.may_form(direction, sides) {
-        return 0;
-    }
-    form(rests, direction, intra.legs())
-}
-
 // The charge of so many spreads, in 10^-4 minor units.
 fn charge_of(formed: u64, rate: u32) -> u128
     requires formed { formed ≤ MAX_UNITS }
@@ -259,44 +313,6 @@ pub fn start(alloc: Global, months: &Months) -> Result<TierState, AllocError>
         charge: 0,
         sides,
     })
-}
-
-// Forms a spread in both directions, with side A long first, and gives its charge, in 10^-4 minor units.
-fn spread_rests(rests: &mut [MonthUnits], sides: &OpenSides, intra: &Intra) -> u128
-    requires have { HaveSides sides.now rests.old }
-    requires intra { IsIntra intra.now }
-    requires rise { MonthsRise rests.old }
-    requires small { total_size rests.old ≤ MAX_UNITS }
-    ensures value { (charge : ℕ) → record { rests = rests.new; charge = charge + result }
-        ≡ spread_both_ways (record { rests = rests.old; charge = charge }) intra.now }
-    ensures rise { MonthsRise rests.new }
-    ensures have { HaveSides sides.now rests.new }
-    ensures bound { result + MAX_RATE * total_size rests.new ≤ MAX_RATE * total_size rests.old }
-    ensures shrinks { (months : List MonthUnits) → Shrinks months rests.old → Shrinks months rests.new }
-{
-    let first = spread_one_way(rests, sides, Direction::ALong, intra);
-    let second = spread_one_way(rests, sides, Direction::AShort, intra);
-    charge_of(first, intra.rate()) + charge_of(second, intra.rate())
-}
-
-// Forms a spread in both directions, with side A long first, and gives how many spreads in each.
-fn form_both(rests: &mut [MonthUnits], sides: &OpenSides, intra: &Intra) -> SpreadsFormed
-    requires have { HaveSides sides.now rests.old }
-    requires intra { IsIntra intra.now }
-    requires rise { MonthsRise rests.old }
-    requires small { total_size rests.old ≤ MAX_UNITS }
-    ensures formed { (charge : ℕ) → result ≡ formed_both (record { rests = rests.old; charge = charge }) intra.now }
-    ensures value { (charge : ℕ)
-        → record { rests = rests.new; charge = charge + (result.a_long * intra.now.rate + result.a_short * intra.now.rate) }
-        ≡ spread_both_ways (record { rests = rests.old; charge = charge }) intra.now }
-    ensures rise { MonthsRise rests.new }
-    ensures have { HaveSides sides.now rests.new }
-    ensures less { result.a_long + result.a_short + total_size rests.new ≤ total_size rests.old }
-    ensures shrinks { (months : List MonthUnits) → Shrinks months rests.old → Shrinks months rests.new }
-{
-    let a_long = spread_one_way(rests, sides, Direction::ALong, intra);
-    let a_short = spread_one_way(rests, sides, Direction::AShort, intra);
-    SpreadsFormed { a_long, a_short }
 }
 
 /// The state after one more spread, formed in both directions, with side A long first. `Err` is want of memory, and `tiers`

@@ -1,9 +1,7 @@
--- How months gather their units, and what a leg uses of them in turn.
+-- How months gather their units, and what is used of them in turn.
 use Rattle.std.specs.Prelude.{ℕ, ◌-◌, ◌==◌, min, nat_lt, if◌then◌else◌, List, [], ◌∷◌, ℤ, ◌+ℤ◌}
 use Rattle.span_tables.specs.Sides.{part_on, less_used}
 use Rattle.span_tables.specs.declared.sides.MarketSide.{MarketSide}
-use Rattle.span_tables.specs.declared.records.MonthLeg.{MonthLeg}
-use Rattle.spread_stage.specs.Spreads.{is_in_tier}
 use Rattle.spread_stage.specs.declared.months.MonthUnits.{MonthUnits}
 
 -- months with a month's units added: to what the month has, or as one more month in its place
@@ -26,13 +24,9 @@ abbrev pub gathered : List MonthUnits → List MonthUnits
 gathered [] = []
 gathered (m ∷ ms) = with_units m.month m.units (gathered ms)
 
--- what a leg that still needs so many units uses of a month
-abbrev pub used_now : MarketSide → MonthLeg → ℕ → MonthUnits → ℕ
-used_now on leg needed m = if is_in_tier leg m then min (part_on on m.units) needed else 0
-
--- months of which a leg uses what it needs, one after the other
-abbrev pub used_in_turn : MarketSide → MonthLeg → ℕ → List MonthUnits → List MonthUnits
-used_in_turn on leg needed [] = []
-used_in_turn on leg needed (m ∷ ms) =
-    record { month = m.month; units = less_used on m.units (used_now on leg needed m) }
-    ∷ used_in_turn on leg (needed - used_now on leg needed m) ms
+-- months of which so many units on a side of the market were used, one month after the other
+abbrev pub used_in_turn : MarketSide → ℕ → List MonthUnits → List MonthUnits
+used_in_turn on needed [] = []
+used_in_turn on needed (m ∷ ms) =
+    record { month = m.month; units = less_used on m.units (min (part_on on m.units) needed) }
+    ∷ used_in_turn on (needed - min (part_on on m.units) needed) ms

@@ -1,37 +1,17 @@
-use Rattle.std.proofs.Common.{◌≡◌, ◌≤◌, ◌<◌, ◌++◌, [], nat_abs, sym, ap, ◌∙◌, arith, length, drop, take, List}
-use Rattle.std.proofs.Common.{sum_by}
-use Rattle.std.proofs.Math.ListN.{drop_of_length-le}
-use Rattle.std.proofs.Math.Seq.{take-length}
-use Rattle.std.proofs.lemmas.List.{append-nil}
-use Rattle.std.proofs.lemmas.List.Sums.{sum_by-drop_more, sum_by-take-drop}
-use Rattle.span_tables.specs.declared.limits.TheConstants.{MAX_UNITS}
-use Rattle.spread_stage.specs.Months.{total_size}
-use Rattle.spread_stage.specs.near.Uses.{used_in_turn}
+use Rattle.std.proofs.Common.{◌++◌, ap, ◌∙◌, arith, take, List}
 use Rattle.spread_stage.specs.declared.months.MonthUnits.{MonthUnits}
-use Rattle.spread_stage.proofs.UseLemmas.{in_turn_is}
+use Rattle.spread_stage.proofs.PlaceLemmas.{back, size_at, used_at}
 use Rattle.spread_stage.proofs.tiers.use_leg.Goals as goal
 
-pub less_used-rest-requires-clause-rest : goal.less_used-rest-requires-clause-rest
-less_used-rest-requires-clause-rest c =
-    let f = λ (m : MonthUnits). nat_abs m.units in
-    let i = c.loop-rest.rest-index in
-    let lt : i < length c.loop-rest.rests = omega arith in
-    let here = sum_by-drop_more f c.loop-rest.rests i c.rest-item.result lt in
-    let same : sum_by f (drop i c.loop-rest.rests) ≡ sum_by f (drop i c.args.rests.now) = ap (sum_by f) c.loop-rest.invariant.rest in
-    let all = sum_by-take-drop f c.args.rests.now i in
-    let small : total_size c.args.rests.now ≤ MAX_UNITS = c.requires.small in
-    omega (arith, here, same, all, small)
+pub use_months-requires : goal.use_months-requires
+use_months-requires c =
+    let less = size_at c.args.leg.now c.args.rests.now _ _ c.tier_places-start.ensures in
+    let small = c.requires.small in
+    omega (arith, less, small)
 
 pub returns : goal.returns
 returns c =
-    let rests = c.loop-rest.rests in
-    let i = c.loop-rest.rest-index in
-    let long : length rests ≤ i = omega arith in
-    let end : i ≡ length rests = omega arith in
-    let whole : take i rests ≡ rests = ap (λ n. take n rests) end ∙ take-length rests in
-    let none : drop i rests ≡ [] = drop_of_length-le rests long in
-    sym (ap (λ (xs : List MonthUnits). xs ++ used_in_turn c.args.on c.args.leg.now c.loop-rest.needed (drop i rests)) whole
-    ∙ ap (λ (xs : List MonthUnits). rests ++ used_in_turn c.args.on c.args.leg.now c.loop-rest.needed xs) none
-    ∙ append-nil rests)
-    ∙ c.loop-rest.invariant.all
-    ∙ in_turn_is c.args.on c.args.leg.now c.args.needed c.args.rests.now c.requires.rise
+    let at = c.tier_places-start in
+    ap (λ (xs : List MonthUnits). take at.result.0 c.args.rests.now
+    ++ (xs ++ back c.args.leg.now c.args.rests.now at.result.0 at.result.1 at.ensures)) c.use_months.ensures
+    ∙ used_at c.args.leg.now c.args.rests.now _ _ at.ensures c.args.on c.args.needed c.requires.rise

@@ -1,0 +1,14 @@
+-- Where the months of a tier stand.
+use Rattle.std.specs.Prelude.{◌≡◌, ℕ, ◌≤◌, true, false, List, length}
+use Rattle.std.specs.List.{AllWithin}
+use Rattle.span_tables.specs.declared.records.MonthLeg.{MonthLeg}
+use Rattle.spread_stage.specs.Spreads.{is_in_tier}
+use Rattle.spread_stage.specs.declared.months.MonthUnits.{MonthUnits}
+
+-- the months of the leg's tier are those from one place on and before another
+pub record IsTierAt (leg : MonthLeg) (rests : List MonthUnits) (start stop : ℕ) : Type 0 where
+  pub order : start ≤ stop
+  pub stops : stop ≤ length rests
+  pub before : AllWithin (λ m. is_in_tier leg m ≡ false) rests 0 start
+  pub inside : AllWithin (λ m. is_in_tier leg m ≡ true) rests start stop
+  pub behind : AllWithin (λ m. is_in_tier leg m ≡ false) rests stop (length rests)
