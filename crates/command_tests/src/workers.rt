@@ -7,7 +7,7 @@ use std::alloc::{AllocError, Global};
 use std::process::Abort;
 use std::sync::Wait;
 use std::sync::atomic::Ordering::SeqCst;
-use std::sync::atomic::{AtomicBool, AtomicU64};
+use std::sync::atomic::{AtomicBool, AtomicU64, AtomicUsize};
 use std::thread;
 use std::thread::Threads;
 use std::time::Clock;
@@ -16,15 +16,22 @@ use worker_pool::gates::Gate;
 
 /// The steps of the plan of two commodities with a spread between them.
 const STEPS: usize = 23;
+/// Their order on one worker (docs/PLAN.md): those of each commodity but its figures, those between commodities, the figures, the
+/// totals.
+const IN_ORDER: [usize; STEPS] = [
+    0, 1, 2, 3, 4, 5, 6, 8, 9, 10, 11, 12, 13, 14, 16, 17, 18, 19, 7, 15, 20, 21, 22,
+];
 
 // A gate at which each pass waits until so many workers have entered. When the turns of one pass are used up, it is too late, and
-// lets everything pass. It notes the workers and the steps that passed by bits, and how many passes there were.
+// lets everything pass. It notes the workers and the steps that passed by bits, how many passes there were, and whether one was not the
+// next in order.
 #[derive(Drop)]
 struct Together {
     awaited: u32,
     workers: AtomicU64,
     steps: AtomicU64,
-    passes: AtomicU64,
+    passes: AtomicUsize,
+    astray: AtomicBool,
     late: AtomicBool,
 }
 
@@ -34,7 +41,8 @@ impl Together {
             awaited,
             workers: AtomicU64::new(0),
             steps: AtomicU64::new(0),
-            passes: AtomicU64::new(0),
+            passes: AtomicUsize::new(0),
+            astray: AtomicBool::new(false),
             late: AtomicBool::new(false),
         }
     }
@@ -46,13 +54,21 @@ impl Together {
 
     // Whether each step of the plan passed once, and no other.
     fn was_passed_once_by_each_step(&self) -> bool {
-        self.steps.load(SeqCst) == (1 << STEPS) - 1 && self.passes.load(SeqCst) == STEPS as u64
+        self.steps.load(SeqCst) == (1 << STEPS) - 1 && self.passes.load(SeqCst) == STEPS
+    }
+
+    // Whether each step of the plan passed in its order.
+    fn was_passed_in_order(&self) -> bool {
+        self.passes.load(SeqCst) == STEPS && !self.astray.load(SeqCst)
     }
 }
 
 impl Gate for Together {
     fn pass(&self, worker: usize, _account: &Name, step: usize) {
-        self.passes.fetch_add(1, SeqCst);
+        let place = self.passes.fetch_add(1, SeqCst);
+        if IN_ORDER.get(place) != Some(&step) {
+            self.astray.store(true, SeqCst);
+        }
         if worker < 64 {
             self.workers.fetch_or(1 << worker, SeqCst);
         }
@@ -105,11 +121,11 @@ fn three_workers_at_once(rt: HostRuntime) {
 }
 
 #[test]
-fn each_step_once_on_one_worker(rt: HostRuntime) {
+fn each_step_once_in_order_on_one_worker(rt: HostRuntime) {
     let gate = Together::new(1);
     assert!(rt; run(&rt, rt.alloc(), &ALONE, PARAMS, POSITIONS, &gate).is(0, STATEMENT, b""));
     assert!(rt; gate.were_together(0b1));
-    assert!(rt; gate.was_passed_once_by_each_step());
+    assert!(rt; gate.was_passed_once_by_each_step() && gate.was_passed_in_order());
 }
 
 /// The commodities of a set in which many steps of an account are ready at once.

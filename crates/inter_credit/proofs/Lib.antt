@@ -12,3 +12,4 @@ mod NothingFormed
 pub mod OpenLemmas
 pub mod DirectionLaws
 pub mod BoundLaws
+pub mod KeptLemmas

@@ -1,3 +1,4 @@
+pub mod StageLemmas
 pub mod Meanings
 pub mod Taken
 pub mod LayoutLemmas

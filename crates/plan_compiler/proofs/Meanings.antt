@@ -3,7 +3,7 @@ use Rattle.std.proofs.Common.{◌≡◌, ℕ, zero, suc, ◌+◌, ◌-◌, ◌<�
 use Rattle.std.proofs.Common.{slice_set, refl, sym, ap, ◌∙◌, arith, pos, ℤ, ◌+ℤ◌, add-one}
 use Rattle.std.specs.Prelude.{replicate}
 use Rattle.std.specs.List.{range_with_len}
-use Rattle.std.proofs.lemmas.List.{append-nil, append_assoc, map-id, take_all}
+use Rattle.std.proofs.lemmas.List.{append_assoc, map-id, take_all}
 use Rattle.std.proofs.lemmas.List.FromFn.{length-map-range_with_len, map-range_with_len_more}
 use Rattle.std.proofs.lemmas.List.Sums.{fold-append, fold_more}
 use Rattle.std.proofs.Math.Nat.{sub-zero}
@@ -21,6 +21,7 @@ use Rattle.plan_ir.specs.declared.ops.Op.TheVariants as op
 use Rattle.plan_ir.specs.declared.values.Value.TheVariants as value
 use Rattle.plan_compiler.specs.Meaning.{before_inter, before_load, before_spread, before_total, before_value, last_inter, last_tiers}
 use Rattle.plan_compiler.specs.Meaning.{lines_after, lines_loaded, meaning, tiers_after, wanted}
+use Rattle.plan_compiler.proofs.StageLemmas.{loaded_whole}
 
 module _ (t : AcceptedTables) (holdings : List Holding) where
   -- ---- what stands before an operation means the state before it
@@ -36,9 +37,7 @@ module _ (t : AcceptedTables) (holdings : List Holding) where
 
   pub loaded_all : lines_loaded t holdings (length t.commodities) ≡ lines_after t holdings 0
   unfolding after_inter_spreads
-  loaded_all =
-      let gone : length t.commodities - length t.commodities ≡ 0 = omega arith in
-      rw gone (append-nil (loaded_lines t holdings))
+  loaded_all = loaded_whole t holdings
 
   pub meaning-before_inter : (j : ℕ) → meaning t holdings (before_inter t j) ≡ value.Inter (lines_after t holdings j)
   meaning-before_inter zero = meaning-before_load (length t.commodities) ∙ ap value.Inter loaded_all
@@ -94,7 +93,7 @@ module _ (t : AcceptedTables) (holdings : List Holding) where
   unfolding total_to
   total_more c = sum_more (λ n. (figures_of t holdings n).requirement) c
 
-  value_more : (c : ℕ) → value_to t holdings c +ℤ net_value_at t holdings c ≡ value_to t holdings (c + 1)
+  pub value_more : (c : ℕ) → value_to t holdings c +ℤ net_value_at t holdings c ≡ value_to t holdings (c + 1)
   unfolding value_to
   value_more c = sum_more (net_value_at t holdings) c
 

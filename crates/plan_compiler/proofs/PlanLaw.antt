@@ -1,5 +1,5 @@
 -- A plan of a set's operations, each with the places of what it wants, keeps the plan law.
-use Rattle.std.proofs.Common.{◌≡◌, ℕ, ◌+◌, ◌*◌, ◌≤◌, ◌<◌, true, false, List, [], ◌∷◌, length, map, Some}
+use Rattle.std.proofs.Common.{◌≡◌, ℕ, ◌+◌, ◌*◌, ◌≤◌, ◌<◌, false, List, [], ◌∷◌, length, map, Some}
 use Rattle.std.proofs.Common.{slice_get, slice_index_or}
 use Rattle.std.proofs.Common.{refl, sym, ap, subst, ◌∙◌, arith}
 use Rattle.std.specs.Prelude.{All, ◌==◌}
@@ -17,19 +17,19 @@ use Rattle.plan_ir.specs.Plans.{AreInputs, StepView, inputs_at, no_step, op_at, 
 use Rattle.plan_ir.specs.declared.ops.Op.{Op}
 use Rattle.plan_ir.specs.declared.ops.Op.TheVariants as op
 use Rattle.plan_ir.proofs.UserLemmas.{all_ops, as_many_steps, inputs_are, op_is}
-use Rattle.plan_compiler.specs.Compiled.{IsCompiled, IsFirstInput}
-use Rattle.plan_compiler.specs.Meaning.{last_total, last_value, meaning, rank_of, wanted}
+use Rattle.plan_compiler.specs.Compiled.{IsCompiled}
+use Rattle.plan_compiler.specs.Meaning.{meaning, rank_of, wanted}
 use Rattle.plan_compiler.specs.Plan.{IsPlanOf, ops_of}
 use Rattle.plan_compiler.specs.Places.{inputs_of, place_of, plan_of}
 use Rattle.plan_compiler.specs.Beginnings.{AreInputCounts, AreWithoutInputs}
 use Rattle.plan_compiler.specs.near.Layout.{AreFirsts}
 use Rattle.plan_compiler.specs.near.Sets.{IsSet}
-use Rattle.plan_compiler.proofs.FromPlan.{inputs_within, known_before_total, known_before_value, known_ops, known_wanted, wired}
+use Rattle.plan_compiler.proofs.FromPlan.{inputs_within, known_ops, known_wanted, wired}
 use Rattle.plan_compiler.proofs.LayoutLemmas.{IsPlanned, few_premiums, first_small, first_smaller, length_ops, no_premiums}
 use Rattle.plan_compiler.proofs.LayoutLemmas.{place_stands, planned_is_op}
 use Rattle.plan_compiler.proofs.Meanings.{gives_meaning}
 use Rattle.plan_compiler.proofs.Taken.{takes_meanings}
-use Rattle.plan_compiler.proofs.Wiring.{apart, few_inputs, few_steps, first_not_final, first_not_total, first_not_value, wanted_lower}
+use Rattle.plan_compiler.proofs.Wiring.{apart, few_inputs, few_steps, wanted_lower}
 
 -- the operation at a place
 op_named : (plan : List StepView) (i : ℕ) (o : Op) → slice_get (ops_in plan) i ≡ Some o → op_at plan i ≡ o
@@ -113,34 +113,6 @@ module _ (t : AcceptedTables) (plan : List StepView) (ops : ops_in plan ≡ ops_
 
   pub op_at_place : (o : Op) → IsPlanned t o → op_at plan (place_of t o) ≡ o
   op_at_place o known = stands o known
-
-  -- what a first input is the first of
-  first_op : (j : ℕ) (f : IsFirstInput plan j) → (0 < length (wanted t (op_at plan f.user)))
-      × (slice_index_or (wanted t (op_at plan f.user)) 0 op.TotalStart ≡ op_at plan j)
-  first_op j f =
-      let os = input_ops f.user f.in_range in
-      let numbers = inputs_at plan f.user in
-      let some : 0 < length numbers = f.some in
-      let at : op_at plan (slice_index_or numbers 0 0) ≡ slice_index_or (wanted t (op_at plan f.user)) 0 op.TotalStart =
-      sym (get_or-map (op_at plan) numbers 0 0 op.TotalStart some) ∙ ap (λ xs. slice_index_or xs 0 op.TotalStart) os in
-      (omega (arith, ap length os, length-map numbers (op_at plan), some), sym at ∙ ap (op_at plan) f.is)
-
-  pub final_stays : (c : ℕ) → c < length t.commodities → IsFirstInput plan (place_of t (op.Final c)) → ⊥
-  final_stays c lt f =
-      let first = first_op (place_of t (op.Final c)) f in
-      first_not_final t (op_at plan f.user) c (first.1 ∙ stands (op.Final c) lt)
-
-  pub total_stays : IsFirstInput plan (place_of t (last_total t)) → ⊥
-  total_stays f =
-      let first = first_op (place_of t (last_total t)) f in
-      first_not_total t (op_at plan f.user) (op_known f.user f.in_range) first.0
-      (first.1 ∙ stands (last_total t) (known_before_total t (length t.commodities) (omega arith)))
-
-  pub value_stays : has_option_value t ≡ true → IsFirstInput plan (place_of t (last_value t)) → ⊥
-  value_stays has f =
-      let first = first_op (place_of t (last_value t)) f in
-      first_not_value t (op_at plan f.user) (op_known f.user f.in_range) first.0
-      (first.1 ∙ stands (last_value t) (known_before_value t has (length t.commodities) (omega arith)))
 
 -- ---- the plan of accepted tables
 

@@ -1,5 +1,5 @@
 -- What is true of a compiled set.
-use Rattle.std.specs.Prelude.{◌≡◌, ℕ, ◌<◌, ◌≤◌, ◌==◌, true, false, List, length, map, All, slice_index}
+use Rattle.std.specs.Prelude.{◌≡◌, ℕ, ◌<◌, ◌≤◌, ◌==◌, true, false, List, length, map, All}
 use Rattle.span_tables.specs.Holdings.{ArePortfolio, fits}
 use Rattle.span_tables.specs.Names.{has_repeat}
 use Rattle.span_tables.specs.Tables.{AcceptedTables}
@@ -42,10 +42,3 @@ pub record IsCompiled (set : SetView) : Type 0 where
       → Takes set.tables (op_at set.plan k) (input_meanings set holdings k)
   pub gives : (holdings : List Holding) → Fits set.tables holdings → (k : ℕ) → k < length set.plan
       → value_on set.tables holdings (op_at set.plan k) (input_meanings set holdings k) ≡ step_meaning set holdings k
-
--- step j is the first input of some step
-pub record IsFirstInput (plan : List StepView) (j : ℕ) : Type 0 where
-  pub user : ℕ
-  pub in_range : user < length plan
-  pub some : 0 < length (inputs_at plan user)
-  pub is : slice_index (inputs_at plan user) 0 ≡ j

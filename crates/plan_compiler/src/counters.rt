@@ -19,13 +19,13 @@ fn input_counts(alloc: Global, plan: &Plan) -> Result<Vec<u8>, AllocError>
     Ok(counts)
 }
 
-// The steps that have no input.
+// The steps that have no input, from the highest number to the lowest.
 fn without_inputs(alloc: Global, plan: &Plan) -> Result<Vec<u32>, AllocError>
     requires { length plan.now ≤ MAX_STEPS }
     ensures { IfOk result (λ steps. AreWithoutInputs plan.now steps.items (length plan.now)) }
 {
     let mut steps = Vec::new(alloc);
-    for k in 0..plan.len() {
+    for k in (0..plan.len()).rev() {
         let inputs = plan.inputs(k).len();
         if inputs == 0 {
             steps.push(k as u32)?;
@@ -34,7 +34,7 @@ fn without_inputs(alloc: Global, plan: &Plan) -> Result<Vec<u32>, AllocError>
     Ok(steps)
 }
 
-/// How many inputs each step has, and the steps that have none.
+/// How many inputs each step has, and the steps that have none, from the highest number to the lowest.
 pub(crate) fn beginnings(alloc: Global, plan: &Plan) -> Result<(Vec<u8>, Vec<u32>), AllocError>
     requires few_steps { length plan.now ≤ MAX_STEPS }
     requires few_inputs { (k : ℕ) → k < length plan.now → length (inputs_at plan.now k) ≤ MAX_INPUTS }

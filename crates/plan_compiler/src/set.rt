@@ -6,7 +6,7 @@ ghost use Rattle.plan_ir.specs.Figures.{total_to, value_to};
 ghost use Rattle.plan_ir.specs.Plans.{op_at};
 ghost use Rattle.plan_ir.specs.declared.ops.Op.TheVariants as operation;
 ghost use Rattle.plan_ir.specs.declared.values.Value.TheVariants as value;
-ghost use Rattle.plan_compiler.specs.Compiled.{IsCompiled, IsFirstInput, step_meaning};
+ghost use Rattle.plan_compiler.specs.Compiled.{IsCompiled, step_meaning};
 ghost use Rattle.plan_compiler.specs.Meaning.{last_total, last_value};
 ghost use Rattle.plan_compiler.specs.Places.{plan_of};
 ghost use Rattle.plan_compiler.specs.Plan.{IsPlanOf};
@@ -88,7 +88,7 @@ impl CompiledSet {
         &self.shared.missing
     }
 
-    /// The steps without inputs, which are ready where nothing has a value yet.
+    /// The steps without inputs, which are ready where nothing has a value yet, from the highest number to the lowest.
     pub fn ready(&self) -> &[u32]
         ensures { AreWithoutInputs self.now.plan result.now (length self.now.plan) }
     {
@@ -114,37 +114,33 @@ impl CompiledSet {
         first_step(&self.shared.tables, &self.shared.firsts, commodity)
     }
 
-    /// The number of the step that has the figures of a commodity, whose number is from 0 in file order. It is no
-    /// step's first input.
+    /// The number of the step that has the figures of a commodity, whose number is from 0 in file order.
     pub fn final_step(&self, commodity: u32) -> u32
         requires { commodity < length self.now.tables.commodities }
         ensures in_range { result < length self.now.plan }
         ensures op { op_at self.now.plan result ≡ operation.Final commodity }
-        ensures stays { IsFirstInput self.now.plan result → ⊥ }
     {
         final_step(&self.shared.tables, &self.shared.firsts, commodity)
     }
 
-    /// The number of the step that has the total. It is no step's first input.
+    /// The number of the step that has the total.
     pub fn total_step(&self) -> u32
         ensures in_range { result < length self.now.plan }
         ensures op { op_at self.now.plan result ≡ last_total self.now.tables }
         ensures means { (holdings : List Holding) → step_meaning self.now holdings result
             ≡ value.Total (total_to self.now.tables holdings (length self.now.tables.commodities)) }
-        ensures stays { IsFirstInput self.now.plan result → ⊥ }
     {
         let Shared { tables, firsts, .. } = &*self.shared;
         total_step(tables, firsts, tables.commodities().len() as u32)
     }
 
-    /// The number of the step that has the account's option value, where options have one. It is no step's first input.
+    /// The number of the step that has the account's option value, where options have one.
     pub fn value_step(&self) -> Option<u32>
         ensures some { is_some result ≡ has_option_value self.now.tables }
         ensures in_range { IfSome result (λ k. k < length self.now.plan) }
         ensures op { IfSome result (λ k. op_at self.now.plan k ≡ last_value self.now.tables) }
         ensures means { IfSome result (λ k. (holdings : List Holding) → step_meaning self.now holdings k
             ≡ value.Premium (value_to self.now.tables holdings (length self.now.tables.commodities))) }
-        ensures stays { IfSome result (λ k. IsFirstInput self.now.plan k → ⊥) }
     {
         let Shared { tables, firsts, .. } = &*self.shared;
         if !tables.has_option_value() {

@@ -171,26 +171,6 @@ pub record Takes (t : AcceptedTables) (operation : Op) (inputs : List Value) : T
   pub known : IsOp t operation
   pub taken : TakesInputs t operation inputs
 
--- the operation can be written over its first input
-abbrev pub IsInPlace : Op → Type 0
-IsInPlace (op.Gather c) = ⊥
-IsInPlace (op.Sums c) = ⊥
-IsInPlace (op.ScanMax c) = ⊥
-IsInPlace (op.Months c) = ⊥
-IsInPlace (op.TierStart c) = ⊥
-IsInPlace (op.Spread c j) = ⊤
-IsInPlace (op.Delivery c) = ⊥
-IsInPlace (op.Minimum c) = ⊥
-IsInPlace (op.Final c) = ⊥
-IsInPlace op.InterStart = ⊥
-IsInPlace (op.InterLoad c) = ⊤
-IsInPlace (op.InterSpread j) = ⊤
-IsInPlace op.TotalStart = ⊥
-IsInPlace (op.TotalAdd c) = ⊤
-IsInPlace (op.NetValue c) = ⊥
-IsInPlace op.ValueStart = ⊥
-IsInPlace (op.ValueAdd c) = ⊤
-
 -- ---- the value of an operation on its inputs
 
 -- the figures of a commodity from a scan, months after spreads, the delivery charge, the minimum and the commodities

@@ -1,7 +1,7 @@
 //! The value of an operation on the values of its inputs: one part of the method (docs/METHOD.md) each.
 //!
-//! The first input stands apart: the value is that input where nothing changes, is written over it, or is new.
-ghost use Rattle.std.specs.Prelude.{◌≡◌, [], ◌∷◌, ◌<◌, ◌≤◌, ◌↔◌, ◌+ℤ◌, ℕ, List, true};
+//! The first input stands apart: the value is that input where nothing changes, is written over a copy of it, or is new.
+ghost use Rattle.std.specs.Prelude.{◌≡◌, [], ◌∷◌, ◌<◌, ◌≤◌, ◌+ℤ◌, ℕ, List, true};
 ghost use Rattle.std.specs.Prelude.{All, IfOk, IsTrue, length, map, nat_abs, pos, slice_set};
 ghost use Rattle.std.specs.Arc.{arc_value};
 ghost use Rattle.span_money.specs.declared.amounts.TheConstants.{MAX_MONEY};
@@ -16,10 +16,10 @@ ghost use Rattle.inter_credit.specs.Credits.{inter_both_ways, unspread_line};
 ghost use Rattle.inter_credit.specs.Requirement.{minimum_of};
 ghost use Rattle.inter_credit.specs.States.{IsNotLoaded, IsUnspread};
 ghost use Rattle.inter_credit.specs.declared.state.InterLine.{InterLine};
-ghost use Rattle.plan_ir.specs.Apply.{IsInPlace, Takes, TakesFinal, final_figures, inter_at, intra_at, value_on};
+ghost use Rattle.plan_ir.specs.Apply.{Takes, TakesFinal, final_figures, inter_at, intra_at, value_on};
 ghost use Rattle.plan_ir.specs.Figures.{commodity_at, intras_at};
 ghost use Rattle.plan_ir.specs.Values.{IsInter as IsLines, IsPremium, IsTiers, IsTotal, lines_in, premium_in, tiers_in, total_in};
-ghost use Rattle.plan_ir.specs.near.Copying.{IsChangeable};
+ghost use Rattle.plan_ir.specs.near.Copying.{IsChangeable, IsInPlace};
 ghost use Rattle.plan_ir.specs.declared.values.Value.TheVariants as value;
 
 use crate::figures::{Figures, figures_from};
@@ -124,16 +124,6 @@ pub fn changes_nothing(tables: &Tables, op: Op, first: &Value, rest: &[Arc<Value
     }
 }
 
-/// Whether the operation can be written over its first input.
-pub fn is_in_place(op: Op) -> bool
-    ensures { IsTrue result ↔ IsInPlace op }
-{
-    matches!(
-        op,
-        Op::Spread(..) | Op::InterLoad(_) | Op::InterSpread(_) | Op::TotalAdd(_) | Op::ValueAdd(_)
-    )
-}
-
 // Forms a spread on the months of a commodity.
 fn spread(first: &mut Value, intra: &Intra)
     requires tiers { IsTiers first.old }
@@ -198,10 +188,8 @@ fn add_value(first: &mut Value, amount: Money)
     }
 }
 
-/// Writes the operation's value over its first input.
-///
-/// The operation is one of those of `is_in_place`, and the inputs, of which the first stands apart, are what it takes.
-pub fn apply_in_place(tables: &Tables, op: Op, first: &mut Value, rest: &[Arc<Value>])
+// Writes the operation's value over its first input, of which it makes another of the same kind.
+fn apply_in_place(tables: &Tables, op: Op, first: &mut Value, rest: &[Arc<Value>])
     requires in_place { IsInPlace op }
     requires inputs { Takes tables.now op (first.old ∷ map arc_value rest.now) }
     ensures { (holdings : List Holding) → first.new ≡ value_on tables.now holdings op (first.old ∷ map arc_value rest.now) }
@@ -248,10 +236,8 @@ fn apply_to_copy(
     Ok(next)
 }
 
-/// The operation's value on inputs of which the first stands apart and stays as it is. `Err` is want of memory.
-///
-/// The inputs are what the operation takes. No operation with an input looks at what the account holds.
-pub fn apply_beside(
+// The operation's value on inputs of which the first stands apart. No operation with an input looks at what the account holds.
+fn apply_beside(
     alloc: Global,
     tables: &Tables,
     op: Op,

@@ -6,7 +6,7 @@ ghost use Rattle.std.specs.Prelude.{◌≡◌, length, true};
 ghost use Rattle.span_tables.specs.Holdings.{fits};
 
 use plan_compiler::set::{CompiledSet, compile};
-use plan_ir::evaluation::{apply, apply_beside};
+use plan_ir::evaluation::apply;
 use plan_ir::listing::list;
 use plan_ir::lists::NumberLists;
 use plan_ir::nothing::NothingHeld;
@@ -23,8 +23,11 @@ use span_tables::tables::Tables;
 use std::alloc::Global;
 use std::process::Abort;
 use std::sync::Arc;
+use step_scheduler::boards::Board;
+use step_scheduler::courses::Course;
 use step_scheduler::evaluation::evaluate;
 use step_scheduler::jobs::Job;
+use step_scheduler::watches::NoWatch;
 
 #[test]
 fn calls_succeed(rt: HostRuntime) {
@@ -34,7 +37,7 @@ fn calls_succeed(rt: HostRuntime) {
     let account = account_of(alloc, &set, POSITIONS).expect(&rt, "an account");
     values_of_steps(&rt, alloc, set.tables(), &account);
     let job = Arc::new(alloc, Job::new(set, account, 0)).ok();
-    let row = board_run(&rt, alloc, &job.expect(&rt, "a job"));
+    let row = boards_run(&rt, alloc, &job.expect(&rt, "a job"));
     row_kept(&rt, alloc, row);
 }
 
@@ -72,27 +75,31 @@ fn values_of_steps(rt: &impl Abort, alloc: Global, tables: &Tables, account: &Po
 {
     assert!(rt; tables.commodities().len() == 1);
     let held = apply(alloc, tables, account, &Op::Gather(0), &[]).expect(rt, "what is held");
-    let sums = apply_beside(alloc, tables, Op::Sums(0), &held, &[]).expect(rt, "sums");
+    let held = Arc::new(alloc, held).ok().expect(rt, "a shared value");
+    let sums = apply(alloc, tables, account, &Op::Sums(0), &[held]).expect(rt, "sums");
     assert!(rt; is_sums_to(&sums, 1200));
     let nothing = NothingHeld::new(alloc, tables).expect(rt, "values of nothing");
     assert!(rt; is_sums_to(nothing.sums(), 0));
 }
 
-// `step_scheduler` and `result_book`: a board that is run to its end, one step of it by a task, and its row.
-fn board_run(rt: &impl Abort, alloc: Global, job: &Arc<Job>) -> Arc<Row> {
+// `step_scheduler` and `result_book`: a board that is run to its end by steps, and a whole one, with the rows of both.
+fn boards_run(rt: &impl Abort, alloc: Global, job: &Arc<Job>) -> Arc<Row> {
     let mut board = board_of(alloc, job).expect(rt, "a board");
-    let task = next_task(&mut board).expect(rt, "a task");
-    assert!(rt; board.finish(evaluate(alloc, task)) == Ok(()));
-    for _ in 1..job.plan().len() {
-        assert!(rt;
-            board
-                .run_next(alloc)
-                .expect(rt, "memory for a step")
-                .is_some()
-        );
+    for _ in 0..job.plan().len() {
+        let task = next_task(&mut board).expect(rt, "a task");
+        assert!(rt; board.finish(evaluate(alloc, task)) == Ok(()));
     }
     assert!(rt; board.is_complete());
+    assert!(rt; whole_row(rt, alloc, job).total().get() == 1200);
     Row::of(alloc, &board).expect(rt, "a row")
+}
+
+// The row of a whole board.
+fn whole_row(rt: &impl Abort, alloc: Global, job: &Arc<Job>) -> Arc<Row> {
+    let course = Course::of(alloc, job.set()).expect(rt, "a course");
+    let hold = Arc::try_clone(job).expect(rt, "a hold on the job");
+    let board = Board::whole(alloc, hold, &course, &NoWatch).expect(rt, "a whole board");
+    Row::from_board(alloc, board).expect(rt, "its row")
 }
 
 // `result_book`: a row that is put in a batch, and found there.

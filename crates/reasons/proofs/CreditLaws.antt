@@ -1,6 +1,6 @@
 -- The net delta, the price risk and the weight of a commodity follow from its months, its scan and its spreads shown.
-use Rattle.std.proofs.Common.{◌≡◌, ℕ, zero, suc, ◌+◌, ◌*◌, ◌<◌, Bool, true, false, cond, List, [], ◌∷◌, length, refl, sym}
-use Rattle.std.proofs.Common.{ap, ◌∙◌, arith, filter, subst, sum_by, zero-add}
+use Rattle.std.proofs.Common.{◌≡◌, ℕ, ◌+◌, ◌*◌, ◌<◌, Bool, true, false, cond, List, [], ◌∷◌, length, refl, sym}
+use Rattle.std.proofs.Common.{ap, ◌∙◌, arith, filter, subst, sum_by}
 use Rattle.std.specs.Prelude.{All, Some, ◌==◌, ℤ, ◌+ℤ◌, find, fold, option_map, pos}
 use Rattle.std.specs.List.{list_any}
 use Rattle.std.proofs.Math.Nat.{add-mul, zero-mul}
@@ -8,13 +8,11 @@ use Rattle.std.proofs.lemmas.Bool.Decides.{nat_tests}
 use Rattle.std.proofs.lemmas.List.{length-map}
 use Rattle.std.proofs.lemmas.List.Elements.{All-head, All-tail}
 use Rattle.std.proofs.lemmas.List.Folds.{fold-map}
-use Rattle.std.proofs.lemmas.List.FromFn.{get_or-map-range_with_len, length-map-range_with_len}
+use Rattle.std.proofs.lemmas.List.FromFn.{length-map-range_with_len}
 use Rattle.std.proofs.lemmas.List.Sums.{sum_by-append, sum_by-cons}
-use Rattle.std.proofs.lemmas.Option.{unwrap_or-slice_get}
 use Rattle.span_money.specs.Numbers.{int_sum_by}
 use Rattle.span_tables.specs.Accepted.{IsInter, IsWithinLimits}
 use Rattle.span_tables.specs.Names.{has_repeat}
-use Rattle.span_tables.specs.Sides.{market_side}
 use Rattle.span_tables.specs.Tables.{AcceptedTables, inter_spread, inters_of}
 use Rattle.span_tables.specs.declared.portfolios.Holding.{Holding}
 use Rattle.span_tables.specs.declared.records.CommodityLeg.{CommodityLeg}
@@ -22,78 +20,33 @@ use Rattle.span_tables.specs.declared.records.Inter.{Inter}
 use Rattle.span_tables.specs.declared.records.InterRecord.{InterRecord}
 use Rattle.span_tables.specs.declared.sides.Direction.{Direction}
 use Rattle.span_tables.specs.declared.sides.Direction.TheVariants.{ALong, AShort}
-use Rattle.span_tables.specs.declared.sides.MarketSide.{MarketSide}
 use Rattle.span_tables.specs.declared.sides.SpreadsFormed.{SpreadsFormed}
 use Rattle.spread_stage.specs.Deltas.{units_at}
 use Rattle.spread_stage.specs.declared.months.MonthUnits.{MonthUnits}
-use Rattle.inter_credit.specs.Credits.{after_inter_spreads, change_at, formed_both, formed_in, inter_both_ways, inter_one_way}
-use Rattle.inter_credit.specs.Credits.{line_after, lines_after, unspread_line}
+use Rattle.inter_credit.specs.Credits.{after_inter_spreads, formed_both, inter_both_ways}
 use Rattle.inter_credit.specs.States.{line_at}
 use Rattle.inter_credit.specs.declared.state.InterLine.{InterLine}
 use Rattle.inter_credit.proofs.LineLemmas.{or_left, or_right}
 use Rattle.inter_credit.proofs.RestLaws.{length-inter_both_ways}
 use Rattle.inter_credit.proofs.WeightLaws.{weight-inter_both_ways}
 use Rattle.plan_ir.specs.Figures.{deltas_at, inter_lines, line_of, loaded_lines, scan_at, tiers_at}
+use Rattle.plan_compiler.proofs.StageLemmas.{kept_at, loaded_at}
 use Rattle.reasons.specs.Reasons.{inters_shown_at, line_after_all, months_shown_at}
 use Rattle.reasons.specs.Shown.{inter_in, inter_ways, inters_formed, inters_shown, ratio_in, weight_of}
 use Rattle.reasons.specs.declared.shown.ShownInter.{ShownInter}
 use Rattle.reasons.specs.declared.shown.ShownMonth.{ShownMonth}
 
--- ---- what spreads keep of a line
-
-module _ {A : Type 0} (of : InterLine → A)
-    (keeps : (on : MarketSide) (used bp : ℕ) (line : InterLine) → of (line_after on used bp line) ≡ of line) where
-  kept_change : (on : MarketSide) (used bp i : ℕ) (lines : List InterLine) (k : ℕ)
-      → of (line_at (change_at (line_after on used bp) i lines) k) ≡ of (line_at lines k)
-  kept_change on used bp i [] k = refl
-  kept_change on used bp zero (line ∷ lines) zero = keeps on used bp line
-  kept_change on used bp zero (line ∷ lines) (suc k) = refl
-  kept_change on used bp (suc i) (line ∷ lines) zero = refl
-  kept_change on used bp (suc i) (line ∷ lines) (suc k) = kept_change on used bp i lines k
-
-  kept_legs : (d : Direction) (n bp : ℕ) (legs : List CommodityLeg) (lines : List InterLine) (k : ℕ)
-      → of (line_at (lines_after d n bp legs lines) k) ≡ of (line_at lines k)
-  kept_legs d n bp [] lines k = refl
-  kept_legs d n bp (leg ∷ legs) lines k =
-      kept_legs d n bp legs (change_at (line_after (market_side d leg.side) (n * leg.ratio) bp) leg.commodity lines) k
-      ∙ kept_change (market_side d leg.side) (n * leg.ratio) bp leg.commodity lines k
-
-  kept_ways : (lines : List InterLine) (s : Inter) (k : ℕ) → of (line_at (inter_both_ways lines s) k) ≡ of (line_at lines k)
-  unfolding inter_both_ways
-  kept_ways lines s k =
-      let first : List InterLine = inter_one_way s ALong lines in
-      kept_legs AShort (formed_in s AShort first) s.basis_points s.legs first k
-      ∙ kept_legs ALong (formed_in s ALong lines) s.basis_points s.legs lines k
-
-  kept : (spreads : List Inter) (lines : List InterLine) (k : ℕ)
-      → of (line_at (fold inter_both_ways lines spreads) k) ≡ of (line_at lines k)
-  kept [] lines k = refl
-  kept (s ∷ spreads) lines k = kept spreads (inter_both_ways lines s) k ∙ kept_ways lines s k
-
--- the line that was loaded for a commodity
-loaded_at : (t : AcceptedTables) (holdings : List Holding) (c : ℕ) → c < length t.commodities
-    → line_at (loaded_lines t holdings) c ≡ line_of t holdings c
-loaded_at t holdings c lt =
-    let none = unspread_line (pos 0) 0 in
-    unwrap_or-slice_get (loaded_lines t holdings) c none
-    ∙ get_or-map-range_with_len (line_of t holdings) 0 (length t.commodities) c c none lt (zero-add c)
-
 pub net_shown : (t : AcceptedTables) (holdings : List Holding) (c : ℕ) → c < length t.commodities
     → (line_after_all t holdings c).net ≡ int_sum_by (λ m. m.delta) (months_shown_at t holdings c)
-unfolding inter_lines after_inter_spreads
 net_shown t holdings c lt =
     let rests = (tiers_at t holdings c).rests in
     let shown : MonthUnits → ShownMonth = λ m. record { month = m.month; delta = m.units; left = units_at rests m.month } in
-    kept (λ line. line.net) (λ on used bp line. refl) (inters_of t) (loaded_lines t holdings) c
-    ∙ ap (λ (line : InterLine). line.net) (loaded_at t holdings c lt)
+    kept_at t holdings (λ line. line.net) (λ on used bp line. refl) c lt
     ∙ sym (fold-map (λ (z : ℤ) (m : ShownMonth). z +ℤ m.delta) shown (pos 0) (deltas_at t holdings c))
 
 pub price2_shown : (t : AcceptedTables) (holdings : List Holding) (c : ℕ) → c < length t.commodities
     → (line_after_all t holdings c).price2 ≡ (scan_at t holdings c).price2
-unfolding inter_lines after_inter_spreads
-price2_shown t holdings c lt =
-    kept (λ line. line.price2) (λ on used bp line. refl) (inters_of t) (loaded_lines t holdings) c
-    ∙ ap (λ (line : InterLine). line.price2) (loaded_at t holdings c lt)
+price2_shown t holdings c lt = kept_at t holdings (λ line. line.price2) (λ on used bp line. refl) c lt
 
 -- ---- the weight
 

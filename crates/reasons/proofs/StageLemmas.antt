@@ -1,10 +1,9 @@
--- The held contracts of each commodity stand at its number.
-use Rattle.std.proofs.Common.{◌≡◌, ℕ, ◌-◌, ◌<◌, List, [], ◌∷◌, ◌++◌, length, map, get_or, refl, sym, ap, ◌∙◌, arith, append_assoc}
-use Rattle.std.specs.Prelude.{Some, fold, option_map, pos, slice_get, unwrap_or}
-use Rattle.std.proofs.lemmas.List.{append-nil, get_or-map}
+-- The reasons of a commodity are those of its stages.
+use Rattle.std.proofs.Common.{◌≡◌, ℕ, ◌<◌, List, [], ◌∷◌, ◌++◌, length, map, get_or, refl, sym, ap, ◌∙◌, append_assoc}
+use Rattle.std.specs.Prelude.{Some, fold, pos, slice_get, unwrap_or}
 use Rattle.std.proofs.lemmas.Option.{slice_get-get_or}
 use Rattle.span_tables.specs.Accepted.{commodity_id}
-use Rattle.span_tables.specs.Net.{HeldContract, held_of}
+use Rattle.span_tables.specs.Net.{HeldContract}
 use Rattle.span_tables.specs.Tables.{AcceptedTables, inters_of, priorities_of}
 use Rattle.span_tables.specs.declared.portfolios.Holding.{Holding}
 use Rattle.span_tables.specs.declared.records.Commodity.{Commodity}
@@ -14,47 +13,23 @@ use Rattle.span_tables.specs.declared.records.Intra.{Intra}
 use Rattle.span_tables.specs.declared.records.Spot.{Spot}
 use Rattle.span_tables.specs.declared.sides.SpreadsFormed.{SpreadsFormed}
 use Rattle.scan_risk.specs.Scenarios.{scan_of, scenario_sums}
-use Rattle.spread_stage.specs.Spreads.{TierRests, after_spreads, spread_both_ways, unspread}
+use Rattle.spread_stage.specs.Spreads.{TierRests, spread_both_ways, unspread}
 use Rattle.spread_stage.specs.declared.months.MonthUnits.{MonthUnits}
-use Rattle.inter_credit.specs.Credits.{after_inter_spreads, inter_both_ways, unspread_line}
+use Rattle.inter_credit.specs.Credits.{unspread_line}
 use Rattle.inter_credit.specs.States.{line_at}
 use Rattle.inter_credit.specs.declared.state.InterLine.{InterLine}
-use Rattle.plan_ir.specs.Figures.{commodity_at, deltas_at, held_at, inter_lines, intras_at, loaded_lines, no_commodity, spots_at}
+use Rattle.plan_ir.specs.Figures.{commodity_at, deltas_at, held_at, intras_at, loaded_lines, spots_at}
 use Rattle.plan_ir.specs.Figures.{tiers_at}
-use Rattle.plan_compiler.specs.Meaning.{lines_loaded}
+use Rattle.plan_compiler.proofs.StageLemmas.{tiers_are}
 use Rattle.reasons.specs.Reasons.{Reason, credit_reason, held_reason, held_reasons, inter_reason, inters_shown_at, intra_reason}
 use Rattle.reasons.specs.Reasons.{line_after_all, month_reason, month_reasons, reasons_of, scan_reason, scan_reasons}
 use Rattle.reasons.specs.Reasons.{short_reason, spot_reason, sums_reason}
 use Rattle.reasons.specs.Shown.{inters_formed, inters_shown, intras_formed, intras_shown, months_shown, spots_shown}
-use Rattle.reasons.specs.Stages.{all_held}
 use Rattle.reasons.specs.near.Fields.{reason_text, reasons_text}
 use Rattle.reasons.proofs.LineLemmas.{lines-append, one_line}
 
 regrouped : (a b c d e f : List Reason) → ((((a ++ b) ++ c) ++ d) ++ e) ++ f ≡ a ++ (b ++ (c ++ ((d ++ e) ++ f)))
 regrouped a b c d e f = simp append_assoc refl
-
-pub held_read : (t : AcceptedTables) (holdings : List Holding) (c : ℕ) (d : List HeldContract) → c < length t.commodities
-    → get_or (all_held t holdings) c d ≡ held_at t holdings c
-held_read t holdings c d lt =
-    let id : commodity_id t c ≡ (get_or t.commodities c no_commodity).id =
-    ap (λ o. unwrap_or (option_map (λ (x : Commodity). x.id) o) []) (slice_get-get_or t.commodities c no_commodity lt) in
-    get_or-map (λ (x : Commodity). held_of t.contracts holdings x.id) t.commodities c no_commodity d lt
-    ∙ sym (ap (held_of t.contracts holdings) id)
-
--- all commodities are loaded
-pub loaded_whole : (t : AcceptedTables) (holdings : List Holding) → lines_loaded t holdings (length t.commodities)
-    ≡ loaded_lines t holdings
-loaded_whole t holdings =
-    let gone : length t.commodities - length t.commodities ≡ 0 = omega arith in
-    rw gone (append-nil (loaded_lines t holdings))
-
--- the commodities after the spreads of the set
-pub lines_are : (t : AcceptedTables) (holdings : List Holding) (lines state : List InterLine) (spreads : List Inter)
-    → lines ≡ fold inter_both_ways state spreads → state ≡ loaded_lines t holdings → spreads ≡ inters_of t
-    → lines ≡ inter_lines t holdings
-unfolding inter_lines after_inter_spreads
-lines_are t holdings lines state spreads after before all =
-    after ∙ ap (λ s. fold inter_both_ways s spreads) before ∙ ap (fold inter_both_ways (loaded_lines t holdings)) all
 
 -- the lines of a commodity's months, from what the code has of each part
 pub month_reasons_are : (t : AcceptedTables) (holdings : List Holding) (c : ℕ) (head o o1 o2 o3 : List ℕ)
@@ -67,14 +42,12 @@ pub month_reasons_are : (t : AcceptedTables) (holdings : List Holding) (c : ℕ)
     → o2 ≡ o1 ++ reasons_text head (map intra_reason (intras_shown priorities spreads formed))
     → o3 ≡ o2 ++ reasons_text head (map spot_reason (spots_shown months tiers.rests spots))
     → o3 ≡ o ++ reasons_text head (month_reasons t holdings c)
-unfolding after_spreads
 month_reasons_are t holdings c head o o1 o2 o3 months begun tiers spreads priorities formed spots m b s ts f p sp e1 e2 e3 =
     let one = map month_reason (months_shown months tiers.rests) in
     let two = map intra_reason (intras_shown priorities spreads formed) in
     let three = map spot_reason (spots_shown months tiers.rests spots) in
     let from : begun ≡ unspread (deltas_at t holdings c) = b ∙ ap unspread m in
-    let after : tiers ≡ tiers_at t holdings c =
-    ts ∙ ap (λ x. fold spread_both_ways x spreads) from ∙ ap (fold spread_both_ways (unspread (deltas_at t holdings c))) s in
+    let after : tiers ≡ tiers_at t holdings c = tiers_are t holdings c months begun tiers spreads m b ts s in
     let ways : formed ≡ intras_formed (intras_at t c) (unspread (deltas_at t holdings c)) =
     f ∙ ap (intras_formed spreads) from ∙ ap (λ xs. intras_formed xs (unspread (deltas_at t holdings c))) s in
     e3 ∙ ap (λ x. x ++ reasons_text head three) (e2 ∙ ap (λ x. x ++ reasons_text head two) e1)

@@ -3,7 +3,7 @@ ghost use Rattle.std.specs.Prelude.{◌≡◌, ◌<◌, IfOk, length};
 ghost use Rattle.std.specs.Arc.{arc_value};
 ghost use Rattle.plan_ir.specs.Figures.{figures_of, is_held, option_value_of, total_to};
 ghost use Rattle.step_scheduler.specs.Boards.{IsComplete};
-ghost use Rattle.result_book.specs.near.Kept.{AreFigures};
+ghost use Rattle.step_scheduler.specs.Figures.{AreAllFigures};
 
 use plan_compiler::set::CompiledSet;
 use plan_ir::figures::Figures;
@@ -59,6 +59,31 @@ impl Row {
         let held = held_commodities(tables, job.portfolio());
         let total = total_of(board);
         let value = value_of(board);
+        Ok(Arc::new(
+            alloc,
+            Row {
+                job,
+                figures,
+                held,
+                total,
+                value,
+            },
+        )?)
+    }
+
+    /// The same of a board that is used up: its figures are handed over.
+    pub fn from_board(alloc: Global, board: Board) -> Result<Arc<Row>, AllocError>
+        requires { IsComplete board }
+        ensures { IfOk result (λ row. arc_value row ≡ record { set = board.job.set; portfolio = board.job.portfolio }) }
+    {
+        let job = Arc::try_clone(board.job())?;
+        let tables = job.set().tables();
+        // Called for its clause: the tables are within their limits.
+        let _limits = tables.commodities();
+        let held = held_commodities(tables, job.portfolio());
+        let total = total_of(&board);
+        let value = value_of(&board);
+        let figures = board.into_figures(alloc)?;
         Ok(Arc::new(
             alloc,
             Row {
@@ -152,7 +177,7 @@ fn figures_at(board: &Board, commodity: usize) -> Figures
 // The figures of each commodity of a complete board, by the commodities' numbers.
 fn figures_of_all(alloc: Global, board: &Board) -> Result<Vec<Figures>, AllocError>
     requires { IsComplete board.now }
-    ensures { IfOk result (λ figures. AreFigures board.now.job.set.tables board.now.job.portfolio.holdings figures.items) }
+    ensures { IfOk result (λ figures. AreAllFigures board.now.job.set.tables board.now.job.portfolio.holdings figures.items) }
 {
     let commodities = board.job().set().tables().commodities().len();
     let mut figures = Vec::with_capacity(alloc, commodities)?;

@@ -4,5 +4,6 @@
 
 pub mod calendar;
 pub mod one_future;
+pub mod option_values;
 pub mod three_commodities;
 pub mod two_commodities;

@@ -14,7 +14,7 @@ use span_csv::positions::read_positions;
 use span_money::exact::push_exact;
 use span_money::line_fields::{push_field, push_number, push_numbers};
 use span_tables::groups::{empty_lists, push_at};
-use span_tables::held::{Held, gather, gather_all};
+use span_tables::held::{Held, gather, gather_all, gather_held};
 use span_tables::portfolios::{Portfolio, Portfolios};
 use span_tables::tables::Tables;
 use span_told::MarkedWriter;
@@ -116,6 +116,9 @@ fn held_of(
     let all = gather_all(alloc, tables, account)?;
     assert_eq!(rt; all.len(), 1);
     assert_eq!(rt; all[0].len(), 2);
+    let list = gather_held(alloc, tables, account)?;
+    assert_eq!(rt; list.len(), 1);
+    assert_eq!(rt; (list[0].commodity, list[0].held.len()), (0, 2));
     let held = gather(alloc, tables, account, 0)?;
     assert_eq!(rt; held.len(), 2);
     assert_eq!(rt; (held.net(0), held.net(1)), (3, -2));

@@ -11,7 +11,7 @@ use Rattle.step_scheduler.specs.declared.events.Event.{Event}
 use Rattle.step_scheduler.specs.declared.events.Event.TheVariants.{Take, Finish}
 use Rattle.step_scheduler.specs.declared.progress.Progress.{Progress}
 use Rattle.step_scheduler.specs.declared.progress.Progress.TheVariants.{Waiting, Taken, Done}
-use Rattle.step_scheduler.specs.Runs.{takes, finishes, is_taken, is_finished, IsReady, IsUnderWay}
+use Rattle.step_scheduler.specs.Runs.{takes, finishes, is_taken, is_finished, IsReady}
 use Rattle.step_scheduler.specs.near.Steps.{was_taken, is_done, events_of, progress_at, CanStart}
 use Rattle.step_scheduler.specs.Boards.{IsComplete}
 use Rattle.step_scheduler.specs.near.Kept.{IsRunBoard}
@@ -163,17 +163,6 @@ board_finishes job steps history capacity k b h taken_k open_k =
       count = let c = b.count in let w = under_way_one_event _ taken_k open_k in let t =
           sum_by-set events_of steps k Done Waiting h in omega (arith, length-append history (Finish k ∷ []));
       room = let r = b.room in omega (arith, length-set steps k Done);
-    }
-
--- a step that is handed out is under way
-pub under_way_when_taken : (job : JobView) (steps : List Progress) (history : List Event) (capacity k : ℕ)
-    → IsRunBoard job steps history capacity → CanStart job.set.plan steps k → IsUnderWay (history ++ Take k ∷ []) k
-under_way_when_taken job steps history capacity k b s =
-    let after = board_takes job steps history capacity k b s in
-    let h : k < length steps = let r = s.in_range in omega (arith, b.long) in
-    record {
-      taken = after.taken k ∙ ap was_taken (progress-set_same steps k Taken h);
-      unfinished = after.finished k ∙ ap is_done (progress-set_same steps k Taken h);
     }
 
 pub start_has_room : (job : JobView) (steps : List Progress) (history : List Event) (capacity k : ℕ)

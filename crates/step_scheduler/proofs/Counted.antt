@@ -3,7 +3,8 @@ use Rattle.std.proofs.Common.{◌≡◌, ℕ, zero, suc, ◌+◌, ◌<◌, ◌�
 use Rattle.std.proofs.Common.{List, [], ◌∷◌, ◌++◌, length, All, refl, sym, ap, ◌∙◌, subst, inl, inr}
 use Rattle.std.proofs.Common.{arith, slice_index, slice_set, replicate, if◌then◌else◌, eq-eqb, zero-add}
 use Rattle.std.proofs.Common.{add-zero, length-append, get_or-set_same, get_or-set_other, Global}
-use Rattle.std.proofs.Common.{◌*◌, sum_by}
+use Rattle.std.proofs.Common.{◌*◌, sum_by, Some}
+use Rattle.std.specs.Prelude.{IsSome}
 use Rattle.std.proofs.lemmas.List.Sums.{sum_by-cons}
 use Rattle.std.proofs.lemmas.Bool.{cases_eq, ne_eqb, false≢true, lt-ltb}
 use Rattle.std.proofs.lemmas.List.{get_or_append_left, length-replicate}
@@ -11,8 +12,6 @@ use Rattle.std.proofs.lemmas.List.Elements.{All-cons, All-nil, All-head, All-tai
 use Rattle.std.specs.declared.sync.Arc.{Arc}
 use Rattle.plan_ir.specs.Plans.{StepView, inputs_at, users_of}
 use Rattle.plan_ir.specs.declared.values.Value.{Value}
-use Rattle.step_scheduler.specs.declared.place.Place.{Place}
-use Rattle.step_scheduler.specs.declared.place.Place.TheVariants.{Full}
 use Rattle.step_scheduler.specs.declared.progress.Progress.{Progress}
 use Rattle.step_scheduler.specs.declared.progress.Progress.TheVariants.{Waiting, Taken, Done}
 use Rattle.step_scheduler.specs.near.Steps.{was_taken, is_done, events_of, progress_at, AreDone, CanStart}
@@ -22,12 +21,12 @@ use Rattle.std.specs.Arc.{arc_value}
 use Rattle.plan_compiler.specs.Compiled.{Fits, IsCompiled}
 use Rattle.step_scheduler.specs.Jobs.{JobView, meaning_at}
 use Rattle.step_scheduler.specs.Runs.{IsReady, AllFinished, is_finished, unfinished}
-use Rattle.step_scheduler.specs.near.Kept.{IsCountedBoard}
+use Rattle.step_scheduler.specs.near.Kept.{IsBoard}
 use Rattle.step_scheduler.specs.declared.events.Event.{Event}
 use Rattle.step_scheduler.specs.declared.events.Event.TheVariants.{Take, Finish}
 use Rattle.step_scheduler.proofs.BoardLemmas.{board_takes, board_finishes, waiting_not_done}
-use Rattle.step_scheduler.specs.near.Keeping.{is_full, place_at, IsHanded, MayMove, KeepsMeanings}
-use Rattle.step_scheduler.proofs.Places.{kept_at_end, kept_takes, kept_finishes, kept_new}
+use Rattle.step_scheduler.specs.near.Keeping.{Place, place_at, KeepsMeanings}
+use Rattle.step_scheduler.proofs.Places.{kept_takes, kept_finishes, kept_new}
 use Rattle.plan_compiler.proofs.CounterLemmas.{times_push_same, times_push_other}
 use Rattle.step_scheduler.proofs.Counting.{Released}
 use Rattle.step_scheduler.proofs.UserLemmas.{HasUsers, has_users}
@@ -246,7 +245,7 @@ ready_times_some false m h = rw (ne_eqb m 0 (λ e. absurd (omega arith))) refl
 module _ (job : JobView) (steps : List Progress) (places : List Place) (history : List Event) (capacity : ℕ) (missing : List ℕ) where
   -- the last step of the list can start
   pub last_starts : (ready rest : List ℕ) (ready_capacity k : ℕ)
-      → IsCountedBoard job steps places history capacity missing ready ready_capacity → ready ≡ rest ++ k ∷ []
+      → IsBoard job steps places history capacity missing ready ready_capacity → ready ≡ rest ++ k ∷ []
       → CanStart job.set.plan steps k
   last_starts ready rest ready_capacity k b e =
       let some : 0 < times k ready = let t = ap (times k) e ∙ times_push_same k rest in omega arith in
@@ -255,7 +254,7 @@ module _ (job : JobView) (steps : List Progress) (places : List Place) (history 
 
   -- where the list is empty, no step is ready
   pub none_starts : (ready : List ℕ) (ready_capacity : ℕ)
-      → IsCountedBoard job steps places history capacity missing ready ready_capacity → ready ≡ [] → (k : ℕ)
+      → IsBoard job steps places history capacity missing ready ready_capacity → ready ≡ [] → (k : ℕ)
       → IsReady job.set.plan history k → ⊥
   none_starts ready ready_capacity b e k r =
       empty_none job.set.plan steps missing b.board.long ready_capacity
@@ -266,7 +265,7 @@ module _ (job : JobView) (steps : List Progress) (places : List Place) (history 
       })
 
   module _ (ready : List ℕ) (ready_capacity j : ℕ)
-      (b : IsCountedBoard job steps places history capacity missing ready ready_capacity) (h : j < length steps)
+      (b : IsBoard job steps places history capacity missing ready ready_capacity) (h : j < length steps)
       (open_j : is_done (progress_at steps j) ≡ false) where
     in_plan : j < length job.set.plan
     in_plan = let l = b.board.long in omega arith
@@ -295,30 +294,29 @@ module _ (job : JobView) (steps : List Progress) (places : List Place) (history 
         let room = b.counted.room in
         omega arith
 
-  pub board_takes_last : (ready rest : List ℕ) (places' : List Place) (ready_capacity k : ℕ)
-      → IsCountedBoard job steps places history capacity missing ready ready_capacity → ready ≡ rest ++ k ∷ []
-      → IsHanded job.set.plan k places places' → IsCountedBoard job (slice_set steps k Taken) places'
-      (history ++ Take k ∷ []) capacity missing rest ready_capacity
-  board_takes_last ready rest places' ready_capacity k b e handed =
+  pub board_takes_last : (ready rest : List ℕ) (ready_capacity k : ℕ)
+      → IsBoard job steps places history capacity missing ready ready_capacity → ready ≡ rest ++ k ∷ []
+      → IsBoard job (slice_set steps k Taken) places (history ++ Take k ∷ []) capacity missing rest ready_capacity
+  board_takes_last ready rest ready_capacity k b e =
       let s = last_starts ready rest ready_capacity k b e in
       record {
         board = board_takes job steps history capacity k b.board s;
-        kept = kept_takes job steps places b.kept b.board.long k places' s handed;
+        kept = kept_takes job steps places b.kept k (let l = b.board.long in let r = s.in_range in omega arith);
         counted = counted_takes job.set.plan steps missing b.board.long rest ready_capacity k
             (subst (λ (xs : List ℕ). IsCounted job.set.plan steps missing xs ready_capacity) e b.counted) s.in_range s.waits
             (b.counted.missing_is k s.in_range ∙ none_open steps (inputs_at job.set.plan k) s.fed) (waiting_not_done _ s.waits);
       }
 
   pub board_finishes_and_releases : (ready missing' ready' : List ℕ) (ready_capacity ready_capacity' k : ℕ)
-      (v : Arc Value Global) → IsCountedBoard job steps places history capacity missing ready ready_capacity
+      (v : Arc Value Global) → IsBoard job steps places history capacity missing ready ready_capacity
       → k < length steps → was_taken (progress_at steps k) ≡ true → is_done (progress_at steps k) ≡ false
       → arc_value v ≡ meaning_at job k
       → Released (users_of job.set.plan k) missing missing' ready ready' ready_capacity ready_capacity'
-      → IsCountedBoard job (slice_set steps k Done) (slice_set places k (Full v))
+      → IsBoard job (slice_set steps k Done) (slice_set places k (Some v))
       (history ++ Finish k ∷ []) capacity missing' ready' ready_capacity'
   board_finishes_and_releases ready missing' ready' ready_capacity ready_capacity' k v b h taken_k open_k right r = record {
     board = board_finishes job steps history capacity k b.board h taken_k open_k;
-    kept = kept_finishes job steps places b.kept b.board.long k v h taken_k right;
+    kept = kept_finishes job steps places b.kept k v (let l = b.board.long in let m = b.kept.long in omega arith) right;
     counted = counted_finishes job.set.plan steps missing b.board.long ready missing' ready' ready_capacity ready_capacity' k
         (has_users _ b.board.compiled) b.counted (let l = b.board.long in omega arith) taken_k open_k r;
   }
@@ -342,7 +340,7 @@ pub board_new : (job : JobView) (n : ℕ) (places : List Place) (capacity : ℕ)
     → IsCompiled job.set → Fits job.set.tables (job.portfolio).holdings → n ≡ length job.set.plan → 2 * n ≤ capacity
     → length places ≡ length job.set.plan → KeepsMeanings job places
     → IsCounted job.set.plan (replicate (length job.set.plan) Waiting) missing ready ready_capacity
-    → IsCountedBoard job (replicate n Waiting) places [] capacity missing ready ready_capacity
+    → IsBoard job (replicate n Waiting) places [] capacity missing ready ready_capacity
 board_new job n places capacity missing ready ready_capacity compiled fits is_n room long means counted = record {
   board = record {
     compiled = compiled;
@@ -354,7 +352,7 @@ board_new job n places capacity missing ready ready_capacity compiled fits is_n 
     count = no_events n;
     room = rw (length-replicate n Waiting) room;
   };
-  kept = kept_new job n places is_n (long ∙ sym is_n) means;
+  kept = kept_new job n places long means;
   counted = rw is_n counted;
 }
 
@@ -367,13 +365,12 @@ open_is_unfinished steps history same (i ∷ is) =
     ap (λ b. (if b then 0 else 1) + open_inputs steps is) (sym (same i))
     ∙ ap (λ n. (if is_finished history i then 0 else 1) + n) (open_is_unfinished steps history same is)
 
--- when all steps are finished, what no step has as its first input is kept
+-- when all steps are finished, each of their values is kept
 pub kept_when_complete : (job : JobView) (steps : List Progress) (places : List Place) (history : List Event) (capacity : ℕ)
-    (missing ready : List ℕ) (ready_capacity j : ℕ)
-    → IsCountedBoard job steps places history capacity missing ready ready_capacity → AllFinished job.set.plan history
-    → j < length job.set.plan → (MayMove job.set.plan j → ⊥) → is_full (place_at places j) ≡ true
-kept_when_complete job steps places history capacity missing ready ready_capacity j b all h stays =
-    kept_at_end job steps places b.kept b.board.long j (sym (b.board.finished j) ∙ all j h) stays
+    (missing ready : List ℕ) (ready_capacity j : ℕ) → IsBoard job steps places history capacity missing ready ready_capacity
+    → AllFinished job.set.plan history → j < length job.set.plan → IsSome (place_at places j)
+kept_when_complete job steps places history capacity missing ready ready_capacity j b all h =
+    b.kept.here j (sym (b.board.finished j) ∙ all j h)
 
 open_all : (n : ℕ) (is : List ℕ) → open_inputs (replicate n Waiting) is ≡ length is
 open_all n [] = refl

@@ -1,10 +1,11 @@
 -- Counting users down.
 use Rattle.std.proofs.Common.{◌≡◌, ℕ, ◌+◌, ◌-◌, ◌<◌, ◌≤◌, List, [], ◌∷◌}
-use Rattle.std.proofs.Common.{◌++◌, length, All, take, drop, sym, ap, ◌∙◌, subst, inl, inr, arith}
+use Rattle.std.proofs.Common.{◌++◌, length, All, take, drop, reverse, refl, sym, ap, ◌∙◌, subst, inl, inr, arith}
 use Rattle.std.proofs.Common.{get_or, slice_index, slice_set, get_or-set_same}
 use Rattle.std.proofs.Common.{get_or-set_other, length-append}
 use Rattle.std.proofs.lemmas.Bool.{cases_eq, ne_eqb}
-use Rattle.std.proofs.lemmas.List.{take_more, length-set, take-append-drop}
+use Rattle.std.proofs.lemmas.List.{take_more, length-set, take-append-drop, get_or_default, get_or-reverse}
+use Rattle.std.proofs.lemmas.List.{length-reverse, reverse-append, take_all}
 use Rattle.std.proofs.lemmas.List.Elements.{All-push}
 use Rattle.plan_compiler.specs.Beginnings.{times}
 use Rattle.plan_compiler.proofs.CounterLemmas.{times-append, times_push_other, times_push_same}
@@ -22,19 +23,45 @@ pub record Released (users missing missing' ready ready' : List ℕ) (capacity c
 times_take : (x n : ℕ) (ys : List ℕ) → times x (take n ys) ≤ times x ys
 times_take x n ys = omega (arith, times-append x (take n ys) (drop n ys), ap (times x) (take-append-drop n ys))
 
--- a user at place i stands at no earlier place
-pub not_before : (users : List ℕ) (i : ℕ) → i < length users → ((k : ℕ) → times k users ≤ 1)
-    → times (get_or users i 0) (take i users) ≡ 0
-not_before users i h once =
-    let u : ℕ = get_or users i 0 in
-    let more = ap (times u) (take_more users i 0 h) ∙ times_push_same u (take i users) in
-    omega (arith, times_take u (i + 1) users, once u)
-
 pub stands : (users : List ℕ) (i : ℕ) → i < length users → 0 < times (get_or users i 0) users
 stands users i h =
     let u : ℕ = get_or users i 0 in
     let more = ap (times u) (take_more users i 0 h) ∙ times_push_same u (take i users) in
     omega (arith, times_take u (i + 1) users)
+
+times-reverse : (x : ℕ) (ys : List ℕ) → times x (reverse ys) ≡ times x ys
+times-reverse x [] = refl
+times-reverse x (y ∷ ys) =
+    let split = ap (times x) (reverse-append (y ∷ []) ys) ∙ times-append x (reverse ys) (y ∷ []) in
+    omega (arith, split, times-reverse x ys)
+
+-- the next user, from the last to the first, of which none stands twice
+pub record IsNextUser (users : List ℕ) (i u : ℕ) : Type 0 where
+  pub more : take (i + 1) (reverse users) ≡ take i (reverse users) ++ u ∷ []
+  pub fresh : times u (take i (reverse users)) ≡ 0
+  pub listed : 0 < times u users
+  pub among : (n : ℕ) → All (λ x. x < n) users → u < n
+
+pub next_user : (users : List ℕ) (i u : ℕ) → ((k : ℕ) → times k users ≤ 1) → i < length (reverse users)
+    → u ≡ get_or (reverse users) i u → IsNextUser users i u
+next_user users i u once h is =
+    let read : get_or (reverse users) i 0 ≡ u = get_or_default (reverse users) i 0 u h ∙ sym is in
+    let more : take (i + 1) (reverse users) ≡ take i (reverse users) ++ u ∷ [] =
+    take_more (reverse users) i 0 h ∙ ap (λ x. take i (reverse users) ++ x ∷ []) read in
+    let counted = ap (times u) more ∙ times_push_same u (take i (reverse users)) in
+    let most = times_take u (i + 1) (reverse users) in
+    let same = times-reverse u users in
+    record {
+      more = more;
+      fresh = omega (arith, counted, most, same, once u);
+      listed = omega (arith, counted, most, same);
+      among = λ n all.
+          let many = length-reverse users in
+          let place : length users - 1 - i < length users = omega (arith, h, many) in
+          let from = sym (get_or-reverse users i 0 (omega (arith, h, many))) ∙ read in
+          let below = all (length users - 1 - i) 0 place in
+          omega (arith, from, below);
+    }
 
 module _ (us missing missing' ready ready' : List ℕ) (capacity capacity' u : ℕ)
     (done : Released us missing missing' ready ready' capacity capacity') (fresh : times u us ≡ 0) (h : u < length missing)
@@ -112,3 +139,19 @@ module _ (us missing missing' ready ready' : List ℕ) (capacity capacity' u : �
     room = let r = done.room in omega (arith, length-append us (u ∷ []));
     same_room = done.same_room;
   }
+
+-- all users are counted down, from the last to the first
+pub all_released : (users missing missing' ready ready' : List ℕ) (capacity capacity' n : ℕ) → n ≡ length (reverse users)
+    → Released (take n (reverse users)) missing missing' ready ready' capacity capacity'
+    → Released users missing missing' ready ready' capacity capacity'
+all_released users missing missing' ready ready' capacity capacity' n e done =
+    let whole : take n (reverse users) ≡ reverse users = take_all n (reverse users) (omega (arith, e)) in
+    let same : (k : ℕ) → times k (take n (reverse users)) ≡ times k users = λ k. ap (times k) whole ∙ times-reverse k users in
+    record {
+      long = done.long;
+      left = λ k. rw (← same k) (done.left k);
+      freed = λ k. rw (← same k) (done.freed k);
+      in_range = done.in_range;
+      room = let r = done.room in omega (arith, ap length whole, length-reverse users);
+      same_room = done.same_room;
+    }

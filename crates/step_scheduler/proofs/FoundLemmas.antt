@@ -1,7 +1,7 @@
 -- What is found of the values of a job's steps when its board is opened.
 use Rattle.std.proofs.Common.{◌≡◌, ◌∙◌, ℕ, ◌<◌, ◌+◌, zero, suc, List, [], ◌∷◌, length}
 use Rattle.std.proofs.Common.{drop, map, sym, ap}
-use Rattle.std.proofs.Common.{arith, slice_index_or, slice_set, length-set, option_map, unwrap_or, Global}
+use Rattle.std.proofs.Common.{arith, slice_index_or, slice_set, length-set, option_map, unwrap_or, Global, Some}
 use Rattle.std.proofs.lemmas.List.{get_or-map, length-map}
 use Rattle.std.proofs.lemmas.Option.{slice_get-get_or}
 use Rattle.std.specs.declared.sync.Arc.{Arc}
@@ -16,9 +16,7 @@ use Rattle.plan_ir.specs.declared.values.Value.{Value}
 use Rattle.plan_ir.specs.declared.values.Value.TheVariants as value
 use Rattle.plan_compiler.specs.Meaning.{meaning}
 use Rattle.step_scheduler.specs.Jobs.{JobView, meaning_at}
-use Rattle.step_scheduler.specs.declared.place.Place.{Place}
-use Rattle.step_scheduler.specs.declared.place.Place.TheVariants.{Full}
-use Rattle.step_scheduler.specs.near.Keeping.{KeepsMeanings}
+use Rattle.step_scheduler.specs.near.Keeping.{KeepsMeanings, Place}
 use Rattle.step_scheduler.proofs.Places.{keeps_more}
 
 -- the contracts that are held of each commodity
@@ -60,7 +58,7 @@ held_read job c held h at =
 pub found_more : (job : JobView) (c step : ℕ) (held : List HeldContract) (left left' : List (List HeldContract))
     (places : List Place) (v : Arc Value Global) → AreFound job c left places → left ≡ held ∷ left'
     → step < length job.set.plan → op_at job.set.plan step ≡ op.Gather c → arc_value v ≡ value.Held held
-    → AreFound job (c + 1) left' (slice_set places step (Full v))
+    → AreFound job (c + 1) left' (slice_set places step (Some v))
 found_more job c step held left left' places v found e h is_gather right =
     let first = drop_first (all_held job) c held left' (sym found.others ∙ e) in
     let many = length-map job.set.tables.commodities
@@ -69,7 +67,7 @@ found_more job c step held left left' places v found e h is_gather right =
     let means : arc_value v ≡ meaning_at job step =
     right ∙ ap value.Held (sym read) ∙ sym (ap (meaning job.set.tables (job.portfolio).holdings) is_gather) in
     record {
-      long = length-set places step (Full v) ∙ found.long;
+      long = length-set places step (Some v) ∙ found.long;
       means = keeps_more job places step v (let l = found.long in omega (arith, l, h)) found.means means;
       others = sym first.1.1;
     }

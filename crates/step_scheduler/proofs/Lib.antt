@@ -5,6 +5,12 @@ pub mod RunValues
 pub mod Counting
 pub mod UserLemmas
 pub mod Places
+pub mod HeldLemmas
+pub mod PartBounds
+pub mod PassedOver
+pub mod WrittenLemmas
+pub mod NothingLemmas
+pub mod WholeLemmas
 pub mod Counted
 pub mod RunOnce
 pub mod RunOrder

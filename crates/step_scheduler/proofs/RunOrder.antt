@@ -43,6 +43,13 @@ taken_longer (e ∷ es) after k t =
       | inr later ↦ or_right (takes e k) (is_taken (es ++ after) k) (taken_longer es after k later)
     ]
 
+-- a step that a run finished was taken
+pub finished_was_taken : (plan : List StepView) (history : List Event) → IsRun plan history → (k : ℕ)
+    → is_finished history k ≡ true → is_taken history k ≡ true
+finished_was_taken plan history run k finished =
+    let order = in_order plan [] history k run finished in
+    ap (λ h. is_taken h k) order.is ∙ taken_longer order.before (Finish k ∷ order.after) k order.taken
+
 -- in a run that finished every step, each was taken once, and after that finished once
 pub complete_once : (plan : List StepView) (history : List Event) → IsRun plan history → AllFinished plan history
     → (k : ℕ) → k < length plan → IsDoneOnce history k
@@ -50,8 +57,7 @@ complete_once plan history run all k h =
     let once = run_once plan history run in
     let finished = all k h in
     let order = in_order plan [] history k run finished in
-    let taken : is_taken history k ≡ true =
-    ap (λ h. is_taken h k) order.is ∙ taken_longer order.before (Finish k ∷ order.after) k order.taken in
+    let taken = finished_was_taken plan history run k finished in
     record {
       taken = once.taken k ∙ ap (λ b. if b then 1 else 0) taken;
       finished = once.finished k ∙ ap (λ b. if b then 1 else 0) finished;

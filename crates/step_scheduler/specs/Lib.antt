@@ -1,5 +1,6 @@
 pub mod Jobs
 pub mod Runs
 pub mod Boards
+pub mod Figures
 pub mod Samples
 pub mod near

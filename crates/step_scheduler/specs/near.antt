@@ -3,3 +3,6 @@ pub mod Tasks
 pub mod Counts
 pub mod Keeping
 pub mod Kept
+pub mod Parts
+pub mod Whole
+pub mod Forms

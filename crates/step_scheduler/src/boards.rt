@@ -5,31 +5,26 @@ ghost use Rattle.std.specs.Prelude.{IsSome, length};
 ghost use Rattle.std.specs.Arc.{arc_value};
 ghost use Rattle.plan_ir.specs.Figures.{figures_of, option_value_of, total_to};
 ghost use Rattle.plan_ir.specs.Plans.{inputs_at};
-ghost use Rattle.step_scheduler.specs.Boards.{IsComplete, IsTakenInVain};
+ghost use Rattle.step_scheduler.specs.Boards.{IsComplete};
+ghost use Rattle.step_scheduler.specs.Figures.{AreAllFigures};
 ghost use Rattle.step_scheduler.specs.Jobs.{inputs_for, meaning_at};
 ghost use Rattle.step_scheduler.specs.Runs.{AllFinished, CanGoOn, IsOnce, IsReady, IsRun, IsUnderWay, is_finished, run_values, unfinished};
 ghost use Rattle.step_scheduler.specs.declared.events.Event.TheVariants.{Take, Finish};
 
-use crate::counters::{counters, last_of, release};
+use crate::courses::Course;
 use crate::events::Event;
 use crate::finished::Finished;
-use crate::handing::{keep_hold, kept, task_of};
 use crate::jobs::Job;
-use crate::opening::found_values;
-use crate::place::Place;
-use crate::progress::{Progress, all_done, is_under_way};
-use crate::running::value_at;
+use crate::stepped::Stepped;
 use crate::tasks::Task;
+use crate::watches::Watch;
+use crate::whole::Whole;
 use plan_ir::figures::Figures;
-use plan_ir::values::Value;
 use span_money::amounts::Money;
 use std::alloc::{AllocError, Global};
 use std::marker::Model;
 use std::sync::Arc;
 use thiserror::Error;
-
-/// How many holds on its job a board keeps for tasks to come, at most.
-const SPARE_HOLDS: usize = 4;
 
 /// Why a board does not take a finished step.
 #[derive(Clone, Copy, Debug, Drop, PartialEq, Eq, Error)]
@@ -42,33 +37,30 @@ pub enum Refused {
     Failed,
 }
 
+// How a board goes through its plan.
+#[derive(Drop)]
+enum Form {
+    // Its steps are handed out one by one.
+    Stepped(Stepped),
+    // All of them were run in one call.
+    Whole(Whole),
+}
+
 /// The run of a job's plan: what has happened to its steps, and their values.
 ///
-/// Contracts see the job, the history, and whether the board has failed. The values that are kept are the steps' meanings.
+/// Contracts see the job, the history, and whether the board has failed.
 #[derive(Drop)]
 pub struct Board {
-    job: Arc<Job>,
-    steps: Vec<Progress>,
-    missing: Vec<u8>,
-    ready: Vec<u32>,
-    places: Vec<Place>,
-    history: Vec<Event>,
-    spare: Vec<Arc<Job>>,
-    failed: bool,
+    form: Form,
 }
 
 impl Model for Board {
-    ghost use Rattle.std.specs.Prelude.{map, vec_capacity};
-    ghost use Rattle.std.specs.Arc.{arc_value};
     ghost use Rattle.step_scheduler.specs.Boards.{BoardView};
-    ghost use Rattle.step_scheduler.specs.near.Kept.{IsBoard};
+    ghost use Rattle.step_scheduler.specs.near.Forms.{view_of};
 
     ghost Value = { BoardView };
 
-    ghost view = { λ b. record { job = arc_value b.job; history = b.history.items; failed = b.failed } };
-
-    ghost invariant = { λ b. IsBoard (arc_value b.job) b.steps.items b.places.items b.history.items
-        (vec_capacity b.history) b.missing.items b.ready.items (vec_capacity b.ready) (map arc_value b.spare.items) };
+    ghost view = { λ b. view_of b.form };
 }
 
 impl Board {
@@ -78,21 +70,29 @@ impl Board {
     pub fn new(alloc: Global, job: Arc<Job>) -> Result<Board, AllocError>
         ensures { IfOk result (λ b. b ≡ record { job = arc_value job; history = []; failed = false }) }
     {
-        let count = job.plan().len();
-        let steps = vec![in alloc; Progress::Waiting; count]?;
-        let (missing, ready) = counters(alloc, job.set())?;
-        let places = found_values(alloc, &job)?;
-        let history = Vec::with_capacity(alloc, 2 * count)?;
-        let spare = Vec::with_capacity(alloc, SPARE_HOLDS)?;
         Ok(Board {
-            job,
-            steps,
-            missing,
-            ready,
-            places,
-            history,
-            spare,
-            failed: false,
+            form: Form::Stepped(Stepped::new(alloc, job)?),
+        })
+    }
+
+    /// A board of a job on which every step of its plan was run, in one call: its history is that of the set's course. `Err`
+    /// is want of memory.
+    ///
+    /// The watch is passed for each step in the order of that history, and before the step is evaluated. It is passed also for
+    /// the steps of what is not held, of which nothing is evaluated. As with [`Board::new`], the held contracts of all
+    /// commodities are found before the first step.
+    pub fn whole<W: Watch>(
+        alloc: Global,
+        job: Arc<Job>,
+        course: &Course,
+        watch: &W,
+    ) -> Result<Board, AllocError>
+        requires { course.now.set ≡ (arc_value job).set }
+        ensures value { IfOk result (λ b. b ≡ record { job = arc_value job; history = course.now.events; failed = false }) }
+        ensures complete { IfOk result (λ b. IsComplete b) }
+    {
+        Ok(Board {
+            form: Form::Whole(Whole::new(alloc, job, course, watch)?),
         })
     }
 
@@ -100,13 +100,15 @@ impl Board {
     pub fn job(&self) -> &Arc<Job>
         ensures { arc_value result.now ≡ self.now.job }
     {
-        &self.job
+        match &self.form {
+            Form::Stepped(board) => board.job(),
+            Form::Whole(board) => board.job(),
+        }
     }
 
     /// Hands out a ready step, with the values of its inputs.
     ///
     /// `None` where no step is ready or the board has failed. `Err` is want of memory. After either the board is as it was.
-    #[inline(always)]
     pub fn take_ready(&mut self) -> Result<Option<Task>, AllocError>
         ensures same_job { self.new.job ≡ self.old.job }
         ensures ready { IfOk result (λ r. IfSome r (λ task. IsReady self.old.job.set.plan self.old.history task.step)) }
@@ -120,24 +122,19 @@ impl Board {
         ensures unchanged { IfOk result (λ r. IfNone r (self.new ≡ self.old)) }
         ensures err { OnErr result (self.new ≡ self.old) }
     {
-        if self.failed {
-            return Ok(None);
+        match &mut self.form {
+            Form::Stepped(board) => board.take_ready(),
+            Form::Whole(board) => {
+                board.rests();
+                Ok(None)
+            }
         }
-        let Some(step) = last_of(self.ready.as_slice()) else {
-            return Ok(None);
-        };
-        let task = task_of(&self.job, &mut self.spare, &mut self.places, step)?;
-        self.ready.truncate(self.ready.len() - 1);
-        self.steps[step as usize] = Progress::Taken;
-        self.history.push_reserved(Event::Take(step));
-        Ok(Some(task))
     }
 
     /// Keeps the value of a step that was handed out. It takes no memory.
     ///
     /// The mark that there was none for the value makes the board failed. Refused is, first, every step where the board has
     /// failed, and then one that is not under way; the board is then as it was. The step's job is the board's.
-    #[inline(always)]
     pub fn finish(&mut self, finished: Finished) -> Result<(), Refused>
         requires { finished.job ≡ self.old.job }
         ensures same_job { self.new.job ≡ self.old.job }
@@ -149,92 +146,9 @@ impl Board {
             self.new ≡ record self.old { history = self.old.history ++ Finish finished.step ∷ [] })) }
         ensures no_memory { OnOk result (IfNone finished.value (self.new ≡ record self.old { failed = true })) }
     {
-        if self.failed {
-            return Err(Refused::Failed);
-        }
-        let (step, value, hold) = finished.into_parts();
-        let place = step as usize;
-        if !is_under_way(self.steps.as_slice(), place) {
-            return Err(Refused::NotTaken);
-        }
-        keep_hold(&mut self.spare, hold);
-        self.keep(step, value);
-        Ok(())
-    }
-
-    // Keeps the value of a step that is under way, or fails where there was no memory for it.
-    #[inline(always)]
-    fn keep(&mut self, step: u32, value: Option<Arc<Value>>)
-        requires in_range { step < length self.old.job.set.plan }
-        requires under_way { IsUnderWay self.old.history step }
-        requires means { IfSome value (λ v. arc_value v ≡ meaning_at self.old.job step) }
-        ensures value { IfSome value (λ v. self.new ≡ record self.old { history = self.old.history ++ Finish step ∷ [] }) }
-        ensures no_memory { IfNone value (self.new ≡ record self.old { failed = true }) }
-    {
-        let place = step as usize;
-        match value {
-            Some(value) => {
-                self.steps[place] = Progress::Done;
-                self.places[place] = Place::Full(value);
-                self.history.push_reserved(Event::Finish(step));
-                release(
-                    self.job.plan().users(place),
-                    &mut self.missing,
-                    &mut self.ready,
-                );
-            }
-            None => self.failed = true,
-        }
-    }
-
-    /// The ready step that [`Board::run_next`] runs. `None` where no step is ready or the board has failed.
-    #[inline(always)]
-    pub fn next_ready(&self) -> Option<usize>
-        ensures ready { IfSome result (λ k. IsReady self.now.job.set.plan self.now.history k) }
-        ensures live { IfSome result (λ k. self.now.failed ≡ false) }
-        ensures none { IfNone result (self.now.failed ≡ false
-            → (k : ℕ) → IsReady self.now.job.set.plan self.now.history k → ⊥) }
-    {
-        if self.failed {
-            return None;
-        }
-        let Some(step) = last_of(self.ready.as_slice()) else {
-            return None;
-        };
-        Some(step as usize)
-    }
-
-    /// Takes a ready step, evaluates it and keeps its value, all at once, and gives its number: what [`Board::take_ready`],
-    /// `evaluate` and [`Board::finish`] do one after the other, without a task.
-    ///
-    /// `None` where no step is ready or the board has failed; it is then as it was. At `Err`, want of memory, it has failed.
-    #[inline(always)]
-    pub fn run_next(&mut self, alloc: Global) -> Result<Option<usize>, AllocError>
-        ensures ready { IfOk result (λ r. IfSome r (λ k. IsReady self.old.job.set.plan self.old.history k)) }
-        ensures live { IfOk result (λ r. IfSome r (λ k. self.old.failed ≡ false)) }
-        ensures done { IfOk result (λ r. IfSome r (λ k.
-            self.new ≡ record self.old { history = self.old.history ++ Take k ∷ Finish k ∷ [] })) }
-        ensures none { IfOk result (λ r. IfNone r (self.old.failed ≡ false
-            → (k : ℕ) → IsReady self.old.job.set.plan self.old.history k → ⊥)) }
-        ensures unchanged { IfOk result (λ r. IfNone r (self.new ≡ self.old)) }
-        ensures err { OnErr result (IsTakenInVain self.old self.new) }
-    {
-        if self.failed {
-            return Ok(None);
-        }
-        let Some(step) = last_of(self.ready.as_slice()) else {
-            return Ok(None);
-        };
-        let value = value_at(alloc, &self.job, &mut self.places, step);
-        let is_done = value.is_some();
-        self.ready.truncate(self.ready.len() - 1);
-        self.steps[step as usize] = Progress::Taken;
-        self.history.push_reserved(Event::Take(step));
-        self.keep(step, value);
-        if is_done {
-            Ok(Some(step as usize))
-        } else {
-            Err(AllocError)
+        match &mut self.form {
+            Form::Stepped(board) => board.finish(finished),
+            Form::Whole(board) => board.refuse(finished),
         }
     }
 
@@ -242,7 +156,10 @@ impl Board {
     pub fn fail(&mut self)
         ensures { self.new ≡ record self.old { failed = true } }
     {
-        self.failed = true;
+        match &mut self.form {
+            Form::Stepped(board) => board.fail(),
+            Form::Whole(board) => board.fail(),
+        }
     }
 
     /// Whether every step has its value, and the board has not failed.
@@ -251,7 +168,10 @@ impl Board {
         ensures goes_on { result ≡ false → self.now.failed ≡ false
             → (k : ℕ) × CanGoOn self.now.job.set.plan self.now.history k }
     {
-        !self.failed && all_done(self.steps.as_slice(), self.history.len())
+        match &self.form {
+            Form::Stepped(board) => board.is_complete(),
+            Form::Whole(board) => board.is_complete(),
+        }
     }
 
     /// How many inputs of step k have no value yet.
@@ -259,7 +179,13 @@ impl Board {
         requires { k < length self.now.job.set.plan }
         ensures { result ≡ unfinished self.now.history (inputs_at self.now.job.set.plan k) }
     {
-        self.missing[k] as usize
+        match &self.form {
+            Form::Stepped(board) => board.missing(k),
+            Form::Whole(board) => {
+                board.rests();
+                0
+            }
+        }
     }
 
     /// What has happened to the steps, in order.
@@ -270,7 +196,10 @@ impl Board {
         ensures values { (k : ℕ) → is_finished self.now.history k ≡ true
             → run_values self.now.job self.now.history k ≡ meaning_at self.now.job k }
     {
-        self.history.as_slice()
+        match &self.form {
+            Form::Stepped(board) => board.history(),
+            Form::Whole(board) => board.history(),
+        }
     }
 
     /// The figures of the commodity of a number, once the board is complete. `None` before that, and past the last commodity.
@@ -278,13 +207,10 @@ impl Board {
         ensures complete { IsSome result ↔ (IsComplete self.now × (commodity < length self.now.job.set.tables.commodities)) }
         ensures value { IfSome result (λ f. f ≡ figures_of self.now.job.set.tables self.now.job.portfolio.holdings commodity) }
     {
-        let set = self.job.set();
-        if !self.is_complete() || commodity >= set.tables().commodities().len() {
-            return None;
+        match &self.form {
+            Form::Stepped(board) => board.figures(commodity),
+            Form::Whole(board) => board.figures(commodity),
         }
-        let step = set.final_step(commodity as u32);
-        let value = kept(&self.job, self.places.as_slice(), step as usize);
-        Some(*value.figures())
     }
 
     /// The total, in minor units, once the board is complete, and `None` before.
@@ -293,12 +219,10 @@ impl Board {
         ensures value { IfSome result (λ total. total ≡ total_to self.now.job.set.tables
             self.now.job.portfolio.holdings (length self.now.job.set.tables.commodities)) }
     {
-        if !self.is_complete() {
-            return None;
+        match &self.form {
+            Form::Stepped(board) => board.total(),
+            Form::Whole(board) => board.total(),
         }
-        let step = self.job.set().total_step();
-        let value = kept(&self.job, self.places.as_slice(), step as usize);
-        Some(value.total())
     }
 
     /// The account's option value, in minor units, once the board is complete, and `None` before. It is 0 under a profile in
@@ -307,13 +231,20 @@ impl Board {
         ensures complete { IsSome result ↔ IsComplete self.now }
         ensures value { IfSome result (λ value. value ≡ option_value_of self.now.job.set.tables self.now.job.portfolio.holdings) }
     {
-        if !self.is_complete() {
-            return None;
+        match &self.form {
+            Form::Stepped(board) => board.value(),
+            Form::Whole(board) => board.value(),
         }
-        let Some(step) = self.job.set().value_step() else {
-            return Some(Money::new(0));
-        };
-        let value = kept(&self.job, self.places.as_slice(), step as usize);
-        Some(value.premium())
+    }
+
+    /// The figures of all commodities by their numbers, handed over. The board is complete. `Err` is want of memory.
+    pub fn into_figures(self, alloc: Global) -> Result<Vec<Figures>, AllocError>
+        requires { IsComplete self }
+        ensures { IfOk result (λ figures. AreAllFigures self.job.set.tables self.job.portfolio.holdings figures.items) }
+    {
+        match self.form {
+            Form::Stepped(board) => board.all_figures(alloc),
+            Form::Whole(board) => Ok(board.into_figures()),
+        }
     }
 }

@@ -33,6 +33,8 @@ pub(crate) fn counters(alloc: Global, set: &CompiledSet) -> Result<(Vec<u8>, Vec
 }
 
 // Counts the users of a finished step down, and lists those that miss nothing any more.
+//
+// They are listed from the last to the first: the list is a stack, and so the lowest of them is the first to be handed out.
 pub(crate) fn release(users: &[u32], missing: &mut Vec<u8>, ready: &mut Vec<u32>)
     requires in_range { All (λ u. u < length missing.old.items) users.now }
     requires once { (k : ℕ) → times k users.now ≤ 1 }
@@ -47,7 +49,7 @@ pub(crate) fn release(users: &[u32], missing: &mut Vec<u8>, ready: &mut Vec<u32>
     ensures few { length ready.new.items ≤ length ready.old.items + length users.now }
     ensures capacity { vec_capacity ready.new ≡ vec_capacity ready.old }
 {
-    for user in users {
+    for user in users.iter().rev() {
         let left = missing[*user as usize] - 1;
         missing[*user as usize] = left;
         if left == 0 {

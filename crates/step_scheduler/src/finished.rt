@@ -56,15 +56,13 @@ impl Finished {
         self.value.as_deref()
     }
 
-    // The step, its value, and the hold on its job.
-    pub(crate) fn into_parts(self) -> (u32, Option<Arc<Value>>, Arc<Job>)
+    // The step and its value.
+    pub(crate) fn into_parts(self) -> (u32, Option<Arc<Value>>)
         ensures step { result.0 ≡ self.step }
         ensures value { option_map arc_value result.1 ≡ self.value }
-        ensures job { arc_value result.2 ≡ self.job }
         ensures in_range { self.step < length self.job.set.plan }
         ensures right { IfSome result.1 (λ v. arc_value v ≡ meaning_at self.job self.step) }
     {
-        let Finished { job, value, step } = self;
-        (step, value, job)
+        (self.step, self.value)
     }
 }

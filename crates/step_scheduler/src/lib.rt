@@ -1,17 +1,20 @@
 //! Jobs, their tasks, and boards that run a compiled plan step by step.
 #![tactic(auto)]
 
+mod blank;
 pub mod boards;
 mod counters;
+pub mod courses;
 pub mod evaluation;
 pub mod events;
 pub mod finished;
 mod handing;
-mod inputs;
 pub mod jobs;
 pub mod laws;
 mod opening;
-mod place;
+mod parts;
 pub mod progress;
-mod running;
+mod stepped;
 pub mod tasks;
+pub mod watches;
+mod whole;

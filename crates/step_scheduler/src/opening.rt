@@ -1,12 +1,10 @@
 //! What a board finds out when it is opened.
-ghost use Rattle.std.specs.Prelude.{◌≡◌, IfOk, length, replicate};
+ghost use Rattle.std.specs.Prelude.{◌≡◌, IfOk, None, length, replicate};
 ghost use Rattle.std.specs.Arc.{arc_value};
 ghost use Rattle.plan_ir.specs.declared.values.Value.TheVariants as value;
 ghost use Rattle.step_scheduler.specs.near.Keeping.{KeepsMeanings};
-ghost use Rattle.step_scheduler.specs.declared.place.Place.TheVariants.{Empty};
 
 use crate::jobs::Job;
-use crate::place::Place;
 use plan_compiler::set::CompiledSet;
 use plan_ir::values::Value;
 use span_tables::held::{Held, gather_all};
@@ -14,12 +12,12 @@ use std::alloc::{AllocError, Global};
 use std::sync::Arc;
 
 // So many empty places.
-fn empty(alloc: Global, count: usize) -> Result<Vec<Place>, AllocError>
-    ensures { IfOk result (λ v. v.items ≡ replicate count Empty) }
+fn empty(alloc: Global, count: usize) -> Result<Vec<Option<Arc<Value>>>, AllocError>
+    ensures { IfOk result (λ v. v.items ≡ replicate count None) }
 {
     let mut places = Vec::with_capacity(alloc, count)?;
     for _ in 0..count {
-        places.push_reserved(Place::Empty);
+        places.push_reserved(None);
     }
     Ok(places)
 }
@@ -37,7 +35,7 @@ fn as_value(alloc: Global, set: &CompiledSet, held: Held) -> Result<Arc<Value>, 
 
 // The places for the values of a job's steps, with what is found at once: the contracts that are held of each commodity,
 // which are known after one pass over the holdings.
-pub(crate) fn found_values(alloc: Global, job: &Job) -> Result<Vec<Place>, AllocError>
+pub(crate) fn found_values(alloc: Global, job: &Job) -> Result<Vec<Option<Arc<Value>>>, AllocError>
     ensures long { IfOk result (λ v. length v.items ≡ length job.now.set.plan) }
     ensures means { IfOk result (λ v. KeepsMeanings job.now v.items) }
 {
@@ -49,7 +47,7 @@ pub(crate) fn found_values(alloc: Global, job: &Job) -> Result<Vec<Place>, Alloc
     let mut commodity = 0;
     for of_commodity in held {
         let step = set.gather_step(commodity);
-        places[step as usize] = Place::Full(as_value(alloc, set, of_commodity)?);
+        places[step as usize] = Some(as_value(alloc, set, of_commodity)?);
         commodity += 1;
     }
     Ok(places)

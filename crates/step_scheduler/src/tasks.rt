@@ -1,13 +1,20 @@
 //! Steps that were handed out.
-ghost use Rattle.std.specs.Prelude.{◌≡◌, ◌<◌, IfSome, length};
+ghost use Rattle.std.specs.Prelude.{◌≡◌, ◌<◌, length};
 ghost use Rattle.std.specs.Arc.{arc_value};
-ghost use Rattle.step_scheduler.specs.Jobs.{inputs_for, meaning_at};
-ghost use Rattle.step_scheduler.specs.near.Tasks.{found_in, inputs_in};
+ghost use Rattle.step_scheduler.specs.near.Tasks.{IsTaskWith, task_with};
 
-use crate::inputs::Given;
 use crate::jobs::Job;
+use plan_ir::values::Value;
 use std::marker::Model;
 use std::sync::Arc;
+
+// What a step is evaluated from: its own value, where that was found when the board was opened, and the values of its inputs
+// in their order.
+#[derive(Drop)]
+pub(crate) struct Given {
+    pub(crate) found: Option<Arc<Value>>,
+    pub(crate) inputs: Vec<Arc<Value>>,
+}
 
 /// A step that is to be evaluated, with the values of its inputs. Only a board hands it out.
 #[derive(Drop)]
@@ -20,23 +27,20 @@ pub struct Task {
 impl Model for Task {
     ghost use Rattle.std.specs.Arc.{arc_value};
     ghost use Rattle.step_scheduler.specs.Jobs.{TaskView};
-    ghost use Rattle.step_scheduler.specs.near.Tasks.{IsTaskWith, found_in, inputs_in};
+    ghost use Rattle.step_scheduler.specs.near.Tasks.{IsTaskWith, task_with};
 
     ghost Value = { TaskView };
 
-    ghost view = { λ t. record { job = arc_value t.job; step = t.step; inputs = inputs_in t.given } };
+    ghost view = { λ t. task_with (arc_value t.job) t.step t.given };
 
-    ghost invariant = { λ t. IsTaskWith (found_in t.given)
-        (record { job = arc_value t.job; step = t.step; inputs = inputs_in t.given }) };
+    ghost invariant = { λ t. IsTaskWith (arc_value t.job) t.step t.given };
 }
 
 impl Task {
     // The task of a step, with what it is given.
     pub(crate) fn new(job: Arc<Job>, step: u32, given: Given) -> Task
-        requires in_range { step < length (arc_value job).set.plan }
-        requires fed { inputs_in given ≡ inputs_for (arc_value job) step }
-        requires found { IfSome (found_in given) (λ v. v ≡ meaning_at (arc_value job) step) }
-        ensures { result ≡ record { job = arc_value job; step = step; inputs = inputs_in given } }
+        requires { IsTaskWith (arc_value job) step given }
+        ensures { result ≡ task_with (arc_value job) step given }
     {
         Task { job, given, step }
     }

@@ -133,7 +133,7 @@ impl<B: Batch> Outcomes<B> {
     }
 
     /// One account more has ended.
-    pub(crate) fn close(&mut self) {
+    pub(crate) fn count_ended(&mut self) {
         self.left = self.left.saturating_sub(1);
     }
 
@@ -148,11 +148,7 @@ impl<B: Batch> Outcomes<B> {
     pub(crate) fn into_vec(self) -> Vec<Outcome>
         ensures { AreOutcomesOf B.jobs result.items }
     {
-        let Outcomes {
-            list,
-            left: _,
-            batch: _,
-        } = self;
+        let Outcomes { list, .. } = self;
         list
     }
 }

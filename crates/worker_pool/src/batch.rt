@@ -11,13 +11,14 @@ ghost use Rattle.worker_pool.specs.near.Places.{AreOutcomesOf};
 
 use crate::accounts::{Outcomes, Waiting};
 use crate::coordinator::Coordinator;
-use crate::ends::{OwnEnd, ThiefEnd, open_deque};
+use crate::ends::{ThiefEnd, open_deque};
 use crate::gates::Gate;
 use crate::helpers::Helper;
 use crate::laws::{Batch, new_queue};
 use crate::outcomes::Outcome;
 use crate::plain::{COORDINATOR, run_alone};
 use crate::queue_ends::{ResultEnd, open_results};
+use crate::workers::Worker;
 use plan_compiler::set::CompiledSet;
 use span_tables::portfolios::Portfolio;
 use std::alloc::{AllocError, Global};
@@ -57,12 +58,13 @@ impl From<AllocError> for PoolFault {
 
 // The helpers of a batch, numbered from 1, each with a deque of its own. The thieves' ends of these deques go onto `left`,
 // those of one after another's. `Err` is want of memory.
-fn helpers_of<'a, B: Batch>(
+fn helpers_of<'a, B: Batch, G: Gate>(
     alloc: Global,
+    gate: &'a G,
     helpers: usize,
     results: Vec<ResultEnd<'a, B>>,
     left: &mut Vec<Vec<ThiefEnd<B>>>,
-) -> Result<Vec<Helper<'a, B>>, AllocError>
+) -> Result<Vec<Helper<'a, B, G>>, AllocError>
     requires { helpers < MAX_WORKERS }
 {
     let mut all = Vec::with_capacity(alloc, helpers)?;
@@ -71,27 +73,29 @@ fn helpers_of<'a, B: Batch>(
         let (own, thieves) = open_deque::<B>(alloc, DEQUE_PLACES, helpers)?;
         left.push(thieves)?;
         number = number.saturating_add(1);
-        all.push(Helper {
+        let worker = Worker {
+            alloc,
+            gate,
             number,
             own,
             thieves: Vec::new(alloc),
-            results,
-        })?;
+        };
+        all.push(Helper { worker, results })?;
     }
     Ok(all)
 }
 
 // Gives each helper but the owner of a deque a thief's end of it.
-fn share_out<B: Batch>(
+fn share_out<B: Batch, G: Gate>(
     thieves: Vec<ThiefEnd<B>>,
     owner: usize,
-    helpers: &mut Vec<Helper<B>>,
+    helpers: &mut Vec<Helper<B, G>>,
 ) -> Result<(), AllocError> {
     let mut thieves = thieves;
     for helper in helpers.iter_mut() {
-        if helper.number != owner {
+        if helper.worker.number != owner {
             if let Some(thief) = thieves.pop() {
-                helper.thieves.push(thief)?;
+                helper.worker.thieves.push(thief)?;
             }
         }
     }
@@ -100,10 +104,10 @@ fn share_out<B: Batch>(
 
 // Shares out the thieves' ends that are left of the helpers' deques: those of each go to the coordinator, whose list comes
 // back, and to each other helper. `Err` is want of memory.
-fn share_out_all<B: Batch>(
+fn share_out_all<B: Batch, G: Gate>(
     alloc: Global,
     left: Vec<Vec<ThiefEnd<B>>>,
-    helpers: &mut Vec<Helper<B>>,
+    helpers: &mut Vec<Helper<B, G>>,
 ) -> Result<Vec<ThiefEnd<B>>, AllocError> {
     let mut share = Vec::with_capacity(alloc, left.len())?;
     let mut owner = COORDINATOR;
@@ -117,30 +121,36 @@ fn share_out_all<B: Batch>(
     Ok(share)
 }
 
-// A deque for the coordinator and one for each helper, and thieves' ends of each for all others: what the coordinator has of
-// these, and the helpers with their ends of the queue. `Err` is want of memory.
-fn open_deques<'a, B: Batch>(
+// The coordinator's worker, and the helpers with their ends of the queue: each with a deque, and with thieves' ends of all
+// others'. `Err` is want of memory.
+fn open_deques<'a, B: Batch, G: Gate>(
     alloc: Global,
+    gate: &'a G,
     helpers: usize,
     results: Vec<ResultEnd<'a, B>>,
-) -> Result<(OwnEnd<B>, Vec<ThiefEnd<B>>, Vec<Helper<'a, B>>), AllocError>
+) -> Result<(Worker<'a, B, G>, Vec<Helper<'a, B, G>>), AllocError>
     requires { helpers < MAX_WORKERS }
 {
     let mut left = Vec::new(alloc);
-    let mut crew = helpers_of(alloc, helpers, results, &mut left)?;
+    let mut crew = helpers_of(alloc, gate, helpers, results, &mut left)?;
     let (own, thieves) = open_deque::<B>(alloc, DEQUE_PLACES, helpers)?;
     share_out(thieves, COORDINATOR, &mut crew)?;
-    let share = share_out_all(alloc, left, &mut crew)?;
-    Ok((own, share, crew))
+    let thieves = share_out_all(alloc, left, &mut crew)?;
+    let worker = Worker {
+        alloc,
+        gate,
+        number: COORDINATOR,
+        own,
+        thieves,
+    };
+    Ok((worker, crew))
 }
 
 // Runs the coordinator here and each helper in a thread of its own. A helper whose thread is not started is done without.
 fn run_all<'a, B: Batch + Send + Sync, R: Threads + Wait + Clock + Sync, G: Gate>(
     rt: &R,
-    alloc: Global,
-    gate: &G,
-    coordinator: Coordinator<'a, B>,
-    helpers: Vec<Helper<'a, B>>,
+    coordinator: Coordinator<'a, B, G>,
+    helpers: Vec<Helper<'a, B, G>>,
 ) -> Vec<Outcome>
     ensures { AreOutcomesOf B.jobs result.items }
 {
@@ -154,9 +164,9 @@ fn run_all<'a, B: Batch + Send + Sync, R: Threads + Wait + Clock + Sync, G: Gate
         {
             let mut coordinator = coordinator;
             for helper in helpers {
-                let _ = scope.spawn(move || helper.run(rt, alloc, gate, stop));
+                let _ = scope.spawn(move || helper.run(rt, stop));
             }
-            coordinator.run(rt, alloc, gate);
+            coordinator.run(rt);
             stop.store(true, SeqCst);
             coordinator.into_outcomes()
         },
@@ -177,9 +187,9 @@ fn run_waiting<B: Batch + Send + Sync, R: Threads + Wait + Clock + Sync, G: Gate
 {
     let (queue, pass) = new_queue::<B>(alloc)?;
     let (results, theirs) = open_results(alloc, &queue, pass, helpers)?;
-    let (own, thieves, crew) = open_deques(alloc, helpers, theirs)?;
-    let coordinator = Coordinator::new(alloc, waiting, outcomes, own, thieves, results)?;
-    Ok(run_all(rt, alloc, gate, coordinator, crew))
+    let (worker, crew) = open_deques(alloc, gate, helpers, theirs)?;
+    let coordinator = Coordinator::new(worker, waiting, results, outcomes)?;
+    Ok(run_all(rt, coordinator, crew))
 }
 
 // The batch on more than one worker. Its type names the jobs, and no type of the signature does.
@@ -205,7 +215,7 @@ fn run_named<B: Batch + Send + Sync, R: Threads + Wait + Clock + Sync, G: Gate>(
 ///
 /// Refused is, first, a number of workers that is 0 or over 16, and then want of memory for the deques, the queue, their
 /// passes or the lists of the batch. An account has `NoMemory` where its job, its board, a step or its row has no memory.
-/// With one worker each task is evaluated as soon as it is handed out, and no thread is started.
+/// With one worker no thread is started: all goes as in [`run_plain`](crate::plain::run_plain), past the gate.
 pub fn run_batch<R: Threads + Wait + Clock + Sync, G: Gate>(
     rt: &R,
     alloc: Global,

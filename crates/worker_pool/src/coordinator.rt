@@ -1,71 +1,67 @@
 //! The thread that opens the boards of a batch, hands out and takes back their steps, and keeps the outcomes.
 ghost use Rattle.std.specs.Arc.{arc_value};
-ghost use Rattle.std.specs.Prelude.{◌≡◌, ◌<◌, Some, slice_get, vec_len};
+ghost use Rattle.std.specs.Prelude.{◌≡◌, Some, slice_get};
 ghost use Rattle.worker_pool.specs.near.Places.{AreOutcomesOf};
 
 use crate::accounts::{Outcomes, Waiting};
-use crate::ends::{FinishedOf, OwnEnd, TaskOf, ThiefEnd};
+use crate::ends::FinishedOf;
 use crate::gates::Gate;
 use crate::idle::Patience;
 use crate::laws::Batch;
 use crate::open_boards::OpenBoard;
 use crate::outcomes::Outcome;
-use crate::plain::COORDINATOR;
 use crate::queue_ends::ResultEnd;
-use std::alloc::{AllocError, Global};
+use crate::workers::Worker;
+use std::alloc::AllocError;
 use std::sync::{Arc, Wait};
 use std::time::Clock;
 use step_scheduler::jobs::Job;
 
 /// How many boards are open at one moment, at most.
-const MOST_OPEN: usize = 4;
-
-/// After how many steps of its own the coordinator looks for results.
-const STEPS_BETWEEN_LOOKS: usize = 64;
+const MOST_OPEN: usize = 64;
 
 /// What the coordinator holds.
 #[derive(Drop)]
-pub(crate) struct Coordinator<'a, B: Batch> {
+pub(crate) struct Coordinator<'a, B: Batch, G: Gate> {
+    worker: Worker<'a, B, G>,
     waiting: Waiting<B>,
     boards: Vec<OpenBoard<B>>,
-    outcomes: Outcomes<B>,
-    own: OwnEnd<B>,
-    thieves: Vec<ThiefEnd<B>>,
     results: ResultEnd<'a, B>,
+    outcomes: Outcomes<B>,
 }
 
-impl<'a, B: Batch> Coordinator<'a, B> {
-    /// A coordinator of these accounts, with these ends and no open board. `Err` is want of memory.
+impl<'a, B: Batch, G: Gate> Coordinator<'a, B, G> {
+    /// A coordinator of these accounts, with no open board. `Err` is want of memory.
     pub(crate) fn new(
-        alloc: Global,
+        worker: Worker<'a, B, G>,
         waiting: Waiting<B>,
-        outcomes: Outcomes<B>,
-        own: OwnEnd<B>,
-        thieves: Vec<ThiefEnd<B>>,
         results: ResultEnd<'a, B>,
-    ) -> Result<Coordinator<'a, B>, AllocError> {
+        outcomes: Outcomes<B>,
+    ) -> Result<Coordinator<'a, B, G>, AllocError> {
+        let boards = Vec::with_capacity(worker.alloc, MOST_OPEN)?;
         Ok(Coordinator {
+            worker,
             waiting,
-            boards: Vec::with_capacity(alloc, MOST_OPEN)?,
-            outcomes,
-            own,
-            thieves,
+            boards,
             results,
+            outcomes,
         })
     }
 
     /// Runs until each account has ended.
-    pub(crate) fn run<R: Wait + Clock, G: Gate>(&mut self, rt: &R, alloc: Global, gate: &G) {
+    pub(crate) fn run<R: Wait + Clock>(&mut self, rt: &R) {
         let mut patience = Patience::of_coordinator();
         for _ in rt.forever() {
-            self.open_more(alloc, gate);
+            self.open_more();
             if self.outcomes.is_done() {
                 return;
             }
-            if self.make_progress(rt, alloc, gate) {
-                patience.renew();
-            } else {
-                patience.wait(rt);
+            match self.find_result(rt) {
+                Some(done) => {
+                    patience.renew();
+                    self.take_back(done);
+                }
+                None => patience.wait(rt),
             }
         }
     }
@@ -74,116 +70,72 @@ impl<'a, B: Batch> Coordinator<'a, B> {
     pub(crate) fn into_outcomes(self) -> Vec<Outcome>
         ensures { AreOutcomesOf B.jobs result.items }
     {
-        let Coordinator {
-            waiting: _,
-            boards: _,
-            outcomes,
-            own: _,
-            thieves: _,
-            results: _,
-        } = self;
+        let Coordinator { outcomes, .. } = self;
         outcomes.into_vec()
     }
 
-    // Takes back a result, or goes on with an open board, or evaluates a task of a deque. Whether there was any.
-    fn make_progress<R: Wait, G: Gate>(&mut self, rt: &R, alloc: Global, gate: &G) -> bool {
+    // A result that waits in the queue. Where there is none, that of a task which the coordinator pops or steals, and
+    // evaluates itself.
+    fn find_result<R: Wait>(&mut self, rt: &R) -> Option<FinishedOf<B>> {
         if let Some(done) = self.results.pop(rt) {
-            self.take_back(alloc, gate, done);
-            return true;
+            return Some(done);
         }
-        if let Some(at) = self.boards.iter().position(|board| board.may_be_ready()) {
-            self.run_board(alloc, gate, at);
-            return true;
-        }
-        match self.find_task() {
-            Some(task) => {
-                self.take_back(alloc, gate, task.evaluate(alloc, gate, COORDINATOR));
-                true
-            }
-            None => false,
-        }
+        let task = match self.worker.pop() {
+            Some(task) => task,
+            None => self.worker.steal()?,
+        };
+        Some(self.worker.evaluate(task))
     }
 
-    // A task of the coordinator's deque, or else one of a helper's.
-    fn find_task(&mut self) -> Option<TaskOf<B>> {
-        if let Some(task) = self.own.pop() {
-            return Some(task);
-        }
-        for thief in self.thieves.iter_mut() {
-            if let Some(task) = thief.steal() {
-                return Some(task);
-            }
-        }
-        None
-    }
-
-    // Opens boards while there may be more of them.
-    fn open_more<G: Gate>(&mut self, alloc: Global, gate: &G) {
+    // Opens boards in account order, while accounts wait and no more boards are open than may be.
+    fn open_more(&mut self) {
         for _ in 0..self.waiting.len() {
             if self.boards.len() >= MOST_OPEN {
                 return;
             }
-            match self.waiting.next_job(alloc) {
-                Some(Ok(job)) => self.open_board(alloc, gate, job),
-                Some(Err(_)) => self.outcomes.close(),
+            match self.waiting.next_job(self.worker.alloc) {
+                Some(Ok(job)) => self.open_board(job),
+                Some(Err(_)) => self.outcomes.count_ended(),
                 None => return,
             }
         }
     }
 
     // Opens the board of a job, and pushes all that it hands out.
-    fn open_board<G: Gate>(&mut self, alloc: Global, gate: &G, job: Arc<Job>)
+    fn open_board(&mut self, job: Arc<Job>)
         requires { slice_get B.jobs (arc_value job).place ≡ Some (arc_value job) }
     {
-        let Ok(mut board) = OpenBoard::new(alloc, job) else {
-            self.outcomes.close();
+        let Ok(mut board) = OpenBoard::new(self.worker.alloc, job) else {
+            self.outcomes.count_ended();
             return;
         };
-        board.hand_out(alloc, gate, &mut self.own);
+        board.hand_out(&mut self.worker);
         if board.has_ended() {
-            self.close(alloc, board);
+            self.close(board);
         } else if let Err(refused) = self.boards.push(board) {
-            self.close(alloc, refused.value);
+            self.close(refused.value);
         }
     }
 
-    // Gives a result to the board of its place, and goes on with that. A result of no open board is dropped.
-    fn take_back<G: Gate>(&mut self, alloc: Global, gate: &G, done: FinishedOf<B>) {
+    // Gives a result to the board of its place, and pushes all that this makes ready. A result of no open board is dropped.
+    fn take_back(&mut self, done: FinishedOf<B>) {
         let place = done.place();
         let Some(at) = self.boards.iter().position(|board| board.place() == place) else {
             return;
         };
-        self.boards[at].keep(alloc, gate, &mut self.own, done);
-        self.run_board(alloc, gate, at);
-    }
-
-    // Goes on with an open board, until it waits or it is time to look for results.
-    fn run_board<G: Gate>(&mut self, alloc: Global, gate: &G, at: usize)
-        requires { at < vec_len self.old.boards }
-    {
-        for _ in 0..STEPS_BETWEEN_LOOKS {
-            if !self.boards[at].run_step(alloc, gate, &mut self.own) {
-                break;
-            }
-        }
-        self.close_ended(alloc, at);
-    }
-
-    // Closes an open board if it has ended.
-    fn close_ended(&mut self, alloc: Global, at: usize)
-        requires { at < vec_len self.old.boards }
-    {
+        self.boards[at].finish(done);
+        self.boards[at].hand_out(&mut self.worker);
         if self.boards[at].has_ended() {
             let ended = self.boards.swap_remove(at);
-            self.close(alloc, ended);
+            self.close(ended);
         }
     }
 
-    // Keeps the row of an ended board, where it has one.
-    fn close(&mut self, alloc: Global, ended: OpenBoard<B>) {
-        if let Some(row) = ended.row(alloc) {
-            self.outcomes.set(ended.place(), row);
+    // Ends the account of a board, with its row where it has one.
+    fn close(&mut self, board: OpenBoard<B>) {
+        if let Some(row) = board.row(self.worker.alloc) {
+            self.outcomes.set(board.place(), row);
         }
-        self.outcomes.close();
+        self.outcomes.count_ended();
     }
 }

@@ -10,15 +10,11 @@ use crate::laws::{
     Batch, Deque, DequePass, Thief, new_deque, pop_task, push_task, split_deque_pass, steal_task,
 };
 use crossbeam_deque::Steal;
-use plan_ir::values::Value;
 use std::alloc::{AllocError, Global};
 use std::marker::{Model, PhantomData};
 use step_scheduler::evaluation::evaluate;
 use step_scheduler::finished::Finished;
 use step_scheduler::tasks::Task;
-
-/// How many contracts of a commodity are so many that steps on them are worth handing to another worker.
-pub(crate) const LARGE_HELD: usize = 256;
 
 /// A task of the batch.
 #[derive(Drop)]
@@ -51,7 +47,7 @@ impl<B: Batch> TaskOf<B> {
     pub(crate) fn evaluate<G: Gate>(self, alloc: Global, gate: &G, worker: usize) -> FinishedOf<B>
         ensures { result.finished.job ≡ self.task.job }
     {
-        let TaskOf { task, of: _ } = self;
+        let TaskOf { task, .. } = self;
         gate.pass(worker, task.job().portfolio().account(), task.step());
         FinishedOf::new(evaluate(alloc, task))
     }
@@ -75,20 +71,12 @@ impl<B: Batch> FinishedOf<B> {
         self.finished.job().place()
     }
 
-    /// Whether its value is large: what is then ready is worth handing to another worker.
-    pub(crate) fn is_large(&self) -> bool {
-        match self.finished.value() {
-            Some(Value::Held(held)) => held.len() >= LARGE_HELD,
-            _ => false,
-        }
-    }
-
     /// The finished step.
     pub(crate) fn into_finished(self) -> Finished
         ensures finished { result ≡ self.finished }
         ensures batch { IsResultOf B.jobs result }
     {
-        let FinishedOf { finished, of: _ } = self;
+        let FinishedOf { finished, .. } = self;
         finished
     }
 }
@@ -152,7 +140,7 @@ impl<B: Batch> OwnEnd<B> {
     pub(crate) fn push(&mut self, task: TaskOf<B>) -> Result<(), TaskOf<B>>
         ensures { IfErr result (λ back. back.task ≡ task.task) }
     {
-        let TaskOf { task, of: _ } = task;
+        let TaskOf { task, .. } = task;
         match push_task(&mut self.deque, task) {
             Ok(()) => Ok(()),
             Err(task) => Err(TaskOf::new(task)),

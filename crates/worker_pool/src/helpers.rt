@@ -1,10 +1,10 @@
 //! Threads that help a coordinator.
-use crate::ends::{FinishedOf, OwnEnd, TaskOf, ThiefEnd};
+use crate::ends::{FinishedOf, TaskOf};
 use crate::gates::Gate;
 use crate::idle::Patience;
 use crate::laws::Batch;
 use crate::queue_ends::ResultEnd;
-use std::alloc::Global;
+use crate::workers::Worker;
 use std::sync::Wait;
 use std::sync::atomic::AtomicBool;
 use std::sync::atomic::Ordering::SeqCst;
@@ -15,89 +15,46 @@ const MOST_STOLEN: usize = 4;
 
 /// What a helper holds. The numbers of helpers begin with 1.
 #[derive(Drop)]
-pub(crate) struct Helper<'a, B: Batch> {
-    pub(crate) number: usize,
-    pub(crate) own: OwnEnd<B>,
-    pub(crate) thieves: Vec<ThiefEnd<B>>,
+pub(crate) struct Helper<'a, B: Batch, G: Gate> {
+    pub(crate) worker: Worker<'a, B, G>,
     pub(crate) results: ResultEnd<'a, B>,
 }
 
-impl<B: Batch> Helper<'_, B> {
+impl<B: Batch, G: Gate> Helper<'_, B, G> {
     /// Helps until the stop word is set.
-    pub(crate) fn run<R: Wait + Clock, G: Gate>(
-        mut self,
-        rt: &R,
-        alloc: Global,
-        gate: &G,
-        stop: &AtomicBool,
-    ) {
+    pub(crate) fn run<R: Wait + Clock>(mut self, rt: &R, stop: &AtomicBool) {
         let mut patience = Patience::of_helper();
         for _ in rt.forever() {
             if stop.load(SeqCst) {
                 return;
             }
-            match self.find_task(rt, alloc, gate, stop) {
+            match self.find_task(rt, stop) {
                 Some(task) => {
                     patience.renew();
-                    self.evaluate(rt, alloc, gate, stop, task);
+                    let done = self.worker.evaluate(task);
+                    self.hand_in(rt, stop, done);
                 }
                 None => patience.wait(rt),
             }
         }
     }
 
-    // A task of its own deque, or else one of another's.
-    fn find_task<R: Wait + Clock, G: Gate>(
-        &mut self,
-        rt: &R,
-        alloc: Global,
-        gate: &G,
-        stop: &AtomicBool,
-    ) -> Option<TaskOf<B>> {
-        if let Some(task) = self.own.pop() {
+    // A task of its own deque. Where there is none, up to four are stolen one by one, and all but the first are pushed on its
+    // own deque. The result of one whose push is refused is handed in at once.
+    fn find_task<R: Wait + Clock>(&mut self, rt: &R, stop: &AtomicBool) -> Option<TaskOf<B>> {
+        if let Some(task) = self.worker.pop() {
             return Some(task);
         }
-        for from in 0..self.thieves.len() {
-            if let Some(task) = self.steal(rt, alloc, gate, stop, from) {
-                return Some(task);
-            }
-        }
-        None
-    }
-
-    // Steals up to four tasks one by one, and pushes all but the first on its own deque. One whose push is refused is
-    // evaluated at once.
-    fn steal<R: Wait + Clock, G: Gate>(
-        &mut self,
-        rt: &R,
-        alloc: Global,
-        gate: &G,
-        stop: &AtomicBool,
-        from: usize,
-    ) -> Option<TaskOf<B>> {
-        let first = self.thieves.get_mut(from)?.steal()?;
+        let first = self.worker.steal()?;
         for _ in 1..MOST_STOLEN {
-            let Some(task) = self.thieves.get_mut(from).and_then(|thief| thief.steal()) else {
+            let Some(task) = self.worker.steal() else {
                 break;
             };
-            if let Err(task) = self.own.push(task) {
-                self.evaluate(rt, alloc, gate, stop, task);
+            if let Some(done) = self.worker.push(task) {
+                self.hand_in(rt, stop, done);
             }
         }
         Some(first)
-    }
-
-    // Evaluates a task and hands its result in.
-    fn evaluate<R: Wait + Clock, G: Gate>(
-        &mut self,
-        rt: &R,
-        alloc: Global,
-        gate: &G,
-        stop: &AtomicBool,
-        task: TaskOf<B>,
-    ) {
-        let done = task.evaluate(alloc, gate, self.number);
-        self.hand_in(rt, stop, done);
     }
 
     // Hands a result in, trying again while the queue is full and the stop word is not set.

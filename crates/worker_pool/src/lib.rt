@@ -14,3 +14,4 @@ pub mod outcomes;
 pub mod passes;
 pub mod plain;
 mod queue_ends;
+mod workers;

@@ -3,10 +3,10 @@ ghost use Rattle.std.specs.Arc.{arc_value};
 ghost use Rattle.std.specs.Prelude.{◌≡◌, IfOk, IfSome, Some, slice_get};
 ghost use Rattle.worker_pool.specs.Batches.{job_at};
 
-use crate::ends::{FinishedOf, OwnEnd, TaskOf};
+use crate::ends::{FinishedOf, TaskOf};
 use crate::gates::Gate;
 use crate::laws::Batch;
-use crate::plain::COORDINATOR;
+use crate::workers::Worker;
 use result_book::rows::Row;
 use std::alloc::{AllocError, Global};
 use std::marker::PhantomData;
@@ -14,22 +14,12 @@ use std::sync::Arc;
 use step_scheduler::boards::Board;
 use step_scheduler::jobs::Job;
 
-/// What an open board does next.
-#[derive(Clone, Copy, PartialEq, Eq)]
-enum Next {
-    // It may have a step that is ready.
-    MayBeReady,
-    // None is ready before a result comes.
-    Waits,
-    // Nothing: it is complete, or ended for want of memory.
-    Ends,
-}
-
 /// The board of an account of the batch.
 #[derive(Drop)]
 pub(crate) struct OpenBoard<B: Batch> {
     board: Board,
-    next: Next,
+    // Whether the board has failed, or was refused memory for a task.
+    lacks_memory: bool,
     batch: PhantomData<B>,
     ghost is: { slice_get B.jobs board.job.place ≡ Some board.job },
 }
@@ -42,7 +32,7 @@ impl<B: Batch> OpenBoard<B> {
         let board = Board::new(alloc, job)?;
         Ok(OpenBoard {
             board,
-            next: Next::MayBeReady,
+            lacks_memory: false,
             batch: PhantomData,
         })
     }
@@ -54,59 +44,37 @@ impl<B: Batch> OpenBoard<B> {
         self.board.job().place()
     }
 
-    /// Whether it may have a step that is ready.
-    pub(crate) fn may_be_ready(&self) -> bool {
-        self.next == Next::MayBeReady
-    }
-
-    /// Whether it is complete, or ended for want of memory.
+    /// Whether it is complete, has failed or was refused memory.
     pub(crate) fn has_ended(&self) -> bool {
-        self.next == Next::Ends
+        self.lacks_memory || self.board.is_complete()
     }
 
-    /// Pushes all that is ready on a deque. A task whose push is refused is evaluated here.
-    pub(crate) fn hand_out<G: Gate>(&mut self, alloc: Global, gate: &G, own: &mut OwnEnd<B>)
+    /// Pushes all that is ready on a worker's deque. The result of what that worker evaluates at once is kept.
+    pub(crate) fn hand_out<G: Gate>(&mut self, worker: &mut Worker<B, G>)
         ensures { self.new.board.job ≡ self.old.board.job }
     {
         for _ in 0..=self.board.job().plan().len() {
             let Some(task) = self.take() else {
                 return;
             };
-            if let Err(task) = own.push(task) {
-                self.finish(task.evaluate(alloc, gate, COORDINATOR));
+            if let Some(done) = worker.push(task) {
+                self.finish(done);
             }
         }
     }
 
-    /// Takes a step that is ready, evaluates it and keeps its value. Whether one was ready.
-    pub(crate) fn run_step<G: Gate>(&mut self, alloc: Global, gate: &G, own: &mut OwnEnd<B>) -> bool
-        ensures { self.new.board.job ≡ self.old.board.job }
-    {
-        match self.take() {
-            Some(task) => {
-                self.keep(alloc, gate, own, task.evaluate(alloc, gate, COORDINATOR));
-                true
-            }
-            None => false,
-        }
-    }
-
-    /// Keeps the result of a step. What a large one makes ready is pushed on a deque.
-    pub(crate) fn keep<G: Gate>(
-        &mut self,
-        alloc: Global,
-        gate: &G,
-        own: &mut OwnEnd<B>,
-        done: FinishedOf<B>,
-    )
+    /// Keeps the result of a step. It is of this board's job, since both are of the batch and of one place.
+    ///
+    /// A board refuses only results that it has no use for.
+    pub(crate) fn finish(&mut self, done: FinishedOf<B>)
         requires { done.finished.job.place ≡ self.old.board.job.place }
         ensures { self.new.board.job ≡ self.old.board.job }
     {
-        let is_large = done.is_large();
-        self.finish(done);
-        if is_large {
-            self.hand_out(alloc, gate, own);
+        let finished = done.into_finished();
+        if finished.value().is_none() {
+            self.lacks_memory = true;
         }
+        let _ = self.board.finish(finished);
     }
 
     /// The row of its account, if it is complete and memory allows.
@@ -125,39 +93,13 @@ impl<B: Batch> OpenBoard<B> {
         ensures same { self.new.board.job ≡ self.old.board.job }
         ensures job { IfSome result (λ task. task.task.job ≡ self.old.board.job) }
     {
-        if self.next == Next::Ends {
-            return None;
-        }
         match self.board.take_ready() {
             Ok(Some(task)) => Some(TaskOf::new(task)),
-            Ok(None) => {
-                self.next = if self.board.is_complete() {
-                    Next::Ends
-                } else {
-                    Next::Waits
-                };
-                None
-            }
+            Ok(None) => None,
             Err(_) => {
-                self.next = Next::Ends;
+                self.lacks_memory = true;
                 None
             }
         }
-    }
-
-    // Keeps the result of a step. It is of this board's job, since both are of the batch and of one place.
-    // A board refuses only results that it has no use for.
-    fn finish(&mut self, done: FinishedOf<B>)
-        requires { done.finished.job.place ≡ self.old.board.job.place }
-        ensures { self.new.board.job ≡ self.old.board.job }
-    {
-        let finished = done.into_finished();
-        let has_value = finished.value().is_some();
-        let _ = self.board.finish(finished);
-        self.next = if has_value {
-            Next::MayBeReady
-        } else {
-            Next::Ends
-        };
     }
 }

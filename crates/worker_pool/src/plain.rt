@@ -1,4 +1,4 @@
-//! Batches on one thread: one board after another.
+//! Batches on one thread: one whole board after another.
 ghost use Rattle.std.specs.Prelude.{◌≡◌, All, IfOk, length, true};
 ghost use Rattle.std.specs.Arc.{arc_value};
 ghost use Rattle.span_tables.specs.Holdings.{fits};
@@ -8,47 +8,51 @@ use crate::gates::{Gate, OpenGate};
 use crate::outcomes::Outcome;
 use plan_compiler::set::CompiledSet;
 use result_book::rows::Row;
+use span_tables::name::Name;
 use span_tables::portfolios::Portfolio;
 use std::alloc::{AllocError, Global};
 use std::sync::Arc;
 use step_scheduler::boards::Board;
+use step_scheduler::courses::Course;
 use step_scheduler::jobs::Job;
+use step_scheduler::watches::Watch;
 
 /// The number of the worker that hands out steps, which is the only one where there are no helpers.
 pub(crate) const COORDINATOR: usize = 0;
 
-// Runs a board until no step can be handed out: until it is complete, or has failed.
-fn run<G: Gate>(alloc: Global, board: &mut Board, gate: &G) -> Result<(), AllocError>
-    ensures { board.new.job ≡ board.old.job }
-{
-    for _ in 0..board.job().plan().len() {
-        let Some(step) = board.next_ready() else {
-            return Ok(());
-        };
-        gate.pass(COORDINATOR, board.job().portfolio().account(), step);
-        board.run_next(alloc)?;
-    }
-    Ok(())
+// The steps of an account, as a gate knows them.
+#[derive(Drop)]
+struct StepsOf<'a, G: Gate> {
+    gate: &'a G,
+    account: &'a Name,
 }
 
-// The row of an account under a set. `Err` is want of memory.
+impl<G: Gate> Watch for StepsOf<'_, G> {
+    fn pass(&self, step: usize) {
+        self.gate.pass(COORDINATOR, self.account, step);
+    }
+}
+
+// The row of an account under a set whose course this is. `Err` is want of memory.
 fn margined<G: Gate>(
     alloc: Global,
     set: &Arc<CompiledSet>,
+    course: &Course,
     portfolio: Portfolio,
     place: usize,
     gate: &G,
 ) -> Result<Arc<Row>, AllocError>
-    requires { fits (length (arc_value set.now).tables.contracts) portfolio.holdings ≡ true }
+    requires fits { fits (length (arc_value set.now).tables.contracts) portfolio.holdings ≡ true }
+    requires course { course.now.set ≡ arc_value set.now }
     ensures { IfOk result (λ row. arc_value row ≡ record { set = arc_value set.now; portfolio = portfolio }) }
 {
-    let job = Job::new(Arc::try_clone(set)?, portfolio, place);
-    let mut board = Board::new(alloc, Arc::new(alloc, job)?)?;
-    run(alloc, &mut board, gate)?;
-    if !board.is_complete() {
-        return Err(AllocError);
-    }
-    Row::of(alloc, &board)
+    let job = Arc::new(alloc, Job::new(Arc::try_clone(set)?, portfolio, place))?;
+    let steps = StepsOf {
+        gate,
+        account: job.portfolio().account(),
+    };
+    let board = Board::whole(alloc, Arc::try_clone(&job)?, course, &steps)?;
+    Row::from_board(alloc, board)
 }
 
 /// The row of an account under a set, on one thread. The portfolio fits the set's tables. `Err` is want of memory.
@@ -60,28 +64,31 @@ pub fn run_account(
     requires { fits (length (arc_value set.now).tables.contracts) portfolio.holdings ≡ true }
     ensures { IfOk result (λ row. arc_value row ≡ record { set = arc_value set.now; portfolio = portfolio }) }
 {
-    margined(alloc, set, portfolio, 0, &OpenGate)
+    let course = Course::of(alloc, set)?;
+    margined(alloc, set, &course, portfolio, 0, &OpenGate)
 }
 
 // The outcome of an account under a set.
 fn outcome_of<G: Gate>(
     alloc: Global,
     set: &Arc<CompiledSet>,
+    course: &Course,
     portfolio: Portfolio,
     place: usize,
     gate: &G,
 ) -> Outcome
-    requires { fits (length (arc_value set.now).tables.contracts) portfolio.holdings ≡ true }
+    requires fits { fits (length (arc_value set.now).tables.contracts) portfolio.holdings ≡ true }
+    requires course { course.now.set ≡ arc_value set.now }
     ensures { IsOutcome (arc_value set.now) portfolio result }
 {
     let account = portfolio.account().copied();
-    match margined(alloc, set, portfolio, place, gate) {
+    match margined(alloc, set, course, portfolio, place, gate) {
         Ok(row) => Outcome::Margined(row),
         Err(_) => Outcome::NoMemory(account),
     }
 }
 
-/// The outcomes of accounts under a set, on one worker that passes a gate. Else as [`run_plain`].
+/// The outcomes of accounts under a set, on one worker, which passes a gate before each evaluation. Else as [`run_plain`].
 pub(crate) fn run_alone<G: Gate>(
     alloc: Global,
     set: &Arc<CompiledSet>,
@@ -91,18 +98,20 @@ pub(crate) fn run_alone<G: Gate>(
     requires { All (λ p. fits (length (arc_value set.now).tables.contracts) p.holdings ≡ true) portfolios.items }
     ensures { IfOk result (λ outcomes. AreOutcomes (arc_value set.now) portfolios.items outcomes.items) }
 {
+    let course = Course::of(alloc, set)?;
     let mut outcomes = Vec::with_capacity(alloc, portfolios.len())?;
     for portfolio in portfolios {
         let place = outcomes.len();
-        outcomes.push(outcome_of(alloc, set, portfolio, place, gate))?;
+        outcomes.push(outcome_of(alloc, set, &course, portfolio, place, gate))?;
     }
     Ok(outcomes)
 }
 
 /// The outcomes of accounts under a set, in their order. The portfolios fit the set's tables.
 ///
-/// One board runs after another, and each task is evaluated as soon as it is handed out. An account has `NoMemory` where
-/// its job, its board, a step or its row has no memory. `Err` is want of memory for the list of outcomes alone.
+/// One account runs after another, all steps of it in one call. An account has `NoMemory` where its job, its board or its
+/// row has no memory. `Err` is want of memory for what is made once for all accounts: the set's course and the list of
+/// outcomes.
 pub fn run_plain(
     alloc: Global,
     set: &Arc<CompiledSet>,

@@ -1,5 +1,7 @@
--- The kinds of values that are copied.
+-- What is written over a copy of a value.
 use Rattle.std.specs.Prelude.{⊤}
+use Rattle.plan_ir.specs.declared.ops.Op.{Op}
+use Rattle.plan_ir.specs.declared.ops.Op.TheVariants as op
 use Rattle.plan_ir.specs.declared.values.Value.{Value}
 use Rattle.plan_ir.specs.declared.values.Value.TheVariants as value
 
@@ -10,3 +12,12 @@ IsChangeable (value.Inter x) = ⊤
 IsChangeable (value.Total x) = ⊤
 IsChangeable (value.Premium x) = ⊤
 IsChangeable v = ⊥
+
+-- the operation changes its first input
+abbrev pub IsInPlace : Op → Type 0
+IsInPlace (op.Spread c j) = ⊤
+IsInPlace (op.InterLoad c) = ⊤
+IsInPlace (op.InterSpread j) = ⊤
+IsInPlace (op.TotalAdd c) = ⊤
+IsInPlace (op.ValueAdd c) = ⊤
+IsInPlace o = ⊥

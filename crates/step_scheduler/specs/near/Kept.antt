@@ -1,5 +1,5 @@
 -- What a board keeps.
-use Rattle.std.specs.Prelude.{◌≡◌, ℕ, ◌*◌, ◌≤◌, List, length, All, sum_by}
+use Rattle.std.specs.Prelude.{◌≡◌, ℕ, ◌*◌, ◌≤◌, List, length, sum_by}
 use Rattle.plan_compiler.specs.Compiled.{Fits, IsCompiled}
 use Rattle.step_scheduler.specs.Jobs.{JobView}
 use Rattle.step_scheduler.specs.Runs.{IsRun, is_finished, is_taken}
@@ -7,8 +7,7 @@ use Rattle.step_scheduler.specs.declared.events.Event.{Event}
 use Rattle.step_scheduler.specs.declared.progress.Progress.{Progress}
 use Rattle.step_scheduler.specs.near.Steps.{was_taken, is_done, events_of, progress_at}
 use Rattle.step_scheduler.specs.near.Counts.{IsCounted}
-use Rattle.step_scheduler.specs.declared.place.Place.{Place}
-use Rattle.step_scheduler.specs.near.Keeping.{IsKept}
+use Rattle.step_scheduler.specs.near.Keeping.{IsKept, Place}
 
 -- the steps are those of the history; there is room for the events to come
 pub record IsRunBoard (job : JobView) (steps : List Progress) (history : List Event) (capacity : ℕ) : Type 0 where
@@ -22,18 +21,8 @@ pub record IsRunBoard (job : JobView) (steps : List Progress) (history : List Ev
   pub room : 2 * length steps ≤ capacity
 
 -- the same, with the values that are kept, counters of missing inputs and a list of ready steps
-pub record IsCountedBoard (job : JobView) (steps : List Progress) (places : List Place) (history : List Event)
+pub record IsBoard (job : JobView) (steps : List Progress) (places : List Place) (history : List Event)
     (capacity : ℕ) (missing ready : List ℕ) (ready_capacity : ℕ) : Type 0 where
   pub board : IsRunBoard job steps history capacity
   pub kept : IsKept job steps places
   pub counted : IsCounted job.set.plan steps missing ready ready_capacity
-
--- these are holds on the job
-abbrev pub AreHoldsOn : JobView → List JobView → Type 0
-AreHoldsOn job spare = All (λ j. j ≡ job) spare
-
--- the same, with further holds on the job for the tasks to come
-pub record IsBoard (job : JobView) (steps : List Progress) (places : List Place) (history : List Event) (capacity : ℕ)
-    (missing ready : List ℕ) (ready_capacity : ℕ) (spare : List JobView) : Type 0 where
-  pub counted_board : IsCountedBoard job steps places history capacity missing ready ready_capacity
-  pub own_spare : AreHoldsOn job spare

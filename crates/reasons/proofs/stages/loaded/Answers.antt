@@ -6,7 +6,7 @@ use Rattle.plan_ir.specs.Figures.{held_at, line_of}
 use Rattle.plan_compiler.specs.Meaning.{lines_loaded}
 use Rattle.plan_compiler.proofs.Meanings.{load_more}
 use Rattle.plan_compiler.proofs.Taken.{length_partly, not_loaded, unspread}
-use Rattle.reasons.proofs.StageLemmas.{held_read}
+use Rattle.plan_compiler.proofs.StageLemmas.{held_read}
 use Rattle.reasons.proofs.stages.loaded.Goals as goal
 
 pub load-requires-clause-commodity : goal.load-requires-clause-commodity

@@ -2,7 +2,8 @@ use Rattle.std.proofs.Common.{◌≡◌, ◌<◌, length, get_or, ap, arith, ◌
 use Rattle.std.proofs.lemmas.List.{get_or_default}
 use Rattle.plan_ir.specs.Figures.{commodity_at, held_at, inter_lines, no_commodity}
 use Rattle.reasons.specs.Reasons.{line_after_all}
-use Rattle.reasons.proofs.StageLemmas.{held_read, line_read, reasons_are}
+use Rattle.plan_compiler.proofs.StageLemmas.{held_read}
+use Rattle.reasons.proofs.StageLemmas.{line_read, reasons_are}
 use Rattle.reasons.proofs.stages.push_reasons.Goals as goal
 
 pub returns : goal.returns

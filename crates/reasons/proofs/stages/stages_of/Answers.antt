@@ -1,6 +1,6 @@
 use Rattle.std.proofs.Common.{◌∙◌}
 use Rattle.reasons.specs.Shown.{inters_formed}
-use Rattle.reasons.proofs.StageLemmas.{lines_are}
+use Rattle.plan_compiler.proofs.StageLemmas.{lines_are}
 use Rattle.reasons.proofs.stages.stages_of.Goals as goal
 
 pub form_inters-requires : goal.form_inters-requires

@@ -1,35 +1,65 @@
 use Rattle.std.proofs.Common.{◌≡◌, ℕ, ◌<◌, ◌∙◌, length, get_or, arith}
-use Rattle.std.proofs.lemmas.List.{take_more, get_or_default}
-use Rattle.step_scheduler.proofs.Counting.{not_before, stands, at_u, released_and_freed, released_and_kept}
+use Rattle.std.proofs.lemmas.List.{get_or_default, length_push}
+use Rattle.std.proofs.lemmas.Iterator.Adapters.{YieldsList-from_rev_slice}
+use Rattle.std.proofs.lemmas.Iterator.Consumers.{YieldsList-turn, YieldsList-end}
+use Rattle.step_scheduler.proofs.Counting.{all_released, next_user, at_u, released_and_freed, released_and_kept}
 use Rattle.step_scheduler.proofs.counters.release.Goals as goal
-use Rattle.step_scheduler.proofs.counters.release.Goals.{then-left-eq0, else-left-eq0}
 
 pub overflow_sub-left : goal.overflow_sub-left
 overflow_sub-left c =
-    let i : ℕ = c.loop-user.user-index in
-    let u : ℕ = get_or c.args.users.now i 0 in
-    let fresh = not_before c.args.users.now i c.loop-user-test.true c.requires.once in
-    let h : u < length c.args.missing.now.items = c.requires.in_range i 0 c.loop-user-test.true in
-    let some = c.requires.positive u (stands c.args.users.now i c.loop-user-test.true) in
-    let at = at_u _ _ _ _ _ _ _ u c.loop-user.invariant fresh h some in
+    let u : ℕ = c.in-Some.user.now in
+    let back = YieldsList-from_rev_slice {s = c.into_iter-user-iterator.result} c.args.users.now cc in
+    let turn = YieldsList-turn back c.loop-user.yielded _ c.loop-user.yielded_by _ _ c.in-Some.user c.in-Some.is c.next.ensures.steps in
+    let next = next_user c.args.users.now (length c.loop-user.yielded) u c.requires.once turn.0 turn.1 in
+    let h : u < length c.args.missing.now.items = next.among _ c.requires.in_range in
+    let some = c.requires.positive u next.listed in
+    let at = at_u _ _ _ _ _ _ _ u c.loop-user.invariant next.fresh h some in
     let read : c.index.result.now ≡ get_or c.loop-user.missing.items u 0 =
     c.index.ensures ∙ get_or_default c.loop-user.missing.items u _ 0 (let l = c.loop-user.invariant.long in omega arith) in
     omega arith
 
-pub loop-user-preserved : goal.loop-user-preserved
-loop-user-preserved c =
-    let i : ℕ = c.loop-user.user-index in
-    let u : ℕ = get_or c.args.users.now i 0 in
-    let fresh = not_before c.args.users.now i c.loop-user-test.true c.requires.once in
-    let h : u < length c.args.missing.now.items = c.requires.in_range i 0 c.loop-user-test.true in
-    let some = c.requires.positive u (stands c.args.users.now i c.loop-user-test.true) in
+pub loop-user-preserved-then-left-eq0 : goal.loop-user-preserved-then-left-eq0
+loop-user-preserved-then-left-eq0 c =
+    let u : ℕ = c.in-Some.user.now in
+    let back = YieldsList-from_rev_slice {s = c.into_iter-user-iterator.result} c.args.users.now cc in
+    let turn = YieldsList-turn back c.loop-user.yielded _ c.loop-user.yielded_by _ _ c.in-Some.user c.in-Some.is c.next.ensures.steps in
+    let next = next_user c.args.users.now (length c.loop-user.yielded) u c.requires.once turn.0 turn.1 in
+    let h : u < length c.args.missing.now.items = next.among _ c.requires.in_range in
+    let some = c.requires.positive u next.listed in
     let read : c.index.result.now ≡ get_or c.loop-user.missing.items u 0 =
     c.index.ensures ∙ get_or_default c.loop-user.missing.items u _ 0 (let l = c.loop-user.invariant.long in omega arith) in
-    rw (take_more c.args.users.now i 0 c.loop-user-test.true, read)
-    (elim c.if-left-eq0.branch [
-      | then-left-eq0 w ↦
-          rw (w.ready-is, w.push_reserved.ensures.items, w.push_reserved.ensures.capacity)
-          (released_and_freed _ _ _ _ _ _ _ u c.loop-user.invariant fresh h some (rw read at w.if-left-eq0.true))
-      | else-left-eq0 w ↦ rw w.ready-is (released_and_kept _ _ _ _ _ _ _ u c.loop-user.invariant fresh h some
-          (rw read at w.if-left-eq0.false))
-    ])
+    rw (
+      length_push c.loop-user.yielded c.in-Some.user,
+      next.more,
+      read,
+      c.push_reserved.ensures.items,
+      c.push_reserved.ensures.capacity,
+    )
+    (released_and_freed _ _ _ _ _ _ _ u c.loop-user.invariant next.fresh h some (rw read at c.if-left-eq0.true))
+
+pub loop-user-preserved : goal.loop-user-preserved
+loop-user-preserved c =
+    let u : ℕ = c.in-Some.user.now in
+    let back = YieldsList-from_rev_slice {s = c.into_iter-user-iterator.result} c.args.users.now cc in
+    let turn = YieldsList-turn back c.loop-user.yielded _ c.loop-user.yielded_by _ _ c.in-Some.user c.in-Some.is c.next.ensures.steps in
+    let next = next_user c.args.users.now (length c.loop-user.yielded) u c.requires.once turn.0 turn.1 in
+    let h : u < length c.args.missing.now.items = next.among _ c.requires.in_range in
+    let some = c.requires.positive u next.listed in
+    let read : c.index.result.now ≡ get_or c.loop-user.missing.items u 0 =
+    c.index.ensures ∙ get_or_default c.loop-user.missing.items u _ 0 (let l = c.loop-user.invariant.long in omega arith) in
+    rw (length_push c.loop-user.yielded c.in-Some.user, next.more, read)
+    (released_and_kept _ _ _ _ _ _ _ u c.loop-user.invariant next.fresh h some (rw read at c.if-left-eq0.false))
+
+pub returns : goal.returns
+returns c =
+    let back = YieldsList-from_rev_slice {s = c.into_iter-user-iterator.result} c.args.users.now cc in
+    let end = YieldsList-end back c.loop-user.yielded _ c.loop-user.yielded_by _ _ c.in-None.is c.next.ensures.steps in
+    let done = all_released c.args.users.now _ _ _ _ _ _ _ end.1 c.loop-user.invariant in
+    record {
+      long = done.long;
+      missing = done.left;
+      ready = done.freed;
+      ready_in_range = done.in_range;
+      few = done.room;
+      capacity = done.same_room;
+    }

@@ -1,7 +1,7 @@
 use Rattle.std.proofs.Common.{◌<◌, length}
 use Rattle.std.specs.Arc.{arc_value}
 use Rattle.plan_ir.specs.declared.ops.Op.TheVariants as op
-use Rattle.plan_compiler.proofs.PlanLaw.{final_stays, op_at_place, place_within}
+use Rattle.plan_compiler.proofs.PlanLaw.{op_at_place, place_within}
 use Rattle.plan_compiler.proofs.set.CompiledSet.final_step.Goals as goal
 
 pub returns-clause-in_range : goal.returns-clause-in_range
@@ -19,11 +19,3 @@ returns-clause-op c =
     let known : c.args.commodity < length t.commodities = rw (← c.self.view_is) at c.requires in
     rw (← c.self.view_is, c.final_step.ensures, c.deref.ensures)
     (op_at_place t (arc_value c.self.inside.shared).plan set.is_plan.ops set.wires (op.Final c.args.commodity) known)
-
-pub returns-clause-stays : goal.returns-clause-stays
-returns-clause-stays c =
-    let set = c.self.invariant in
-    let t = (arc_value c.self.inside.shared).tables in
-    let known : c.args.commodity < length t.commodities = rw (← c.self.view_is) at c.requires in
-    rw (← c.self.view_is, c.final_step.ensures, c.deref.ensures)
-    (final_stays t (arc_value c.self.inside.shared).plan set.is_plan.ops set.wires c.args.commodity known)

@@ -3,7 +3,7 @@ use Rattle.std.specs.Arc.{arc_value}
 use Rattle.plan_compiler.specs.Meaning.{last_total, meaning}
 use Rattle.plan_compiler.proofs.Meanings.{meaning-before_total}
 use Rattle.plan_compiler.proofs.FromPlan.{known_before_total, place-before_total}
-use Rattle.plan_compiler.proofs.PlanLaw.{op_at_place, place_within, total_stays}
+use Rattle.plan_compiler.proofs.PlanLaw.{op_at_place, place_within}
 use Rattle.plan_compiler.proofs.set.CompiledSet.total_step.Goals as goal
 
 pub returns-clause-in_range : goal.returns-clause-in_range
@@ -33,19 +33,6 @@ returns-clause-op c =
       ← place-before_total t (length t.commodities),
     )
     (op_at_place t (arc_value c.self.inside.shared).plan set.is_plan.ops set.wires (last_total t) known)
-
-pub returns-clause-stays : goal.returns-clause-stays
-returns-clause-stays c =
-    let set = c.self.invariant in
-    let t = (arc_value c.self.inside.shared).tables in
-    rw (
-      ← c.self.view_is,
-      c.total_step.ensures.value,
-      c.commodities.ensures.value,
-      c.deref.ensures,
-      ← place-before_total t (length t.commodities),
-    )
-    (total_stays t (arc_value c.self.inside.shared).plan set.is_plan.ops set.wires)
 
 pub returns-clause-means : goal.returns-clause-means
 returns-clause-means c =

@@ -4,7 +4,7 @@ use Rattle.std.specs.Arc.{arc_value}
 use Rattle.plan_compiler.specs.Meaning.{last_value, meaning}
 use Rattle.plan_compiler.proofs.Meanings.{meaning-before_value}
 use Rattle.plan_compiler.proofs.FromPlan.{known_before_value, place-before_value}
-use Rattle.plan_compiler.proofs.PlanLaw.{op_at_place, place_within, value_stays}
+use Rattle.plan_compiler.proofs.PlanLaw.{op_at_place, place_within}
 use Rattle.plan_compiler.proofs.set.CompiledSet.value_step.Goals as goal
 
 pub returns-clause-in_range : goal.returns-clause-in_range
@@ -36,20 +36,6 @@ returns-clause-op c =
       ← place-before_value t (length t.commodities),
     )
     (op_at_place t (arc_value c.self.inside.shared).plan set.is_plan.ops set.wires (last_value t) known)
-
-pub returns-clause-stays : goal.returns-clause-stays
-returns-clause-stays c =
-    let set = c.self.invariant in
-    let t = (arc_value c.self.inside.shared).tables in
-    let has : has_option_value t ≡ true = search rules in
-    rw (
-      ← c.self.view_is,
-      c.premium_step.ensures,
-      c.commodities.ensures.value,
-      c.deref.ensures,
-      ← place-before_value t (length t.commodities),
-    )
-    (value_stays t (arc_value c.self.inside.shared).plan set.is_plan.ops set.wires has)
 
 pub returns-clause-means : goal.returns-clause-means
 returns-clause-means c =

@@ -1,0 +1,65 @@
+-- What loops over an account's commodities and over spreads come to is what the method defines.
+use Rattle.std.proofs.Common.{◌≡◌, ℕ, ◌-◌, ◌<◌, List, length, map, get_or, sym, ap, ◌∙◌, arith, zero-add, []}
+use Rattle.std.specs.Prelude.{fold, option_map, pos, unwrap_or}
+use Rattle.std.proofs.lemmas.List.{append-nil, get_or-map}
+use Rattle.std.proofs.lemmas.List.FromFn.{get_or-map-range_with_len}
+use Rattle.std.proofs.lemmas.Option.{slice_get-get_or, unwrap_or-slice_get}
+use Rattle.span_tables.specs.Accepted.{commodity_id}
+use Rattle.span_tables.specs.Net.{HeldContract, held_of}
+use Rattle.span_tables.specs.Tables.{AcceptedTables, inters_of}
+use Rattle.span_tables.specs.declared.portfolios.Holding.{Holding}
+use Rattle.span_tables.specs.declared.records.Commodity.{Commodity}
+use Rattle.span_tables.specs.declared.records.Inter.{Inter}
+use Rattle.span_tables.specs.declared.records.Intra.{Intra}
+use Rattle.span_tables.specs.declared.sides.MarketSide.{MarketSide}
+use Rattle.spread_stage.specs.Spreads.{TierRests, after_spreads, spread_both_ways, unspread}
+use Rattle.spread_stage.specs.declared.months.MonthUnits.{MonthUnits}
+use Rattle.inter_credit.specs.Credits.{after_inter_spreads, inter_both_ways, line_after, unspread_line}
+use Rattle.inter_credit.specs.States.{line_at}
+use Rattle.inter_credit.specs.declared.state.InterLine.{InterLine}
+use Rattle.inter_credit.proofs.KeptLemmas.{kept}
+use Rattle.plan_ir.specs.Figures.{deltas_at, held_at, inter_lines, intras_at, line_of, loaded_lines, no_commodity, tiers_at}
+use Rattle.plan_compiler.specs.Meaning.{lines_loaded}
+
+module _ (t : AcceptedTables) (holdings : List Holding) where
+  -- the held contracts of each commodity stand at its number
+  pub held_read : (c : ℕ) (d : List HeldContract) → c < length t.commodities
+      → get_or (map (λ x. held_of t.contracts holdings x.id) t.commodities) c d ≡ held_at t holdings c
+  held_read c d lt =
+      let id : commodity_id t c ≡ (get_or t.commodities c no_commodity).id =
+      ap (λ o. unwrap_or (option_map (λ (x : Commodity). x.id) o) []) (slice_get-get_or t.commodities c no_commodity lt) in
+      get_or-map (λ (x : Commodity). held_of t.contracts holdings x.id) t.commodities c no_commodity d lt
+      ∙ sym (ap (held_of t.contracts holdings) id)
+
+  -- the months after the spreads of a commodity
+  pub tiers_are : (c : ℕ) (months : List MonthUnits) (begun tiers : TierRests) (spreads : List Intra) → months ≡ deltas_at t holdings c
+      → begun ≡ unspread months → tiers ≡ fold spread_both_ways begun spreads → spreads ≡ intras_at t c → tiers ≡ tiers_at t holdings c
+  unfolding after_spreads
+  tiers_are c months begun tiers spreads m b after s = after ∙ (λ k. fold spread_both_ways ((b ∙ ap unspread m) k) (s k))
+
+  -- all commodities are loaded
+  pub loaded_whole : lines_loaded t holdings (length t.commodities) ≡ loaded_lines t holdings
+  loaded_whole =
+      let gone : length t.commodities - length t.commodities ≡ 0 = omega arith in
+      rw gone (append-nil (loaded_lines t holdings))
+
+  -- the line that was loaded for a commodity
+  pub loaded_at : (c : ℕ) → c < length t.commodities → line_at (loaded_lines t holdings) c ≡ line_of t holdings c
+  loaded_at c lt =
+      let none = unspread_line (pos 0) 0 in
+      unwrap_or-slice_get (loaded_lines t holdings) c none
+      ∙ get_or-map-range_with_len (line_of t holdings) 0 (length t.commodities) c c none lt (zero-add c)
+
+  -- the commodities after the spreads of the set
+  pub lines_are : (lines state : List InterLine) (spreads : List Inter) → lines ≡ fold inter_both_ways state spreads
+      → state ≡ loaded_lines t holdings → spreads ≡ inters_of t → lines ≡ inter_lines t holdings
+  unfolding inter_lines after_inter_spreads
+  lines_are lines state spreads after before all =
+      after ∙ ap (λ s. fold inter_both_ways s spreads) before ∙ ap (fold inter_both_ways (loaded_lines t holdings)) all
+
+  -- what using a part of a line's rest keeps, the spreads of the set keep
+  pub kept_at : {A : Type 0} (of : InterLine → A)
+      → ((on : MarketSide) (used bp : ℕ) (line : InterLine) → of (line_after on used bp line) ≡ of line)
+      → (c : ℕ) → c < length t.commodities → of (line_at (inter_lines t holdings) c) ≡ of (line_of t holdings c)
+  unfolding inter_lines after_inter_spreads
+  kept_at of keeps c lt = kept of keeps (inters_of t) (loaded_lines t holdings) c ∙ ap of (loaded_at c lt)

@@ -1,0 +1,77 @@
+-- A commodity of which nothing is held.
+use Rattle.std.proofs.Common.{◌≡◌, ◌<◌, ℕ, List, [], length, refl, ap, ◌∙◌}
+use Rattle.std.specs.Prelude.{None, Option, Some, nat_abs, option_map, pos, slice_get, unwrap_or}
+use Rattle.span_tables.specs.Tables.{AcceptedTables}
+use Rattle.span_tables.specs.declared.portfolios.Holding.{Holding}
+use Rattle.scan_risk.specs.Scenarios.{scan_of, scenario_sums}
+use Rattle.scan_risk.specs.declared.Scan.{Scan}
+use Rattle.spread_stage.specs.Charges.{delivery_charge, intra_charge}
+use Rattle.spread_stage.specs.Deltas.{month_deltas, net_delta}
+use Rattle.spread_stage.specs.Spreads.{after_spreads, unspread}
+use Rattle.spread_stage.proofs.ClosedLemmas.{after_spreads_of_nothing, delivery_of_nothing}
+use Rattle.inter_credit.specs.Credits.{credit_of, unspread_line}
+use Rattle.inter_credit.specs.OptionValue.{net_value_of}
+use Rattle.inter_credit.specs.Requirement.{minimum_of, requirement_of}
+use Rattle.inter_credit.specs.States.{credit_at, line_at}
+use Rattle.inter_credit.specs.declared.state.InterLine.{InterLine}
+use Rattle.inter_credit.proofs.CreditLaws.{credit_zero}
+use Rattle.plan_ir.specs.Figures.{commodity_at, deltas_at, delivery_at, figures_from, figures_of, held_at, inter_lines, intras_at}
+use Rattle.plan_ir.specs.Figures.{line_of, minimum_at, net_value_at, scan_at, spots_at, tiers_at}
+use Rattle.plan_ir.proofs.NothingLemmas.{minimum_of_nothing, month_deltas_of_nothing, value_of_nothing}
+use Rattle.plan_compiler.proofs.StageLemmas.{kept_at}
+use Rattle.step_scheduler.specs.near.Parts.{figures_of_nothing}
+
+abbrev no_scan : Scan
+no_scan = record { risk = pos 0; active = 1; paired = 2; price2 = 0 }
+
+scan_of_nothing : scan_of (scenario_sums []) ≡ no_scan
+unfolding scan_of scenario_sums
+scan_of_nothing = refl
+
+figures_from_nothing : figures_from no_scan (unspread []) (pos 0) (pos 0) (pos 0) ≡ figures_of_nothing
+unfolding intra_charge requirement_of
+figures_from_nothing = refl
+
+-- a line without a net delta earns nothing
+credit_read : (o : Option InterLine) → (unwrap_or o (unspread_line (pos 0) 0)).net ≡ pos 0
+    → unwrap_or (option_map credit_of o) 0 ≡ 0
+credit_read None e = refl
+credit_read (Some line) e = credit_zero line (ap nat_abs e)
+
+module _ (t : AcceptedTables) (holdings : List Holding) (c : ℕ) (none : held_at t holdings c ≡ []) where
+  no_months : deltas_at t holdings c ≡ []
+  no_months = ap month_deltas none ∙ month_deltas_of_nothing
+
+  nothing_scanned : scan_at t holdings c ≡ no_scan
+  nothing_scanned = ap (λ hs. scan_of (scenario_sums hs)) none ∙ scan_of_nothing
+
+  no_tiers : tiers_at t holdings c ≡ unspread []
+  no_tiers = ap (after_spreads (intras_at t c)) no_months ∙ after_spreads_of_nothing (intras_at t c)
+
+  nothing_delivered : delivery_at t holdings c ≡ 0
+  nothing_delivered = (λ k. delivery_charge (no_months k) (no_tiers k).rests (spots_at t c)) ∙ delivery_of_nothing (spots_at t c)
+
+  no_minimum : minimum_at t holdings c ≡ 0
+  no_minimum =
+      ap (minimum_of (commodity_at t c).minimum_rate (commodity_at t c).method) none
+      ∙ minimum_of_nothing (commodity_at t c).minimum_rate (commodity_at t c).method
+
+  -- what is loaded of it is nothing
+  pub no_line : line_of t holdings c ≡ unspread_line (pos 0) 0
+  no_line = λ k. unspread_line (net_delta (no_months k)) (nothing_scanned k).price2
+
+  -- it adds nothing to the option value
+  pub no_value : net_value_at t holdings c ≡ pos 0
+  no_value = ap net_value_of none ∙ value_of_nothing
+
+  no_credit : c < length t.commodities → credit_at (inter_lines t holdings) c ≡ 0
+  no_credit lt =
+      credit_read (slice_get (inter_lines t holdings) c) (kept_at t holdings (λ line. line.net) (λ on used bp line. refl) c lt
+      ∙ ap (λ (line : InterLine). line.net) no_line)
+
+  -- its figures are those of nothing held
+  pub no_figures : c < length t.commodities → figures_of t holdings c ≡ figures_of_nothing
+  unfolding figures_of
+  no_figures lt =
+      (λ k. figures_from (nothing_scanned k) (no_tiers k) (pos (nothing_delivered k)) (pos (no_credit lt k)) (pos (no_minimum k)))
+      ∙ figures_from_nothing

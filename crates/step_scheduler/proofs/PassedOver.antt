@@ -1,0 +1,62 @@
+-- The commodities are loaded by their numbers; those of which nothing is held change nothing.
+use Rattle.std.proofs.Common.{◌≡◌, ℕ, zero, suc, ◌+◌, ◌-◌, ◌<◌, ◌≤◌, List, [], ◌∷◌, ◌++◌, length, map, sym, ap, ◌∙◌, append_assoc, slice_set, zero-add, arith}
+use Rattle.std.specs.Prelude.{ℤ, ◌+ℤ◌, pos, replicate}
+use Rattle.std.specs.List.{range_with_len}
+use Rattle.std.proofs.Math.IntN.{+ℤ_idr}
+use Rattle.std.proofs.lemmas.List.FromFn.{map-range_with_len_more}
+use Rattle.span_tables.specs.Tables.{AcceptedTables}
+use Rattle.span_tables.specs.declared.portfolios.Holding.{Holding}
+use Rattle.inter_credit.specs.Credits.{unspread_line}
+use Rattle.inter_credit.specs.declared.state.InterLine.{InterLine}
+use Rattle.plan_ir.specs.Figures.{held_at, line_of, net_value_at, value_to}
+use Rattle.plan_compiler.specs.Meaning.{lines_loaded}
+use Rattle.plan_compiler.proofs.Meanings.{load_more, value_more}
+use Rattle.step_scheduler.specs.declared.parts.Part.{Part}
+use Rattle.step_scheduler.specs.near.Parts.{IsPart, NoneHeld}
+use Rattle.step_scheduler.proofs.NothingLemmas.{no_line, no_value}
+
+-- what stays the same from each number to the next stays the same
+steady : {A : Type 0} (f : ℕ → A) (from n : ℕ) → ((c : ℕ) → from ≤ c → c < from + n → f c ≡ f (c + 1)) → f from ≡ f (from + n)
+steady f from zero same = let e : from ≡ from + 0 = omega arith in ap f e
+steady f from (suc n) same =
+    let e : (from + n) + 1 ≡ from + suc n = omega arith in
+    steady f from n (λ c a b. same c a (omega (arith, b))) ∙ same (from + n) (omega arith) (omega arith) ∙ ap f e
+
+steady_up_to : {A : Type 0} (f : ℕ → A) (from to : ℕ) → from ≤ to → ((c : ℕ) → from ≤ c → c < to → f c ≡ f (c + 1)) → f from ≡ f to
+steady_up_to f from to le same =
+    let e : from + (to - from) ≡ to = omega arith in
+    steady f from (to - from) (λ c a b. same c a (omega (arith, b, e))) ∙ ap f e
+
+module _ (t : AcceptedTables) (holdings : List Holding) where
+  one_over : (c : ℕ) → c < length t.commodities → held_at t holdings c ≡ [] → lines_loaded t holdings c ≡ lines_loaded t holdings (c + 1)
+  one_over c lt none =
+      let nothing : InterLine = unspread_line (pos 0) 0 in
+      let front = map (line_of t holdings) (range_with_len 0 c) in
+      let rest = replicate (length t.commodities - (c + 1)) nothing in
+      let one_more : length t.commodities - c ≡ suc (length t.commodities - (c + 1)) = omega arith in
+      ap (λ n. front ++ replicate n nothing) one_more
+      ∙ ap (λ line. front ++ line ∷ rest) (sym (no_line t holdings c none))
+      ∙ sym (append_assoc front (line_of t holdings c ∷ []) rest)
+      ∙ ap (λ xs. xs ++ rest) (sym (map-range_with_len_more (line_of t holdings) 0 c c (zero-add c)))
+
+  -- nothing is loaded of them
+  pub lines_over : (from to : ℕ) → from ≤ to → to ≤ length t.commodities → NoneHeld t holdings from to
+      → lines_loaded t holdings from ≡ lines_loaded t holdings to
+  lines_over from to le few none =
+      steady_up_to (lines_loaded t holdings) from to le (λ c a b. one_over c (omega (arith, b, few)) (none c a b))
+
+  -- one that is held is loaded
+  pub load_part : (p : Part) (before after : List InterLine) → p.commodity < length t.commodities → IsPart t holdings p
+      → before ≡ lines_loaded t holdings p.commodity
+      → after ≡ slice_set before p.commodity (unspread_line p.net (p.scan).price2) → after ≡ lines_loaded t holdings (p.commodity + 1)
+  load_part p before after lt is b a =
+      a ∙ (λ k. slice_set (b k) p.commodity (unspread_line (is.net k) (is.scan k).price2)) ∙ load_more t holdings p.commodity lt
+
+  value_over : (c : ℕ) → held_at t holdings c ≡ [] → value_to t holdings c ≡ value_to t holdings (c + 1)
+  value_over c none =
+      sym (+ℤ_idr (value_to t holdings c)) ∙ ap (λ z. value_to t holdings c +ℤ z) (sym (no_value t holdings c none))
+      ∙ value_more t holdings c
+
+  -- they add nothing to the option value
+  pub values_over : (from to : ℕ) → from ≤ to → NoneHeld t holdings from to → value_to t holdings from ≡ value_to t holdings to
+  values_over from to le none = steady_up_to (value_to t holdings) from to le (λ c a b. value_over c (none c a b))

@@ -1,0 +1,10 @@
+use Rattle.std.proofs.Common.{◌≡◌, length, take}
+use Rattle.std.specs.Prelude.{fold}
+use Rattle.inter_credit.specs.Credits.{inter_both_ways}
+use Rattle.step_scheduler.proofs.parts.form_inters.Given as goal
+
+abbrev pub invariant-loop-inter : goal.invariant-loop-inter
+invariant-loop-inter g l = record {
+  lines : l.lines ≡ fold inter_both_ways l.fn.lines (take l.inter-index l.inters);
+  long : length l.lines ≡ length l.fn.lines;
+}

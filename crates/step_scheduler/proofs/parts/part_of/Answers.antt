@@ -1,0 +1,33 @@
+use Rattle.std.proofs.Common.{◌≡◌, ap, ◌∙◌, sym, get_or, length}
+use Rattle.std.specs.Prelude.{pos}
+use Rattle.std.proofs.lemmas.List.{get_or_default}
+use Rattle.scan_risk.specs.Scenarios.{scan_of, scenario_sums}
+use Rattle.spread_stage.specs.Charges.{delivery_charge, intra_charge}
+use Rattle.spread_stage.specs.Deltas.{month_deltas, net_delta}
+use Rattle.inter_credit.specs.OptionValue.{net_value_of}
+use Rattle.inter_credit.specs.Requirement.{minimum_of}
+use Rattle.plan_ir.specs.Figures.{commodity_at, deltas_at, no_commodity, tiers_at}
+use Rattle.plan_compiler.proofs.StageLemmas.{tiers_are}
+use Rattle.step_scheduler.proofs.parts.part_of.Goals as goal
+
+pub returns-clause-part : goal.returns-clause-part
+returns-clause-part g c = λ holdings is.
+    let t = c.args.tables.now in
+    let i = c.args.commodity in
+    let commodity = c.index-commodities-commodity.result in
+    let months : c.in_ok-months.months ≡ deltas_at t holdings i = c.in_ok-months.ensures ∙ ap month_deltas is in
+    let tiers : c.form_intras.new.tiers ≡ tiers_at t holdings i =
+    tiers_are t holdings i c.in_ok-months.months c.in_ok-tiers.tiers c.form_intras.new.tiers c.intras.result.now months
+    c.in_ok-tiers.ensures.value c.form_intras.ensures.value c.intras.ensures.value in
+    let commodity_is : commodity ≡ commodity_at t i =
+    c.index-commodities-commodity.is ∙ ap (λ cs. get_or cs i commodity) c.commodities.ensures.value
+    ∙ get_or_default t.commodities i commodity no_commodity c.requires in
+    record {
+      scan = c.scan-scan.ensures.value ∙ ap scan_of (c.sums-sums.ensures.value ∙ ap scenario_sums is);
+      net = c.net.ensures.value ∙ ap net_delta months;
+      intra = c.intra_charge.ensures.value ∙ ap (λ x. pos (intra_charge x.charge)) tiers;
+      delivery = c.delivery-delivery.ensures.value
+          ∙ (λ k. pos (delivery_charge (months k) (tiers k).rests (c.spots.ensures.value k)));
+      minimum = c.minimum-minimum.ensures.value ∙ (λ k. pos (minimum_of (commodity_is k).minimum_rate (commodity_is k).method (is k)));
+      worth = λ has. c.worth_of.ensures has ∙ ap net_value_of is;
+    }

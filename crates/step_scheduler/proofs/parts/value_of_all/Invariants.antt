@@ -1,0 +1,10 @@
+use Rattle.std.proofs.Common.{◌≡◌, drop}
+use Rattle.plan_ir.specs.Figures.{value_to}
+use Rattle.step_scheduler.specs.near.Parts.{ArePartsFrom}
+use Rattle.step_scheduler.proofs.parts.value_of_all.Given as goal
+
+abbrev pub invariant-loop-part : goal.invariant-loop-part
+invariant-loop-part g l = record {
+  left : ArePartsFrom l.tables (l.portfolio).holdings l.next (drop l.part-index l.parts);
+  value : l.value ≡ value_to l.tables (l.portfolio).holdings l.next;
+}

@@ -1,0 +1,12 @@
+use Rattle.std.specs.Arc.{arc_value}
+use Rattle.step_scheduler.proofs.RunValues.{run_means}
+use Rattle.step_scheduler.proofs.RunOnce.{run_once}
+use Rattle.step_scheduler.proofs.stepped.Stepped.history.Goals as goal
+
+pub returns-clause-values : goal.returns-clause-values
+returns-clause-values c =
+    rw (← c.self.view_is)
+    (let b = c.self.invariant.board in run_means (arc_value c.self.inside.job) b.compiled b.fits _ b.run)
+
+pub returns-clause-once : goal.returns-clause-once
+returns-clause-once c = rw (← c.self.view_is) (run_once _ _ c.self.invariant.board.run)

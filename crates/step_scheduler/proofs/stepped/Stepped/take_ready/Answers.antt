@@ -1,0 +1,45 @@
+use Rattle.std.proofs.Common.{arith}
+use Rattle.std.specs.Arc.{arc_value}
+use Rattle.step_scheduler.proofs.BoardLemmas.{start_has_room, ready_from_start}
+use Rattle.step_scheduler.proofs.Places.{can_be_given}
+use Rattle.step_scheduler.proofs.Counted.{last_starts, none_starts, board_takes_last}
+use Rattle.step_scheduler.proofs.stepped.Stepped.take_ready.Goals as goal
+
+pub push_reserved-requires : goal.push_reserved-requires
+push_reserved-requires c =
+    let last = rw c.as_slice.ensures.value at c.in-Some.ensures in
+    let start = last_starts _ _ _ _ _ _ _ _ _ _ c.self.invariant last in
+    let room = start_has_room _ _ _ _ _ c.self.invariant.board start in
+    omega arith
+
+pub task_of-requires : goal.task_of-requires
+task_of-requires c =
+    let last = rw c.as_slice.ensures.value at c.in-Some.ensures in
+    let start = last_starts _ _ _ _ _ _ _ _ _ _ c.self.invariant last in
+    rw c.as_slice-2.ensures.value (can_be_given _ _ _ c.self.invariant.kept _ start)
+
+pub returns-in_default-clause-none : goal.returns-in_default-clause-none
+returns-in_default-clause-none c =
+    let empty = rw c.as_slice.ensures.value at c.in_default.ensures in
+    λ live. rw (← c.self.view_is) (none_starts _ _ _ _ _ _ _ _ c.self.invariant empty)
+
+pub returns-clause-ready : goal.returns-clause-ready
+returns-clause-ready c =
+    let last = rw c.as_slice.ensures.value at c.in-Some.ensures in
+    let start = last_starts _ _ _ _ _ _ _ _ _ _ c.self.invariant last in
+    rw (c.in_ok-task.ensures, ← c.self.view_is)
+    (ready_from_start (arc_value c.self.inside.job) _ _ _ _ c.self.invariant.board start)
+
+pub invariant_of-self : goal.invariant_of-self
+invariant_of-self c =
+    let last = rw c.as_slice.ensures.value at c.in-Some.ensures in
+    rw (
+      c.push_reserved.ensures.items,
+      c.push_reserved.ensures.capacity,
+      c.truncate.ensures.items,
+      c.truncate.ensures.capacity,
+      c.len.ensures,
+      ← c.as_slice.ensures.len,
+      c.as_slice.ensures.value,
+    )
+    (board_takes_last _ _ _ _ _ _ _ _ _ _ c.self.invariant last)

@@ -1,0 +1,71 @@
+-- What a whole run has of the commodities that are held, and what it gives.
+use Rattle.std.specs.Prelude.{◌≡◌, ℕ, ◌+◌, ◌<◌, ◌≤◌, true, List, [], ◌∷◌, length, slice_index_or, pos, replicate}
+use Rattle.span_tables.specs.Tables.{AcceptedTables, has_option_value}
+use Rattle.span_tables.specs.declared.held.CommodityHeld.{CommodityHeld}
+use Rattle.span_tables.specs.declared.portfolios.Holding.{Holding}
+use Rattle.spread_stage.specs.Charges.{intra_charge}
+use Rattle.spread_stage.specs.Deltas.{net_delta}
+use Rattle.plan_ir.specs.Figures.{delivery_at, deltas_at, figures_of, held_at, minimum_at, net_value_at, scan_at, tiers_at}
+use Rattle.plan_ir.specs.declared.figures.Figures.{Figures}
+use Rattle.inter_credit.specs.Credits.{unspread_line}
+use Rattle.step_scheduler.specs.declared.blank.Blank.{Blank}
+use Rattle.step_scheduler.specs.declared.parts.Part.{Part}
+
+-- nothing is held of the commodities from one number up to another
+abbrev pub NoneHeld : AcceptedTables → List Holding → ℕ → ℕ → Type 0
+NoneHeld t holdings from to = (c : ℕ) → from ≤ c → c < to → held_at t holdings c ≡ []
+
+-- the commodity of this number is the first of which something may be held, from a number on
+pub record IsNext (t : AcceptedTables) (holdings : List Holding) (from c : ℕ) : Type 0 where
+  pub known : c < length t.commodities
+  pub behind : from ≤ c
+  pub none : NoneHeld t holdings from c
+
+-- nothing is held from a number on
+pub record IsEnd (t : AcceptedTables) (holdings : List Holding) (from : ℕ) : Type 0 where
+  pub behind : from ≤ length t.commodities
+  pub none : NoneHeld t holdings from (length t.commodities)
+
+-- what is held of the commodities from a number on, by rising numbers
+abbrev pub AreHeldFrom : AcceptedTables → List Holding → ℕ → List CommodityHeld → Type 0
+AreHeldFrom t holdings from [] = IsEnd t holdings from
+AreHeldFrom t holdings from (h ∷ hs) =
+    IsNext t holdings from h.commodity × (h.held ≡ held_at t holdings h.commodity) × AreHeldFrom t holdings (h.commodity + 1) hs
+
+-- what its commodity has before any spread between commodities; the option value, where options have one
+pub record IsPart (t : AcceptedTables) (holdings : List Holding) (p : Part) : Type 0 where
+  pub scan : p.scan ≡ scan_at t holdings p.commodity
+  pub net : p.net ≡ net_delta (deltas_at t holdings p.commodity)
+  pub intra : p.intra ≡ pos (intra_charge (tiers_at t holdings p.commodity).charge)
+  pub delivery : p.delivery ≡ pos (delivery_at t holdings p.commodity)
+  pub minimum : p.minimum ≡ pos (minimum_at t holdings p.commodity)
+  pub worth : has_option_value t ≡ true → p.worth ≡ net_value_at t holdings p.commodity
+
+-- what the held commodities from a number on have, by rising numbers
+abbrev pub ArePartsFrom : AcceptedTables → List Holding → ℕ → List Part → Type 0
+ArePartsFrom t holdings from [] = IsEnd t holdings from
+ArePartsFrom t holdings from (p ∷ ps) =
+    IsNext t holdings from p.commodity × IsPart t holdings p × ArePartsFrom t holdings (p.commodity + 1) ps
+
+-- its figures, where nothing is held
+abbrev pub figures_of_nothing : Figures
+figures_of_nothing = record {
+  scan = pos 0;
+  active = 1;
+  intra = pos 0;
+  delivery = pos 0;
+  credit = pos 0;
+  minimum = pos 0;
+  requirement = pos 0;
+}
+
+-- what an account has of n commodities that holds nothing
+pub record IsBlank (n : ℕ) (blank : Blank) : Type 0 where
+  pub lines : blank.lines ≡ replicate n (unspread_line (pos 0) 0)
+  pub figures : blank.figures.items ≡ replicate n figures_of_nothing
+
+-- the figures of the first commodities stand in front of those of nothing held
+pub record AreWritten (t : AcceptedTables) (holdings : List Holding) (n : ℕ) (figures : List Figures) : Type 0 where
+  pub many : length figures ≡ length t.commodities
+  pub done : (k : ℕ) → k < n → (d : Figures) → slice_index_or figures k d ≡ figures_of t holdings k
+  pub left : (k : ℕ) → n ≤ k → k < length figures → (d : Figures) → slice_index_or figures k d ≡ figures_of_nothing

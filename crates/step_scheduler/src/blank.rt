@@ -1,0 +1,42 @@
+//! What an account has that holds nothing.
+ghost use Rattle.std.specs.Prelude.{◌≡◌, IfOk};
+ghost use Rattle.step_scheduler.specs.near.Parts.{IsBlank, figures_of_nothing};
+
+use inter_credit::state::{InterState, empty};
+use plan_ir::figures::Figures;
+use span_money::amounts::Money;
+use std::alloc::{AllocError, Global};
+
+// What an account has of so many commodities that holds nothing: lines without spreads, and figures.
+#[derive(Drop)]
+pub(crate) struct Blank {
+    pub(crate) lines: InterState,
+    pub(crate) figures: Vec<Figures>,
+}
+
+impl Blank {
+    pub(crate) fn new(alloc: Global, commodities: usize) -> Result<Blank, AllocError>
+        ensures { IfOk result (λ blank. IsBlank commodities blank) }
+    {
+        Ok(Blank {
+            lines: empty(alloc, commodities)?,
+            figures: vec![in alloc; no_figures(); commodities]?,
+        })
+    }
+}
+
+// The figures of a commodity of which nothing is held.
+fn no_figures() -> Figures
+    ensures { result ≡ figures_of_nothing }
+{
+    let none = Money::new(0);
+    Figures {
+        scan: none,
+        active: 1,
+        intra: none,
+        delivery: none,
+        credit: none,
+        minimum: none,
+        requirement: none,
+    }
+}

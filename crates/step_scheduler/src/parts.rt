@@ -1,0 +1,370 @@
+//! The figures of all commodities of a job, its total and its option value, with no value kept for a step.
+//!
+//! Before each evaluation the watch of the walk is passed, with the number of its step: each step of a held commodity here,
+//! and each of what is not held at its place in the order.
+ghost use Rattle.std.specs.Prelude.{◌≡◌, ◌<◌, ◌≤◌, ◌+ℤ◌, All, IfOk, List, fold, length, nat_abs, pos, replicate, slice_set, true};
+ghost use Rattle.span_money.specs.declared.amounts.TheConstants.{MAX_MONEY};
+ghost use Rattle.span_tables.specs.Accepted.{IsInter, IsIntra};
+ghost use Rattle.span_tables.specs.Holdings.{fits};
+ghost use Rattle.span_tables.specs.Tables.{has_option_value};
+ghost use Rattle.span_tables.specs.declared.portfolios.Holding.{Holding};
+ghost use Rattle.spread_stage.specs.Months.{Shrinks};
+ghost use Rattle.spread_stage.specs.Spreads.{spread_both_ways};
+ghost use Rattle.spread_stage.specs.declared.months.MonthUnits.{MonthUnits};
+ghost use Rattle.inter_credit.specs.Credits.{inter_both_ways, unspread_line};
+ghost use Rattle.inter_credit.specs.OptionValue.{net_value_of};
+ghost use Rattle.inter_credit.specs.Requirement.{requirement_of};
+ghost use Rattle.inter_credit.specs.declared.requirement.TheConstants.{MAX_PART};
+ghost use Rattle.plan_ir.specs.Figures.{held_at, inter_lines, loaded_lines, option_value_of, total_to};
+ghost use Rattle.step_scheduler.specs.Figures.{AreAllFigures};
+ghost use Rattle.step_scheduler.specs.near.Parts.{ArePartsFrom, IsPart, figures_of_nothing};
+
+use crate::blank::Blank;
+use crate::watches::{Walk, Watch};
+use inter_credit::credit::credit;
+use inter_credit::option_value::net_value;
+use inter_credit::requirement::{minimum, requirement};
+use inter_credit::state::InterState;
+use plan_compiler::set::CompiledSet;
+use plan_ir::figures::Figures;
+use scan_risk::Scan;
+use scan_risk::scanning::scan;
+use scan_risk::scenarios::sums;
+use span_money::amounts::{Money, Units};
+use span_tables::held::{Held, gather_held};
+use span_tables::portfolios::Portfolio;
+use span_tables::records::{Inter, Intra};
+use span_tables::tables::Tables;
+use spread_stage::charges::{delivery, intra_charge};
+use spread_stage::deltas::month_deltas;
+use spread_stage::tiers::{TierState, start};
+use std::alloc::{AllocError, Global};
+
+// What a held commodity has before any spread between commodities: its number, its scan, its net delta, its amounts, and
+// its option value where options have one.
+#[derive(Clone, Copy)]
+pub(crate) struct Part {
+    pub(crate) commodity: usize,
+    pub(crate) scan: Scan,
+    pub(crate) net: Units,
+    pub(crate) intra: Money,
+    pub(crate) delivery: Money,
+    pub(crate) minimum: Money,
+    pub(crate) worth: Money,
+}
+
+// Forms the spreads of a commodity in their order.
+#[inline(always)]
+fn form_intras<W: Watch>(tiers: &mut TierState, intras: &[Intra], walk: &mut Walk<'_, W>)
+    requires { All IsIntra intras.now }
+    ensures value { tiers.new ≡ fold spread_both_ways tiers.old intras.now }
+    ensures shrinks { (months : List MonthUnits) → Shrinks months tiers.old.rests → Shrinks months tiers.new.rests }
+{
+    for intra in intras {
+        walk.pass();
+        tiers.spread(intra);
+    }
+}
+
+// The option value of a commodity, where options have one.
+#[inline(always)]
+fn worth_of<W: Watch>(tables: &Tables, held: &Held, walk: &mut Walk<'_, W>) -> Money
+    ensures { has_option_value tables.now ≡ true → result ≡ net_value_of held.now }
+{
+    if !tables.has_option_value() {
+        return Money::new(0);
+    }
+    walk.pass();
+    net_value(held)
+}
+
+// What a commodity has, of the contracts that are held of it. The watch is passed for each of its steps but that of its
+// figures; the first of them has the held contracts, which were found in one pass for all commodities.
+#[inline(always)]
+fn part_of<W: Watch>(
+    alloc: Global,
+    tables: &Tables,
+    commodity: usize,
+    held: &Held,
+    walk: &mut Walk<'_, W>,
+) -> Result<Part, AllocError>
+    requires { commodity < length tables.now.commodities }
+    ensures commodity { IfOk result (λ part. part.commodity ≡ commodity) }
+    ensures part { IfOk result (λ part. (holdings : List Holding) → held.now ≡ held_at tables.now holdings commodity
+        → IsPart tables.now holdings part) }
+{
+    let of = &tables.commodities()[commodity];
+    walk.pass_many(2);
+    let sums = sums(held);
+    walk.pass();
+    let scan = scan(&sums);
+    walk.pass();
+    let months = month_deltas(alloc, held)?;
+    walk.pass();
+    let mut tiers = start(alloc, &months)?;
+    form_intras(&mut tiers, tables.intras(commodity), walk);
+    walk.pass();
+    let delivery = delivery(&months, &tiers, tables.spots(commodity));
+    walk.pass();
+    let minimum = minimum(held, of.minimum_rate, of.method);
+    Ok(Part {
+        commodity,
+        scan,
+        net: months.net(),
+        intra: intra_charge(&tiers),
+        delivery,
+        minimum,
+        worth: worth_of(tables, held, walk),
+    })
+}
+
+// Passes the watch for the steps of commodities of which nothing is held, from one number up to another, and goes past those
+// of their figures.
+#[inline(always)]
+fn pass_nothing_held<W: Watch>(set: &CompiledSet, from: usize, to: usize, walk: &mut Walk<'_, W>)
+    requires { to ≤ length set.now.tables.commodities }
+{
+    // Called for its clause: the tables are within their limits.
+    let _limits = set.tables().commodities();
+    for commodity in from..to {
+        walk.pass_up_to(set.final_step(commodity as u32) as usize);
+    }
+}
+
+// What each held commodity of a job has, by rising numbers.
+#[inline(always)]
+pub(crate) fn parts_of<W: Watch>(
+    alloc: Global,
+    set: &CompiledSet,
+    portfolio: &Portfolio,
+    walk: &mut Walk<'_, W>,
+) -> Result<Vec<Part>, AllocError>
+    requires { fits (length set.now.tables.contracts) portfolio.now.holdings ≡ true }
+    ensures { IfOk result (λ parts. ArePartsFrom set.now.tables portfolio.now.holdings 0 parts.items) }
+{
+    let tables = set.tables();
+    let count = tables.commodities().len();
+    let list = gather_held(alloc, tables, portfolio)?;
+    let mut parts = Vec::with_capacity(alloc, list.len())?;
+    let mut next = 0;
+    for one in &list {
+        pass_nothing_held(set, next, one.commodity, walk);
+        parts.push(part_of(alloc, tables, one.commodity, &one.held, walk)?)?;
+        walk.skip();
+        next = one.commodity + 1;
+    }
+    pass_nothing_held(set, next, count, walk);
+    Ok(parts)
+}
+
+// The commodities before any spread between them.
+#[inline(always)]
+fn loaded<W: Watch>(
+    alloc: Global,
+    tables: &Tables,
+    portfolio: &Portfolio,
+    parts: &[Part],
+    blank: &InterState,
+    walk: &mut Walk<'_, W>,
+) -> Result<InterState, AllocError>
+    requires blank { blank.now ≡ replicate (length tables.now.commodities) (unspread_line (pos 0) 0) }
+    requires fits { fits (length tables.now.contracts) portfolio.now.holdings ≡ true }
+    requires parts { ArePartsFrom tables.now portfolio.now.holdings 0 parts.now }
+    ensures value { IfOk result (λ lines. lines ≡ loaded_lines tables.now portfolio.now.holdings) }
+    ensures long { IfOk result (λ lines. length lines ≡ length tables.now.commodities) }
+{
+    let count = tables.commodities().len();
+    // Called for its clause: the holdings are those of a portfolio.
+    let _kept = portfolio.holdings();
+    walk.pass();
+    let mut lines = blank.copied(alloc)?;
+    let mut next = 0;
+    for part in parts {
+        walk.pass_many(part.commodity + 1 - next);
+        lines.load(part.commodity, part.net, part.scan.price2);
+        next = part.commodity + 1;
+    }
+    walk.pass_many(count - next);
+    Ok(lines)
+}
+
+// Forms the spreads between commodities in their order.
+#[inline(always)]
+fn form_inters<W: Watch>(lines: &mut InterState, inters: &[Inter], walk: &mut Walk<'_, W>)
+    requires { All (IsInter (length lines.old)) inters.now }
+    ensures { lines.new ≡ fold inter_both_ways lines.old inters.now }
+{
+    for inter in inters {
+        walk.pass();
+        lines.spread(inter);
+    }
+}
+
+// The commodities after all spreads between them.
+#[inline(always)]
+pub(crate) fn lines_of<W: Watch>(
+    alloc: Global,
+    tables: &Tables,
+    portfolio: &Portfolio,
+    parts: &[Part],
+    blank: &InterState,
+    walk: &mut Walk<'_, W>,
+) -> Result<InterState, AllocError>
+    requires blank { blank.now ≡ replicate (length tables.now.commodities) (unspread_line (pos 0) 0) }
+    requires fits { fits (length tables.now.contracts) portfolio.now.holdings ≡ true }
+    requires parts { ArePartsFrom tables.now portfolio.now.holdings 0 parts.now }
+    ensures { IfOk result (λ lines. lines ≡ inter_lines tables.now portfolio.now.holdings) }
+{
+    let mut lines = loaded(alloc, tables, portfolio, parts, blank, walk)?;
+    form_inters(&mut lines, tables.inters(), walk);
+    Ok(lines)
+}
+
+// The figures of a commodity, from its part and its credit.
+fn figures_with(part: &Part, credit: Money) -> Figures
+    requires risk { nat_abs (part.now.scan).risk ≤ MAX_PART }
+    requires intra { nat_abs part.now.intra ≤ MAX_PART }
+    requires delivery { nat_abs part.now.delivery ≤ MAX_PART }
+    requires credit { nat_abs credit ≤ MAX_PART }
+    requires minimum { nat_abs part.now.minimum ≤ MAX_PART }
+    ensures { result ≡ record {
+      scan = (part.now.scan).risk;
+      active = (part.now.scan).active;
+      intra = part.now.intra;
+      delivery = part.now.delivery;
+      credit = credit;
+      minimum = part.now.minimum;
+      requirement = requirement_of (part.now.scan).risk part.now.intra part.now.delivery credit part.now.minimum;
+    } }
+{
+    Figures {
+        scan: part.scan.risk,
+        active: part.scan.active,
+        intra: part.intra,
+        delivery: part.delivery,
+        credit,
+        minimum: part.minimum,
+        requirement: requirement(
+            part.scan.risk,
+            part.intra,
+            part.delivery,
+            credit,
+            part.minimum,
+        ),
+    }
+}
+
+// Passes the watch for the figures of commodities, from one number up to another.
+#[inline(always)]
+fn pass_figures<W: Watch>(set: &CompiledSet, from: usize, to: usize, walk: &Walk<'_, W>)
+    requires { to ≤ length set.now.tables.commodities }
+{
+    // Called for its clause: the tables are within their limits.
+    let _limits = set.tables().commodities();
+    for commodity in from..to {
+        walk.pass_late(set.final_step(commodity as u32) as usize);
+    }
+}
+
+// Writes figures over those at a place.
+#[inline(always)]
+fn write_at(figures: &mut Vec<Figures>, place: usize, written: Figures)
+    requires { place < length figures.old.items }
+    ensures { figures.new.items ≡ slice_set figures.old.items place written }
+{
+    figures[place] = written;
+}
+
+// The figures of all commodities, those of the held ones written over those of nothing held.
+#[inline(always)]
+pub(crate) fn figures_of_all<W: Watch>(
+    alloc: Global,
+    set: &CompiledSet,
+    portfolio: &Portfolio,
+    parts: &[Part],
+    lines: &InterState,
+    blank: &[Figures],
+    walk: &Walk<'_, W>,
+) -> Result<Vec<Figures>, AllocError>
+    requires fits { fits (length set.now.tables.contracts) portfolio.now.holdings ≡ true }
+    requires parts { ArePartsFrom set.now.tables portfolio.now.holdings 0 parts.now }
+    requires lines { lines.now ≡ inter_lines set.now.tables portfolio.now.holdings }
+    requires blank { blank.now ≡ replicate (length set.now.tables.commodities) figures_of_nothing }
+    ensures { IfOk result (λ figures. AreAllFigures set.now.tables portfolio.now.holdings figures.items) }
+{
+    let count = set.tables().commodities().len();
+    // Called for its clause: the holdings are those of a portfolio.
+    let _kept = portfolio.holdings();
+    let mut figures = Vec::from_slice(alloc, blank)?;
+    let mut next = 0;
+    for part in parts {
+        pass_figures(set, next, part.commodity + 1, walk);
+        let written = figures_with(part, credit(lines, part.commodity));
+        write_at(&mut figures, part.commodity, written);
+        next = part.commodity + 1;
+    }
+    pass_figures(set, next, count, walk);
+    Ok(figures)
+}
+
+// The sum of two amounts of money.
+fn sum(one: Money, other: Money) -> Money
+    requires { nat_abs (one +ℤ other) ≤ MAX_MONEY }
+    ensures { result ≡ one +ℤ other }
+{
+    Money::new(one.get() + other.get())
+}
+
+// The sum of the requirements of all commodities.
+#[inline(always)]
+pub(crate) fn total_of<W: Watch>(
+    tables: &Tables,
+    portfolio: &Portfolio,
+    figures: &[Figures],
+    walk: &mut Walk<'_, W>,
+) -> Money
+    requires fits { fits (length tables.now.contracts) portfolio.now.holdings ≡ true }
+    requires figures { AreAllFigures tables.now portfolio.now.holdings figures.now }
+    ensures { result ≡ total_to tables.now portfolio.now.holdings (length tables.now.commodities) }
+{
+    // Called for their clauses: the tables are within their limits, and the holdings are those of a portfolio.
+    let count = tables.commodities().len();
+    let _kept = portfolio.holdings();
+    walk.pass();
+    let mut total = Money::new(0);
+    for commodity in 0..count {
+        walk.pass();
+        total = sum(total, figures[commodity].requirement);
+    }
+    total
+}
+
+// The option value of the account, which is 0 under a profile in which options have none.
+#[inline(always)]
+pub(crate) fn value_of_all<W: Watch>(
+    tables: &Tables,
+    portfolio: &Portfolio,
+    parts: &[Part],
+    walk: &mut Walk<'_, W>,
+) -> Money
+    requires fits { fits (length tables.now.contracts) portfolio.now.holdings ≡ true }
+    requires parts { ArePartsFrom tables.now portfolio.now.holdings 0 parts.now }
+    ensures { result ≡ option_value_of tables.now portfolio.now.holdings }
+{
+    if !tables.has_option_value() {
+        return Money::new(0);
+    }
+    // Called for their clauses: the tables are within their limits, and the holdings are those of a portfolio.
+    let count = tables.commodities().len();
+    let _kept = portfolio.holdings();
+    walk.pass();
+    let mut value = Money::new(0);
+    let mut next = 0;
+    for part in parts {
+        walk.pass_many(part.commodity + 1 - next);
+        value = sum(value, part.worth);
+        next = part.commodity + 1;
+    }
+    walk.pass_many(count - next);
+    value
+}
