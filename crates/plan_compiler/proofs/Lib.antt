@@ -5,5 +5,4 @@ pub mod LayoutLemmas
 pub mod FromPlan
 pub mod Wiring
 pub mod PlanLaw
-pub mod SampleLaws
 pub mod CounterLemmas

@@ -1,11 +1,9 @@
--- Parameter files and accounts that the worked plans and the tests are of.
-use Rattle.std.specs.Prelude.{ℕ, List, [], ◌∷◌, ◌++◌, codes, neg_ℤ, pos}
-use Rattle.span_tables.specs.Net.{AccountHoldings}
-use Rattle.span_tables.specs.Samples.{commodity, contract, set, spread, value_set}
+-- Parameter files that the worked plans are of.
+use Rattle.std.specs.Prelude.{ℕ, List, [], ◌∷◌, ◌++◌, codes}
+use Rattle.span_tables.specs.Samples.{commodity, contract, future_values, set, spread, value_set}
 use Rattle.span_tables.specs.declared.records.ProductKind.TheVariants as product
 use Rattle.span_tables.specs.declared.records.Record.{Record}
 use Rattle.span_tables.specs.declared.records.Record.TheVariants as record_of
-use Rattle.span_tables.specs.declared.samples.TheConstants.{FUTURE_VALUES}
 
 -- a set alone
 abbrev pub set_alone : List Record
@@ -21,8 +19,8 @@ two_commodities =
     set (codes "D1")
     ∷ commodity (codes "AA")
     ∷ commodity (codes "BB")
-    ∷ record_of.Contract (contract product.Future (codes "FA") (codes "AA") 202503 FUTURE_VALUES)
-    ∷ record_of.Contract (contract product.Future (codes "FB") (codes "BB") 202503 FUTURE_VALUES)
+    ∷ record_of.Contract (contract product.Future (codes "FA") (codes "AA") 202503 future_values)
+    ∷ record_of.Contract (contract product.Future (codes "FB") (codes "BB") 202503 future_values)
     ∷ spread 1 5000 (codes "AA") (codes "BB")
     ∷ []
 
@@ -41,7 +39,7 @@ abbrev pub one_commodity_with_value : List Record
 one_commodity_with_value =
     value_set (codes "D2")
     ∷ commodity (codes "AA")
-    ∷ record_of.Contract (contract product.Future (codes "FA") (codes "AA") 202503 FUTURE_VALUES)
+    ∷ record_of.Contract (contract product.Future (codes "FA") (codes "AA") 202503 future_values)
     ∷ []
 
 -- the lines of its plan
@@ -50,13 +48,3 @@ one_commodity_with_value_lines =
     codes "0 Gather(0)\n1 Sums(0) 0\n2 ScanMax(0) 1\n3 Months(0) 0\n4 TierStart(0) 3\n5 Delivery(0) 3 4\n6 Minimum(0) 0\n"
     ++ codes "7 NetValue(0) 0\n8 Final(0) 2 4 5 6 10\n9 InterStart()\n10 InterLoad(0) 9 3 2\n11 TotalStart()\n"
     ++ codes "12 TotalAdd(0) 11 8\n13 ValueStart()\n14 ValueAdd(0) 13 7\n"
-
--- an account in both futures, and one in the second alone
-abbrev pub two_accounts : List AccountHoldings
-two_accounts =
-    record {
-      account = codes "X";
-      holdings = record { contract = 0; net = pos 3 } ∷ record { contract = 1; net = neg_ℤ (pos 2) } ∷ [];
-    }
-    ∷ record { account = codes "Y"; holdings = record { contract = 1; net = pos 5 } ∷ [] }
-    ∷ []

@@ -5,6 +5,5 @@ mod counters;
 pub mod laws;
 pub mod layout;
 mod operations;
-pub mod samples;
 pub mod set;
 mod worked;

@@ -3,7 +3,6 @@ pub mod UserLemmas
 pub mod UserLaws
 pub mod PlaceLemmas
 pub mod BoundLaws
-pub mod SampleLaws
 pub mod LegLemmas
 pub mod NothingLemmas
 pub mod ValueLaws

@@ -1,3 +1,2 @@
 pub mod BeginningLemmas
 pub mod HistoryLemmas
-pub mod SampleLaws

@@ -1,3 +1,2 @@
 pub mod Publications
-pub mod Samples
 pub mod near

@@ -1,16 +1,15 @@
 -- Contracts that the worked rows speak of.
 use Rattle.std.specs.Prelude.{[], ◌∷◌, ◌++◌, codes, ℤ, pos, neg_ℤ}
 use Rattle.std.specs.List.{repeat}
-use Rattle.span_tables.specs.Samples.{contract}
+use Rattle.span_tables.specs.Samples.{contract, future_values}
 use Rattle.span_tables.specs.declared.records.ProductKind.TheVariants as product
 use Rattle.span_tables.specs.declared.records.Contract.{Contract}
 use Rattle.span_tables.specs.Net.{HeldContract}
 use Rattle.span_tables.specs.declared.limits.TheConstants.{MAX_ARRAY_VALUE, MAX_SCALE}
-use Rattle.span_tables.specs.declared.samples.TheConstants.{FUTURE_VALUES}
 
 -- a future with delta 1, scale 1, and 400 for each third of the scan range
 abbrev pub future : Contract
-future = contract product.Future (codes "FA") (codes "AA") 202503 FUTURE_VALUES
+future = contract product.Future (codes "FA") (codes "AA") 202503 future_values
 
 -- the largest contract: the largest gain in scenarios 1 and 2, and the largest loss in the others
 abbrev pub largest : Contract

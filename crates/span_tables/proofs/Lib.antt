@@ -19,7 +19,6 @@ pub mod Known
 pub mod WithinLimits
 pub mod TablesMade
 pub mod NameLaws
-pub mod SampleLaws
 pub mod NameLemmas
 pub mod NameTexts
 pub mod NumberedLaws

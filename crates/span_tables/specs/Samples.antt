@@ -1,5 +1,5 @@
--- Records of which worked values and tests are made, and a small file of each kind of record.
-use Rattle.std.specs.Prelude.{ℕ, ℤ, List, [], ◌∷◌, codes, pos}
+-- Records of which worked values are made, and a small file of each kind of record.
+use Rattle.std.specs.Prelude.{ℕ, ℤ, List, [], ◌∷◌, codes, neg_ℤ, pos}
 use Rattle.std.specs.List.{repeat}
 use Rattle.span_tables.specs.declared.limits.TheConstants.{VALUE_PROFILE}
 use Rattle.span_tables.specs.declared.records.Contract.{Contract}
@@ -38,6 +38,12 @@ contract kind id of month values = record {
   values = values;
   option_value = 0;
 }
+
+-- the risk array of a future that loses 400 for each third of the scan range
+abbrev pub future_values : List ℤ
+future_values =
+    pos 0 ∷ pos 0 ∷ neg_ℤ (pos 400) ∷ neg_ℤ (pos 400) ∷ pos 400 ∷ pos 400 ∷ neg_ℤ (pos 800) ∷ neg_ℤ (pos 800) ∷ pos 800 ∷ pos 800
+    ∷ neg_ℤ (pos 1200) ∷ neg_ℤ (pos 1200) ∷ pos 1200 ∷ pos 1200 ∷ neg_ℤ (pos 1188) ∷ pos 1188 ∷ []
 
 -- a spread of two commodities, one to one, the first on side A
 abbrev pub spread : ℕ → ℕ → List ℕ → List ℕ → Record

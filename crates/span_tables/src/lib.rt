@@ -11,7 +11,6 @@ pub mod name;
 pub mod portfolios;
 pub mod raw;
 pub mod records;
-pub mod samples;
 pub mod sides;
 pub mod slots;
 mod sorting;

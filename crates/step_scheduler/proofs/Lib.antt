@@ -15,4 +15,3 @@ pub mod Counted
 pub mod RunOnce
 pub mod RunOrder
 pub mod FoundLemmas
-pub mod SampleLaws

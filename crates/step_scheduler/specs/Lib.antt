@@ -2,5 +2,4 @@ pub mod Jobs
 pub mod Runs
 pub mod Boards
 pub mod Figures
-pub mod Samples
 pub mod near
