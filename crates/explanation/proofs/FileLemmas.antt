@@ -2,12 +2,13 @@
 use Rattle.std.proofs.Common.{◌≡◌, ℕ, suc, Bool, true, false, cond, List, [], ◌∷◌, Option, Some, Ok, Err, Result, refl, sym, ap, ◌∙◌}
 use Rattle.std.proofs.Common.{arith, flat_map, None, subst}
 use Rattle.std.specs.Prelude.{All, bytes_eq, find}
+use Rattle.span_money.specs.LineFields.{line}
 use Rattle.span_tables.specs.Holdings.{fits}
 use Rattle.span_csv.specs.PositionFaults.{positions_of}
 use Rattle.span_tables.specs.Net.{AccountHoldings}
 use Rattle.span_tables.specs.Tables.{AcceptedTables}
 use Rattle.span_tables.specs.declared.records.PositionRecord.{PositionRecord}
-use Rattle.statement.specs.Statement.{accepted_of, and_then, line, portfolios_under, same, statement_bound, statement_of, statement_under}
+use Rattle.statement.specs.Statement.{accepted_of, and_then, portfolios_under, same, statement_bound, statement_of, statement_under}
 use Rattle.statement.specs.declared.faults.SpanFault.{SpanFault}
 use Rattle.statement.specs.declared.faults.SpanFault.TheVariants as fault
 use Rattle.explanation.specs.Explanation.{account_lines, account_text, explained, explanation_of, named_text}

@@ -1,3 +1,2 @@
-pub mod TextLemmas
 pub mod FileLemmas
 pub mod StatementLaws

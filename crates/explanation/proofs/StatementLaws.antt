@@ -6,6 +6,7 @@ use Rattle.std.specs.List.{range_with_len}
 use Rattle.std.proofs.lemmas.List.{append-nil, map-append}
 use Rattle.std.proofs.lemmas.List.Elements.{filter-append}
 use Rattle.std.proofs.lemmas.Grind.{flat_map-append}
+use Rattle.span_money.specs.LineFields.{Line, line}
 use Rattle.span_csv.specs.PositionFaults.{positions_of}
 use Rattle.span_csv.specs.declared.faults.PositionFault.{PositionFault}
 use Rattle.span_tables.specs.Net.{AccountHoldings}
@@ -13,39 +14,43 @@ use Rattle.span_tables.specs.Tables.{AcceptedTables}
 use Rattle.span_tables.specs.declared.portfolios.Holding.{Holding}
 use Rattle.span_tables.specs.declared.records.PositionRecord.{PositionRecord}
 use Rattle.plan_ir.specs.Figures.{commodity_at, figures_of, held_at, is_held, option_value_of}
-use Rattle.reasons.specs.Reasons.{Reason, credit_reasons, held_reason, held_reasons, inter_reason, inters_shown_at, intra_reason}
+use Rattle.reasons.specs.Reasons.{credit_reasons, held_reason, held_reasons, inter_reason, inters_shown_at, intra_reason}
 use Rattle.reasons.specs.Reasons.{intras_shown_at, month_reason, month_reasons, months_shown_at, reasons_of, scan_reasons}
 use Rattle.reasons.specs.Reasons.{credit_reason, line_after_all, short_reason, spot_reason, spots_shown_at}
-use Rattle.statement.specs.Statement.{accepted_of, and_then, commodity_text, figures_line, figures_record, line, portfolios_under}
+use Rattle.statement.specs.Statement.{accepted_of, and_then, commodity_text, figures_line, portfolios_under}
 use Rattle.statement.specs.Statement.{row_text, same, statement_bound, statement_of, statement_text, statement_under, total_line}
-use Rattle.statement.specs.Statement.{total_numbers, total_of, total_record}
+use Rattle.statement.specs.Statement.{total_numbers, total_of}
 use Rattle.statement.specs.declared.faults.SpanFault.{SpanFault}
 use Rattle.statement.specs.declared.faults.SpanFault.TheVariants as fault
 use Rattle.explanation.specs.Explanation.{account_lines, account_text, commodity_lines, explained, explanation_of, reason_line}
 use Rattle.explanation.specs.Laws.{is_of_statement}
-use Rattle.explanation.proofs.TextLemmas.{texts_of}
+
+-- the text of the lines of some things is the texts of their lines
+pub texts_of : {A : Type 0} (f : A → List Line) (xs : List A) → flat_map line (flat_map f xs) ≡ flat_map (λ x. flat_map line (f x)) xs
+texts_of f [] = refl
+texts_of f (x ∷ xs) = flat_map-append line (f x) (flat_map f xs) ∙ ap (λ t. flat_map line (f x) ++ t) (texts_of f xs)
 
 -- the lines of the statement among some
-abbrev pub of_statement : List (List (List ℕ)) → List (List (List ℕ))
+abbrev pub of_statement : List Line → List Line
 of_statement lines = filter is_of_statement lines
 
-passed_if : (b : Bool) (l : List (List ℕ)) (ls : List (List (List ℕ))) → b ≡ false → cond b (l ∷ ls) ls ≡ ls
+passed_if : (b : Bool) (l : Line) (ls : List Line) → b ≡ false → cond b (l ∷ ls) ls ≡ ls
 passed_if true l ls e = cc
 passed_if false l ls e = refl
 
 -- ---- no reason is a line of the statement
 
 module _ (account set_id commodity : List ℕ) where
-  abbrev lines_of : List Reason → List (List (List ℕ))
+  abbrev lines_of : List Line → List Line
   lines_of rs = map (reason_line account set_id commodity) rs
 
-  none-append : (a b : List Reason) → of_statement (lines_of a) ≡ [] → of_statement (lines_of b) ≡ []
+  none-append : (a b : List Line) → of_statement (lines_of a) ≡ [] → of_statement (lines_of b) ≡ []
       → of_statement (lines_of (a ++ b)) ≡ []
   none-append a b none nor =
       ap of_statement (map-append (reason_line account set_id commodity) a b)
       ∙ filter-append is_of_statement (lines_of a) (lines_of b) ∙ (λ k. none k ++ nor k)
 
-  none-map : {A : Type 0} (f : A → Reason) → ((x : A) → is_of_statement (reason_line account set_id commodity (f x)) ≡ false)
+  none-map : {A : Type 0} (f : A → Line) → ((x : A) → is_of_statement (reason_line account set_id commodity (f x)) ≡ false)
       → (xs : List A) → of_statement (lines_of (map f xs)) ≡ []
   none-map f none [] = refl
   none-map f none (x ∷ xs) =
@@ -90,13 +95,13 @@ module _ (t : AcceptedTables) (p : AccountHoldings) where
   commodity_if : (b : Bool) (c : ℕ)
       → flat_map line (of_statement (cond b
       (map (reason_line p.account t.set_id (commodity_at t c).id) (reasons_of t p.holdings c)
-      ++ figures_record p.account t.set_id (commodity_at t c).id (figures_of t p.holdings c) ∷ []) []))
-      ≡ cond b (figures_line p.account t.set_id (commodity_at t c).id (figures_of t p.holdings c)) []
+      ++ figures_line p.account t.set_id (commodity_at t c).id (figures_of t p.holdings c) ∷ []) []))
+      ≡ cond b (line (figures_line p.account t.set_id (commodity_at t c).id (figures_of t p.holdings c))) []
   unfolding figures_line
   commodity_if true c =
       let id = (commodity_at t c).id in
       let reasons = map (reason_line p.account t.set_id id) (reasons_of t p.holdings c) in
-      let figures = figures_record p.account t.set_id id (figures_of t p.holdings c) in
+      let figures = figures_line p.account t.set_id id (figures_of t p.holdings c) in
       ap (flat_map line) (filter-append is_of_statement reasons (figures ∷ []))
       ∙ ap (λ ls. flat_map line (ls ++ figures ∷ [])) (none_of_reasons p.account t.set_id id t p.holdings c)
       ∙ append-nil (line figures)
@@ -105,7 +110,7 @@ module _ (t : AcceptedTables) (p : AccountHoldings) where
   commodity_contained : (c : ℕ) → flat_map line (of_statement (commodity_lines t p c)) ≡ commodity_text t p c
   commodity_contained c = commodity_if (is_held t p.holdings c) c
 
-of_statement-flat_map : {A : Type 0} (f : A → List (List (List ℕ))) (xs : List A)
+of_statement-flat_map : {A : Type 0} (f : A → List Line) (xs : List A)
     → flat_map line (of_statement (flat_map f xs)) ≡ flat_map (λ x. flat_map line (of_statement (f x))) xs
 of_statement-flat_map f [] = refl
 of_statement-flat_map f (x ∷ xs) =
@@ -119,7 +124,7 @@ unfolding row_text total_line
 account_contained t p =
     let numbers = range_with_len 0 (length t.commodities) in
     let lines = flat_map (commodity_lines t p) numbers in
-    let total = total_record p.account t.set_id (total_numbers t (total_of t p) (option_value_of t p.holdings)) in
+    let total = total_line p.account t.set_id (total_numbers t (total_of t p) (option_value_of t p.holdings)) in
     ap (flat_map line) (filter-append is_of_statement lines (total ∷ []))
     ∙ flat_map-append line (of_statement lines) (total ∷ [])
     ∙ (λ k. of_statement-flat_map (commodity_lines t p) numbers k ++ append-nil (line total) k)
@@ -136,7 +141,7 @@ accounts_contained t portfolios =
 -- an explanation has lines, of which those of the statement are this text
 abbrev pub Contains : Result (List ℕ) SpanFault → List ℕ → Type 0
 Contains explanation text =
-    (lines : List (List (List ℕ))) × (explanation ≡ Ok (flat_map line lines)) × (flat_map line (of_statement lines) ≡ text)
+    (lines : List Line) × (explanation ≡ Ok (flat_map line lines)) × (flat_map line (of_statement lines) ≡ text)
 
 module _ (text : List ℕ) where
   of_portfolios : (t : AcceptedTables) (r : Result (List AccountHoldings) SpanFault)

@@ -2,35 +2,36 @@
 use Rattle.std.specs.Prelude.{ℕ, if◌then◌else◌, List, [], ◌∷◌, ◌++◌, flat_map, map, find, bytes_eq, length}
 use Rattle.std.specs.Prelude.{Option, Some, None, Result, Ok, Err}
 use Rattle.std.specs.List.{range_with_len}
+use Rattle.span_money.specs.LineFields.{Line, line}
 use Rattle.span_csv.specs.PositionFaults.{positions_of}
 use Rattle.span_tables.specs.Net.{AccountHoldings}
 use Rattle.span_tables.specs.Tables.{AcceptedTables}
 use Rattle.plan_ir.specs.Figures.{commodity_at, figures_of, is_held, option_value_of}
-use Rattle.statement.specs.Statement.{accepted_of, and_then, figures_record, line, portfolios_under, same, total_numbers}
-use Rattle.statement.specs.Statement.{total_of, total_record}
+use Rattle.statement.specs.Statement.{accepted_of, and_then, figures_line, portfolios_under, same, total_line, total_numbers}
+use Rattle.statement.specs.Statement.{total_of}
 use Rattle.statement.specs.declared.faults.SpanFault.{SpanFault}
 use Rattle.statement.specs.declared.faults.SpanFault.TheVariants as fault
-use Rattle.reasons.specs.Reasons.{Reason, reasons_of}
+use Rattle.reasons.specs.Reasons.{reasons_of}
 
--- ---- the lines of an account, each as the list of its fields
+-- ---- the lines of an account
 
 -- a line of a commodity, with the ids of the account, the set and the commodity behind its word
-abbrev pub reason_line : List ℕ → List ℕ → List ℕ → Reason → List (List ℕ)
-reason_line account set_id commodity r = r.word ∷ account ∷ set_id ∷ commodity ∷ r.fields
+abbrev pub reason_line : List ℕ → List ℕ → List ℕ → Line → Line
+reason_line account set_id commodity r = record { word = r.word; fields = account ∷ set_id ∷ commodity ∷ r.fields }
 
 -- the lines of an account for the commodity of a number, where it holds a contract of it: the reasons, and then the figures
-abbrev pub commodity_lines : AcceptedTables → AccountHoldings → ℕ → List (List (List ℕ))
+abbrev pub commodity_lines : AcceptedTables → AccountHoldings → ℕ → List Line
 commodity_lines t p c =
     if is_held t p.holdings c
     then map (reason_line p.account t.set_id (commodity_at t c).id) (reasons_of t p.holdings c)
-    ++ figures_record p.account t.set_id (commodity_at t c).id (figures_of t p.holdings c) ∷ []
+    ++ figures_line p.account t.set_id (commodity_at t c).id (figures_of t p.holdings c) ∷ []
     else []
 
 -- the lines of an account: those of the commodities that it holds, in file order, and its total
-abbrev pub account_lines : AcceptedTables → AccountHoldings → List (List (List ℕ))
+abbrev pub account_lines : AcceptedTables → AccountHoldings → List Line
 account_lines t p =
     flat_map (commodity_lines t p) (range_with_len 0 (length t.commodities))
-    ++ total_record p.account t.set_id (total_numbers t (total_of t p) (option_value_of t p.holdings)) ∷ []
+    ++ total_line p.account t.set_id (total_numbers t (total_of t p) (option_value_of t p.holdings)) ∷ []
 
 -- the text of an account's lines
 unfoldable pub account_text : AcceptedTables → AccountHoldings → List ℕ

@@ -1,7 +1,7 @@
 -- What the laws speak of.
-use Rattle.std.specs.Prelude.{ℕ, Bool, false, ◌||◌, List, [], ◌∷◌, bytes_eq, codes}
+use Rattle.std.specs.Prelude.{Bool, ◌||◌, bytes_eq, codes}
+use Rattle.span_money.specs.LineFields.{Line}
 
--- a line, as the list of its fields, is one of the statement: its word is R or T
-abbrev pub is_of_statement : List (List ℕ) → Bool
-is_of_statement [] = false
-is_of_statement (word ∷ fields) = bytes_eq word (codes "R") || bytes_eq word (codes "T")
+-- a line is one of the statement: its word is R or T
+abbrev pub is_of_statement : Line → Bool
+is_of_statement l = bytes_eq l.word (codes "R") || bytes_eq l.word (codes "T")

@@ -1,33 +1,14 @@
 //! The lines of one account (docs/FORMATS.md, Explanation).
-ghost use Rattle.std.specs.Prelude.{◌≡◌, ◌++◌, ◌<◌, IfOk, OnOk, flat_map, length, true};
-ghost use Rattle.span_money.specs.LineFields.{field};
+ghost use Rattle.std.specs.Prelude.{◌≡◌, ◌++◌, ◌<◌, OnOk, flat_map, length, true};
+ghost use Rattle.span_money.specs.LineFields.{line};
 ghost use Rattle.span_tables.specs.Holdings.{fits};
 ghost use Rattle.reasons.specs.Stages.{stages_of};
-ghost use Rattle.statement.specs.Statement.{line};
 ghost use Rattle.explanation.specs.Explanation.{account_text, commodity_lines};
 
 use reasons::stages::{Stages, push_reasons, stages_of};
 use result_book::rows::Row;
-use span_money::line_fields::push_field;
-use span_tables::name::Name;
-use statement::lines::{push_commodity_of, push_total_of};
+use statement::lines::{ids_of, push_commodity_of, push_total_of};
 use std::alloc::{AllocError, Global};
-
-// The ids behind each word of a commodity's lines: those of the account, the set and the commodity.
-fn head_of(
-    alloc: Global,
-    account: &Name,
-    set_id: &Name,
-    commodity: &Name,
-) -> Result<Vec<u8>, AllocError>
-    ensures { IfOk result (λ head. head.items ≡ field account.now ++ (field set_id.now ++ field commodity.now)) }
-{
-    let mut head = Vec::new(alloc);
-    push_field(&mut head, account.as_bytes())?;
-    push_field(&mut head, set_id.as_bytes())?;
-    push_field(&mut head, commodity.as_bytes())?;
-    Ok(head)
-}
 
 // Appends the lines of an account for the commodity of a number, where it holds a contract of it.
 fn push_commodity(
@@ -50,8 +31,8 @@ fn push_commodity(
     let _kept = row.portfolio().holdings();
     let tables = row.set().tables();
     let commodity = &tables.commodities()[number].id;
-    let head = head_of(alloc, row.account(), row.set_id(), commodity)?;
-    push_reasons(alloc, out, &head, tables, stages, number)?;
+    let ids = ids_of(row.account(), row.set_id(), commodity);
+    push_reasons(alloc, out, &ids, tables, stages, number)?;
     push_commodity_of(out, row, number)?;
     Ok(())
 }

@@ -4,12 +4,13 @@ ghost use Rattle.explanation.specs.Explanation.{account_lines, explanation_of};
 ghost use Rattle.explanation.specs.Laws.{is_of_statement};
 ghost use Rattle.plan_ir.specs.Figures.{figures_of, option_value_of};
 ghost use Rattle.reasons.specs.Laws.{numbers_shown, values_shown_at};
+ghost use Rattle.span_money.specs.LineFields.{Line, line};
 ghost use Rattle.span_money.specs.Numbers.{int_sum_by};
 ghost use Rattle.span_csv.specs.PositionFaults.{positions_of};
 ghost use Rattle.span_tables.specs.Net.{AccountHoldings};
 ghost use Rattle.span_tables.specs.Tables.{AcceptedTables, has_option_value};
 ghost use Rattle.span_tables.specs.declared.records.PositionRecord.{PositionRecord};
-ghost use Rattle.statement.specs.Statement.{accepted_of, line, portfolios_under, row_text, statement_of, total_of};
+ghost use Rattle.statement.specs.Statement.{accepted_of, portfolios_under, row_text, statement_of, total_of};
 ghost use Rattle.statement.specs.declared.faults.SpanFault.{SpanFault};
 ghost use Rattle.statement.specs.declared.faults.SpanFault.TheVariants as fault;
 ghost use Rattle.std.specs.Prelude.{◌≡◌, Err, List, None, Ok, Option, Some, bytes_eq, filter, find, flat_map, true, ℕ};
@@ -20,7 +21,7 @@ pub fn explanations_contain_the_statement()
     ensures account { (t : AcceptedTables) (p : AccountHoldings)
         → flat_map line (filter is_of_statement (account_lines t p)) ≡ row_text t p }
     ensures files { (params positions text : List ℕ) → statement_of params positions ≡ Ok text
-        → (lines : List (List (List ℕ))) × (explanation_of params positions None ≡ Ok (flat_map line lines))
+        → (lines : List Line) × (explanation_of params positions None ≡ Ok (flat_map line lines))
         × (flat_map line (filter is_of_statement lines) ≡ text) }
 {}
 

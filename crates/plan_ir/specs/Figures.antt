@@ -1,5 +1,5 @@
 -- The seven figures of a commodity, the total and the option value, of accepted tables and what an account holds.
-use Rattle.std.specs.Prelude.{ℕ, Bool, not, ◌==◌, if◌then◌else◌, List, [], length, map, slice_index_or, ℤ, pos}
+use Rattle.std.specs.Prelude.{ℕ, Bool, not, ◌==◌, if◌then◌else◌, List, [], ◌∷◌, length, map, slice_index_or, ℤ, pos}
 use Rattle.std.specs.List.{range_with_len}
 use Rattle.span_money.specs.Numbers.{int_sum_by}
 use Rattle.span_tables.specs.Accepted.{commodity_id}
@@ -103,6 +103,10 @@ figures_from scan tiers delivery credit minimum =
       minimum = minimum;
       requirement = requirement_of scan.risk intra delivery credit minimum;
     }
+
+-- the figures in the order in which a statement prints them
+abbrev pub numbers_of : Figures → List ℤ
+numbers_of f = f.scan ∷ pos f.active ∷ f.intra ∷ f.delivery ∷ f.credit ∷ f.minimum ∷ f.requirement ∷ []
 
 -- the seven figures of the commodity of a number
 unfoldable pub figures_of : AcceptedTables → List Holding → ℕ → Figures

@@ -1,7 +1,7 @@
 //! The seven figures of a commodity (docs/METHOD.md, "Minimum and requirement").
 ghost use Rattle.std.specs.Prelude.{◌≡◌, ◌≤◌, nat_abs};
 ghost use Rattle.inter_credit.specs.declared.requirement.TheConstants.{MAX_PART};
-ghost use Rattle.plan_ir.specs.Figures.{figures_from};
+ghost use Rattle.plan_ir.specs.Figures.{figures_from, numbers_of};
 
 use inter_credit::requirement::requirement;
 use scan_risk::Scan;
@@ -35,6 +35,23 @@ pub struct Figures {
     pub minimum: Money,
     /// The requirement.
     pub requirement: Money,
+}
+
+impl Figures {
+    /// The figures in the order in which a statement prints them (docs/FORMATS.md, Statement: the R line).
+    pub fn numbers(&self) -> [i128; 7]
+        ensures { result ≡ numbers_of self.now }
+    {
+        [
+            self.scan.get(),
+            i128::from(self.active),
+            self.intra.get(),
+            self.delivery.get(),
+            self.credit.get(),
+            self.minimum.get(),
+            self.requirement.get(),
+        ]
+    }
 }
 
 // The figures of a commodity, from its scan, its months after all spreads, and its amounts.

@@ -2,6 +2,7 @@
 use Rattle.std.specs.Prelude.{ℕ, ◌*◌, if◌then◌else◌, List, [], ◌∷◌, ◌++◌, map, codes, decimal, ℤ, pos}
 use Rattle.std.specs.Fmt.{signed_decimal}
 use Rattle.span_money.specs.ExactDecimals.{exact_decimal}
+use Rattle.span_money.specs.LineFields.{Line}
 use Rattle.span_tables.specs.Accepted.{commodity_id}
 use Rattle.span_tables.specs.Net.{HeldContract}
 use Rattle.span_tables.specs.Tables.{AcceptedTables, has_option_value, inters_of, priorities_of}
@@ -27,11 +28,6 @@ use Rattle.reasons.specs.declared.shown.ShownInter.{ShownInter}
 use Rattle.reasons.specs.declared.shown.ShownIntra.{ShownIntra}
 use Rattle.reasons.specs.declared.shown.ShownMonth.{ShownMonth}
 use Rattle.reasons.specs.declared.shown.ShownSpot.{ShownSpot}
-
--- a line: its word, and its fields behind those of the account, the set and the commodity
-pub record Reason : Type 0 where
-  pub word : List ℕ
-  pub fields : List (List ℕ)
 
 -- ---- numbers and words
 
@@ -66,7 +62,7 @@ method_word method.Max = codes "MAX"
 -- ---- the lines
 
 -- a held contract: its id, type, month and net quantity, and where options have a value that of the position
-abbrev pub held_reason : AcceptedTables → HeldContract → Reason
+abbrev pub held_reason : AcceptedTables → HeldContract → Line
 held_reason t h = record {
   word = codes "HELD";
   fields = (h.contract).id ∷ kind_letter (h.contract).kind ∷ decimal (h.contract).month ∷ signed_decimal h.net
@@ -74,25 +70,25 @@ held_reason t h = record {
 }
 
 -- the sixteen scenario sums
-abbrev pub sums_reason : List ℤ → Reason
+abbrev pub sums_reason : List ℤ → Line
 sums_reason sums = record { word = codes "SUMS"; fields = map signed_decimal sums }
 
 -- scan risk, active and paired scenario, price risk
-abbrev pub scan_reason : Scan → Reason
+abbrev pub scan_reason : Scan → Line
 scan_reason scan = record {
   word = codes "SCAN";
   fields = signed_decimal scan.risk ∷ decimal scan.active ∷ decimal scan.paired ∷ half scan.price2 ∷ [];
 }
 
 -- a held month: its delta, and what is left of it after all spreads
-abbrev pub month_reason : ShownMonth → Reason
+abbrev pub month_reason : ShownMonth → Line
 month_reason m = record {
   word = codes "MONTH";
   fields = decimal m.month ∷ in_deltas m.delta ∷ in_deltas m.left ∷ [];
 }
 
 -- an intracommodity spread in a direction: its priority, the side that is long, spreads formed, rate and charge
-abbrev pub intra_reason : ShownIntra → Reason
+abbrev pub intra_reason : ShownIntra → Line
 intra_reason s = record {
   word = codes "INTRA";
   fields = decimal s.priority ∷ long_side s.direction ∷ in_spreads s.formed ∷ decimal s.rate
@@ -100,7 +96,7 @@ intra_reason s = record {
 }
 
 -- a spot month: used, spread rate, left, outright rate and charge
-abbrev pub spot_reason : ShownSpot → Reason
+abbrev pub spot_reason : ShownSpot → Line
 spot_reason s = record {
   word = codes "SPOT";
   fields = decimal s.month ∷ in_deltas (pos s.used) ∷ decimal s.spread_rate ∷ in_deltas (pos s.left)
@@ -109,7 +105,7 @@ spot_reason s = record {
 
 -- an intercommodity spread in a direction: its priority, the side that is long, spreads formed, what it uses of the
 -- commodity, and its basis points
-abbrev pub inter_reason : ShownInter → Reason
+abbrev pub inter_reason : ShownInter → Line
 inter_reason s = record {
   word = codes "INTER";
   fields = decimal s.priority ∷ long_side s.direction ∷ in_spreads s.formed ∷ in_deltas (pos s.used)
@@ -117,14 +113,14 @@ inter_reason s = record {
 }
 
 -- what the credit is of: price risk, net delta and weight
-abbrev pub credit_reason : InterLine → Reason
+abbrev pub credit_reason : InterLine → Line
 credit_reason line = record {
   word = codes "CREDIT";
   fields = half line.price2 ∷ in_deltas line.net ∷ in_deltas (pos line.weight) ∷ [];
 }
 
 -- what the minimum is of: short calls, short puts, how they are counted, and the rate
-abbrev pub short_reason : Commodity → List HeldContract → Reason
+abbrev pub short_reason : Commodity → List HeldContract → Line
 short_reason c held = record {
   word = codes "SHORT";
   fields = decimal (short_count is_call held) ∷ decimal (short_count is_put held) ∷ method_word c.method
@@ -157,28 +153,28 @@ abbrev pub line_after_all : AcceptedTables → List Holding → ℕ → InterLin
 line_after_all t holdings c = line_at (inter_lines t holdings) c
 
 -- the lines of its held contracts
-abbrev pub held_reasons : AcceptedTables → List Holding → ℕ → List Reason
+abbrev pub held_reasons : AcceptedTables → List Holding → ℕ → List Line
 held_reasons t holdings c = map (held_reason t) (held_at t holdings c)
 
 -- the lines of its scan
-abbrev pub scan_reasons : AcceptedTables → List Holding → ℕ → List Reason
+abbrev pub scan_reasons : AcceptedTables → List Holding → ℕ → List Line
 scan_reasons t holdings c =
     let sums = scenario_sums (held_at t holdings c) in
     sums_reason sums ∷ scan_reason (scan_of sums) ∷ []
 
 -- the lines of its months, of the spreads between them and of its spot months
-abbrev pub month_reasons : AcceptedTables → List Holding → ℕ → List Reason
+abbrev pub month_reasons : AcceptedTables → List Holding → ℕ → List Line
 month_reasons t holdings c =
     map month_reason (months_shown_at t holdings c)
     ++ (map intra_reason (intras_shown_at t holdings c) ++ map spot_reason (spots_shown_at t holdings c))
 
 -- the lines of the spreads between it and other commodities, and of its credit
-abbrev pub credit_reasons : AcceptedTables → List Holding → ℕ → List Reason
+abbrev pub credit_reasons : AcceptedTables → List Holding → ℕ → List Line
 credit_reasons t holdings c =
     map inter_reason (inters_shown_at t holdings c) ++ credit_reason (line_after_all t holdings c) ∷ []
 
 -- all of its lines but that of its figures
-unfoldable pub reasons_of : AcceptedTables → List Holding → ℕ → List Reason
+unfoldable pub reasons_of : AcceptedTables → List Holding → ℕ → List Line
 reasons_of t holdings c =
     held_reasons t holdings c
     ++ (scan_reasons t holdings c

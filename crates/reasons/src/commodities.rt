@@ -7,10 +7,10 @@ ghost use Rattle.reasons.specs.Reasons.{credit_reason, inter_reason};
 ghost use Rattle.reasons.specs.Shown.{inter_in, inter_ways, inters_formed, inters_shown, ratio_in};
 ghost use Rattle.reasons.specs.near.Fields.{reason_text, reasons_text};
 
-use crate::fields::{Field, push_line};
 use crate::shown::ShownInter;
 use crate::words::long_side;
 use inter_credit::state::{InterLine, InterState};
+use span_money::line_fields::{Field, push_line};
 use span_tables::records::{CommodityLeg, Inter, InterRecord};
 use span_tables::sides::{Direction, SpreadsFormed};
 use std::alloc::{AllocError, Global};
@@ -40,9 +40,9 @@ fn leg_in(legs: &[CommodityLeg], commodity: usize) -> Option<&CommodityLeg>
 }
 
 // Appends the line of an intercommodity spread in a direction.
-fn push_inter(out: &mut Vec<u8>, head: &[u8], shown: &ShownInter) -> Result<(), AllocError>
+fn push_inter(out: &mut Vec<u8>, ids: &[Field<'_>], shown: &ShownInter) -> Result<(), AllocError>
     requires { shown.now.used < 2 ^ 127 }
-    ensures { OnOk result (out.new.items ≡ out.old.items ++ reason_text head.now (inter_reason shown.now)) }
+    ensures { OnOk result (out.new.items ≡ out.old.items ++ reason_text ids.now (inter_reason shown.now)) }
 {
     let fields = [
         Field::Whole(i128::from(shown.priority)),
@@ -51,7 +51,7 @@ fn push_inter(out: &mut Vec<u8>, head: &[u8], shown: &ShownInter) -> Result<(), 
         Field::EightPlaces(shown.used as i128),
         Field::Whole(i128::from(shown.basis_points)),
     ];
-    push_line(out, "INTER", head, &fields)
+    push_line(out, "INTER", ids, &fields)
 }
 
 // What so many spreads use of a leg's commodity.
@@ -65,7 +65,7 @@ fn used_by(formed: u64, ratio: u32) -> u128
 // Appends that line, where the spread forms more than 0.
 fn push_inter_in(
     out: &mut Vec<u8>,
-    head: &[u8],
+    ids: &[Field<'_>],
     priority: u32,
     basis_points: u32,
     direction: Direction,
@@ -73,7 +73,7 @@ fn push_inter_in(
     ratio: u32,
 ) -> Result<(), AllocError>
     ensures { OnOk result (out.new.items ≡ out.old.items
-        ++ reasons_text head.now (map inter_reason (inter_in priority basis_points direction formed ratio))) }
+        ++ reasons_text ids.now (map inter_reason (inter_in priority basis_points direction formed ratio))) }
 {
     if formed == 0 {
         return Ok(());
@@ -85,19 +85,19 @@ fn push_inter_in(
         used: used_by(formed, ratio),
         basis_points,
     };
-    push_inter(out, head, &shown)
+    push_inter(out, ids, &shown)
 }
 
 // Appends the lines of an intercommodity spread in both directions, where it has a leg in the commodity of a number.
 fn push_inter_ways(
     out: &mut Vec<u8>,
-    head: &[u8],
+    ids: &[Field<'_>],
     commodity: usize,
     priority: u32,
     inter: &Inter,
     formed: SpreadsFormed,
 ) -> Result<(), AllocError>
-    ensures { OnOk result (out.new.items ≡ out.old.items ++ reasons_text head.now
+    ensures { OnOk result (out.new.items ≡ out.old.items ++ reasons_text ids.now
         (map inter_reason (inter_ways priority inter.now.basis_points formed (ratio_in commodity inter.now.legs)))) }
 {
     let Some(leg) = leg_in(inter.legs(), commodity) else {
@@ -107,7 +107,7 @@ fn push_inter_ways(
     let rate = inter.basis_points();
     push_inter_in(
         out,
-        head,
+        ids,
         priority,
         rate,
         Direction::ALong,
@@ -116,7 +116,7 @@ fn push_inter_ways(
     )?;
     push_inter_in(
         out,
-        head,
+        ids,
         priority,
         rate,
         Direction::AShort,
@@ -128,14 +128,14 @@ fn push_inter_ways(
 /// Appends the lines of the intercommodity spreads that have a leg in the commodity of a number, as they formed.
 pub(crate) fn push_inters(
     out: &mut Vec<u8>,
-    head: &[u8],
+    ids: &[Field<'_>],
     commodity: usize,
     records: &[InterRecord],
     inters: &[Inter],
     formed: &[SpreadsFormed],
 ) -> Result<(), AllocError>
     ensures { OnOk result (out.new.items ≡ out.old.items
-        ++ reasons_text head.now (map inter_reason (inters_shown commodity records.now inters.now formed.now))) }
+        ++ reasons_text ids.now (map inter_reason (inters_shown commodity records.now inters.now formed.now))) }
 {
     let [record, records @ ..] = records else {
         return Ok(());
@@ -146,23 +146,23 @@ pub(crate) fn push_inters(
     let [ways, formed @ ..] = formed else {
         return Ok(());
     };
-    push_inter_ways(out, head, commodity, record.priority, inter, *ways)?;
-    push_inters(out, head, commodity, records, inters, formed)
+    push_inter_ways(out, ids, commodity, record.priority, inter, *ways)?;
+    push_inters(out, ids, commodity, records, inters, formed)
 }
 
 /// Appends the line of what the credit of a commodity is of.
 pub(crate) fn push_credit(
     out: &mut Vec<u8>,
-    head: &[u8],
+    ids: &[Field<'_>],
     line: &InterLine,
 ) -> Result<(), AllocError>
     requires { IsLine line.now }
-    ensures { OnOk result (out.new.items ≡ out.old.items ++ reason_text head.now (credit_reason line.now)) }
+    ensures { OnOk result (out.new.items ≡ out.old.items ++ reason_text ids.now (credit_reason line.now)) }
 {
     let fields = [
         Field::Half(line.price2),
         Field::EightPlaces(i128::from(line.net.get())),
         Field::EightPlaces(line.weight as i128),
     ];
-    push_line(out, "CREDIT", head, &fields)
+    push_line(out, "CREDIT", ids, &fields)
 }

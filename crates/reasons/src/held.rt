@@ -4,14 +4,13 @@ ghost use Rattle.scan_risk.specs.Scenarios.{scan_of, scenario_sums};
 ghost use Rattle.reasons.specs.Reasons.{held_reason, scan_reason, short_reason, sums_reason};
 ghost use Rattle.reasons.specs.near.Fields.{reason_text, reasons_text};
 
-use crate::fields::{Field, push_line, push_start};
 use crate::words::{kind_letter, method_word};
 use inter_credit::option_value::position_value;
 use inter_credit::requirement::short_counts;
 use scan_risk::Scan;
 use scan_risk::scanning::scan;
 use scan_risk::scenarios::sums;
-use span_money::line_fields::push_number;
+use span_money::line_fields::{Field, push_line, push_number, push_start};
 use span_tables::held::Held;
 use span_tables::limits::SCENARIOS;
 use span_tables::records::Commodity;
@@ -21,14 +20,14 @@ use std::alloc::AllocError;
 // Appends the line of the held contract at a place.
 fn push_held_at(
     out: &mut Vec<u8>,
-    head: &[u8],
+    ids: &[Field<'_>],
     tables: &Tables,
     held: &Held,
     place: usize,
 ) -> Result<(), AllocError>
     requires { place < length held.now }
     ensures { OnOk result (IfSome (slice_get held.now place) (λ h.
-        out.new.items ≡ out.old.items ++ reason_text head.now (held_reason tables.now h))) }
+        out.new.items ≡ out.old.items ++ reason_text ids.now (held_reason tables.now h))) }
 {
     let contract = held.contract(place);
     let id = Field::Bytes(contract.id.as_bytes());
@@ -36,33 +35,37 @@ fn push_held_at(
     let month = Field::Whole(i128::from(contract.month));
     let net = Field::Whole(i128::from(held.net(place)));
     if !tables.has_option_value() {
-        return push_line(out, "HELD", head, &[id, kind, month, net]);
+        return push_line(out, "HELD", ids, &[id, kind, month, net]);
     }
     let value = Field::Whole(position_value(held, place).get());
-    push_line(out, "HELD", head, &[id, kind, month, net, value])
+    push_line(out, "HELD", ids, &[id, kind, month, net, value])
 }
 
 /// Appends the lines of the held contracts.
 pub(crate) fn push_held(
     out: &mut Vec<u8>,
-    head: &[u8],
+    ids: &[Field<'_>],
     tables: &Tables,
     held: &Held,
 ) -> Result<(), AllocError>
     ensures { OnOk result (out.new.items
-        ≡ out.old.items ++ reasons_text head.now (map (held_reason tables.now) held.now)) }
+        ≡ out.old.items ++ reasons_text ids.now (map (held_reason tables.now) held.now)) }
 {
     for place in 0..held.len() {
-        push_held_at(out, head, tables, held, place)?;
+        push_held_at(out, ids, tables, held, place)?;
     }
     Ok(())
 }
 
 // Appends the line of the sixteen sums.
-fn push_sums(out: &mut Vec<u8>, head: &[u8], sums: &[i64; SCENARIOS]) -> Result<(), AllocError>
-    ensures { OnOk result (out.new.items ≡ out.old.items ++ reason_text head.now (sums_reason sums.now)) }
+fn push_sums(
+    out: &mut Vec<u8>,
+    ids: &[Field<'_>],
+    sums: &[i64; SCENARIOS],
+) -> Result<(), AllocError>
+    ensures { OnOk result (out.new.items ≡ out.old.items ++ reason_text ids.now (sums_reason sums.now)) }
 {
-    push_start(out, "SUMS", head)?;
+    push_start(out, "SUMS", ids)?;
     for sum in sums {
         push_number(out, i128::from(*sum))?;
     }
@@ -71,8 +74,8 @@ fn push_sums(out: &mut Vec<u8>, head: &[u8], sums: &[i64; SCENARIOS]) -> Result<
 }
 
 // Appends the line of the scan.
-fn push_scan_line(out: &mut Vec<u8>, head: &[u8], scan: &Scan) -> Result<(), AllocError>
-    ensures { OnOk result (out.new.items ≡ out.old.items ++ reason_text head.now (scan_reason scan.now)) }
+fn push_scan_line(out: &mut Vec<u8>, ids: &[Field<'_>], scan: &Scan) -> Result<(), AllocError>
+    ensures { OnOk result (out.new.items ≡ out.old.items ++ reason_text ids.now (scan_reason scan.now)) }
 {
     let fields = [
         Field::Whole(scan.risk.get()),
@@ -80,27 +83,27 @@ fn push_scan_line(out: &mut Vec<u8>, head: &[u8], scan: &Scan) -> Result<(), All
         Field::Whole(i128::from(scan.paired)),
         Field::Half(scan.price2),
     ];
-    push_line(out, "SCAN", head, &fields)
+    push_line(out, "SCAN", ids, &fields)
 }
 
 /// Appends the lines of the sums and of their scan.
-pub(crate) fn push_scan(out: &mut Vec<u8>, head: &[u8], held: &Held) -> Result<(), AllocError>
-    ensures { OnOk result (out.new.items ≡ out.old.items ++ reasons_text head.now
+pub(crate) fn push_scan(out: &mut Vec<u8>, ids: &[Field<'_>], held: &Held) -> Result<(), AllocError>
+    ensures { OnOk result (out.new.items ≡ out.old.items ++ reasons_text ids.now
         (sums_reason (scenario_sums held.now) ∷ scan_reason (scan_of (scenario_sums held.now)) ∷ [])) }
 {
     let sums = sums(held);
-    push_sums(out, head, &sums)?;
-    push_scan_line(out, head, &scan(&sums))
+    push_sums(out, ids, &sums)?;
+    push_scan_line(out, ids, &scan(&sums))
 }
 
 /// Appends the line of short options.
 pub(crate) fn push_short(
     out: &mut Vec<u8>,
-    head: &[u8],
+    ids: &[Field<'_>],
     commodity: &Commodity,
     held: &Held,
 ) -> Result<(), AllocError>
-    ensures { OnOk result (out.new.items ≡ out.old.items ++ reason_text head.now (short_reason commodity.now held.now)) }
+    ensures { OnOk result (out.new.items ≡ out.old.items ++ reason_text ids.now (short_reason commodity.now held.now)) }
 {
     let short = short_counts(held);
     let fields = [
@@ -109,5 +112,5 @@ pub(crate) fn push_short(
         Field::Text(method_word(commodity.method)),
         Field::Whole(i128::from(commodity.minimum_rate)),
     ];
-    push_line(out, "SHORT", head, &fields)
+    push_line(out, "SHORT", ids, &fields)
 }

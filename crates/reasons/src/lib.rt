@@ -2,7 +2,6 @@
 #![tactic(auto)]
 
 mod commodities;
-mod fields;
 mod held;
 pub mod laws;
 mod months;

@@ -8,9 +8,9 @@ ghost use Rattle.reasons.specs.Reasons.{intra_reason, month_reason, spot_reason}
 ghost use Rattle.reasons.specs.Shown.{intra_in, intra_ways, intras_formed, intras_shown, months_shown, spots_shown};
 ghost use Rattle.reasons.specs.near.Fields.{reason_text, reasons_text};
 
-use crate::fields::{Field, push_line};
 use crate::shown::{ShownIntra, ShownMonth, ShownSpot};
 use crate::words::long_side;
+use span_money::line_fields::{Field, push_line};
 use span_tables::records::{Intra, Spot};
 use span_tables::sides::{Direction, SpreadsFormed};
 use spread_stage::charges::{month_units, spot_use};
@@ -19,27 +19,27 @@ use spread_stage::tiers::TierState;
 use std::alloc::{AllocError, Global};
 
 // Appends the line of a month.
-fn push_month(out: &mut Vec<u8>, head: &[u8], shown: &ShownMonth) -> Result<(), AllocError>
-    ensures { OnOk result (out.new.items ≡ out.old.items ++ reason_text head.now (month_reason shown.now)) }
+fn push_month(out: &mut Vec<u8>, ids: &[Field<'_>], shown: &ShownMonth) -> Result<(), AllocError>
+    ensures { OnOk result (out.new.items ≡ out.old.items ++ reason_text ids.now (month_reason shown.now)) }
 {
     let fields = [
         Field::Whole(i128::from(shown.month)),
         Field::EightPlaces(i128::from(shown.delta.get())),
         Field::EightPlaces(i128::from(shown.left.get())),
     ];
-    push_line(out, "MONTH", head, &fields)
+    push_line(out, "MONTH", ids, &fields)
 }
 
 /// Appends the lines of the held months, whose rests stand beside them.
 pub(crate) fn push_months(
     out: &mut Vec<u8>,
-    head: &[u8],
+    ids: &[Field<'_>],
     months: &Months,
     tiers: &TierState,
 ) -> Result<(), AllocError>
     requires { Shrinks months.now tiers.now.rests }
     ensures { OnOk result (out.new.items
-        ≡ out.old.items ++ reasons_text head.now (map month_reason (months_shown months.now tiers.now.rests))) }
+        ≡ out.old.items ++ reasons_text ids.now (map month_reason (months_shown months.now tiers.now.rests))) }
 {
     let deltas = months.as_slice();
     let rests = tiers.rests();
@@ -51,7 +51,7 @@ pub(crate) fn push_months(
             delta: month.units,
             left: rest.units,
         };
-        push_month(out, head, &shown)?;
+        push_month(out, ids, &shown)?;
     }
     Ok(())
 }
@@ -83,8 +83,8 @@ fn at_rate(count: u64, rate: u32) -> i128
 }
 
 // Appends the line of an intracommodity spread in a direction.
-fn push_intra(out: &mut Vec<u8>, head: &[u8], shown: &ShownIntra) -> Result<(), AllocError>
-    ensures { OnOk result (out.new.items ≡ out.old.items ++ reason_text head.now (intra_reason shown.now)) }
+fn push_intra(out: &mut Vec<u8>, ids: &[Field<'_>], shown: &ShownIntra) -> Result<(), AllocError>
+    ensures { OnOk result (out.new.items ≡ out.old.items ++ reason_text ids.now (intra_reason shown.now)) }
 {
     let fields = [
         Field::Whole(i128::from(shown.priority)),
@@ -93,20 +93,20 @@ fn push_intra(out: &mut Vec<u8>, head: &[u8], shown: &ShownIntra) -> Result<(), 
         Field::Whole(i128::from(shown.rate)),
         Field::FourPlaces(at_rate(shown.formed, shown.rate)),
     ];
-    push_line(out, "INTRA", head, &fields)
+    push_line(out, "INTRA", ids, &fields)
 }
 
 // Appends that line, where the spread forms more than 0.
 fn push_intra_in(
     out: &mut Vec<u8>,
-    head: &[u8],
+    ids: &[Field<'_>],
     priority: u32,
     rate: u32,
     direction: Direction,
     formed: u64,
 ) -> Result<(), AllocError>
     ensures { OnOk result (out.new.items
-        ≡ out.old.items ++ reasons_text head.now (map intra_reason (intra_in priority rate direction formed))) }
+        ≡ out.old.items ++ reasons_text ids.now (map intra_reason (intra_in priority rate direction formed))) }
 {
     if formed == 0 {
         return Ok(());
@@ -117,34 +117,34 @@ fn push_intra_in(
         formed,
         rate,
     };
-    push_intra(out, head, &shown)
+    push_intra(out, ids, &shown)
 }
 
 // Appends the lines of an intracommodity spread, in both directions.
 fn push_intra_ways(
     out: &mut Vec<u8>,
-    head: &[u8],
+    ids: &[Field<'_>],
     priority: u32,
     rate: u32,
     formed: SpreadsFormed,
 ) -> Result<(), AllocError>
     ensures { OnOk result (out.new.items
-        ≡ out.old.items ++ reasons_text head.now (map intra_reason (intra_ways priority rate formed))) }
+        ≡ out.old.items ++ reasons_text ids.now (map intra_reason (intra_ways priority rate formed))) }
 {
-    push_intra_in(out, head, priority, rate, Direction::ALong, formed.a_long)?;
-    push_intra_in(out, head, priority, rate, Direction::AShort, formed.a_short)
+    push_intra_in(out, ids, priority, rate, Direction::ALong, formed.a_long)?;
+    push_intra_in(out, ids, priority, rate, Direction::AShort, formed.a_short)
 }
 
 /// Appends the lines of intracommodity spreads with their priorities, as they formed.
 pub(crate) fn push_intras(
     out: &mut Vec<u8>,
-    head: &[u8],
+    ids: &[Field<'_>],
     priorities: &[u32],
     intras: &[Intra],
     formed: &[SpreadsFormed],
 ) -> Result<(), AllocError>
     ensures { OnOk result (out.new.items
-        ≡ out.old.items ++ reasons_text head.now (map intra_reason (intras_shown priorities.now intras.now formed.now))) }
+        ≡ out.old.items ++ reasons_text ids.now (map intra_reason (intras_shown priorities.now intras.now formed.now))) }
 {
     let [priority, priorities @ ..] = priorities else {
         return Ok(());
@@ -155,14 +155,14 @@ pub(crate) fn push_intras(
     let [ways, formed @ ..] = formed else {
         return Ok(());
     };
-    push_intra_ways(out, head, *priority, intra.rate(), *ways)?;
-    push_intras(out, head, priorities, intras, formed)
+    push_intra_ways(out, ids, *priority, intra.rate(), *ways)?;
+    push_intras(out, ids, priorities, intras, formed)
 }
 
 // Appends the line of a spot month, where its delta is not 0.
 fn push_spot(
     out: &mut Vec<u8>,
-    head: &[u8],
+    ids: &[Field<'_>],
     months: &Months,
     tiers: &TierState,
     spot: &Spot,
@@ -170,7 +170,7 @@ fn push_spot(
     requires shrinks { Shrinks months.now tiers.now.rests }
     requires spot { IsSpot spot.now }
     ensures { OnOk result (out.new.items
-        ≡ out.old.items ++ reasons_text head.now (map spot_reason (spots_shown months.now tiers.now.rests (spot.now ∷ [])))) }
+        ≡ out.old.items ++ reasons_text ids.now (map spot_reason (spots_shown months.now tiers.now.rests (spot.now ∷ [])))) }
 {
     if month_units(months, spot.month).get() == 0 {
         return Ok(());
@@ -184,13 +184,13 @@ fn push_spot(
         Field::Whole(i128::from(spot.outright_rate)),
         Field::EightPlaces(spot_use.charge as i128),
     ];
-    push_line(out, "SPOT", head, &fields)
+    push_line(out, "SPOT", ids, &fields)
 }
 
 /// Appends the lines of spot months.
 pub(crate) fn push_spots(
     out: &mut Vec<u8>,
-    head: &[u8],
+    ids: &[Field<'_>],
     months: &Months,
     tiers: &TierState,
     spots: &[Spot],
@@ -198,10 +198,10 @@ pub(crate) fn push_spots(
     requires shrinks { Shrinks months.now tiers.now.rests }
     requires spots { All IsSpot spots.now }
     ensures { OnOk result (out.new.items
-        ≡ out.old.items ++ reasons_text head.now (map spot_reason (spots_shown months.now tiers.now.rests spots.now))) }
+        ≡ out.old.items ++ reasons_text ids.now (map spot_reason (spots_shown months.now tiers.now.rests spots.now))) }
 {
     for spot in spots {
-        push_spot(out, head, months, tiers, spot)?;
+        push_spot(out, ids, months, tiers, spot)?;
     }
     Ok(())
 }

@@ -13,6 +13,7 @@ use crate::months::{form_intras, push_intras, push_months, push_spots};
 use inter_credit::state::{InterState, empty};
 use scan_risk::scanning::scan;
 use scan_risk::scenarios::sums;
+use span_money::line_fields::Field;
 use span_tables::held::{Held, gather_all};
 use span_tables::portfolios::Portfolio;
 use span_tables::sides::SpreadsFormed;
@@ -87,31 +88,31 @@ pub fn stages_of(
 fn push_month_reasons(
     alloc: Global,
     out: &mut Vec<u8>,
-    head: &[u8],
+    ids: &[Field<'_>],
     tables: &Tables,
     commodity: usize,
     held: &Held,
 ) -> Result<(), AllocError>
     requires { commodity < length tables.now.commodities }
     ensures { (holdings : List Holding) → held.now ≡ held_at tables.now holdings commodity → OnOk result
-        (out.new.items ≡ out.old.items ++ reasons_text head.now (month_reasons tables.now holdings commodity)) }
+        (out.new.items ≡ out.old.items ++ reasons_text ids.now (month_reasons tables.now holdings commodity)) }
 {
     let months = month_deltas(alloc, held)?;
     let mut tiers = start(alloc, &months)?;
     let intras = tables.intras(commodity);
     let formed = form_intras(alloc, &mut tiers, intras)?;
-    push_months(out, head, &months, &tiers)?;
-    push_intras(out, head, tables.priorities(commodity), intras, &formed)?;
-    push_spots(out, head, &months, &tiers, tables.spots(commodity))?;
+    push_months(out, ids, &months, &tiers)?;
+    push_intras(out, ids, tables.priorities(commodity), intras, &formed)?;
+    push_spots(out, ids, &months, &tiers, tables.spots(commodity))?;
     Ok(())
 }
 
-/// Appends the lines of the reasons for the figures of the commodity of a number, with these bytes behind each word: those
+/// Appends the lines of the reasons for the figures of the commodity of a number, with these ids behind each word: those
 /// of its held contracts, scan, months, spreads and spot months, credit and short options. `Err` is want of memory.
 pub fn push_reasons(
     alloc: Global,
     out: &mut Vec<u8>,
-    head: &[u8],
+    ids: &[Field<'_>],
     tables: &Tables,
     stages: &Stages,
     commodity: usize,
@@ -120,21 +121,21 @@ pub fn push_reasons(
     requires held { commodity < length stages.now.held }
     requires lines { commodity < length stages.now.lines }
     ensures { (holdings : List Holding) → stages.now ≡ stages_of tables.now holdings → OnOk result
-        (out.new.items ≡ out.old.items ++ reasons_text head.now (reasons_of tables.now holdings commodity)) }
+        (out.new.items ≡ out.old.items ++ reasons_text ids.now (reasons_of tables.now holdings commodity)) }
 {
     let held = &stages.held[commodity];
-    push_held(out, head, tables, held)?;
-    push_scan(out, head, held)?;
-    push_month_reasons(alloc, out, head, tables, commodity, held)?;
+    push_held(out, ids, tables, held)?;
+    push_scan(out, ids, held)?;
+    push_month_reasons(alloc, out, ids, tables, commodity, held)?;
     push_inters(
         out,
-        head,
+        ids,
         commodity,
         tables.inter_records(),
         tables.inters(),
         &stages.formed,
     )?;
-    push_credit(out, head, &stages.state.lines()[commodity])?;
-    push_short(out, head, &tables.commodities()[commodity], held)?;
+    push_credit(out, ids, &stages.state.lines()[commodity])?;
+    push_short(out, ids, &tables.commodities()[commodity], held)?;
     Ok(())
 }

@@ -7,3 +7,4 @@ pub mod ExactLemmas
 pub mod ExactLaws
 pub mod ShortLaws
 pub mod OnLiterals
+pub mod LineLemmas

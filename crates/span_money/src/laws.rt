@@ -1,13 +1,14 @@
-//! The digits of the largest amount, and laws of division, of number texts and of exact decimals, in plain words: each is the
-//! contract of a function that does nothing.
+//! The digits of the largest amount, and laws of division, of number texts, of exact decimals and of lines, in plain words: each
+//! is the contract of a function that does nothing.
 ghost use Rattle.std.specs.Prelude.{◌≡◌, ◌↔◌, ℕ, ◌*◌, ◌/◌, ◌^◌, ◌<◌, ◌≤◌, ℤ, pos, ◌<ℤ◌, List, Some, None, true, nat_abs};
-ghost use Rattle.std.specs.Prelude.{Contains, codes, slice_index, take_while};
+ghost use Rattle.std.specs.Prelude.{◌∷◌, ◌++◌, [], Contains, codes, slice_index, take_while};
 ghost use Rattle.std.specs.Char.{is_ascii_digit};
 ghost use Rattle.std.specs.Fmt.{signed_decimal};
 ghost use Rattle.std.specs.Int.{div_ceil};
-ghost use Rattle.std.specs.List.{last_or};
+ghost use Rattle.std.specs.List.{join_with_byte, last_or};
 ghost use Rattle.span_money.specs.ExactDecimals.{exact_decimal, exact_value};
 ghost use Rattle.span_money.specs.Forms.{IsDecimal};
+ghost use Rattle.span_money.specs.LineFields.{Line, line};
 ghost use Rattle.span_money.specs.declared.amounts.TheConstants.{MAX_MONEY};
 ghost use Rattle.span_money.specs.Numbers.{decimal_number, has_minus, whole_number, without_minus};
 
@@ -54,4 +55,10 @@ pub fn exact_decimals_are_short()
         → take_while is_ascii_digit (without_minus (exact_decimal places z)) ≡ codes "0" }
     ensures sign { (places : ℕ) (z : ℤ) → nat_abs z < 10 ^ 64 → has_minus (exact_decimal places z) ≡ true ↔ (z <ℤ pos 0) }
     ensures zero { (places : ℕ) → exact_decimal places (pos 0) ≡ codes "0" }
+{}
+
+/// A line is its word and its fields, with a comma between each two, and a line feed.
+#[tactic(auto, using(crate::proofs::LineLemmas::line_joined))]
+pub fn a_line_is_its_fields_joined()
+    ensures { (l : Line) → line l ≡ join_with_byte 44 (l.word ∷ l.fields) ++ 10 ∷ [] }
 {}

@@ -12,7 +12,7 @@ use sample_files::calendar::{PARAMS, POSITIONS};
 use span_csv::params::read_params;
 use span_csv::positions::read_positions;
 use span_money::exact::push_exact;
-use span_money::line_fields::{push_field, push_number, push_numbers};
+use span_money::line_fields::{Field, push_line, push_line_of_numbers};
 use span_tables::groups::{empty_lists, push_at};
 use span_tables::held::{Held, gather, gather_all, gather_held};
 use span_tables::portfolios::{Portfolio, Portfolios};
@@ -38,14 +38,17 @@ fn calls_succeed(rt: HostRuntime) -> Result<(), Fail> {
     spreads_of_commodities(&rt, alloc)
 }
 
-// `span_money`: a decimal, a name, a number and two numbers.
+// `span_money`: a decimal, a line of fields and a line of numbers.
 fn fields(rt: &impl Abort, alloc: Global) -> Result<(), AllocError> {
     let mut line = Vec::new(alloc);
     push_exact(&mut line, 50_000_000, 8)?;
-    push_field(&mut line, b"AA")?;
-    push_number(&mut line, -12)?;
-    push_numbers(&mut line, &[0, 1740])?;
-    assert_eq!(rt; line.as_slice(), b"0.5,AA,-12,0,1740".as_slice());
+    let ids = [Field::Bytes(b"AA".as_slice())];
+    push_line(&mut line, "X", &ids, &[Field::Half(3), Field::Text("A")])?;
+    push_line_of_numbers(&mut line, "Y", &ids, &[-12, 1740])?;
+    assert_eq!(rt;
+        line.as_slice(),
+        b"0.5X,AA,1.5,A\nY,AA,-12,1740\n".as_slice()
+    );
     Ok(())
 }
 

@@ -1,15 +1,18 @@
 -- What is said of a parameter file by itself: the counts of its tables.
 use Rattle.std.specs.Prelude.{ℕ, List, [], ◌∷◌, codes, decimal, length, Result, Ok}
+use Rattle.span_money.specs.LineFields.{Line, line}
 use Rattle.span_tables.specs.Tables.{AcceptedTables}
-use Rattle.statement.specs.Statement.{accepted_of, and_then, line, same}
+use Rattle.statement.specs.Statement.{accepted_of, and_then, same}
 use Rattle.statement.specs.declared.faults.SpanFault.{SpanFault}
 
 -- the line of accepted tables: the id of the set, and how many records of each kind they have
-unfoldable pub counts_line : AcceptedTables → List ℕ
-counts_line t =
-    line (codes "OK" ∷ t.set_id ∷ decimal (length t.commodities) ∷ decimal (length t.contracts) ∷ decimal (length t.tiers)
-    ∷ decimal (length t.intras) ∷ decimal (length t.spots) ∷ decimal (length t.inters) ∷ [])
+unfoldable pub counts_line : AcceptedTables → Line
+counts_line t = record {
+  word = codes "OK";
+  fields = t.set_id ∷ decimal (length t.commodities) ∷ decimal (length t.contracts) ∷ decimal (length t.tiers)
+      ∷ decimal (length t.intras) ∷ decimal (length t.spots) ∷ decimal (length t.inters) ∷ [];
+}
 
 -- the counts of a parameter file, or the first fault: in reading it, in checking it
 unfoldable pub counts_of : List ℕ → Result (List ℕ) SpanFault
-counts_of params = and_then same (accepted_of params) (λ tables. Ok (counts_line tables))
+counts_of params = and_then same (accepted_of params) (λ tables. Ok (line (counts_line tables)))

@@ -1,8 +1,9 @@
 -- The text of a statement, from the bytes of both files.
-use Rattle.std.specs.Prelude.{ℕ, List, [], ◌∷◌, ◌++◌, flat_map, map, codes, ℤ, pos, decimal, length, Result, Ok, Err}
+use Rattle.std.specs.Prelude.{ℕ, List, [], ◌∷◌, ◌++◌, flat_map, map, codes, ℤ, pos, length, Result, Ok, Err}
 use Rattle.std.specs.Prelude.{if◌then◌else◌, ◌==◌, ◌||◌, nat_lt}
-use Rattle.std.specs.List.{join_with_byte, range_with_len}
+use Rattle.std.specs.List.{range_with_len}
 use Rattle.std.specs.Fmt.{signed_decimal}
+use Rattle.span_money.specs.LineFields.{Line, line}
 use Rattle.span_csv.specs.ParamFaults.{params_of}
 use Rattle.span_csv.specs.PositionFaults.{positions_of}
 use Rattle.param_check.specs.CheckFaults.{checked}
@@ -11,7 +12,7 @@ use Rattle.span_tables.specs.Net.{AccountHoldings}
 use Rattle.span_tables.specs.declared.records.PositionRecord.{PositionRecord}
 use Rattle.param_check.specs.Binding.{bindings_of}
 use Rattle.inter_credit.specs.OptionValue.{due_of, excess_of}
-use Rattle.plan_ir.specs.Figures.{commodity_at, figures_of, is_held, option_value_of, total_to}
+use Rattle.plan_ir.specs.Figures.{commodity_at, figures_of, is_held, numbers_of, option_value_of, total_to}
 use Rattle.plan_ir.specs.declared.figures.Figures.{Figures}
 use Rattle.statement.specs.declared.faults.SpanFault.{SpanFault}
 use Rattle.statement.specs.declared.faults.SpanFault.TheVariants as fault
@@ -19,33 +20,22 @@ use Rattle.worker_pool.specs.declared.batch.TheConstants.{MAX_WORKERS}
 
 -- ---- the lines of an account
 
--- fields with a comma between each two, and a line feed
-abbrev pub line : List (List ℕ) → List ℕ
-line fields = join_with_byte 44 fields ++ (10 ∷ [])
+-- the line of a commodity's figures, under the ids of the account, the set and the commodity
+unfoldable pub figures_line : List ℕ → List ℕ → List ℕ → Figures → Line
+figures_line account set_id commodity f = record {
+  word = codes "R";
+  fields = account ∷ set_id ∷ commodity ∷ map signed_decimal (numbers_of f);
+}
 
--- the fields of a commodity's figures, under the ids of the account, the set and the commodity
-abbrev pub figures_record : List ℕ → List ℕ → List ℕ → Figures → List (List ℕ)
-figures_record account set_id commodity f =
-    codes "R" ∷ account ∷ set_id ∷ commodity ∷ signed_decimal f.scan ∷ decimal f.active ∷ signed_decimal f.intra
-    ∷ signed_decimal f.delivery ∷ signed_decimal f.credit ∷ signed_decimal f.minimum ∷ signed_decimal f.requirement ∷ []
-
--- their line
-unfoldable pub figures_line : List ℕ → List ℕ → List ℕ → Figures → List ℕ
-figures_line account set_id commodity f = line (figures_record account set_id commodity f)
-
--- the fields of an account's total and of the numbers behind it
-abbrev pub total_record : List ℕ → List ℕ → List ℤ → List (List ℕ)
-total_record account set_id numbers = codes "T" ∷ account ∷ set_id ∷ map signed_decimal numbers
-
--- their line, the last of an account
-unfoldable pub total_line : List ℕ → List ℕ → List ℤ → List ℕ
-total_line account set_id numbers = line (total_record account set_id numbers)
+-- the last line of an account: its total, and the numbers behind it
+unfoldable pub total_line : List ℕ → List ℕ → List ℤ → Line
+total_line account set_id numbers = record { word = codes "T"; fields = account ∷ set_id ∷ map signed_decimal numbers }
 
 -- the line of an account for the commodity of a number, where it holds a contract of it
 abbrev pub commodity_text : AcceptedTables → AccountHoldings → ℕ → List ℕ
 commodity_text t p c =
     if is_held t p.holdings c
-    then figures_line p.account t.set_id (commodity_at t c).id (figures_of t p.holdings c)
+    then line (figures_line p.account t.set_id (commodity_at t c).id (figures_of t p.holdings c))
     else []
 
 -- the total of an account: the sum of the requirements of all commodities
@@ -62,7 +52,7 @@ total_numbers t total value =
 unfoldable pub row_text : AcceptedTables → AccountHoldings → List ℕ
 row_text t p =
     flat_map (commodity_text t p) (range_with_len 0 (length t.commodities))
-    ++ total_line p.account t.set_id (total_numbers t (total_of t p) (option_value_of t p.holdings))
+    ++ line (total_line p.account t.set_id (total_numbers t (total_of t p) (option_value_of t p.holdings)))
 
 -- the statement of some portfolios, in their order
 unfoldable pub statement_text : AcceptedTables → List AccountHoldings → List ℕ

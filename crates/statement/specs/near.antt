@@ -1,4 +1,3 @@
-pub mod LineForms
 pub mod LineParts
 pub mod Rows
 pub mod Seconds

@@ -10,6 +10,7 @@ ghost use Rattle.span_csv.specs.PositionFaults.{positions_of};
 ghost use Rattle.span_csv.specs.declared.faults.ParamFault.{ParamFault};
 ghost use Rattle.span_csv.specs.declared.faults.PositionFault.{PositionFault};
 ghost use Rattle.plan_ir.specs.Figures.{option_value_of};
+ghost use Rattle.span_money.specs.LineFields.{line};
 ghost use Rattle.span_tables.specs.Net.{AccountHoldings};
 ghost use Rattle.span_tables.specs.Tables.{AcceptedTables};
 ghost use Rattle.span_tables.specs.declared.records.PositionRecord.{PositionRecord};
@@ -31,7 +32,7 @@ ghost use Rattle.std.specs.List.{range_with_len};
 pub fn lines_end_with_the_total()
     ensures { (t : AcceptedTables) (p : AccountHoldings) → row_text t p
         ≡ flat_map (commodity_text t p) (range_with_len 0 (length t.commodities))
-        ++ total_line p.account t.set_id (total_numbers t (total_of t p) (option_value_of t p.holdings)) }
+        ++ line (total_line p.account t.set_id (total_numbers t (total_of t p) (option_value_of t p.holdings))) }
 {}
 
 /// No accounts give no bytes, and neither does an empty position file; the lines of some accounts do not depend on the

@@ -1,6 +1,6 @@
 //! The text of a statement.
-ghost use Rattle.span_money.specs.LineFields.{field};
-ghost use Rattle.statement.specs.near.LineForms.{figures_fields, figures_form, total_form};
+ghost use Rattle.span_money.specs.LineFields.{line};
+ghost use Rattle.span_money.specs.near.Fields.{field_text};
 ghost use Rattle.statement.specs.Statement.{commodity_text, figures_line, row_text, total_line, total_numbers, total_of};
 ghost use Rattle.inter_credit.specs.OptionValue.{due_of, excess_of};
 ghost use Rattle.plan_ir.specs.Figures.{option_value_of};
@@ -10,59 +10,24 @@ ghost use Rattle.std.specs.Prelude.{[], ◌++◌, ◌∷◌, ◌≡◌, ◌<◌,
 use plan_ir::figures::Figures;
 use result_book::rows::Row;
 use span_money::amounts::Money;
-use span_money::line_fields::{push_field, push_numbers};
+use span_money::line_fields::{Field, push_line_of_numbers};
 use span_tables::name::Name;
 use std::alloc::{AllocError, Global};
 use std::sync::Arc;
 
-// A letter, the account and the set.
-fn push_start(
-    out: &mut Vec<u8>,
-    letter: u8,
-    account: &Name,
-    set_id: &Name,
-) -> Result<(), AllocError>
-    ensures { OnOk result (out.new.items ≡ out.old.items ++ letter ∷ (field account.now ++ field set_id.now)) }
+/// The ids behind the word of each line of a commodity: those of the account, the set and the commodity.
+pub fn ids_of<'a>(account: &'a Name, set_id: &'a Name, commodity: &'a Name) -> [Field<'a>; 3]
+    ensures { map field_text result ≡ account.entry.now ∷ set_id.entry.now ∷ commodity.entry.now ∷ [] }
 {
-    out.push(letter)?;
-    push_field(out, account.as_bytes())?;
-    push_field(out, set_id.as_bytes())
-}
-
-fn push_figures(out: &mut Vec<u8>, figures: &Figures) -> Result<(), AllocError>
-    ensures { OnOk result (out.new.items ≡ out.old.items ++ figures_fields figures.now) }
-{
-    let numbers = [
-        figures.scan.get(),
-        i128::from(figures.active),
-        figures.intra.get(),
-        figures.delivery.get(),
-        figures.credit.get(),
-        figures.minimum.get(),
-        figures.requirement.get(),
-    ];
-    push_numbers(out, &numbers)
-}
-
-#[tactic(auto, unfolding(crate::specs::near::LineForms::figures_form))]
-fn push_commodity_parts(
-    out: &mut Vec<u8>,
-    account: &Name,
-    set_id: &Name,
-    commodity: &Name,
-    figures: &Figures,
-) -> Result<(), AllocError>
-    ensures { OnOk result (out.new.items
-        ≡ out.old.items ++ figures_form account.now set_id.now commodity.now figures.now) }
-{
-    push_start(out, b'R', account, set_id)?;
-    push_field(out, commodity.as_bytes())?;
-    push_figures(out, figures)?;
-    out.push(b'\n')?;
-    Ok(())
+    [
+        Field::Bytes(account.as_bytes()),
+        Field::Bytes(set_id.as_bytes()),
+        Field::Bytes(commodity.as_bytes()),
+    ]
 }
 
 // The line of a commodity's figures.
+#[tactic(auto, unfolding(crate::specs::Statement::figures_line))]
 fn push_commodity(
     out: &mut Vec<u8>,
     account: &Name,
@@ -71,9 +36,10 @@ fn push_commodity(
     figures: &Figures,
 ) -> Result<(), AllocError>
     ensures { OnOk result (out.new.items
-        ≡ out.old.items ++ figures_line account.now set_id.now commodity.now figures.now) }
+        ≡ out.old.items ++ line (figures_line account.now set_id.now commodity.now figures.now)) }
 {
-    push_commodity_parts(out, account, set_id, commodity, figures)
+    let ids = ids_of(account, set_id, commodity);
+    push_line_of_numbers(out, "R", &ids, &figures.numbers())
 }
 
 /// Appends the line of an account for the commodity of a number, where it holds a contract of it, and else nothing
@@ -96,31 +62,22 @@ pub fn push_commodity_of(out: &mut Vec<u8>, row: &Row, number: usize) -> Result<
     )
 }
 
-#[tactic(auto, unfolding(crate::specs::near::LineForms::total_form))]
-fn push_total_parts(
-    out: &mut Vec<u8>,
-    account: &Name,
-    set_id: &Name,
-    numbers: &[i128],
-) -> Result<(), AllocError>
-    ensures { OnOk result (out.new.items ≡ out.old.items ++ total_form account.now set_id.now numbers.now) }
-{
-    push_start(out, b'T', account, set_id)?;
-    push_numbers(out, numbers)?;
-    out.push(b'\n')?;
-    Ok(())
-}
-
 // The last line of an account: its total, and the numbers behind it.
+#[tactic(auto, unfolding(crate::specs::Statement::total_line))]
 fn push_total(
     out: &mut Vec<u8>,
     account: &Name,
     set_id: &Name,
     numbers: &[i128],
 ) -> Result<(), AllocError>
-    ensures { OnOk result (out.new.items ≡ out.old.items ++ total_line account.now set_id.now numbers.now) }
+    ensures { OnOk result (out.new.items
+        ≡ out.old.items ++ line (total_line account.now set_id.now numbers.now)) }
 {
-    push_total_parts(out, account, set_id, numbers)
+    let ids = [
+        Field::Bytes(account.as_bytes()),
+        Field::Bytes(set_id.as_bytes()),
+    ];
+    push_line_of_numbers(out, "T", &ids, numbers)
 }
 
 // What an account has to bring after its option value, in minor units.
@@ -140,9 +97,9 @@ fn excess(total: Money, value: Money) -> i128
 /// Appends the last line of an account (docs/FORMATS.md, Statement: the T line). Where options have a value it has that of the
 /// account, too, and what follows from it. `Err` is want of memory.
 pub fn push_total_of(out: &mut Vec<u8>, row: &Row) -> Result<(), AllocError>
-    ensures { OnOk result (out.new.items ≡ out.old.items ++ total_line row.now.portfolio.account row.now.set.tables.set_id
+    ensures { OnOk result (out.new.items ≡ out.old.items ++ line (total_line row.now.portfolio.account row.now.set.tables.set_id
         (total_numbers row.now.set.tables (total_of row.now.set.tables row.now.portfolio)
-        (option_value_of row.now.set.tables row.now.portfolio.holdings))) }
+        (option_value_of row.now.set.tables row.now.portfolio.holdings)))) }
 {
     let total = row.total();
     if !row.set().tables().has_option_value() {

@@ -6,6 +6,7 @@ ghost use Rattle.param_check.specs.declared.faults.CheckFault.TheVariants as che
 ghost use Rattle.result_book.specs.declared.books.BookFault.TheVariants as book;
 ghost use Rattle.span_csv.specs.declared.faults.ParamFault.TheVariants as params;
 ghost use Rattle.span_csv.specs.declared.faults.PositionFault.TheVariants as positions;
+ghost use Rattle.span_money.specs.LineFields.{line};
 ghost use Rattle.statement.specs.FaultLines.{fault_line};
 ghost use Rattle.statement.specs.Statement.{figures_line, total_line};
 ghost use Rattle.statement.specs.declared.faults.SpanFault.TheVariants as span_fault;
@@ -126,7 +127,7 @@ fn lines_of_the_rest()
 
 // The line of a commodity and that of a total.
 fn lines_of_a_row()
-    ensures figures { figures_line (codes "X-1") (codes "D_1") (codes "AA") (record {
+    ensures figures { line (figures_line (codes "X-1") (codes "D_1") (codes "AA") (record {
       scan = pos 1200;
       active = 13;
       intra = pos 500;
@@ -134,10 +135,10 @@ fn lines_of_a_row()
       credit = pos 7;
       minimum = pos 0;
       requirement = pos 1733;
-    })
+    }))
         ≡ codes "R,X-1,D_1,AA,1200,13,500,40,7,0,1733\n" }
-    ensures total { total_line (codes "X-1") (codes "D_1") (pos 1733 ∷ []) ≡ codes "T,X-1,D_1,1733\n" }
-    ensures below_zero { total_line (codes "Y") (codes "D_1") (neg_ℤ (pos 5) ∷ []) ≡ codes "T,Y,D_1,-5\n" }
-    ensures with_value { total_line (codes "Z") (codes "D_2") (pos 1700 ∷ neg_ℤ (pos 480) ∷ pos 2180 ∷ pos 0 ∷ [])
+    ensures total { line (total_line (codes "X-1") (codes "D_1") (pos 1733 ∷ [])) ≡ codes "T,X-1,D_1,1733\n" }
+    ensures below_zero { line (total_line (codes "Y") (codes "D_1") (neg_ℤ (pos 5) ∷ [])) ≡ codes "T,Y,D_1,-5\n" }
+    ensures with_value { line (total_line (codes "Z") (codes "D_2") (pos 1700 ∷ neg_ℤ (pos 480) ∷ pos 2180 ∷ pos 0 ∷ []))
         ≡ codes "T,Z,D_2,1700,-480,2180,0\n" }
 {}

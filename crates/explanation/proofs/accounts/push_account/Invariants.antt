@@ -1,6 +1,6 @@
 use Rattle.std.proofs.Common.{◌≡◌, ◌++◌, flat_map}
 use Rattle.std.specs.List.{range_with_len}
-use Rattle.statement.specs.Statement.{line}
+use Rattle.span_money.specs.LineFields.{line}
 use Rattle.explanation.specs.Explanation.{commodity_lines}
 use Rattle.explanation.proofs.accounts.push_account.Given as goal
 

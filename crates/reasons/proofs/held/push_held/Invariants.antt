@@ -5,4 +5,4 @@ use Rattle.reasons.proofs.held.push_held.Given as goal
 
 abbrev pub invariant-loop-place : goal.invariant-loop-place
 invariant-loop-place l =
-    l.out.items ≡ l.fn.out.items ++ reasons_text l.head (map (held_reason l.tables) (take l.place l.held))
+    l.out.items ≡ l.fn.out.items ++ reasons_text l.ids (map (held_reason l.tables) (take l.place l.held))

@@ -22,7 +22,7 @@ loop-place-preserved c =
     let m = c.index-deltas-place.result in
     let r = c.index-rests-place.result in
     let lt : i < length months = omega (arith, ap length c.as_slice-deltas.ensures.value, c.loop-place-test.true) in
-    month_more months rests i m r c.args.head.now c.args.out.now.items _ _ c.as_slice-deltas.ensures.kept.rise c.requires lt
+    month_more months rests i m r c.args.ids.now c.args.out.now.items _ _ c.as_slice-deltas.ensures.kept.rise c.requires lt
     (c.index-deltas-place.is ∙ ap (λ xs. get_or xs i m) c.as_slice-deltas.ensures.value)
     (c.index-rests-place.is ∙ ap (λ xs. get_or xs i r) c.rests-rests.ensures.value) c.in_ok-push_month.ensures
     c.loop-place.invariant

@@ -6,4 +6,4 @@ use Rattle.reasons.proofs.months.push_months.Given as goal
 
 abbrev pub invariant-loop-place : goal.invariant-loop-place
 invariant-loop-place l =
-    l.out.items ≡ l.fn.out.items ++ reasons_text l.head (map month_reason (take l.place (months_shown l.months l.tiers.rests)))
+    l.out.items ≡ l.fn.out.items ++ reasons_text l.ids (map month_reason (take l.place (months_shown l.months l.tiers.rests)))

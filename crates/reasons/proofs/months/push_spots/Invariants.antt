@@ -7,4 +7,4 @@ use Rattle.reasons.proofs.months.push_spots.Given as goal
 abbrev pub invariant-loop-spot : goal.invariant-loop-spot
 invariant-loop-spot l =
     l.out.items
-    ≡ l.fn.out.items ++ reasons_text l.head (map spot_reason (spots_shown l.months l.tiers.rests (take l.spot-index l.spots)))
+    ≡ l.fn.out.items ++ reasons_text l.ids (map spot_reason (spots_shown l.months l.tiers.rests (take l.spot-index l.spots)))

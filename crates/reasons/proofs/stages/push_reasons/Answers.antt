@@ -24,7 +24,7 @@ returns c = λ holdings is.
     let commodity_is : commodity ≡ commodity_at t i =
     c.index-commodities-commodity.is ∙ ap (λ cs. get_or cs i commodity) c.commodities.ensures.value
     ∙ get_or_default t.commodities i commodity no_commodity c.requires.commodity in
-    reasons_are t holdings i c.args.head.now c.args.out.now.items _ _ _ _ _ _ held c.inter_records.result.now c.inters.result.now
+    reasons_are t holdings i c.args.ids.now c.args.out.now.items _ _ _ _ _ _ held c.inter_records.result.now c.inters.result.now
     c.deref.result.now line commodity held_is c.inter_records.ensures c.inters.ensures.value
     (c.deref.ensures.value ∙ ap (λ s. s.formed) stages) line_is commodity_is c.in_ok-push_held.ensures c.in_ok-push_scan.ensures
     (c.in_ok-push_month_reasons.ensures holdings held_is) c.in_ok-push_inters.ensures c.in_ok-push_credit.ensures

@@ -1,0 +1,36 @@
+-- A line that is written in parts is the line of its fields.
+use Rattle.std.proofs.Common.{◌≡◌, ℕ, List, [], ◌∷◌, ◌++◌, ◌+◌, flat_map, refl, sym, ap, ◌∙◌, arith}
+use Rattle.std.specs.List.{join_with_byte, range_with_len}
+use Rattle.std.proofs.lemmas.List.{append_assoc, append-nil, flat_map_more, map-id}
+use Rattle.std.proofs.lemmas.List.FromFn.{map-range_with_len_more}
+use Rattle.std.proofs.lemmas.Grind.{flat_map-append}
+use Rattle.span_money.specs.LineFields.{Line, field, line}
+
+-- a word, ids, fields and a line feed, one after another
+pub in_parts : (old word : List ℕ) (ids fields : List (List ℕ))
+    → ((old ++ word ++ flat_map field ids) ++ flat_map field fields) ++ 10 ∷ []
+    ≡ old ++ line (record { word = word; fields = ids ++ fields })
+in_parts old word ids fields =
+    grouped (flat_map field ids) (flat_map field fields) (10 ∷ [])
+    ∙ ap (λ t. old ++ (word ++ (t ++ 10 ∷ []))) (sym (flat_map-append field ids fields)) where
+      grouped : (i f e : List ℕ) → ((old ++ word ++ i) ++ f) ++ e ≡ old ++ (word ++ ((i ++ f) ++ e))
+      grouped i f e = simp append_assoc refl
+
+-- with a comma between each two, the first field and the others are the first, and each other one with its comma in front
+pub joined : (first : List ℕ) (rest : List (List ℕ)) → join_with_byte 44 (first ∷ rest) ≡ first ++ flat_map field rest
+joined first [] = sym (append-nil first)
+joined first (x ∷ rest) = ap (λ t. first ++ (44 ∷ t)) (joined x rest)
+
+pub line_joined : (l : Line) → line l ≡ join_with_byte 44 (l.word ∷ l.fields) ++ 10 ∷ []
+line_joined l =
+    sym (append_assoc l.word (flat_map field l.fields) (10 ∷ [])) ∙ ap (λ t. t ++ 10 ∷ []) (sym (joined l.word l.fields))
+
+-- what is written of the numbers below n, and then of n
+pub numbered_more : (f : ℕ → List ℕ) (old : List ℕ) (n : ℕ)
+    → (old ++ flat_map f (range_with_len 0 n)) ++ f n ≡ old ++ flat_map f (range_with_len 0 (n + 1))
+numbered_more f old n =
+    flat_map_more f old (range_with_len 0 n) n ∙ ap (λ ns. old ++ flat_map f ns) (sym one_more) where
+      one_more : range_with_len 0 (n + 1) ≡ range_with_len 0 n ++ n ∷ []
+      one_more =
+          sym (map-id (range_with_len 0 (n + 1))) ∙ map-range_with_len_more (λ k. k) 0 n n (omega arith)
+          ∙ ap (λ ns. ns ++ n ∷ []) (map-id (range_with_len 0 n))
