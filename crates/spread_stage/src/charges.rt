@@ -29,13 +29,22 @@ pub const MAX_DELIVERY_CHARGE: u128 = 2
     * MAX_SPOT_MONTHS as u128
     / WHOLE_DELTA;
 
-/// The intracommodity charge of the spreads formed, in minor units, rounded up once.
+/// The intracommodity charge, in minor units, of the exact sum of spreads times rates in 10^-4 minor units: rounded up once.
 #[tactic(auto, unfolding(crate::specs::Charges::intra_charge))]
+pub fn rounded_charge(exact: u128) -> Money
+    requires { exact ≤ MAX_RATE * MAX_UNITS }
+    ensures value { result ≡ pos (intra_charge exact) }
+    ensures bound { nat_abs result ≤ MAX_INTRA_CHARGE }
+{
+    Money::new(ceil_div(exact, WHOLE_SPREAD) as i128)
+}
+
+/// The intracommodity charge of the spreads formed, in minor units, rounded up once.
 pub fn intra_charge(tiers: &TierState) -> Money
     ensures value { result ≡ pos (intra_charge tiers.now.charge) }
     ensures bound { nat_abs result ≤ MAX_INTRA_CHARGE }
 {
-    Money::new(ceil_div(tiers.charge(), WHOLE_SPREAD) as i128)
+    rounded_charge(tiers.charge())
 }
 
 /// A spot month's delta: what spreads used of it and what they left, both without a sign in units of 10^-8, and the month's

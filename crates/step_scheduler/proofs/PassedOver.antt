@@ -1,6 +1,7 @@
 -- The commodities are loaded by their numbers; those of which nothing is held change nothing.
-use Rattle.std.proofs.Common.{◌≡◌, ℕ, zero, suc, ◌+◌, ◌-◌, ◌<◌, ◌≤◌, List, [], ◌∷◌, ◌++◌, length, map, sym, ap, ◌∙◌, append_assoc, slice_set, zero-add, arith}
-use Rattle.std.specs.Prelude.{ℤ, ◌+ℤ◌, pos, replicate}
+use Rattle.std.proofs.Common.{◌≡◌, ℕ, zero, suc, ◌+◌, ◌-◌, ◌<◌, ◌≤◌, List, [], ◌∷◌, ◌++◌, length, map}
+use Rattle.std.proofs.Common.{sym, ap, ◌∙◌, append_assoc, slice_set, zero-add, arith}
+use Rattle.std.specs.Prelude.{◌+ℤ◌, pos, replicate}
 use Rattle.std.specs.List.{range_with_len}
 use Rattle.std.proofs.Math.IntN.{+ℤ_idr}
 use Rattle.std.proofs.lemmas.List.FromFn.{map-range_with_len_more}
@@ -8,7 +9,7 @@ use Rattle.span_tables.specs.Tables.{AcceptedTables}
 use Rattle.span_tables.specs.declared.portfolios.Holding.{Holding}
 use Rattle.inter_credit.specs.Credits.{unspread_line}
 use Rattle.inter_credit.specs.declared.state.InterLine.{InterLine}
-use Rattle.plan_ir.specs.Figures.{held_at, line_of, net_value_at, value_to}
+use Rattle.plan_ir.specs.Figures.{held_at, line_of, value_to}
 use Rattle.plan_compiler.specs.Meaning.{lines_loaded}
 use Rattle.plan_compiler.proofs.Meanings.{load_more, value_more}
 use Rattle.step_scheduler.specs.declared.parts.Part.{Part}

@@ -1,11 +1,11 @@
 -- A run in which every step is finished leaves nothing to do.
-use Rattle.std.proofs.Common.{◌≡◌, ◌<◌, ℕ, length, refl, true, false, List, [], ◌∷◌, sym, ap, ◌∙◌, arith, All, if◌then◌else◌, ◌+◌}
+use Rattle.std.proofs.Common.{◌≡◌, ◌<◌, ℕ, length, refl, List, [], ◌∷◌, sym, ◌∙◌, arith, All}
 use Rattle.std.proofs.lemmas.Bool.{false≢true}
 use Rattle.std.proofs.lemmas.List.Elements.{All-head, All-tail}
-use Rattle.plan_ir.specs.Plans.{StepView, inputs_at}
+use Rattle.plan_ir.specs.Plans.{inputs_at}
 use Rattle.plan_compiler.specs.Compiled.{IsCompiled, SetView}
 use Rattle.step_scheduler.specs.declared.events.Event.{Event}
-use Rattle.step_scheduler.specs.Runs.{AllFinished, IsReady, IsRun, IsUnderWay, is_finished, unfinished}
+use Rattle.step_scheduler.specs.Runs.{IsReady, IsUnderWay, unfinished}
 use Rattle.step_scheduler.specs.near.Whole.{IsCourse}
 use Rattle.step_scheduler.proofs.RunOrder.{finished_was_taken}
 

@@ -1,10 +1,12 @@
 -- Figures are written over those of nothing held.
-use Rattle.std.proofs.Common.{◌≡◌, ℕ, ◌+◌, ◌<◌, ◌≤◌, List, length, sym, ap, ◌∙◌, arith, slice_set, subst, inl, inr, length-set, get_or-set_same, get_or-set_other}
+use Rattle.std.proofs.Common.{◌≡◌, ℕ, ◌+◌, ◌<◌, ◌≤◌, List, length, sym, ap, ◌∙◌, arith, slice_set, subst, inl, inr}
+use Rattle.std.proofs.Common.{length-set, get_or-set_same, get_or-set_other}
 use Rattle.std.specs.Prelude.{replicate, pos, slice_index_or}
 use Rattle.std.proofs.lemmas.Bool.{cases_eq, cases_lt}
 use Rattle.std.proofs.lemmas.List.{get_or-replicate, length-replicate}
 use Rattle.span_tables.specs.Tables.{AcceptedTables}
 use Rattle.span_tables.specs.declared.portfolios.Holding.{Holding}
+use Rattle.spread_stage.specs.Charges.{intra_charge}
 use Rattle.inter_credit.specs.Requirement.{requirement_of}
 use Rattle.inter_credit.specs.States.{credit_at}
 use Rattle.inter_credit.specs.declared.state.InterLine.{InterLine}
@@ -21,11 +23,11 @@ pub figures_are : (t : AcceptedTables) (holdings : List Holding) (credit : ℕ) 
     → ◌≡◌ {A = Figures} (record {
       scan = (p.scan).risk;
       active = (p.scan).active;
-      intra = p.intra;
+      intra = pos (intra_charge p.charge);
       delivery = p.delivery;
       credit = pos credit;
       minimum = p.minimum;
-      requirement = requirement_of (p.scan).risk p.intra p.delivery (pos credit) p.minimum;
+      requirement = requirement_of (p.scan).risk (pos (intra_charge p.charge)) p.delivery (pos credit) p.minimum;
     }) (figures_of t holdings p.commodity)
 unfolding figures_of
 figures_are t holdings credit p lines is l e =
@@ -33,11 +35,12 @@ figures_are t holdings credit p lines is l e =
     λ k. record {
       scan = (is.scan k).risk;
       active = (is.scan k).active;
-      intra = is.intra k;
+      intra = pos (intra_charge (is.charge k));
       delivery = is.delivery k;
       credit = pos (credit_is k);
       minimum = is.minimum k;
-      requirement = requirement_of (is.scan k).risk (is.intra k) (is.delivery k) (pos (credit_is k)) (is.minimum k);
+      requirement = requirement_of (is.scan k).risk (pos (intra_charge (is.charge k))) (is.delivery k) (pos (credit_is k))
+          (is.minimum k);
     }
 
 -- nothing is written yet

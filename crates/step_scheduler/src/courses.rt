@@ -57,7 +57,8 @@ fn run(alloc: Global, board: &mut Stepped) -> Result<(), AllocError>
 }
 
 impl Course {
-    /// A run of a set's plan: each step is the one that a board hands out next, and is finished before the next is taken.
+    /// A run of a set's plan, in which the lowest step that is ready always comes next: each step is the one that a board hands
+    /// out next, and is finished before the next is taken.
     /// `Err` is want of memory.
     pub fn of(alloc: Global, set: &Arc<CompiledSet>) -> Result<Course, AllocError>
         ensures { IfOk result (λ c. c.set ≡ arc_value set.now) }

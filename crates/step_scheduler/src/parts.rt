@@ -2,12 +2,14 @@
 //!
 //! Before each evaluation the watch of the walk is passed, with the number of its step: each step of a held commodity here,
 //! and each of what is not held at its place in the order.
-ghost use Rattle.std.specs.Prelude.{◌≡◌, ◌<◌, ◌≤◌, ◌+ℤ◌, All, IfOk, List, fold, length, nat_abs, pos, replicate, slice_set, true};
+ghost use Rattle.std.specs.Prelude.{◌≡◌, ◌*◌, ◌<◌, ◌≤◌, ◌+ℤ◌, All, IfOk, List, fold, length, nat_abs, pos, replicate, slice_set, true};
 ghost use Rattle.span_money.specs.declared.amounts.TheConstants.{MAX_MONEY};
 ghost use Rattle.span_tables.specs.Accepted.{IsInter, IsIntra};
 ghost use Rattle.span_tables.specs.Holdings.{fits};
 ghost use Rattle.span_tables.specs.Tables.{has_option_value};
 ghost use Rattle.span_tables.specs.declared.portfolios.Holding.{Holding};
+ghost use Rattle.span_tables.specs.declared.limits.TheConstants.{MAX_RATE, MAX_UNITS};
+ghost use Rattle.spread_stage.specs.Charges.{intra_charge};
 ghost use Rattle.spread_stage.specs.Months.{Shrinks};
 ghost use Rattle.spread_stage.specs.Spreads.{spread_both_ways};
 ghost use Rattle.spread_stage.specs.declared.months.MonthUnits.{MonthUnits};
@@ -35,19 +37,19 @@ use span_tables::held::{Held, gather_held};
 use span_tables::portfolios::Portfolio;
 use span_tables::records::{Inter, Intra};
 use span_tables::tables::Tables;
-use spread_stage::charges::{delivery, intra_charge};
+use spread_stage::charges::{delivery, rounded_charge};
 use spread_stage::deltas::month_deltas;
 use spread_stage::tiers::{TierState, start};
 use std::alloc::{AllocError, Global};
 
-// What a held commodity has before any spread between commodities: its number, its scan, its net delta, its amounts, and
-// its option value where options have one.
+// What a held commodity has before any spread between commodities: its number, its scan, its net delta, the exact sum of its
+// spreads times their rates in 10^-4 minor units, its amounts, and its option value where options have one.
 #[derive(Clone, Copy)]
 pub(crate) struct Part {
     pub(crate) commodity: usize,
     pub(crate) scan: Scan,
     pub(crate) net: Units,
-    pub(crate) intra: Money,
+    pub(crate) charge: u128,
     pub(crate) delivery: Money,
     pub(crate) minimum: Money,
     pub(crate) worth: Money,
@@ -111,7 +113,7 @@ fn part_of<W: Watch>(
         commodity,
         scan,
         net: months.net(),
-        intra: intra_charge(&tiers),
+        charge: tiers.charge(),
         delivery,
         minimum,
         worth: worth_of(tables, held, walk),
@@ -223,34 +225,29 @@ pub(crate) fn lines_of<W: Watch>(
 // The figures of a commodity, from its part and its credit.
 fn figures_with(part: &Part, credit: Money) -> Figures
     requires risk { nat_abs (part.now.scan).risk ≤ MAX_PART }
-    requires intra { nat_abs part.now.intra ≤ MAX_PART }
+    requires charge { part.now.charge ≤ MAX_RATE * MAX_UNITS }
     requires delivery { nat_abs part.now.delivery ≤ MAX_PART }
     requires credit { nat_abs credit ≤ MAX_PART }
     requires minimum { nat_abs part.now.minimum ≤ MAX_PART }
-    ensures { result ≡ record {
+    ensures { let intra = pos (intra_charge part.now.charge) in result ≡ record {
       scan = (part.now.scan).risk;
       active = (part.now.scan).active;
-      intra = part.now.intra;
+      intra = intra;
       delivery = part.now.delivery;
       credit = credit;
       minimum = part.now.minimum;
-      requirement = requirement_of (part.now.scan).risk part.now.intra part.now.delivery credit part.now.minimum;
+      requirement = requirement_of (part.now.scan).risk intra part.now.delivery credit part.now.minimum;
     } }
 {
+    let intra = rounded_charge(part.charge);
     Figures {
         scan: part.scan.risk,
         active: part.scan.active,
-        intra: part.intra,
+        intra,
         delivery: part.delivery,
         credit,
         minimum: part.minimum,
-        requirement: requirement(
-            part.scan.risk,
-            part.intra,
-            part.delivery,
-            credit,
-            part.minimum,
-        ),
+        requirement: requirement(part.scan.risk, intra, part.delivery, credit, part.minimum),
     }
 }
 

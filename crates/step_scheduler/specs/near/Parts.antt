@@ -3,7 +3,6 @@ use Rattle.std.specs.Prelude.{◌≡◌, ℕ, ◌+◌, ◌<◌, ◌≤◌, true,
 use Rattle.span_tables.specs.Tables.{AcceptedTables, has_option_value}
 use Rattle.span_tables.specs.declared.held.CommodityHeld.{CommodityHeld}
 use Rattle.span_tables.specs.declared.portfolios.Holding.{Holding}
-use Rattle.spread_stage.specs.Charges.{intra_charge}
 use Rattle.spread_stage.specs.Deltas.{net_delta}
 use Rattle.plan_ir.specs.Figures.{delivery_at, deltas_at, figures_of, held_at, minimum_at, net_value_at, scan_at, tiers_at}
 use Rattle.plan_ir.specs.declared.figures.Figures.{Figures}
@@ -36,7 +35,7 @@ AreHeldFrom t holdings from (h ∷ hs) =
 pub record IsPart (t : AcceptedTables) (holdings : List Holding) (p : Part) : Type 0 where
   pub scan : p.scan ≡ scan_at t holdings p.commodity
   pub net : p.net ≡ net_delta (deltas_at t holdings p.commodity)
-  pub intra : p.intra ≡ pos (intra_charge (tiers_at t holdings p.commodity).charge)
+  pub charge : p.charge ≡ (tiers_at t holdings p.commodity).charge
   pub delivery : p.delivery ≡ pos (delivery_at t holdings p.commodity)
   pub minimum : p.minimum ≡ pos (minimum_at t holdings p.commodity)
   pub worth : has_option_value t ≡ true → p.worth ≡ net_value_at t holdings p.commodity

@@ -1,5 +1,5 @@
 -- What runs keep in which every step is taken and finished.
-use Rattle.std.specs.Prelude.{◌≡◌, ℕ, List, length, ℤ}
+use Rattle.std.specs.Prelude.{◌≡◌, List, length, ℤ}
 use Rattle.plan_ir.specs.Figures.{option_value_of, total_to}
 use Rattle.plan_ir.specs.declared.figures.Figures.{Figures}
 use Rattle.plan_compiler.specs.Compiled.{Fits, IsCompiled, SetView}

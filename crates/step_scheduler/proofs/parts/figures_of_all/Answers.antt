@@ -1,9 +1,8 @@
-use Rattle.std.proofs.Common.{◌≡◌, ◌<◌, ◌≤◌, length, refl, sym, ap, ◌∙◌, arith}
-use Rattle.plan_ir.specs.Figures.{figures_of}
+use Rattle.std.proofs.Common.{◌≤◌, length, refl, ap, ◌∙◌, arith}
 use Rattle.plan_ir.proofs.BoundLaws.{length-inter_lines}
 use Rattle.inter_credit.specs.States.{credit_at}
 use Rattle.step_scheduler.proofs.HeldLemmas.{next_part, no_part}
-use Rattle.step_scheduler.proofs.PartBounds.{delivery_part_small, intra_part_small, minimum_part_small, risk_small}
+use Rattle.step_scheduler.proofs.PartBounds.{charge_part_small, delivery_part_small, minimum_part_small, risk_small}
 use Rattle.step_scheduler.proofs.WrittenLemmas.{all_written, figures_are, figures_over, none_written, one_written}
 use Rattle.step_scheduler.proofs.parts.figures_of_all.Goals as goal
 
@@ -28,15 +27,15 @@ figures_with-written-requires-clause-risk g c =
     let limits = rw c.tables.ensures.tables at c.commodities-count.ensures.limits in
     risk_small t holdings limits c.holdings-kept.ensures.kept c.requires.fits p here.1
 
-pub figures_with-written-requires-clause-intra : goal.figures_with-written-requires-clause-intra
-figures_with-written-requires-clause-intra g c =
+pub figures_with-written-requires-clause-charge : goal.figures_with-written-requires-clause-charge
+figures_with-written-requires-clause-charge g c =
     let t = (c.args.set.now).tables in
     let holdings = (c.args.portfolio.now).holdings in
     let p = c.part-item.result in
     let here = next_part t holdings c.args.parts.now c.loop-part.part-index c.loop-part.next p c.loop-part-test.true c.part-item.is
     c.loop-part.invariant.left in
     let limits = rw c.tables.ensures.tables at c.commodities-count.ensures.limits in
-    intra_part_small t holdings limits c.holdings-kept.ensures.kept c.requires.fits p here.1
+    charge_part_small t holdings limits c.holdings-kept.ensures.kept c.requires.fits p here.1
 
 pub figures_with-written-requires-clause-delivery : goal.figures_with-written-requires-clause-delivery
 figures_with-written-requires-clause-delivery g c =

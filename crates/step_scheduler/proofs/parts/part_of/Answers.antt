@@ -1,8 +1,8 @@
-use Rattle.std.proofs.Common.{◌≡◌, ap, ◌∙◌, sym, get_or, length}
+use Rattle.std.proofs.Common.{◌≡◌, ap, ◌∙◌, get_or}
 use Rattle.std.specs.Prelude.{pos}
 use Rattle.std.proofs.lemmas.List.{get_or_default}
 use Rattle.scan_risk.specs.Scenarios.{scan_of, scenario_sums}
-use Rattle.spread_stage.specs.Charges.{delivery_charge, intra_charge}
+use Rattle.spread_stage.specs.Charges.{delivery_charge}
 use Rattle.spread_stage.specs.Deltas.{month_deltas, net_delta}
 use Rattle.inter_credit.specs.OptionValue.{net_value_of}
 use Rattle.inter_credit.specs.Requirement.{minimum_of}
@@ -25,7 +25,7 @@ returns-clause-part g c = λ holdings is.
     record {
       scan = c.scan-scan.ensures.value ∙ ap scan_of (c.sums-sums.ensures.value ∙ ap scenario_sums is);
       net = c.net.ensures.value ∙ ap net_delta months;
-      intra = c.intra_charge.ensures.value ∙ ap (λ x. pos (intra_charge x.charge)) tiers;
+      charge = c.charge.ensures.value ∙ ap (λ x. x.charge) tiers;
       delivery = c.delivery-delivery.ensures.value
           ∙ (λ k. pos (delivery_charge (months k) (tiers k).rests (c.spots.ensures.value k)));
       minimum = c.minimum-minimum.ensures.value ∙ (λ k. pos (minimum_of (commodity_is k).minimum_rate (commodity_is k).method (is k)));

@@ -1,6 +1,5 @@
-use Rattle.std.proofs.Common.{◌≡◌, ◌+◌, ◌<◌, ◌≤◌, [], ◌∷◌, ◌++◌, length, refl, sym, ap, subst, ◌∙◌, append_assoc, arith}
+use Rattle.std.proofs.Common.{◌≡◌, ◌+◌, [], ◌∷◌, ◌++◌, sym, ap, subst, ◌∙◌, append_assoc, arith}
 use Rattle.std.proofs.lemmas.List.{append-nil}
-use Rattle.span_tables.specs.HeldCommodities.{AreHeldCommodities}
 use Rattle.step_scheduler.specs.near.Parts.{AreHeldFrom, ArePartsFrom, IsNext}
 use Rattle.step_scheduler.proofs.HeldLemmas.{held_from, next_held, no_held}
 use Rattle.step_scheduler.proofs.parts.parts_of.Goals as goal

@@ -1,8 +1,7 @@
-use Rattle.std.proofs.Common.{◌≡◌, ◌<◌, ◌≤◌, true, length, sym, ap, subst, ◌∙◌, arith}
-use Rattle.std.specs.Prelude.{◌+ℤ◌, nat_abs}
-use Rattle.span_money.specs.declared.amounts.TheConstants.{MAX_MONEY}
+use Rattle.std.proofs.Common.{◌≡◌, true, length, sym, ◌∙◌}
+use Rattle.std.specs.Prelude.{◌+ℤ◌}
 use Rattle.span_tables.specs.Tables.{has_option_value}
-use Rattle.plan_ir.specs.Figures.{net_value_at, option_value_of, value_to}
+use Rattle.plan_ir.specs.Figures.{value_to}
 use Rattle.plan_ir.proofs.BoundLaws.{next_value_is_money}
 use Rattle.plan_compiler.proofs.Meanings.{value_more}
 use Rattle.step_scheduler.proofs.HeldLemmas.{next_part, no_part}
