@@ -98,10 +98,9 @@ fn push_month_reasons(
 {
     let months = month_deltas(alloc, held)?;
     let mut tiers = start(alloc, &months)?;
-    let intras = tables.intras(commodity);
-    let formed = form_intras(alloc, &mut tiers, intras)?;
+    let intras = form_intras(alloc, &mut tiers, tables.intras(commodity))?;
     push_months(out, head, &months, &tiers)?;
-    push_intras(out, head, tables.priorities(commodity), intras, &formed)?;
+    push_intras(out, head, &intras)?;
     push_spots(out, head, &months, &tiers, tables.spots(commodity))?;
     Ok(())
 }
@@ -126,14 +125,7 @@ pub fn push_reasons(
     push_held(out, head, tables, held)?;
     push_scan(out, head, held)?;
     push_month_reasons(alloc, out, head, tables, commodity, held)?;
-    push_inters(
-        out,
-        head,
-        commodity,
-        tables.inter_records(),
-        tables.inters(),
-        &stages.formed,
-    )?;
+    push_inters(out, head, commodity, tables.inters(), &stages.formed)?;
     push_credit(out, head, &stages.state.lines()[commodity])?;
     push_short(out, head, &tables.commodities()[commodity], held)?;
     Ok(())
