@@ -9,7 +9,7 @@ ghost use Rattle.reasons.specs.Shown.{intra_in, intras_shown, months_shown, spot
 ghost use Rattle.reasons.specs.near.Fields.{reason_text, reasons_text};
 
 use crate::fields::{Field, push_line};
-use crate::shown::{ShownIntra, ShownMonth, ShownSpot};
+use crate::shown::{ShownIntra, ShownMonth};
 use crate::words::long_side;
 use span_tables::records::{Intra, Spot};
 use span_tables::sides::Direction;
