@@ -10,6 +10,7 @@ use Rattle.inter_credit.specs.declared.state.InterLine.{InterLine}
 -- a spread of one commodity against another, with their ratios
 abbrev pub spread_of : ℕ → ℕ → ℕ → ℕ → ℕ → Inter
 spread_of basis_points first first_ratio second second_ratio = record {
+  priority = 1;
   basis_points = basis_points;
   legs = record { commodity = first; side = side.A; ratio = first_ratio }
       ∷ record { commodity = second; side = side.B; ratio = second_ratio } ∷ [];

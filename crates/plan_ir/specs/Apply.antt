@@ -34,10 +34,10 @@ input inputs place = slice_index_or inputs place (value.Total (pos 0))
 
 -- spreads without legs, for places past the end
 abbrev pub no_intra : Intra
-no_intra = record { rate = 0; legs = [] }
+no_intra = record { priority = 0; rate = 0; legs = [] }
 
 abbrev pub no_inter : Inter
-no_inter = record { basis_points = 0; legs = [] }
+no_inter = record { priority = 0; basis_points = 0; legs = [] }
 
 -- the spread of a commodity at a place
 abbrev pub intra_at : AcceptedTables → ℕ → ℕ → Intra

@@ -1,17 +1,14 @@
 -- The charges of a commodity are the sums of the charges that its lines show.
-use Rattle.std.proofs.Common.{◌≡◌, ℕ, ◌+◌, ◌*◌, ◌^◌, Bool, true, false, cond, List, [], ◌∷◌, length, refl, sym, ap}
+use Rattle.std.proofs.Common.{◌≡◌, ℕ, ◌+◌, ◌*◌, ◌^◌, Bool, true, false, cond, List, [], ◌∷◌, refl, sym, ap}
 use Rattle.std.proofs.Common.{◌∙◌, arith, map, filter, sum_by}
-use Rattle.std.specs.Prelude.{◌==◌, bytes_eq, fold, nat_abs, not, pos}
+use Rattle.std.specs.Prelude.{◌==◌, fold, nat_abs, not, pos}
 use Rattle.std.specs.Int.{div_ceil}
 use Rattle.std.proofs.Math.Nat.{add-mul, zero-mul}
 use Rattle.std.proofs.lemmas.Bool.Decides.{nat_tests}
-use Rattle.std.proofs.lemmas.List.{length-map}
 use Rattle.std.proofs.lemmas.List.Sums.{sum_by-append, sum_by-cons}
-use Rattle.span_tables.specs.Accepted.{commodity_id}
-use Rattle.span_tables.specs.Tables.{AcceptedTables, intra_spread, intras_of, priorities_of}
+use Rattle.span_tables.specs.Tables.{AcceptedTables}
 use Rattle.span_tables.specs.declared.portfolios.Holding.{Holding}
 use Rattle.span_tables.specs.declared.records.Intra.{Intra}
-use Rattle.span_tables.specs.declared.records.IntraRecord.{IntraRecord}
 use Rattle.span_tables.specs.declared.records.Spot.{Spot}
 use Rattle.span_tables.specs.declared.sides.Direction.{Direction}
 use Rattle.span_tables.specs.declared.sides.Direction.TheVariants.{ALong, AShort}
@@ -27,7 +24,7 @@ use Rattle.spread_stage.proofs.SizeLemmas.{left_le}
 use Rattle.spread_stage.proofs.SpreadLemmas.{charge-spread_both_ways}
 use Rattle.plan_ir.specs.Figures.{deltas_at, figures_of, intras_at, spots_at, tiers_at}
 use Rattle.reasons.specs.Reasons.{intras_shown_at, spots_shown_at}
-use Rattle.reasons.specs.Shown.{intra_charge, intra_in, intra_ways, intras_formed, intras_shown, spot_charge, spots_shown}
+use Rattle.reasons.specs.Shown.{intra_charge, intra_in, intra_ways, intras_shown, spot_charge, spots_shown}
 use Rattle.reasons.specs.declared.shown.ShownIntra.{ShownIntra}
 use Rattle.reasons.specs.declared.shown.ShownSpot.{ShownSpot}
 
@@ -40,49 +37,36 @@ shown_if true n rate s e is =
 shown_if false n rate s e is = let all = sum_by-cons intra_charge s [] in omega (arith, all, is)
 
 -- what is shown of a spread in a direction is charged in full
-charge_in : (priority rate : ℕ) (d : Direction) (n : ℕ) → sum_by intra_charge (intra_in priority rate d n) ≡ n * rate
-charge_in priority rate d n =
-    shown_if (n == 0) n rate (record { priority = priority; direction = d; formed = n; rate = rate }) refl refl
+charge_in : (s : Intra) (d : Direction) (n : ℕ) → sum_by intra_charge (intra_in s d n) ≡ n * s.rate
+charge_in s d n =
+    shown_if (n == 0) n s.rate (record { priority = s.priority; direction = d; formed = n; rate = s.rate }) refl refl
 
-charge_ways : (priority rate : ℕ) (f : SpreadsFormed)
-    → sum_by intra_charge (intra_ways priority rate f) ≡ (f.a_long + f.a_short) * rate
-charge_ways priority rate f =
-    let all = sum_by-append intra_charge (intra_in priority rate ALong f.a_long) (intra_in priority rate AShort f.a_short) in
-    let long = charge_in priority rate ALong f.a_long in
-    let short = charge_in priority rate AShort f.a_short in
-    let both = add-mul f.a_long f.a_short rate in
+charge_ways : (s : Intra) (f : SpreadsFormed) → sum_by intra_charge (intra_ways s f) ≡ (f.a_long + f.a_short) * s.rate
+charge_ways s f =
+    let all = sum_by-append intra_charge (intra_in s ALong f.a_long) (intra_in s AShort f.a_short) in
+    let long = charge_in s ALong f.a_long in
+    let short = charge_in s AShort f.a_short in
+    let both = add-mul f.a_long f.a_short s.rate in
     omega (arith, all, long, short, both)
 
 -- the charge after some spreads is what was charged before, more by what is shown of them
-charges_shown : (priorities : List ℕ) (spreads : List Intra) (t : TierRests) → length priorities ≡ length spreads
-    → (fold spread_both_ways t spreads).charge
-    ≡ t.charge + sum_by intra_charge (intras_shown priorities spreads (intras_formed spreads t))
-charges_shown [] [] t e = omega arith
-charges_shown [] (s ∷ spreads) t e = absurd (omega (arith, e))
-charges_shown (p ∷ priorities) [] t e = absurd (omega (arith, e))
-charges_shown (p ∷ priorities) (s ∷ spreads) t e =
+charges_shown : (spreads : List Intra) (t : TierRests)
+    → (fold spread_both_ways t spreads).charge ≡ t.charge + sum_by intra_charge (intras_shown spreads t)
+charges_shown [] t = omega arith
+charges_shown (s ∷ spreads) t =
     let next = spread_both_ways t s in
-    let others = intras_shown priorities spreads (intras_formed spreads next) in
-    let rest = charges_shown priorities spreads next (omega (arith, e)) in
+    let rest = charges_shown spreads next in
     let first = charge-spread_both_ways t s in
-    let here = charge_ways p s.rate (formed_both t s) in
-    let all = sum_by-append intra_charge (intra_ways p s.rate (formed_both t s)) others in
+    let here = charge_ways s (formed_both t s) in
+    let all = sum_by-append intra_charge (intra_ways s (formed_both t s)) (intras_shown spreads next) in
     omega (arith, rest, first, here, all)
-
--- there are as many priorities as spreads
-as_many : (t : AcceptedTables) (id : List ℕ) → length (priorities_of t id) ≡ length (intras_of t id)
-unfolding intras_of
-as_many t id =
-    let of_id = filter (λ (s : IntraRecord). bytes_eq s.commodity id) t.intras in
-    length-map of_id (λ (s : IntraRecord). s.priority) ∙ sym (length-map of_id (intra_spread t.tiers))
 
 pub intra_shown : (t : AcceptedTables) (holdings : List Holding) (c : ℕ)
     → (figures_of t holdings c).intra ≡ pos (div_ceil (sum_by intra_charge (intras_shown_at t holdings c)) (10 ^ 4))
 unfolding figures_of after_spreads stage.intra_charge
 intra_shown t holdings c =
-    let id = commodity_id t c in
     let all : (tiers_at t holdings c).charge ≡ sum_by intra_charge (intras_shown_at t holdings c) =
-    let e = charges_shown (priorities_of t id) (intras_at t c) (unspread (deltas_at t holdings c)) (as_many t id) in
+    let e = charges_shown (intras_at t c) (unspread (deltas_at t holdings c)) in
     omega (arith, e) in
     ap (λ n. pos (div_ceil n (10 ^ 4))) all
 

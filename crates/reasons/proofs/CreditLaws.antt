@@ -5,7 +5,6 @@ use Rattle.std.specs.Prelude.{All, Some, ◌==◌, ℤ, ◌+ℤ◌, find, fold, 
 use Rattle.std.specs.List.{list_any}
 use Rattle.std.proofs.Math.Nat.{add-mul, zero-mul}
 use Rattle.std.proofs.lemmas.Bool.Decides.{nat_tests}
-use Rattle.std.proofs.lemmas.List.{length-map}
 use Rattle.std.proofs.lemmas.List.Elements.{All-head, All-tail}
 use Rattle.std.proofs.lemmas.List.Folds.{fold-map}
 use Rattle.std.proofs.lemmas.List.FromFn.{length-map-range_with_len}
@@ -13,11 +12,10 @@ use Rattle.std.proofs.lemmas.List.Sums.{sum_by-append, sum_by-cons}
 use Rattle.span_money.specs.Numbers.{int_sum_by}
 use Rattle.span_tables.specs.Accepted.{IsInter, IsWithinLimits}
 use Rattle.span_tables.specs.Names.{has_repeat}
-use Rattle.span_tables.specs.Tables.{AcceptedTables, inter_spread, inters_of}
+use Rattle.span_tables.specs.Tables.{AcceptedTables, inters_of}
 use Rattle.span_tables.specs.declared.portfolios.Holding.{Holding}
 use Rattle.span_tables.specs.declared.records.CommodityLeg.{CommodityLeg}
 use Rattle.span_tables.specs.declared.records.Inter.{Inter}
-use Rattle.span_tables.specs.declared.records.InterRecord.{InterRecord}
 use Rattle.span_tables.specs.declared.sides.Direction.{Direction}
 use Rattle.span_tables.specs.declared.sides.Direction.TheVariants.{ALong, AShort}
 use Rattle.span_tables.specs.declared.sides.SpreadsFormed.{SpreadsFormed}
@@ -32,7 +30,7 @@ use Rattle.inter_credit.proofs.WeightLaws.{weight-inter_both_ways}
 use Rattle.plan_ir.specs.Figures.{deltas_at, inter_lines, line_of, loaded_lines, scan_at, tiers_at}
 use Rattle.plan_compiler.proofs.StageLemmas.{kept_at, loaded_at}
 use Rattle.reasons.specs.Reasons.{inters_shown_at, line_after_all, months_shown_at}
-use Rattle.reasons.specs.Shown.{inter_in, inter_ways, inters_formed, inters_shown, ratio_in, weight_of}
+use Rattle.reasons.specs.Shown.{inter_in, inter_ways, inters_shown, ratio_in, weight_of}
 use Rattle.reasons.specs.declared.shown.ShownInter.{ShownInter}
 use Rattle.reasons.specs.declared.shown.ShownMonth.{ShownMonth}
 
@@ -58,26 +56,29 @@ shown_if true n ratio bp s e is =
 shown_if false n ratio bp s e is = let all = sum_by-cons weight_of s [] in omega (arith, all, is)
 
 -- what is shown of a spread in a direction has its whole weight
-weight_in : (priority bp : ℕ) (d : Direction) (n ratio : ℕ) → sum_by weight_of (inter_in priority bp d n ratio) ≡ n * ratio * bp
-weight_in priority bp d n ratio =
+weight_in : (s : Inter) (ratio : ℕ) (d : Direction) (n : ℕ)
+    → sum_by weight_of (inter_in s ratio d n) ≡ n * ratio * s.basis_points
+weight_in s ratio d n =
+    let bp = s.basis_points in
     shown_if (n == 0) n ratio bp
-    (record { priority = priority; direction = d; formed = n; used = n * ratio; basis_points = bp }) refl refl
+    (record { priority = s.priority; direction = d; formed = n; used = n * ratio; basis_points = bp }) refl refl
 
-module _ (priority bp : ℕ) (f : SpreadsFormed) (c : ℕ) where
+module _ (s : Inter) (f : SpreadsFormed) (c : ℕ) where
   -- what a leg adds to the weight of its commodity
   abbrev part : CommodityLeg → ℕ
-  part leg = (f.a_long + f.a_short) * leg.ratio * bp
+  part leg = (f.a_long + f.a_short) * leg.ratio * s.basis_points
 
   abbrev is_leg : CommodityLeg → Bool
   is_leg leg = leg.commodity == c
 
-  weight_ways : (leg : CommodityLeg) → sum_by weight_of (inter_ways priority bp f (Some leg.ratio)) ≡ part leg
+  weight_ways : (leg : CommodityLeg) → sum_by weight_of (inter_ways s f (Some leg.ratio)) ≡ part leg
   weight_ways leg =
       let n = f.a_long in
       let k = f.a_short in
-      let all = sum_by-append weight_of (inter_in priority bp ALong n leg.ratio) (inter_in priority bp AShort k leg.ratio) in
-      let long = weight_in priority bp ALong n leg.ratio in
-      let short = weight_in priority bp AShort k leg.ratio in
+      let bp = s.basis_points in
+      let all = sum_by-append weight_of (inter_in s leg.ratio ALong n) (inter_in s leg.ratio AShort k) in
+      let long = weight_in s leg.ratio ALong n in
+      let short = weight_in s leg.ratio AShort k in
       let both : (n + k) * leg.ratio * bp ≡ n * leg.ratio * bp + k * leg.ratio * bp =
       ap (λ m. m * bp) (add-mul n k leg.ratio) ∙ add-mul (n * leg.ratio) (k * leg.ratio) bp in
       omega (arith, all, long, short, both)
@@ -99,8 +100,9 @@ module _ (priority bp : ℕ) (f : SpreadsFormed) (c : ℕ) where
 
   leg_if : (b : Bool) (leg : CommodityLeg) (legs : List CommodityLeg) → (leg.commodity == c) ≡ b
       → list_any (λ other. leg.commodity == other.commodity) legs ≡ false
-      → sum_by weight_of (inter_ways priority bp f (ratio_in c legs)) ≡ sum_by part (filter is_leg legs)
-      → sum_by weight_of (inter_ways priority bp f (option_map (λ (x : CommodityLeg). x.ratio) (cond b (Some leg) (find is_leg legs))))
+      → sum_by weight_of (inter_ways s f (ratio_in c legs)) ≡ sum_by part (filter is_leg legs)
+      → sum_by weight_of
+      (inter_ways s f (option_map (λ (x : CommodityLeg). x.ratio) (cond b (Some leg) (find is_leg legs))))
       ≡ sum_by part (cond b (leg ∷ filter is_leg legs) (filter is_leg legs))
   leg_if true leg legs e apart rest =
       let same : leg.commodity ≡ c = grind (arith, nat_tests, e) in
@@ -112,7 +114,7 @@ module _ (priority bp : ℕ) (f : SpreadsFormed) (c : ℕ) where
 
   -- what is shown of a spread has the weight that its legs of the commodity add
   weight_legs : (legs : List CommodityLeg) → has_repeat (λ a b. a.commodity == b.commodity) legs ≡ false
-      → sum_by weight_of (inter_ways priority bp f (ratio_in c legs)) ≡ sum_by part (filter is_leg legs)
+      → sum_by weight_of (inter_ways s f (ratio_in c legs)) ≡ sum_by part (filter is_leg legs)
   weight_legs [] apart = refl
   weight_legs (leg ∷ legs) apart =
       let alike : CommodityLeg → Bool = λ other. leg.commodity == other.commodity in
@@ -121,30 +123,20 @@ module _ (priority bp : ℕ) (f : SpreadsFormed) (c : ℕ) where
       (weight_legs legs (or_right (list_any alike legs) others apart))
 
 -- the weight after some spreads is what it was before, more by what is shown of them
-weights_shown : (n c : ℕ) (records : List InterRecord) (spreads : List Inter) (lines : List InterLine)
-    → length records ≡ length spreads → c < length lines → All (IsInter n) spreads
+weights_shown : (n c : ℕ) (spreads : List Inter) (lines : List InterLine) → c < length lines → All (IsInter n) spreads
     → (line_at (fold inter_both_ways lines spreads) c).weight
-    ≡ (line_at lines c).weight + sum_by weight_of (inters_shown c records spreads (inters_formed spreads lines))
-weights_shown n c [] [] lines e lt inters = omega arith
-weights_shown n c [] (s ∷ spreads) lines e lt inters = absurd (omega (arith, e))
-weights_shown n c (r ∷ records) [] lines e lt inters = absurd (omega (arith, e))
-weights_shown n c (r ∷ records) (s ∷ spreads) lines e lt inters =
+    ≡ (line_at lines c).weight + sum_by weight_of (inters_shown c spreads lines)
+weights_shown n c [] lines lt inters = omega arith
+weights_shown n c (s ∷ spreads) lines lt inters =
     let next = inter_both_ways lines s in
     let f = formed_both lines s in
     let inside : c < length next = subst (λ k. c < k) (sym (length-inter_both_ways lines s)) lt in
-    let rest = weights_shown n c records spreads next (omega (arith, e)) inside (All-tail (IsInter n) s spreads inters) in
+    let rest = weights_shown n c spreads next inside (All-tail (IsInter n) s spreads inters) in
     let first = weight-inter_both_ways lines s c lt in
     let is_inter : IsInter n s = All-head (IsInter n) s spreads inters in
-    let here = weight_legs r.priority s.basis_points f c s.legs is_inter.apart in
-    let all =
-    sum_by-append weight_of (inter_ways r.priority s.basis_points f (ratio_in c s.legs))
-    (inters_shown c records spreads (inters_formed spreads next)) in
+    let here = weight_legs s f c s.legs is_inter.apart in
+    let all = sum_by-append weight_of (inter_ways s f (ratio_in c s.legs)) (inters_shown c spreads next) in
     omega (arith, rest, first, here, all)
-
--- there are as many records as spreads
-as_many : (t : AcceptedTables) → length t.inters ≡ length (inters_of t)
-unfolding inters_of
-as_many t = sym (length-map t.inters (inter_spread t.commodities))
 
 pub weight_shown : (t : AcceptedTables) (holdings : List Holding) (c : ℕ) → IsWithinLimits t → c < length t.commodities
     → (line_after_all t holdings c).weight ≡ sum_by weight_of (inters_shown_at t holdings c)
@@ -153,6 +145,6 @@ weight_shown t holdings c limits lt =
     let loaded = loaded_lines t holdings in
     let long : length loaded ≡ length t.commodities = length-map-range_with_len (line_of t holdings) 0 (length t.commodities) in
     let inside : c < length loaded = subst (λ k. c < k) (sym long) lt in
-    let all = weights_shown (length t.commodities) c t.inters (inters_of t) loaded (as_many t) inside limits.inters_in_range in
+    let all = weights_shown (length t.commodities) c (inters_of t) loaded inside limits.inters_in_range in
     let begun : (line_at loaded c).weight ≡ 0 = ap (λ (line : InterLine). line.weight) (loaded_at t holdings c lt) in
     omega (arith, all, begun)

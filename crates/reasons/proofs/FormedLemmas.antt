@@ -1,31 +1,42 @@
--- How many spreads form, one spread after another.
+-- How many spreads form, and what is shown of them, one spread after another.
 use Rattle.std.proofs.Common.{◌≡◌, ℕ, ◌+◌, ◌<◌, List, [], ◌∷◌, ◌++◌, length, take, get_or, refl, sym, ap, ◌∙◌}
+use Rattle.std.proofs.Common.{append_assoc, arith, flat_map}
+use Rattle.std.specs.List.{zip}
 use Rattle.std.specs.Prelude.{fold}
-use Rattle.std.proofs.lemmas.List.{take_more}
+use Rattle.std.proofs.lemmas.List.{append-nil, flat_map_more, take_more}
+use Rattle.std.proofs.lemmas.Slice.Zip.{get_or-zip, length-zip}
 use Rattle.span_tables.specs.declared.records.Inter.{Inter}
 use Rattle.span_tables.specs.declared.records.Intra.{Intra}
+use Rattle.span_tables.specs.declared.sides.SpreadsFormed.{SpreadsFormed}
 use Rattle.spread_stage.specs.Spreads.{TierRests, spread_both_ways}
 use Rattle.spread_stage.specs.Spreads as months
 use Rattle.inter_credit.specs.Credits.{inter_both_ways}
 use Rattle.inter_credit.specs.Credits as commodities
 use Rattle.inter_credit.specs.declared.state.InterLine.{InterLine}
-use Rattle.reasons.specs.Shown.{inters_formed, intras_formed}
+use Rattle.reasons.specs.Shown.{inter_ways, inters_shown, intra_ways, intras_shown, ratio_in}
+use Rattle.reasons.specs.Stages.{inters_formed}
+use Rattle.reasons.specs.declared.shown.ShownInter.{ShownInter}
 
-intras_formed-push : (spreads : List Intra) (s : Intra) (t : TierRests)
-    → intras_formed (spreads ++ s ∷ []) t
-    ≡ intras_formed spreads t ++ months.formed_both (fold spread_both_ways t spreads) s ∷ []
-intras_formed-push [] s t = refl
-intras_formed-push (x ∷ spreads) s t =
-    ap (λ fs. months.formed_both t x ∷ fs) (intras_formed-push spreads s (spread_both_ways t x))
+intras_shown-push : (spreads : List Intra) (s : Intra) (t : TierRests)
+    → intras_shown (spreads ++ s ∷ []) t
+    ≡ intras_shown spreads t ++ intra_ways s (months.formed_both (fold spread_both_ways t spreads) s)
+intras_shown-push [] s t = append-nil (intra_ways s (months.formed_both t s))
+intras_shown-push (x ∷ spreads) s t =
+    let next = spread_both_ways t x in
+    let first = intra_ways x (months.formed_both t x) in
+    let last = intra_ways s (months.formed_both (fold spread_both_ways next spreads) s) in
+    ap (λ others. first ++ others) (intras_shown-push spreads s next)
+    ∙ sym (append_assoc first (intras_shown spreads next) last)
 
 -- those of the first spreads of a list, and of the next
-pub intras_formed_more : (spreads : List Intra) (i : ℕ) (s : Intra) (t : TierRests) → i < length spreads → s ≡ get_or spreads i s
-    → intras_formed (take i spreads) t ++ months.formed_both (fold spread_both_ways t (take i spreads)) s ∷ []
-    ≡ intras_formed (take (i + 1) spreads) t
-intras_formed_more spreads i s t lt at =
-    sym (intras_formed-push (take i spreads) s t)
-    ∙ ap (λ x. intras_formed (take i spreads ++ x ∷ []) t) at
-    ∙ ap (λ xs. intras_formed xs t) (sym (take_more spreads i s lt))
+pub intras_shown_more : (spreads : List Intra) (i : ℕ) (s : Intra) (t : TierRests) → i < length spreads
+    → s ≡ get_or spreads i s
+    → intras_shown (take i spreads) t ++ intra_ways s (months.formed_both (fold spread_both_ways t (take i spreads)) s)
+    ≡ intras_shown (take (i + 1) spreads) t
+intras_shown_more spreads i s t lt at =
+    sym (intras_shown-push (take i spreads) s t)
+    ∙ ap (λ x. intras_shown (take i spreads ++ x ∷ []) t) at
+    ∙ ap (λ xs. intras_shown xs t) (sym (take_more spreads i s lt))
 
 inters_formed-push : (spreads : List Inter) (s : Inter) (lines : List InterLine)
     → inters_formed (spreads ++ s ∷ []) lines
@@ -43,3 +54,30 @@ inters_formed_more spreads i s lines lt at =
     sym (inters_formed-push (take i spreads) s lines)
     ∙ ap (λ x. inters_formed (take i spreads ++ x ∷ []) lines) at
     ∙ ap (λ xs. inters_formed xs lines) (sym (take_more spreads i s lt))
+
+-- the lines of a spread that formed so many, in the commodity of a number
+abbrev pub ways_in : ℕ → Inter × SpreadsFormed → List ShownInter
+ways_in c p = inter_ways p.0 p.1 (ratio_in c (p.0).legs)
+
+-- what is shown of the spreads is that of each beside what it formed
+pub inters_shown-zip : (c : ℕ) (spreads : List Inter) (lines : List InterLine)
+    → flat_map (ways_in c) (zip spreads (inters_formed spreads lines)) ≡ inters_shown c spreads lines
+inters_shown-zip c [] lines = refl
+inters_shown-zip c (s ∷ spreads) lines =
+    ap (λ others. inter_ways s (commodities.formed_both lines s) (ratio_in c s.legs) ++ others)
+    (inters_shown-zip c spreads (inter_both_ways lines s))
+
+-- the lines of the next spread, beside what it formed
+pub ways_more : (c : ℕ) (spreads : List Inter) (formed : List SpreadsFormed) (i : ℕ) (s : Inter) (f : SpreadsFormed)
+    → i < length spreads → i < length formed → s ≡ get_or spreads i s → f ≡ get_or formed i f
+    → flat_map (ways_in c) (take i (zip spreads formed)) ++ ways_in c (s, f)
+    ≡ flat_map (ways_in c) (take (i + 1) (zip spreads formed))
+ways_more c spreads formed i s f in_spreads in_formed s_is f_is =
+    let pairs = zip spreads formed in
+    let pair : Inter × SpreadsFormed = (s, f) in
+    let among : i < length pairs = omega (arith, length-zip spreads formed, in_spreads, in_formed) in
+    let at : pair ≡ get_or pairs i pair =
+    (λ k. (s_is k, f_is k)) ∙ sym (get_or-zip spreads formed i pair in_spreads in_formed) in
+    flat_map_more (ways_in c) [] (take i pairs) pair
+    ∙ ap (λ p. flat_map (ways_in c) (take i pairs ++ p ∷ [])) at
+    ∙ ap (flat_map (ways_in c)) (sym (take_more pairs i pair among))

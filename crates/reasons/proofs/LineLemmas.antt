@@ -1,20 +1,18 @@
 -- Lines that are written one after another.
-use Rattle.std.proofs.Common.{◌≡◌, ℕ, ◌+◌, ◌<◌, List, [], ◌∷◌, ◌++◌, length, map, take, sym, ap, ◌∙◌}
-use Rattle.std.proofs.Common.{subst, arith, append_assoc, get_or, inl, inr}
-use Rattle.std.specs.Prelude.{IfSome, slice_get, filter, not, ◌==◌, nat_abs}
+use Rattle.std.proofs.Common.{◌≡◌, ℕ, ◌+◌, ◌<◌, List, [], ◌∷◌, ◌++◌, length, map, take, refl, sym, ap, ◌∙◌}
+use Rattle.std.proofs.Common.{subst, arith, append_assoc, flat_map, get_or, inl, inr}
+use Rattle.std.specs.Prelude.{IfSome, slice_get}
 use Rattle.std.proofs.lemmas.List.{append-nil, flat_map_more, get_or-map, length-map, map-append, take_more}
-use Rattle.std.proofs.lemmas.List.Elements.{filter-append}
 use Rattle.std.proofs.lemmas.Grind.{flat_map-append}
 use Rattle.std.proofs.lemmas.Option.{slice_get_cases}
 use Rattle.span_money.specs.declared.line_fields.Field.{Field}
 use Rattle.span_money.specs.LineFields.{Line}
-use Rattle.span_tables.specs.declared.records.Spot.{Spot}
 use Rattle.spread_stage.specs.Deltas.{units_at}
 use Rattle.spread_stage.specs.Months.{MonthsRise, Shrinks}
 use Rattle.spread_stage.proofs.BesideLemmas.{units_at-beside}
 use Rattle.spread_stage.specs.declared.months.MonthUnits.{MonthUnits}
 use Rattle.reasons.specs.Reasons.{month_reason}
-use Rattle.reasons.specs.Shown.{months_shown, spots_shown}
+use Rattle.reasons.specs.Shown.{months_shown}
 use Rattle.reasons.specs.declared.shown.ShownMonth.{ShownMonth}
 use Rattle.reasons.specs.near.Fields.{reason_text, reasons_text}
 
@@ -78,20 +76,3 @@ month_more deltas rests i m r ids old now next rise shrinks lt a b step so_far =
     line_more month_reason ids (take i xs) (shown m) old now next here so_far
     ∙ ap (λ ys. old ++ reasons_text ids (map month_reason ys))
     (ap (λ y. take i xs ++ y ∷ []) (sym at) ∙ sym (take_more xs i (shown m) within))
-
--- the spot months of two lists
-spots_shown-append : (deltas rests : List MonthUnits) (xs ys : List Spot)
-    → spots_shown deltas rests (xs ++ ys) ≡ spots_shown deltas rests xs ++ spots_shown deltas rests ys
-spots_shown-append deltas rests xs ys =
-    ap (map _) (filter-append (λ (s : Spot). not (nat_abs (units_at deltas s.month) == 0)) xs ys)
-    ∙ map-append _ (filter (λ (s : Spot). not (nat_abs (units_at deltas s.month) == 0)) xs)
-    (filter (λ (s : Spot). not (nat_abs (units_at deltas s.month) == 0)) ys)
-
--- one spot month more
-pub spots_more : (deltas rests : List MonthUnits) (spots : List Spot) (i : ℕ) (s : Spot) → i < length spots
-    → s ≡ get_or spots i s
-    → spots_shown deltas rests (take i spots) ++ spots_shown deltas rests (s ∷ []) ≡ spots_shown deltas rests (take (i + 1) spots)
-spots_more deltas rests spots i s lt at =
-    sym (spots_shown-append deltas rests (take i spots) (s ∷ []))
-    ∙ ap (λ x. spots_shown deltas rests (take i spots ++ x ∷ [])) at
-    ∙ ap (spots_shown deltas rests) (sym (take_more spots i s lt))

@@ -3,9 +3,8 @@ use Rattle.std.specs.Prelude.{ℕ, ◌*◌, if◌then◌else◌, List, [], ◌�
 use Rattle.std.specs.Fmt.{signed_decimal}
 use Rattle.span_money.specs.ExactDecimals.{exact_decimal}
 use Rattle.span_money.specs.LineFields.{Line}
-use Rattle.span_tables.specs.Accepted.{commodity_id}
 use Rattle.span_tables.specs.Net.{HeldContract}
-use Rattle.span_tables.specs.Tables.{AcceptedTables, has_option_value, inters_of, priorities_of}
+use Rattle.span_tables.specs.Tables.{AcceptedTables, has_option_value, inters_of}
 use Rattle.span_tables.specs.declared.portfolios.Holding.{Holding}
 use Rattle.span_tables.specs.declared.records.Commodity.{Commodity}
 use Rattle.span_tables.specs.declared.records.MinimumMethod.{MinimumMethod}
@@ -22,8 +21,7 @@ use Rattle.inter_credit.specs.Requirement.{is_call, is_put, short_count}
 use Rattle.inter_credit.specs.States.{line_at}
 use Rattle.inter_credit.specs.declared.state.InterLine.{InterLine}
 use Rattle.plan_ir.specs.Figures.{commodity_at, deltas_at, held_at, inter_lines, intras_at, loaded_lines, spots_at, tiers_at}
-use Rattle.reasons.specs.Shown.{inters_formed, inters_shown, intra_charge, intras_formed, intras_shown, months_shown}
-use Rattle.reasons.specs.Shown.{spot_charge, spots_shown}
+use Rattle.reasons.specs.Shown.{inters_shown, intra_charge, intras_shown, months_shown, spot_charge, spots_shown}
 use Rattle.reasons.specs.declared.shown.ShownInter.{ShownInter}
 use Rattle.reasons.specs.declared.shown.ShownIntra.{ShownIntra}
 use Rattle.reasons.specs.declared.shown.ShownMonth.{ShownMonth}
@@ -131,9 +129,7 @@ short_reason c held = record {
 
 -- its spreads between months, as they form
 abbrev pub intras_shown_at : AcceptedTables → List Holding → ℕ → List ShownIntra
-intras_shown_at t holdings c =
-    intras_shown (priorities_of t (commodity_id t c)) (intras_at t c)
-    (intras_formed (intras_at t c) (unspread (deltas_at t holdings c)))
+intras_shown_at t holdings c = intras_shown (intras_at t c) (unspread (deltas_at t holdings c))
 
 -- its months, with what is left of them
 abbrev pub months_shown_at : AcceptedTables → List Holding → ℕ → List ShownMonth
@@ -145,8 +141,7 @@ spots_shown_at t holdings c = spots_shown (deltas_at t holdings c) (tiers_at t h
 
 -- the spreads between commodities that have a leg in it, as they form
 abbrev pub inters_shown_at : AcceptedTables → List Holding → ℕ → List ShownInter
-inters_shown_at t holdings c =
-    inters_shown c t.inters (inters_of t) (inters_formed (inters_of t) (loaded_lines t holdings))
+inters_shown_at t holdings c = inters_shown c (inters_of t) (loaded_lines t holdings)
 
 -- the commodity after all spreads
 abbrev pub line_after_all : AcceptedTables → List Holding → ℕ → InterLine

@@ -4,7 +4,6 @@ use Rattle.std.specs.Prelude.{ℕ, ◌*◌, ◌==◌, if◌then◌else◌, List,
 use Rattle.std.specs.Prelude.{Option, Some, None, option_map, nat_abs, ◌+◌}
 use Rattle.span_tables.specs.declared.records.CommodityLeg.{CommodityLeg}
 use Rattle.span_tables.specs.declared.records.Inter.{Inter}
-use Rattle.span_tables.specs.declared.records.InterRecord.{InterRecord}
 use Rattle.span_tables.specs.declared.records.Intra.{Intra}
 use Rattle.span_tables.specs.declared.records.Spot.{Spot}
 use Rattle.span_tables.specs.declared.sides.Direction.{Direction}
@@ -48,26 +47,19 @@ spot_charge s = s.used * s.spread_rate + s.left * s.outright_rate
 
 -- ---- spreads between months
 
--- how many each of the spreads forms in each direction, from the rests that those before it left
-abbrev pub intras_formed : List Intra → TierRests → List SpreadsFormed
-intras_formed [] t = []
-intras_formed (s ∷ spreads) t = months.formed_both t s ∷ intras_formed spreads (spread_both_ways t s)
-
 -- a spread in a direction, where it forms more than 0
-abbrev pub intra_in : ℕ → ℕ → Direction → ℕ → List ShownIntra
-intra_in priority rate d formed =
-    if formed == 0 then [] else record { priority = priority; direction = d; formed = formed; rate = rate } ∷ []
+abbrev pub intra_in : Intra → Direction → ℕ → List ShownIntra
+intra_in s d formed =
+    if formed == 0 then [] else record { priority = s.priority; direction = d; formed = formed; rate = s.rate } ∷ []
 
 -- a spread in both directions, with A long first
-abbrev pub intra_ways : ℕ → ℕ → SpreadsFormed → List ShownIntra
-intra_ways priority rate f = intra_in priority rate ALong f.a_long ++ intra_in priority rate AShort f.a_short
+abbrev pub intra_ways : Intra → SpreadsFormed → List ShownIntra
+intra_ways s f = intra_in s ALong f.a_long ++ intra_in s AShort f.a_short
 
--- the spreads of a commodity with their priorities, as they formed
-abbrev pub intras_shown : List ℕ → List Intra → List SpreadsFormed → List ShownIntra
-intras_shown [] spreads formed = []
-intras_shown (p ∷ priorities) [] formed = []
-intras_shown (p ∷ priorities) (s ∷ spreads) [] = []
-intras_shown (p ∷ priorities) (s ∷ spreads) (f ∷ formed) = intra_ways p s.rate f ++ intras_shown priorities spreads formed
+-- the spreads of a commodity, each as it forms from the rests that those before it left
+abbrev pub intras_shown : List Intra → TierRests → List ShownIntra
+intras_shown [] t = []
+intras_shown (s ∷ spreads) t = intra_ways s (months.formed_both t s) ++ intras_shown spreads (spread_both_ways t s)
 
 -- the charge of a spread in a direction, in 10^-4 minor units
 abbrev pub intra_charge : ShownIntra → ℕ
@@ -75,41 +67,35 @@ intra_charge s = s.formed * s.rate
 
 -- ---- spreads between commodities
 
--- how many each of the spreads forms in each direction, from the rests that those before it left
-abbrev pub inters_formed : List Inter → List InterLine → List SpreadsFormed
-inters_formed [] lines = []
-inters_formed (s ∷ spreads) lines = commodities.formed_both lines s ∷ inters_formed spreads (inter_both_ways lines s)
-
 -- the ratio of the leg in the commodity of a number, if there is one
 abbrev pub ratio_in : ℕ → List CommodityLeg → Option ℕ
 ratio_in c legs = option_map (λ leg. leg.ratio) (find (λ leg. leg.commodity == c) legs)
 
 -- a spread in a direction, where it forms more than 0, with what it uses of a commodity by the ratio of its leg there
-abbrev pub inter_in : ℕ → ℕ → Direction → ℕ → ℕ → List ShownInter
-inter_in priority basis_points d formed ratio =
+abbrev pub inter_in : Inter → ℕ → Direction → ℕ → List ShownInter
+inter_in s ratio d formed =
     if formed == 0
     then []
     else record {
-      priority = priority;
+      priority = s.priority;
       direction = d;
       formed = formed;
       used = formed * ratio;
-      basis_points = basis_points;
+      basis_points = s.basis_points;
     } ∷ []
 
 -- a spread in both directions, with A long first, where it has a leg in the commodity
-abbrev pub inter_ways : ℕ → ℕ → SpreadsFormed → Option ℕ → List ShownInter
-inter_ways priority basis_points f None = []
-inter_ways priority basis_points f (Some ratio) =
-    inter_in priority basis_points ALong f.a_long ratio ++ inter_in priority basis_points AShort f.a_short ratio
+abbrev pub inter_ways : Inter → SpreadsFormed → Option ℕ → List ShownInter
+inter_ways s f None = []
+inter_ways s f (Some ratio) = inter_in s ratio ALong f.a_long ++ inter_in s ratio AShort f.a_short
 
--- the spreads of the set with their records, as they formed, that have a leg in the commodity of a number
-abbrev pub inters_shown : ℕ → List InterRecord → List Inter → List SpreadsFormed → List ShownInter
-inters_shown c [] spreads formed = []
-inters_shown c (r ∷ records) [] formed = []
-inters_shown c (r ∷ records) (s ∷ spreads) [] = []
-inters_shown c (r ∷ records) (s ∷ spreads) (f ∷ formed) =
-    inter_ways r.priority s.basis_points f (ratio_in c s.legs) ++ inters_shown c records spreads formed
+-- the spreads of the set that have a leg in the commodity of a number, each as it forms from the rests that all those
+-- before it left
+abbrev pub inters_shown : ℕ → List Inter → List InterLine → List ShownInter
+inters_shown c [] lines = []
+inters_shown c (s ∷ spreads) lines =
+    inter_ways s (commodities.formed_both lines s) (ratio_in c s.legs)
+    ++ inters_shown c spreads (inter_both_ways lines s)
 
 -- what of the weight of a commodity is a spread's in a direction
 abbrev pub weight_of : ShownInter → ℕ

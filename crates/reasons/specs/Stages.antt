@@ -1,12 +1,13 @@
 -- What an account holds of each commodity, and what its commodities have between them.
-use Rattle.std.specs.Prelude.{List, map}
+use Rattle.std.specs.Prelude.{List, [], ◌∷◌, map}
 use Rattle.span_tables.specs.Net.{HeldContract, held_of}
 use Rattle.span_tables.specs.Tables.{AcceptedTables, inters_of}
 use Rattle.span_tables.specs.declared.portfolios.Holding.{Holding}
+use Rattle.span_tables.specs.declared.records.Inter.{Inter}
 use Rattle.span_tables.specs.declared.sides.SpreadsFormed.{SpreadsFormed}
+use Rattle.inter_credit.specs.Credits.{formed_both, inter_both_ways}
 use Rattle.inter_credit.specs.declared.state.InterLine.{InterLine}
 use Rattle.plan_ir.specs.Figures.{inter_lines, loaded_lines}
-use Rattle.reasons.specs.Shown.{inters_formed}
 
 -- the held contracts of each commodity, the commodities after all spreads between them, and how many each spread formed
 pub record StagesView : Type 0 where
@@ -17,6 +18,11 @@ pub record StagesView : Type 0 where
 -- the held contracts of each commodity
 abbrev pub all_held : AcceptedTables → List Holding → List (List HeldContract)
 all_held t holdings = map (λ c. held_of t.contracts holdings c.id) t.commodities
+
+-- how many each of the spreads forms in each direction, from the rests that those before it left
+abbrev pub inters_formed : List Inter → List InterLine → List SpreadsFormed
+inters_formed [] lines = []
+inters_formed (s ∷ spreads) lines = formed_both lines s ∷ inters_formed spreads (inter_both_ways lines s)
 
 -- those of an account with these holdings
 abbrev pub stages_of : AcceptedTables → List Holding → StagesView

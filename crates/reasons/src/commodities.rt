@@ -1,17 +1,19 @@
 //! What all commodities of an account have between them, and the lines of the spreads between commodities.
-ghost use Rattle.std.specs.Prelude.{◌≡◌, ◌++◌, ◌*◌, ◌^◌, ◌==◌, ◌<◌, All, IfOk, OnOk, find, fold, length, map, option_copied};
+ghost use Rattle.std.specs.Prelude.{◌≡◌, ◌++◌, ◌*◌, ◌^◌, ◌==◌, ◌<◌, All, IfOk, List, OnOk};
+ghost use Rattle.std.specs.Prelude.{find, fold, length, map, option_copied};
 ghost use Rattle.span_tables.specs.Accepted.{IsInter};
 ghost use Rattle.inter_credit.specs.Credits.{inter_both_ways};
 ghost use Rattle.inter_credit.specs.States.{IsLine};
+ghost use Rattle.inter_credit.specs.declared.state.InterLine.{InterLine};
 ghost use Rattle.reasons.specs.Reasons.{credit_reason, inter_reason};
-ghost use Rattle.reasons.specs.Shown.{inter_in, inter_ways, inters_formed, inters_shown, ratio_in};
+ghost use Rattle.reasons.specs.Shown.{inter_in, inter_ways, inters_shown, ratio_in};
+ghost use Rattle.reasons.specs.Stages.{inters_formed};
 ghost use Rattle.reasons.specs.near.Fields.{reason_text, reasons_text};
 
-use crate::shown::ShownInter;
 use crate::words::long_side;
 use inter_credit::state::{InterLine, InterState};
 use span_money::line_fields::{Field, push_line};
-use span_tables::records::{CommodityLeg, Inter, InterRecord};
+use span_tables::records::{CommodityLeg, Inter};
 use span_tables::sides::{Direction, SpreadsFormed};
 use std::alloc::{AllocError, Global};
 
@@ -39,21 +41,6 @@ fn leg_in(legs: &[CommodityLeg], commodity: usize) -> Option<&CommodityLeg>
     legs.iter().find(|leg| leg.commodity == commodity)
 }
 
-// Appends the line of an intercommodity spread in a direction.
-fn push_inter(out: &mut Vec<u8>, ids: &[Field<'_>], shown: &ShownInter) -> Result<(), AllocError>
-    requires { shown.now.used < 2 ^ 127 }
-    ensures { OnOk result (out.new.items ≡ out.old.items ++ reason_text ids.now (inter_reason shown.now)) }
-{
-    let fields = [
-        Field::Whole(i128::from(shown.priority)),
-        Field::Text(long_side(shown.direction)),
-        Field::FourPlaces(i128::from(shown.formed)),
-        Field::EightPlaces(shown.used as i128),
-        Field::Whole(i128::from(shown.basis_points)),
-    ];
-    push_line(out, "INTER", ids, &fields)
-}
-
 // What so many spreads use of a leg's commodity.
 fn used_by(formed: u64, ratio: u32) -> u128
     ensures value { result ≡ formed * ratio }
@@ -62,30 +49,29 @@ fn used_by(formed: u64, ratio: u32) -> u128
     u128::from(formed) * u128::from(ratio)
 }
 
-// Appends that line, where the spread forms more than 0.
-fn push_inter_in(
+// Appends the line of an intercommodity spread in a direction, where it forms more than 0, for a leg of this ratio.
+fn push_inter(
     out: &mut Vec<u8>,
     ids: &[Field<'_>],
-    priority: u32,
-    basis_points: u32,
+    inter: &Inter,
+    ratio: u32,
     direction: Direction,
     formed: u64,
-    ratio: u32,
 ) -> Result<(), AllocError>
-    ensures { OnOk result (out.new.items ≡ out.old.items
-        ++ reasons_text ids.now (map inter_reason (inter_in priority basis_points direction formed ratio))) }
+    ensures { OnOk result (out.new.items
+        ≡ out.old.items ++ reasons_text ids.now (map inter_reason (inter_in inter.now ratio direction formed))) }
 {
     if formed == 0 {
         return Ok(());
     }
-    let shown = ShownInter {
-        priority,
-        direction,
-        formed,
-        used: used_by(formed, ratio),
-        basis_points,
-    };
-    push_inter(out, ids, &shown)
+    let fields = [
+        Field::Whole(i128::from(inter.priority())),
+        Field::Text(long_side(direction)),
+        Field::FourPlaces(i128::from(formed)),
+        Field::EightPlaces(used_by(formed, ratio) as i128),
+        Field::Whole(i128::from(inter.basis_points())),
+    ];
+    push_line(out, "INTER", ids, &fields)
 }
 
 // Appends the lines of an intercommodity spread in both directions, where it has a leg in the commodity of a number.
@@ -93,36 +79,18 @@ fn push_inter_ways(
     out: &mut Vec<u8>,
     ids: &[Field<'_>],
     commodity: usize,
-    priority: u32,
     inter: &Inter,
     formed: SpreadsFormed,
 ) -> Result<(), AllocError>
     ensures { OnOk result (out.new.items ≡ out.old.items ++ reasons_text ids.now
-        (map inter_reason (inter_ways priority inter.now.basis_points formed (ratio_in commodity inter.now.legs)))) }
+        (map inter_reason (inter_ways inter.now formed (ratio_in commodity inter.now.legs)))) }
 {
     let Some(leg) = leg_in(inter.legs(), commodity) else {
         return Ok(());
     };
     let ratio = leg.ratio.get();
-    let rate = inter.basis_points();
-    push_inter_in(
-        out,
-        ids,
-        priority,
-        rate,
-        Direction::ALong,
-        formed.a_long,
-        ratio,
-    )?;
-    push_inter_in(
-        out,
-        ids,
-        priority,
-        rate,
-        Direction::AShort,
-        formed.a_short,
-        ratio,
-    )
+    push_inter(out, ids, inter, ratio, Direction::ALong, formed.a_long)?;
+    push_inter(out, ids, inter, ratio, Direction::AShort, formed.a_short)
 }
 
 /// Appends the lines of the intercommodity spreads that have a leg in the commodity of a number, as they formed.
@@ -130,24 +98,16 @@ pub(crate) fn push_inters(
     out: &mut Vec<u8>,
     ids: &[Field<'_>],
     commodity: usize,
-    records: &[InterRecord],
     inters: &[Inter],
     formed: &[SpreadsFormed],
 ) -> Result<(), AllocError>
-    ensures { OnOk result (out.new.items ≡ out.old.items
-        ++ reasons_text ids.now (map inter_reason (inters_shown commodity records.now inters.now formed.now))) }
+    ensures { (lines : List InterLine) → formed.now ≡ inters_formed inters.now lines → OnOk result (out.new.items
+        ≡ out.old.items ++ reasons_text ids.now (map inter_reason (inters_shown commodity inters.now lines))) }
 {
-    let [record, records @ ..] = records else {
-        return Ok(());
-    };
-    let [inter, inters @ ..] = inters else {
-        return Ok(());
-    };
-    let [ways, formed @ ..] = formed else {
-        return Ok(());
-    };
-    push_inter_ways(out, ids, commodity, record.priority, inter, *ways)?;
-    push_inters(out, ids, commodity, records, inters, formed)
+    for (inter, ways) in inters.iter().zip(formed) {
+        push_inter_ways(out, ids, commodity, inter, *ways)?;
+    }
+    Ok(())
 }
 
 /// Appends the line of what the credit of a commodity is of.

@@ -8,11 +8,10 @@ ghost use Rattle.reasons.specs.Reasons.{inters_shown_at, intras_shown_at, line_a
 ghost use Rattle.reasons.specs.Shown.{inter_ways, intra_charge, intra_ways, ratio_in, spot_charge, weight_of};
 ghost use Rattle.scan_risk.specs.Scenarios.{active_scenario, scan_risk, scenario_sums};
 ghost use Rattle.span_money.specs.Numbers.{int_sum_by};
-ghost use Rattle.span_tables.specs.Accepted.{IsWithinLimits, commodity_id};
-ghost use Rattle.span_tables.specs.Tables.{AcceptedTables, inters_of, priorities_of};
+ghost use Rattle.span_tables.specs.Accepted.{IsWithinLimits};
+ghost use Rattle.span_tables.specs.Tables.{AcceptedTables, inters_of};
 ghost use Rattle.span_tables.specs.declared.portfolios.Holding.{Holding};
 ghost use Rattle.span_tables.specs.declared.records.Inter.{Inter};
-ghost use Rattle.span_tables.specs.declared.records.InterRecord.{InterRecord};
 ghost use Rattle.span_tables.specs.declared.records.Intra.{Intra};
 ghost use Rattle.spread_stage.specs.Spreads as months;
 ghost use Rattle.spread_stage.specs.Spreads.{spread_both_ways, unspread};
@@ -36,9 +35,8 @@ pub fn intracommodity_charge_is_that_of_the_spreads_shown()
 /// Each spread between months has its lines, one for each direction in which it forms more than 0, of as many as it forms from
 /// the rests that the spreads before it left.
 pub fn each_spread_between_months_has_its_lines()
-    ensures { (t : AcceptedTables) (holdings : List Holding) (c k priority : ℕ) (spread : Intra)
-        → slice_get (priorities_of t (commodity_id t c)) k ≡ Some priority → slice_get (intras_at t c) k ≡ Some spread
-        → StandsIn (intra_ways priority spread.rate (months.formed_both
+    ensures { (t : AcceptedTables) (holdings : List Holding) (c k : ℕ) (spread : Intra)
+        → slice_get (intras_at t c) k ≡ Some spread → StandsIn (intra_ways spread (months.formed_both
         (fold spread_both_ways (unspread (deltas_at t holdings c)) (take k (intras_at t c))) spread))
         (intras_shown_at t holdings c) }
 {}
@@ -68,9 +66,8 @@ pub fn weight_is_the_sum_of_the_spreads_shown()
 /// Each spread between commodities has its lines in those in which it has a leg, one for each direction in which it forms more
 /// than 0, of as many as it forms from the rests that the spreads before it left.
 pub fn each_spread_between_commodities_has_its_lines()
-    ensures { (t : AcceptedTables) (holdings : List Holding) (c k : ℕ) (record_of : InterRecord) (spread : Inter)
-        → slice_get t.inters k ≡ Some record_of → slice_get (inters_of t) k ≡ Some spread
-        → StandsIn (inter_ways record_of.priority spread.basis_points (commodities.formed_both
+    ensures { (t : AcceptedTables) (holdings : List Holding) (c k : ℕ) (spread : Inter)
+        → slice_get (inters_of t) k ≡ Some spread → StandsIn (inter_ways spread (commodities.formed_both
         (fold inter_both_ways (loaded_lines t holdings) (take k (inters_of t))) spread) (ratio_in c spread.legs))
         (inters_shown_at t holdings c) }
 {}

@@ -5,14 +5,14 @@ ghost use Rattle.spread_stage.specs.Months.{Shrinks};
 ghost use Rattle.spread_stage.specs.Spreads.{spread_both_ways};
 ghost use Rattle.spread_stage.specs.declared.months.MonthUnits.{MonthUnits};
 ghost use Rattle.reasons.specs.Reasons.{intra_reason, month_reason, spot_reason};
-ghost use Rattle.reasons.specs.Shown.{intra_in, intra_ways, intras_formed, intras_shown, months_shown, spots_shown};
+ghost use Rattle.reasons.specs.Shown.{intra_in, intras_shown, months_shown, spots_shown};
 ghost use Rattle.reasons.specs.near.Fields.{reason_text, reasons_text};
 
-use crate::shown::{ShownIntra, ShownMonth, ShownSpot};
+use crate::shown::{ShownIntra, ShownMonth};
 use crate::words::long_side;
 use span_money::line_fields::{Field, push_line};
 use span_tables::records::{Intra, Spot};
-use span_tables::sides::{Direction, SpreadsFormed};
+use span_tables::sides::Direction;
 use spread_stage::charges::{month_units, spot_use};
 use spread_stage::months::Months;
 use spread_stage::tiers::TierState;
@@ -56,23 +56,46 @@ pub(crate) fn push_months(
     Ok(())
 }
 
-/// Forms the spreads in their order, and tells how many each forms in each direction. `Err` is want of memory.
+// Appends a spread in a direction, where it forms more than 0.
+fn push_formed(
+    shown: &mut Vec<ShownIntra>,
+    intra: &Intra,
+    direction: Direction,
+    formed: u64,
+) -> Result<(), AllocError>
+    ensures { OnOk result (shown.new.items ≡ shown.old.items ++ intra_in intra.now direction formed) }
+{
+    if formed == 0 {
+        return Ok(());
+    }
+    shown.push(ShownIntra {
+        priority: intra.priority(),
+        direction,
+        formed,
+        rate: intra.rate(),
+    })?;
+    Ok(())
+}
+
+/// Forms the spreads in their order, and gives each in the directions in which it forms. `Err` is want of memory.
 pub(crate) fn form_intras(
     alloc: Global,
     tiers: &mut TierState,
     intras: &[Intra],
-) -> Result<Vec<SpreadsFormed>, AllocError>
+) -> Result<Vec<ShownIntra>, AllocError>
     requires { All IsIntra intras.now }
     ensures tiers { IfOk result (λ _. tiers.new ≡ fold spread_both_ways tiers.old intras.now) }
-    ensures formed { IfOk result (λ formed. formed.items ≡ intras_formed intras.now tiers.old) }
+    ensures shown { IfOk result (λ shown. shown.items ≡ intras_shown intras.now tiers.old) }
     ensures shrinks { (months : List MonthUnits) → Shrinks months tiers.old.rests
         → IfOk result (λ _. Shrinks months tiers.new.rests) }
 {
-    let mut formed = Vec::with_capacity(alloc, intras.len())?;
+    let mut shown = Vec::new(alloc);
     for intra in intras {
-        formed.push(tiers.spread_counted(intra))?;
+        let formed = tiers.spread_counted(intra);
+        push_formed(&mut shown, intra, Direction::ALong, formed.a_long)?;
+        push_formed(&mut shown, intra, Direction::AShort, formed.a_short)?;
     }
-    Ok(formed)
+    Ok(shown)
 }
 
 // So many at a rate.
@@ -96,67 +119,18 @@ fn push_intra(out: &mut Vec<u8>, ids: &[Field<'_>], shown: &ShownIntra) -> Resul
     push_line(out, "INTRA", ids, &fields)
 }
 
-// Appends that line, where the spread forms more than 0.
-fn push_intra_in(
-    out: &mut Vec<u8>,
-    ids: &[Field<'_>],
-    priority: u32,
-    rate: u32,
-    direction: Direction,
-    formed: u64,
-) -> Result<(), AllocError>
-    ensures { OnOk result (out.new.items
-        ≡ out.old.items ++ reasons_text ids.now (map intra_reason (intra_in priority rate direction formed))) }
-{
-    if formed == 0 {
-        return Ok(());
-    }
-    let shown = ShownIntra {
-        priority,
-        direction,
-        formed,
-        rate,
-    };
-    push_intra(out, ids, &shown)
-}
-
-// Appends the lines of an intracommodity spread, in both directions.
-fn push_intra_ways(
-    out: &mut Vec<u8>,
-    ids: &[Field<'_>],
-    priority: u32,
-    rate: u32,
-    formed: SpreadsFormed,
-) -> Result<(), AllocError>
-    ensures { OnOk result (out.new.items
-        ≡ out.old.items ++ reasons_text ids.now (map intra_reason (intra_ways priority rate formed))) }
-{
-    push_intra_in(out, ids, priority, rate, Direction::ALong, formed.a_long)?;
-    push_intra_in(out, ids, priority, rate, Direction::AShort, formed.a_short)
-}
-
-/// Appends the lines of intracommodity spreads with their priorities, as they formed.
+/// Appends the lines of intracommodity spreads in the directions in which they formed.
 pub(crate) fn push_intras(
     out: &mut Vec<u8>,
     ids: &[Field<'_>],
-    priorities: &[u32],
-    intras: &[Intra],
-    formed: &[SpreadsFormed],
+    intras: &[ShownIntra],
 ) -> Result<(), AllocError>
-    ensures { OnOk result (out.new.items
-        ≡ out.old.items ++ reasons_text ids.now (map intra_reason (intras_shown priorities.now intras.now formed.now))) }
+    ensures { OnOk result (out.new.items ≡ out.old.items ++ reasons_text ids.now (map intra_reason intras.now)) }
 {
-    let [priority, priorities @ ..] = priorities else {
-        return Ok(());
-    };
-    let [intra, intras @ ..] = intras else {
-        return Ok(());
-    };
-    let [ways, formed @ ..] = formed else {
-        return Ok(());
-    };
-    push_intra_ways(out, ids, *priority, intra.rate(), *ways)?;
-    push_intras(out, ids, priorities, intras, formed)
+    for shown in intras {
+        push_intra(out, ids, shown)?;
+    }
+    Ok(())
 }
 
 // Appends the line of a spot month, where its delta is not 0.

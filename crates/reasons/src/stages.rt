@@ -99,10 +99,9 @@ fn push_month_reasons(
 {
     let months = month_deltas(alloc, held)?;
     let mut tiers = start(alloc, &months)?;
-    let intras = tables.intras(commodity);
-    let formed = form_intras(alloc, &mut tiers, intras)?;
+    let intras = form_intras(alloc, &mut tiers, tables.intras(commodity))?;
     push_months(out, ids, &months, &tiers)?;
-    push_intras(out, ids, tables.priorities(commodity), intras, &formed)?;
+    push_intras(out, ids, &intras)?;
     push_spots(out, ids, &months, &tiers, tables.spots(commodity))?;
     Ok(())
 }
@@ -127,14 +126,7 @@ pub fn push_reasons(
     push_held(out, ids, tables, held)?;
     push_scan(out, ids, held)?;
     push_month_reasons(alloc, out, ids, tables, commodity, held)?;
-    push_inters(
-        out,
-        ids,
-        commodity,
-        tables.inter_records(),
-        tables.inters(),
-        &stages.formed,
-    )?;
+    push_inters(out, ids, commodity, tables.inters(), &stages.formed)?;
     push_credit(out, ids, &stages.state.lines()[commodity])?;
     push_short(out, ids, &tables.commodities()[commodity], held)?;
     Ok(())

@@ -38,7 +38,7 @@ same_spread : (tiers : List Tier) (s : IntraRecord)
 same_spread tiers s =
     let legs = map_agree (month_leg (filter (λ t. bytes_eq t.commodity s.commodity) tiers) s.commodity) (month_leg tiers s.commodity)
     (same_leg tiers s.commodity) s.legs.items in
-    ap (λ (ms : List MonthLeg). (let r : Intra = record { rate = s.rate; legs = ms } in r)) legs
+    ap (λ (ms : List MonthLeg). (let r : Intra = record { priority = s.priority; rate = s.rate; legs = ms } in r)) legs
 
 -- the tiers at the place of a spread's commodity serve as all do
 pub tiers_found : {V : Type 0} (items : V → List Tier) (cs : List Commodity) (tiers : List Tier) (lists : List V) (n : ℕ) (v : V)

@@ -8,7 +8,7 @@ use Rattle.span_tables.specs.near.ByKind.{AreByKind}
 use Rattle.span_tables.specs.Limits.{is_readable}
 use Rattle.span_tables.specs.Rules.{keeps_rules}
 use Rattle.span_tables.specs.Tables.{AcceptedTables, inter_spread, inters_of, intra_spread}
-use Rattle.span_tables.specs.Tables.{intras_of, priorities_of, profile_in, rising_by, set_id_in, spots_of, tables_of}
+use Rattle.span_tables.specs.Tables.{intras_of, profile_in, rising_by, set_id_in, spots_of, tables_of}
 use Rattle.span_tables.specs.declared.records.Commodity.{Commodity}
 use Rattle.span_tables.specs.declared.records.Contract.{Contract}
 use Rattle.span_tables.specs.declared.records.Inter.{Inter}
@@ -37,14 +37,6 @@ module _ (t : AcceptedTables) (accepted : IsAccepted t) where
       ∙ listed (λ (d : Commodity). d.id) (λ id. map (intra_spread t.tiers)
       (filter (λ (s : IntraRecord). bytes_eq s.commodity id) t.intras)) t.commodities c lt
 
-  priorities_at : (priorities : List (List ℕ)) → priorities
-      ≡ map (λ c. map (λ s. s.priority) (filter (λ s. bytes_eq s.commodity c.id) t.intras)) t.commodities
-      → (c : ℕ) → c < length t.commodities → get_or priorities c [] ≡ priorities_of t (commodity_id t c)
-  priorities_at priorities is c lt =
-      ap (λ (zs : List (List ℕ)). get_or zs c []) is
-      ∙ listed (λ (d : Commodity). d.id) (λ id. map (λ (s : IntraRecord). s.priority)
-      (filter (λ (s : IntraRecord). bytes_eq s.commodity id) t.intras)) t.commodities c lt
-
   spots_at : (spots : List (List Spot)) → spots ≡ map (λ c. filter (λ s. bytes_eq s.commodity c.id) t.spots) t.commodities
       → (c : ℕ) → c < length t.commodities → get_or spots c [] ≡ spots_of t (commodity_id t c)
   unfolding spots_of
@@ -56,22 +48,18 @@ module _ (t : AcceptedTables) (accepted : IsAccepted t) where
   unfolding inters_of
   inters_all inters is = is
 
-  pub are_tables : (numbers : List ℕ) (intras : List (List Intra)) (priorities : List (List ℕ)) (spots : List (List Spot))
-      (inters : List Inter)
+  pub are_tables : (numbers : List ℕ) (intras : List (List Intra)) (spots : List (List Spot)) (inters : List Inter)
       → numbers ≡ map (λ x. commodity_number t.commodities x.commodity) t.contracts
       → intras ≡ map (λ c. map (intra_spread t.tiers) (filter (λ s. bytes_eq s.commodity c.id) t.intras)) t.commodities
-      → priorities ≡ map (λ c. map (λ s. s.priority) (filter (λ s. bytes_eq s.commodity c.id) t.intras)) t.commodities
       → spots ≡ map (λ c. filter (λ s. bytes_eq s.commodity c.id) t.spots) t.commodities
       → inters ≡ map (inter_spread t.commodities) t.inters
-      → IsTables t numbers intras priorities spots inters
-  are_tables numbers intras priorities spots inters n i p s x = record {
+      → IsTables t numbers intras spots inters
+  are_tables numbers intras spots inters n i s x = record {
     accepted = accepted;
     limits = accepted_limits t accepted;
     numbers_are = n;
     every_intra = ap length i ∙ length-map t.commodities _;
     intras_are = intras_at intras i;
-    every_priority = ap length p ∙ length-map t.commodities _;
-    priorities_are = priorities_at priorities p;
     every_spot = ap length s ∙ length-map t.commodities _;
     spots_are = spots_at spots s;
     inters_are = inters_all inters x;

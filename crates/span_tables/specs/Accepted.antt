@@ -5,7 +5,7 @@ use Rattle.std.specs.List.{position_or_len}
 use Rattle.span_tables.specs.Names.{has_repeat}
 use Rattle.span_tables.specs.Rules.{keeps_rules}
 use Rattle.span_tables.specs.Limits.{is_readable}
-use Rattle.span_tables.specs.Tables.{AcceptedTables, tables_of, intras_of, priorities_of, spots_of, inters_of}
+use Rattle.span_tables.specs.Tables.{AcceptedTables, tables_of, intras_of, spots_of, inters_of}
 use Rattle.span_tables.specs.declared.limits.TheConstants.{MAX_COMMODITIES, MAX_CONTRACTS, MAX_INTRA_SPREADS}
 use Rattle.span_tables.specs.declared.limits.TheConstants.{MAX_SPOT_MONTHS, MAX_INTER_SPREADS, MAX_RATE, MAX_ARRAY_VALUE}
 use Rattle.span_tables.specs.declared.limits.TheConstants.{MAX_DELTA, MAX_SCALE, SCENARIOS, MAX_RATIO, MAX_BASIS_POINTS}
@@ -80,17 +80,15 @@ pub record IsWithinLimits (t : AcceptedTables) : Type 0 where
   pub few_inters : length (inters_of t) ≤ MAX_INTER_SPREADS
   pub inters_in_range : All (IsInter (length t.commodities)) (inters_of t)
 
--- accepted tables, with the commodity's number of each contract, the spreads of each commodity with their priorities, its
--- spot months, and the intercommodity spreads
-pub record IsTables (t : AcceptedTables) (numbers : List ℕ) (intras : List (List Intra)) (priorities : List (List ℕ))
-    (spots : List (List Spot)) (inters : List Inter) : Type 0 where
+-- accepted tables, with the commodity's number of each contract, the spreads and spot months of each commodity, and the
+-- intercommodity spreads
+pub record IsTables (t : AcceptedTables) (numbers : List ℕ) (intras : List (List Intra)) (spots : List (List Spot))
+    (inters : List Inter) : Type 0 where
   pub accepted : IsAccepted t
   pub limits : IsWithinLimits t
   pub numbers_are : numbers ≡ map (λ x. commodity_number t.commodities x.commodity) t.contracts
   pub every_intra : length intras ≡ length t.commodities
   pub intras_are : (c : ℕ) → c < length t.commodities → slice_index_or intras c [] ≡ intras_of t (commodity_id t c)
-  pub every_priority : length priorities ≡ length t.commodities
-  pub priorities_are : (c : ℕ) → c < length t.commodities → slice_index_or priorities c [] ≡ priorities_of t (commodity_id t c)
   pub every_spot : length spots ≡ length t.commodities
   pub spots_are : (c : ℕ) → c < length t.commodities → slice_index_or spots c [] ≡ spots_of t (commodity_id t c)
   pub inters_are : inters ≡ inters_of t

@@ -82,15 +82,12 @@ month_leg tiers commodity leg =
 
 -- a spread with its tiers' months
 abbrev pub intra_spread : List Tier → IntraRecord → Intra
-intra_spread tiers s = record { rate = s.rate; legs = map (month_leg tiers s.commodity) s.legs.items }
+intra_spread tiers s =
+    record { priority = s.priority; rate = s.rate; legs = map (month_leg tiers s.commodity) s.legs.items }
 
 -- the intracommodity spreads of a commodity, by rising priority
 unfoldable pub intras_of : AcceptedTables → List ℕ → List Intra
 intras_of tables commodity = map (intra_spread tables.tiers) (filter (λ s. bytes_eq s.commodity commodity) tables.intras)
-
--- the priorities of these spreads, rising
-abbrev pub priorities_of : AcceptedTables → List ℕ → List ℕ
-priorities_of tables commodity = map (λ s. s.priority) (filter (λ s. bytes_eq s.commodity commodity) tables.intras)
 
 -- the spot months of a commodity, in file order
 unfoldable pub spots_of : AcceptedTables → List ℕ → List Spot
@@ -107,7 +104,7 @@ commodity_leg commodities leg = record {
 -- a spread with its commodities' numbers
 abbrev pub inter_spread : List Commodity → InterRecord → Inter
 inter_spread commodities s =
-    record { basis_points = s.basis_points; legs = map (commodity_leg commodities) s.legs.items }
+    record { priority = s.priority; basis_points = s.basis_points; legs = map (commodity_leg commodities) s.legs.items }
 
 -- the intercommodity spreads, by rising priority
 unfoldable pub inters_of : AcceptedTables → List Inter

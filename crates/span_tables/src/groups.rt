@@ -6,7 +6,7 @@ ghost use Rattle.span_tables.specs.Accepted.{commodity_number};
 ghost use Rattle.span_tables.specs.Names.{has_repeat};
 
 use crate::name::Name;
-use crate::records::{Commodity, Contract, IntraRecord, Spot, Tier};
+use crate::records::{Commodity, Contract, Spot, Tier};
 use std::alloc::{AllocError, Global};
 
 // The number of the commodity of an id, if there is one.
@@ -90,25 +90,6 @@ pub(crate) fn tiers_by_commodity(
     for tier in tiers {
         let place = number_of(commodities, &tier.commodity);
         push_at(&mut lists, place, tier.copied())?;
-    }
-    Ok(lists)
-}
-
-// The priorities of the spreads of each commodity, in their order.
-pub(crate) fn priorities_by_commodity(
-    alloc: Global,
-    commodities: &[Commodity],
-    spreads: &[IntraRecord],
-) -> Result<Vec<Vec<u32>>, AllocError>
-    requires apart { has_repeat (λ c d. bytes_eq c.id d.id) commodities.now ≡ false }
-    requires known { All (λ s. commodity_number commodities.now s.commodity < length commodities.now) spreads.now }
-    ensures { IfOk result (λ lists. map (λ v. v.items) lists.items
-        ≡ map (λ c. map (λ s. s.priority) (filter (λ s. bytes_eq s.commodity c.id) spreads.now)) commodities.now) }
-{
-    let mut lists = empty_lists(alloc, commodities.len())?;
-    for spread in spreads {
-        let place = number_of(commodities, &spread.commodity);
-        push_at(&mut lists, place, spread.priority)?;
     }
     Ok(lists)
 }

@@ -209,7 +209,8 @@ pub struct MonthLeg {
     pub ratio: Ratio,
 }
 
-/// An accepted intracommodity spread: its rate in minor units a spread and its legs, with the months of each leg's tier.
+/// An accepted intracommodity spread: its priority, its rate in minor units a spread, and its legs, with the months of
+/// each leg's tier.
 #[derive(Drop)]
 pub struct Intra {
     legs: ArrayVec<MonthLeg, 4>,
@@ -217,6 +218,7 @@ pub struct Intra {
     a: Slots,
     b: Slots,
     rate: u32,
+    priority: u32,
 }
 
 impl Model for Intra {
@@ -225,7 +227,7 @@ impl Model for Intra {
 
     ghost Value = { IntraSpread };
 
-    ghost view = { λ s. record { rate = s.rate; legs = s.legs.items } };
+    ghost view = { λ s. record { priority = s.priority; rate = s.rate; legs = s.legs.items } };
 
     ghost invariant = { λ s. AreOfTiers s.a s.b s.legs.items };
 }
@@ -235,13 +237,26 @@ impl Intra {
     ghost use Rattle.span_tables.specs.Sides.{market_side};
     ghost use Rattle.span_tables.specs.Slots.{IsTierMarked, numbers_on};
 
-    /// A spread of this rate, in minor units a spread, and these legs.
-    pub fn new(rate: u32, legs: ArrayVec<MonthLeg, 4>) -> Intra
-        ensures { result ≡ record { rate = rate; legs = legs.items } }
+    /// A spread of this priority, this rate in minor units a spread, and these legs.
+    pub fn new(priority: u32, rate: u32, legs: ArrayVec<MonthLeg, 4>) -> Intra
+        ensures { result ≡ record { priority = priority; rate = rate; legs = legs.items } }
     {
         let a = months_on(&legs, Side::A);
         let b = months_on(&legs, Side::B);
-        Intra { legs, a, b, rate }
+        Intra {
+            legs,
+            a,
+            b,
+            rate,
+            priority,
+        }
+    }
+
+    /// The priority, by which the spreads of a commodity rise.
+    pub fn priority(&self) -> u32
+        ensures { result ≡ self.now.priority }
+    {
+        self.priority
     }
 
     /// The rate, in minor units a spread.
@@ -279,7 +294,7 @@ pub struct CommodityLeg {
     pub ratio: Ratio,
 }
 
-/// An accepted intercommodity spread: its credit rate in basis points, and its legs.
+/// An accepted intercommodity spread: its priority, its credit rate in basis points, and its legs.
 #[derive(Drop)]
 pub struct Inter {
     legs: ArrayVec<CommodityLeg, 4>,
@@ -287,6 +302,7 @@ pub struct Inter {
     a: Slots,
     b: Slots,
     basis_points: u32,
+    priority: u32,
 }
 
 impl Model for Inter {
@@ -295,7 +311,7 @@ impl Model for Inter {
 
     ghost Value = { InterSpread };
 
-    ghost view = { λ s. record { basis_points = s.basis_points; legs = s.legs.items } };
+    ghost view = { λ s. record { priority = s.priority; basis_points = s.basis_points; legs = s.legs.items } };
 
     ghost invariant = { λ s. AreOfLegs s.a s.b s.legs.items };
 }
@@ -305,9 +321,9 @@ impl Inter {
     ghost use Rattle.span_tables.specs.Sides.{market_side};
     ghost use Rattle.span_tables.specs.Slots.{IsMarked, numbers_on};
 
-    /// A spread of this credit rate and these legs.
-    pub fn new(basis_points: u32, legs: ArrayVec<CommodityLeg, 4>) -> Inter
-        ensures { result ≡ record { basis_points = basis_points; legs = legs.items } }
+    /// A spread of this priority, this credit rate and these legs.
+    pub fn new(priority: u32, basis_points: u32, legs: ArrayVec<CommodityLeg, 4>) -> Inter
+        ensures { result ≡ record { priority = priority; basis_points = basis_points; legs = legs.items } }
     {
         let a = commodities_on(&legs, Side::A);
         let b = commodities_on(&legs, Side::B);
@@ -316,7 +332,15 @@ impl Inter {
             a,
             b,
             basis_points,
+            priority,
         }
+    }
+
+    /// The priority, by which the spreads of the set rise.
+    pub fn priority(&self) -> u32
+        ensures { result ≡ self.now.priority }
+    {
+        self.priority
     }
 
     /// The credit rate in basis points.

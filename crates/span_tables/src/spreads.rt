@@ -49,7 +49,7 @@ fn intra_of(tiers: &[Tier], spread: &IntraRecord) -> Intra
     for leg in spread.legs.as_slice() {
         legs.push(month_leg(tiers, &spread.commodity, leg));
     }
-    Intra::new(spread.rate, legs)
+    Intra::new(spread.priority, spread.rate, legs)
 }
 
 // The spreads of each commodity in their order, each with its tiers' months.
@@ -94,7 +94,7 @@ fn inter_of(commodities: &[Commodity], spread: &InterRecord) -> Inter
     for leg in spread.legs.as_slice() {
         legs.push(commodity_leg(commodities, leg));
     }
-    Inter::new(spread.basis_points, legs)
+    Inter::new(spread.priority, spread.basis_points, legs)
 }
 
 // The spreads in their order, each with its commodities' numbers.

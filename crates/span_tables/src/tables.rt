@@ -4,10 +4,10 @@ ghost use Rattle.std.specs.Prelude.{slice_get, slice_index_or, false, true, All,
 ghost use Rattle.std.specs.Arc.{arc_value};
 ghost use Rattle.span_tables.specs.Accepted.{IsAccepted, IsInter, IsIntra, IsSpot, IsWithinLimits, commodity_id, commodity_number};
 ghost use Rattle.span_tables.specs.Rules.{keeps_rules};
-ghost use Rattle.span_tables.specs.Tables.{has_option_value, inters_of, intras_of, priorities_of, spots_of, tables_of};
+ghost use Rattle.span_tables.specs.Tables.{has_option_value, inters_of, intras_of, spots_of, tables_of};
 ghost use Rattle.span_tables.specs.declared.limits.TheConstants.{MAX_INTER_SPREADS, MAX_INTRA_SPREADS, MAX_SPOT_MONTHS};
 
-use crate::groups::{numbers_of, priorities_by_commodity, spots_by_commodity};
+use crate::groups::{numbers_of, spots_by_commodity};
 use crate::kinds::{Kinds, by_kind, profile, set_id};
 use crate::limits::VALUE_PROFILE;
 use crate::name::Name;
@@ -46,7 +46,6 @@ pub struct Tables {
     inter_records: Vec<InterRecord>,
     commodity_numbers: Vec<usize>,
     intras: Vec<Vec<Intra>>,
-    priorities: Vec<Vec<u32>>,
     spot_months: Vec<Vec<Spot>>,
     inters: Vec<Inter>,
 }
@@ -81,8 +80,8 @@ impl Model for Tables {
           spots = t.spots.items;
           inters = t.inter_records.items;
         })
-        t.commodity_numbers.items (map (λ v. v.items) t.intras.items) (map (λ v. v.items) t.priorities.items)
-        (map (λ v. v.items) t.spot_months.items) t.inters.items };
+        t.commodity_numbers.items (map (λ v. v.items) t.intras.items) (map (λ v. v.items) t.spot_months.items)
+        t.inters.items };
 }
 
 // The list at a place.
@@ -149,7 +148,6 @@ impl Tables {
         let spots = kinds.spots.as_slice();
         let commodity_numbers = numbers_of(alloc, commodities, &kinds.contracts)?;
         let intras = intras_by_commodity(alloc, commodities, tiers, spreads)?;
-        let priorities = priorities_by_commodity(alloc, commodities, spreads)?;
         let spot_months = spots_by_commodity(alloc, commodities, spots)?;
         let inters = inters_with_numbers(alloc, commodities, &kinds.inters)?;
         let contracts = Arc::new(alloc, kinds.contracts)?;
@@ -164,7 +162,6 @@ impl Tables {
             inter_records: kinds.inters,
             commodity_numbers,
             intras,
-            priorities,
             spot_months,
             inters,
         })
@@ -270,14 +267,6 @@ impl Tables {
         ensures in_range { All IsIntra result.now }
     {
         list_at(&self.intras, commodity)
-    }
-
-    /// The priorities of these spreads, rising.
-    pub fn priorities(&self, commodity: usize) -> &[u32]
-        requires { commodity < length self.now.commodities }
-        ensures { result.now ≡ priorities_of self.now (commodity_id self.now commodity) }
-    {
-        list_at(&self.priorities, commodity)
     }
 
     /// The spot months of the commodity of a number, in file order.

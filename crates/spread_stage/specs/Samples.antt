@@ -26,6 +26,7 @@ month_units month units = record { month = month; units = units }
 -- a spread of the months before 202505 against the later ones, with this ratio on both legs
 abbrev pub calendar_spread : ℕ → Intra
 calendar_spread ratio = record {
+  priority = 1;
   rate = 250;
   legs = record { first = 202501; last = 202504; side = side.A; ratio = ratio }
       ∷ record { first = 202505; last = 202512; side = side.B; ratio = ratio } ∷ [];
@@ -34,6 +35,7 @@ calendar_spread ratio = record {
 -- a spread of all months of 2025 against themselves
 abbrev pub own_spread : Intra
 own_spread = record {
+  priority = 1;
   rate = 250;
   legs = record { first = 202501; last = 202512; side = side.A; ratio = 10000 }
       ∷ record { first = 202501; last = 202512; side = side.B; ratio = 10000 } ∷ [];

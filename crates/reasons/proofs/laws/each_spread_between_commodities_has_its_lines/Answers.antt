@@ -4,4 +4,4 @@ use Rattle.reasons.proofs.SpreadLaws.{inter_stands}
 use Rattle.reasons.proofs.laws.each_spread_between_commodities_has_its_lines.Goals as goal
 
 pub returns : goal.returns
-returns c t holdings n = inter_stands n t.inters (inters_of t) (loaded_lines t holdings)
+returns c t holdings n = inter_stands n (inters_of t) (loaded_lines t holdings)

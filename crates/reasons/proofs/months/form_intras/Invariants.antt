@@ -3,12 +3,12 @@ use Rattle.std.specs.Prelude.{fold}
 use Rattle.spread_stage.specs.Months.{Shrinks}
 use Rattle.spread_stage.specs.Spreads.{spread_both_ways}
 use Rattle.spread_stage.specs.declared.months.MonthUnits.{MonthUnits}
-use Rattle.reasons.specs.Shown.{intras_formed}
+use Rattle.reasons.specs.Shown.{intras_shown}
 use Rattle.reasons.proofs.months.form_intras.Given as goal
 
 abbrev pub invariant-loop-intra : goal.invariant-loop-intra
 invariant-loop-intra l = record {
   tiers : l.tiers ≡ fold spread_both_ways l.fn.tiers (take l.intra-index l.intras);
-  formed : l.formed.items ≡ intras_formed (take l.intra-index l.intras) l.fn.tiers;
+  shown : l.shown.items ≡ intras_shown (take l.intra-index l.intras) l.fn.tiers;
   shrinks : (months : List MonthUnits) → Shrinks months l.fn.tiers.rests → Shrinks months l.tiers.rests;
 }

@@ -1,7 +1,8 @@
-use Rattle.std.proofs.Common.{◌≡◌, ◌<◌, length, get_or, ap, arith, ◌∙◌}
+use Rattle.std.proofs.Common.{◌≡◌, ◌<◌, length, get_or, sym, ap, arith, ◌∙◌}
 use Rattle.std.proofs.lemmas.List.{get_or_default}
-use Rattle.plan_ir.specs.Figures.{commodity_at, held_at, inter_lines, no_commodity}
+use Rattle.plan_ir.specs.Figures.{commodity_at, held_at, inter_lines, loaded_lines, no_commodity}
 use Rattle.reasons.specs.Reasons.{line_after_all}
+use Rattle.reasons.specs.Stages.{inters_formed}
 use Rattle.plan_compiler.proofs.StageLemmas.{held_read}
 use Rattle.reasons.proofs.StageLemmas.{line_read, reasons_are}
 use Rattle.reasons.proofs.stages.push_reasons.Goals as goal
@@ -24,8 +25,11 @@ returns c = λ holdings is.
     let commodity_is : commodity ≡ commodity_at t i =
     c.index-commodities-commodity.is ∙ ap (λ cs. get_or cs i commodity) c.commodities.ensures.value
     ∙ get_or_default t.commodities i commodity no_commodity c.requires.commodity in
-    reasons_are t holdings i c.args.ids.now c.args.out.now.items _ _ _ _ _ _ held c.inter_records.result.now c.inters.result.now
-    c.deref.result.now line commodity held_is c.inter_records.ensures c.inters.ensures.value
-    (c.deref.ensures.value ∙ ap (λ s. s.formed) stages) line_is commodity_is c.in_ok-push_held.ensures c.in_ok-push_scan.ensures
-    (c.in_ok-push_month_reasons.ensures holdings held_is) c.in_ok-push_inters.ensures c.in_ok-push_credit.ensures
-    c.in_ok-push_short.ensures
+    let loaded = loaded_lines t holdings in
+    let formed : c.deref.result.now ≡ inters_formed c.inters.result.now loaded =
+    c.deref.ensures.value ∙ ap (λ s. s.formed) stages
+    ∙ sym (ap (λ xs. inters_formed xs loaded) c.inters.ensures.value) in
+    reasons_are t holdings i c.args.ids.now c.args.out.now.items _ _ _ _ _ _ held c.inters.result.now line commodity
+    held_is c.inters.ensures.value line_is commodity_is c.in_ok-push_held.ensures c.in_ok-push_scan.ensures
+    (c.in_ok-push_month_reasons.ensures holdings held_is) (c.in_ok-push_inters.ensures loaded formed)
+    c.in_ok-push_credit.ensures c.in_ok-push_short.ensures

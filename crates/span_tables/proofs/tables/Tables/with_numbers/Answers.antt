@@ -13,14 +13,6 @@ pub intras_by_commodity-requires-clause-known : goal.intras_by_commodity-require
 intras_by_commodity-requires-clause-known c =
     rw (c.as_slice-commodities.ensures.value, c.as_slice-spreads.ensures.value) (accepted_intras _ c.requires)
 
-pub priorities_by_commodity-requires-clause-apart : goal.priorities_by_commodity-requires-clause-apart
-priorities_by_commodity-requires-clause-apart c =
-    rw c.as_slice-commodities.ensures.value (accepted_limits _ c.requires).commodities_apart
-
-pub priorities_by_commodity-requires-clause-known : goal.priorities_by_commodity-requires-clause-known
-priorities_by_commodity-requires-clause-known c =
-    rw (c.as_slice-commodities.ensures.value, c.as_slice-spreads.ensures.value) (accepted_intras _ c.requires)
-
 pub spots_by_commodity-requires-clause-apart : goal.spots_by_commodity-requires-clause-apart
 spots_by_commodity-requires-clause-apart c = rw c.as_slice-commodities.ensures.value (accepted_limits _ c.requires).commodities_apart
 
@@ -33,7 +25,6 @@ invariant_of-result c =
     let numbers = rw (c.as_slice-commodities.ensures.value, c.deref.ensures.value) at c.in_ok-commodity_numbers.ensures in
     let intras = rw (c.as_slice-commodities.ensures.value, c.as_slice-tiers.ensures.value, c.as_slice-spreads.ensures.value) at
     c.in_ok-intras.ensures in
-    let priorities = rw (c.as_slice-commodities.ensures.value, c.as_slice-spreads.ensures.value) at c.in_ok-priorities.ensures in
     let spots = rw (c.as_slice-commodities.ensures.value, c.as_slice-spots.ensures.value) at c.in_ok-spot_months.ensures in
     let inters = rw (c.as_slice-commodities.ensures.value, c.deref-2.ensures.value) at c.in_ok-inters.ensures in
-    rw c.in_ok-contracts.ensures.ok (are_tables _ c.requires _ _ _ _ _ numbers intras priorities spots inters)
+    rw c.in_ok-contracts.ensures.ok (are_tables _ c.requires _ _ _ _ numbers intras spots inters)
