@@ -1,9 +1,9 @@
 mod CheckLemmas
 mod CountLemmas
 mod FieldLemmas
+mod FitLemmas
 mod FormLemmas
 mod LegLemmas
-mod NumberLemmas
 mod NumberedLemmas
 mod PositionLemmas
 mod ProfileLaws
