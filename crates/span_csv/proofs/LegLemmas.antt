@@ -1,11 +1,35 @@
 -- The fields of the legs of a spread's record.
-use Rattle.std.proofs.Common.{◌≡◌, ◌<◌, ◌+◌, ◌*◌, ◌∙◌, sym, refl, ap, subst, append_assoc, arith, zero, suc, ℕ, Bool, true}
+use Rattle.std.proofs.Common.{◌≡◌, ◌<◌, ◌+◌, ◌*◌, ◌∙◌, ◌&&◌, sym, refl, ap, subst, append_assoc, arith, zero, suc, ℕ, Bool, true}
 use Rattle.std.proofs.Common.{List, [], ◌∷◌, ◌++◌, length, drop, map}
-use Rattle.std.specs.List.{list_all}
-use Rattle.std.proofs.lemmas.Bool.{and_parts}
+use Rattle.std.specs.List.{list_all, repeat}
+use Rattle.std.proofs.lemmas.Bool.{and_parts, and_from}
 use Rattle.std.proofs.lemmas.List.{at_drop_more, get_or-drop, length-drop}
 use Rattle.span_csv.specs.near.Grammar.{leg_at}
-use Rattle.span_csv.specs.Records.{Fields, legs_of, text_at}
+use Rattle.span_csv.specs.Records.{Fields, all_have, has_word_form, is_in_range, legs_of, text_at}
+use Rattle.span_csv.specs.declared.grammar.FieldForm.{FieldForm}
+use Rattle.span_csv.proofs.FormLemmas.{all_have-append}
+
+-- what the forms of a leg say of its fields holds of all legs
+pub legs_all : (p : Fields → Bool) (a b c : FieldForm)
+    → ((x y z : List ℕ) → has_word_form a x ≡ true → is_in_range a x ≡ true → is_in_range c z ≡ true → p (x ∷ y ∷ z ∷ []) ≡ true)
+    → (k : ℕ) (xs : Fields) → length xs ≡ k * 3 → all_have has_word_form (repeat k (a ∷ b ∷ c ∷ [])) xs ≡ true
+    → all_have is_in_range (repeat k (a ∷ b ∷ c ∷ [])) xs ≡ true → list_all p (legs_of xs) ≡ true
+legs_all p a b c says zero [] len words ranges = refl
+legs_all p a b c says zero (x ∷ xs) len words ranges = absurd (omega (arith, len))
+legs_all p a b c says (suc k) [] len words ranges = absurd (omega (arith, len))
+legs_all p a b c says (suc k) (x ∷ []) len words ranges = absurd (omega (arith, len))
+legs_all p a b c says (suc k) (x ∷ y ∷ []) len words ranges = absurd (omega (arith, len))
+legs_all p a b c says (suc k) (x ∷ y ∷ z ∷ xs) len words ranges =
+    let leg = a ∷ b ∷ c ∷ [] in
+    let split : (test : FieldForm → List ℕ → Bool) → all_have test (repeat (suc k) leg) (x ∷ y ∷ z ∷ xs) ≡ true
+    → (all_have test leg (x ∷ y ∷ z ∷ []) ≡ true) × (all_have test (repeat k leg) xs ≡ true) =
+    λ test all. and_parts (all_have test leg (x ∷ y ∷ z ∷ [])) (all_have test (repeat k leg) xs)
+    (sym (all_have-append test leg (repeat k leg) (x ∷ y ∷ z ∷ xs)) ∙ all) in
+    let in_words = and_parts (has_word_form a x) (has_word_form b y && (has_word_form c z && true)) (split has_word_form words).0 in
+    let in_range = and_parts (is_in_range a x) (is_in_range b y && (is_in_range c z && true)) (split is_in_range ranges).0 in
+    let third = and_parts (is_in_range c z) true (and_parts (is_in_range b y) (is_in_range c z && true) in_range.1).1 in
+    and_from _ _ (says x y z in_words.0 in_range.0 third.0)
+    (legs_all p a b c says k xs (omega (arith, len)) (split has_word_form words).1 (split is_in_range ranges).1)
 
 -- a leg's fields behind others
 leg_text : (r : Fields) (from j at : ℕ) → from + j ≡ at → leg_at (drop from r) j ≡ leg_at r at

@@ -1,7 +1,6 @@
 mod CheckLemmas
 mod CountLemmas
 mod FieldLemmas
-mod FitLemmas
 mod FormLemmas
 mod LegLemmas
 mod NumberedLemmas

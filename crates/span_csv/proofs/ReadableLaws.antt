@@ -19,7 +19,7 @@ use Rattle.span_csv.specs.Records.{records_of, all_have, has_word_form, is_in_ra
 use Rattle.span_csv.specs.Records.{forms_of, kind_of, layout_of, product_at, text_at, record_of_kind, param_record}
 use Rattle.span_csv.specs.ParamFaults.{is_set, profile_of, some_fail, exceeds_limit, count_of_kind, count_of_commodity, param_fault}
 use Rattle.span_csv.specs.ParamFaults.{params_of}
-use Rattle.span_csv.proofs.RangeLemmas.{record_in_range}
+use Rattle.span_csv.proofs.RangeLemmas.{kept}
 use Rattle.span_csv.proofs.CountLemmas.{IsClean, fault_of, clean, clean_kind, param_record-kind, has_kind, word_of}
 use Rattle.span_csv.proofs.CountLemmas.{named_word, some_of, word_named, IsPicked, count_picked, never_more}
 use Rattle.span_csv.specs.declared.grammar.FieldForm.{FieldForm}
@@ -47,10 +47,8 @@ clean_in_range earlier (word ∷ fields) c =
     let layout : layout_of profile (word ∷ fields) ≡ forms_of k.0 profile (product_at (word ∷ fields) 3) (length fields) =
     rw (k.1, count) refl in
     rw (param_record-kind (word ∷ fields) k.0 k.1)
-    (record_in_range k.0 profile word fields forms.0 (sym layout ∙ forms.1) (record {
-      words = all_pass has_word_form profile word fields forms.0 forms.1 c.words;
-      ranges = all_pass is_in_range profile word fields forms.0 forms.1 c.ranges;
-    }))
+    (kept word fields forms.0 (all_pass has_word_form profile word fields forms.0 forms.1 c.words)
+    (all_pass is_in_range profile word fields forms.0 forms.1 c.ranges) k.0 profile (sym layout ∙ forms.1)).0
 
 all_in_range : (before rows : List Fields) → IsFaultFree fault_of before rows → list_all in_range (map param_record rows) ≡ true
 all_in_range before [] free = refl

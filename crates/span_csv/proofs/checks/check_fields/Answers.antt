@@ -1,7 +1,7 @@
 use Rattle.std.proofs.Common.{◌∙◌, sym}
 use Rattle.csv.specs.Records.{fields_of}
 use Rattle.span_csv.proofs.CheckLemmas.{none_fails}
-use Rattle.span_csv.proofs.FitLemmas.{fields_fit}
+use Rattle.span_csv.proofs.RangeLemmas.{fields_fit}
 use Rattle.span_csv.proofs.checks.check_fields.Goals as goal
 
 pub returns-then-all_have : goal.returns-then-all_have
