@@ -23,19 +23,19 @@ pub position_small : (net : ℤ) (value : ℕ) → nat_abs net ≤ MAX_NET → v
 position_small net value x y = product_size net (pos value) MAX_NET MAX_OPTION_VALUE x y
 
 -- what the contract at a place is worth, by its record and its net
-pub position_told : (held : List HeldContract) (i : ℕ) (x : Contract) (n value : ℤ) → value ≡ n *ℤ pos x.option_value
+pub position_told : (held : List HeldContract) (i : ℕ) (x : Contract) (n value : ℤ) → value ≡ n *ℤ pos x.extras.option_value
     → IfSome (slice_get held i) (λ h. x ≡ h.contract) → IfSome (slice_get held i) (λ h. n ≡ h.net)
     → IfSome (slice_get held i) (λ h. value ≡ position_value h)
 position_told held i x n value is contract net = told (slice_get held i) contract net where
   told : (o : Option HeldContract) → IfSome o (λ h. x ≡ h.contract) → IfSome o (λ h. n ≡ h.net)
       → IfSome o (λ h. value ≡ position_value h)
   told None contract net = tt
-  told (Some h) contract net = is ∙ (λ j. net j *ℤ pos (contract j).option_value)
+  told (Some h) contract net = is ∙ (λ j. net j *ℤ pos (contract j).extras.option_value)
 
 -- one held contract more, by its record and its net
 pub net_value_more : (held : List HeldContract) (i : ℕ) (x : Contract) (n : ℤ) → i < length held
     → IfSome (slice_get held i) (λ h. x ≡ h.contract) → IfSome (slice_get held i) (λ h. n ≡ h.net)
-    → net_value_of (take (i + 1) held) ≡ net_value_of (take i held) +ℤ n *ℤ pos x.option_value
+    → net_value_of (take (i + 1) held) ≡ net_value_of (take i held) +ℤ n *ℤ pos x.extras.option_value
 unfolding net_value_of
 net_value_more held i x n lt contract net =
     let h : HeldContract = record { contract = x; net = n } in

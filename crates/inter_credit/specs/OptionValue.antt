@@ -5,7 +5,7 @@ use Rattle.span_tables.specs.Net.{HeldContract}
 
 -- what a held contract is worth: its net quantity times its option value
 abbrev pub position_value : HeldContract → ℤ
-position_value h = h.net *ℤ pos (h.contract).option_value
+position_value h = h.net *ℤ pos (h.contract).extras.option_value
 
 -- the option value of held contracts
 unfoldable pub net_value_of : List HeldContract → ℤ

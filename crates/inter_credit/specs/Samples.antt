@@ -35,7 +35,7 @@ held_with_value kind net value = record {
     delta = pos 10000;
     scale = 10000;
     values = repeat 16 (pos 0 ∷ []);
-    option_value = value;
+    extras = record { option_value = value };
   };
   net = net;
 }

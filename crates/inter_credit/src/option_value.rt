@@ -20,10 +20,10 @@ pub const MAX_NET_VALUE: u64 = MAX_HELD as u64 * MAX_POSITION_VALUE;
 fn worth(contract: &Contract, net: i64) -> i64
     requires net { nat_abs net ≤ MAX_NET }
     requires contract { IsContract contract.now }
-    ensures value { result ≡ net *ℤ pos (contract.now).option_value }
+    ensures value { result ≡ net *ℤ pos (contract.now).extras.option_value }
     ensures bound { nat_abs result ≤ MAX_POSITION_VALUE }
 {
-    net * i64::from(contract.option_value)
+    net * i64::from(contract.extras.option_value)
 }
 
 /// What the held contract at a place is worth, in minor units: its net quantity times its option value. A short option's

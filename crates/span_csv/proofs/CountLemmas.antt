@@ -12,10 +12,12 @@ use Rattle.span_tables.specs.Faults.{first_that_holds}
 use Rattle.span_tables.specs.Laws.{IsFaultFree}
 use Rattle.span_tables.specs.declared.records.Record.{Record}
 use Rattle.span_tables.proofs.NameLemmas.{same_name}
-use Rattle.span_csv.specs.Records.{Fields, RecordKind, a_set, a_commodity, a_contract, a_tier, an_intra, a_spot, an_inter, has_word_form}
+use Rattle.span_csv.specs.Records.{Fields, has_word_form}
 use Rattle.span_csv.specs.Records.{is_in_range, kind_named, kind_of, layout_of, is_word, text_at, record_of_kind, param_record}
 use Rattle.span_csv.specs.ParamFaults.{is_set, profile_of, some_fail, exceeds_limit, param_faults}
 use Rattle.span_csv.specs.declared.faults.ParamFault.{ParamFault}
+use Rattle.span_csv.specs.declared.grammar.Kind.{Kind}
+use Rattle.span_csv.specs.declared.grammar.Kind.TheVariants as kind
 
 -- ---- a record without a fault
 
@@ -61,83 +63,83 @@ clean earlier r e =
 
 -- ---- kinds and their words
 
-abbrev pub word_of : RecordKind → List ℕ
-word_of a_set = codes "SET"
-word_of a_commodity = codes "COMMODITY"
-word_of a_contract = codes "CONTRACT"
-word_of a_tier = codes "TIER"
-word_of an_intra = codes "INTRA"
-word_of a_spot = codes "SPOT"
-word_of an_inter = codes "INTER"
+abbrev pub word_of : Kind → List ℕ
+word_of kind.Set = codes "SET"
+word_of kind.Commodity = codes "COMMODITY"
+word_of kind.Contract = codes "CONTRACT"
+word_of kind.Tier = codes "TIER"
+word_of kind.Intra = codes "INTRA"
+word_of kind.Spot = codes "SPOT"
+word_of kind.Inter = codes "INTER"
 
 -- the record's first field is the word of a kind
-abbrev pub has_kind : RecordKind → Fields → Bool
+abbrev pub has_kind : Kind → Fields → Bool
 has_kind kind r = is_word (word_of kind) (text_at r 0)
 
-by_test : (b : Bool) (j k : RecordKind) (rest : Option RecordKind) (P : RecordKind → Type 0) → (b ≡ true → P j)
+by_test : (b : Bool) (j k : Kind) (rest : Option Kind) (P : Kind → Type 0) → (b ≡ true → P j)
     → (rest ≡ Some k → P k)
     → (if b then Some j else rest) ≡ Some k → P k
 by_test true j k rest P here later e = let same : j ≡ k = cc in subst P same (here refl)
 by_test false j k rest P here later e = later e
 
-abbrev pub IsWord : List ℕ → RecordKind → Type 0
+abbrev pub IsWord : List ℕ → Kind → Type 0
 IsWord text kind = is_word (word_of kind) text ≡ true
 
 -- a kind is named by its word
-pub named_word : (text : List ℕ) (k : RecordKind) → kind_named text ≡ Some k → IsWord text k
+pub named_word : (text : List ℕ) (k : Kind) → kind_named text ≡ Some k → IsWord text k
 named_word text k e =
-    by_test (is_word (codes "SET") text) a_set k _ (IsWord text) (λ h. h)
-    (by_test (is_word (codes "COMMODITY") text) a_commodity k _ (IsWord text) (λ h. h)
-    (by_test (is_word (codes "CONTRACT") text) a_contract k _ (IsWord text) (λ h. h)
-    (by_test (is_word (codes "TIER") text) a_tier k _ (IsWord text) (λ h. h)
-    (by_test (is_word (codes "INTRA") text) an_intra k _ (IsWord text) (λ h. h)
-    (by_test (is_word (codes "SPOT") text) a_spot k _ (IsWord text) (λ h. h)
-    (by_test (is_word (codes "INTER") text) an_inter k _ (IsWord text) (λ h. h) (λ h. cc)))))))
+    by_test (is_word (codes "SET") text) kind.Set k _ (IsWord text) (λ h. h)
+    (by_test (is_word (codes "COMMODITY") text) kind.Commodity k _ (IsWord text) (λ h. h)
+    (by_test (is_word (codes "CONTRACT") text) kind.Contract k _ (IsWord text) (λ h. h)
+    (by_test (is_word (codes "TIER") text) kind.Tier k _ (IsWord text) (λ h. h)
+    (by_test (is_word (codes "INTRA") text) kind.Intra k _ (IsWord text) (λ h. h)
+    (by_test (is_word (codes "SPOT") text) kind.Spot k _ (IsWord text) (λ h. h)
+    (by_test (is_word (codes "INTER") text) kind.Inter k _ (IsWord text) (λ h. h) (λ h. cc)))))))
     e
 
-kind_of_word : (k : RecordKind) → kind_named (word_of k) ≡ Some k
-kind_of_word a_set = refl
-kind_of_word a_commodity = refl
-kind_of_word a_contract = refl
-kind_of_word a_tier = refl
-kind_of_word an_intra = refl
-kind_of_word a_spot = refl
-kind_of_word an_inter = refl
+kind_of_word : (k : Kind) → kind_named (word_of k) ≡ Some k
+kind_of_word kind.Set = refl
+kind_of_word kind.Commodity = refl
+kind_of_word kind.Contract = refl
+kind_of_word kind.Tier = refl
+kind_of_word kind.Intra = refl
+kind_of_word kind.Spot = refl
+kind_of_word kind.Inter = refl
 
 -- and a word names its kind
-pub word_named : (r : Fields) (k : RecordKind) → has_kind k r ≡ true → kind_of r ≡ Some k
+pub word_named : (r : Fields) (k : Kind) → has_kind k r ≡ true → kind_of r ≡ Some k
 word_named r k h = ap kind_named (same_name (text_at r 0) (word_of k) h) ∙ kind_of_word k
 
-abbrev rank : RecordKind → ℕ
-rank a_set = 0
-rank a_commodity = 1
-rank a_contract = 2
-rank a_tier = 3
-rank an_intra = 4
-rank a_spot = 5
-rank an_inter = 6
+abbrev rank : Kind → ℕ
+rank kind.Set = 0
+rank kind.Commodity = 1
+rank kind.Contract = 2
+rank kind.Tier = 3
+rank kind.Intra = 4
+rank kind.Spot = 5
+rank kind.Inter = 6
 
 -- two kinds are the same
-abbrev pub same_kind : RecordKind → RecordKind → Bool
+abbrev pub same_kind : Kind → Kind → Bool
 same_kind j k = rank j == rank k
 
-abbrev kind_at : ℕ → RecordKind
+abbrev kind_at : ℕ → Kind
 kind_at n =
-    if n == 0 then a_set else if n == 1 then a_commodity else if n == 2 then a_contract else if n == 3 then a_tier else if n == 4
-    then an_intra
-    else if n == 5 then a_spot else an_inter
+    if n == 0 then kind.Set else if n == 1 then kind.Commodity else if n == 2 then kind.Contract else if n == 3 then kind.Tier else if n == 4
+    then kind.Intra
+    else if n == 5 then kind.Spot else kind.Inter
 
-kind_at-rank : (k : RecordKind) → kind_at (rank k) ≡ k
-kind_at-rank a_set = refl
-kind_at-rank a_commodity = refl
-kind_at-rank a_contract = refl
-kind_at-rank a_tier = refl
-kind_at-rank an_intra = refl
-kind_at-rank a_spot = refl
-kind_at-rank an_inter = refl
+kind_at-rank : (k : Kind) → kind_at (rank k) ≡ k
+kind_at-rank kind.Set = refl
+kind_at-rank kind.Commodity = refl
+kind_at-rank kind.Contract = refl
+kind_at-rank kind.Tier = refl
+kind_at-rank kind.Intra = refl
+kind_at-rank kind.Spot = refl
+kind_at-rank kind.Inter = refl
 
 -- a record of one kind has the word of just that kind
-has_kind-same : (r : Fields) (j k : RecordKind) → kind_of r ≡ Some j → has_kind k r ≡ same_kind j k
+has_kind-same : (r : Fields) (j k : Kind) → kind_of r ≡ Some j → has_kind k r ≡ same_kind j k
 has_kind-same r j k e =
     elim (cases_Bool (rank j == rank k)) [
       | inl same ↦
@@ -157,11 +159,11 @@ some_of None e = cc
 some_of (Some x) e = (x, refl)
 
 -- the kind of a record without a fault
-pub clean_kind : (earlier : List Fields) (r : Fields) → IsClean earlier r → (k : RecordKind) × (kind_of r ≡ Some k)
+pub clean_kind : (earlier : List Fields) (r : Fields) → IsClean earlier r → (k : Kind) × (kind_of r ≡ Some k)
 clean_kind earlier r c = some_of (kind_of r) c.kind
 
 -- what it says is of that kind
-pub param_record-kind : (r : Fields) (k : RecordKind) → kind_of r ≡ Some k → param_record r ≡ record_of_kind k r
+pub param_record-kind : (r : Fields) (k : Kind) → kind_of r ≡ Some k → param_record r ≡ record_of_kind k r
 unfolding param_record
 param_record-kind r k e = rw e refl
 
@@ -172,9 +174,9 @@ abbrev pub passes : {A : Type 0} → (A → Bool) → Option A → Bool
 passes test o = option_map_or test o false
 
 -- what a record of a kind gives passes a test if the record does
-abbrev pub IsPicked : {A : Type 0} → RecordKind → (Record → Option A) → (A → Bool) → (Fields → Bool) → Type 0
+abbrev pub IsPicked : {A : Type 0} → Kind → (Record → Option A) → (A → Bool) → (Fields → Bool) → Type 0
 IsPicked kind pick test of_fields =
-    (k : RecordKind) (r : Fields) → passes test (pick (record_of_kind k r)) ≡ (same_kind k kind && of_fields r)
+    (k : Kind) (r : Fields) → passes test (pick (record_of_kind k r)) ≡ (same_kind k kind && of_fields r)
 
 count_by-cons_option : {A : Type 0} (test : A → Bool) (o : Option A) (xs : List A)
     → count_by test (cons_option o xs) ≡ cond (passes test o) 1 0 + count_by test xs
@@ -182,7 +184,7 @@ count_by-cons_option test None xs = omega arith
 count_by-cons_option test (Some x) xs = sum_by-cons (λ y. cond (test y) 1 0) x xs
 
 -- what records without a fault give is counted by their fields
-pub count_picked : {A : Type 0} (kind : RecordKind) (pick : Record → Option A) (test : A → Bool) (of_fields : Fields → Bool)
+pub count_picked : {A : Type 0} (kind : Kind) (pick : Record → Option A) (test : A → Bool) (of_fields : Fields → Bool)
     → IsPicked kind pick test of_fields
     → (before rows : List Fields) → IsFaultFree fault_of before rows
     → count_by test (filter_map pick (map param_record rows)) ≡ count_by (λ r. has_kind kind r && of_fields r) rows

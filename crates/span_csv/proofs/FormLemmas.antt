@@ -1,14 +1,18 @@
 -- What the forms of fields say of the numbers that a record takes from them.
-use Rattle.std.proofs.Common.{◌≡◌, refl, ap, arith, ℕ, suc, zero, ◌<◌, ◌≤◌, Bool, true, false, ◌&&◌, ◌==◌}
+use Rattle.std.proofs.Common.{◌≡◌, ◌∙◌, ◌+◌, ◌*◌, length-append, sym, refl, ap, arith, ℕ, suc, zero, ◌<◌, ◌≤◌, Bool, true, false, ◌&&◌, ◌==◌}
 use Rattle.std.proofs.Common.{if◌then◌else◌, ℤ, pos, negsuc, List, [], ◌∷◌, ◌++◌, length, take, drop, Option, Some, None}
 use Rattle.std.specs.Prelude.{nat_le, nat_abs, unwrap_or, slice_get}
 use Rattle.std.specs.Char.{is_ascii_digit}
 use Rattle.std.specs.List.{list_all, repeat}
 use Rattle.std.specs.Option.{option_map_or}
+use Rattle.std.proofs.Math.Nat.{suc-mul}
+use Rattle.std.proofs.lemmas.List.{get_or_past}
 use Rattle.std.proofs.lemmas.Bool.{and_parts, and_from, leb-true, le-leb, eqb-true, ne_eqb}
 use Rattle.span_money.specs.Numbers.{positive_part, whole_number, month_number, are_digits, digits_value, is_month}
 use Rattle.span_tables.specs.Limits.{lies_within}
-use Rattle.span_csv.specs.Records.{Form, Fields, text_at, all_have, is_within, is_in_range, a_month}
+use Rattle.span_csv.specs.Records.{Fields, count_at, text_at, all_have, is_within, is_in_range}
+use Rattle.span_csv.specs.declared.grammar.FieldForm.{FieldForm}
+use Rattle.span_csv.specs.declared.grammar.FieldForm.TheVariants as form
 
 -- ---- numbers
 
@@ -66,14 +70,14 @@ month_from text None e h = cc
 month_from text (Some z) e h = rw (month_whole text z e) h
 
 -- a month, taken as a count
-pub month_within : (text : List ℕ) → is_in_range a_month text ≡ true
+pub month_within : (text : List ℕ) → is_in_range form.Month text ≡ true
     → is_month (positive_part (unwrap_or (whole_number text) (pos 0))) ≡ true
 month_within text h = month_from text (month_number text) refl h
 
 -- ---- fields
 
 -- each field passes the test of its form
-pub passes_at : (test : Form → List ℕ → Bool) (forms : List Form) (fields : Fields) (i : ℕ) (f : Form)
+pub passes_at : (test : FieldForm → List ℕ → Bool) (forms : List FieldForm) (fields : Fields) (i : ℕ) (f : FieldForm)
     → all_have test forms fields ≡ true
     → i < length fields → slice_get forms i ≡ Some f → test f (text_at fields i) ≡ true
 passes_at test [] fields i f all inside is = cc
@@ -84,17 +88,32 @@ passes_at test (g ∷ forms) (x ∷ fields) zero f all inside is =
 passes_at test (g ∷ forms) (x ∷ fields) (suc i) f all inside is =
     passes_at test forms fields i f ((and_parts (test g x) (all_have test forms fields) all).1) (omega (arith, inside)) is
 
--- behind the first forms too
-pub all_behind : (test : Form → List ℕ → Bool) (front back : List Form) (fields : Fields)
-    → all_have test (front ++ back) fields ≡ true
-    → length front ≤ length fields → all_have test back (drop (length front) fields) ≡ true
-all_behind test [] back fields all le = all
-all_behind test (g ∷ front) back [] all le = absurd (omega arith)
-all_behind test (g ∷ front) back (x ∷ fields) all le =
-    all_behind test front back fields ((and_parts (test g x) (all_have test (front ++ back) fields) all).1) (omega (arith, le))
+-- no field is left to fail
+pub all_have-none : (test : FieldForm → List ℕ → Bool) (forms : List FieldForm) → all_have test forms [] ≡ true
+all_have-none test [] = refl
+all_have-none test (f ∷ forms) = refl
+
+and_assoc : (a b c : Bool) → (a && (b && c)) ≡ ((a && b) && c)
+and_assoc true b c = refl
+and_assoc false b c = refl
+
+-- forms behind others are those of the fields behind the others'
+pub all_have-append : (test : FieldForm → List ℕ → Bool) (front back : List FieldForm) (fields : Fields)
+    → all_have test (front ++ back) fields ≡ (all_have test front fields && all_have test back (drop (length front) fields))
+all_have-append test [] back fields = refl
+all_have-append test (f ∷ front) back [] = sym (all_have-none test back)
+all_have-append test (f ∷ front) back (x ∷ fields) =
+    rw (all_have-append test front back fields)
+    (and_assoc (test f x) (all_have test front fields) (all_have test back (drop (length front) fields)))
+
+pub all_behind : (test : FieldForm → List ℕ → Bool) (front back : List FieldForm) (fields : Fields)
+    → all_have test (front ++ back) fields ≡ true → all_have test back (drop (length front) fields) ≡ true
+all_behind test front back fields all =
+    (and_parts (all_have test front fields) (all_have test back (drop (length front) fields))
+    (sym (all_have-append test front back fields) ∙ all)).1
 
 -- many fields of one form, in front of others
-pub all_of_form : (test : Form → List ℕ → Bool) (f : Form) (n : ℕ) (back : List Form) (fields : Fields)
+pub all_of_form : (test : FieldForm → List ℕ → Bool) (f : FieldForm) (n : ℕ) (back : List FieldForm) (fields : Fields)
     → all_have test (repeat n (f ∷ []) ++ back) fields ≡ true
     → list_all (test f) (take n fields) ≡ true
 all_of_form test f zero back fields all = refl
@@ -102,3 +121,25 @@ all_of_form test f (suc n) back [] all = refl
 all_of_form test f (suc n) back (x ∷ fields) all =
     let parts = and_parts (test f x) (all_have test (repeat n (f ∷ []) ++ back) fields) all in
     and_from (test f x) (list_all (test f) (take n fields)) parts.0 (all_of_form test f n back fields parts.1)
+
+-- ---- layouts
+
+pub length-repeat : {A : Type 0} (n : ℕ) (xs : List A) → length (repeat n xs) ≡ n * length xs
+length-repeat zero xs = omega arith
+length-repeat (suc n) xs = omega (arith, length-append xs (repeat n xs), length-repeat n xs, suc-mul n (length xs))
+
+pub layout_length : (front middle back : List FieldForm) (times : ℕ)
+    → length (front ++ repeat times middle ++ back) ≡ length front + times * length middle + length back
+layout_length front middle back times =
+    omega (
+      arith,
+      length-append (front ++ repeat times middle) back,
+      length-append front (repeat times middle),
+      length-repeat times middle,
+    )
+
+-- ---- fields past the end
+
+-- such a field is no number
+pub count_past : (r : Fields) (i : ℕ) → length r ≤ i → count_at r i ≡ 0
+count_past r i past = ap (λ text. positive_part (unwrap_or (whole_number text) (pos 0))) (get_or_past r i [] past)

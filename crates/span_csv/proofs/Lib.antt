@@ -3,7 +3,6 @@ mod CountLemmas
 mod FieldLemmas
 mod FormLemmas
 mod LegLemmas
-mod NumberLemmas
 mod NumberedLemmas
 mod PositionLemmas
 mod ProfileLaws

@@ -14,19 +14,22 @@ use Rattle.span_tables.specs.declared.limits.TheConstants.{MAX_INTRA_SPREADS, MA
 use Rattle.span_tables.specs.declared.records.Record.{Record}
 use Rattle.span_tables.proofs.FaultLaws.{first_fault_none}
 use Rattle.span_tables.proofs.NameLemmas.{same_name}
-use Rattle.span_csv.specs.Records.{Form, Fields, RecordKind, a_set, a_commodity, a_contract, a_tier, an_intra}
-use Rattle.span_csv.specs.Records.{a_spot, an_inter, records_of, all_have, has_word_form, is_in_range}
+use Rattle.span_csv.specs.Records.{Fields}
+use Rattle.span_csv.specs.Records.{records_of, all_have, has_word_form, is_in_range}
 use Rattle.span_csv.specs.Records.{forms_of, kind_of, layout_of, product_at, text_at, record_of_kind, param_record}
 use Rattle.span_csv.specs.ParamFaults.{is_set, profile_of, some_fail, exceeds_limit, count_of_kind, count_of_commodity, param_fault}
 use Rattle.span_csv.specs.ParamFaults.{params_of}
-use Rattle.span_csv.proofs.RangeLemmas.{record_in_range}
+use Rattle.span_csv.proofs.RangeLemmas.{kept}
 use Rattle.span_csv.proofs.CountLemmas.{IsClean, fault_of, clean, clean_kind, param_record-kind, has_kind, word_of}
 use Rattle.span_csv.proofs.CountLemmas.{named_word, some_of, word_named, IsPicked, count_picked, never_more}
+use Rattle.span_csv.specs.declared.grammar.FieldForm.{FieldForm}
+use Rattle.span_csv.specs.declared.grammar.Kind.{Kind}
+use Rattle.span_csv.specs.declared.grammar.Kind.TheVariants as kind
 
 -- ---- ranges
 
 -- no field fails a test where some_fail does not hold
-all_pass : (test : Form → List ℕ → Bool) (profile : ℕ) (word : List ℕ) (fields : Fields) (forms : List Form)
+all_pass : (test : FieldForm → List ℕ → Bool) (profile : ℕ) (word : List ℕ) (fields : Fields) (forms : List FieldForm)
     → layout_of profile (word ∷ fields) ≡ Some forms
     → some_fail test profile (word ∷ fields) ≡ false → all_have test forms fields ≡ true
 all_pass test profile word fields forms found e =
@@ -44,10 +47,8 @@ clean_in_range earlier (word ∷ fields) c =
     let layout : layout_of profile (word ∷ fields) ≡ forms_of k.0 profile (product_at (word ∷ fields) 3) (length fields) =
     rw (k.1, count) refl in
     rw (param_record-kind (word ∷ fields) k.0 k.1)
-    (record_in_range k.0 profile word fields forms.0 (sym layout ∙ forms.1) (record {
-      words = all_pass has_word_form profile word fields forms.0 forms.1 c.words;
-      ranges = all_pass is_in_range profile word fields forms.0 forms.1 c.ranges;
-    }))
+    (kept word fields forms.0 (all_pass has_word_form profile word fields forms.0 forms.1 c.words)
+    (all_pass is_in_range profile word fields forms.0 forms.1 c.ranges) k.0 profile (sym layout ∙ forms.1)).0
 
 all_in_range : (before rows : List Fields) → IsFaultFree fault_of before rows → list_all in_range (map param_record rows) ≡ true
 all_in_range before [] free = refl
@@ -60,17 +61,17 @@ all_in_range before (r ∷ rows) free =
 first_set : (r : Fields) → IsClean [] r → is_some (as_set (param_record r)) ≡ true
 first_set r c =
     let word : is_set r ≡ true = not-false (is_set r) c.first in
-    rw (param_record-kind r a_set (word_named r a_set word)) refl
+    rw (param_record-kind r kind.Set (word_named r kind.Set word)) refl
 
-not_set : (k : RecordKind) (r : Fields) → kind_of r ≡ Some k → is_set r ≡ false
+not_set : (k : Kind) (r : Fields) → kind_of r ≡ Some k → is_set r ≡ false
     → not (is_some (as_set (record_of_kind k r))) ≡ true
-not_set a_set r e other = absurd (both_ways (is_set r) other (named_word (text_at r 0) a_set e))
-not_set a_commodity r e other = refl
-not_set a_contract r e other = refl
-not_set a_tier r e other = refl
-not_set an_intra r e other = refl
-not_set a_spot r e other = refl
-not_set an_inter r e other = refl
+not_set kind.Set r e other = absurd (both_ways (is_set r) other (named_word (text_at r 0) kind.Set e))
+not_set kind.Commodity r e other = refl
+not_set kind.Contract r e other = refl
+not_set kind.Tier r e other = refl
+not_set kind.Intra r e other = refl
+not_set kind.Spot r e other = refl
+not_set kind.Inter r e other = refl
 
 -- and none behind it
 later_set : (earlier : List Fields) (r : Fields) → 0 < length earlier → IsClean earlier r
@@ -95,7 +96,7 @@ and_true true = refl
 and_true false = refl
 
 -- records of a kind with a limit
-kind_room : (kind : RecordKind) (most : ℕ) → ((earlier : List Fields) (r : Fields)
+kind_room : (kind : Kind) (most : ℕ) → ((earlier : List Fields) (r : Fields)
     → exceeds_limit earlier r (Some kind) ≡ (count_of_kind earlier r == most))
     → (earlier : List Fields) (r : Fields) → IsClean earlier r → (has_kind kind r && true) ≡ true
     → (count_by (λ x. has_kind kind x && true) earlier == most) ≡ false
@@ -112,7 +113,7 @@ length-count : {A : Type 0} (xs : List A) → count_by (λ x. true) xs ≡ lengt
 length-count [] = refl
 length-count (x ∷ xs) = sum_by-cons (λ x. 1) x xs ∙ omega (arith, length-count xs)
 
-few_of_kind : {A : Type 0} (kind : RecordKind) (most : ℕ) (pick : Record → Option A)
+few_of_kind : {A : Type 0} (kind : Kind) (most : ℕ) (pick : Record → Option A)
     → ((earlier : List Fields) (r : Fields) → exceeds_limit earlier r (Some kind) ≡ (count_of_kind earlier r == most))
     → IsPicked kind pick (λ x. true) (λ r. true) → (rows : List Fields) → IsFaultFree fault_of [] rows
     → nat_le (length (filter_map pick (map param_record rows))) most ≡ true
@@ -123,7 +124,7 @@ few_of_kind kind most pick limit picked rows free =
     le-leb _ most (omega (arith, few, same, all))
 
 -- records of a kind with a limit for each commodity
-commodity_room : (kind : RecordKind) (most : ℕ) (commodity : List ℕ)
+commodity_room : (kind : Kind) (most : ℕ) (commodity : List ℕ)
     → ((earlier : List Fields) (r : Fields) → exceeds_limit earlier r (Some kind) ≡ (count_of_commodity earlier r == most))
     → (earlier : List Fields) (r : Fields) → IsClean earlier r → (has_kind kind r && bytes_eq (text_at r 1) commodity) ≡ true
     → (count_by (λ x. has_kind kind x && bytes_eq (text_at x 1) commodity) earlier == most) ≡ false
@@ -143,7 +144,7 @@ all_true : {A : Type 0} (test : A → Bool) (xs : List A) → ((x : A) → test 
 all_true test [] each = refl
 all_true test (x ∷ xs) each = and_from (test x) (list_all test xs) (each x) (all_true test xs each)
 
-few_of_each : {A : Type 0} (kind : RecordKind) (most : ℕ) (pick : Record → Option A) (commodity_of : A → List ℕ)
+few_of_each : {A : Type 0} (kind : Kind) (most : ℕ) (pick : Record → Option A) (commodity_of : A → List ℕ)
     → ((earlier : List Fields) (r : Fields) → exceeds_limit earlier r (Some kind) ≡ (count_of_commodity earlier r == most))
     → ((commodity : List ℕ) → IsPicked kind pick (λ x. bytes_eq (commodity_of x) commodity) (λ r. bytes_eq (text_at r 1) commodity))
     → (rows : List Fields) → IsFaultFree fault_of [] rows
@@ -157,31 +158,31 @@ few_of_each kind most pick commodity_of limit picked rows free =
     (picked commodity) [] rows free in
     le-leb _ most (omega (arith, few, same)))
 
-commodity_picked : IsPicked a_commodity as_commodity (λ x. true) (λ r. true)
-commodity_picked a_commodity r = refl
+commodity_picked : IsPicked kind.Commodity as_commodity (λ x. true) (λ r. true)
+commodity_picked kind.Commodity r = refl
 commodity_picked _ r = refl
 
-contract_picked : IsPicked a_contract as_contract (λ x. true) (λ r. true)
-contract_picked a_contract r = refl
+contract_picked : IsPicked kind.Contract as_contract (λ x. true) (λ r. true)
+contract_picked kind.Contract r = refl
 contract_picked _ r = refl
 
-inter_picked : IsPicked an_inter as_inter (λ x. true) (λ r. true)
-inter_picked an_inter r = refl
+inter_picked : IsPicked kind.Inter as_inter (λ x. true) (λ r. true)
+inter_picked kind.Inter r = refl
 inter_picked _ r = refl
 
-tier_picked : (commodity : List ℕ) → IsPicked a_tier as_tier (λ t. bytes_eq t.commodity commodity)
+tier_picked : (commodity : List ℕ) → IsPicked kind.Tier as_tier (λ t. bytes_eq t.commodity commodity)
     (λ r. bytes_eq (text_at r 1) commodity)
-tier_picked commodity a_tier r = refl
+tier_picked commodity kind.Tier r = refl
 tier_picked commodity _ r = refl
 
-intra_picked : (commodity : List ℕ) → IsPicked an_intra as_intra (λ s. bytes_eq s.commodity commodity)
+intra_picked : (commodity : List ℕ) → IsPicked kind.Intra as_intra (λ s. bytes_eq s.commodity commodity)
     (λ r. bytes_eq (text_at r 1) commodity)
-intra_picked commodity an_intra r = refl
+intra_picked commodity kind.Intra r = refl
 intra_picked commodity _ r = refl
 
-spot_picked : (commodity : List ℕ) → IsPicked a_spot as_spot (λ s. bytes_eq s.commodity commodity)
+spot_picked : (commodity : List ℕ) → IsPicked kind.Spot as_spot (λ s. bytes_eq s.commodity commodity)
     (λ r. bytes_eq (text_at r 1) commodity)
-spot_picked commodity a_spot r = refl
+spot_picked commodity kind.Spot r = refl
 spot_picked commodity _ r = refl
 
 counts_kept : (rows : List Fields) → IsFaultFree fault_of [] rows → keeps_counts (map param_record rows) ≡ true
@@ -191,12 +192,12 @@ counts_kept rows free =
     (and_from _ _
     (and_from _ _
     (and_from _ _
-    (few_of_kind a_commodity MAX_COMMODITIES as_commodity (λ earlier r. refl) commodity_picked rows free)
-    (few_of_kind a_contract MAX_CONTRACTS as_contract (λ earlier r. refl) contract_picked rows free))
-    (few_of_kind an_inter MAX_INTER_SPREADS as_inter (λ earlier r. refl) inter_picked rows free))
-    (few_of_each a_tier MAX_TIERS as_tier (λ t. t.commodity) (λ earlier r. refl) tier_picked rows free))
-    (few_of_each an_intra MAX_INTRA_SPREADS as_intra (λ s. s.commodity) (λ earlier r. refl) intra_picked rows free))
-    (few_of_each a_spot MAX_SPOT_MONTHS as_spot (λ s. s.commodity) (λ earlier r. refl) spot_picked rows free)
+    (few_of_kind kind.Commodity MAX_COMMODITIES as_commodity (λ earlier r. refl) commodity_picked rows free)
+    (few_of_kind kind.Contract MAX_CONTRACTS as_contract (λ earlier r. refl) contract_picked rows free))
+    (few_of_kind kind.Inter MAX_INTER_SPREADS as_inter (λ earlier r. refl) inter_picked rows free))
+    (few_of_each kind.Tier MAX_TIERS as_tier (λ t. t.commodity) (λ earlier r. refl) tier_picked rows free))
+    (few_of_each kind.Intra MAX_INTRA_SPREADS as_intra (λ s. s.commodity) (λ earlier r. refl) intra_picked rows free))
+    (few_of_each kind.Spot MAX_SPOT_MONTHS as_spot (λ s. s.commodity) (λ earlier r. refl) spot_picked rows free)
 
 -- ---- all
 

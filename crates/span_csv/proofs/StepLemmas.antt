@@ -5,10 +5,12 @@ use Rattle.std.specs.Prelude.{⊤, ◌==◌, ◌&&◌, not, is_none, if◌then�
 use Rattle.span_tables.specs.Faults.{first_that_holds}
 use Rattle.span_csv.specs.near.Checks.{IsFree, IsFaultOf, kind_faults, field_faults}
 use Rattle.span_csv.specs.ParamFaults.{exceeds_limit, is_set, param_faults, is_memory, profile_of}
-use Rattle.span_csv.specs.Records.{Fields, RecordKind, a_set, kind_of, record_of_kind, param_record}
+use Rattle.span_csv.specs.Records.{Fields, kind_of, record_of_kind, param_record}
 use Rattle.span_csv.specs.declared.faults.ParamFault.{ParamFault}
 use Rattle.span_csv.specs.declared.faults.ParamFault.TheVariants as fault
 use Rattle.span_csv.proofs.CheckLemmas.{first_append, first_front}
+use Rattle.span_csv.specs.declared.grammar.Kind.{Kind}
+use Rattle.span_csv.specs.declared.grammar.Kind.TheVariants as kind
 
 -- what holds of any fault
 pub unless_memory : (b : Bool) (P : Type 0) → P → MatchBool b ⊤ P
@@ -72,6 +74,6 @@ set_first n profile r free = first_alone (n == 0) (is_set r) fault.NoSet fault.S
     (first_that_holds ((is_none (kind_of r), fault.UnknownKind) ∷ field_faults profile r)) free
 
 -- what a record of a kind says
-pub record_of : (r : Fields) (kind : RecordKind) → kind_of r ≡ Some kind → record_of_kind kind r ≡ param_record r
+pub record_of : (r : Fields) (k : Kind) → kind_of r ≡ Some k → record_of_kind k r ≡ param_record r
 unfolding param_record
-record_of r kind is = ap (λ o. record_of_kind (unwrap_or o a_set) r) (sym is)
+record_of r k is = ap (λ o. record_of_kind (unwrap_or o kind.Set) r) (sym is)

@@ -11,13 +11,15 @@ use Rattle.span_tables.specs.declared.limits.TheConstants.{MAX_INTRA_SPREADS, MA
 use Rattle.span_tables.proofs.NameLemmas.{same_name}
 use Rattle.span_csv.specs.near.Checks.{Adds, Tallies, count_for, count_in, count_word, count_words, limit_of}
 use Rattle.span_csv.specs.ParamFaults.{exceeds_limit, is_set, profile_of}
-use Rattle.span_csv.specs.Records.{Fields, RecordKind, a_set, a_commodity, a_contract, a_tier, an_intra, a_spot, an_inter}
+use Rattle.span_csv.specs.Records.{Fields}
 use Rattle.span_csv.specs.Records.{count_at, kind_of, text_at}
 use Rattle.span_csv.specs.declared.tally.Tally.{Tally}
 use Rattle.span_csv.proofs.CountLemmas.{named_word, word_of}
+use Rattle.span_csv.specs.declared.grammar.Kind.{Kind}
+use Rattle.span_csv.specs.declared.grammar.Kind.TheVariants as kind
 
 -- a record of a kind begins with its word
-kind_word : (r : Fields) (kind : RecordKind) → kind_of r ≡ Some kind → text_at r 0 ≡ word_of kind
+kind_word : (r : Fields) (kind : Kind) → kind_of r ≡ Some kind → text_at r 0 ≡ word_of kind
 kind_word r kind e = same_name (text_at r 0) (word_of kind) (named_word (text_at r 0) kind e)
 
 -- ---- one record more
@@ -83,8 +85,8 @@ grown t u rs r first is set tallies g = record {
 same : (a b : ℕ) → a ≡ b → a ≡ b + 0
 same a b e = omega arith
 
-grows : (t u : Tally) (kind : RecordKind) (r : Fields) → Adds kind r t u → Grows t u (word_of kind) r
-grows t u a_set r adds = record {
+grows : (t u : Tally) (kind : Kind) (r : Fields) → Adds kind r t u → Grows t u (word_of kind) r
+grows t u kind.Set r adds = record {
   profile = ap (λ x. x.profile) adds;
   commodities = same _ _ (ap (λ x. x.commodities) adds);
   contracts = same _ _ (ap (λ x. x.contracts) adds);
@@ -93,7 +95,7 @@ grows t u a_set r adds = record {
   spots = λ q. same _ _ (ap (λ x. count_in x.spots q) adds);
   inters = same _ _ (ap (λ x. x.inters) adds);
 }
-grows t u a_commodity r adds = record {
+grows t u kind.Commodity r adds = record {
   profile = ap (λ x. x.profile) adds;
   commodities = ap (λ x. x.commodities) adds;
   contracts = same _ _ (ap (λ x. x.contracts) adds);
@@ -102,7 +104,7 @@ grows t u a_commodity r adds = record {
   spots = λ q. same _ _ (ap (λ x. count_in x.spots q) adds);
   inters = same _ _ (ap (λ x. x.inters) adds);
 }
-grows t u a_contract r adds = record {
+grows t u kind.Contract r adds = record {
   profile = ap (λ x. x.profile) adds;
   commodities = same _ _ (ap (λ x. x.commodities) adds);
   contracts = ap (λ x. x.contracts) adds;
@@ -111,7 +113,7 @@ grows t u a_contract r adds = record {
   spots = λ q. same _ _ (ap (λ x. count_in x.spots q) adds);
   inters = same _ _ (ap (λ x. x.inters) adds);
 }
-grows t u a_tier r adds = record {
+grows t u kind.Tier r adds = record {
   profile = ap (λ x. x.profile) adds.1;
   commodities = same _ _ (ap (λ x. x.commodities) adds.1);
   contracts = same _ _ (ap (λ x. x.contracts) adds.1);
@@ -120,7 +122,7 @@ grows t u a_tier r adds = record {
   spots = λ q. same _ _ (ap (λ x. count_in x.spots q) adds.1);
   inters = same _ _ (ap (λ x. x.inters) adds.1);
 }
-grows t u an_intra r adds = record {
+grows t u kind.Intra r adds = record {
   profile = ap (λ x. x.profile) adds.1;
   commodities = same _ _ (ap (λ x. x.commodities) adds.1);
   contracts = same _ _ (ap (λ x. x.contracts) adds.1);
@@ -129,7 +131,7 @@ grows t u an_intra r adds = record {
   spots = λ q. same _ _ (ap (λ x. count_in x.spots q) adds.1);
   inters = same _ _ (ap (λ x. x.inters) adds.1);
 }
-grows t u a_spot r adds = record {
+grows t u kind.Spot r adds = record {
   profile = ap (λ x. x.profile) adds.1;
   commodities = same _ _ (ap (λ x. x.commodities) adds.1);
   contracts = same _ _ (ap (λ x. x.contracts) adds.1);
@@ -138,7 +140,7 @@ grows t u a_spot r adds = record {
   spots = adds.0;
   inters = same _ _ (ap (λ x. x.inters) adds.1);
 }
-grows t u an_inter r adds = record {
+grows t u kind.Inter r adds = record {
   profile = ap (λ x. x.profile) adds;
   commodities = same _ _ (ap (λ x. x.commodities) adds);
   contracts = same _ _ (ap (λ x. x.contracts) adds);
@@ -149,7 +151,7 @@ grows t u an_inter r adds = record {
 }
 
 -- a record that is added is counted
-pub tally_more : (t u : Tally) (kind : RecordKind) (rs : List Fields) (r : Fields) (n : ℕ) → kind_of r ≡ Some kind → length rs ≡ n
+pub tally_more : (t u : Tally) (kind : Kind) (rs : List Fields) (r : Fields) (n : ℕ) → kind_of r ≡ Some kind → length rs ≡ n
     → is_set r ≡ (n == 0) → Tallies t rs → Adds kind r t u → Tallies u (rs ++ r ∷ [])
 tally_more t u kind rs r n is len set tallies adds =
     grown t u rs r (word_of kind) (kind_word r kind is) (set ∙ ap (λ k. k == 0) (sym len)) tallies (grows t u kind r adds)
@@ -162,45 +164,45 @@ equal_true a b e = grind (arith, nat_tests)
 unequal_false : (a b : ℕ) → (a ≡ b → ⊥) → (a == b) ≡ false
 unequal_false a b e = grind (arith, nat_tests)
 
-count_exceeds : (t : Tally) (kind : RecordKind) (rs : List Fields) (r : Fields) → kind_of r ≡ Some kind → Tallies t rs
+count_exceeds : (t : Tally) (kind : Kind) (rs : List Fields) (r : Fields) → kind_of r ≡ Some kind → Tallies t rs
     → exceeds_limit rs r (kind_of r) ≡ (count_for t kind (text_at r 1) == limit_of kind)
-count_exceeds t a_set rs r is tallies = ap (exceeds_limit rs r) is
-count_exceeds t a_commodity rs r is tallies =
-    ap (exceeds_limit rs r) is ∙ ap (λ w. count_word w rs == MAX_COMMODITIES) (kind_word r a_commodity is)
+count_exceeds t kind.Set rs r is tallies = ap (exceeds_limit rs r) is
+count_exceeds t kind.Commodity rs r is tallies =
+    ap (exceeds_limit rs r) is ∙ ap (λ w. count_word w rs == MAX_COMMODITIES) (kind_word r kind.Commodity is)
     ∙ ap (λ n. n == MAX_COMMODITIES) (sym tallies.commodities)
-count_exceeds t a_contract rs r is tallies =
-    ap (exceeds_limit rs r) is ∙ ap (λ w. count_word w rs == MAX_CONTRACTS) (kind_word r a_contract is)
+count_exceeds t kind.Contract rs r is tallies =
+    ap (exceeds_limit rs r) is ∙ ap (λ w. count_word w rs == MAX_CONTRACTS) (kind_word r kind.Contract is)
     ∙ ap (λ n. n == MAX_CONTRACTS) (sym tallies.contracts)
-count_exceeds t a_tier rs r is tallies =
-    ap (exceeds_limit rs r) is ∙ ap (λ w. count_words w (text_at r 1) rs == MAX_TIERS) (kind_word r a_tier is)
+count_exceeds t kind.Tier rs r is tallies =
+    ap (exceeds_limit rs r) is ∙ ap (λ w. count_words w (text_at r 1) rs == MAX_TIERS) (kind_word r kind.Tier is)
     ∙ ap (λ n. n == MAX_TIERS) (sym (tallies.tiers (text_at r 1)))
-count_exceeds t an_intra rs r is tallies =
-    ap (exceeds_limit rs r) is ∙ ap (λ w. count_words w (text_at r 1) rs == MAX_INTRA_SPREADS) (kind_word r an_intra is)
+count_exceeds t kind.Intra rs r is tallies =
+    ap (exceeds_limit rs r) is ∙ ap (λ w. count_words w (text_at r 1) rs == MAX_INTRA_SPREADS) (kind_word r kind.Intra is)
     ∙ ap (λ n. n == MAX_INTRA_SPREADS) (sym (tallies.intras (text_at r 1)))
-count_exceeds t a_spot rs r is tallies =
-    ap (exceeds_limit rs r) is ∙ ap (λ w. count_words w (text_at r 1) rs == MAX_SPOT_MONTHS) (kind_word r a_spot is)
+count_exceeds t kind.Spot rs r is tallies =
+    ap (exceeds_limit rs r) is ∙ ap (λ w. count_words w (text_at r 1) rs == MAX_SPOT_MONTHS) (kind_word r kind.Spot is)
     ∙ ap (λ n. n == MAX_SPOT_MONTHS) (sym (tallies.spots (text_at r 1)))
-count_exceeds t an_inter rs r is tallies =
-    ap (exceeds_limit rs r) is ∙ ap (λ w. count_word w rs == MAX_INTER_SPREADS) (kind_word r an_inter is)
+count_exceeds t kind.Inter rs r is tallies =
+    ap (exceeds_limit rs r) is ∙ ap (λ w. count_word w rs == MAX_INTER_SPREADS) (kind_word r kind.Inter is)
     ∙ ap (λ n. n == MAX_INTER_SPREADS) (sym tallies.inters)
 
-pub count_small : (t : Tally) (kind : RecordKind) (rs : List Fields) (cc : List ℕ) → Tallies t rs → count_for t kind cc ≤ length rs
-count_small t a_set rs cc tallies = omega arith
-count_small t a_commodity rs cc tallies = rw tallies.commodities (count_by-le-length _ rs)
-count_small t a_contract rs cc tallies = rw tallies.contracts (count_by-le-length _ rs)
-count_small t a_tier rs cc tallies = subst (λ n. n ≤ length rs) (sym (tallies.tiers cc)) (count_by-le-length _ rs)
-count_small t an_intra rs cc tallies = subst (λ n. n ≤ length rs) (sym (tallies.intras cc)) (count_by-le-length _ rs)
-count_small t a_spot rs cc tallies = subst (λ n. n ≤ length rs) (sym (tallies.spots cc)) (count_by-le-length _ rs)
-count_small t an_inter rs cc tallies = rw tallies.inters (count_by-le-length _ rs)
+pub count_small : (t : Tally) (kind : Kind) (rs : List Fields) (cc : List ℕ) → Tallies t rs → count_for t kind cc ≤ length rs
+count_small t kind.Set rs cc tallies = omega arith
+count_small t kind.Commodity rs cc tallies = rw tallies.commodities (count_by-le-length _ rs)
+count_small t kind.Contract rs cc tallies = rw tallies.contracts (count_by-le-length _ rs)
+count_small t kind.Tier rs cc tallies = subst (λ n. n ≤ length rs) (sym (tallies.tiers cc)) (count_by-le-length _ rs)
+count_small t kind.Intra rs cc tallies = subst (λ n. n ≤ length rs) (sym (tallies.intras cc)) (count_by-le-length _ rs)
+count_small t kind.Spot rs cc tallies = subst (λ n. n ≤ length rs) (sym (tallies.spots cc)) (count_by-le-length _ rs)
+count_small t kind.Inter rs cc tallies = rw tallies.inters (count_by-le-length _ rs)
 
 -- as many as there may be, or not
-pub count_full : (t : Tally) (kind : RecordKind) (rs : List Fields) (r : Fields) (count limit : ℕ) → kind_of r ≡ Some kind
+pub count_full : (t : Tally) (kind : Kind) (rs : List Fields) (r : Fields) (count limit : ℕ) → kind_of r ≡ Some kind
     → Tallies t rs
     → count ≡ count_for t kind (text_at r 1) → limit ≡ limit_of kind → count ≡ limit → exceeds_limit rs r (kind_of r) ≡ true
 count_full t kind rs r count limit is tallies counts limits e =
     count_exceeds t kind rs r is tallies ∙ equal_true (count_for t kind (text_at r 1)) (limit_of kind) (sym counts ∙ e ∙ limits)
 
-pub count_within : (t : Tally) (kind : RecordKind) (rs : List Fields) (r : Fields) (count limit : ℕ) → kind_of r ≡ Some kind
+pub count_within : (t : Tally) (kind : Kind) (rs : List Fields) (r : Fields) (count limit : ℕ) → kind_of r ≡ Some kind
     → Tallies t rs
     → count ≡ count_for t kind (text_at r 1) → limit ≡ limit_of kind → (count ≡ limit → ⊥)
     → exceeds_limit rs r (kind_of r) ≡ false

@@ -3,14 +3,17 @@ use Rattle.std.specs.Prelude.{ℕ, Bool, false, not, ◌&&◌, ◌==◌, List, [
 use Rattle.std.specs.Prelude.{map, count_by, Option, Some, None, is_none, codes, bytes_eq, Result, true}
 use Rattle.std.specs.Option.{option_map_or}
 use Rattle.span_tables.specs.Faults.{first_that_holds, first_fault, ok_unless}
-use Rattle.span_csv.specs.Records.{Fields, records_of, Form, RecordKind, a_set, a_commodity, a_contract}
-use Rattle.span_csv.specs.Records.{a_tier, an_intra, a_spot, an_inter, kind_of, layout_of, text_at, is_word}
+use Rattle.span_csv.specs.Records.{Fields, records_of}
+use Rattle.span_csv.specs.Records.{kind_of, layout_of, text_at, is_word}
 use Rattle.span_csv.specs.Records.{all_have, has_word_form, has_number_form, is_in_range, count_at, param_record}
 use Rattle.span_tables.specs.declared.records.Record.{Record}
 use Rattle.span_csv.specs.declared.faults.ParamFault.{ParamFault}
 use Rattle.span_csv.specs.declared.faults.ParamFault.TheVariants as fault
 use Rattle.span_tables.specs.declared.limits.TheConstants.{MAX_COMMODITIES, MAX_CONTRACTS, MAX_TIERS}
 use Rattle.span_tables.specs.declared.limits.TheConstants.{MAX_INTRA_SPREADS, MAX_SPOT_MONTHS, MAX_INTER_SPREADS}
+use Rattle.span_csv.specs.declared.grammar.FieldForm.{FieldForm}
+use Rattle.span_csv.specs.declared.grammar.Kind.{Kind}
+use Rattle.span_csv.specs.declared.grammar.Kind.TheVariants as kind
 
 -- the record is a SET
 abbrev pub is_set : Fields → Bool
@@ -23,7 +26,7 @@ profile_of [] = 0
 profile_of (first ∷ rest) = count_at first 2
 
 -- some field behind the first fails the test of its form under a profile
-abbrev pub some_fail : (Form → List ℕ → Bool) → ℕ → Fields → Bool
+abbrev pub some_fail : (FieldForm → List ℕ → Bool) → ℕ → Fields → Bool
 some_fail test profile r = option_map_or (λ forms. not (all_have test forms (drop 1 r))) (layout_of profile r) false
 
 -- how many records of the same first field there are
@@ -35,15 +38,15 @@ abbrev pub count_of_commodity : List Fields → Fields → ℕ
 count_of_commodity rs r = count_by (λ x. bytes_eq (text_at x 0) (text_at r 0) && bytes_eq (text_at x 1) (text_at r 1)) rs
 
 -- the record is one more than its limit: of its kind, or of its kind and commodity
-abbrev pub exceeds_limit : List Fields → Fields → Option RecordKind → Bool
+abbrev pub exceeds_limit : List Fields → Fields → Option Kind → Bool
 exceeds_limit earlier r None = false
-exceeds_limit earlier r (Some a_set) = false
-exceeds_limit earlier r (Some a_commodity) = count_of_kind earlier r == MAX_COMMODITIES
-exceeds_limit earlier r (Some a_contract) = count_of_kind earlier r == MAX_CONTRACTS
-exceeds_limit earlier r (Some a_tier) = count_of_commodity earlier r == MAX_TIERS
-exceeds_limit earlier r (Some an_intra) = count_of_commodity earlier r == MAX_INTRA_SPREADS
-exceeds_limit earlier r (Some a_spot) = count_of_commodity earlier r == MAX_SPOT_MONTHS
-exceeds_limit earlier r (Some an_inter) = count_of_kind earlier r == MAX_INTER_SPREADS
+exceeds_limit earlier r (Some kind.Set) = false
+exceeds_limit earlier r (Some kind.Commodity) = count_of_kind earlier r == MAX_COMMODITIES
+exceeds_limit earlier r (Some kind.Contract) = count_of_kind earlier r == MAX_CONTRACTS
+exceeds_limit earlier r (Some kind.Tier) = count_of_commodity earlier r == MAX_TIERS
+exceeds_limit earlier r (Some kind.Intra) = count_of_commodity earlier r == MAX_INTRA_SPREADS
+exceeds_limit earlier r (Some kind.Spot) = count_of_commodity earlier r == MAX_SPOT_MONTHS
+exceeds_limit earlier r (Some kind.Inter) = count_of_kind earlier r == MAX_INTER_SPREADS
 
 -- the faults that a record may have behind the earlier ones, in the order of their numbers
 abbrev pub param_faults : List Fields → Fields → List (Bool × (ℕ → ParamFault))

@@ -2,12 +2,12 @@
 ghost use Rattle.std.specs.Prelude.{◌≡◌, ◌++◌, MatchResult, OnOk, Some};
 ghost use Rattle.csv.specs.Records.{fields_of};
 ghost use Rattle.span_csv.specs.near.Checks.{IsFaultOf, IsFree, field_faults, kind_faults};
-ghost use Rattle.span_csv.specs.near.Grammar.{HasForms, record_kind};
+ghost use Rattle.span_csv.specs.near.Grammar.{Fits};
 ghost use Rattle.span_csv.specs.ParamFaults.{is_set};
 ghost use Rattle.span_csv.specs.Records.{kind_of};
 
 use crate::faults::ParamFault;
-use crate::grammar::{FieldTest, Kind, all_have, kind_named, text_at};
+use crate::grammar::{FieldTest, Kind, kind_named, text_at};
 use csv::ByteRecord;
 
 fn is_set(row: &ByteRecord) -> bool
@@ -19,7 +19,7 @@ fn is_set(row: &ByteRecord) -> bool
 // The kind of a record, which is a SET where it is the first, and nowhere else.
 fn check_kind(first: bool, at: usize, row: &ByteRecord) -> Result<Kind, ParamFault>
     ensures { MatchResult result
-        (λ kind. (kind_of (fields_of row.now) ≡ Some (record_kind kind)) × IsFree (kind_faults first (fields_of row.now)))
+        (λ kind. (kind_of (fields_of row.now) ≡ Some kind) × IsFree (kind_faults first (fields_of row.now)))
         (λ e. IsFaultOf (kind_faults first (fields_of row.now)) at e) }
 {
     let set = is_set(row);
@@ -37,22 +37,22 @@ fn check_kind(first: bool, at: usize, row: &ByteRecord) -> Result<Kind, ParamFau
 
 // The number of fields of a record under a profile, and their forms and ranges.
 fn check_fields(at: usize, profile: u8, kind: Kind, row: &ByteRecord) -> Result<(), ParamFault>
-    requires { kind_of (fields_of row.now) ≡ Some (record_kind kind) }
+    requires { kind_of (fields_of row.now) ≡ Some kind }
     ensures { MatchResult result
-        (λ _. HasForms (record_kind kind) (fields_of row.now) × IsFree (field_faults profile (fields_of row.now)))
+        (λ _. Fits kind (fields_of row.now) × IsFree (field_faults profile (fields_of row.now)))
         (λ e. IsFaultOf (field_faults profile (fields_of row.now)) at e) }
 {
-    let Some(forms) = kind.forms(profile, row) else {
+    let Some(layout) = kind.layout(profile, row) else {
         return Err(ParamFault::FieldCount { at });
     };
-    if !all_have(FieldTest::Word, forms, row) {
+    if !layout.all_have(FieldTest::Word, row) {
         return Err(ParamFault::BadName { at });
     }
     // A number in its range has its form, which is tested of the others alone.
-    if all_have(FieldTest::Range, forms, row) {
+    if layout.all_have(FieldTest::Range, row) {
         return Ok(());
     }
-    if all_have(FieldTest::Number, forms, row) {
+    if layout.all_have(FieldTest::Number, row) {
         Err(ParamFault::OutOfRange { at })
     } else {
         Err(ParamFault::BadNumber { at })
@@ -68,7 +68,7 @@ pub(crate) fn check_form(
     row: &ByteRecord,
 ) -> Result<Kind, ParamFault>
     ensures kind { MatchResult result
-        (λ kind. (kind_of (fields_of row.now) ≡ Some (record_kind kind)) × HasForms (record_kind kind) (fields_of row.now))
+        (λ kind. (kind_of (fields_of row.now) ≡ Some kind) × Fits kind (fields_of row.now))
         (λ e. IsFaultOf (kind_faults first (fields_of row.now) ++ field_faults profile (fields_of row.now)) at e) }
     ensures free { OnOk result (IsFree (kind_faults first (fields_of row.now) ++ field_faults profile (fields_of row.now))) }
 {

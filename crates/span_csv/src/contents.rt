@@ -1,12 +1,14 @@
 //! What a record says, whose fields have their forms.
 ghost use Rattle.std.specs.Prelude.{◌≡◌, ◌≤◌, ◌+◌, ◌<◌, ◌^◌, drop, length, map, pos, take, true, unwrap_or};
 ghost use Rattle.csv.specs.Records.{fields_of};
-ghost use Rattle.span_csv.specs.near.Grammar.{HasForms, leg_at, record_kind};
-ghost use Rattle.span_csv.specs.Records.{a_commodity, a_contract, a_set, a_spot, a_tier, an_inter, an_intra, commodity_record};
+ghost use Rattle.span_csv.specs.near.Grammar.{Fits, leg_at};
+ghost use Rattle.span_csv.specs.Records.{array_place, commodity_record, extras_in};
+ghost use Rattle.span_csv.specs.declared.contents.TheConstants.{EXTRAS};
 ghost use Rattle.span_csv.specs.Records.{contract_record, count_at, inter_leg, inter_record, intra_leg, intra_record, legs_of};
 ghost use Rattle.span_csv.specs.Records.{ratio_at, record_of_kind, set_record, spot_record, text_at, tier_record};
 ghost use Rattle.span_money.specs.Numbers.{whole_number};
 ghost use Rattle.span_tables.specs.Names.{is_name};
+ghost use Rattle.span_csv.specs.declared.grammar.Kind.TheVariants as kind;
 
 use crate::fields::{
     count_at, currency_at, delta_at, method_at, name_at, product_at, profile_at, ratio_at,
@@ -17,12 +19,17 @@ use arrayvec::ArrayVec;
 use csv::ByteRecord;
 use span_tables::limits::SCENARIOS;
 use span_tables::records::{
-    Commodity, Contract, InterLeg, InterRecord, IntraLeg, IntraRecord, Record, SetRecord, Spot,
-    Tier,
+    Commodity, Contract, ContractExtras, InterLeg, InterRecord, IntraLeg, IntraRecord, Record,
+    SetRecord, Spot, Tier,
 };
 
+// The fields of a CONTRACT's risk array begin at this one, and those that its profile adds at that one.
+const FIRST_VALUE: usize = 7;
+
+const EXTRAS: usize = FIRST_VALUE + SCENARIOS;
+
 fn set_record(row: &ByteRecord) -> SetRecord
-    requires { HasForms a_set (fields_of row.now) }
+    requires { Fits kind.Set (fields_of row.now) }
     ensures { result ≡ set_record (fields_of row.now) }
 {
     SetRecord {
@@ -33,7 +40,7 @@ fn set_record(row: &ByteRecord) -> SetRecord
 }
 
 fn commodity_record(row: &ByteRecord) -> Commodity
-    requires { HasForms a_commodity (fields_of row.now) }
+    requires { Fits kind.Commodity (fields_of row.now) }
     ensures { result ≡ commodity_record (fields_of row.now) }
 {
     Commodity {
@@ -45,18 +52,31 @@ fn commodity_record(row: &ByteRecord) -> Commodity
 
 // The values of a risk array.
 fn array_values(row: &ByteRecord) -> [i64; SCENARIOS]
-    requires { 23 ≤ length (fields_of row.now) }
-    ensures { result ≡ map (λ text. unwrap_or (whole_number text) (pos 0)) (take SCENARIOS (drop 7 (fields_of row.now))) }
+    requires { EXTRAS ≤ length (fields_of row.now) }
+    ensures { result ≡ map (λ text. unwrap_or (whole_number text) (pos 0)) (take SCENARIOS (drop array_place (fields_of row.now))) }
 {
     let mut values = [0; SCENARIOS];
     for i in 0..SCENARIOS {
-        values[i] = whole_at(row, 7 + i);
+        values[i] = whole_at(row, FIRST_VALUE + i);
     }
     values
 }
 
+// What the profile adds: nothing where the record ends with its risk array.
+fn extras(row: &ByteRecord) -> ContractExtras
+    requires { count_at (fields_of row.now) EXTRAS < 2 ^ 32 }
+    ensures { result ≡ extras_in (fields_of row.now) }
+{
+    if row.len() <= EXTRAS {
+        return ContractExtras::none();
+    }
+    ContractExtras {
+        option_value: count_at(row, EXTRAS),
+    }
+}
+
 fn contract_record(row: &ByteRecord) -> Contract
-    requires { HasForms a_contract (fields_of row.now) }
+    requires { Fits kind.Contract (fields_of row.now) }
     ensures { result ≡ contract_record (fields_of row.now) }
 {
     Contract {
@@ -67,12 +87,12 @@ fn contract_record(row: &ByteRecord) -> Contract
         delta: delta_at(row, 5),
         scale: scale_at(row, 6),
         values: array_values(row),
-        option_value: count_at(row, 23),
+        extras: extras(row),
     }
 }
 
 fn tier_record(row: &ByteRecord) -> Tier
-    requires { HasForms a_tier (fields_of row.now) }
+    requires { Fits kind.Tier (fields_of row.now) }
     ensures { result ≡ tier_record (fields_of row.now) }
 {
     Tier {
@@ -98,7 +118,7 @@ fn intra_leg(row: &ByteRecord, at: usize) -> IntraLeg
 }
 
 fn intra_legs(row: &ByteRecord) -> ArrayVec<IntraLeg, 4>
-    requires { HasForms an_intra (fields_of row.now) }
+    requires { Fits kind.Intra (fields_of row.now) }
     ensures { result.items ≡ map intra_leg (legs_of (drop 4 (fields_of row.now))) }
 {
     let mut legs = ArrayVec::new();
@@ -109,7 +129,7 @@ fn intra_legs(row: &ByteRecord) -> ArrayVec<IntraLeg, 4>
 }
 
 fn intra_record(row: &ByteRecord) -> IntraRecord
-    requires { HasForms an_intra (fields_of row.now) }
+    requires { Fits kind.Intra (fields_of row.now) }
     ensures { result ≡ intra_record (fields_of row.now) }
 {
     IntraRecord {
@@ -121,7 +141,7 @@ fn intra_record(row: &ByteRecord) -> IntraRecord
 }
 
 fn spot_record(row: &ByteRecord) -> Spot
-    requires { HasForms a_spot (fields_of row.now) }
+    requires { Fits kind.Spot (fields_of row.now) }
     ensures { result ≡ spot_record (fields_of row.now) }
 {
     Spot {
@@ -147,7 +167,7 @@ fn inter_leg(row: &ByteRecord, at: usize) -> InterLeg
 }
 
 fn inter_legs(row: &ByteRecord) -> ArrayVec<InterLeg, 4>
-    requires { HasForms an_inter (fields_of row.now) }
+    requires { Fits kind.Inter (fields_of row.now) }
     ensures { result.items ≡ map inter_leg (legs_of (drop 3 (fields_of row.now))) }
 {
     let mut legs = ArrayVec::new();
@@ -158,7 +178,7 @@ fn inter_legs(row: &ByteRecord) -> ArrayVec<InterLeg, 4>
 }
 
 fn inter_record(row: &ByteRecord) -> InterRecord
-    requires { HasForms an_inter (fields_of row.now) }
+    requires { Fits kind.Inter (fields_of row.now) }
     ensures { result ≡ inter_record (fields_of row.now) }
 {
     InterRecord {
@@ -170,8 +190,8 @@ fn inter_record(row: &ByteRecord) -> InterRecord
 
 /// What a record of a kind says.
 pub(crate) fn record_of_kind(kind: Kind, row: &ByteRecord) -> Record
-    requires { HasForms (record_kind kind) (fields_of row.now) }
-    ensures { result ≡ record_of_kind (record_kind kind) (fields_of row.now) }
+    requires { Fits kind (fields_of row.now) }
+    ensures { result ≡ record_of_kind kind (fields_of row.now) }
 {
     match kind {
         Kind::Set => Record::Set(set_record(row)),

@@ -1,11 +1,11 @@
 //! The kinds of records of a parameter file, and the forms of their fields.
 ghost use Rattle.std.specs.Char.{is_ascii_uppercase};
-ghost use Rattle.std.specs.List.{list_all};
-ghost use Rattle.std.specs.Prelude.{◌≡◌, ◌≤◌, ◌&&◌, ◌==◌, ◌+◌, ◌-◌, IfSome, drop, length, map, option_map};
+ghost use Rattle.std.specs.List.{list_all, repeat};
+ghost use Rattle.std.specs.Prelude.{◌≡◌, ◌≤◌, ◌<◌, ◌&&◌, ◌++◌, ◌==◌, ◌+◌, ◌-◌, ◌*◌, ◌^◌, IfSome, drop, length};
 ghost use Rattle.csv.specs.Records.{fields_of};
-ghost use Rattle.span_csv.specs.near.Grammar.{form_of, record_kind, test_of};
-ghost use Rattle.span_csv.specs.Records.{all_have, contract_forms, exactly, forms_of, has_number_form, has_word_form};
-ghost use Rattle.span_csv.specs.Records.{is_in_range, is_within, kind_named, product_at, text_at};
+ghost use Rattle.span_csv.specs.near.Grammar.{passes};
+ghost use Rattle.span_csv.specs.Records.{all_have, contract_back, contract_forms, forms_of, has_number_form, has_word_form};
+ghost use Rattle.span_csv.specs.Records.{is_in_range, is_within, kind_named, product_at, text_at, with_legs};
 
 use crate::fields::product_at;
 use crate::rows::field;
@@ -13,14 +13,16 @@ use csv::ByteRecord;
 use span_money::texts::{is_month, parse_decimal, parse_month, parse_whole};
 use span_tables::limits::{
     MAX_ARRAY_VALUE, MAX_BASIS_POINTS, MAX_DELTA, MAX_OPTION_VALUE, MAX_PRIORITY, MAX_PROFILE,
-    MAX_RATE, MAX_RATIO, MAX_SCALE, MAX_TIER_NUMBER, VALUE_PROFILE,
+    MAX_RATE, MAX_RATIO, MAX_SCALE, MAX_TIER_NUMBER, SCENARIOS,
 };
 use span_tables::name::is_name;
+use span_tables::profiles::facts_of;
 use span_tables::records::ProductKind;
+use std::marker::Model;
 
 /// What a field may be. A number has its lowest and its highest value, a decimal those in 10^-4.
 #[derive(Clone, Copy)]
-pub(crate) enum FieldForm {
+pub enum FieldForm {
     Name,
     Currency,
     Method,
@@ -33,7 +35,7 @@ pub(crate) enum FieldForm {
 
 /// The kinds of records.
 #[derive(Clone, Copy)]
-pub(crate) enum Kind {
+pub enum Kind {
     Set,
     Commodity,
     Contract,
@@ -108,58 +110,21 @@ static SET_FIELDS: [FieldForm; 3] = [FieldForm::Name, VERSION, FieldForm::Curren
 
 static COMMODITY_FIELDS: [FieldForm; 3] = [FieldForm::Name, RATE, FieldForm::Method];
 
-// A CONTRACT with an option value, which stands last: a future, and an option.
-static FUTURE_FIELDS: [FieldForm; 23] = [
+static CONTRACT_FRONT: [FieldForm; 6] = [
     FieldForm::Name,
     FieldForm::Name,
     FieldForm::Product,
     FieldForm::Month,
     DELTA,
     SCALE,
-    ARRAY_VALUE,
-    ARRAY_VALUE,
-    ARRAY_VALUE,
-    ARRAY_VALUE,
-    ARRAY_VALUE,
-    ARRAY_VALUE,
-    ARRAY_VALUE,
-    ARRAY_VALUE,
-    ARRAY_VALUE,
-    ARRAY_VALUE,
-    ARRAY_VALUE,
-    ARRAY_VALUE,
-    ARRAY_VALUE,
-    ARRAY_VALUE,
-    ARRAY_VALUE,
-    ARRAY_VALUE,
-    NO_VALUE,
 ];
 
-static OPTION_FIELDS: [FieldForm; 23] = [
-    FieldForm::Name,
-    FieldForm::Name,
-    FieldForm::Product,
-    FieldForm::Month,
-    DELTA,
-    SCALE,
-    ARRAY_VALUE,
-    ARRAY_VALUE,
-    ARRAY_VALUE,
-    ARRAY_VALUE,
-    ARRAY_VALUE,
-    ARRAY_VALUE,
-    ARRAY_VALUE,
-    ARRAY_VALUE,
-    ARRAY_VALUE,
-    ARRAY_VALUE,
-    ARRAY_VALUE,
-    ARRAY_VALUE,
-    ARRAY_VALUE,
-    ARRAY_VALUE,
-    ARRAY_VALUE,
-    ARRAY_VALUE,
-    OPTION_VALUE,
-];
+static ARRAY_VALUES: [FieldForm; 1] = [ARRAY_VALUE];
+
+// The back of a future's record and of an option's, where options have a value.
+static FUTURE_BACK: [FieldForm; 1] = [NO_VALUE];
+
+static OPTION_BACK: [FieldForm; 1] = [OPTION_VALUE];
 
 static TIER_FIELDS: [FieldForm; 4] = [
     FieldForm::Name,
@@ -168,46 +133,41 @@ static TIER_FIELDS: [FieldForm; 4] = [
     FieldForm::Month,
 ];
 
-static INTRA_FIELDS: [FieldForm; 15] = [
-    FieldForm::Name,
-    PRIORITY,
-    RATE,
-    TIER_NUMBER,
-    FieldForm::Side,
-    RATIO,
-    TIER_NUMBER,
-    FieldForm::Side,
-    RATIO,
-    TIER_NUMBER,
-    FieldForm::Side,
-    RATIO,
-    TIER_NUMBER,
-    FieldForm::Side,
-    RATIO,
-];
+static INTRA_FRONT: [FieldForm; 3] = [FieldForm::Name, PRIORITY, RATE];
+
+static INTRA_LEG: [FieldForm; 3] = [TIER_NUMBER, FieldForm::Side, RATIO];
 
 static SPOT_FIELDS: [FieldForm; 4] = [FieldForm::Name, FieldForm::Month, RATE, RATE];
 
-static INTER_FIELDS: [FieldForm; 14] = [
-    PRIORITY,
-    BASIS_POINTS,
-    FieldForm::Name,
-    FieldForm::Side,
-    RATIO,
-    FieldForm::Name,
-    FieldForm::Side,
-    RATIO,
-    FieldForm::Name,
-    FieldForm::Side,
-    RATIO,
-    FieldForm::Name,
-    FieldForm::Side,
-    RATIO,
-];
+static INTER_FRONT: [FieldForm; 2] = [PRIORITY, BASIS_POINTS];
+
+static INTER_LEG: [FieldForm; 3] = [FieldForm::Name, FieldForm::Side, RATIO];
+
+/// The forms of a record's fields behind the first: those in front, a part that stands so many times, and those at the
+/// back.
+#[derive(Drop)]
+pub(crate) struct Layout {
+    front: &'static [FieldForm],
+    middle: &'static [FieldForm],
+    times: usize,
+    back: &'static [FieldForm],
+}
+
+impl Model for Layout {
+    ghost use Rattle.std.specs.List.{repeat};
+    ghost use Rattle.std.specs.Prelude.{List, length, ◌++◌, ◌+◌, ◌*◌, ◌<◌, ◌^◌};
+    ghost use Rattle.span_csv.specs.declared.grammar.FieldForm.{FieldForm};
+
+    ghost Value = { List FieldForm };
+
+    ghost view = { λ l. l.front.now ++ repeat l.times l.middle.now ++ l.back.now };
+
+    ghost invariant = { λ l. length l.front.now + l.times * length l.middle.now + length l.back.now < 2 ^ 32 };
+}
 
 /// The kind that a word names.
 pub(crate) fn kind_named(word: &[u8]) -> Option<Kind>
-    ensures { option_map record_kind result ≡ kind_named word.now }
+    ensures { result ≡ kind_named word.now }
 {
     if word == b"SET".as_slice() {
         Some(Kind::Set)
@@ -228,54 +188,165 @@ pub(crate) fn kind_named(word: &[u8]) -> Option<Kind>
     }
 }
 
-// All of these forms, for as many fields.
-fn exactly(forms: &'static [FieldForm], fields: usize) -> Option<&'static [FieldForm]>
-    ensures value { option_map (λ s. map form_of s.now) result ≡ exactly (map form_of forms.now) fields }
-    ensures all { IfSome result (λ s. s.now ≡ forms.now) }
+// Those in front, and so many legs; of a record without legs none.
+fn with_times(front: &'static [FieldForm], leg: &'static [FieldForm], times: usize) -> Layout
+    requires { length front.now + times * length leg.now < 2 ^ 32 }
+    ensures { result ≡ front.now ++ repeat times leg.now }
 {
-    if fields == forms.len() {
-        Some(forms)
-    } else {
-        None
+    Layout {
+        front,
+        middle: leg,
+        times,
+        back: &[],
     }
 }
 
-// The forms of a CONTRACT's fields: an option value stands last, under the profile in which options have one.
-fn contract_fields(profile: u8, row: &ByteRecord) -> &'static [FieldForm]
-    ensures { map form_of result.now ≡ contract_forms profile (product_at (fields_of row.now) 3) }
+// These alone.
+fn alone(forms: &'static [FieldForm]) -> Layout
+    requires { length forms.now < 2 ^ 32 }
+    ensures { result ≡ forms.now }
 {
-    if profile != VALUE_PROFILE {
-        return &OPTION_FIELDS[..22];
+    Layout {
+        front: forms,
+        middle: &[],
+        times: 0,
+        back: &[],
     }
-    match product_at(row, 3) {
-        ProductKind::Future => &FUTURE_FIELDS,
-        ProductKind::Call | ProductKind::Put => &OPTION_FIELDS,
+}
+
+// What a CONTRACT has behind its risk array: under some profiles an option value.
+fn contract_back(profile: u8, product: ProductKind) -> &'static [FieldForm]
+    ensures forms { result.now ≡ contract_back profile product }
+    ensures few { length result.now ≤ 1 }
+{
+    if !facts_of(profile).options_have_value {
+        return &[];
+    }
+    match product {
+        ProductKind::Future => &FUTURE_BACK,
+        ProductKind::Call | ProductKind::Put => &OPTION_BACK,
+    }
+}
+
+fn contract_forms(profile: u8, product: ProductKind) -> Layout
+    ensures { result ≡ contract_forms profile product }
+{
+    Layout {
+        front: &CONTRACT_FRONT,
+        middle: &ARRAY_VALUES,
+        times: SCENARIOS,
+        back: contract_back(profile, product),
+    }
+}
+
+// The layout of a spread's record with so many fields behind the first: it has 2 to 4 legs.
+fn with_legs(
+    front: &'static [FieldForm],
+    leg: &'static [FieldForm],
+    fields: usize,
+) -> Option<Layout>
+    requires { length front.now + 4 * length leg.now < 2 ^ 32 }
+    ensures { result ≡ with_legs front.now leg.now fields }
+{
+    with_times(front, leg, 2)
+        .exactly(fields)
+        .or(with_times(front, leg, 3).exactly(fields))
+        .or(with_times(front, leg, 4).exactly(fields))
+}
+
+// Whether each field from a place on passes the test of its form, one for each form.
+fn all_from(test: FieldTest, forms: &[FieldForm], row: &ByteRecord, place: usize) -> bool
+    requires room { place + length forms.now ≤ length (fields_of row.now) }
+    requires small { place + length forms.now < 2 ^ 64 }
+    ensures { result ≡ all_have (passes test) forms.now (drop place (fields_of row.now)) }
+{
+    for (i, form) in forms.iter().enumerate() {
+        if !form.passes(test, text_at(row, place + i)) {
+            return false;
+        }
+    }
+    true
+}
+
+// The same of forms that stand so many times.
+fn all_times(
+    test: FieldTest,
+    forms: &[FieldForm],
+    times: usize,
+    row: &ByteRecord,
+    mut place: usize,
+) -> bool
+    requires room { place + length (repeat times forms.now) ≤ length (fields_of row.now) }
+    requires small { place + length (repeat times forms.now) < 2 ^ 64 }
+    ensures { result ≡ all_have (passes test) (repeat times forms.now) (drop place (fields_of row.now)) }
+{
+    for turn in 0..times {
+        if !all_from(test, forms, row, place) {
+            return false;
+        }
+        place += forms.len();
+    }
+    true
+}
+
+impl Layout {
+    ghost use Rattle.std.specs.Prelude.{◌≡◌, ◌+◌, drop, length};
+    ghost use Rattle.csv.specs.Records.{fields_of};
+    ghost use Rattle.span_csv.specs.near.Grammar.{passes};
+    ghost use Rattle.span_csv.specs.Records.{all_have, exactly};
+
+    // How many forms there are.
+    #[tactic(auto, using(crate::proofs::FormLemmas::layout_length))]
+    fn len(&self) -> usize
+        ensures { result ≡ length self.now }
+    {
+        self.front.len() + self.times * self.middle.len() + self.back.len()
+    }
+
+    // This layout, if a record has just so many fields behind the first.
+    fn exactly(self, fields: usize) -> Option<Layout>
+        ensures { result ≡ exactly self fields }
+    {
+        if fields == self.len() {
+            Some(self)
+        } else {
+            None
+        }
+    }
+
+    /// Whether each field behind the first passes the test of its form.
+    pub(crate) fn all_have(&self, test: FieldTest, row: &ByteRecord) -> bool
+        requires { length (fields_of row.now) ≡ length self.now + 1 }
+        ensures { result ≡ all_have (passes test) self.now (drop 1 (fields_of row.now)) }
+    {
+        let middle = 1 + self.front.len();
+        let back = middle + self.times * self.middle.len();
+        if !all_from(test, self.front, row, 1) {
+            return false;
+        }
+        if !all_times(test, self.middle, self.times, row, middle) {
+            return false;
+        }
+        all_from(test, self.back, row, back)
     }
 }
 
 impl Kind {
     /// The forms of a record's fields behind the first under a profile, if the kind may have so many of them.
-    pub(crate) fn forms(self, profile: u8, row: &ByteRecord) -> Option<&'static [FieldForm]>
+    pub(crate) fn layout(self, profile: u8, row: &ByteRecord) -> Option<Layout>
         requires { 1 ≤ length (fields_of row.now) }
-        ensures value { option_map (λ s. map form_of s.now) result
-            ≡ forms_of (record_kind self) profile (product_at (fields_of row.now) 3) (length (fields_of row.now) - 1) }
-        ensures count { IfSome result (λ s. length (fields_of row.now) ≡ length s.now + 1) }
+        ensures value { result ≡ forms_of self profile (product_at (fields_of row.now) 3) (length (fields_of row.now) - 1) }
+        ensures count { IfSome result (λ forms. length (fields_of row.now) ≡ length forms + 1) }
     {
         let fields = row.len() - 1;
         match self {
-            Kind::Set => exactly(&SET_FIELDS, fields),
-            Kind::Commodity => exactly(&COMMODITY_FIELDS, fields),
-            Kind::Contract => exactly(contract_fields(profile, row), fields),
-            Kind::Tier => exactly(&TIER_FIELDS, fields),
-            Kind::Spot => exactly(&SPOT_FIELDS, fields),
-            Kind::Intra => match fields {
-                9 | 12 | 15 => Some(&INTRA_FIELDS[..fields]),
-                _ => None,
-            },
-            Kind::Inter => match fields {
-                8 | 11 | 14 => Some(&INTER_FIELDS[..fields]),
-                _ => None,
-            },
+            Kind::Set => alone(&SET_FIELDS).exactly(fields),
+            Kind::Commodity => alone(&COMMODITY_FIELDS).exactly(fields),
+            Kind::Contract => contract_forms(profile, product_at(row, 3)).exactly(fields),
+            Kind::Tier => alone(&TIER_FIELDS).exactly(fields),
+            Kind::Intra => with_legs(&INTRA_FRONT, &INTRA_LEG, fields),
+            Kind::Spot => alone(&SPOT_FIELDS).exactly(fields),
+            Kind::Inter => with_legs(&INTER_FRONT, &INTER_LEG, fields),
         }
     }
 }
@@ -305,7 +376,7 @@ fn is_within(low: i64, high: i64, number: Option<i64>) -> bool
 
 impl FieldForm {
     fn has_word_form(self, text: &[u8]) -> bool
-        ensures { result ≡ has_word_form (form_of self) text.now }
+        ensures { result ≡ has_word_form self text.now }
     {
         match self {
             FieldForm::Name => is_name(text),
@@ -318,7 +389,7 @@ impl FieldForm {
     }
 
     fn has_number_form(self, text: &[u8]) -> bool
-        ensures { result ≡ has_number_form (form_of self) text.now }
+        ensures { result ≡ has_number_form self text.now }
     {
         match self {
             FieldForm::Whole { .. } => parse_whole(text).is_some(),
@@ -333,7 +404,7 @@ impl FieldForm {
     }
 
     fn is_in_range(self, text: &[u8]) -> bool
-        ensures { result ≡ is_in_range (form_of self) text.now }
+        ensures { result ≡ is_in_range self text.now }
     {
         match self {
             FieldForm::Whole { low, high } => is_within(low, high, parse_whole(text)),
@@ -351,7 +422,7 @@ impl FieldForm {
     }
 
     fn passes(self, test: FieldTest, text: &[u8]) -> bool
-        ensures { result ≡ test_of test (form_of self) text.now }
+        ensures { result ≡ passes test self text.now }
     {
         match test {
             FieldTest::Word => self.has_word_form(text),
@@ -366,17 +437,4 @@ pub(crate) fn text_at(row: &ByteRecord, i: usize) -> &[u8]
     ensures { result.now ≡ text_at (fields_of row.now) i }
 {
     if i < row.len() { field(row, i) } else { &[] }
-}
-
-/// Whether each field behind the first passes the test of its form.
-pub(crate) fn all_have(test: FieldTest, forms: &[FieldForm], row: &ByteRecord) -> bool
-    requires { length (fields_of row.now) ≡ length forms.now + 1 }
-    ensures { result ≡ all_have (test_of test) (map form_of forms.now) (drop 1 (fields_of row.now)) }
-{
-    for (i, form) in forms.iter().enumerate() {
-        if !form.passes(test, text_at(row, i + 1)) {
-            return false;
-        }
-    }
-    true
 }

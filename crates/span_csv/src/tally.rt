@@ -2,7 +2,7 @@
 ghost use Rattle.std.specs.Prelude.{◌≡◌, ◌+◌, ◌<◌, ◌^◌, List, OnOk, [], ℕ};
 ghost use Rattle.csv.specs.Records.{fields_of};
 ghost use Rattle.span_csv.specs.near.Checks.{CountsOne, count_in, limit_of};
-ghost use Rattle.span_csv.specs.near.Grammar.{HasForms, record_kind};
+ghost use Rattle.span_csv.specs.near.Grammar.{Fits};
 ghost use Rattle.span_csv.specs.Records.{text_at};
 
 use crate::fields::{name_at, profile_at};
@@ -41,7 +41,7 @@ fn count_one(counts: &mut IndexMap<Name, usize>, commodity: Name) -> Result<(), 
 impl Kind {
     /// How many records there may be of the kind, or of the kind and a commodity.
     pub(crate) fn limit(self) -> usize
-        ensures { result ≡ limit_of (record_kind self) }
+        ensures { result ≡ limit_of self }
     {
         match self {
             Kind::Set => 1,
@@ -95,8 +95,8 @@ impl Tally {
 
     /// How many records the limit of a record's kind counts.
     pub(crate) fn count(&self, kind: Kind, row: &ByteRecord) -> usize
-        requires { HasForms (record_kind kind) (fields_of row.now) }
-        ensures { result ≡ count_for self.now (record_kind kind) (text_at (fields_of row.now) 1) }
+        requires { Fits kind (fields_of row.now) }
+        ensures { result ≡ count_for self.now kind (text_at (fields_of row.now) 1) }
     {
         match kind {
             Kind::Set => 0,
@@ -111,9 +111,9 @@ impl Tally {
 
     /// Counts a record, or keeps its profile.
     pub(crate) fn add(&mut self, kind: Kind, row: &ByteRecord) -> Result<(), AllocError>
-        requires forms { HasForms (record_kind kind) (fields_of row.now) }
-        requires room { count_for self.old (record_kind kind) (text_at (fields_of row.now) 1) + 1 < 2 ^ 64 }
-        ensures { OnOk result (Adds (record_kind kind) (fields_of row.now) self.old self.new) }
+        requires forms { Fits kind (fields_of row.now) }
+        requires room { count_for self.old kind (text_at (fields_of row.now) 1) + 1 < 2 ^ 64 }
+        ensures { OnOk result (Adds kind (fields_of row.now) self.old self.new) }
     {
         match kind {
             Kind::Set => self.profile = profile_at(row, 2),

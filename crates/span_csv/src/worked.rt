@@ -58,7 +58,7 @@ fn contracts_of_both_versions()
         (neg_ℤ (pos 9) ∷ pos 8 ∷ repeat 14 (pos 7 ∷ []))) ∷ []) }
     ensures second { params_of (codes "SET,D2,2,USD\nCONTRACT,CA,AA,C,202512,1,1,-9,8,7,7,7,7,7,7,7,7,7,7,7,7,7,7,120\n") ≡ Ok
         (value_set (codes "D2") ∷ record_of.Contract (record (contract product.Call (codes "CA") (codes "AA") 202512
-        (neg_ℤ (pos 9) ∷ pos 8 ∷ repeat 14 (pos 7 ∷ []))) { option_value = 120 }) ∷ []) }
+        (neg_ℤ (pos 9) ∷ pos 8 ∷ repeat 14 (pos 7 ∷ []))) { extras = record { option_value = 120 } }) ∷ []) }
     ensures future { params_of (codes "SET,D2,2,USD\nCONTRACT,FA,AA,F,202512,1,1,7,7,7,7,7,7,7,7,7,7,7,7,7,7,7,7,0\n") ≡ Ok
         (value_set (codes "D2")
         ∷ record_of.Contract (contract product.Future (codes "FA") (codes "AA") 202512 (repeat 16 (pos 7 ∷ []))) ∷ []) }

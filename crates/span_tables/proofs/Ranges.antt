@@ -82,7 +82,7 @@ is_contract x e =
     let b = and_true _ _ a.0 in
     let d = and_true _ _ b.0 in
     let f = and_true _ _ d.0 in
-    let most = leb-true x.option_value (most_option_value x.kind) all.1 in
+    let most = leb-true x.extras.option_value (most_option_value x.kind) all.1 in
     record {
       delta = leb-true _ _ f.1;
       scale = (within _ _ _ d.1).1;

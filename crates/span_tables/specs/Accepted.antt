@@ -38,7 +38,7 @@ pub record IsContract (x : Contract) : Type 0 where
   pub scale : x.scale ≤ MAX_SCALE
   pub sixteen : length x.values ≡ SCENARIOS
   pub values : All (λ v. nat_abs v ≤ MAX_ARRAY_VALUE) x.values
-  pub option_value : x.option_value ≤ MAX_OPTION_VALUE
+  pub option_value : x.extras.option_value ≤ MAX_OPTION_VALUE
 
 -- an intracommodity spread has 2 to 4 legs, and its rate and ratios lie in their ranges
 pub record IsIntra (s : Intra) : Type 0 where

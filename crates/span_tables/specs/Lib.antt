@@ -1,6 +1,7 @@
 pub mod Gives
 pub mod Names
 pub mod Faults
+pub mod Profiles
 pub mod Rules
 pub mod Limits
 pub mod Tables

@@ -62,7 +62,7 @@ abbrev pub contract_in_range : Contract → Bool
 contract_in_range x =
     is_name x.id && is_name x.commodity && is_month x.month && nat_le (nat_abs x.delta) MAX_DELTA && lies_within 1 MAX_SCALE x.scale
     && (length x.values == SCENARIOS) && list_all (λ v. nat_le (nat_abs v) MAX_ARRAY_VALUE) x.values
-    && nat_le x.option_value (most_option_value x.kind)
+    && nat_le x.extras.option_value (most_option_value x.kind)
 
 -- a tier: its commodity, number and months
 abbrev pub tier_in_range : Tier → Bool

@@ -2,6 +2,7 @@
 use Rattle.std.specs.Prelude.{ℕ, ℤ, List, [], ◌∷◌, codes, neg_ℤ, pos}
 use Rattle.std.specs.List.{repeat}
 use Rattle.span_tables.specs.declared.limits.TheConstants.{VALUE_PROFILE}
+use Rattle.span_tables.specs.Profiles.{no_extras}
 use Rattle.span_tables.specs.declared.records.Contract.{Contract}
 use Rattle.span_tables.specs.declared.records.MinimumMethod.TheVariants as method
 use Rattle.span_tables.specs.declared.records.ProductKind.{ProductKind}
@@ -26,7 +27,7 @@ value_set id = set_under VALUE_PROFILE id
 abbrev pub commodity : List ℕ → Record
 commodity id = record_of.Commodity (record { id = id; minimum_rate = 0; method = method.Sum })
 
--- a contract of a commodity, with delta 1, scale 1, option value 0, and these values in the sixteen scenarios
+-- a contract of a commodity, with delta 1, scale 1, nothing that a profile adds, and these values in the sixteen scenarios
 abbrev pub contract : ProductKind → List ℕ → List ℕ → ℕ → List ℤ → Contract
 contract kind id of month values = record {
   id = id;
@@ -36,7 +37,7 @@ contract kind id of month values = record {
   delta = pos 10000;
   scale = 10000;
   values = values;
-  option_value = 0;
+  extras = no_extras;
 }
 
 -- the risk array of a future that loses 400 for each third of the scan range

@@ -2,8 +2,8 @@
 use Rattle.std.specs.Prelude.{ℕ, true, ◌&&◌, ◌==◌, nat_le, if◌then◌else◌, List, []}
 use Rattle.std.specs.Prelude.{Bool, Option, ◌∷◌, map, filter, find, filter_map, option_map, unwrap_or, bytes_eq}
 use Rattle.std.specs.List.{position_or_len}
+use Rattle.span_tables.specs.Profiles.{facts_of}
 use Rattle.span_tables.specs.Rules.{as_set, commodities_in, contracts_in, tiers_in, intras_in, spots_in, inters_in}
-use Rattle.span_tables.specs.declared.limits.TheConstants.{VALUE_PROFILE}
 use Rattle.span_tables.specs.declared.records.SetRecord.{SetRecord}
 use Rattle.span_tables.specs.declared.records.Commodity.{Commodity}
 use Rattle.span_tables.specs.declared.records.Contract.{Contract}
@@ -67,7 +67,7 @@ tables_of rs = record {
 
 -- options have a value under the set's profile
 abbrev pub has_option_value : AcceptedTables → Bool
-has_option_value t = t.profile == VALUE_PROFILE
+has_option_value t = (facts_of t.profile).options_have_value
 
 -- a leg with the months of its tier; a tier that there is not has none
 abbrev pub month_leg : List Tier → List ℕ → IntraLeg → MonthLeg

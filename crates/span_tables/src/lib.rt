@@ -9,6 +9,7 @@ pub mod limit_digits;
 pub mod limits;
 pub mod name;
 pub mod portfolios;
+pub mod profiles;
 pub mod raw;
 pub mod records;
 pub mod sides;

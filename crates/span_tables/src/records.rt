@@ -3,6 +3,7 @@
 ghost use Rattle.std.specs.Prelude.{◌≡◌};
 ghost use Rattle.span_tables.specs.near.Legs.{slots_on};
 
+use crate::limits::SCENARIOS;
 use crate::name::Name;
 use crate::sides::{Direction, market_side};
 use crate::slots::{OpenSides, Slots};
@@ -52,10 +53,28 @@ pub struct Commodity {
     pub method: MinimumMethod,
 }
 
-/// A contract: its composite delta, its delta scaling factor, its risk array and its option value.
+/// The fields that some profiles add to a contract; under a profile without one of them it is as in `none`.
+#[derive(Clone, Copy, Debug, PartialEq, Eq)]
+pub struct ContractExtras {
+    /// What one long contract is worth, in minor units: 0 for a future.
+    pub option_value: u32,
+}
+
+impl ContractExtras {
+    ghost use Rattle.std.specs.Prelude.{◌≡◌};
+    ghost use Rattle.span_tables.specs.Profiles.{no_extras};
+
+    /// Those of a contract to which its profile adds none.
+    pub fn none() -> ContractExtras
+        ensures { result ≡ no_extras }
+    {
+        ContractExtras { option_value: 0 }
+    }
+}
+
+/// A contract: its composite delta, its delta scaling factor, its risk array and what its set's profile adds.
 ///
-/// `month` is `yyyymm`. A value of the risk array is for one long contract, in minor units; a loss is positive. The option
-/// value is what one long contract is worth, in minor units: 0 for a future, and for every contract under profile 1.
+/// `month` is `yyyymm`. A value of the risk array is for one long contract, in minor units; a loss is positive.
 #[derive(Drop)]
 pub struct Contract {
     pub id: Name,
@@ -64,8 +83,8 @@ pub struct Contract {
     pub month: u32,
     pub delta: Delta,
     pub scale: Scale,
-    pub values: [i64; 16],
-    pub option_value: u32,
+    pub values: [i64; SCENARIOS],
+    pub extras: ContractExtras,
 }
 
 impl Contract {
@@ -83,7 +102,7 @@ impl Contract {
             delta: self.delta,
             scale: self.scale,
             values: self.values,
-            option_value: self.option_value,
+            extras: self.extras,
         }
     }
 }

@@ -9,8 +9,8 @@ ghost use Rattle.span_tables.specs.declared.limits.TheConstants.{MAX_INTER_SPREA
 
 use crate::groups::{numbers_of, spots_by_commodity};
 use crate::kinds::{Kinds, by_kind, profile, set_id};
-use crate::limits::VALUE_PROFILE;
 use crate::name::Name;
+use crate::profiles::facts_of;
 use crate::raw::RawTables;
 use crate::records::{Commodity, Contract, Inter, InterRecord, Intra, IntraRecord, Spot, Tier};
 use crate::sorting::{inters_by_priority, intras_by_priority};
@@ -185,7 +185,7 @@ impl Tables {
     pub fn has_option_value(&self) -> bool
         ensures { result ≡ has_option_value self.now }
     {
-        self.profile() == VALUE_PROFILE
+        facts_of(self.profile()).options_have_value
     }
 
     /// The commodities by their numbers.

@@ -7,12 +7,14 @@ use Rattle.span_tables.specs.Faults.{first_that_holds, ok_unless}
 use Rattle.span_tables.specs.declared.records.Record.{Record}
 use Rattle.span_tables.specs.declared.limits.TheConstants.{MAX_COMMODITIES, MAX_CONTRACTS, MAX_TIERS}
 use Rattle.span_tables.specs.declared.limits.TheConstants.{MAX_INTRA_SPREADS, MAX_SPOT_MONTHS, MAX_INTER_SPREADS}
-use Rattle.span_csv.specs.Records.{Fields, RecordKind, a_set, a_commodity, a_contract, a_tier, an_intra, a_spot, an_inter}
+use Rattle.span_csv.specs.Records.{Fields}
 use Rattle.span_csv.specs.Records.{kind_of, layout_of, text_at, count_at, has_word_form, has_number_form, is_in_range, param_record}
 use Rattle.span_csv.specs.ParamFaults.{is_set, profile_of, some_fail, param_faults, param_fault, is_memory}
 use Rattle.span_csv.specs.declared.faults.ParamFault.{ParamFault}
 use Rattle.span_csv.specs.declared.faults.ParamFault.TheVariants as fault
 use Rattle.span_csv.specs.declared.tally.Tally.{Tally}
+use Rattle.span_csv.specs.declared.grammar.Kind.{Kind}
+use Rattle.span_csv.specs.declared.grammar.Kind.TheVariants as kind
 
 -- the faults of a record's kind, where it is the first or not
 abbrev pub kind_faults : Bool → Fields → List (Bool × (ℕ → ParamFault))
@@ -37,14 +39,14 @@ IsFree faults = first_that_holds faults ≡ None
 -- ---- counts
 
 -- how many records there may be of a kind, or of a kind and commodity
-abbrev pub limit_of : RecordKind → ℕ
-limit_of a_set = 1
-limit_of a_commodity = MAX_COMMODITIES
-limit_of a_contract = MAX_CONTRACTS
-limit_of a_tier = MAX_TIERS
-limit_of an_intra = MAX_INTRA_SPREADS
-limit_of a_spot = MAX_SPOT_MONTHS
-limit_of an_inter = MAX_INTER_SPREADS
+abbrev pub limit_of : Kind → ℕ
+limit_of kind.Set = 1
+limit_of kind.Commodity = MAX_COMMODITIES
+limit_of kind.Contract = MAX_CONTRACTS
+limit_of kind.Tier = MAX_TIERS
+limit_of kind.Intra = MAX_INTRA_SPREADS
+limit_of kind.Spot = MAX_SPOT_MONTHS
+limit_of kind.Inter = MAX_INTER_SPREADS
 
 -- how many records begin with a word
 abbrev pub count_word : List ℕ → List Fields → ℕ
@@ -63,24 +65,24 @@ abbrev pub CountsOne : {S : Type 0} → HashMap (List ℕ) ℕ S → List ℕ �
 CountsOne old cc new = (q : List ℕ) → count_in new q ≡ count_in old q + (if bytes_eq cc q then 1 else 0)
 
 -- the count that the limit of a kind and commodity speaks of
-abbrev pub count_for : Tally → RecordKind → List ℕ → ℕ
-count_for t a_set cc = 0
-count_for t a_commodity cc = t.commodities
-count_for t a_contract cc = t.contracts
-count_for t a_tier cc = count_in t.tiers cc
-count_for t an_intra cc = count_in t.intras cc
-count_for t a_spot cc = count_in t.spots cc
-count_for t an_inter cc = t.inters
+abbrev pub count_for : Tally → Kind → List ℕ → ℕ
+count_for t kind.Set cc = 0
+count_for t kind.Commodity cc = t.commodities
+count_for t kind.Contract cc = t.contracts
+count_for t kind.Tier cc = count_in t.tiers cc
+count_for t kind.Intra cc = count_in t.intras cc
+count_for t kind.Spot cc = count_in t.spots cc
+count_for t kind.Inter cc = t.inters
 
 -- a record of a kind is counted, or its profile kept
-abbrev pub Adds : RecordKind → Fields → Tally → Tally → Type 0
-Adds a_set r old new = new ≡ record old { profile = count_at r 2 }
-Adds a_commodity r old new = new ≡ record old { commodities = old.commodities + 1 }
-Adds a_contract r old new = new ≡ record old { contracts = old.contracts + 1 }
-Adds a_tier r old new = CountsOne old.tiers (text_at r 1) new.tiers × (new ≡ record old { tiers = new.tiers })
-Adds an_intra r old new = CountsOne old.intras (text_at r 1) new.intras × (new ≡ record old { intras = new.intras })
-Adds a_spot r old new = CountsOne old.spots (text_at r 1) new.spots × (new ≡ record old { spots = new.spots })
-Adds an_inter r old new = new ≡ record old { inters = old.inters + 1 }
+abbrev pub Adds : Kind → Fields → Tally → Tally → Type 0
+Adds kind.Set r old new = new ≡ record old { profile = count_at r 2 }
+Adds kind.Commodity r old new = new ≡ record old { commodities = old.commodities + 1 }
+Adds kind.Contract r old new = new ≡ record old { contracts = old.contracts + 1 }
+Adds kind.Tier r old new = CountsOne old.tiers (text_at r 1) new.tiers × (new ≡ record old { tiers = new.tiers })
+Adds kind.Intra r old new = CountsOne old.intras (text_at r 1) new.intras × (new ≡ record old { intras = new.intras })
+Adds kind.Spot r old new = CountsOne old.spots (text_at r 1) new.spots × (new ≡ record old { spots = new.spots })
+Adds kind.Inter r old new = new ≡ record old { inters = old.inters + 1 }
 
 -- these records were counted, and the profile of their file kept
 pub record Tallies (t : Tally) (rs : List Fields) : Type 0 where

@@ -1,79 +1,48 @@
--- The code's forms and kinds, as the record grammar has them.
-use Rattle.std.specs.Prelude.{◌≡◌, ◌⊎◌, ◌<◌, ◌+◌, ℕ, Bool, true}
-use Rattle.std.specs.Prelude.{List, [], ◌∷◌, length, unwrap_or, slice_index_or}
-use Rattle.span_csv.specs.Records.{Fields, Form, a_name, a_currency, a_method, a_product, a_side, a_whole}
-use Rattle.span_csv.specs.Records.{a_decimal, a_month, RecordKind, a_set, a_commodity, a_contract, a_tier, an_intra}
-use Rattle.span_csv.specs.Records.{a_spot, an_inter, has_word_form, has_number_form, is_in_range, forms_of, text_at}
-use Rattle.span_tables.specs.declared.limits.TheConstants.{VALUE_PROFILE}
-use Rattle.span_tables.specs.declared.records.ProductKind.TheVariants as product
+-- What the code tests of a field, and what it takes from a record whose fields pass the tests.
+use Rattle.std.specs.Prelude.{◌≡◌, ◌<◌, ◌≤◌, ◌+◌, ◌*◌, ◌^◌, ℕ, Bool, true, List, [], ◌∷◌, length, nat_abs}
+use Rattle.span_tables.specs.Names.{is_name}
+use Rattle.span_tables.specs.declared.limits.TheConstants.{MAX_LEGS}
+use Rattle.span_csv.specs.Records.{Fields, has_word_form, has_number_form, is_in_range, text_at, count_at, decimal_at, ratio_at}
+use Rattle.span_csv.specs.declared.contents.TheConstants.{EXTRAS}
 use Rattle.span_csv.specs.declared.grammar.FieldForm.{FieldForm}
-use Rattle.span_csv.specs.declared.grammar.FieldForm.TheVariants as form
 use Rattle.span_csv.specs.declared.grammar.Kind.{Kind}
 use Rattle.span_csv.specs.declared.grammar.Kind.TheVariants as kind
 use Rattle.span_csv.specs.declared.grammar.FieldTest.{FieldTest}
 use Rattle.span_csv.specs.declared.grammar.FieldTest.TheVariants as field_test
 
--- the form that one of the code's forms is
-abbrev pub form_of : FieldForm → Form
-form_of form.Name = a_name
-form_of form.Currency = a_currency
-form_of form.Method = a_method
-form_of form.Product = a_product
-form_of form.Side = a_side
-form_of (form.Whole low high) = a_whole low high
-form_of (form.Decimal low high) = a_decimal low high
-form_of form.Month = a_month
-
--- the kind that one of the code's kinds is
-abbrev pub record_kind : Kind → RecordKind
-record_kind kind.Set = a_set
-record_kind kind.Commodity = a_commodity
-record_kind kind.Contract = a_contract
-record_kind kind.Tier = a_tier
-record_kind kind.Intra = an_intra
-record_kind kind.Spot = a_spot
-record_kind kind.Inter = an_inter
-
--- the test that one of the code's tests is
-abbrev pub test_of : FieldTest → Form → List ℕ → Bool
-test_of field_test.Word = has_word_form
-test_of field_test.Number = has_number_form
-test_of field_test.Range = is_in_range
-
--- the most fields that a record of a kind has behind the first
-abbrev pub most_fields : RecordKind → ℕ
-most_fields a_set = 3
-most_fields a_commodity = 3
-most_fields a_contract = 23
-most_fields a_tier = 4
-most_fields an_intra = 15
-most_fields a_spot = 4
-most_fields an_inter = 14
-
--- the forms of the fields of a kind's longest record, of which its other records have the front, and none a wider range
-abbrev pub longest : RecordKind → List Form
-longest kind = unwrap_or (forms_of kind VALUE_PROFILE product.Call (most_fields kind)) []
-
--- the form of a field of a kind, from 0 for the one behind the first
-abbrev pub form_at : RecordKind → ℕ → Form
-form_at kind i = slice_index_or (longest kind) i a_side
-
--- a kind's number of fields
-abbrev pub HasCount : RecordKind → ℕ → Type 0
-HasCount a_set n = n ≡ 4
-HasCount a_commodity n = n ≡ 4
-HasCount a_contract n = (n ≡ 23) ⊎ (n ≡ 24)
-HasCount a_tier n = n ≡ 5
-HasCount an_intra n = (n ≡ 10) ⊎ ((n ≡ 13) ⊎ (n ≡ 16))
-HasCount a_spot n = n ≡ 5
-HasCount an_inter n = (n ≡ 9) ⊎ ((n ≡ 12) ⊎ (n ≡ 15))
-
--- a record has as many fields as its kind may have under some profile, each of the form and in the range of the longest record's
-pub record HasForms (kind : RecordKind) (r : Fields) : Type 0 where
-  pub count : HasCount kind (length r)
-  pub words : (i : ℕ) → i + 1 < length r → has_word_form (form_at kind i) (text_at r (i + 1)) ≡ true
-  pub ranges : (i : ℕ) → i + 1 < length r → is_in_range (form_at kind i) (text_at r (i + 1)) ≡ true
+-- a text passes the test of its form
+abbrev pub passes : FieldTest → FieldForm → List ℕ → Bool
+passes field_test.Word = has_word_form
+passes field_test.Number = has_number_form
+passes field_test.Range = is_in_range
 
 -- the three fields of a leg, from a place on
 abbrev pub leg_at : Fields → ℕ → Fields
 leg_at r at = text_at r at ∷ text_at r (at + 1) ∷ text_at r (at + 2) ∷ []
+
+-- from a place on a record has the fields of its legs and no others, and each leg keeps something
+pub record HasLegs (from : ℕ) (Keeps : ℕ → Type 0) (r : Fields) : Type 0 where
+  pub legs : ℕ
+  pub few : legs ≤ MAX_LEGS
+  pub fields : length r ≡ from + 3 * legs
+  pub each : (i : ℕ) → i < legs → Keeps (from + 3 * i)
+
+-- the name at a place is one
+abbrev pub IsNamed : Fields → ℕ → Type 0
+IsNamed r i = is_name (text_at r i) ≡ true
+
+-- the number at a place fits 32 bits
+abbrev pub IsWord : Fields → ℕ → Type 0
+IsWord r i = count_at r i < 2 ^ 32
+
+-- the names of a record are names, and its numbers fit their types
+abbrev pub Fits : Kind → Fields → Type 0
+Fits kind.Set r = IsNamed r 1 × (count_at r 2 < 2 ^ 8) × (length (text_at r 3) ≡ 3)
+Fits kind.Commodity r = IsNamed r 1 × IsWord r 2
+Fits kind.Contract r =
+    IsNamed r 1 × IsNamed r 2 × IsWord r 4 × (nat_abs (decimal_at r 5) < 2 ^ 31) × (ratio_at r 6 < 2 ^ 32) × IsWord r EXTRAS
+    × (EXTRAS ≤ length r)
+Fits kind.Tier r = IsNamed r 1 × IsWord r 2 × IsWord r 3 × IsWord r 4
+Fits kind.Intra r = IsNamed r 1 × IsWord r 2 × IsWord r 3 × HasLegs 4 (λ at. IsWord r at × (ratio_at r (at + 2) < 2 ^ 32)) r
+Fits kind.Spot r = IsNamed r 1 × IsWord r 2 × IsWord r 3 × IsWord r 4
+Fits kind.Inter r = IsWord r 1 × IsWord r 2 × HasLegs 3 (λ at. IsNamed r at × (ratio_at r (at + 2) < 2 ^ 32)) r

@@ -1,20 +1,28 @@
-use Rattle.std.proofs.Common.{◌+◌, ◌-◌, ◌*◌, ◌/◌, ◌<◌, ◌≤◌, arith, length, refl}
+use Rattle.std.proofs.Common.{◌<◌, ◌+◌, ◌*◌, arith, length, rules}
 use Rattle.csv.specs.Records.{fields_of}
-use Rattle.span_csv.proofs.LegLemmas.{inter_commodity, inter_ratio}
+use Rattle.span_csv.specs.Records.{inter_leg}
+use Rattle.span_csv.proofs.LegLemmas.{legs_push}
 use Rattle.span_csv.proofs.contents.inter_legs.Goals as goal
 
 pub inter_leg-requires-clause-commodity : goal.inter_leg-requires-clause-commodity
 inter_leg-requires-clause-commodity c =
-    let count = c.requires.count in
-    let legs : (length (fields_of c.args.row.now) - 3) / 3 ≤ 4 = omega arith in
-    let few : c.loop-i.i < 4 = omega arith in
-    let inside : 3 + 3 * c.loop-i.i + 2 < length (fields_of c.args.row.now) = omega arith in
-    inter_commodity (fields_of c.args.row.now) c.loop-i.i (3 + 3 * c.loop-i.i) c.requires few refl (omega arith)
+    let legs = c.requires.2 in
+    let few : c.loop-i.i < legs.legs = omega (arith, legs.fields) in
+    (legs.each c.loop-i.i few).0
 
 pub inter_leg-requires-clause-ratio : goal.inter_leg-requires-clause-ratio
 inter_leg-requires-clause-ratio c =
-    let count = c.requires.count in
-    let legs : (length (fields_of c.args.row.now) - 3) / 3 ≤ 4 = omega arith in
-    let few : c.loop-i.i < 4 = omega arith in
-    let inside : 3 + 3 * c.loop-i.i + 2 < length (fields_of c.args.row.now) = omega arith in
-    omega (arith, inter_ratio (fields_of c.args.row.now) c.loop-i.i (3 + 3 * c.loop-i.i + 2) c.requires few (omega arith) inside)
+    let legs = c.requires.2 in
+    let few : c.loop-i.i < legs.legs = omega (arith, legs.fields) in
+    (legs.each c.loop-i.i few).1
+
+pub loop-i-preserved : goal.loop-i-preserved
+loop-i-preserved c =
+    let legs = c.requires.2 in
+    let inside : 3 + 3 * c.loop-i.i + 2 < length (fields_of c.args.row.now) = omega (arith, legs.fields) in
+    record {
+      count = search rules;
+      left =
+          rw c.push.ensures.items (legs_push inter_leg (fields_of c.args.row.now) (3 + 3 * c.loop-i.i) (3 + 3 * (c.loop-i.i + 1)) _ _
+          c.inter_leg.result inside (omega arith) c.inter_leg.ensures c.loop-i.invariant.left);
+    }
