@@ -1,6 +1,7 @@
 """What the tools read: the crates, and the items of files of definitions (.antt) and of code (.rt). It proves and runs nothing."""
 import os
 import re
+import sys
 
 NEAR = "near"
 
@@ -15,7 +16,23 @@ def to_root():
     os.chdir(os.path.join(os.path.dirname(os.path.abspath(__file__)), ".."))
 
 
-def crates():
+def write_or_check(path, text, tool, words):
+    """Writes a page that a tool makes; with --check it says whether the page is up to date. Answers the status."""
+    if words not in ([], ["--check"]):
+        print(f"usage: {tool} [--check]", file=sys.stderr)
+        return 2
+    if not words:
+        with open(path, "w", encoding="utf-8") as file:
+            file.write(text)
+        return 0
+    same = os.path.isfile(path) and text_of(path) == text
+    if not same:
+        print(f"{path} is not what {tool} writes: call it, and commit the page")
+    print("1 passed, 0 failed" if same else "0 passed, 1 failed")
+    return 0 if same else 1
+
+
+def crates(in_file_order=False):
     """The crates by crates.txt, each behind those that it uses: the name, the comment above it, the names that it uses."""
     found, comment, order = {}, "", []
     for line in text_of("crates.txt").splitlines():
@@ -33,6 +50,7 @@ def crates():
 
     for name in found:
         visit(name)
+    order = list(found) if in_file_order else order
     return [(name, *found[name]) for name in order]
 
 
