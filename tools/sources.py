@@ -217,10 +217,11 @@ def closing(text, at):
 
 
 class Function:
-    """A function: its name, its comment, its signature, its clauses and whether it is public."""
+    """A function: its name, its comment, its signature, that with its clauses, these, and whether it is public."""
 
-    def __init__(self, name, doc, signature, clauses, public, owner):
-        self.name, self.doc, self.signature, self.clauses = name, doc, signature, clauses
+    def __init__(self, at, name, doc, signature, header, clauses, public, owner):
+        self.at, self.name, self.doc, self.clauses = at, name, doc, clauses
+        self.signature, self.header = signature, header
         self.public, self.owner = public, owner
 
 
@@ -284,6 +285,7 @@ class CodeFile:
         self.items[name].kind = kind
         self.items[name].doc = doc_of(comments)
         self.items[name].public = match.group(0).startswith("pub ")
+        self.items[name].at = match.start()
         self.items[name].text = self.text[match.start() : end + 1]
 
     def functions(self):
@@ -296,14 +298,14 @@ class CodeFile:
             owner = next((it for first, last, it in owners if first < match.start() < last), None)
             if match.group(1) and not owner:
                 continue
-            _, clauses, head = end_of_header(self.text, match.end())
-            signature = self.text[match.start() + len(match.group(1)) : head].rstrip()
-            if match.group(1):
-                signature = re.sub(r"(?m)^    ", "", signature)
-            in_trait = owner is not None and re.search(r"\btrait\b|\bfor\b", owner) is not None
-            public = match.group(2) == "pub " or in_trait and "trait" in owner and owner.startswith("pub ")
+            end, clauses, head = end_of_header(self.text, match.end())
+            begin, indent = match.start() + len(match.group(1)), match.group(1)
+            signature, header = (
+                re.sub(rf"(?m)^{indent}", "", self.text[begin:last].rstrip()) for last in (head, end)
+            )
+            public = match.group(2) == "pub " or (owner or "").startswith("pub trait ")
             doc = doc_of(above(self.text, match.start()))
-            yield Function(match.group(3), doc, signature, clauses, public, owner)
+            yield Function(begin, match.group(3), doc, signature, header, clauses, public, owner)
 
 
 class Sources:
@@ -329,6 +331,14 @@ class Sources:
             if self.read[path]:
                 return self.read[path]
         return None
+
+    def is_public(self, crate, module):
+        """Whether a module can be named from outside of its crate."""
+        for depth in range(len(module)):
+            above_it = self.code(crate, module[:depth])
+            if not above_it or not re.search(rf"(?m)^pub mod {module[depth]};", above_it.text):
+                return False
+        return True
 
     # ---- names of definitions
 
