@@ -1,4 +1,4 @@
-"""What the tools read: the crates, and the items of files of definitions (.antt) and of code (.rt). It proves and runs nothing."""
+"""What the tools read: the crates, and the items of files of definitions (.antt) and of code (.rt)."""
 import os
 import re
 import sys
@@ -33,7 +33,7 @@ def write_or_check(path, text, tool, words):
 
 
 def crates(in_file_order=False):
-    """The crates by crates.txt, each behind those that it uses: the name, the comment above it, the names that it uses."""
+    """The crates by crates.txt, each behind those that it uses: name, comment above it, names that it uses."""
     found, comment, order = {}, "", []
     for line in text_of("crates.txt").splitlines():
         head, colon, uses = line.partition("#")[0].partition(":")
@@ -240,7 +240,7 @@ def doc_of(lines):
 
 
 class CodeFile:
-    """A file of code: its types and constants by name, its functions, and what it imports of code and of definitions."""
+    """A file of code: its types and constants by name, its functions, and what it imports."""
 
     def __init__(self, path, crate, module):
         self.path, self.crate, self.module = path, crate, module
@@ -288,8 +288,13 @@ class CodeFile:
         self.items[name].at = match.start()
         self.items[name].text = self.text[match.start() : end + 1]
 
+    def traits(self):
+        """The public traits of the file: place, name, first line, comment."""
+        for match in re.finditer(r"^pub trait (\w+)[^{]*", self.text, re.M):
+            yield match.start(), match.group(1), match.group(0).strip(), doc_of(above(self.text, match.start()))
+
     def functions(self):
-        """The functions of the file in their order, also those of impl blocks and of traits, but for those of bodies."""
+        """The functions of the file in their order, also those of impl blocks and of traits, without inner ones."""
         owners = []
         for match in re.finditer(r"^(?:unsafe )?(?:impl\b|(?:pub(?:\(\w+\))? )?trait )[^{]*", self.text, re.M):
             opened = self.text.index("{", match.end() - 1)
@@ -348,12 +353,13 @@ class Sources:
         if len(parts) < 3 or parts[1] not in self.crates or (module, name) in seen:
             return None
         crate, where = parts[1], parts[3:]
-        if where[:1] == ["declared"]:
-            return self.declared(crate, where[1:], name)
+        found = self.declared(crate, where[1:], name) if where[:1] == ["declared"] else None
+        if found:
+            return found
         file = self.definitions(f"crates/{crate}/specs/" + "/".join(where) + ".antt")
         if not file:
             # a module that an index hands on from another crate
-            index = self.definitions("/".join([f"crates/{crate}/specs", *where[:-1]]) + ".antt") if len(where) > 1 else None
+            index = self.definitions("/".join([f"crates/{crate}/specs", *(where[:-1] or ["Lib"])]) + ".antt")
             index = index or self.definitions(f"crates/{crate}/specs/Lib.antt")
             for other, listed in index.handed_on if index else ():
                 if listed is None and other.split(".")[-1] == where[-1]:
