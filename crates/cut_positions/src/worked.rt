@@ -1,13 +1,13 @@
 //! Positions in parts, and their statements, computed by the definitions: each is the contract of a function that does nothing.
-#![tactic(auto, unfolding(statement::specs::OnLiterals::on_literals))]
+#![tactic(auto, unfolding(statement::specs::near::OnLiterals::on_literals))]
 
-ghost use Rattle.param_check.specs.Samples.{contract_of, position_of};
+ghost use Rattle.param_check.specs.near.Samples.{contract_of, position_of};
 ghost use Rattle.span_csv.specs.Records.{records_of};
 ghost use Rattle.span_tables.specs.Net.{holdings_of};
-ghost use Rattle.span_tables.specs.Samples.{commodity, set};
+ghost use Rattle.span_tables.specs.near.Samples.{commodity, set};
 ghost use Rattle.span_tables.specs.Tables.{tables_of};
 ghost use Rattle.span_tables.specs.declared.records.Record.TheVariants as record_of;
-ghost use Rattle.statement.specs.Samples.{one_future};
+ghost use Rattle.statement.specs.near.Samples.{one_future};
 ghost use Rattle.statement.specs.Statement.{statement_bound, statement_of};
 ghost use Rattle.std.specs.Prelude.{◌++◌, ◌≡◌, ◌∷◌, [], Ok, codes, neg_ℤ, pos};
 

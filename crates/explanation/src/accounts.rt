@@ -2,7 +2,7 @@
 ghost use Rattle.std.specs.Prelude.{◌≡◌, ◌++◌, ◌<◌, OnOk, flat_map, length, true};
 ghost use Rattle.span_money.specs.LineFields.{line};
 ghost use Rattle.span_tables.specs.Holdings.{fits};
-ghost use Rattle.reasons.specs.Stages.{stages_of};
+ghost use Rattle.reasons.specs.near.Stages.{stages_of};
 ghost use Rattle.explanation.specs.Explanation.{account_text, commodity_lines};
 
 use reasons::stages::{Stages, push_reasons, stages_of};

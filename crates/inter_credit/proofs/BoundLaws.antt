@@ -12,7 +12,8 @@ use Rattle.span_tables.specs.Accepted.{IsInter}
 use Rattle.span_tables.specs.Holdings.{AreHeld}
 use Rattle.span_tables.specs.Net.{HeldContract}
 use Rattle.span_tables.specs.Sides.{IsLeftOf}
-use Rattle.span_tables.specs.declared.limits.TheConstants.{MAX_BASIS_POINTS, MAX_HELD, MAX_NET, MAX_PRICE2, MAX_RATE, MAX_UNITS}
+use Rattle.span_tables.specs.declared.limits.TheConstants.{MAX_BASIS_POINTS, MAX_HELD, MAX_NET, MAX_PRICE2, MAX_RATE}
+use Rattle.span_tables.specs.declared.limits.TheConstants.{MAX_UNITS}
 use Rattle.span_tables.specs.declared.records.Inter.{Inter}
 use Rattle.span_tables.specs.declared.records.MinimumMethod.{MinimumMethod}
 use Rattle.span_tables.specs.declared.records.MinimumMethod.TheVariants as method
@@ -20,7 +21,9 @@ use Rattle.span_tables.specs.declared.records.ProductKind.{ProductKind}
 use Rattle.span_tables.specs.declared.records.ProductKind.TheVariants as product
 use Rattle.inter_credit.specs.Credits.{after_inter_spreads, credit_of, inter_both_ways, unspread_line}
 use Rattle.inter_credit.specs.Requirement.{is_call, is_put, minimum_of, requirement_of, short_count, short_options}
-use Rattle.inter_credit.specs.States.{IsLine, UsesLine, credit_at, line_at}
+use Rattle.inter_credit.specs.States.{UsesLine}
+use Rattle.inter_credit.specs.near.Lines.{IsLine}
+use Rattle.inter_credit.specs.Credits.{credit_at, line_at}
 use Rattle.inter_credit.specs.declared.state.InterLine.{InterLine}
 use Rattle.inter_credit.proofs.CreditLaws.{credit_greatest, credit_zero}
 use Rattle.inter_credit.proofs.OpenLemmas.{loaded_line}

@@ -12,9 +12,10 @@ use Rattle.span_tables.specs.declared.sides.MarketSide.{MarketSide}
 use Rattle.span_tables.specs.declared.sides.MarketSide.TheVariants.{Long, Short}
 use Rattle.span_tables.specs.declared.records.CommodityLeg.{CommodityLeg}
 use Rattle.span_tables.specs.declared.records.Inter.{Inter}
-use Rattle.inter_credit.specs.Credits.{change_at, commodity_rooms, inter_one_way, leg_side, line_after, lines_after, rest_at}
+use Rattle.inter_credit.specs.Credits.{change_at, commodity_rooms, inter_one_way, leg_side, line_after, lines_after}
+use Rattle.inter_credit.specs.Credits.{rest_at}
 use Rattle.inter_credit.specs.near.Rooms.{HaveRoom}
-use Rattle.inter_credit.specs.States.{line_at}
+use Rattle.inter_credit.specs.Credits.{line_at}
 use Rattle.inter_credit.specs.declared.state.InterLine.{InterLine}
 use Rattle.inter_credit.proofs.LineLemmas.{HaveRoom-rest, not_equal, or_left, or_right, rest_at-change_at}
 use Rattle.inter_credit.proofs.SpreadLemmas.{formed_have_room}

@@ -13,7 +13,9 @@ use Rattle.span_tables.specs.declared.sides.Direction.{Direction}
 use Rattle.span_tables.specs.declared.sides.MarketSide.TheVariants.{Long, Short}
 use Rattle.span_tables.specs.declared.slots.OpenSides.{OpenSides}
 use Rattle.inter_credit.specs.Credits.{commodity_rooms, inter_one_way, unspread_line, rest_at}
-use Rattle.inter_credit.specs.States.{IsLine, IsNotLoaded, IsUnspread, IsUnspreadLine, line_at}
+use Rattle.inter_credit.specs.States.{IsNotLoaded, IsUnspread, IsUnspreadLine}
+use Rattle.inter_credit.specs.near.Lines.{IsLine}
+use Rattle.inter_credit.specs.Credits.{line_at}
 use Rattle.inter_credit.specs.declared.state.InterLine.{InterLine}
 use Rattle.inter_credit.specs.near.Open.{AreOpen}
 use Rattle.span_tables.specs.declared.limits.TheConstants.{MAX_PRICE2, MAX_UNITS}

@@ -13,7 +13,7 @@ use Rattle.span_tables.specs.declared.records.CommodityLeg.{CommodityLeg}
 use Rattle.span_tables.specs.declared.records.Inter.{Inter}
 use Rattle.inter_credit.specs.Credits.{change_at, formed_both, formed_in, inter_both_ways, inter_one_way}
 use Rattle.inter_credit.specs.Credits.{line_after, lines_after, unspread_line}
-use Rattle.inter_credit.specs.States.{line_at}
+use Rattle.inter_credit.specs.Credits.{line_at}
 use Rattle.inter_credit.specs.declared.state.InterLine.{InterLine}
 use Rattle.inter_credit.proofs.LegLaws.{line_at-change_at}
 use Rattle.inter_credit.proofs.LineLemmas.{length-change_at}

@@ -71,3 +71,11 @@ whole = 10 ^ 4
 -- the credit of a commodity: price2 * weight / (2 * 10^4 * |net|) rounded down, and 0 where its net delta is 0
 unfoldable pub credit_of : InterLine → ℕ
 credit_of line = if nat_abs line.net == 0 then 0 else (line.price2 * line.weight) / (2 * whole * nat_abs line.net)
+
+-- the line of the commodity of a number
+abbrev pub line_at : List InterLine → ℕ → InterLine
+line_at lines commodity = unwrap_or (slice_get lines commodity) (unspread_line (pos 0) 0)
+
+-- the credit of the commodity of a number
+abbrev pub credit_at : List InterLine → ℕ → ℕ
+credit_at lines commodity = unwrap_or (option_map credit_of (slice_get lines commodity)) 0

@@ -1,6 +1,5 @@
 pub mod Credits
 pub mod Requirement
 pub mod OptionValue
-pub mod Samples
 pub mod States
 pub mod near

@@ -1,18 +1,8 @@
 -- What the lines of commodities keep.
-use Rattle.std.specs.Prelude.{◌≡◌, ℕ, ◌+◌, ◌*◌, ◌≤◌, List, slice_get, option_map, unwrap_or, IfSome, All, pos}
+use Rattle.std.specs.Prelude.{◌≡◌, ℕ, ◌+◌, ◌*◌, List, slice_get, IfSome, All, pos}
 use Rattle.std.specs.Prelude.{nat_abs}
-use Rattle.span_tables.specs.declared.limits.TheConstants.{MAX_BASIS_POINTS, MAX_PRICE2, MAX_UNITS}
 use Rattle.span_tables.specs.Sides.{IsLeftOf}
-use Rattle.inter_credit.specs.Credits.{credit_of, unspread_line}
 use Rattle.inter_credit.specs.declared.state.InterLine.{InterLine}
-
--- a commodity's net delta and price risk lie in their ranges, its rest is left of its net delta, and its weight has no
--- more than all basis points of what was used
-pub record IsLine (line : InterLine) : Type 0 where
-  pub net : nat_abs line.net ≤ MAX_UNITS
-  pub price2 : line.price2 ≤ MAX_PRICE2
-  pub rest : IsLeftOf line.net line.rest
-  pub weight : line.weight + MAX_BASIS_POINTS * nat_abs line.rest ≤ MAX_BASIS_POINTS * nat_abs line.net
 
 -- a commodity of which units were used, each at so many basis points: net delta and price risk stay, the rest is what is
 -- left, and the weight grows by what was used times the basis points
@@ -21,10 +11,6 @@ pub record UsesLine (basis_points : ℕ) (before after : InterLine) : Type 0 whe
   pub price2 : after.price2 ≡ before.price2
   pub rest : IsLeftOf before.rest after.rest
   pub weight : after.weight + basis_points * nat_abs after.rest ≡ before.weight + basis_points * nat_abs before.rest
-
--- the line of the commodity of a number
-abbrev pub line_at : List InterLine → ℕ → InterLine
-line_at lines commodity = unwrap_or (slice_get lines commodity) (unspread_line (pos 0) 0)
 
 -- no spread was formed: the rest of a commodity is its full net delta
 pub record IsUnspreadLine (line : InterLine) : Type 0 where
@@ -38,7 +24,3 @@ IsUnspread lines = All IsUnspreadLine lines
 -- nothing was loaded for the commodity of a number: its net delta and its price risk are 0
 abbrev pub IsNotLoaded : List InterLine → ℕ → Type 0
 IsNotLoaded lines commodity = IfSome (slice_get lines commodity) (λ line. (line.net ≡ pos 0) × (line.price2 ≡ 0))
-
--- the credit of the commodity of a number
-abbrev pub credit_at : List InterLine → ℕ → ℕ
-credit_at lines commodity = unwrap_or (option_map credit_of (slice_get lines commodity)) 0

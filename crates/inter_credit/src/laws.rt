@@ -12,7 +12,8 @@ ghost use Rattle.inter_credit.specs.Credits.{after_inter_spreads, credit_of, for
 ghost use Rattle.inter_credit.specs.Credits.{inter_one_way, leg_side};
 ghost use Rattle.inter_credit.specs.OptionValue.{due_of, excess_of};
 ghost use Rattle.inter_credit.specs.Requirement.{is_call, is_put, minimum_of, requirement_of, short_count};
-ghost use Rattle.inter_credit.specs.States.{IsUnspread, UsesLine, credit_at, line_at};
+ghost use Rattle.inter_credit.specs.States.{IsUnspread, UsesLine};
+ghost use Rattle.inter_credit.specs.Credits.{credit_at, line_at};
 ghost use Rattle.inter_credit.specs.declared.requirement.TheConstants.{MAX_PART};
 ghost use Rattle.inter_credit.specs.declared.state.InterLine.{InterLine};
 

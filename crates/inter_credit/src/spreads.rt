@@ -4,10 +4,10 @@ ghost use Rattle.std.specs.Prelude.{◌≡◌, ◌<◌, ◌≤◌, ◌*◌, ◌/
 ghost use Rattle.span_tables.specs.Accepted.{IsInter};
 ghost use Rattle.span_tables.specs.Sides.{market_side, part_on, spreads_formed};
 ghost use Rattle.span_tables.specs.declared.limits.TheConstants.{MAX_BASIS_POINTS};
-ghost use Rattle.inter_credit.specs.Credits.{change_at, commodity_rooms, formed_both, formed_in, inter_both_ways, inter_one_way};
-ghost use Rattle.inter_credit.specs.Credits.{leg_side, line_after, lines_after};
+ghost use Rattle.inter_credit.specs.Credits.{change_at, commodity_rooms, formed_both, formed_in, inter_both_ways};
+ghost use Rattle.inter_credit.specs.Credits.{inter_one_way, leg_side, line_after, lines_after};
 ghost use Rattle.inter_credit.specs.near.Rooms.{HaveRoom};
-ghost use Rattle.inter_credit.specs.States.{IsLine};
+ghost use Rattle.inter_credit.specs.near.Lines.{IsLine};
 ghost use Rattle.inter_credit.specs.near.Open.{AreOpen};
 ghost use Rattle.inter_credit.specs.declared.state.InterLine.{InterLine};
 

@@ -3,7 +3,8 @@
 ghost use Rattle.std.specs.Prelude.{◌≡◌, ◌<◌, ◌≤◌, ◌==◌, false, length, replicate, slice_set, All, IfOk, pos, nat_abs};
 ghost use Rattle.inter_credit.specs.Credits.{formed_both, inter_both_ways, unspread_line};
 ghost use Rattle.span_tables.specs.Accepted.{IsInter};
-ghost use Rattle.inter_credit.specs.States.{IsLine, IsNotLoaded, IsUnspread};
+ghost use Rattle.inter_credit.specs.States.{IsNotLoaded, IsUnspread};
+ghost use Rattle.inter_credit.specs.near.Lines.{IsLine};
 ghost use Rattle.span_tables.specs.declared.limits.TheConstants.{MAX_PRICE2, MAX_UNITS};
 
 use crate::spreads::{count_both_ways, may_form_either, spread_both_ways};

@@ -11,7 +11,7 @@ ghost use Rattle.inter_credit.specs.Credits.{after_inter_spreads, credit_of, for
 ghost use Rattle.inter_credit.specs.OptionValue.{due_of, excess_of, net_value_of};
 ghost use Rattle.inter_credit.specs.Requirement.{minimum_of, requirement_of};
 ghost use Rattle.inter_credit.specs.declared.option_value.TheConstants.{MAX_NET_VALUE};
-ghost use Rattle.inter_credit.specs.Samples.{held_of_kind, held_with_value, line_with, short, spread_of};
+ghost use Rattle.inter_credit.specs.near.Samples.{held_of_kind, held_with_value, line_with, short, spread_of};
 
 // One long delta against two short ones, at 5000 basis points.
 fn one_credit()

@@ -2,7 +2,7 @@
 use Rattle.std.proofs.Common.{◌≡◌, ℕ, ◌<◌, List, [], length, get_or, Some, position, sym, ap}
 use Rattle.std.specs.Prelude.{All, bytes_eq}
 use Rattle.span_tables.specs.Net.{accounts_of}
-use Rattle.span_tables.specs.Positions.{named_position, named_positions}
+use Rattle.span_tables.specs.near.Positions.{named_position, named_positions}
 use Rattle.span_tables.specs.declared.portfolios.Holding.{Holding}
 use Rattle.span_tables.specs.declared.records.NumberedPosition.{NumberedPosition}
 use Rattle.span_tables.specs.declared.records.PositionRecord.{PositionRecord}

@@ -1,4 +1,3 @@
 pub mod Binding
 pub mod CheckFaults
-pub mod Samples
 pub mod near

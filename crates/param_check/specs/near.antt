@@ -1,9 +1,10 @@
--- Forms near to the code, which private clauses cite. What has to be trusted is beside this folder.
+-- What no promise's words stand on: forms near to the code, what types keep, samples.
 pub mod Groups
+pub mod Holdings
 pub mod Keys
-pub mod Overlaps
-pub mod RecordRules
-pub mod Sums
 pub mod Ledger
 pub mod Nets
-pub mod Holdings
+pub mod Overlaps
+pub mod RecordRules
+pub mod Samples
+pub mod Sums

@@ -5,11 +5,11 @@ ghost use Rattle.std.specs.List.{repeat};
 ghost use Rattle.std.specs.Prelude.{◌≡◌, ◌+◌, [], ◌∷◌, None, Some, codes, neg_ℤ, pos};
 ghost use Rattle.param_check.specs.Binding.{bind_fault};
 ghost use Rattle.param_check.specs.CheckFaults.{check_fault};
-ghost use Rattle.param_check.specs.Samples.{contract_of, inter_record, intra_record};
-ghost use Rattle.param_check.specs.Samples.{position_of, tier_record};
+ghost use Rattle.param_check.specs.near.Samples.{contract_of, inter_record, intra_record};
+ghost use Rattle.param_check.specs.near.Samples.{position_of, tier_record};
 ghost use Rattle.param_check.specs.declared.faults.BindFault.TheVariants as bind;
 ghost use Rattle.param_check.specs.declared.faults.CheckFault.TheVariants as check;
-ghost use Rattle.span_tables.specs.Samples.{commodity};
+ghost use Rattle.span_tables.specs.near.Samples.{commodity};
 ghost use Rattle.span_tables.specs.declared.limits.TheConstants.{MAX_HELD, MAX_NET};
 ghost use Rattle.span_tables.specs.declared.records.Side.TheVariants as side;
 

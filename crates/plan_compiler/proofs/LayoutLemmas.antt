@@ -5,15 +5,16 @@ use Rattle.std.proofs.Common.{length, Some, slice_get, refl, sym, ap, ◌∙◌,
 use Rattle.std.specs.Prelude.{if◌then◌else◌}
 use Rattle.std.proofs.lemmas.Bool.{cases_eq}
 use Rattle.std.proofs.lemmas.List.{append_assoc, length-append}
-use Rattle.span_tables.specs.Accepted.{IsWithinLimits, commodity_id}
+use Rattle.span_tables.specs.Accepted.{IsWithinLimits}
+use Rattle.span_tables.specs.Tables.{commodity_id}
 use Rattle.span_tables.specs.Tables.{AcceptedTables, has_option_value, inters_of}
 use Rattle.span_tables.specs.declared.limits.TheConstants.{MAX_INTRA_SPREADS}
 use Rattle.plan_ir.specs.Apply.{IsOp}
 use Rattle.plan_ir.specs.Figures.{intras_at}
 use Rattle.plan_ir.specs.declared.ops.Op.{Op}
 use Rattle.plan_ir.specs.declared.ops.Op.TheVariants as op
-use Rattle.plan_compiler.specs.Plan.{commodity_ops, each, final_ops, first_ops, inter_ops, ops_of, premium_ops, spread_ops}
-use Rattle.plan_compiler.specs.Plan.{total_ops, value_ops}
+use Rattle.plan_compiler.specs.Plan.{commodity_ops, each, final_ops, first_ops, inter_ops, ops_of, premium_ops}
+use Rattle.plan_compiler.specs.Plan.{spread_ops, total_ops, value_ops}
 use Rattle.plan_compiler.specs.declared.layout.TheConstants.{COMMODITY_STEPS, VALUE_STEPS}
 use Rattle.plan_compiler.specs.Places.{first_step, place_of, premium_step, total_step, value_steps}
 

@@ -21,12 +21,12 @@ use Rattle.plan_compiler.specs.Compiled.{IsCompiled}
 use Rattle.plan_compiler.specs.Meaning.{meaning, rank_of, wanted}
 use Rattle.plan_compiler.specs.Plan.{IsPlanOf, ops_of}
 use Rattle.plan_compiler.specs.Places.{inputs_of, place_of, plan_of}
-use Rattle.plan_compiler.specs.Beginnings.{AreInputCounts, AreWithoutInputs}
+use Rattle.plan_compiler.specs.near.Beginnings.{AreInputCounts, AreWithoutInputs}
 use Rattle.plan_compiler.specs.near.Layout.{AreFirsts}
 use Rattle.plan_compiler.specs.near.Sets.{IsSet}
 use Rattle.plan_compiler.proofs.FromPlan.{inputs_within, known_ops, known_wanted, wired}
-use Rattle.plan_compiler.proofs.LayoutLemmas.{IsPlanned, few_premiums, first_small, first_smaller, length_ops, no_premiums}
-use Rattle.plan_compiler.proofs.LayoutLemmas.{place_stands, planned_is_op}
+use Rattle.plan_compiler.proofs.LayoutLemmas.{IsPlanned, few_premiums, first_small, first_smaller, length_ops}
+use Rattle.plan_compiler.proofs.LayoutLemmas.{no_premiums, place_stands, planned_is_op}
 use Rattle.plan_compiler.proofs.Meanings.{gives_meaning}
 use Rattle.plan_compiler.proofs.Taken.{takes_meanings}
 use Rattle.plan_compiler.proofs.Wiring.{apart, few_inputs, few_steps, wanted_lower}

@@ -5,7 +5,8 @@ use Rattle.std.specs.Prelude.{All, ◌==◌}
 use Rattle.std.specs.List.{AllByRecursion}
 use Rattle.std.proofs.lemmas.Bool.{ne_eqb}
 use Rattle.std.proofs.lemmas.List.Elements.{All-from_recursion}
-use Rattle.span_tables.specs.Accepted.{IsWithinLimits, commodity_id}
+use Rattle.span_tables.specs.Accepted.{IsWithinLimits}
+use Rattle.span_tables.specs.Tables.{commodity_id}
 use Rattle.span_tables.specs.Names.{has_repeat}
 use Rattle.span_tables.specs.Tables.{AcceptedTables, inters_of}
 use Rattle.plan_ir.specs.Apply.{IsOp}
@@ -13,13 +14,14 @@ use Rattle.plan_ir.specs.Figures.{intras_at}
 use Rattle.plan_ir.specs.declared.ops.Op.{Op}
 use Rattle.plan_ir.specs.declared.ops.Op.TheVariants as op
 use Rattle.plan_ir.specs.declared.plans.TheConstants.{MAX_INPUTS, MAX_STEPS}
-use Rattle.plan_compiler.specs.Meaning.{before_inter, before_load, before_spread, before_total, before_value, last_tiers}
-use Rattle.plan_compiler.specs.Meaning.{rank_above_spreads, rank_of, wanted}
+use Rattle.plan_compiler.specs.Meaning.{before_inter, before_load, before_spread, before_total, before_value}
+use Rattle.plan_compiler.specs.Meaning.{last_tiers, rank_above_spreads, rank_of, wanted}
 use Rattle.plan_compiler.specs.Plan.{ops_of}
-use Rattle.plan_compiler.specs.Places.{first_step, inputs_of, inter_step, load_step, premium_step, tiers_step, total_step, value_steps}
+use Rattle.plan_compiler.specs.Places.{first_step, inputs_of, inter_step, load_step, premium_step, tiers_step}
+use Rattle.plan_compiler.specs.Places.{total_step, value_steps}
 use Rattle.plan_compiler.proofs.LayoutLemmas.{few_premiums, first_before, first_small, length_ops}
-use Rattle.plan_compiler.proofs.FromPlan.{place-before_inter, place-before_load, place-before_spread, place-before_total}
-use Rattle.plan_compiler.proofs.FromPlan.{place-before_value}
+use Rattle.plan_compiler.proofs.FromPlan.{place-before_inter, place-before_load, place-before_spread}
+use Rattle.plan_compiler.proofs.FromPlan.{place-before_total, place-before_value}
 
 -- ---- numbers that are apart
 

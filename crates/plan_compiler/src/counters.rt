@@ -2,7 +2,7 @@
 ghost use Rattle.std.specs.Prelude.{◌<◌, ◌≤◌, ℕ, IfOk, length};
 ghost use Rattle.plan_ir.specs.Plans.{inputs_at};
 ghost use Rattle.plan_ir.specs.declared.plans.TheConstants.{MAX_INPUTS, MAX_STEPS};
-ghost use Rattle.plan_compiler.specs.Beginnings.{AreInputCounts, AreWithoutInputs};
+ghost use Rattle.plan_compiler.specs.near.Beginnings.{AreInputCounts, AreWithoutInputs};
 
 use plan_ir::plans::Plan;
 use std::alloc::{AllocError, Global};

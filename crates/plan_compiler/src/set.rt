@@ -10,7 +10,7 @@ ghost use Rattle.plan_compiler.specs.Compiled.{IsCompiled, step_meaning};
 ghost use Rattle.plan_compiler.specs.Meaning.{last_total, last_value};
 ghost use Rattle.plan_compiler.specs.Places.{plan_of};
 ghost use Rattle.plan_compiler.specs.Plan.{IsPlanOf};
-ghost use Rattle.plan_compiler.specs.Beginnings.{AreInputCounts, AreWithoutInputs};
+ghost use Rattle.plan_compiler.specs.near.Beginnings.{AreInputCounts, AreWithoutInputs};
 ghost use Rattle.plan_compiler.specs.near.Layout.{AreFirsts};
 ghost use Rattle.plan_compiler.specs.near.Sets.{IsSet};
 

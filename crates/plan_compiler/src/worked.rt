@@ -1,16 +1,16 @@
 //! Worked plans, computed by the definitions alone.
-#![tactic(auto, unfolding(crate::specs::OnLiterals::plans_on_literals))]
+#![tactic(auto, unfolding(crate::specs::near::OnLiterals::plans_on_literals))]
 
 ghost use Rattle.std.specs.Prelude.{◌≡◌, [], ◌∷◌, codes, length};
-ghost use Rattle.span_tables.specs.Samples.{small_file, value_set};
+ghost use Rattle.span_tables.specs.near.Samples.{small_file, value_set};
 ghost use Rattle.span_tables.specs.Tables.{tables_of};
 ghost use Rattle.plan_ir.specs.Listing.{plan_text};
 ghost use Rattle.plan_ir.specs.Plans.{inputs_in, users_of};
 ghost use Rattle.plan_ir.specs.declared.ops.Op.TheVariants as operation;
 ghost use Rattle.plan_compiler.specs.Places.{plan_of};
 ghost use Rattle.plan_compiler.specs.Plan.{ops_of};
-ghost use Rattle.plan_compiler.specs.Samples.{one_commodity_with_value, one_commodity_with_value_lines, set_alone};
-ghost use Rattle.plan_compiler.specs.Samples.{set_alone_lines, two_commodities, two_commodities_lines};
+ghost use Rattle.plan_compiler.specs.near.Samples.{one_commodity_with_value, one_commodity_with_value_lines, set_alone};
+ghost use Rattle.plan_compiler.specs.near.Samples.{set_alone_lines, two_commodities, two_commodities_lines};
 
 // Without commodities there are no steps but the first of those between commodities and of the total, without inputs.
 fn plan_of_a_set_alone()

@@ -2,7 +2,7 @@
 use Rattle.std.specs.Prelude.{ℕ, Bool, not, ◌==◌, if◌then◌else◌, List, [], ◌∷◌, length, map, slice_index_or, ℤ, pos}
 use Rattle.std.specs.List.{range_with_len}
 use Rattle.span_money.specs.Numbers.{int_sum_by}
-use Rattle.span_tables.specs.Accepted.{commodity_id}
+use Rattle.span_tables.specs.Tables.{commodity_id}
 use Rattle.span_tables.specs.Net.{HeldContract, held_of}
 use Rattle.span_tables.specs.Tables.{AcceptedTables, has_option_value, intras_of, spots_of, inters_of}
 use Rattle.scan_risk.specs.Scenarios.{scenario_sums, scan_of}
@@ -12,7 +12,7 @@ use Rattle.spread_stage.specs.Spreads.{TierRests, after_spreads}
 use Rattle.inter_credit.specs.Credits.{unspread_line, after_inter_spreads}
 use Rattle.inter_credit.specs.OptionValue.{net_value_of}
 use Rattle.inter_credit.specs.Requirement.{minimum_of, requirement_of}
-use Rattle.inter_credit.specs.States.{credit_at}
+use Rattle.inter_credit.specs.Credits.{credit_at}
 use Rattle.span_tables.specs.declared.records.Commodity.{Commodity}
 use Rattle.span_tables.specs.declared.records.Intra.{Intra}
 use Rattle.span_tables.specs.declared.records.MinimumMethod.TheVariants as method

@@ -4,5 +4,3 @@ pub mod Apply
 pub mod Plans
 pub mod near
 pub mod Listing
-pub mod Samples
-pub mod OnLiterals

@@ -1,11 +1,11 @@
 //! Texts, users and figures, computed by the definitions: each is the contract of a function that does nothing.
-#![tactic(auto, unfolding(crate::specs::OnLiterals::on_literals))]
+#![tactic(auto, unfolding(crate::specs::near::OnLiterals::on_literals))]
 
 ghost use Rattle.std.specs.Prelude.{◌≡◌, [], ◌∷◌, codes, pos};
 ghost use Rattle.plan_ir.specs.Figures.{figures_from};
 ghost use Rattle.plan_ir.specs.Listing.{op_text, plan_text};
 ghost use Rattle.plan_ir.specs.Plans.{inputs_at, op_at, users_of};
-ghost use Rattle.plan_ir.specs.Samples.{scan, small_plan, step, tiers};
+ghost use Rattle.plan_ir.specs.near.Samples.{scan, small_plan, step, tiers};
 ghost use Rattle.plan_ir.specs.declared.ops.Op.TheVariants as op;
 
 // Operations with one number, with two, and with none.

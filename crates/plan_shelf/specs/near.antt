@@ -1,2 +1,3 @@
+-- What no promise's words stand on: forms near to the code, what types keep, samples.
 pub mod History
 pub mod Looks

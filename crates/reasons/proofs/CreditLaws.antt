@@ -22,7 +22,7 @@ use Rattle.span_tables.specs.declared.sides.SpreadsFormed.{SpreadsFormed}
 use Rattle.spread_stage.specs.Deltas.{units_at}
 use Rattle.spread_stage.specs.declared.months.MonthUnits.{MonthUnits}
 use Rattle.inter_credit.specs.Credits.{after_inter_spreads, formed_both, inter_both_ways}
-use Rattle.inter_credit.specs.States.{line_at}
+use Rattle.inter_credit.specs.Credits.{line_at}
 use Rattle.inter_credit.specs.declared.state.InterLine.{InterLine}
 use Rattle.inter_credit.proofs.LineLemmas.{or_left, or_right}
 use Rattle.inter_credit.proofs.RestLaws.{length-inter_both_ways}

@@ -9,7 +9,7 @@ use Rattle.scan_risk.specs.Scenarios.{active_scenario, scan_of, scan_risk, scena
 use Rattle.span_tables.specs.Net.{HeldContract}
 use Rattle.inter_credit.specs.Credits.{credit_of, unspread_line}
 use Rattle.inter_credit.specs.Requirement.{is_call, is_put, minimum_of, requirement_of, short_count, short_options}
-use Rattle.inter_credit.specs.States.{credit_at, line_at}
+use Rattle.inter_credit.specs.Credits.{credit_at, line_at}
 use Rattle.inter_credit.specs.declared.state.InterLine.{InterLine}
 use Rattle.plan_ir.specs.Figures.{commodity_at, figures_of, held_at, inter_lines}
 use Rattle.reasons.specs.Laws.{counted}

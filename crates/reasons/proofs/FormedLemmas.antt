@@ -14,7 +14,7 @@ use Rattle.inter_credit.specs.Credits.{inter_both_ways}
 use Rattle.inter_credit.specs.Credits as commodities
 use Rattle.inter_credit.specs.declared.state.InterLine.{InterLine}
 use Rattle.reasons.specs.Shown.{inter_ways, inters_shown, intra_ways, intras_shown, ratio_in}
-use Rattle.reasons.specs.Stages.{inters_formed}
+use Rattle.reasons.specs.near.Stages.{inters_formed}
 use Rattle.reasons.specs.declared.shown.ShownInter.{ShownInter}
 
 intras_shown-push : (spreads : List Intra) (s : Intra) (t : TierRests)

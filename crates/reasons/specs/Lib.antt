@@ -1,5 +1,4 @@
 pub mod Laws
 pub mod Reasons
 pub mod Shown
-pub mod Stages
 pub mod near

@@ -18,9 +18,10 @@ use Rattle.scan_risk.specs.declared.Scan.{Scan}
 use Rattle.spread_stage.specs.Spreads.{unspread}
 use Rattle.inter_credit.specs.OptionValue.{position_value}
 use Rattle.inter_credit.specs.Requirement.{is_call, is_put, short_count}
-use Rattle.inter_credit.specs.States.{line_at}
+use Rattle.inter_credit.specs.Credits.{line_at}
 use Rattle.inter_credit.specs.declared.state.InterLine.{InterLine}
-use Rattle.plan_ir.specs.Figures.{commodity_at, deltas_at, held_at, inter_lines, intras_at, loaded_lines, spots_at, tiers_at}
+use Rattle.plan_ir.specs.Figures.{commodity_at, deltas_at, held_at, inter_lines, intras_at, loaded_lines, spots_at}
+use Rattle.plan_ir.specs.Figures.{tiers_at}
 use Rattle.reasons.specs.Shown.{inters_shown, intra_charge, intras_shown, months_shown, spot_charge, spots_shown}
 use Rattle.reasons.specs.declared.shown.ShownInter.{ShownInter}
 use Rattle.reasons.specs.declared.shown.ShownIntra.{ShownIntra}

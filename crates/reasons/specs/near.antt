@@ -1,2 +1,3 @@
--- Forms near to the code, which only clauses of private functions and invariants cite.
+-- What no promise's words stand on: forms near to the code, what types keep, samples.
 pub mod Fields
+pub mod Stages

@@ -3,11 +3,11 @@ ghost use Rattle.std.specs.Prelude.{◌≡◌, ◌++◌, ◌*◌, ◌^◌, ◌==
 ghost use Rattle.std.specs.Prelude.{find, fold, length, map, option_copied};
 ghost use Rattle.span_tables.specs.Accepted.{IsInter};
 ghost use Rattle.inter_credit.specs.Credits.{inter_both_ways};
-ghost use Rattle.inter_credit.specs.States.{IsLine};
+ghost use Rattle.inter_credit.specs.near.Lines.{IsLine};
 ghost use Rattle.inter_credit.specs.declared.state.InterLine.{InterLine};
 ghost use Rattle.reasons.specs.Reasons.{credit_reason, inter_reason};
 ghost use Rattle.reasons.specs.Shown.{inter_in, inter_ways, inters_shown, ratio_in};
-ghost use Rattle.reasons.specs.Stages.{inters_formed};
+ghost use Rattle.reasons.specs.near.Stages.{inters_formed};
 ghost use Rattle.reasons.specs.near.Fields.{reason_text, reasons_text};
 
 use crate::words::long_side;

@@ -4,7 +4,7 @@ ghost use Rattle.span_tables.specs.Holdings.{fits};
 ghost use Rattle.span_tables.specs.declared.portfolios.Holding.{Holding};
 ghost use Rattle.plan_ir.specs.Figures.{held_at, loaded_lines};
 ghost use Rattle.reasons.specs.Reasons.{month_reasons, reasons_of};
-ghost use Rattle.reasons.specs.Stages.{all_held, stages_of};
+ghost use Rattle.reasons.specs.near.Stages.{all_held, stages_of};
 ghost use Rattle.reasons.specs.near.Fields.{reasons_text};
 
 use crate::commodities::{form_inters, push_credit, push_inters};
@@ -33,7 +33,7 @@ pub struct Stages {
 }
 
 impl Model for Stages {
-    ghost use Rattle.reasons.specs.Stages.{StagesView};
+    ghost use Rattle.reasons.specs.near.Stages.{StagesView};
 
     ghost Value = { StagesView };
 

@@ -1,5 +1,5 @@
 -- What contracts see of a book, what a book is, and when a row is not put.
-use Rattle.std.specs.Prelude.{◌≡◌, ℕ, ◌<◌, ◌^◌, Bool, false, true, ◌&&◌, List, [], map, nat_eq, nat_le, nat_lt}
+use Rattle.std.specs.Prelude.{◌≡◌, ℕ, ◌<◌, ◌^◌, Bool, false, ◌&&◌, List, [], map, nat_eq, nat_le, nat_lt}
 use Rattle.std.specs.Prelude.{Option, None, Some, bytes_eq, if◌then◌else◌, is_some}
 use Rattle.std.specs.List.{IsDistinct, find}
 use Rattle.std.specs.Map.{lookup}
@@ -42,13 +42,6 @@ pub record IsBook (book : BookView) : Type 0 where
   pub few : book.opened < 2 ^ 64
   pub opened_only : (number : ℕ) → is_opened book number ≡ false → rows_of book number ≡ []
   pub once : (number : ℕ) → HasNoAccountTwice (rows_of book number)
-
--- the fault is want of memory
-abbrev pub is_memory : BookFault → Bool
-is_memory fault.NoSuchBatch = false
-is_memory fault.AlreadyThere = false
-is_memory fault.OutOfMemory = true
-is_memory fault.NoMoreBatches = false
 
 -- why the row of an account is not put under a number, where want of memory is no reason
 abbrev pub put_fault : BookView → ℕ → List ℕ → Option BookFault

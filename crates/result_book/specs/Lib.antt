@@ -1,4 +1,4 @@
 pub mod Books
 pub mod Rows
-pub mod Samples
+pub mod BookFaults
 pub mod near

@@ -1,3 +1,4 @@
--- Forms near to the code, which only private clauses and the Models of a row and of a batch cite.
+-- What no promise's words stand on: forms near to the code, what types keep, samples.
 pub mod Batches
 pub mod Kept
+pub mod Samples

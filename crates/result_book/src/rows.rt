@@ -3,7 +3,7 @@ ghost use Rattle.std.specs.Prelude.{◌≡◌, ◌<◌, IfOk, length};
 ghost use Rattle.std.specs.Arc.{arc_value};
 ghost use Rattle.plan_ir.specs.Figures.{figures_of, is_held, option_value_of, total_to};
 ghost use Rattle.step_scheduler.specs.Boards.{IsComplete};
-ghost use Rattle.step_scheduler.specs.Figures.{AreAllFigures};
+ghost use Rattle.step_scheduler.specs.near.Figures.{AreAllFigures};
 
 use plan_compiler::set::CompiledSet;
 use plan_ir::figures::Figures;

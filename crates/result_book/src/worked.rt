@@ -2,7 +2,7 @@
 ghost use Rattle.std.specs.Prelude.{◌≡◌, ◌∷◌, [], ℕ, None, Some, codes};
 ghost use Rattle.plan_compiler.specs.Compiled.{SetView};
 ghost use Rattle.result_book.specs.Books.{put_fault, row_for, rows_of};
-ghost use Rattle.result_book.specs.Samples.{one_row, row_of_x};
+ghost use Rattle.result_book.specs.near.Samples.{one_row, row_of_x};
 ghost use Rattle.result_book.specs.declared.books.BookFault.TheVariants as fault;
 
 // Two batches were opened, and the second has a row of the account X.

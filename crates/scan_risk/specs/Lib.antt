@@ -1,2 +1,2 @@
 pub mod Scenarios
-pub mod Samples
+pub mod near

@@ -1,7 +1,7 @@
 //! Sums and scans, computed by the definitions: each is the contract of a function that does nothing.
 ghost use Rattle.std.specs.Prelude.{◌≡◌, [], ◌∷◌, pos, neg_ℤ};
 ghost use Rattle.std.specs.List.{repeat};
-ghost use Rattle.scan_risk.specs.Samples.{future, held, largest};
+ghost use Rattle.scan_risk.specs.near.Samples.{future, held, largest};
 ghost use Rattle.scan_risk.specs.Scenarios.{scan_of, scenario_sums};
 ghost use Rattle.span_tables.specs.declared.limits.TheConstants.{MAX_HELD, MAX_NET, MAX_PRICE2, MAX_SUM};
 

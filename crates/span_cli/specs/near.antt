@@ -1,2 +1,6 @@
+-- What no promise's words stand on: forms near to the code, what types keep, samples.
+pub mod Memory
+pub mod OnLiterals
 pub mod Places
+pub mod Reading
 pub mod Refusals

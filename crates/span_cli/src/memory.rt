@@ -1,6 +1,6 @@
 //! Files in memory.
 ghost use Rattle.std.specs.Prelude.{◌≡◌, option_map};
-ghost use Rattle.span_cli.specs.Memory.{bytes_in};
+ghost use Rattle.span_cli.specs.near.Memory.{bytes_in};
 
 use crate::sources::{FILE_CAP, ReadFault, Sources};
 use std::alloc::Global;
@@ -25,7 +25,7 @@ fn bytes_of<'a>(files: &'a [(&'a str, &'a [u8])], name: &str) -> Option<&'a [u8]
 impl<'a> Sources for InMemory<'a> {
     ghost use Rattle.span_cli.specs.declared.sources.TheConstants.{FILE_CAP};
     ghost use Rattle.std.specs.Prelude.{Some};
-    ghost use Rattle.span_cli.specs.Memory.{bytes_in, capped};
+    ghost use Rattle.span_cli.specs.near.Memory.{bytes_in, capped};
 
     ghost file = { λ s name. Some (capped FILE_CAP (bytes_in s.files.now name)) };
 

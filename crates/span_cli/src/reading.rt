@@ -24,7 +24,7 @@ pub struct Turns<R: Read> {
 }
 
 impl<R: Read> Model for Turns<R> {
-    ghost use Rattle.span_cli.specs.Reading.{Reading};
+    ghost use Rattle.span_cli.specs.near.Reading.{Reading};
 
     ghost Value = { Reading };
 

@@ -1,5 +1,5 @@
 //! Command lines and files with what the definitions make of them, each computed by the definitions alone.
-#![tactic(auto, unfolding(crate::specs::OnLiterals::on_literals))]
+#![tactic(auto, unfolding(crate::specs::near::OnLiterals::on_literals))]
 
 ghost use Rattle.clap.specs.declared.error.kind.ErrorKind.TheVariants as kind;
 ghost use Rattle.span_cli.specs.Serving.{OfAnswer, a_check, a_explain, a_margin, a_plan, a_roll, done, refused};

@@ -5,7 +5,7 @@ use Rattle.std.specs.Prelude.{Bool, MatchBool, Result, ⊤}
 use Rattle.std.proofs.lemmas.Bool.{cases_Bool, eqb-false}
 use Rattle.std.proofs.lemmas.List.{length-map, length-append}
 use Rattle.span_tables.specs.Names.{is_among}
-use Rattle.span_tables.specs.Positions.{named_position, named_positions, AreNumbered}
+use Rattle.span_tables.specs.near.Positions.{named_position, named_positions, AreNumbered}
 use Rattle.span_tables.proofs.NumberedLaws.{name_there}
 use Rattle.span_tables.specs.declared.limits.TheConstants.{MAX_ACCOUNTS}
 use Rattle.span_tables.specs.declared.records.NumberedPosition.{NumberedPosition}

@@ -12,26 +12,29 @@ use Rattle.std.proofs.lemmas.List.Folds.{list_all-map}
 use Rattle.std.proofs.lemmas.Option.{slice_get_within}
 use Rattle.span_money.specs.Numbers.{whole_number, decimal_number, is_month}
 use Rattle.span_tables.specs.Names.{is_name}
-use Rattle.span_tables.specs.Limits.{lies_within, in_range, is_tier_number, is_ratio, most_option_value}
+use Rattle.span_tables.specs.near.Limits.{lies_within, in_range, is_tier_number, is_ratio}
+use Rattle.span_tables.specs.Tables.{most_option_value}
 use Rattle.span_tables.specs.Profiles.{facts_of}
-use Rattle.span_tables.specs.declared.limits.TheConstants.{MAX_ARRAY_VALUE, MAX_BASIS_POINTS, MAX_DELTA, MAX_PRIORITY, SCENARIOS}
-use Rattle.span_tables.specs.declared.limits.TheConstants.{MAX_PROFILE, MAX_RATE, MAX_RATIO, MAX_SCALE, MAX_TIER_NUMBER}
+use Rattle.span_tables.specs.declared.limits.TheConstants.{MAX_ARRAY_VALUE, MAX_BASIS_POINTS, MAX_DELTA, MAX_PRIORITY}
+use Rattle.span_tables.specs.declared.limits.TheConstants.{SCENARIOS, MAX_PROFILE, MAX_RATE, MAX_RATIO, MAX_SCALE}
+use Rattle.span_tables.specs.declared.limits.TheConstants.{MAX_TIER_NUMBER}
 use Rattle.span_tables.specs.declared.records.IntraLeg.{IntraLeg}
 use Rattle.span_tables.specs.declared.records.InterLeg.{InterLeg}
 use Rattle.span_tables.specs.declared.records.ProductKind.{ProductKind}
 use Rattle.span_tables.proofs.Ranges.{is_contract}
 use Rattle.span_csv.specs.near.Grammar.{Fits}
-use Rattle.span_csv.specs.Records.{Fields, all_have, has_word_form, is_in_range, exactly, with_legs, forms_of, set_forms}
-use Rattle.span_csv.specs.Records.{commodity_forms, contract_front, an_array_value, an_option_value, tier_forms, intra_front}
-use Rattle.span_csv.specs.Records.{intra_leg_forms, spot_forms, inter_front, inter_leg_forms, text_at, count_at, ratio_at}
-use Rattle.span_csv.specs.Records.{contract_record, extras_place, intra_leg, inter_leg, legs_of, product_at, record_of_kind}
+use Rattle.span_csv.specs.Records.{Fields, all_have, has_word_form, is_in_range, exactly, with_legs, forms_of}
+use Rattle.span_csv.specs.Records.{set_forms, commodity_forms, contract_front, an_array_value, an_option_value}
+use Rattle.span_csv.specs.Records.{tier_forms, intra_front, intra_leg_forms, spot_forms, inter_front, inter_leg_forms}
+use Rattle.span_csv.specs.Records.{text_at, count_at, ratio_at, contract_record, extras_place, intra_leg, inter_leg}
+use Rattle.span_csv.specs.Records.{legs_of, product_at, record_of_kind}
 use Rattle.span_csv.specs.declared.contents.TheConstants.{EXTRAS}
 use Rattle.span_csv.specs.declared.grammar.FieldForm.{FieldForm}
 use Rattle.span_csv.specs.declared.grammar.FieldForm.TheVariants as form
 use Rattle.span_csv.specs.declared.grammar.Kind.{Kind}
 use Rattle.span_csv.specs.declared.grammar.Kind.TheVariants as kind
-use Rattle.span_csv.proofs.FormLemmas.{count_past, count_within, count_below, if_some, size_within, month_within, passes_at}
-use Rattle.span_csv.proofs.FormLemmas.{all_behind, all_of_form, length-repeat}
+use Rattle.span_csv.proofs.FormLemmas.{count_past, count_within, count_below, if_some, size_within, month_within}
+use Rattle.span_csv.proofs.FormLemmas.{passes_at, all_behind, all_of_form, length-repeat}
 use Rattle.span_csv.proofs.LegLemmas.{leg_passes, legs_all}
 
 -- ---- what forms say of fields

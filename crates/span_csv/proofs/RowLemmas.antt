@@ -6,7 +6,8 @@ use Rattle.std.specs.Bool.{MatchBool}
 use Rattle.std.proofs.lemmas.Bool.{false≢true, cases_Bool}
 use Rattle.csv.specs.Machine.{Read, next_record, step, in_field, start_field, start_record, is_end}
 use Rattle.csv.specs.Machine.{ends_at_end, ends_with, after_end, carriage_return, fields_after, field_after}
-use Rattle.csv.specs.Reading.{records_from, records_next, default_config, source_of, pending_of, ReadRecord, ReadsNext, NextIs, has_failed}
+use Rattle.csv.specs.Reading.{records_from, records_next, default_config, source_of, pending_of, ReadRecord, ReadsNext}
+use Rattle.csv.specs.Reading.{NextIs, has_failed}
 use Rattle.csv.specs.declared.parser.Action.{Action}
 use Rattle.csv.specs.declared.parser.Action.TheVariants as act
 use Rattle.csv.specs.declared.parser.State.{State}
@@ -14,7 +15,7 @@ use Rattle.csv.specs.declared.parser.State.TheVariants as st
 use Rattle.csv.specs.declared.parser.Terminator.TheVariants as term
 use Rattle.csv.specs.declared.reader.Reader.{Reader}
 use Rattle.span_csv.specs.Records.{Fields}
-use Rattle.span_csv.specs.Rows.{rows_from, rows_left, IsPlain}
+use Rattle.span_csv.specs.near.Rows.{rows_from, rows_left, IsPlain}
 
 -- where a byte ends a record, the state after it is between records
 abbrev Closes : State × Action → Type 0

@@ -1,13 +1,13 @@
 -- The record grammar of both files: the records of a file's bytes, the forms of their fields, and what they say.
-use Rattle.std.specs.Prelude.{ℕ, ◌+◌, ◌-◌, Bool, true, false, ◌&&◌, ◌||◌, ◌==◌}
-use Rattle.std.specs.Prelude.{if◌then◌else◌, List, [], ◌∷◌, ◌++◌, length, take, drop, map, zip, Option, Some, None}
-use Rattle.std.specs.Prelude.{is_some, unwrap_or, option_and_then, slice_index_or, codes, bytes_eq, ℤ, pos, neg_ℤ, int_le}
+use Rattle.std.specs.Prelude.{ℕ, ◌+◌, ◌-◌, Bool, true, false, ◌&&◌, ◌||◌, ◌==◌, if◌then◌else◌, List, [], ◌∷◌, ◌++◌}
+use Rattle.std.specs.Prelude.{length, take, drop, map, zip, Option, Some, None, is_some, unwrap_or, option_and_then}
+use Rattle.std.specs.Prelude.{slice_index_or, codes, bytes_eq, ℤ, pos, neg_ℤ, int_le}
 use Rattle.std.specs.Char.{is_ascii_uppercase}
 use Rattle.std.specs.List.{list_all, repeat}
 use Rattle.std.specs.Option.{option_map_or, option_or}
 use Rattle.csv.specs.Reading.{default_config, records, strip_bom}
 use Rattle.span_tables.specs.Names.{is_name}
-use Rattle.span_tables.specs.Limits.{most_option_value}
+use Rattle.span_tables.specs.Tables.{most_option_value}
 use Rattle.span_tables.specs.Profiles.{facts_of}
 use Rattle.span_money.specs.Numbers.{is_month, positive_part, whole_number, decimal_number, month_number}
 use Rattle.span_tables.specs.declared.records.ProductKind.{ProductKind}
@@ -30,8 +30,8 @@ use Rattle.span_tables.specs.declared.records.Record.{Record}
 use Rattle.span_tables.specs.declared.records.Record.TheVariants as record_of
 use Rattle.span_tables.specs.declared.records.PositionRecord.{PositionRecord}
 use Rattle.span_tables.specs.declared.limits.TheConstants.{MAX_RATE, MAX_ARRAY_VALUE, MAX_DELTA, MAX_SCALE, MAX_RATIO}
-use Rattle.span_tables.specs.declared.limits.TheConstants.{MAX_TIER_NUMBER, MAX_PRIORITY, MAX_BASIS_POINTS, MAX_QUANTITY, SCENARIOS}
-use Rattle.span_tables.specs.declared.limits.TheConstants.{MAX_PROFILE}
+use Rattle.span_tables.specs.declared.limits.TheConstants.{MAX_TIER_NUMBER, MAX_PRIORITY, MAX_BASIS_POINTS}
+use Rattle.span_tables.specs.declared.limits.TheConstants.{MAX_QUANTITY, SCENARIOS, MAX_PROFILE}
 use Rattle.span_csv.specs.declared.grammar.FieldForm.{FieldForm}
 use Rattle.span_csv.specs.declared.grammar.Kind.{Kind}
 use Rattle.span_csv.specs.declared.grammar.Kind.TheVariants as kind

@@ -1,4 +1,6 @@
--- Forms near to the code, which private clauses cite. What has to be trusted is beside this folder.
-pub mod PositionReading
+-- What no promise's words stand on: forms near to the code, what types keep, samples.
 pub mod Checks
 pub mod Grammar
+pub mod OnLiterals
+pub mod PositionReading
+pub mod Rows

@@ -10,7 +10,7 @@ ghost use Rattle.span_csv.specs.near.PositionReading.{is_one_too_many, is_quanti
 ghost use Rattle.span_csv.specs.near.PositionReading.{positions_after, quantity_alone, quantity_from, with_account};
 ghost use Rattle.span_tables.specs.Gives.{Gives};
 ghost use Rattle.span_tables.specs.Names.{is_among, is_name};
-ghost use Rattle.span_tables.specs.Positions.{named_position, named_positions, AreNumbered};
+ghost use Rattle.span_tables.specs.near.Positions.{named_position, named_positions, AreNumbered};
 ghost use Rattle.span_tables.specs.declared.limits.TheConstants.{MAX_ACCOUNTS, MAX_QUANTITY};
 
 use crate::faults::PositionFault;

@@ -2,7 +2,7 @@
 //! a function that does nothing.
 ghost use Rattle.std.specs.Prelude.{◌≡◌, ℕ, All, List, Ok, false, true};
 ghost use Rattle.span_csv.specs.ParamFaults.{params_of};
-ghost use Rattle.span_tables.specs.Limits.{is_readable};
+ghost use Rattle.span_tables.specs.near.Limits.{is_readable};
 ghost use Rattle.span_tables.specs.Profiles.{facts_of};
 ghost use Rattle.span_tables.specs.Rules.{contracts_in};
 ghost use Rattle.span_tables.specs.Tables.{profile_in};

@@ -2,7 +2,7 @@
 ghost use Rattle.std.specs.Prelude.{◌≡◌, [], ◌∷◌, IfOk, OnErr, MatchBool, ◌<◌, length};
 ghost use Rattle.csv.specs.Records.{fields_of};
 ghost use Rattle.span_csv.specs.Records.{text_at};
-ghost use Rattle.span_csv.specs.Rows.{rows_left, CanRead};
+ghost use Rattle.span_csv.specs.near.Rows.{rows_left, CanRead};
 
 use csv::{ByteRecord, Error, Reader, ReaderBuilder};
 use std::alloc::{AllocError, Global};
@@ -16,7 +16,7 @@ pub(crate) struct Rows<'a> {
 
 impl<'a> Model for Rows<'a> {
     ghost use Rattle.std.specs.Prelude.{ℕ, List};
-    ghost use Rattle.span_csv.specs.Rows.{rows_left, CanRead};
+    ghost use Rattle.span_csv.specs.near.Rows.{rows_left, CanRead};
 
     ghost Value = { List (List (List ℕ)) };
 

@@ -1,5 +1,5 @@
 //! What small files read as, computed by the definitions.
-#![tactic(auto, unfolding(crate::specs::OnLiterals::reading_on_literals))]
+#![tactic(auto, unfolding(crate::specs::near::OnLiterals::reading_on_literals))]
 
 ghost use Rattle.std.specs.List.{repeat};
 ghost use Rattle.std.specs.Prelude.{◌≡◌, [], ◌∷◌, Err, Ok, codes, neg_ℤ, pos};
@@ -8,7 +8,7 @@ ghost use Rattle.span_csv.specs.PositionFaults.{positions_of};
 ghost use Rattle.span_csv.specs.Records.{records_of};
 ghost use Rattle.span_csv.specs.declared.faults.ParamFault.TheVariants as param;
 ghost use Rattle.span_csv.specs.declared.faults.PositionFault.TheVariants as position;
-ghost use Rattle.span_tables.specs.Samples.{contract, set, value_set};
+ghost use Rattle.span_tables.specs.near.Samples.{contract, set, value_set};
 ghost use Rattle.span_tables.specs.declared.records.ProductKind.TheVariants as product;
 ghost use Rattle.span_tables.specs.declared.records.Record.TheVariants as record_of;
 

@@ -1,2 +1,2 @@
--- Forms near to the code, which only clauses of private functions and invariants cite.
+-- What no promise's words stand on: forms near to the code, what types keep, samples.
 pub mod Fields

@@ -8,7 +8,7 @@ use Rattle.std.proofs.lemmas.List.{length-map}
 use Rattle.std.proofs.lemmas.List.Sorted.{sum_by-IsPermutation}
 use Rattle.std.proofs.lemmas.List.Sums.{length-filter}
 use Rattle.std.proofs.lemmas.Slice.Eq.{bytes_eq-Decides}
-use Rattle.span_tables.specs.Limits.{at_most_each}
+use Rattle.span_tables.specs.near.Limits.{at_most_each}
 use Rattle.span_tables.proofs.KeptRules.{and_true}
 use Rattle.span_tables.proofs.Places.{or_false}
 

@@ -1,11 +1,12 @@
 -- Which commodities are held, in one pass over an account's holdings.
-use Rattle.std.proofs.Common.{◌≡◌, ◌≢◌, ℕ, ◌+◌, ◌<◌, Bool, true, false, eqb, List, [], ◌∷◌, ◌++◌}
-use Rattle.std.proofs.Common.{length, length-append, set, get_or, get_or-set_other, get_or-set_same, take, refl, sym, ap, ◌∙◌, arith}
-use Rattle.std.proofs.Common.{Option, Some, None}
+use Rattle.std.proofs.Common.{◌≡◌, ◌≢◌, ℕ, ◌+◌, ◌<◌, Bool, true, false, eqb, List, [], ◌∷◌, ◌++◌, length, length-append}
+use Rattle.std.proofs.Common.{set, get_or, get_or-set_other, get_or-set_same, take, refl, sym, ap, ◌∙◌, arith, Option}
+use Rattle.std.proofs.Common.{Some, None}
 use Rattle.std.specs.Prelude.{IfSome, bytes_eq, nat_lt, not, slice_get}
 use Rattle.std.specs.List.{list_all}
 use Rattle.std.proofs.lemmas.Bool.Decides.{nat_tests}
-use Rattle.span_tables.specs.Accepted.{IsWithinLimits, commodity_id, commodity_number}
+use Rattle.span_tables.specs.Accepted.{IsWithinLimits, commodity_number}
+use Rattle.span_tables.specs.Tables.{commodity_id}
 use Rattle.span_tables.specs.Holdings.{ArePortfolio}
 use Rattle.span_tables.specs.Net.{held_of}
 use Rattle.span_tables.specs.Tables.{AcceptedTables}

@@ -6,7 +6,8 @@ use Rattle.std.specs.Prelude.{◌&&◌, All, IfSome, bytes_eq, nat_abs, nat_lt, 
 use Rattle.std.specs.List.{cons_option, list_all}
 use Rattle.std.proofs.lemmas.Bool.Decides.{nat_tests}
 use Rattle.std.proofs.lemmas.List.Elements.{All-nil, All-cons, All-head, All-tail, All-filter, All-push}
-use Rattle.span_tables.specs.Accepted.{IsContract, IsWithinLimits, commodity_id, commodity_number}
+use Rattle.span_tables.specs.Accepted.{IsContract, IsWithinLimits, commodity_number}
+use Rattle.span_tables.specs.Tables.{commodity_id}
 use Rattle.span_tables.specs.Holdings.{AreHeld, AreHoldings, ArePortfolio}
 use Rattle.span_tables.specs.Net.{HeldContract, held_contracts, held_of}
 use Rattle.span_tables.specs.Tables.{AcceptedTables}

@@ -11,7 +11,7 @@ use Rattle.std.proofs.lemmas.Option.{slice_get_within, slice_get-get_or}
 use Rattle.indexmap.specs.IndexSet.{insert_key}
 use Rattle.span_tables.specs.Names.{is_among}
 use Rattle.span_tables.specs.Net.{accounts_of}
-use Rattle.span_tables.specs.Positions.{named_position, named_positions, AreNumbered}
+use Rattle.span_tables.specs.near.Positions.{named_position, named_positions, AreNumbered}
 use Rattle.span_tables.specs.declared.limits.TheConstants.{MAX_ACCOUNTS, MAX_QUANTITY}
 use Rattle.span_tables.specs.declared.records.NumberedPosition.{NumberedPosition}
 use Rattle.span_tables.specs.declared.records.PositionRecord.{PositionRecord}

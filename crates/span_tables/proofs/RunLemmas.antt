@@ -1,18 +1,22 @@
 -- The holdings of the commodities that are held, gathered by runs of one commodity.
-use Rattle.std.proofs.Common.{◌≡◌, ◌≢◌, ℕ, suc, zero, ◌+◌, ◌-◌, ◌<◌, ◌≤◌, Bool, true, false, cond, eqb, List, [], ◌∷◌, ◌++◌}
-use Rattle.std.proofs.Common.{length, length-append, length-set, map, filter, get_or, get_or-set_other, get_or-set_same, set, take, drop}
-use Rattle.std.proofs.Common.{refl, sym, ap, ◌∙◌, subst, arith, inl, inr}
+use Rattle.std.proofs.Common.{◌≡◌, ◌≢◌, ℕ, suc, zero, ◌+◌, ◌-◌, ◌<◌, ◌≤◌, Bool, true, false, cond, eqb, List, [], ◌∷◌}
+use Rattle.std.proofs.Common.{◌++◌, length, length-append, length-set, map, filter, get_or, get_or-set_other}
+use Rattle.std.proofs.Common.{get_or-set_same, set, take, drop, refl, sym, ap, ◌∙◌, subst, arith, inl, inr}
 use Rattle.std.specs.Prelude.{All, IfSome, bytes_eq, slice_get}
 use Rattle.std.specs.List.{AllPairs, AllWithin, insert, slice_range}
 use Rattle.std.specs.List.Sorted.{IsNonDecreasingBy}
 use Rattle.std.proofs.lemmas.Bool.{cases_eq, cases_lt}
 use Rattle.std.proofs.lemmas.Bool.Decides.{nat_tests}
-use Rattle.std.proofs.lemmas.List.{append-nil, drop-take, get_or-map, get_or_default, length-map, take-append-drop, take-take}
-use Rattle.std.proofs.lemmas.List.Edits.{get_or-between, get_or-insert_above, get_or-insert_at, get_or-insert_below, length-between, length-insert}
-use Rattle.std.proofs.lemmas.List.Elements.{All-append, All-cons, All-drop, All-head, All-map, All-tail, All-take, filter-append}
+use Rattle.std.proofs.lemmas.List.{append-nil, drop-take, get_or-map, get_or_default, length-map, take-append-drop}
+use Rattle.std.proofs.lemmas.List.{take-take}
+use Rattle.std.proofs.lemmas.List.Edits.{get_or-between, get_or-insert_above, get_or-insert_at, get_or-insert_below}
+use Rattle.std.proofs.lemmas.List.Edits.{length-between, length-insert}
+use Rattle.std.proofs.lemmas.List.Elements.{All-append, All-cons, All-drop, All-head, All-map, All-tail, All-take}
+use Rattle.std.proofs.lemmas.List.Elements.{filter-append}
 use Rattle.std.proofs.lemmas.List.Kept.{AllPairs-cons}
-use Rattle.span_tables.specs.Accepted.{IsWithinLimits, commodity_id, commodity_number}
-use Rattle.span_tables.specs.HeldCommodities.{AreHeldCommodities}
+use Rattle.span_tables.specs.Accepted.{IsWithinLimits, commodity_number}
+use Rattle.span_tables.specs.Tables.{commodity_id}
+use Rattle.span_tables.specs.near.HeldCommodities.{AreHeldCommodities}
 use Rattle.span_tables.specs.Holdings.{AreHoldings, ArePortfolio, fits}
 use Rattle.span_tables.specs.Net.{held_contracts, held_of}
 use Rattle.span_tables.specs.Tables.{AcceptedTables}

@@ -6,8 +6,9 @@ use Rattle.std.proofs.lemmas.Bool.{leb-true}
 use Rattle.std.proofs.lemmas.List.{length-map}
 use Rattle.std.proofs.lemmas.List.Elements.{All-filter, All-map, All-weaker}
 use Rattle.std.proofs.lemmas.List.Sorted.{All-permutation, length_permutation}
-use Rattle.span_tables.specs.Accepted.{IsAccepted, IsInter, IsIntra, IsSpot, IsWithinLimits, commodity_number}
-use Rattle.span_tables.specs.Limits.{at_most_each, begins_with_set, in_range, intra_in_range, is_readable}
+use Rattle.span_tables.specs.Accepted.{IsInter, IsIntra, IsSpot, IsWithinLimits, commodity_number}
+use Rattle.span_tables.specs.near.Kept.{IsAccepted}
+use Rattle.span_tables.specs.near.Limits.{at_most_each, begins_with_set, in_range, intra_in_range, is_readable}
 use Rattle.span_tables.specs.Names.{has_repeat}
 use Rattle.span_tables.specs.Rules.{as_commodity, as_contract, commodities_in, contracts_in, inters_in}
 use Rattle.span_tables.specs.Rules.{intras_in, keeps_rules, names_no_commodity, repeats_leg, spots_in, tiers_in}

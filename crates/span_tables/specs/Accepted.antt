@@ -1,32 +1,18 @@
 -- What the accepted tables of a set keep, and what is made of them beforehand.
-use Rattle.std.specs.Prelude.{◌≡◌, ℕ, ◌<◌, ◌≤◌, true, false, List, [], length, map, slice_get}
-use Rattle.std.specs.Prelude.{slice_index_or, option_map, unwrap_or, ◌==◌, bytes_eq, All, nat_abs}
+use Rattle.std.specs.Prelude.{◌≡◌, ℕ, ◌<◌, ◌≤◌, false, List, length}
+use Rattle.std.specs.Prelude.{◌==◌, bytes_eq, All, nat_abs}
 use Rattle.std.specs.List.{position_or_len}
 use Rattle.span_tables.specs.Names.{has_repeat}
-use Rattle.span_tables.specs.Rules.{keeps_rules}
-use Rattle.span_tables.specs.Limits.{is_readable}
-use Rattle.span_tables.specs.Tables.{AcceptedTables, tables_of, intras_of, spots_of, inters_of}
+use Rattle.span_tables.specs.Tables.{AcceptedTables, intras_of, spots_of, inters_of}
 use Rattle.span_tables.specs.declared.limits.TheConstants.{MAX_COMMODITIES, MAX_CONTRACTS, MAX_INTRA_SPREADS}
-use Rattle.span_tables.specs.declared.limits.TheConstants.{MAX_SPOT_MONTHS, MAX_INTER_SPREADS, MAX_RATE, MAX_ARRAY_VALUE}
-use Rattle.span_tables.specs.declared.limits.TheConstants.{MAX_DELTA, MAX_SCALE, SCENARIOS, MAX_RATIO, MAX_BASIS_POINTS}
-use Rattle.span_tables.specs.declared.limits.TheConstants.{MAX_OPTION_VALUE, MAX_PROFILE}
+use Rattle.span_tables.specs.declared.limits.TheConstants.{MAX_SPOT_MONTHS, MAX_INTER_SPREADS, MAX_RATE}
+use Rattle.span_tables.specs.declared.limits.TheConstants.{MAX_ARRAY_VALUE, MAX_DELTA, MAX_SCALE, SCENARIOS, MAX_RATIO}
+use Rattle.span_tables.specs.declared.limits.TheConstants.{MAX_BASIS_POINTS, MAX_OPTION_VALUE, MAX_PROFILE}
 use Rattle.span_tables.specs.declared.records.Commodity.{Commodity}
 use Rattle.span_tables.specs.declared.records.Contract.{Contract}
 use Rattle.span_tables.specs.declared.records.Spot.{Spot}
 use Rattle.span_tables.specs.declared.records.Intra.{Intra}
 use Rattle.span_tables.specs.declared.records.Inter.{Inter}
-use Rattle.span_tables.specs.declared.records.Record.{Record}
-
--- the tables are those of records without a fault that keep the rules
-pub record IsAccepted (t : AcceptedTables) : Type 0 where
-  pub records : List Record
-  pub tables : t ≡ tables_of records
-  pub readable : is_readable records ≡ true
-  pub kept : keeps_rules records ≡ true
-
--- the id of the commodity of a number
-abbrev pub commodity_id : AcceptedTables → ℕ → List ℕ
-commodity_id t c = unwrap_or (option_map (λ x. x.id) (slice_get t.commodities c)) []
 
 -- the number of the commodity of an id
 abbrev pub commodity_number : List Commodity → List ℕ → ℕ
@@ -79,16 +65,3 @@ pub record IsWithinLimits (t : AcceptedTables) : Type 0 where
   pub spots_in_range : (id : List ℕ) → All IsSpot (spots_of t id)
   pub few_inters : length (inters_of t) ≤ MAX_INTER_SPREADS
   pub inters_in_range : All (IsInter (length t.commodities)) (inters_of t)
-
--- accepted tables, with the commodity's number of each contract, the spreads and spot months of each commodity, and the
--- intercommodity spreads
-pub record IsTables (t : AcceptedTables) (numbers : List ℕ) (intras : List (List Intra)) (spots : List (List Spot))
-    (inters : List Inter) : Type 0 where
-  pub accepted : IsAccepted t
-  pub limits : IsWithinLimits t
-  pub numbers_are : numbers ≡ map (λ x. commodity_number t.commodities x.commodity) t.contracts
-  pub every_intra : length intras ≡ length t.commodities
-  pub intras_are : (c : ℕ) → c < length t.commodities → slice_index_or intras c [] ≡ intras_of t (commodity_id t c)
-  pub every_spot : length spots ≡ length t.commodities
-  pub spots_are : (c : ℕ) → c < length t.commodities → slice_index_or spots c [] ≡ spots_of t (commodity_id t c)
-  pub inters_are : inters ≡ inters_of t

@@ -3,16 +3,12 @@ pub mod Names
 pub mod Faults
 pub mod Profiles
 pub mod Rules
-pub mod Limits
 pub mod Tables
 pub mod Accepted
 pub mod Net
-pub mod Positions
 pub mod Holdings
-pub mod HeldCommodities
 pub mod Sides
 pub mod Slots
 pub mod Spreads
 pub mod near
 pub mod Laws
-pub mod Samples

@@ -1,5 +1,5 @@
 -- The accepted tables: commodities and contracts in file order, and spreads by rising priority with what they name.
-use Rattle.std.specs.Prelude.{ℕ, true, ◌&&◌, ◌==◌, nat_le, if◌then◌else◌, List, []}
+use Rattle.std.specs.Prelude.{ℕ, true, ◌&&◌, ◌==◌, nat_le, if◌then◌else◌, List, [], slice_get}
 use Rattle.std.specs.Prelude.{Bool, Option, ◌∷◌, map, filter, find, filter_map, option_map, unwrap_or, bytes_eq}
 use Rattle.std.specs.List.{position_or_len}
 use Rattle.span_tables.specs.Profiles.{facts_of}
@@ -18,6 +18,9 @@ use Rattle.span_tables.specs.declared.records.MonthLeg.{MonthLeg}
 use Rattle.span_tables.specs.declared.records.Intra.{Intra}
 use Rattle.span_tables.specs.declared.records.CommodityLeg.{CommodityLeg}
 use Rattle.span_tables.specs.declared.records.Inter.{Inter}
+use Rattle.span_tables.specs.declared.limits.TheConstants.{MAX_OPTION_VALUE}
+use Rattle.span_tables.specs.declared.records.ProductKind.{ProductKind}
+use Rattle.span_tables.specs.declared.records.ProductKind.TheVariants as product
 
 -- the tables of an accepted parameter file
 pub record AcceptedTables : Type 0 where
@@ -109,3 +112,13 @@ inter_spread commodities s =
 -- the intercommodity spreads, by rising priority
 unfoldable pub inters_of : AcceptedTables → List Inter
 inters_of tables = map (inter_spread tables.commodities) tables.inters
+
+-- the most that an option value may be: that of a future is 0
+abbrev pub most_option_value : ProductKind → ℕ
+most_option_value product.Future = 0
+most_option_value product.Call = MAX_OPTION_VALUE
+most_option_value product.Put = MAX_OPTION_VALUE
+
+-- the id of the commodity of a number
+abbrev pub commodity_id : AcceptedTables → ℕ → List ℕ
+commodity_id t c = unwrap_or (option_map (λ x. x.id) (slice_get t.commodities c)) []

@@ -1,5 +1,10 @@
--- Forms near to the code, which only clauses of private functions and invariants cite.
-pub mod Gathered
-pub mod Legs
-pub mod Tiers
+-- What no promise's words stand on: forms near to the code, what types keep, samples.
 pub mod ByKind
+pub mod Gathered
+pub mod HeldCommodities
+pub mod Kept
+pub mod Legs
+pub mod Limits
+pub mod Positions
+pub mod Samples
+pub mod Tiers

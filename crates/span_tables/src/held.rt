@@ -4,8 +4,9 @@ ghost use Rattle.std.specs.Prelude.{length, map, nat_abs, slice_get, slice_index
 ghost use Rattle.std.specs.Prelude.{All, IfOk, IfSome, OnOk};
 ghost use Rattle.std.specs.List.{AllWithin};
 ghost use Rattle.std.specs.Arc.{arc_value};
-ghost use Rattle.span_tables.specs.Accepted.{IsContract, IsWithinLimits, commodity_id};
-ghost use Rattle.span_tables.specs.HeldCommodities.{AreHeldCommodities};
+ghost use Rattle.span_tables.specs.Accepted.{IsContract, IsWithinLimits};
+ghost use Rattle.span_tables.specs.Tables.{commodity_id};
+ghost use Rattle.span_tables.specs.near.HeldCommodities.{AreHeldCommodities};
 ghost use Rattle.span_tables.specs.Holdings.{AreHeld, AreHoldings, fits};
 ghost use Rattle.span_tables.specs.Net.{held_contracts, held_of};
 ghost use Rattle.span_tables.specs.declared.limits.TheConstants.{MAX_HELD, MAX_NET};

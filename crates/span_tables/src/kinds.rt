@@ -1,7 +1,7 @@
 //! The records of a file by their kinds.
 ghost use Rattle.std.specs.Prelude.{◌≡◌, ◌++◌, true, IfOk, OnOk, option_to_list};
 ghost use Rattle.span_tables.specs.near.ByKind.{AreByKind};
-ghost use Rattle.span_tables.specs.Limits.{begins_with_set};
+ghost use Rattle.span_tables.specs.near.Limits.{begins_with_set};
 ghost use Rattle.span_tables.specs.Rules.{as_commodity, as_contract, as_inter, as_intra, as_spot, as_tier};
 ghost use Rattle.span_tables.specs.Tables.{profile_in, set_id_in};
 

@@ -1,8 +1,8 @@
 //! The records of a file, as its reader gives them.
 ghost use Rattle.std.specs.Prelude.{◌≡◌, ◌<◌, ◌≤◌, All, length, nat_abs, true};
-ghost use Rattle.span_tables.specs.Limits.{is_readable};
+ghost use Rattle.span_tables.specs.near.Limits.{is_readable};
 ghost use Rattle.span_tables.specs.Net.{accounts_of};
-ghost use Rattle.span_tables.specs.Positions.{named_positions, AreNumbered};
+ghost use Rattle.span_tables.specs.near.Positions.{named_positions, AreNumbered};
 ghost use Rattle.span_tables.specs.declared.limits.TheConstants.{MAX_ACCOUNTS, MAX_QUANTITY};
 
 use crate::name::Name;
@@ -20,7 +20,7 @@ pub struct RawTables {
 
 impl Model for RawTables {
     ghost use Rattle.std.specs.Prelude.{◌≡◌, List, true};
-    ghost use Rattle.span_tables.specs.Limits.{is_readable};
+    ghost use Rattle.span_tables.specs.near.Limits.{is_readable};
     ghost use Rattle.span_tables.specs.declared.records.Record.{Record};
 
     ghost Value = { List Record };
@@ -68,7 +68,7 @@ pub struct RawPositions {
 
 impl Model for RawPositions {
     ghost use Rattle.std.specs.Prelude.{List};
-    ghost use Rattle.span_tables.specs.Positions.{named_positions, AreNumbered};
+    ghost use Rattle.span_tables.specs.near.Positions.{named_positions, AreNumbered};
     ghost use Rattle.span_tables.specs.declared.records.PositionRecord.{PositionRecord};
 
     ghost Value = { List PositionRecord };

@@ -2,7 +2,9 @@
 ghost use Rattle.std.specs.Prelude.{◌≡◌, ◌<◌, ◌≤◌, [], bytes_eq, length, map};
 ghost use Rattle.std.specs.Prelude.{slice_get, slice_index_or, false, true, All, IfOk, IfSome};
 ghost use Rattle.std.specs.Arc.{arc_value};
-ghost use Rattle.span_tables.specs.Accepted.{IsAccepted, IsInter, IsIntra, IsSpot, IsWithinLimits, commodity_id, commodity_number};
+ghost use Rattle.span_tables.specs.Accepted.{IsInter, IsIntra, IsSpot, IsWithinLimits, commodity_number};
+ghost use Rattle.span_tables.specs.near.Kept.{IsAccepted};
+ghost use Rattle.span_tables.specs.Tables.{commodity_id};
 ghost use Rattle.span_tables.specs.Rules.{keeps_rules};
 ghost use Rattle.span_tables.specs.Tables.{has_option_value, inters_of, intras_of, spots_of, tables_of};
 ghost use Rattle.span_tables.specs.declared.limits.TheConstants.{MAX_INTER_SPREADS, MAX_INTRA_SPREADS, MAX_SPOT_MONTHS};
@@ -53,7 +55,7 @@ pub struct Tables {
 impl Model for Tables {
     ghost use Rattle.std.specs.Prelude.{map};
     ghost use Rattle.std.specs.Arc.{arc_value};
-    ghost use Rattle.span_tables.specs.Accepted.{IsTables};
+    ghost use Rattle.span_tables.specs.near.Kept.{IsTables};
     ghost use Rattle.span_tables.specs.Tables.{AcceptedTables};
 
     ghost Value = { AcceptedTables };

@@ -3,5 +3,4 @@ pub mod Spreads
 pub mod Charges
 pub mod Months
 pub mod Laws
-pub mod Samples
 pub mod near

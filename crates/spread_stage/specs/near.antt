@@ -1,4 +1,5 @@
--- Forms near to the code, which only clauses of private functions and invariants cite.
+-- What no promise's words stand on: forms near to the code, what types keep, samples.
 pub mod Places
+pub mod Samples
 pub mod Sides
 pub mod Uses

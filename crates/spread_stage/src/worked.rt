@@ -4,7 +4,8 @@ ghost use Rattle.std.specs.List.{repeat};
 ghost use Rattle.span_tables.specs.declared.limits.TheConstants.{MAX_HELD, MAX_NET, MAX_UNITS};
 ghost use Rattle.spread_stage.specs.Charges.{delivery_charge, intra_charge};
 ghost use Rattle.spread_stage.specs.Deltas.{month_deltas, net_delta};
-ghost use Rattle.spread_stage.specs.Samples.{calendar_spread, future, held, largest, march, month_units, own_spread};
+ghost use Rattle.spread_stage.specs.near.Samples.{calendar_spread, future, held, largest, march, month_units};
+ghost use Rattle.spread_stage.specs.near.Samples.{own_spread};
 ghost use Rattle.spread_stage.specs.Spreads.{after_spreads, formed_both, unspread};
 
 // The deltas of two held months.

@@ -15,7 +15,7 @@ use Rattle.span_tables.specs.declared.records.PositionRecord.{PositionRecord}
 use Rattle.plan_compiler.specs.Compiled.{SetView}
 use Rattle.result_book.specs.Books.{HasNoAccountTwice, account_of, row_for}
 use Rattle.result_book.specs.Rows.{RowView}
-use Rattle.statement.specs.Batches.{AreOnce, rows_under}
+use Rattle.statement.specs.near.Batches.{AreOnce, rows_under}
 
 -- the name is none of the others
 IsNew : List ℕ → List (List ℕ) → Type 0

@@ -10,7 +10,7 @@ use Rattle.result_book.specs.Rows.{RowView}
 use Rattle.worker_pool.specs.Outcomes.{AreOutcomes}
 use Rattle.worker_pool.specs.declared.outcomes.Outcome.{Outcome}
 use Rattle.worker_pool.specs.declared.outcomes.Outcome.TheVariants.{Margined, NoMemory}
-use Rattle.statement.specs.Batches.{rows_under}
+use Rattle.statement.specs.near.Batches.{rows_under}
 use Rattle.statement.specs.Statement.{row_text, statement_text}
 use Rattle.statement.specs.near.Rows.{AreRows}
 

@@ -15,13 +15,16 @@ use Rattle.result_book.specs.declared.books.BookFault.{BookFault}
 use Rattle.result_book.specs.declared.books.BookFault.TheVariants as book
 use Rattle.span_tables.specs.Net.{AccountHoldings}
 use Rattle.statement.specs.Rolls.{GivesRoll, Refuses, RefusesRoll, is_ok, roll_of}
-use Rattle.statement.specs.SpanFaults.{of_book, of_next}
+use Rattle.statement.specs.near.SpanFaults.{of_book}
+use Rattle.statement.specs.Rolls.{of_next}
 use Rattle.statement.specs.Statement.{accepted_of, and_then, margin_of, portfolios_under, same}
 use Rattle.statement.specs.Statement.{statement_bound, statement_of, statement_text, statement_under}
-use Rattle.statement.specs.near.Seconds.{IsPublished, RefusesNext, RefusesSecond, RefusesUnder, Rolls, RollsUnder, second_of}
+use Rattle.statement.specs.near.Seconds.{IsPublished, RefusesNext, RefusesSecond, RefusesUnder, Rolls, RollsUnder}
+use Rattle.statement.specs.near.Seconds.{second_of}
 use Rattle.statement.specs.declared.faults.SpanFault.{SpanFault}
 use Rattle.statement.specs.declared.faults.SpanFault.TheVariants as fault
-use Rattle.statement.proofs.FaultLemmas.{accepted_of_files, bound_of_files, is_of_files, portfolios_of_files, statement_of_files}
+use Rattle.statement.proofs.FaultLemmas.{accepted_of_files, bound_of_files, is_of_files, portfolios_of_files}
+use Rattle.statement.proofs.FaultLemmas.{statement_of_files}
 
 -- positions that were read are bound to the tables
 under_read : (tables : AcceptedTables) (positions : List ℕ) (records : List PositionRecord) → positions_of positions ≡ Ok records

@@ -4,7 +4,7 @@ use Rattle.span_csv.specs.ParamFaults as param
 use Rattle.span_csv.specs.PositionFaults as position
 use Rattle.param_check.specs.CheckFaults as check
 use Rattle.param_check.specs.Binding as bind
-use Rattle.result_book.specs.Books as book
+use Rattle.result_book.specs.BookFaults as book
 use Rattle.statement.specs.declared.faults.SpanFault.{SpanFault}
 use Rattle.statement.specs.declared.faults.SpanFault.TheVariants as fault
 

@@ -14,7 +14,7 @@ use Rattle.param_check.specs.declared.faults.BindFault.TheVariants as bind
 use Rattle.param_check.specs.Binding as bind_fault
 use Rattle.result_book.specs.declared.books.BookFault.{BookFault}
 use Rattle.result_book.specs.declared.books.BookFault.TheVariants as book
-use Rattle.result_book.specs.Books as book_fault
+use Rattle.result_book.specs.BookFaults as book_fault
 use Rattle.statement.specs.declared.faults.SpanFault.{SpanFault}
 use Rattle.statement.specs.declared.faults.SpanFault.TheVariants as fault
 use Rattle.statement.specs.declared.statuses.TheConstants.{BOOK_REFUSED, OUT_OF_MEMORY}

@@ -1,11 +1,7 @@
 pub mod Answers
-pub mod Batches
 pub mod Counts
 pub mod Listing
 pub mod FaultLines
-pub mod OnLiterals
-pub mod Samples
 pub mod Rolls
-pub mod SpanFaults
 pub mod Statement
 pub mod near

@@ -2,7 +2,7 @@
 ghost use Rattle.plan_compiler.specs.Compiled.{SetView};
 ghost use Rattle.span_tables.specs.Holdings.{fits};
 ghost use Rattle.span_tables.specs.Net.{AccountHoldings};
-ghost use Rattle.statement.specs.Batches.{rows_under};
+ghost use Rattle.statement.specs.near.Batches.{rows_under};
 ghost use Rattle.statement.specs.Statement.{statement_text};
 ghost use Rattle.statement.specs.near.Rows.{AreRows};
 ghost use Rattle.std.specs.Arc.{arc_value};

@@ -1,6 +1,8 @@
 //! Why there is no statement, and the exit status that says so (docs/FORMATS.md, Fault lines and statuses).
 ghost use Rattle.statement.specs.FaultLines.{fault_status};
-ghost use Rattle.statement.specs.SpanFaults.{of_bind, of_book, of_check, of_next, of_params, of_positions, of_shelf};
+ghost use Rattle.statement.specs.near.SpanFaults.{of_bind, of_book, of_check, of_params, of_positions};
+ghost use Rattle.statement.specs.Rolls.{of_next};
+ghost use Rattle.statement.specs.near.SpanFaults.{of_shelf};
 ghost use Rattle.statement.specs.declared.faults.SpanFault.TheVariants as fault;
 ghost use Rattle.std.specs.Prelude.{◌≡◌};
 

@@ -3,7 +3,7 @@ ghost use Rattle.plan_compiler.specs.Compiled.{SetView};
 ghost use Rattle.result_book.specs.Books.{HasNoAccountTwice, rows_of};
 ghost use Rattle.result_book.specs.declared.books.BookFault.TheVariants as fault;
 ghost use Rattle.span_tables.specs.Net.{AccountHoldings};
-ghost use Rattle.statement.specs.Batches.{rows_under};
+ghost use Rattle.statement.specs.near.Batches.{rows_under};
 ghost use Rattle.statement.specs.Statement.{statement_text};
 ghost use Rattle.statement.specs.near.Rows.{IsPartlyKept};
 ghost use Rattle.std.specs.Arc.{arc_value};

@@ -1,5 +1,5 @@
 //! Laws of the definitions, in the formats' own words: each is the contract of a function that does nothing.
-#![tactic(auto, unfolding(crate::specs::OnLiterals::on_literals))]
+#![tactic(auto, unfolding(crate::specs::near::OnLiterals::on_literals))]
 
 ghost use Rattle.param_check.specs.Binding.{bindings_of};
 ghost use Rattle.param_check.specs.CheckFaults.{checked};
@@ -18,7 +18,7 @@ ghost use Rattle.span_tables.specs.declared.records.Record.{Record};
 ghost use Rattle.statement.specs.Answers.{is_memory};
 ghost use Rattle.statement.specs.FaultLines.{fault_line, fault_status, memory_line};
 ghost use Rattle.statement.specs.Rolls.{roll_of};
-ghost use Rattle.statement.specs.SpanFaults.{of_next};
+ghost use Rattle.statement.specs.Rolls.{of_next};
 ghost use Rattle.statement.specs.Statement.{commodity_text, margin_of, row_text, statement_of, statement_text};
 ghost use Rattle.statement.specs.Statement.{statement_under, total_line, total_numbers, total_of};
 ghost use Rattle.statement.specs.declared.faults.SpanFault.{SpanFault};

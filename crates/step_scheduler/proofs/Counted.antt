@@ -15,7 +15,7 @@ use Rattle.plan_ir.specs.declared.values.Value.{Value}
 use Rattle.step_scheduler.specs.declared.progress.Progress.{Progress}
 use Rattle.step_scheduler.specs.declared.progress.Progress.TheVariants.{Waiting, Taken, Done}
 use Rattle.step_scheduler.specs.near.Steps.{was_taken, is_done, events_of, progress_at, AreDone, CanStart}
-use Rattle.plan_compiler.specs.Beginnings.{times, AreInputCounts, AreWithoutInputs}
+use Rattle.plan_compiler.specs.near.Beginnings.{times, AreInputCounts, AreWithoutInputs}
 use Rattle.step_scheduler.specs.near.Counts.{open_inputs, ready_times, freed_times, IsCounted}
 use Rattle.std.specs.Arc.{arc_value}
 use Rattle.plan_compiler.specs.Compiled.{Fits, IsCompiled}

@@ -7,7 +7,7 @@ use Rattle.std.proofs.lemmas.Bool.{cases_eq, ne_eqb}
 use Rattle.std.proofs.lemmas.List.{take_more, length-set, take-append-drop, get_or_default, get_or-reverse}
 use Rattle.std.proofs.lemmas.List.{length-reverse, reverse-append, take_all}
 use Rattle.std.proofs.lemmas.List.Elements.{All-push}
-use Rattle.plan_compiler.specs.Beginnings.{times}
+use Rattle.plan_compiler.specs.near.Beginnings.{times}
 use Rattle.plan_compiler.proofs.CounterLemmas.{times-append, times_push_other, times_push_same}
 use Rattle.step_scheduler.specs.near.Counts.{freed_times}
 

@@ -6,7 +6,7 @@ use Rattle.std.proofs.lemmas.List.{get_or-map, length-map}
 use Rattle.std.proofs.lemmas.Option.{slice_get-get_or}
 use Rattle.std.specs.declared.sync.Arc.{Arc}
 use Rattle.std.specs.Arc.{arc_value}
-use Rattle.span_tables.specs.Accepted.{commodity_id}
+use Rattle.span_tables.specs.Tables.{commodity_id}
 use Rattle.span_tables.specs.Net.{HeldContract, held_of}
 use Rattle.span_tables.specs.declared.records.Commodity.{Commodity}
 use Rattle.plan_ir.specs.Figures.{held_at, no_commodity}

@@ -12,11 +12,11 @@ use Rattle.spread_stage.proofs.ClosedLemmas.{after_spreads_of_nothing, delivery_
 use Rattle.inter_credit.specs.Credits.{credit_of, unspread_line}
 use Rattle.inter_credit.specs.OptionValue.{net_value_of}
 use Rattle.inter_credit.specs.Requirement.{minimum_of, requirement_of}
-use Rattle.inter_credit.specs.States.{credit_at}
+use Rattle.inter_credit.specs.Credits.{credit_at}
 use Rattle.inter_credit.specs.declared.state.InterLine.{InterLine}
 use Rattle.inter_credit.proofs.CreditLaws.{credit_zero}
-use Rattle.plan_ir.specs.Figures.{commodity_at, deltas_at, delivery_at, figures_from, figures_of, held_at, inter_lines, intras_at}
-use Rattle.plan_ir.specs.Figures.{line_of, minimum_at, net_value_at, scan_at, spots_at, tiers_at}
+use Rattle.plan_ir.specs.Figures.{commodity_at, deltas_at, delivery_at, figures_from, figures_of, held_at, inter_lines}
+use Rattle.plan_ir.specs.Figures.{intras_at, line_of, minimum_at, net_value_at, scan_at, spots_at, tiers_at}
 use Rattle.plan_ir.proofs.NothingLemmas.{minimum_of_nothing, month_deltas_of_nothing, value_of_nothing}
 use Rattle.plan_compiler.proofs.StageLemmas.{kept_at}
 use Rattle.step_scheduler.specs.near.Parts.{figures_of_nothing}

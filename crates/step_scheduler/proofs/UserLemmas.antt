@@ -8,7 +8,7 @@ use Rattle.std.proofs.lemmas.List.{get_or_default}
 use Rattle.span_tables.specs.Names.{has_repeat}
 use Rattle.plan_ir.specs.Plans.{StepView, inputs_at, inputs_in, is_among, places_from, users_of}
 use Rattle.plan_compiler.specs.Compiled.{IsCompiled, SetView}
-use Rattle.plan_compiler.specs.Beginnings.{times}
+use Rattle.plan_compiler.specs.near.Beginnings.{times}
 use Rattle.step_scheduler.proofs.Counting.{stands}
 
 -- a number before the first stands at none of the places

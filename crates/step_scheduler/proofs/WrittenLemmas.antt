@@ -8,11 +8,11 @@ use Rattle.span_tables.specs.Tables.{AcceptedTables}
 use Rattle.span_tables.specs.declared.portfolios.Holding.{Holding}
 use Rattle.spread_stage.specs.Charges.{intra_charge}
 use Rattle.inter_credit.specs.Requirement.{requirement_of}
-use Rattle.inter_credit.specs.States.{credit_at}
+use Rattle.inter_credit.specs.Credits.{credit_at}
 use Rattle.inter_credit.specs.declared.state.InterLine.{InterLine}
 use Rattle.plan_ir.specs.Figures.{figures_of, inter_lines}
 use Rattle.plan_ir.specs.declared.figures.Figures.{Figures}
-use Rattle.step_scheduler.specs.Figures.{AreAllFigures}
+use Rattle.step_scheduler.specs.near.Figures.{AreAllFigures}
 use Rattle.step_scheduler.specs.declared.parts.Part.{Part}
 use Rattle.step_scheduler.specs.near.Parts.{AreWritten, IsPart, NoneHeld, figures_of_nothing}
 use Rattle.step_scheduler.proofs.NothingLemmas.{no_figures}

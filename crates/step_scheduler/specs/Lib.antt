@@ -1,5 +1,4 @@
 pub mod Jobs
 pub mod Runs
 pub mod Boards
-pub mod Figures
 pub mod near

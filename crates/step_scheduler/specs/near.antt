@@ -1,8 +1,10 @@
-pub mod Steps
-pub mod Tasks
+-- What no promise's words stand on: forms near to the code, what types keep, samples.
 pub mod Counts
+pub mod Figures
+pub mod Forms
 pub mod Keeping
 pub mod Kept
 pub mod Parts
+pub mod Steps
+pub mod Tasks
 pub mod Whole
-pub mod Forms

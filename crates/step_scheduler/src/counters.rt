@@ -2,7 +2,7 @@
 ghost use Rattle.std.specs.Prelude.{◌≡◌, ℕ, ◌+◌, ◌<◌, ◌≤◌, ◌++◌, ◌∷◌, [], ◌-◌};
 ghost use Rattle.std.specs.Prelude.{All, IfOk, MatchOption, length, replicate};
 ghost use Rattle.std.specs.Prelude.{slice_index, take, vec_capacity};
-ghost use Rattle.plan_compiler.specs.Beginnings.{times};
+ghost use Rattle.plan_compiler.specs.near.Beginnings.{times};
 ghost use Rattle.step_scheduler.specs.declared.progress.Progress.TheVariants.{Waiting};
 ghost use Rattle.step_scheduler.specs.near.Counts.{freed_times, IsCounted};
 

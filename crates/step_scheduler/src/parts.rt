@@ -2,7 +2,8 @@
 //!
 //! Before each evaluation the watch of the walk is passed, with the number of its step: each step of a held commodity here,
 //! and each of what is not held at its place in the order.
-ghost use Rattle.std.specs.Prelude.{◌≡◌, ◌*◌, ◌<◌, ◌≤◌, ◌+ℤ◌, All, IfOk, List, fold, length, nat_abs, pos, replicate, slice_set, true};
+ghost use Rattle.std.specs.Prelude.{◌≡◌, ◌*◌, ◌<◌, ◌≤◌, ◌+ℤ◌, All, IfOk, List, fold, length, nat_abs, pos, replicate};
+ghost use Rattle.std.specs.Prelude.{slice_set, true};
 ghost use Rattle.span_money.specs.declared.amounts.TheConstants.{MAX_MONEY};
 ghost use Rattle.span_tables.specs.Accepted.{IsInter, IsIntra};
 ghost use Rattle.span_tables.specs.Holdings.{fits};
@@ -18,7 +19,7 @@ ghost use Rattle.inter_credit.specs.OptionValue.{net_value_of};
 ghost use Rattle.inter_credit.specs.Requirement.{requirement_of};
 ghost use Rattle.inter_credit.specs.declared.requirement.TheConstants.{MAX_PART};
 ghost use Rattle.plan_ir.specs.Figures.{held_at, inter_lines, loaded_lines, option_value_of, total_to};
-ghost use Rattle.step_scheduler.specs.Figures.{AreAllFigures};
+ghost use Rattle.step_scheduler.specs.near.Figures.{AreAllFigures};
 ghost use Rattle.step_scheduler.specs.near.Parts.{ArePartsFrom, IsPart, figures_of_nothing};
 
 use crate::blank::Blank;

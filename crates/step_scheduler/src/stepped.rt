@@ -6,9 +6,10 @@ ghost use Rattle.std.specs.Arc.{arc_value};
 ghost use Rattle.plan_ir.specs.Figures.{figures_of, option_value_of, total_to};
 ghost use Rattle.plan_ir.specs.Plans.{inputs_at};
 ghost use Rattle.step_scheduler.specs.Boards.{IsComplete};
-ghost use Rattle.step_scheduler.specs.Figures.{AreAllFigures};
+ghost use Rattle.step_scheduler.specs.near.Figures.{AreAllFigures};
 ghost use Rattle.step_scheduler.specs.Jobs.{inputs_for, meaning_at};
-ghost use Rattle.step_scheduler.specs.Runs.{AllFinished, CanGoOn, IsOnce, IsReady, IsRun, IsUnderWay, is_finished, run_values, unfinished};
+ghost use Rattle.step_scheduler.specs.Runs.{AllFinished, CanGoOn, IsOnce, IsReady, IsRun, IsUnderWay, is_finished};
+ghost use Rattle.step_scheduler.specs.Runs.{run_values, unfinished};
 ghost use Rattle.step_scheduler.specs.declared.events.Event.TheVariants.{Take, Finish};
 
 use crate::boards::Refused;

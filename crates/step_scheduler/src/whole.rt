@@ -3,10 +3,11 @@ ghost use Rattle.std.specs.Prelude.{◌≡◌, ◌<◌, ◌↔◌, Err, IfOk, If
 ghost use Rattle.std.specs.Arc.{arc_value};
 ghost use Rattle.plan_ir.specs.Figures.{figures_of, option_value_of, total_to};
 ghost use Rattle.plan_ir.specs.Plans.{inputs_at};
-ghost use Rattle.step_scheduler.specs.Figures.{AreAllFigures};
+ghost use Rattle.step_scheduler.specs.near.Figures.{AreAllFigures};
 ghost use Rattle.step_scheduler.specs.Jobs.{meaning_at};
 ghost use Rattle.step_scheduler.specs.Boards.{IsComplete};
-ghost use Rattle.step_scheduler.specs.Runs.{AllFinished, CanGoOn, IsOnce, IsReady, IsRun, IsUnderWay, is_finished, run_values, unfinished};
+ghost use Rattle.step_scheduler.specs.Runs.{AllFinished, CanGoOn, IsOnce, IsReady, IsRun, IsUnderWay, is_finished};
+ghost use Rattle.step_scheduler.specs.Runs.{run_values, unfinished};
 
 use crate::boards::Refused;
 use crate::courses::Course;

@@ -3,7 +3,7 @@ use Rattle.std.specs.Prelude.{ℕ, List, All}
 use Rattle.span_tables.specs.Slots.{IsOpenAt}
 use Rattle.span_tables.specs.declared.slots.OpenSides.{OpenSides}
 use Rattle.inter_credit.specs.Credits.{rest_at}
-use Rattle.inter_credit.specs.States.{IsLine}
+use Rattle.inter_credit.specs.near.Lines.{IsLine}
 use Rattle.inter_credit.specs.declared.state.InterLine.{InterLine}
 
 -- the rest of each commodity lies on a side of the market that is marked for the commodity

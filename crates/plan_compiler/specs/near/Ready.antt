@@ -1,7 +1,7 @@
 -- The steps without inputs, as the code lists them.
 use Rattle.std.specs.Prelude.{◌≡◌, ℕ, ◌<◌, ◌≤◌, ◌==◌, List, All, if◌then◌else◌, length}
 use Rattle.plan_ir.specs.Plans.{StepView, inputs_at}
-use Rattle.plan_compiler.specs.Beginnings.{times}
+use Rattle.plan_compiler.specs.near.Beginnings.{times}
 
 -- those of the steps from k on that have no input, each once
 pub record AreWithoutFrom (plan : List StepView) (ready : List ℕ) (k : ℕ) : Type 0 where

@@ -6,7 +6,7 @@ use Rattle.plan_ir.specs.Plans.{StepView, inputs_at, op_at}
 use Rattle.plan_compiler.specs.Compiled.{IsCompiled}
 use Rattle.plan_compiler.specs.Plan.{IsPlanOf}
 use Rattle.plan_compiler.specs.Places.{inputs_of}
-use Rattle.plan_compiler.specs.Beginnings.{AreInputCounts, AreWithoutInputs}
+use Rattle.plan_compiler.specs.near.Beginnings.{AreInputCounts, AreWithoutInputs}
 use Rattle.plan_compiler.specs.near.Layout.{AreFirsts}
 
 -- The plan is that of the tables, each input where it stands, and keeps the plan law. The numbers are those of first steps,

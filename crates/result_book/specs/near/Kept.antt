@@ -5,7 +5,7 @@ use Rattle.span_tables.specs.declared.limits.TheConstants.{MAX_COMMODITIES}
 use Rattle.span_tables.specs.declared.portfolios.Holding.{Holding}
 use Rattle.plan_ir.specs.Figures.{is_held, option_value_of, total_to}
 use Rattle.plan_ir.specs.declared.figures.Figures.{Figures}
-use Rattle.step_scheduler.specs.Figures.{AreAllFigures}
+use Rattle.step_scheduler.specs.near.Figures.{AreAllFigures}
 use Rattle.result_book.specs.Rows.{RowView}
 
 -- the figures are those of the row's set and portfolio, and the total and the option value are theirs; each flag tells

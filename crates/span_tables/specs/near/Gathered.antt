@@ -1,7 +1,9 @@
 -- What an account holds of a commodity, as numbers of contracts with their nets.
-use Rattle.std.specs.Prelude.{◌≡◌, ◌≢◌, ◌<◌, ℕ, All, List, [], filter, length, option_map, unwrap_or, slice_get, bytes_eq}
+use Rattle.std.specs.Prelude.{◌≡◌, ◌≢◌, ◌<◌, ℕ, All, List, [], filter, length, option_map, unwrap_or, slice_get}
+use Rattle.std.specs.Prelude.{bytes_eq}
 use Rattle.std.specs.List.{AllPairs}
-use Rattle.span_tables.specs.Accepted.{commodity_id, commodity_number}
+use Rattle.span_tables.specs.Accepted.{commodity_number}
+use Rattle.span_tables.specs.Tables.{commodity_id}
 use Rattle.span_tables.specs.Net.{held_contracts}
 use Rattle.span_tables.specs.Tables.{AcceptedTables}
 use Rattle.span_tables.specs.declared.held.CommodityHeld.{CommodityHeld}

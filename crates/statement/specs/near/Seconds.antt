@@ -4,7 +4,7 @@ use Rattle.span_tables.specs.Tables.{AcceptedTables}
 use Rattle.span_tables.specs.declared.records.PositionRecord.{PositionRecord}
 use Rattle.plan_compiler.specs.Compiled.{SetView}
 use Rattle.statement.specs.Rolls.{Refuses, is_ok}
-use Rattle.statement.specs.SpanFaults.{of_next}
+use Rattle.statement.specs.Rolls.{of_next}
 use Rattle.statement.specs.Statement.{accepted_of, and_then, same, statement_bound}
 use Rattle.statement.specs.declared.faults.SpanFault.{SpanFault}
 

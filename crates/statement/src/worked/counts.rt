@@ -1,5 +1,5 @@
 //! Parameter files and their counts, computed by the definitions.
-#![tactic(auto, unfolding(crate::specs::OnLiterals::on_literals))]
+#![tactic(auto, unfolding(crate::specs::near::OnLiterals::on_literals))]
 
 ghost use Rattle.param_check.specs.declared.faults.CheckFault.TheVariants as check;
 ghost use Rattle.span_csv.specs.declared.faults.ParamFault.TheVariants as params;

@@ -1,8 +1,8 @@
 //! What more than one stage says of a file, computed by the definitions.
-#![tactic(auto, unfolding(crate::specs::OnLiterals::on_literals))]
+#![tactic(auto, unfolding(crate::specs::near::OnLiterals::on_literals))]
 
 ghost use Rattle.span_csv.specs.ParamFaults.{params_of};
-ghost use Rattle.span_tables.specs.Limits.{is_readable};
+ghost use Rattle.span_tables.specs.near.Limits.{is_readable};
 ghost use Rattle.std.specs.Prelude.{◌++◌, ◌≡◌, Some, codes, option_map, true};
 ghost use Rattle.std.specs.Result.{result_ok};
 

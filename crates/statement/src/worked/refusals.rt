@@ -1,10 +1,10 @@
 //! Files and the fault that refuses them, computed by the definitions.
-#![tactic(auto, unfolding(crate::specs::OnLiterals::on_literals))]
+#![tactic(auto, unfolding(crate::specs::near::OnLiterals::on_literals))]
 
 ghost use Rattle.std.specs.List.{repeat};
 ghost use Rattle.std.specs.Prelude.{◌+◌, ◌++◌, ◌≡◌, [], codes};
 ghost use Rattle.span_tables.specs.declared.limits.TheConstants.{MAX_COMMODITIES, MAX_TIERS};
-ghost use Rattle.statement.specs.Samples.{one_future};
+ghost use Rattle.statement.specs.near.Samples.{one_future};
 ghost use Rattle.statement.specs.Statement.{statement_of};
 ghost use Rattle.statement.specs.declared.faults.SpanFault.TheVariants as span_fault;
 ghost use Rattle.span_csv.specs.declared.faults.ParamFault.TheVariants as params;

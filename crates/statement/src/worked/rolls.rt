@@ -1,5 +1,5 @@
 //! Two parameter files and what a roll gives for the same positions, computed by the definitions.
-#![tactic(auto, unfolding(crate::specs::OnLiterals::on_literals))]
+#![tactic(auto, unfolding(crate::specs::near::OnLiterals::on_literals))]
 
 ghost use Rattle.std.specs.Prelude.{◌++◌, ◌≡◌, [], codes};
 ghost use Rattle.param_check.specs.declared.faults.BindFault.TheVariants as bind;
@@ -7,7 +7,7 @@ ghost use Rattle.param_check.specs.declared.faults.CheckFault.TheVariants as che
 ghost use Rattle.span_csv.specs.declared.faults.ParamFault.TheVariants as params;
 ghost use Rattle.span_csv.specs.declared.faults.PositionFault.TheVariants as positions;
 ghost use Rattle.statement.specs.Rolls.{roll_of};
-ghost use Rattle.statement.specs.Samples.{one_future, spread_and_spot};
+ghost use Rattle.statement.specs.near.Samples.{one_future, spread_and_spot};
 ghost use Rattle.statement.specs.declared.faults.SpanFault.TheVariants as span_fault;
 
 // A short future, which loses more under the next set.

@@ -1,8 +1,8 @@
 //! Files and their statements, computed by the definitions.
-#![tactic(auto, unfolding(crate::specs::OnLiterals::on_literals))]
+#![tactic(auto, unfolding(crate::specs::near::OnLiterals::on_literals))]
 
 ghost use Rattle.std.specs.Prelude.{◌++◌, ◌≡◌, [], ◌∷◌, codes};
-ghost use Rattle.statement.specs.Samples.{one_future};
+ghost use Rattle.statement.specs.near.Samples.{one_future};
 ghost use Rattle.statement.specs.Statement.{statement_of};
 
 // A long future.

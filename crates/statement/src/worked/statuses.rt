@@ -1,5 +1,5 @@
 //! The exit status of each kind of fault, computed by the definitions.
-#![tactic(auto, unfolding(crate::specs::OnLiterals::on_literals))]
+#![tactic(auto, unfolding(crate::specs::near::OnLiterals::on_literals))]
 
 ghost use Rattle.param_check.specs.declared.faults.BindFault.TheVariants as bind;
 ghost use Rattle.param_check.specs.declared.faults.CheckFault.TheVariants as check;

@@ -3,7 +3,7 @@ use Rattle.std.specs.Prelude.{◌≡◌, ℕ, ◌+◌, ◌<◌, ◌≤◌, ◌==
 use Rattle.std.specs.Prelude.{length, All, slice_index}
 use Rattle.std.specs.Prelude.{if◌then◌else◌}
 use Rattle.plan_ir.specs.Plans.{StepView, inputs_at}
-use Rattle.plan_compiler.specs.Beginnings.{times}
+use Rattle.plan_compiler.specs.near.Beginnings.{times}
 use Rattle.step_scheduler.specs.declared.progress.Progress.{Progress}
 use Rattle.step_scheduler.specs.near.Steps.{was_taken, is_done, progress_at}
 

@@ -6,7 +6,7 @@ use Rattle.plan_compiler.specs.Compiled.{Fits, IsCompiled, SetView}
 use Rattle.step_scheduler.specs.Jobs.{JobView}
 use Rattle.step_scheduler.specs.Runs.{AllFinished, IsRun}
 use Rattle.step_scheduler.specs.declared.events.Event.{Event}
-use Rattle.step_scheduler.specs.Figures.{AreAllFigures}
+use Rattle.step_scheduler.specs.near.Figures.{AreAllFigures}
 
 -- a run of the set's plan in which every step is finished
 pub record IsCourse (set : SetView) (events : List Event) : Type 0 where

@@ -1,4 +1,5 @@
-use Rattle.std.proofs.Common.{◌≡◌, ℕ, true, cond, List, [], ◌∷◌, ◌++◌, flat_map, length, get_or, map, sym, ap, append_assoc, arith, subst, ◌∙◌}
+use Rattle.std.proofs.Common.{◌≡◌, ℕ, true, cond, List, [], ◌∷◌, ◌++◌, flat_map, length, get_or, map, sym, ap}
+use Rattle.std.proofs.Common.{append_assoc, arith, subst, ◌∙◌}
 use Rattle.std.proofs.lemmas.List.{append-nil, get_or_default}
 use Rattle.std.proofs.lemmas.List.Folds.{flat_map-map}
 use Rattle.std.proofs.lemmas.Grind.{flat_map-append}
@@ -12,7 +13,7 @@ use Rattle.span_tables.specs.Tables.{AcceptedTables}
 use Rattle.plan_ir.specs.Figures.{commodity_at, figures_of, is_held, no_commodity}
 use Rattle.plan_ir.proofs.BoundLaws.{length-inter_lines}
 use Rattle.reasons.specs.Reasons.{reasons_of}
-use Rattle.reasons.specs.Stages.{stages_of}
+use Rattle.reasons.specs.near.Stages.{stages_of}
 use Rattle.reasons.specs.near.Fields.{reasons_text}
 use Rattle.statement.specs.Statement.{commodity_text, figures_line}
 use Rattle.explanation.specs.Explanation.{commodity_lines, reason_line}

@@ -1,7 +1,7 @@
 use Rattle.std.proofs.Common.{◌≡◌, take, drop, All}
 use Rattle.inter_credit.specs.Credits.{lines_after}
 use Rattle.inter_credit.specs.near.Rooms.{HaveRoom}
-use Rattle.inter_credit.specs.States.{IsLine}
+use Rattle.inter_credit.specs.near.Lines.{IsLine}
 use Rattle.inter_credit.proofs.spreads.use_legs.Given as goal
 
 abbrev pub invariant-loop-leg : goal.invariant-loop-leg

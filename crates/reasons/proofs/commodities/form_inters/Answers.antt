@@ -2,7 +2,7 @@ use Rattle.std.proofs.Common.{[], ◌∷◌, ◌++◌, take, sym, ap, ◌∙◌}
 use Rattle.std.specs.Prelude.{fold}
 use Rattle.std.proofs.lemmas.List.Sums.{fold_more}
 use Rattle.inter_credit.specs.Credits.{formed_both, inter_both_ways}
-use Rattle.reasons.specs.Stages.{inters_formed}
+use Rattle.reasons.specs.near.Stages.{inters_formed}
 use Rattle.reasons.proofs.FormedLemmas.{inters_formed_more}
 use Rattle.reasons.proofs.commodities.form_inters.Goals as goal
 

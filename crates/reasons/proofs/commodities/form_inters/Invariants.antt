@@ -1,7 +1,7 @@
 use Rattle.std.proofs.Common.{◌≡◌, length, take}
 use Rattle.std.specs.Prelude.{fold}
 use Rattle.inter_credit.specs.Credits.{inter_both_ways}
-use Rattle.reasons.specs.Stages.{inters_formed}
+use Rattle.reasons.specs.near.Stages.{inters_formed}
 use Rattle.reasons.proofs.commodities.form_inters.Given as goal
 
 abbrev pub invariant-loop-inter : goal.invariant-loop-inter

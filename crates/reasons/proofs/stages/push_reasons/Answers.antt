@@ -2,7 +2,7 @@ use Rattle.std.proofs.Common.{◌≡◌, ◌<◌, length, get_or, sym, ap, arith
 use Rattle.std.proofs.lemmas.List.{get_or_default}
 use Rattle.plan_ir.specs.Figures.{commodity_at, held_at, inter_lines, loaded_lines, no_commodity}
 use Rattle.reasons.specs.Reasons.{line_after_all}
-use Rattle.reasons.specs.Stages.{inters_formed}
+use Rattle.reasons.specs.near.Stages.{inters_formed}
 use Rattle.plan_compiler.proofs.StageLemmas.{held_read}
 use Rattle.reasons.proofs.StageLemmas.{line_read, reasons_are}
 use Rattle.reasons.proofs.stages.push_reasons.Goals as goal

@@ -1,5 +1,5 @@
 use Rattle.std.proofs.Common.{◌∙◌}
-use Rattle.reasons.specs.Stages.{inters_formed}
+use Rattle.reasons.specs.near.Stages.{inters_formed}
 use Rattle.plan_compiler.proofs.StageLemmas.{lines_are}
 use Rattle.reasons.proofs.stages.stages_of.Goals as goal
 

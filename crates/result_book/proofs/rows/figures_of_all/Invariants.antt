@@ -1,5 +1,5 @@
 use Rattle.std.proofs.Common.{◌≡◌, length}
-use Rattle.step_scheduler.specs.Figures.{AreFirstFigures}
+use Rattle.step_scheduler.specs.near.Figures.{AreFirstFigures}
 use Rattle.result_book.proofs.rows.figures_of_all.Given as goal
 
 abbrev pub invariant-loop-commodity : goal.invariant-loop-commodity

@@ -1,5 +1,5 @@
 use Rattle.std.proofs.Common.{◌≡◌, drop}
-use Rattle.span_cli.specs.Memory.{bytes_in}
+use Rattle.span_cli.specs.near.Memory.{bytes_in}
 use Rattle.span_cli.proofs.memory.bytes_of.Given as goal
 
 abbrev pub invariant-loop-file : goal.invariant-loop-file

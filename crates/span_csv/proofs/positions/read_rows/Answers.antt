@@ -2,7 +2,7 @@ use Rattle.std.proofs.Common.{◌≡◌, ◌∙◌, sym, rules, true}
 use Rattle.std.specs.Result.{is_ok}
 use Rattle.std.proofs.lemmas.Result.{err_from_is_err_and}
 use Rattle.csv.specs.Records.{fields_of}
-use Rattle.span_tables.specs.Positions.{named_position, named_positions}
+use Rattle.span_tables.specs.near.Positions.{named_position, named_positions}
 use Rattle.span_csv.proofs.PositionLemmas.{positions_after-ok, positions_after-refused, positions_after-end}
 use Rattle.span_csv.proofs.positions.read_rows.Goals as goal
 

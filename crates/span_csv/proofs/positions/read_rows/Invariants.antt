@@ -1,6 +1,6 @@
 use Rattle.std.proofs.Common.{◌≡◌, length}
 use Rattle.span_csv.specs.near.PositionReading.{positions_after}
-use Rattle.span_tables.specs.Positions.{named_positions, AreNumbered}
+use Rattle.span_tables.specs.near.Positions.{named_positions, AreNumbered}
 use Rattle.span_csv.proofs.positions.read_rows.Given as goal
 
 abbrev pub invariant-loop-records : goal.invariant-loop-records

@@ -1,6 +1,6 @@
 use Rattle.std.proofs.Common.{◌≡◌, ◌∙◌, sym, ap, subst, arith, List}
 use Rattle.std.proofs.lemmas.Grind.{common_steps}
-use Rattle.span_tables.specs.Accepted.{commodity_id}
+use Rattle.span_tables.specs.Tables.{commodity_id}
 use Rattle.span_tables.specs.Holdings.{AreHoldings}
 use Rattle.span_tables.specs.Net.{held_contracts}
 use Rattle.span_tables.specs.near.Gathered.{holdings_in}

@@ -1,5 +1,5 @@
 use Rattle.std.proofs.Common.{◌≡◌, take}
-use Rattle.span_tables.specs.Accepted.{commodity_id}
+use Rattle.span_tables.specs.Tables.{commodity_id}
 use Rattle.span_tables.specs.near.Gathered.{holdings_in}
 use Rattle.span_tables.proofs.held.gather.Given as goal
 

@@ -1,6 +1,6 @@
 use Rattle.std.proofs.Common.{◌≡◌, subst, sym, map}
 use Rattle.std.proofs.lemmas.Result.{IfOk-weaker}
-use Rattle.span_tables.specs.HeldCommodities.{AreHeldCommodities}
+use Rattle.span_tables.specs.near.HeldCommodities.{AreHeldCommodities}
 use Rattle.span_tables.specs.near.Gathered.{commodity_held_of}
 use Rattle.span_tables.proofs.RunLemmas.{gathered_held}
 use Rattle.span_tables.proofs.held.gather_held.Goals as goal

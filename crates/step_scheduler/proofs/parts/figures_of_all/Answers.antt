@@ -1,6 +1,6 @@
 use Rattle.std.proofs.Common.{◌≤◌, length, refl, ap, ◌∙◌, arith}
 use Rattle.plan_ir.proofs.BoundLaws.{length-inter_lines}
-use Rattle.inter_credit.specs.States.{credit_at}
+use Rattle.inter_credit.specs.Credits.{credit_at}
 use Rattle.step_scheduler.proofs.HeldLemmas.{next_part, no_part}
 use Rattle.step_scheduler.proofs.PartBounds.{charge_part_small, delivery_part_small, minimum_part_small, risk_small}
 use Rattle.step_scheduler.proofs.WrittenLemmas.{all_written, figures_are, figures_over, none_written, one_written}

@@ -1,7 +1,7 @@
 use Rattle.std.proofs.Common.{◌≡◌, pos, arith}
 use Rattle.std.proofs.lemmas.Int.{ints}
 use Rattle.std.proofs.lemmas.List.Elements.{All-set}
-use Rattle.inter_credit.specs.States.{IsLine}
+use Rattle.inter_credit.specs.near.Lines.{IsLine}
 use Rattle.inter_credit.proofs.OpenLemmas.{load_open, loaded_line, nothing_loaded}
 use Rattle.inter_credit.proofs.state.InterState.load.Goals as goal
 

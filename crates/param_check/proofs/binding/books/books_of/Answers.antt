@@ -1,11 +1,11 @@
 use Rattle.std.proofs.Common.{◌<◌, ◌++◌, ◌∷◌, [], ◌∙◌, ap, arith, length, refl, replicate, set, take}
 use Rattle.std.proofs.lemmas.List.{get_or_default, length-map}
 use Rattle.span_tables.specs.Net.{accounts_of}
-use Rattle.span_tables.specs.Positions.{named_position}
+use Rattle.span_tables.specs.near.Positions.{named_position}
 use Rattle.param_check.specs.near.Ledger.{is_foreign}
 use Rattle.param_check.specs.near.Nets.{entries_of}
-use Rattle.param_check.proofs.LedgerLaws.{books_step, foreign_from_none, foreign_found, known_from_some, no_entries, none_step}
-use Rattle.param_check.proofs.LedgerLaws.{number_within, seen}
+use Rattle.param_check.proofs.LedgerLaws.{books_step, foreign_from_none, foreign_found, known_from_some, no_entries}
+use Rattle.param_check.proofs.LedgerLaws.{none_step, number_within, seen}
 use Rattle.param_check.proofs.binding.books.books_of.Goals as goal
 
 pub loop-number-init : goal.loop-number-init

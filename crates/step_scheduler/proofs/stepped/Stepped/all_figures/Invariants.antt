@@ -1,5 +1,5 @@
 use Rattle.std.proofs.Common.{◌≡◌, length}
-use Rattle.step_scheduler.specs.Figures.{AreFirstFigures}
+use Rattle.step_scheduler.specs.near.Figures.{AreFirstFigures}
 use Rattle.step_scheduler.proofs.stepped.Stepped.all_figures.Given as goal
 
 abbrev pub invariant-loop-commodity : goal.invariant-loop-commodity

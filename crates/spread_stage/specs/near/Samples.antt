@@ -1,7 +1,7 @@
 -- Contracts and spreads that the worked values speak of.
 use Rattle.std.specs.Prelude.{ℕ, [], ◌∷◌, codes, ℤ, pos}
 use Rattle.std.specs.List.{repeat}
-use Rattle.span_tables.specs.Samples.{contract}
+use Rattle.span_tables.specs.near.Samples.{contract}
 use Rattle.span_tables.specs.declared.records.ProductKind.TheVariants as product
 use Rattle.span_tables.specs.declared.records.Side.TheVariants as side
 use Rattle.span_tables.specs.declared.records.Contract.{Contract}

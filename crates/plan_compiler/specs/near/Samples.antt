@@ -1,6 +1,6 @@
 -- Parameter files that the worked plans are of.
 use Rattle.std.specs.Prelude.{ℕ, List, [], ◌∷◌, ◌++◌, codes}
-use Rattle.span_tables.specs.Samples.{commodity, contract, future_values, set, spread, value_set}
+use Rattle.span_tables.specs.near.Samples.{commodity, contract, future_values, set, spread, value_set}
 use Rattle.span_tables.specs.declared.records.ProductKind.TheVariants as product
 use Rattle.span_tables.specs.declared.records.Record.{Record}
 use Rattle.span_tables.specs.declared.records.Record.TheVariants as record_of

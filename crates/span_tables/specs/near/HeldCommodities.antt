@@ -1,7 +1,7 @@
 -- The commodities of which an account holds something.
 use Rattle.std.specs.Prelude.{◌≡◌, ◌≢◌, ◌<◌, ℕ, List, [], length, All}
 use Rattle.std.specs.List.{AllPairs}
-use Rattle.span_tables.specs.Accepted.{commodity_id}
+use Rattle.span_tables.specs.Tables.{commodity_id}
 use Rattle.span_tables.specs.Net.{held_of}
 use Rattle.span_tables.specs.Tables.{AcceptedTables}
 use Rattle.span_tables.specs.declared.held.CommodityHeld.{CommodityHeld}

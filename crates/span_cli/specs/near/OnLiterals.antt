@@ -8,7 +8,7 @@ use Rattle.clap.specs.Walk.{bundle_met, walked}
 use Rattle.plan_ir.specs.Listing.{plan_text}
 use Rattle.plan_compiler.specs.Places.{plan_of}
 use Rattle.statement.specs.Listing.{listing_of}
-use Rattle.statement.specs.OnLiterals.{on_literals as statement_on_literals}
+use Rattle.statement.specs.near.OnLiterals.{on_literals as statement_on_literals}
 use Rattle.span_cli.specs.Words.{form_kinds, has_form, is_taken, joined, kinds_of}
 
 -- all words that computing on literals unfolds

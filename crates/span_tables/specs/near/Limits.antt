@@ -13,13 +13,13 @@ use Rattle.span_tables.specs.declared.records.Spot.{Spot}
 use Rattle.span_tables.specs.declared.records.InterRecord.{InterRecord}
 use Rattle.span_tables.specs.declared.records.Record.{Record}
 use Rattle.span_tables.specs.declared.records.Record.TheVariants as record_of
-use Rattle.span_tables.specs.declared.limits.TheConstants.{MAX_COMMODITIES, MAX_CONTRACTS, MAX_TIERS, MAX_INTRA_SPREADS, MAX_SPOT_MONTHS}
-use Rattle.span_tables.specs.declared.limits.TheConstants.{MAX_INTER_SPREADS, MAX_RATE, MAX_ARRAY_VALUE, MAX_DELTA, MAX_SCALE, MAX_RATIO}
-use Rattle.span_tables.specs.declared.limits.TheConstants.{MAX_TIER_NUMBER, MAX_PRIORITY, MAX_BASIS_POINTS, MIN_LEGS, MAX_LEGS, SCENARIOS}
-use Rattle.span_tables.specs.declared.limits.TheConstants.{MAX_OPTION_VALUE, MAX_PROFILE}
-use Rattle.span_tables.specs.declared.records.ProductKind.{ProductKind}
-use Rattle.span_tables.specs.declared.records.ProductKind.TheVariants as product
+use Rattle.span_tables.specs.declared.limits.TheConstants.{MAX_COMMODITIES, MAX_CONTRACTS, MAX_TIERS, MAX_INTRA_SPREADS}
+use Rattle.span_tables.specs.declared.limits.TheConstants.{MAX_SPOT_MONTHS, MAX_INTER_SPREADS, MAX_RATE}
+use Rattle.span_tables.specs.declared.limits.TheConstants.{MAX_ARRAY_VALUE, MAX_DELTA, MAX_SCALE, MAX_RATIO}
+use Rattle.span_tables.specs.declared.limits.TheConstants.{MAX_TIER_NUMBER, MAX_PRIORITY, MAX_BASIS_POINTS, MIN_LEGS}
+use Rattle.span_tables.specs.declared.limits.TheConstants.{MAX_LEGS, SCENARIOS, MAX_PROFILE}
 use Rattle.span_tables.specs.declared.records.SetRecord.{SetRecord}
+use Rattle.span_tables.specs.Tables.{most_option_value}
 
 -- n lies from low to high
 abbrev pub lies_within : ℕ → ℕ → ℕ → Bool
@@ -46,12 +46,6 @@ is_priority n = lies_within 1 MAX_PRIORITY n
 -- a set: its id and its profile, from 1
 abbrev pub set_in_range : SetRecord → Bool
 set_in_range s = is_name s.id && lies_within 1 MAX_PROFILE s.profile
-
--- the most that an option value may be: that of a future is 0
-abbrev pub most_option_value : ProductKind → ℕ
-most_option_value product.Future = 0
-most_option_value product.Call = MAX_OPTION_VALUE
-most_option_value product.Put = MAX_OPTION_VALUE
 
 -- a commodity: its id and its rate
 abbrev pub commodity_in_range : Commodity → Bool

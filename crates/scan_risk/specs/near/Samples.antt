@@ -1,7 +1,7 @@
 -- Contracts that the worked rows speak of.
 use Rattle.std.specs.Prelude.{[], ◌∷◌, ◌++◌, codes, ℤ, pos, neg_ℤ}
 use Rattle.std.specs.List.{repeat}
-use Rattle.span_tables.specs.Samples.{contract, future_values}
+use Rattle.span_tables.specs.near.Samples.{contract, future_values}
 use Rattle.span_tables.specs.declared.records.ProductKind.TheVariants as product
 use Rattle.span_tables.specs.declared.records.Contract.{Contract}
 use Rattle.span_tables.specs.Net.{HeldContract}

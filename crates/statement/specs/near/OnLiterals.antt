@@ -1,10 +1,10 @@
 -- What an answer unfolds to compute the definitions on literals.
 use Rattle.std.specs.Prelude.{⊤}
 use Rattle.std.specs.Fmt.{digits}
-use Rattle.span_csv.specs.OnLiterals.{reading_on_literals}
+use Rattle.span_csv.specs.near.OnLiterals.{reading_on_literals}
 use Rattle.span_tables.specs.Rules.{keeps_rules}
 use Rattle.param_check.specs.CheckFaults.{check_fault, checked}
-use Rattle.span_tables.specs.Limits.{is_readable}
+use Rattle.span_tables.specs.near.Limits.{is_readable}
 use Rattle.span_tables.specs.Tables.{tables_of, intras_of, spots_of, inters_of}
 use Rattle.span_tables.specs.Net.{portfolios_of, held_of}
 use Rattle.param_check.specs.Binding.{bind_fault, bindings_of}
@@ -18,8 +18,8 @@ use Rattle.inter_credit.specs.OptionValue.{net_value_of}
 use Rattle.statement.specs.Counts.{counts_line, counts_of}
 use Rattle.plan_ir.specs.Figures.{inter_lines, figures_of, total_to, value_to}
 use Rattle.statement.specs.Rolls.{roll_of}
-use Rattle.statement.specs.Statement.{figures_line, total_line, row_text, statement_text}
-use Rattle.statement.specs.Statement.{accepted_of, portfolios_under, statement_bound, statement_under, statement_of, margin_of}
+use Rattle.statement.specs.Statement.{figures_line, total_line, row_text, statement_text, accepted_of, portfolios_under}
+use Rattle.statement.specs.Statement.{statement_bound, statement_under, statement_of, margin_of}
 
 -- all words that computing on literals unfolds
 unfoldable pub on_literals : ⊤

@@ -11,7 +11,7 @@ use Rattle.param_check.specs.Binding as bind
 use Rattle.plan_shelf.specs.declared.faults.ShelfFault.{ShelfFault}
 use Rattle.plan_shelf.specs.declared.faults.ShelfFault.TheVariants as shelf
 use Rattle.result_book.specs.declared.books.BookFault.{BookFault}
-use Rattle.result_book.specs.Books as book
+use Rattle.result_book.specs.BookFaults as book
 use Rattle.statement.specs.declared.faults.SpanFault.{SpanFault}
 use Rattle.statement.specs.declared.faults.SpanFault.TheVariants as fault
 
@@ -40,10 +40,3 @@ abbrev pub of_shelf : ShelfFault → SpanFault
 of_shelf shelf.OutOfMemory = fault.Memory
 of_shelf shelf.Readers = fault.Shelf
 of_shelf shelf.Last = fault.Shelf
-
--- a fault that arises under the next set has a name of its own
-abbrev pub of_next : SpanFault → SpanFault
-of_next (fault.Params e) = fault.NextParams e
-of_next (fault.Check e) = fault.NextCheck e
-of_next (fault.Bind e) = fault.NextBind e
-of_next e = e

@@ -1,7 +1,7 @@
 -- Records of which the worked faults are made.
 use Rattle.std.specs.Prelude.{ℕ, ◌+◌, List, [], ◌∷◌, codes, ℤ, pos}
 use Rattle.std.specs.List.{repeat}
-use Rattle.span_tables.specs.Samples.{contract}
+use Rattle.span_tables.specs.near.Samples.{contract}
 use Rattle.span_tables.specs.declared.records.ProductKind.TheVariants as product
 use Rattle.span_tables.specs.declared.records.Side.{Side}
 use Rattle.span_tables.specs.declared.records.Side.TheVariants as side

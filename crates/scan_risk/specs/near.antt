@@ -1,0 +1,2 @@
+-- What no promise's words stand on: forms near to the code, what types keep, samples.
+pub mod Samples
