@@ -49,13 +49,8 @@ clean_value earlier r c other is =
 -- one record more
 value_more : (k : Kind) (r : Fields) (rest : List Contract) → (k ≡ kind.Contract → count_at r extras_place ≡ 0)
     → AllByRecursion HasNoValue rest → AllByRecursion HasNoValue (cons_option (as_contract (record_of_kind k r)) rest)
-value_more kind.Set r rest value others = others
-value_more kind.Commodity r rest value others = others
 value_more kind.Contract r rest value others = (value refl, others)
-value_more kind.Tier r rest value others = others
-value_more kind.Intra r rest value others = others
-value_more kind.Spot r rest value others = others
-value_more kind.Inter r rest value others = others
+value_more _ r rest value others = others
 
 profile_stays : (before : List Fields) (r : Fields) → 0 < length before → profile_of (before ++ r ∷ []) ≡ profile_of before
 profile_stays [] r some = absurd (omega arith)

@@ -66,12 +66,7 @@ first_set r c =
 not_set : (k : Kind) (r : Fields) → kind_of r ≡ Some k → is_set r ≡ false
     → not (is_some (as_set (record_of_kind k r))) ≡ true
 not_set kind.Set r e other = absurd (both_ways (is_set r) other (named_word (text_at r 0) kind.Set e))
-not_set kind.Commodity r e other = refl
-not_set kind.Contract r e other = refl
-not_set kind.Tier r e other = refl
-not_set kind.Intra r e other = refl
-not_set kind.Spot r e other = refl
-not_set kind.Inter r e other = refl
+not_set _ r e other = refl
 
 -- and none behind it
 later_set : (earlier : List Fields) (r : Fields) → 0 < length earlier → IsClean earlier r

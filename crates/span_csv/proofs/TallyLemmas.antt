@@ -1,5 +1,5 @@
 -- The counts of the records that were read.
-use Rattle.std.proofs.Common.{◌≡◌, ◌≤◌, ◌+◌, ◌∙◌, sym, ap, subst, arith, ℕ, Bool}
+use Rattle.std.proofs.Common.{rules, refl, ◌≡◌, ◌≤◌, ◌+◌, ◌∙◌, sym, ap, subst, arith, ℕ, Bool}
 use Rattle.std.proofs.Common.{true, false, if◌then◌else◌, List, [], ◌∷◌, ◌++◌, length, Some}
 use Rattle.std.specs.Prelude.{◌==◌, ◌&&◌, codes, bytes_eq}
 use Rattle.std.specs.List.{count_by}
@@ -86,69 +86,13 @@ same : (a b : ℕ) → a ≡ b → a ≡ b + 0
 same a b e = omega arith
 
 grows : (t u : Tally) (kind : Kind) (r : Fields) → Adds kind r t u → Grows t u (word_of kind) r
-grows t u kind.Set r adds = record {
-  profile = ap (λ x. x.profile) adds;
-  commodities = same _ _ (ap (λ x. x.commodities) adds);
-  contracts = same _ _ (ap (λ x. x.contracts) adds);
-  tiers = λ q. same _ _ (ap (λ x. count_in x.tiers q) adds);
-  intras = λ q. same _ _ (ap (λ x. count_in x.intras q) adds);
-  spots = λ q. same _ _ (ap (λ x. count_in x.spots q) adds);
-  inters = same _ _ (ap (λ x. x.inters) adds);
-}
-grows t u kind.Commodity r adds = record {
-  profile = ap (λ x. x.profile) adds;
-  commodities = ap (λ x. x.commodities) adds;
-  contracts = same _ _ (ap (λ x. x.contracts) adds);
-  tiers = λ q. same _ _ (ap (λ x. count_in x.tiers q) adds);
-  intras = λ q. same _ _ (ap (λ x. count_in x.intras q) adds);
-  spots = λ q. same _ _ (ap (λ x. count_in x.spots q) adds);
-  inters = same _ _ (ap (λ x. x.inters) adds);
-}
-grows t u kind.Contract r adds = record {
-  profile = ap (λ x. x.profile) adds;
-  commodities = same _ _ (ap (λ x. x.commodities) adds);
-  contracts = ap (λ x. x.contracts) adds;
-  tiers = λ q. same _ _ (ap (λ x. count_in x.tiers q) adds);
-  intras = λ q. same _ _ (ap (λ x. count_in x.intras q) adds);
-  spots = λ q. same _ _ (ap (λ x. count_in x.spots q) adds);
-  inters = same _ _ (ap (λ x. x.inters) adds);
-}
-grows t u kind.Tier r adds = record {
-  profile = ap (λ x. x.profile) adds.1;
-  commodities = same _ _ (ap (λ x. x.commodities) adds.1);
-  contracts = same _ _ (ap (λ x. x.contracts) adds.1);
-  tiers = adds.0;
-  intras = λ q. same _ _ (ap (λ x. count_in x.intras q) adds.1);
-  spots = λ q. same _ _ (ap (λ x. count_in x.spots q) adds.1);
-  inters = same _ _ (ap (λ x. x.inters) adds.1);
-}
-grows t u kind.Intra r adds = record {
-  profile = ap (λ x. x.profile) adds.1;
-  commodities = same _ _ (ap (λ x. x.commodities) adds.1);
-  contracts = same _ _ (ap (λ x. x.contracts) adds.1);
-  tiers = λ q. same _ _ (ap (λ x. count_in x.tiers q) adds.1);
-  intras = adds.0;
-  spots = λ q. same _ _ (ap (λ x. count_in x.spots q) adds.1);
-  inters = same _ _ (ap (λ x. x.inters) adds.1);
-}
-grows t u kind.Spot r adds = record {
-  profile = ap (λ x. x.profile) adds.1;
-  commodities = same _ _ (ap (λ x. x.commodities) adds.1);
-  contracts = same _ _ (ap (λ x. x.contracts) adds.1);
-  tiers = λ q. same _ _ (ap (λ x. count_in x.tiers q) adds.1);
-  intras = λ q. same _ _ (ap (λ x. count_in x.intras q) adds.1);
-  spots = adds.0;
-  inters = same _ _ (ap (λ x. x.inters) adds.1);
-}
-grows t u kind.Inter r adds = record {
-  profile = ap (λ x. x.profile) adds;
-  commodities = same _ _ (ap (λ x. x.commodities) adds);
-  contracts = same _ _ (ap (λ x. x.contracts) adds);
-  tiers = λ q. same _ _ (ap (λ x. count_in x.tiers q) adds);
-  intras = λ q. same _ _ (ap (λ x. count_in x.intras q) adds);
-  spots = λ q. same _ _ (ap (λ x. count_in x.spots q) adds);
-  inters = ap (λ x. x.inters) adds;
-}
+grows t u kind.Set r adds = search rules
+grows t u kind.Commodity r adds = search rules
+grows t u kind.Contract r adds = search rules
+grows t u kind.Tier r adds = search rules
+grows t u kind.Intra r adds = search rules
+grows t u kind.Spot r adds = search rules
+grows t u kind.Inter r adds = search rules
 
 -- a record that is added is counted
 pub tally_more : (t u : Tally) (kind : Kind) (rs : List Fields) (r : Fields) (n : ℕ) → kind_of r ≡ Some kind → length rs ≡ n
@@ -167,24 +111,12 @@ unequal_false a b e = grind (arith, nat_tests)
 count_exceeds : (t : Tally) (kind : Kind) (rs : List Fields) (r : Fields) → kind_of r ≡ Some kind → Tallies t rs
     → exceeds_limit rs r (kind_of r) ≡ (count_for t kind (text_at r 1) == limit_of kind)
 count_exceeds t kind.Set rs r is tallies = ap (exceeds_limit rs r) is
-count_exceeds t kind.Commodity rs r is tallies =
-    ap (exceeds_limit rs r) is ∙ ap (λ w. count_word w rs == MAX_COMMODITIES) (kind_word r kind.Commodity is)
-    ∙ ap (λ n. n == MAX_COMMODITIES) (sym tallies.commodities)
-count_exceeds t kind.Contract rs r is tallies =
-    ap (exceeds_limit rs r) is ∙ ap (λ w. count_word w rs == MAX_CONTRACTS) (kind_word r kind.Contract is)
-    ∙ ap (λ n. n == MAX_CONTRACTS) (sym tallies.contracts)
-count_exceeds t kind.Tier rs r is tallies =
-    ap (exceeds_limit rs r) is ∙ ap (λ w. count_words w (text_at r 1) rs == MAX_TIERS) (kind_word r kind.Tier is)
-    ∙ ap (λ n. n == MAX_TIERS) (sym (tallies.tiers (text_at r 1)))
-count_exceeds t kind.Intra rs r is tallies =
-    ap (exceeds_limit rs r) is ∙ ap (λ w. count_words w (text_at r 1) rs == MAX_INTRA_SPREADS) (kind_word r kind.Intra is)
-    ∙ ap (λ n. n == MAX_INTRA_SPREADS) (sym (tallies.intras (text_at r 1)))
-count_exceeds t kind.Spot rs r is tallies =
-    ap (exceeds_limit rs r) is ∙ ap (λ w. count_words w (text_at r 1) rs == MAX_SPOT_MONTHS) (kind_word r kind.Spot is)
-    ∙ ap (λ n. n == MAX_SPOT_MONTHS) (sym (tallies.spots (text_at r 1)))
-count_exceeds t kind.Inter rs r is tallies =
-    ap (exceeds_limit rs r) is ∙ ap (λ w. count_word w rs == MAX_INTER_SPREADS) (kind_word r kind.Inter is)
-    ∙ ap (λ n. n == MAX_INTER_SPREADS) (sym tallies.inters)
+count_exceeds t kind.Commodity rs r is tallies = rw (is, kind_word r kind.Commodity is, tallies.commodities) refl
+count_exceeds t kind.Contract rs r is tallies = rw (is, kind_word r kind.Contract is, tallies.contracts) refl
+count_exceeds t kind.Tier rs r is tallies = rw (is, kind_word r kind.Tier is, tallies.tiers (text_at r 1)) refl
+count_exceeds t kind.Intra rs r is tallies = rw (is, kind_word r kind.Intra is, tallies.intras (text_at r 1)) refl
+count_exceeds t kind.Spot rs r is tallies = rw (is, kind_word r kind.Spot is, tallies.spots (text_at r 1)) refl
+count_exceeds t kind.Inter rs r is tallies = rw (is, kind_word r kind.Inter is, tallies.inters) refl
 
 pub count_small : (t : Tally) (kind : Kind) (rs : List Fields) (cc : List ℕ) → Tallies t rs → count_for t kind cc ≤ length rs
 count_small t kind.Set rs cc tallies = omega arith

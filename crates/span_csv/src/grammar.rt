@@ -188,7 +188,7 @@ pub(crate) fn kind_named(word: &[u8]) -> Option<Kind>
     }
 }
 
-// Those in front, and so many legs; of a record without legs none.
+// Those in front, and so many legs.
 fn with_times(front: &'static [FieldForm], leg: &'static [FieldForm], times: usize) -> Layout
     requires { length front.now + times * length leg.now < 2 ^ 32 }
     ensures { result ≡ front.now ++ repeat times leg.now }
@@ -201,17 +201,12 @@ fn with_times(front: &'static [FieldForm], leg: &'static [FieldForm], times: usi
     }
 }
 
-// These alone.
+// These forms alone.
 fn alone(forms: &'static [FieldForm]) -> Layout
     requires { length forms.now < 2 ^ 32 }
     ensures { result ≡ forms.now }
 {
-    Layout {
-        front: forms,
-        middle: &[],
-        times: 0,
-        back: &[],
-    }
+    with_times(forms, &[], 0)
 }
 
 // What a CONTRACT has behind its risk array: under some profiles an option value.

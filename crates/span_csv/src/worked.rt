@@ -8,6 +8,7 @@ ghost use Rattle.span_csv.specs.PositionFaults.{positions_of};
 ghost use Rattle.span_csv.specs.Records.{records_of};
 ghost use Rattle.span_csv.specs.declared.faults.ParamFault.TheVariants as param;
 ghost use Rattle.span_csv.specs.declared.faults.PositionFault.TheVariants as position;
+ghost use Rattle.span_tables.specs.Profiles.{no_extras};
 ghost use Rattle.span_tables.specs.near.Samples.{contract, set, value_set};
 ghost use Rattle.span_tables.specs.declared.records.ProductKind.TheVariants as product;
 ghost use Rattle.span_tables.specs.declared.records.Record.TheVariants as record_of;
@@ -58,7 +59,7 @@ fn contracts_of_both_versions()
         (neg_ℤ (pos 9) ∷ pos 8 ∷ repeat 14 (pos 7 ∷ []))) ∷ []) }
     ensures second { params_of (codes "SET,D2,2,USD\nCONTRACT,CA,AA,C,202512,1,1,-9,8,7,7,7,7,7,7,7,7,7,7,7,7,7,7,120\n") ≡ Ok
         (value_set (codes "D2") ∷ record_of.Contract (record (contract product.Call (codes "CA") (codes "AA") 202512
-        (neg_ℤ (pos 9) ∷ pos 8 ∷ repeat 14 (pos 7 ∷ []))) { extras = record { option_value = 120 } }) ∷ []) }
+        (neg_ℤ (pos 9) ∷ pos 8 ∷ repeat 14 (pos 7 ∷ []))) { extras = record no_extras { option_value = 120 } }) ∷ []) }
     ensures future { params_of (codes "SET,D2,2,USD\nCONTRACT,FA,AA,F,202512,1,1,7,7,7,7,7,7,7,7,7,7,7,7,7,7,7,7,0\n") ≡ Ok
         (value_set (codes "D2")
         ∷ record_of.Contract (contract product.Future (codes "FA") (codes "AA") 202512 (repeat 16 (pos 7 ∷ []))) ∷ []) }

@@ -2,6 +2,9 @@
 use Rattle.std.specs.Prelude.{ℕ, [], ◌∷◌, codes, ℤ, pos, neg_ℤ}
 use Rattle.std.specs.List.{repeat}
 use Rattle.span_tables.specs.Net.{HeldContract}
+use Rattle.span_tables.specs.Profiles.{no_extras}
+use Rattle.span_tables.specs.Samples.{contract}
+use Rattle.span_tables.specs.declared.limits.TheConstants.{SCENARIOS}
 use Rattle.span_tables.specs.declared.records.Inter.{Inter}
 use Rattle.span_tables.specs.declared.records.ProductKind.{ProductKind}
 use Rattle.span_tables.specs.declared.records.Side.TheVariants as side
@@ -27,15 +30,8 @@ line_with net rest price2 weight = record { net = net; rest = rest; price2 = pri
 -- so many of a contract of a kind, with this option value
 abbrev pub held_with_value : ProductKind → ℤ → ℕ → HeldContract
 held_with_value kind net value = record {
-  contract = record {
-    id = codes "X";
-    commodity = codes "AA";
-    kind = kind;
-    month = 202503;
-    delta = pos 10000;
-    scale = 10000;
-    values = repeat 16 (pos 0 ∷ []);
-    extras = record { option_value = value };
+  contract = record (contract kind (codes "X") (codes "AA") 202503 (repeat SCENARIOS (pos 0 ∷ []))) {
+    extras = record no_extras { option_value = value };
   };
   net = net;
 }
