@@ -99,59 +99,19 @@ named_word text k e =
 
 kind_of_word : (k : Kind) → kind_named (word_of k) ≡ Some k
 kind_of_word kind.Set = refl
-kind_of_word kind.Commodity = refl
-kind_of_word kind.Contract = refl
-kind_of_word kind.Tier = refl
-kind_of_word kind.Intra = refl
-kind_of_word kind.Spot = refl
-kind_of_word kind.Inter = refl
+kind_of_word _ = refl
 
 -- and a word names its kind
 pub word_named : (r : Fields) (k : Kind) → has_kind k r ≡ true → kind_of r ≡ Some k
 word_named r k h = ap kind_named (same_name (text_at r 0) (word_of k) h) ∙ kind_of_word k
 
-abbrev rank : Kind → ℕ
-rank kind.Set = 0
-rank kind.Commodity = 1
-rank kind.Contract = 2
-rank kind.Tier = 3
-rank kind.Intra = 4
-rank kind.Spot = 5
-rank kind.Inter = 6
-
--- two kinds are the same
+-- two kinds are the same: they have one word
 abbrev pub same_kind : Kind → Kind → Bool
-same_kind j k = rank j == rank k
-
-abbrev kind_at : ℕ → Kind
-kind_at n =
-    if n == 0 then kind.Set else if n == 1 then kind.Commodity else if n == 2 then kind.Contract else if n == 3 then kind.Tier else if n == 4
-    then kind.Intra
-    else if n == 5 then kind.Spot else kind.Inter
-
-kind_at-rank : (k : Kind) → kind_at (rank k) ≡ k
-kind_at-rank kind.Set = refl
-kind_at-rank kind.Commodity = refl
-kind_at-rank kind.Contract = refl
-kind_at-rank kind.Tier = refl
-kind_at-rank kind.Intra = refl
-kind_at-rank kind.Spot = refl
-kind_at-rank kind.Inter = refl
+same_kind j k = is_word (word_of k) (word_of j)
 
 -- a record of one kind has the word of just that kind
 has_kind-same : (r : Fields) (j k : Kind) → kind_of r ≡ Some j → has_kind k r ≡ same_kind j k
-has_kind-same r j k e =
-    elim (cases_Bool (rank j == rank k)) [
-      | inl same ↦
-          let kinds : j ≡ k = sym (kind_at-rank j) ∙ ap kind_at (eqb-true (rank j) (rank k) same) ∙ kind_at-rank k in
-          subst (IsWord (text_at r 0)) kinds (named_word (text_at r 0) j e) ∙ sym same
-      | inr apart ↦
-          false_from_ne_true (has_kind k r) (λ h.
-          let named = word_named r k h in
-          let kinds : j ≡ k = cc in
-          eqb-false (rank j) (rank k) apart (ap rank kinds))
-          ∙ sym apart
-    ]
+has_kind-same r j k e = ap (is_word (word_of k)) (same_name (text_at r 0) (word_of j) (named_word (text_at r 0) j e))
 
 -- what is there
 pub some_of : {A : Type 0} (o : Option A) → is_none o ≡ false → (x : A) × (o ≡ Some x)

@@ -317,12 +317,7 @@ none_empty kind.Contract profile forms e =
           let found : exactly (contract_with (an_option_value (product_at [] 3) ∷ [])) 0 ≡ Some forms = rw valued at e in cc
       | inr plain ↦ let found : exactly (contract_with []) 0 ≡ Some forms = rw plain at e in cc
     ]
-none_empty kind.Set profile forms e = cc
-none_empty kind.Commodity profile forms e = cc
-none_empty kind.Tier profile forms e = cc
-none_empty kind.Intra profile forms e = cc
-none_empty kind.Spot profile forms e = cc
-none_empty kind.Inter profile forms e = cc
+none_empty _ profile forms e = cc
 
 -- what the code takes from fields that have the forms of a kind
 pub fields_fit : (kind : Kind) (profile : ℕ) (r : Fields) (forms : List FieldForm)
