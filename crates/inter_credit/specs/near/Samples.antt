@@ -3,7 +3,7 @@ use Rattle.std.specs.Prelude.{ℕ, [], ◌∷◌, codes, ℤ, pos, neg_ℤ}
 use Rattle.std.specs.List.{repeat}
 use Rattle.span_tables.specs.Net.{HeldContract}
 use Rattle.span_tables.specs.Profiles.{no_extras}
-use Rattle.span_tables.specs.Samples.{contract}
+use Rattle.span_tables.specs.near.Samples.{contract}
 use Rattle.span_tables.specs.declared.limits.TheConstants.{SCENARIOS}
 use Rattle.span_tables.specs.declared.records.Inter.{Inter}
 use Rattle.span_tables.specs.declared.records.ProductKind.{ProductKind}
