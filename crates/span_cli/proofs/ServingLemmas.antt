@@ -1,26 +1,22 @@
 -- What is told of an answer.
-use Rattle.std.proofs.Common.{◌≡◌, ◌⊎◌, ℕ, List, [], ◌∷◌, false, Option, Some, None, Ok, Err}
-use Rattle.std.proofs.Common.{refl, sym, subst, ap, ◌∙◌}
-use Rattle.std.proofs.Common.{inl, inr}
-use Rattle.std.proofs.lemmas.List.{append-nil}
+use Rattle.std.proofs.Common.{◌≡◌, ◌⊎◌, ◌++◌, ℕ, List, [], ◌∷◌, false, Option, Some, None, Result, Ok, Err}
+use Rattle.std.proofs.Common.{◌+◌, ◌<◌, refl, sym, subst, ap, append_assoc, inl, inr, length, get_or, map, drop, Bor}
+use Rattle.std.proofs.lemmas.List.{append-nil, at_drop_more}
 use Rattle.std.specs.Prelude.{IfSome}
 use Rattle.std.specs.Io.KnownBytes.{Appends}
 use Rattle.clap.specs.Words.{HasKind, IsAmong, Kinds, kind_of}
 use Rattle.clap.specs.declared.error.Error.{Error}
 use Rattle.clap.specs.declared.error.kind.ErrorKind.{ErrorKind}
 use Rattle.span_told.specs.Streams.{Says, Stream}
-use Rattle.statement.specs.FaultLines.{fault_line, fault_status}
+use Rattle.statement.specs.Rolls.{GivesRoll}
 use Rattle.statement.specs.declared.faults.SpanFault.{SpanFault}
 use Rattle.statement.specs.declared.faults.SpanFault.TheVariants as fault
-use Rattle.statement.specs.declared.statuses.TheConstants.{FILE_FAILED}
-use Rattle.span_cli.specs.Serving.{Answer, Asked, a_check, a_explain, a_margin, a_plan, a_roll, OfAnswer, OfFile, OfRoll}
-use Rattle.span_cli.specs.Serving.{file_line, memory, refused, unread}
+use Rattle.span_cli.specs.Serving.{Answer, Asked, Found, IsAnswer, IsAnswered, IsOfRoll, all_read, answer_of, answered, memory}
+use Rattle.span_cli.specs.Serving.{read_before, refused}
 use Rattle.span_cli.specs.Sources.{File}
 use Rattle.span_cli.specs.Telling.{AnswersWords, RefusesBy, Serves, Tells}
 use Rattle.span_cli.specs.Telling as telling
-use Rattle.span_cli.specs.near.Refusals.{Loads, Refuses, refusal_line, refusal_status}
-use Rattle.span_cli.specs.declared.sources.ReadFault.{ReadFault}
-use Rattle.span_cli.specs.declared.sources.ReadFault.TheVariants as read
+use Rattle.span_cli.specs.near.Refusals.{Loads, MayGive, read_then, refusal_answer, refusal_line, refusal_status}
 use Rattle.span_cli.specs.declared.serving.Refusal.{Refusal}
 use Rattle.span_cli.specs.declared.serving.Refusal.TheVariants as refusal
 
@@ -40,139 +36,117 @@ refused_tells status line given out old_err new_err fresh same said = record {
   cause = λ failed. cc;
 }
 
--- a refusal's line and status are those of the answer, or of want of memory
-pub refusal_serves : (answer : Answer) (r : Refusal) (given : ℕ) (out old_err new_err : Stream) → out.failed ≡ false
-    → given ≡ refusal_status r → Says old_err new_err (refusal_line r) → Refuses answer r
-    → Serves answer given out out old_err new_err
-refusal_serves answer (refusal.File name) given out old_err new_err fresh status line run =
-    inl (rw run (refused_tells _ _ given out old_err new_err fresh status line))
-refusal_serves answer (refusal.Fault e) given out old_err new_err fresh status line (inl wanted) =
-    inr (refused_tells _ _ given out old_err new_err fresh (status ∙ ap fault_status wanted)
-    (subst (λ (x : SpanFault). Says old_err new_err (fault_line x)) wanted line))
-refusal_serves answer (refusal.Fault e) given out old_err new_err fresh status line (inr run) =
-    inl (rw run (refused_tells _ _ given out old_err new_err fresh status line))
+-- what is said of a refusal is the answer, or want of memory
+pub refusal_serves : (file : List ℕ → Option File) (asked : Asked) (r : Refusal) (given : ℕ) (out old_err new_err : Stream)
+    → out.failed ≡ false → given ≡ refusal_status r → Says old_err new_err (refusal_line r)
+    → (r ≡ refusal.Fault fault.Memory) ⊎ IsAnswer file asked (refusal_answer r)
+    → Serves file asked given out out old_err new_err
+refusal_serves file asked r given out old_err new_err fresh same said (inl wanted) =
+    inr (subst (λ (x : Refusal). Tells (refusal_answer x) given out out old_err new_err) wanted
+    (refused_tells _ _ given out old_err new_err fresh same said))
+refusal_serves file asked r given out old_err new_err fresh same said (inr is) =
+    inl (record { answer = refusal_answer r; is = is; told = refused_tells _ _ given out old_err new_err fresh same said })
 
--- what follows from a fact about a file and what is read behind it
-OfFile-map : (name : List ℕ) (file : Option File) (P Q : Answer → Type 0) (next more : List ℕ → Type 0)
-    → ((a : Answer) → P a → Q a) → ((bytes : List ℕ) → next bytes → more bytes) → OfFile name file P next
-    → OfFile name file Q more
-OfFile-map name None P Q next more f g h = tt
-OfFile-map name (Some (Err e)) P Q next more f g h = f _ h
-OfFile-map name (Some (Ok bytes)) P Q next more f g h = g bytes h
+-- ---- answers
 
--- what follows from a fact about the answer
-pub OfAnswer-map : (file : List ℕ → Option File) (asked : Asked) (P Q : Answer → Type 0) → ((a : Answer) → P a → Q a)
-    → OfAnswer file asked P → OfAnswer file asked Q
-OfAnswer-map file (a_check params) P Q f h = OfFile-map params (file params) P Q _ _ f (λ p. f _) h
-OfAnswer-map file (a_plan params) P Q f h = OfFile-map params (file params) P Q _ _ f (λ p. f _) h
-OfAnswer-map file (a_margin workers params positions) P Q f h =
-    OfFile-map params (file params) P Q _ _ f (λ p. OfFile-map positions (file positions) P Q _ _ f (λ q. f _)) h
-OfAnswer-map file (a_explain account params positions) P Q f h =
-    OfFile-map params (file params) P Q _ _ f (λ p. OfFile-map positions (file positions) P Q _ _ f (λ q. f _)) h
-OfAnswer-map file (a_roll workers params next positions) P Q f h =
-    OfFile-map params (file params) P Q _ _ f (λ p. OfFile-map next (file next) P Q _ _ f (λ n.
-    OfFile-map positions (file positions) P Q _ _ f (λ q k.
-    record { given = k.given; gives = k.gives; holds = f _ k.holds }))) h
-
--- what holds of each answer, and of all bytes, holds of a file
-OfFile-each : (name : List ℕ) (file : Option File) (P : Answer → Type 0) (next : List ℕ → Type 0) → ((a : Answer) → P a)
-    → ((bytes : List ℕ) → next bytes) → OfFile name file P next
-OfFile-each name None P next f g = tt
-OfFile-each name (Some (Err e)) P next f g = f _
-OfFile-each name (Some (Ok bytes)) P next f g = g bytes
-
--- what holds of each answer holds of the answer to a roll
-OfRoll-each : (workers : ℕ) (params next positions : List ℕ) (P : Answer → Type 0) → ((a : Answer) → P a)
-    → OfRoll workers params next positions P
-OfRoll-each workers params next positions P f = record { given = Err fault.Memory; gives = tt; holds = f _ }
-
--- what holds of each answer holds of the answer to a request
-OfAsked-each : (file : List ℕ → Option File) (asked : Asked) (P : Answer → Type 0) → ((a : Answer) → P a)
-    → OfAnswer file asked P
-OfAsked-each file (a_check params) P f = OfFile-each params (file params) P _ f (λ p. f _)
-OfAsked-each file (a_plan params) P f = OfFile-each params (file params) P _ f (λ p. f _)
-OfAsked-each file (a_margin workers params positions) P f =
-    OfFile-each params (file params) P _ f (λ p. OfFile-each positions (file positions) P _ f (λ q. f _))
-OfAsked-each file (a_explain account params positions) P f =
-    OfFile-each params (file params) P _ f (λ p. OfFile-each positions (file positions) P _ f (λ q. f _))
-OfAsked-each file (a_roll workers params next positions) P f =
-    OfFile-each params (file params) P _ f (λ p. OfFile-each next (file next) P _ f (λ n.
-    OfFile-each positions (file positions) P _ f (λ q. OfRoll-each workers p n q P f)))
-
-pub OfAnswer-each : (file : List ℕ → Option File) (asked : Option Asked) (P : Answer → Type 0) → ((a : Answer) → P a)
-    → IfSome asked (λ q. OfAnswer file q P)
-OfAnswer-each file None P f = tt
-OfAnswer-each file (Some asked) P f = OfAsked-each file asked P f
+-- what a roll gives
+pub of_roll : {Y : Type 0} (view : Y → List ℕ) (workers : ℕ) (params next positions : List ℕ) (r : Result Y SpanFault)
+    → GivesRoll view workers params next positions r → MayGive view r (IsOfRoll workers params next positions)
+of_roll view workers params next positions (Ok y) h = record { given = Ok (view y); gives = h; is = refl }
+of_roll view workers params next positions (Err e) h = inr (record { given = Err e; gives = h; is = refl })
 
 -- ---- files that are read one behind another
 
--- a load that is refused found want of memory, or a file that is not read
-unread_refuses : {X : Type 0} (view : X → List ℕ) (name : List ℕ) (file : File) (r : Refusal) → Loads view name file (Err r)
-    → (r ≡ refusal.Fault fault.Memory) ⊎ ((e : ReadFault) × ((file ≡ Err e) × Refuses (unread name e) r))
-unread_refuses view name file (refusal.File n) (same, inl failed) =
-    inr (read.Failed, (failed, ap (λ (l : List ℕ). refused FILE_FAILED (file_line l)) (sym same)))
-unread_refuses view name file (refusal.File n) (same, inr long) =
-    inr (read.TooLong, (long, ap (λ (l : List ℕ). refused FILE_FAILED (file_line l)) (sym same)))
-unread_refuses view name file (refusal.Fault e) memory = inl (ap refusal.Fault memory)
+-- the next file was read
+pub next_read : (whole : Found) (files : List (List ℕ)) (name : List ℕ) (file : Option File)
+    (bytes : List ℕ) (others : Found) → IfSome file (λ f. f ≡ Ok bytes)
+    → IfSome whole (λ o. read_then files (read_before name file others) ≡ Some o)
+    → IfSome whole (λ o. read_then (files ++ bytes ∷ []) others ≡ Some o)
+next_read None files name file bytes others known h = tt
+next_read (Some o) files name None bytes others known h = cc
+next_read (Some o) files name (Some f) bytes others known h = read others (rw known at h) where
+  read : (others : Found)
+      → read_then files (read_before name (Some (Ok bytes)) others) ≡ Some o
+      → read_then (files ++ bytes ∷ []) others ≡ Some o
+  read None h = h
+  read (Some (Err refusal)) h = h
+  read (Some (Ok rest)) h = rw (append_assoc) h
 
--- the file that was read stands first
-pub file_read : (name : List ℕ) (file later : Option File) (bytes : List ℕ) (P : Answer → Type 0) (next : List ℕ → Type 0)
-    → later ≡ file → IfSome later (λ f. f ≡ Ok bytes) → next bytes → OfFile name file P next
-file_read name None later bytes P next same h holds = tt
-file_read name (Some f) later bytes P next same h holds =
-    let known : IfSome (Some f) (λ f. f ≡ Ok bytes) = subst (λ o. IfSome o (λ f. f ≡ Ok bytes)) same h in
-    rw (known) holds
+-- the next file of these names was read
+pub next_of_names : (file later : List ℕ → Option File) (whole : Found)
+    (files : List (List ℕ)) (names : List (Bor (List ℕ))) (i : ℕ) (none : Bor (List ℕ)) (bytes : List ℕ) → i < length names
+    → ((name : List ℕ) → later name ≡ file name) → IfSome (later (get_or names i none).now) (λ f. f ≡ Ok bytes)
+    → IfSome whole (λ o. read_then files (all_read file (map (λ name. name.now) (drop i names))) ≡ Some o)
+    → IfSome whole (λ o. read_then (files ++ bytes ∷ []) (all_read file (map (λ name. name.now) (drop (i + 1) names))) ≡ Some o)
+next_of_names file later whole files names i none bytes within same known h =
+    next_read whole files (get_or names i none).now _ bytes _
+    (subst (λ o. IfSome o (λ f. f ≡ Ok bytes)) (same (get_or names i none).now) known)
+    (rw (at_drop_more (λ rest. all_read file (map (λ name. name.now) rest)) names i none within) at h)
 
--- the file that was not read stands first; for want of memory what stands behind it holds as well
-pub file_unread : {X : Type 0} (view : X → List ℕ) (name : List ℕ) (file later : Option File) (r : Refusal)
-    (next : List ℕ → Type 0) → later ≡ file → IfSome later (λ f. Loads view name f (Err r))
-    → (((a : Answer) → Refuses a r) → (bytes : List ℕ) → next bytes) → OfFile name file (λ a. Refuses a r) next
-file_unread view name None later r next same h rest = tt
-file_unread view name (Some f) later r next same h rest =
-    by_reason (unread_refuses view name f r (subst (λ o. IfSome o (λ f. Loads view name f (Err r))) same h)) where
-      by_reason : (r ≡ refusal.Fault fault.Memory) ⊎ ((e : ReadFault) × ((f ≡ Err e) × Refuses (unread name e) r))
-          → OfFile name (Some f) (λ a. Refuses a r) next
-      by_reason (inl memory) =
-          let wants : (a : Answer) → Refuses a r = λ a. rw (memory) (inl refl) in
-          OfFile-each name (Some f) (λ a. Refuses a r) next wants (rest wants)
-      by_reason (inr found) = rw (found.1.0) found.1.1
+-- all were read
+pub last_read : (whole : Found) (files : List (List ℕ))
+    → IfSome whole (λ o. read_then files (Some (Ok [])) ≡ Some o) → IfSome whole (λ o. o ≡ Ok files)
+last_read None files h = tt
+last_read (Some o) files h = let same = append-nil files in cc
 
--- a file by itself that is not read
-pub alone_unread : {X : Type 0} (view : X → List ℕ) (name : List ℕ) (file : Option File) (r : Refusal)
-    (answer : List ℕ → Answer) → IfSome file (λ f. Loads view name f (Err r))
-    → OfFile name file (λ a. Refuses a r) (λ p. Refuses (answer p) r)
-alone_unread view name file r answer h = file_unread view name file file r _ refl h (λ wants p. wants _)
+-- the next file was not read
+pub unread_found : {X : Type 0} (view : X → List ℕ) (whole : Found) (files : List (List ℕ))
+    (name : List ℕ) (file : Option File) (others : Found) (r : Refusal)
+    → IfSome file (λ f. Loads view name f (Err r))
+    → IfSome whole (λ o. read_then files (read_before name file others) ≡ Some o)
+    → IfSome whole (λ o. (r ≡ refusal.Fault fault.Memory) ⊎ (o ≡ Err (refusal_answer r)))
+unread_found view None files name file others r known h = tt
+unread_found view (Some o) files name None others r known h = cc
+unread_found view (Some o) files name (Some f) others (refusal.File n) (same, inl failed) h =
+    let found = rw (failed) at h in inr (rw (same) cc)
+unread_found view (Some o) files name (Some f) others (refusal.File n) (same, inr long) h =
+    let found = rw (long) at h in inr (rw (same) cc)
+unread_found view (Some o) files name (Some f) others (refusal.Fault e) known h = inl (ap refusal.Fault known)
 
--- the first of two
-pub first_of_two_unread : {X : Type 0} (view : X → List ℕ) (first second : List ℕ) (file other : Option File) (r : Refusal)
-    (answer : List ℕ → List ℕ → Answer) → IfSome file (λ f. Loads view first f (Err r))
-    → OfFile first file (λ a. Refuses a r) (λ p. OfFile second other (λ a. Refuses a r) (λ q. Refuses (answer p q) r))
-first_of_two_unread view first second file other r answer h =
-    file_unread view first file file r _ refl h (λ wants p.
-    OfFile-each second other (λ a. Refuses a r) _ wants (λ q. wants _))
+-- the next file of these names was not read
+pub unread_of_names : {X : Type 0} (view : X → List ℕ) (file later : List ℕ → Option File)
+    (whole : Found) (files : List (List ℕ)) (names : List (Bor (List ℕ))) (i : ℕ)
+    (none : Bor (List ℕ)) (r : Refusal) → i < length names → ((name : List ℕ) → later name ≡ file name)
+    → IfSome (later (get_or names i none).now) (λ f. Loads view (get_or names i none).now f (Err r))
+    → IfSome whole (λ o. read_then files (all_read file (map (λ name. name.now) (drop i names))) ≡ Some o)
+    → IfSome whole (λ o. (r ≡ refusal.Fault fault.Memory) ⊎ (o ≡ Err (refusal_answer r)))
+unread_of_names view file later whole files names i none r within same known h =
+    let name = (get_or names i none).now in
+    unread_found view whole files name (file name) _ r
+    (subst (λ o. IfSome o (λ f. Loads view name f (Err r))) (same name) known)
+    (rw (at_drop_more (λ rest. all_read file (map (λ name. name.now) rest)) names i none within) at h)
 
--- and of three, of a roll
-pub two_unread : {X : Type 0} (view : X → List ℕ) (workers : ℕ) (second third ps : List ℕ) (file later other : Option File)
-    (r : Refusal) → later ≡ file → IfSome later (λ f. Loads view second f (Err r))
-    → OfFile second file (λ a. Refuses a r) (λ n. OfFile third other (λ a. Refuses a r) (λ q.
-    OfRoll workers ps n q (λ a. Refuses a r)))
-two_unread view workers second third ps file later other r same h =
-    file_unread view second file later r _ same h (λ wants n.
-    OfFile-each third other (λ a. Refuses a r) _ wants (λ q. OfRoll-each workers ps n q _ wants))
+-- the answer to a request whose files were not all read
+pub unread_answer : (file : List ℕ → Option File) (asked : Asked) (r : Refusal)
+    → IfSome (all_read file asked.1) (λ o. (r ≡ refusal.Fault fault.Memory) ⊎ (o ≡ Err (refusal_answer r)))
+    → (r ≡ refusal.Fault fault.Memory) ⊎ IsAnswer file asked (refusal_answer r)
+unread_answer file asked r h = of_files (all_read file asked.1) h where
+  of_files : (found : Found) → IfSome found (λ o. (r ≡ refusal.Fault fault.Memory) ⊎ (o ≡ Err (refusal_answer r)))
+      → (r ≡ refusal.Fault fault.Memory) ⊎ IsAnswered asked.0 found (refusal_answer r)
+  of_files None h = inr tt
+  of_files (Some o) (inl memory) = inl memory
+  of_files (Some o) (inr is) = rw (is) (inr refl)
 
-pub three_unread : {X : Type 0} (view : X → List ℕ) (workers : ℕ) (first second third : List ℕ)
-    (file other last : Option File) (r : Refusal) → IfSome file (λ f. Loads view first f (Err r))
-    → OfFile first file (λ a. Refuses a r) (λ p. OfFile second other (λ a. Refuses a r) (λ n.
-    OfFile third last (λ a. Refuses a r) (λ q. OfRoll workers p n q (λ a. Refuses a r))))
-three_unread view workers first second third file other last r h =
-    file_unread view first file file r _ refl h (λ wants p. OfFile-each second other (λ a. Refuses a r) _ wants (λ n.
-    OfFile-each third last (λ a. Refuses a r) _ wants (λ q. OfRoll-each workers p n q _ wants)))
+-- the answer to a request whose files were read
+pub read_answer : (file : List ℕ → Option File) (asked : Asked) (files : List (List ℕ)) (answer : Answer)
+    → IfSome (all_read file asked.1) (λ o. o ≡ Ok files) → answered asked.0 files answer → IsAnswer file asked answer
+read_answer file asked files answer h holds = of_files (all_read file asked.1) h where
+  of_files : (found : Found) → IfSome found (λ o. o ≡ Ok files)
+      → IsAnswered asked.0 found answer
+  of_files None h = tt
+  of_files (Some o) is = rw (is) holds
 
-pub last_unread : {X : Type 0} (view : X → List ℕ) (workers : ℕ) (name ps ns : List ℕ) (file later : Option File)
-    (r : Refusal) → later ≡ file → IfSome later (λ f. Loads view name f (Err r))
-    → OfFile name file (λ a. Refuses a r) (λ q. OfRoll workers ps ns q (λ a. Refuses a r))
-last_unread view workers name ps ns file later r same h =
-    file_unread view name file later r _ same h (λ wants q. OfRoll-each workers ps ns q _ wants)
+-- the answer to a request that is refused for its files
+pub fault_answer : (file : List ℕ → Option File) (asked : Asked) (files : List (List ℕ)) (e : SpanFault)
+    → IfSome (all_read file asked.1) (λ o. o ≡ Ok files) → (e ≡ fault.Memory) ⊎ answered asked.0 files (answer_of (Err e))
+    → (refusal.Fault e ≡ refusal.Fault fault.Memory) ⊎ IsAnswer file asked (refusal_answer (refusal.Fault e))
+fault_answer file asked files e h (inl memory) = inl (ap refusal.Fault memory)
+fault_answer file asked files e h (inr holds) = inr (read_answer file asked files _ h holds)
+
+-- what holds of each holds of one that there may be
+pub IfSome-each : {X : Type 0} (o : Option X) (P : X → Type 0) → ((x : X) → P x) → IfSome o P
+IfSome-each None P f = tt
+IfSome-each (Some x) P f = f x
 
 -- ---- words
 

@@ -1,5 +1,5 @@
 -- What is answered to a request.
-use Rattle.std.specs.Prelude.{ℕ, List, [], ◌++◌, codes, Option, Some, None, Result, Ok, Err, ⊤}
+use Rattle.std.specs.Prelude.{◌≡◌, ℕ, List, [], ◌∷◌, ◌++◌, codes, Option, Some, None, option_map, Result, Ok, Err, ⊤}
 use Rattle.explanation.specs.Explanation.{explanation_of}
 use Rattle.statement.specs.Counts.{counts_of}
 use Rattle.statement.specs.Listing.{listing_of}
@@ -47,45 +47,66 @@ unread name read.Failed = refused FILE_FAILED (file_line name)
 unread name read.TooLong = refused FILE_FAILED (file_line name)
 unread name read.OutOfMemory = memory
 
--- What is said where a file is read and then more is done: of a file that cannot be read, that P holds of the answer that
--- names it, whatever else is asked for; of one that can, what is said of its bytes; and nothing of a file that is unknown.
-abbrev pub OfFile : List ℕ → Option File → (Answer → Type 0) → (List ℕ → Type 0) → Type 0
-OfFile name None P next = ⊤
-OfFile name (Some (Err e)) P next = P (unread name e)
-OfFile name (Some (Ok bytes)) P next = next bytes
+-- a command, with its number of workers or with the account, where one alone is asked for
+pub data Command : Type 0 where
+  Check : Command
+  Plan : Command
+  Margin : ℕ → Command
+  Explain : Option (List ℕ) → Command
+  Roll : ℕ → Command
 
--- The answer that P holds of is one that a roll of these bytes on so many workers may have: that of its text, of the first
--- fault of the files, of memory, of a book or of a shelf that refused.
-pub record OfRoll (workers : ℕ) (params next positions : List ℕ) (P : Answer → Type 0) : Type 0 where
-  pub given : Result (List ℕ) SpanFault
-  pub gives : GivesRoll (λ text. text) workers params next positions given
-  pub holds : P (answer_of given)
-
--- what a request asks for, with the names of its files as texts; `margin` and `roll` with their number of workers first, and
--- `explain` with the account, where one alone is asked for
-pub data Asked : Type 0 where
-  a_check : List ℕ → Asked
-  a_plan : List ℕ → Asked
-  a_margin : ℕ → List ℕ → List ℕ → Asked
-  a_explain : Option (List ℕ) → List ℕ → List ℕ → Asked
-  a_roll : ℕ → List ℕ → List ℕ → List ℕ → Asked
+-- what is asked for: a command, and the names of its files in the order in which they are read
+abbrev pub Asked : Type 0
+Asked = Command × List (List ℕ)
 
 -- what a request asks for
 abbrev pub asked_by : Request → Asked
-asked_by (request.Check params) = a_check params.now
-asked_by (request.Plan params) = a_plan params.now
-asked_by (request.Margin params positions workers) = a_margin workers params.now positions.now
-asked_by (request.Explain params positions account) = a_explain account params.now positions.now
-asked_by (request.Roll params next positions workers) = a_roll workers params.now next.now positions.now
+asked_by (request.Check params) = (Check, params.now ∷ [])
+asked_by (request.Plan params) = (Plan, params.now ∷ [])
+asked_by (request.Margin params positions workers) = (Margin workers, params.now ∷ positions.now ∷ [])
+asked_by (request.Explain params positions account) = (Explain account, params.now ∷ positions.now ∷ [])
+asked_by (request.Roll params next positions workers) = (Roll workers, params.now ∷ next.now ∷ positions.now ∷ [])
 
--- what holds of the answer to a request, whose files are read in their order
-abbrev pub OfAnswer : (List ℕ → Option File) → Asked → (Answer → Type 0) → Type 0
-OfAnswer file (a_check params) P = OfFile params (file params) P (λ p. P (answer_of (counts_of p)))
-OfAnswer file (a_plan params) P = OfFile params (file params) P (λ p. P (answer_of (listing_of p)))
-OfAnswer file (a_margin workers params positions) P =
-    OfFile params (file params) P (λ p. OfFile positions (file positions) P (λ q. P (answer_of (margin_of workers p q))))
-OfAnswer file (a_explain account params positions) P =
-    OfFile params (file params) P (λ p. OfFile positions (file positions) P (λ q. P (answer_of (explanation_of p q account))))
-OfAnswer file (a_roll workers params next positions) P =
-    OfFile params (file params) P (λ p. OfFile next (file next) P (λ n. OfFile positions (file positions) P (λ q.
-    OfRoll workers p n q P)))
+-- The answer is one that a roll of these bytes on so many workers may have: that of its text, of the first fault of the
+-- files, of memory, of a book or of a shelf that refused.
+pub record IsOfRoll (workers : ℕ) (params next positions : List ℕ) (answer : Answer) : Type 0 where
+  pub given : Result (List ℕ) SpanFault
+  pub gives : GivesRoll (λ text. text) workers params next positions given
+  pub is : answer ≡ answer_of given
+
+-- the answer is the command's for these bytes of its files; with any other number of files there is none
+abbrev pub answered : Command → List (List ℕ) → Answer → Type 0
+answered Check (params ∷ []) answer = answer ≡ answer_of (counts_of params)
+answered Plan (params ∷ []) answer = answer ≡ answer_of (listing_of params)
+answered (Margin workers) (params ∷ positions ∷ []) answer = answer ≡ answer_of (margin_of workers params positions)
+answered (Explain account) (params ∷ positions ∷ []) answer = answer ≡ answer_of (explanation_of params positions account)
+answered (Roll workers) (params ∷ next ∷ positions ∷ []) answer = IsOfRoll workers params next positions answer
+answered command files answer = ⊥
+
+-- What becomes of files that are read: the bytes of all; or the answer that names the first that cannot be read; or nothing,
+-- where one that is come to is unknown.
+abbrev pub Found : Type 0
+Found = Option (Result (List (List ℕ)) Answer)
+
+-- a file that is read before others
+abbrev pub read_before : List ℕ → Option File → Found → Found
+read_before name None others = None
+read_before name (Some (Err e)) others = Some (Err (unread name e))
+read_before name (Some (Ok bytes)) None = None
+read_before name (Some (Ok bytes)) (Some (Err refusal)) = Some (Err refusal)
+read_before name (Some (Ok bytes)) (Some (Ok files)) = Some (Ok (bytes ∷ files))
+
+-- what becomes of files that are read in their order, as far as the first that cannot be read
+abbrev pub all_read : (List ℕ → Option File) → List (List ℕ) → Found
+all_read file [] = Some (Ok [])
+all_read file (name ∷ names) = read_before name (file name) (all_read file names)
+
+-- the answer is the command's where this became of its files; where that is unknown it may be any
+abbrev pub IsAnswered : Command → Found → Answer → Type 0
+IsAnswered command None answer = ⊤
+IsAnswered command (Some (Err refusal)) answer = answer ≡ refusal
+IsAnswered command (Some (Ok files)) answer = answered command files answer
+
+-- the answer is that to what is asked
+abbrev pub IsAnswer : (List ℕ → Option File) → Asked → Answer → Type 0
+IsAnswer file asked answer = IsAnswered asked.0 (all_read file asked.1) answer

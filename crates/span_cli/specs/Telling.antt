@@ -1,11 +1,12 @@
 -- What is told of an answer, over two writers that remember a failed write.
-use Rattle.std.specs.Prelude.{◌≡◌, ◌⊎◌, ℕ, Bool, true, List, [], ◌∷◌, codes, if◌then◌else◌}
+use Rattle.std.specs.Prelude.{◌≡◌, ◌⊎◌, ℕ, Bool, true, List, [], ◌∷◌, Option, codes, if◌then◌else◌}
 use Rattle.clap.specs.Words.{Kinds}
 use Rattle.clap.specs.declared.error.kind.ErrorKind.{ErrorKind}
 use Rattle.clap.specs.declared.error.kind.ErrorKind.TheVariants as kind
 use Rattle.span_told.specs.Streams.{Says, Stream}
 use Rattle.statement.specs.declared.statuses.TheConstants.{DONE, FILE_FAILED, USAGE}
-use Rattle.span_cli.specs.Serving.{Answer, done, file_line, memory, refused}
+use Rattle.span_cli.specs.Serving.{Answer, Asked, IsAnswer, done, file_line, memory, refused}
+use Rattle.span_cli.specs.Sources.{File}
 
 -- the output could not be written
 abbrev pub unwritten : Answer
@@ -26,10 +27,17 @@ pub record Tells (answer : Answer) (given : ℕ) (old_out new_out old_err new_er
   -- the output fails only for an answer that is done
   pub cause : new_out.failed ≡ true → answer.status ≡ DONE
 
--- the answer or want of memory was told
-abbrev pub Serves : Answer → ℕ → Stream → Stream → Stream → Stream → Type 0
-Serves answer given old_out new_out old_err new_err =
-    Tells answer given old_out new_out old_err new_err ⊎ Tells memory given old_out new_out old_err new_err
+-- an answer to what is asked was told
+pub record TellsAnswer (file : List ℕ → Option File) (asked : Asked) (given : ℕ) (old_out new_out old_err new_err : Stream)
+    : Type 0 where
+  pub answer : Answer
+  pub is : IsAnswer file asked answer
+  pub told : Tells answer given old_out new_out old_err new_err
+
+-- the answer to what is asked was told, or want of memory
+abbrev pub Serves : (List ℕ → Option File) → Asked → ℕ → Stream → Stream → Stream → Stream → Type 0
+Serves file asked given old_out new_out old_err new_err =
+    TellsAnswer file asked given old_out new_out old_err new_err ⊎ Tells memory given old_out new_out old_err new_err
 
 -- A mistake of usage was told: nothing went to the output. The text on the error stream is the reader's of the words.
 pub record IsMistake (given : ℕ) (old_out new_out : Stream) : Type 0 where

@@ -1,6 +1,6 @@
 -- What the words of a command line ask for.
 use Rattle.std.specs.Prelude.{ℕ, Bool, true, false, not, List, [], ◌∷◌, ◌++◌, ◌&&◌, Option, Some, None, codes, bytes_eq}
-use Rattle.std.specs.Prelude.{if◌then◌else◌, is_some, option_map, option_and_then}
+use Rattle.std.specs.Prelude.{if◌then◌else◌, is_some, map, option_map, option_and_then}
 use Rattle.std.specs.Option.{option_map_or}
 use Rattle.std.specs.Str.Parse.{digits_value, without_leading_plus}
 use Rattle.clap.specs.Kinds.{or_else}
@@ -12,7 +12,7 @@ use Rattle.clap.specs.declared.builder.value_parser.ValueParser.TheVariants as v
 use Rattle.clap.specs.declared.error.kind.ErrorKind.TheVariants as kind
 use Rattle.span_tables.specs.Names.{name_of}
 use Rattle.worker_pool.specs.declared.batch.TheConstants.{MAX_WORKERS}
-use Rattle.span_cli.specs.Serving.{Asked, a_check, a_explain, a_margin, a_plan, a_roll}
+use Rattle.span_cli.specs.Serving.{Asked, Command, Check, Explain, Margin, Plan, Roll}
 
 -- The words with each `--account` and the word behind it, whatever that is, in one word; a `--`, and all behind it, stand as
 -- they are.
@@ -29,9 +29,18 @@ abbrev pub joined_words : List Text → List Text
 joined_words [] = []
 joined_words (program ∷ words) = program ∷ joined words
 
--- a file's name, which has to be given
-abbrev pub file_rule : Text → Rule
-file_rule id = record (new_rule id) { required = true }
+-- what the name of a file is called, and whether it has to be given
+pub record FileWord : Type 0 where
+  pub id : Text
+  pub required : Bool
+
+-- a file's name
+abbrev pub file_rule : FileWord → Rule
+file_rule file = record (new_rule file.id) { required = file.required }
+
+-- a name that has to be given
+abbrev pub needed : Text → FileWord
+needed id = record { id = id; required = true }
 
 -- the number of workers, from 1 to the most that there can be, and by itself 1
 abbrev pub workers_rule : Rule
@@ -46,82 +55,14 @@ workers_rule = record (new_rule (codes "workers")) {
 abbrev pub account_rule : Rule
 account_rule = record (new_rule (codes "account")) { long = Some (codes "account"); value_names = 1 }
 
--- the command `check PARAMS`
-abbrev pub check_app : App
-check_app = with_rule (new_app (codes "check")) (file_rule (codes "PARAMS"))
-
--- the command `plan PARAMS`
-abbrev pub plan_app : App
-plan_app = with_rule (new_app (codes "plan")) (file_rule (codes "PARAMS"))
-
--- the command `margin PARAMS POSITIONS`, without its option
-abbrev pub files_app : App
-files_app =
-    with_rule (with_rule (new_app (codes "margin")) (file_rule (codes "PARAMS"))) (file_rule (codes "POSITIONS"))
-
--- the command `margin PARAMS POSITIONS [--workers N]`
-abbrev pub margin_app : App
-margin_app = with_rule files_app workers_rule
-
--- the command `explain PARAMS POSITIONS`, without its option
-abbrev pub explained_app : App
-explained_app =
-    with_rule (with_rule (new_app (codes "explain")) (file_rule (codes "PARAMS"))) (file_rule (codes "POSITIONS"))
-
--- the command `explain PARAMS POSITIONS [--account NAME]`
-abbrev pub explain_app : App
-explain_app = with_rule explained_app account_rule
-
--- the command `roll PARAMS NEXT POSITIONS`, without its option
-abbrev pub sets_app : App
-sets_app =
-    with_rule (with_rule (with_rule (new_app (codes "roll")) (file_rule (codes "PARAMS"))) (file_rule (codes "NEXT")))
-    (file_rule (codes "POSITIONS"))
-
--- the command `roll PARAMS NEXT POSITIONS [--workers N]`
-abbrev pub roll_app : App
-roll_app = with_rule sets_app workers_rule
-
--- the program, which has a version, without its commands, of which one has to be given
-abbrev pub bare_app : App
-bare_app =
-    let a = new_app (codes "span") in record a { top = record a.top { subcommand_required = true; has_version = true } }
-
--- the program with the commands that take a parameter file alone
-abbrev pub params_app : App
-params_app = with_subcommand (with_subcommand bare_app check_app.top) plan_app.top
-
--- the program with the commands that take one parameter file
-abbrev pub one_set_app : App
-one_set_app = with_subcommand (with_subcommand params_app margin_app.top) explain_app.top
-
--- the program
-abbrev pub span_app : App
-span_app = with_subcommand one_set_app roll_app.top
-
--- the file behind `check`
-abbrev pub check_in : List Row → Option Asked
-check_in rows = option_map (λ params. a_check params) (first_of (codes "PARAMS") rows)
-
--- the file behind `plan`
-abbrev pub plan_in : List Row → Option Asked
-plan_in rows = option_map (λ params. a_plan params) (first_of (codes "PARAMS") rows)
-
 -- the number that a text spells, where a `usize` holds it; a plus may stand first
 abbrev pub number_in : Text → Option ℕ
 number_in text =
     if is_unsigned_in 0 usize_max text then Some (digits_value 10 (without_leading_plus text)) else None
 
--- the number that stands for an argument
-abbrev pub number_of : Text → List Row → Option ℕ
-number_of id rows = option_and_then number_in (first_of id rows)
-
--- the files behind `margin`, and its number of workers
-abbrev pub margin_in : List Row → Option Asked
-margin_in rows =
-    option_and_then (λ params. option_and_then (λ positions.
-    option_map (λ workers. a_margin workers params positions) (number_of (codes "workers") rows))
-    (first_of (codes "POSITIONS") rows)) (first_of (codes "PARAMS") rows)
+-- the number of workers that is asked for
+abbrev pub workers_in : List Row → Option ℕ
+workers_in rows = option_and_then number_in (first_of (codes "workers") rows)
 
 -- the account of a text, if one is given; and nothing where the text is no name
 abbrev pub account_of : Option Text → Option (Option Text)
@@ -132,33 +73,91 @@ account_of (Some text) = option_map (λ name. Some name) (name_of text)
 abbrev pub account_in : List Row → Option (Option Text)
 account_in rows = account_of (first_of (codes "account") rows)
 
--- the files behind `explain`, and its account
-abbrev pub explain_in : List Row → Option Asked
-explain_in rows =
-    option_and_then (λ params. option_and_then (λ positions.
-    option_map (λ account. a_explain account params positions) (account_in rows))
-    (first_of (codes "POSITIONS") rows)) (first_of (codes "PARAMS") rows)
+-- a command's name, the names of its files in their order, its options, and which command their values ask for
+pub record CommandWords : Type 0 where
+  pub name : Text
+  pub files : List FileWord
+  pub options : List Rule
+  pub asks : List Row → Option Command
 
--- the files behind `roll`, and its number of workers
-abbrev pub roll_in : List Row → Option Asked
-roll_in rows =
-    option_and_then (λ params. option_and_then (λ next. option_and_then (λ positions.
-    option_map (λ workers. a_roll workers params next positions) (number_of (codes "workers") rows))
-    (first_of (codes "POSITIONS") rows)) (first_of (codes "NEXT") rows)) (first_of (codes "PARAMS") rows)
+-- the names of files
+abbrev pub params_word : FileWord
+params_word = needed (codes "PARAMS")
 
--- what a command of this name asks for
-abbrev pub asked_under : Text → List Row → Option Asked
-asked_under name rows =
-    if bytes_eq name (codes "check") then check_in rows
-    else if bytes_eq name (codes "plan") then plan_in rows
-    else if bytes_eq name (codes "margin") then margin_in rows
-    else if bytes_eq name (codes "explain") then explain_in rows
-    else if bytes_eq name (codes "roll") then roll_in rows
-    else None
+abbrev pub next_word : FileWord
+next_word = needed (codes "NEXT")
+
+abbrev pub positions_word : FileWord
+positions_word = needed (codes "POSITIONS")
+
+-- a command that takes workers, and one that takes an account
+abbrev pub with_workers : (ℕ → Command) → List Row → Option Command
+with_workers command rows = option_map command (workers_in rows)
+
+abbrev pub with_account : (Option Text → Command) → List Row → Option Command
+with_account command rows = option_map command (account_in rows)
+
+-- the words of a command
+abbrev pub words_of : Text → List FileWord → List Rule → (List Row → Option Command) → CommandWords
+words_of name files options asks = record { name = name; files = files; options = options; asks = asks }
+
+-- all commands, a line each
+abbrev pub commands : List CommandWords
+commands =
+    words_of (codes "check") (params_word ∷ []) [] (λ rows. Some Check)
+    ∷ words_of (codes "plan") (params_word ∷ []) [] (λ rows. Some Plan)
+    ∷ words_of (codes "margin") (params_word ∷ positions_word ∷ []) (workers_rule ∷ []) (with_workers Margin)
+    ∷ words_of (codes "explain") (params_word ∷ positions_word ∷ []) (account_rule ∷ []) (with_account Explain)
+    ∷ words_of (codes "roll") (params_word ∷ next_word ∷ positions_word ∷ []) (workers_rule ∷ []) (with_workers Roll)
+    ∷ []
+
+-- a command with these arguments behind its own
+abbrev pub with_rules : App → List Rule → App
+with_rules app [] = app
+with_rules app (rule ∷ rules) = with_rules (with_rule app rule) rules
+
+-- a command with these files and options
+abbrev pub command_app : CommandWords → App
+command_app command = with_rules (with_rules (new_app command.name) (map file_rule command.files)) command.options
+
+-- a program with these commands behind its own
+abbrev pub with_commands : App → List App → App
+with_commands app [] = app
+with_commands app (command ∷ others) = with_commands (with_subcommand app command.top) others
+
+-- the program, which has a version, without its commands, of which one has to be given
+abbrev pub bare_app : App
+bare_app =
+    let a = new_app (codes "span") in record a { top = record a.top { subcommand_required = true; has_version = true } }
+
+-- the program
+abbrev pub span_app : App
+span_app = with_commands bare_app (map command_app commands)
+
+-- the names of files that are given, in their order; nothing where one that has to be given is not
+abbrev pub given_before : Option Text → Bool → Option (List Text) → Option (List Text)
+given_before (Some name) required rest = option_map (λ names. name ∷ names) rest
+given_before None true rest = None
+given_before None false rest = rest
+
+abbrev pub files_in : List FileWord → List Row → Option (List Text)
+files_in [] rows = Some []
+files_in (file ∷ files) rows = given_before (first_of file.id rows) file.required (files_in files rows)
+
+-- what a command asks for
+abbrev pub asked_by_words : CommandWords → List Row → Option Asked
+asked_by_words command rows =
+    option_and_then (λ files. option_map (λ asked. (asked, files)) (command.asks rows)) (files_in command.files rows)
+
+-- what the first of these commands that has this name asks for
+abbrev pub asked_among : List CommandWords → Text → List Row → Option Asked
+asked_among [] name rows = None
+asked_among (command ∷ others) name rows =
+    if bytes_eq name command.name then asked_by_words command rows else asked_among others name rows
 
 -- what the words ask for, if anything
 abbrev pub asked_in : List Text → Option Asked
-asked_in words = option_and_then (λ p. asked_under p.0 p.1) (subcommand_of span_app words)
+asked_in words = option_and_then (λ p. asked_among commands p.0 p.1) (subcommand_of span_app words)
 
 -- whether the words have the form of a command line of the program
 unfoldable pub has_form : List Text → Bool

@@ -4,3 +4,4 @@ pub mod OnLiterals
 pub mod Places
 pub mod Reading
 pub mod Refusals
+pub mod Rows

@@ -1,16 +1,13 @@
 //! Requests, and the bytes that answer them.
-ghost use Rattle.explanation.specs.Explanation.{explanation_of};
-ghost use Rattle.span_cli.specs.Serving.{OfAnswer, OfRoll, a_check, a_explain, a_margin, a_plan, a_roll, answer_of, asked_by, done};
+ghost use Rattle.span_cli.specs.Serving.{IsAnswer, IsOfRoll, all_read, answered, asked_by, done};
 ghost use Rattle.span_cli.specs.Telling.{Serves, Tells};
-ghost use Rattle.span_cli.specs.near.Refusals.{Loads, Runs, refusal_line, refusal_status};
+ghost use Rattle.span_cli.specs.near.Refusals.{Loads, LoadsAll, MayGive, Runs, refusal_line, refusal_status};
 ghost use Rattle.span_cli.specs.declared.serving.Refusal.TheVariants as refusal;
 ghost use Rattle.span_told.specs.Streams.{Says};
-ghost use Rattle.statement.specs.Counts.{counts_of};
-ghost use Rattle.statement.specs.Listing.{listing_of};
-ghost use Rattle.statement.specs.Statement.{margin_of};
-ghost use Rattle.std.specs.Prelude.{◌≡◌, IfSome, List, false, ℕ};
+ghost use Rattle.std.specs.Prelude.{◌≡◌, ◌≤◌, IfOk, IfSome, List, false, length, map, ℕ};
 
 use crate::sources::{ReadFault, Sources};
+use arrayvec::ArrayVec;
 use explanation::explaining::explain;
 use result_book::books::ResultBook;
 use span_tables::name::Name;
@@ -61,6 +58,41 @@ pub enum Request<'a> {
     },
 }
 
+// These names, of which there are at most three.
+fn listed<'a>(names: &[&'a str]) -> ArrayVec<&'a str, 3>
+    requires { length names.now ≤ 3 }
+    ensures { result.items ≡ names.now }
+{
+    ArrayVec::try_from(names).unwrap()
+}
+
+impl<'a> Request<'a> {
+    // The names of its files, in the order in which they are read.
+    fn files(&self) -> ArrayVec<&'a str, 3>
+        ensures { map (λ name. name.now) result.items ≡ (asked_by self.now).1 }
+    {
+        match self {
+            Request::Check { params } | Request::Plan { params } => listed(&[params]),
+            Request::Margin {
+                params,
+                positions,
+                ..
+            }
+            | Request::Explain {
+                params,
+                positions,
+                ..
+            } => listed(&[params, positions]),
+            Request::Roll {
+                params,
+                next,
+                positions,
+                ..
+            } => listed(&[params, next, positions]),
+        }
+    }
+}
+
 // Why a request is refused.
 #[derive(Debug, Drop)]
 enum Refusal<'a> {
@@ -95,113 +127,26 @@ fn load<'a, S: Sources>(
     }
 }
 
-// The counts of the bytes of a file.
-fn counts<'a>(alloc: Global, params: Vec<u8>) -> Result<Vec<u8>, Refusal<'a>>
-    ensures { Runs (λ text. text.items) (answer_of (counts_of params.items)) result }
-{
-    let text = check_plain(alloc, params.as_slice())?;
-    Ok(text)
-}
-
-// The counts of a file.
-fn check<'a, S: Sources>(
+// The files of these names, read in their order as far as the first that cannot be read.
+fn load_all<'a, S: Sources>(
     alloc: Global,
     sources: &mut S,
-    params: &'a str,
-) -> Result<Vec<u8>, Refusal<'a>>
-    ensures { OfAnswer (S.file sources.old) (a_check params.entry.now) (λ answer.
-        Runs (λ text. text.items) answer result) }
+    names: &[&'a str],
+) -> Result<ArrayVec<Vec<u8>, 3, Global>, Refusal<'a>>
+    requires { length names.now ≤ 3 }
+    ensures count { IfOk result (λ files. length files.items ≡ length names.now) }
+    ensures known { IfSome (all_read (S.file sources.old) (map (λ name. name.now) names.now)) (λ found.
+        LoadsAll (λ files. map (λ file. file.items) files.items) found result) }
 {
-    let bytes = load(alloc, sources, params)?;
-    counts(alloc, bytes)
+    let mut files = ArrayVec::new_in(alloc);
+    for name in names {
+        files.push(load(alloc, sources, name)?);
+    }
+    Ok(files)
 }
 
-// The plan of the bytes of a file.
-fn listing<'a>(alloc: Global, params: Vec<u8>) -> Result<Vec<u8>, Refusal<'a>>
-    ensures { Runs (λ text. text.items) (answer_of (listing_of params.items)) result }
-{
-    let text = plan_plain(alloc, params.as_slice())?;
-    Ok(text)
-}
-
-// The plan of a file.
-fn plan<'a, S: Sources>(
-    alloc: Global,
-    sources: &mut S,
-    params: &'a str,
-) -> Result<Vec<u8>, Refusal<'a>>
-    ensures { OfAnswer (S.file sources.old) (a_plan params.entry.now) (λ answer.
-        Runs (λ text. text.items) answer result) }
-{
-    let bytes = load(alloc, sources, params)?;
-    listing(alloc, bytes)
-}
-
-// The statement of the bytes of two files, on so many workers.
-fn statement<'a, R: Threads + Wait + Clock + Sync, G: Gate>(
-    rt: &R,
-    alloc: Global,
-    params: &[u8],
-    positions: &[u8],
-    workers: usize,
-    gate: &G,
-) -> Result<Vec<u8>, Refusal<'a>>
-    ensures { Runs (λ text. text.items) (answer_of (margin_of workers params.now positions.now)) result }
-{
-    let text = margin(rt, alloc, params, positions, workers, gate)?;
-    Ok(text)
-}
-
-// The statement of two files, which are read in their order, on so many workers.
-fn margin_files<'a, S: Sources, R: Threads + Wait + Clock + Sync, G: Gate>(
-    rt: &R,
-    alloc: Global,
-    sources: &mut S,
-    params: &'a str,
-    positions: &'a str,
-    workers: usize,
-    gate: &G,
-) -> Result<Vec<u8>, Refusal<'a>>
-    ensures { OfAnswer (S.file sources.old) (a_margin workers params.entry.now positions.entry.now) (λ answer.
-        Runs (λ text. text.items) answer result) }
-{
-    let param_bytes = load(alloc, sources, params)?;
-    let position_bytes = load(alloc, sources, positions)?;
-    statement(rt, alloc, &param_bytes, &position_bytes, workers, gate)
-}
-
-// The explanation of the bytes of two files, of all accounts or of one alone.
-fn explanation<'a>(
-    alloc: Global,
-    params: &[u8],
-    positions: &[u8],
-    account: &Option<Name>,
-) -> Result<Vec<u8>, Refusal<'a>>
-    ensures { Runs (λ text. text.items) (answer_of (explanation_of params.now positions.now account.now)) result }
-{
-    let text = explain(alloc, params, positions, account.as_ref())?;
-    Ok(text)
-}
-
-// The explanation of two files, which are read in their order.
-fn explain_files<'a, S: Sources>(
-    alloc: Global,
-    sources: &mut S,
-    params: &'a str,
-    positions: &'a str,
-    account: Option<Name>,
-) -> Result<Vec<u8>, Refusal<'a>>
-    ensures { OfAnswer (S.file sources.old) (a_explain account params.entry.now positions.entry.now) (λ answer.
-        Runs (λ text. text.items) answer result) }
-{
-    let set_bytes = load(alloc, sources, params)?;
-    let held_bytes = load(alloc, sources, positions)?;
-    explanation(alloc, &set_bytes, &held_bytes, &account)
-}
-
-// The statements of the bytes of a position file under those of two parameter files. The book of the two batches is a new
-// one, which nobody reads.
-fn statements<'a, R: Threads + Wait + Clock + Sync, G: Gate>(
+// What a roll of these bytes gives. The book of its two batches is a new one, which nobody reads.
+fn rolled<R: Threads + Wait + Clock + Sync, G: Gate>(
     rt: &R,
     alloc: Global,
     params: &[u8],
@@ -209,73 +154,54 @@ fn statements<'a, R: Threads + Wait + Clock + Sync, G: Gate>(
     positions: &[u8],
     workers: usize,
     gate: &G,
-) -> Result<Vec<u8>, Refusal<'a>>
-    ensures { OfRoll workers params.now next.now positions.now (λ answer. Runs (λ text. text.items) answer result) }
+) -> Result<Vec<u8>, SpanFault>
+    ensures { MayGive (λ text. text.items) result (IsOfRoll workers params.now next.now positions.now) }
 {
     let book = Mutex::new(ResultBook::new(alloc));
-    let text = roll(rt, alloc, params, next, positions, workers, gate, &book)?;
-    Ok(text)
+    roll(rt, alloc, params, next, positions, workers, gate, &book)
 }
 
-// The statements of three files, which are read in their order, on so many workers.
-fn roll_files<'a, S: Sources, R: Threads + Wait + Clock + Sync, G: Gate>(
+// What a request gives of the bytes of its files.
+fn answer<R: Threads + Wait + Clock + Sync, G: Gate>(
     rt: &R,
     alloc: Global,
-    sources: &mut S,
-    params: &'a str,
-    next: &'a str,
-    positions: &'a str,
-    workers: usize,
+    request: &Request<'_>,
+    files: &[Vec<u8>],
     gate: &G,
-) -> Result<Vec<u8>, Refusal<'a>>
-    ensures { OfAnswer (S.file sources.old) (a_roll workers params.entry.now next.entry.now positions.entry.now) (λ answer.
-        Runs (λ text. text.items) answer result) }
+) -> Result<Vec<u8>, SpanFault>
+    requires { length files.now ≡ length (asked_by request.now).1 }
+    ensures { MayGive (λ text. text.items) result
+        (answered (asked_by request.now).0 (map (λ file. file.items) files.now)) }
 {
-    let params_read = load(alloc, sources, params)?;
-    let next_read = load(alloc, sources, next)?;
-    let positions_read = load(alloc, sources, positions)?;
-    statements(
-        rt,
-        alloc,
-        &params_read,
-        &next_read,
-        &positions_read,
-        workers,
-        gate,
-    )
+    match (request, files) {
+        (Request::Check { .. }, [params]) => check_plain(alloc, params),
+        (Request::Plan { .. }, [params]) => plan_plain(alloc, params),
+        (Request::Margin { workers, .. }, [params, positions]) => {
+            margin(rt, alloc, params, positions, *workers, gate)
+        }
+        (Request::Explain { account, .. }, [params, positions]) => {
+            explain(alloc, params, positions, account.as_ref())
+        }
+        (Request::Roll { workers, .. }, [params, next, positions]) => {
+            rolled(rt, alloc, params, next, positions, *workers, gate)
+        }
+        _ => unreachable!(),
+    }
 }
 
 // What a request gives.
 fn run<'a, S: Sources, R: Threads + Wait + Clock + Sync, G: Gate>(
     rt: &R,
     alloc: Global,
-    request: Request<'a>,
+    request: &Request<'a>,
     sources: &mut S,
     gate: &G,
 ) -> Result<Vec<u8>, Refusal<'a>>
-    ensures { OfAnswer (S.file sources.old) (asked_by request.entry) (λ answer.
-        Runs (λ text. text.items) answer result) }
+    ensures { Runs (λ text. text.items) result (IsAnswer (S.file sources.old) (asked_by request.now)) }
 {
-    match request {
-        Request::Check { params } => check(alloc, sources, params),
-        Request::Plan { params } => plan(alloc, sources, params),
-        Request::Margin {
-            params,
-            positions,
-            workers,
-        } => margin_files(rt, alloc, sources, params, positions, workers, gate),
-        Request::Explain {
-            params,
-            positions,
-            account,
-        } => explain_files(alloc, sources, params, positions, account),
-        Request::Roll {
-            params,
-            next,
-            positions,
-            workers,
-        } => roll_files(rt, alloc, sources, params, next, positions, workers, gate),
-    }
+    let files = load_all(alloc, sources, &request.files())?;
+    let text = answer(rt, alloc, request, &files, gate)?;
+    Ok(text)
 }
 
 // The status of a refusal.
@@ -342,10 +268,9 @@ pub fn serve<S: Sources, W: Write, E: Write, R: Threads + Wait + Clock + Sync, G
     err: &mut MarkedWriter<E>,
 ) -> u8
     requires { out.old.failed ≡ false }
-    ensures { OfAnswer (S.file sources.old) (asked_by request.entry) (λ answer.
-        Serves answer result out.old out.new err.old err.new) }
+    ensures { Serves (S.file sources.old) (asked_by request.entry) result out.old out.new err.old err.new }
 {
-    match run(rt, alloc, request, sources, gate) {
+    match run(rt, alloc, &request, sources, gate) {
         Ok(text) => give(text, out, err),
         Err(refusal) => refuse(refusal, err),
     }

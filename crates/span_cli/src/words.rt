@@ -1,13 +1,13 @@
 //! The words of a command line.
-ghost use Rattle.clap.specs.Words.{FailsBy, app_of, first_of, found_of, kind_of, rows_of, rule_of, subcommand_of};
-ghost use Rattle.clap.specs.Words.{subcommand_rows_of, with_rule, with_subcommand};
+ghost use Rattle.clap.specs.Words.{FailsBy, app_of, first_of, found_of, kind_of, new_app, rows_of, rule_of};
+ghost use Rattle.clap.specs.Words.{subcommand_of, subcommand_rows_of, with_rule, with_subcommand};
 ghost use Rattle.clap.specs.declared.builder.command.Command.TheViews.{out-Command as fields_of};
-ghost use Rattle.span_cli.specs.Serving.{OfAnswer, asked_by, memory};
+ghost use Rattle.span_cli.specs.Serving.{asked_by, memory};
 ghost use Rattle.span_cli.specs.Telling.{AnswersWords, IsMistake, IsShown, Refuses, Serves, Tells, no_text_line};
-ghost use Rattle.span_cli.specs.Words.{account_in, account_rule, asked_in, asked_under, bare_app, check_app, check_in, explain_app};
-ghost use Rattle.span_cli.specs.Words.{explain_in, explained_app, file_rule, files_app, form_kinds, has_form, is_taken, joined_words};
-ghost use Rattle.span_cli.specs.Words.{kinds_of, margin_app, margin_in, misnames_in, number_in, number_of, one_set_app, params_app};
-ghost use Rattle.span_cli.specs.Words.{plan_app, plan_in, roll_app, roll_in, sets_app, span_app, workers_rule};
+ghost use Rattle.span_cli.specs.Words.{account_in, account_rule, asked_among, asked_in, bare_app, commands, form_kinds};
+ghost use Rattle.span_cli.specs.Words.{has_form, is_taken, joined_words, kinds_of, misnames_in, number_in, span_app};
+ghost use Rattle.span_cli.specs.Words.{with_commands, with_rules, workers_in, workers_rule};
+ghost use Rattle.span_cli.specs.near.Rows.{file_rule_of, option_rule, row_app};
 ghost use Rattle.span_told.specs.Streams.{Says};
 ghost use Rattle.statement.specs.FaultLines.{memory_line};
 ghost use Rattle.std.specs.IoError.{error_kind};
@@ -36,29 +36,91 @@ use worker_pool::gates::Gate;
 /// The program's version, and the profiles of the method that it follows (docs/METHOD.md).
 const VERSION: &str = "1.1.0 (profile 1 and profile 2)";
 
-const PARAMS_HELP: &str =
-    "Parameter file (CSV): a set with its commodities, contracts, tiers and spreads";
-
-const POSITIONS_HELP: &str =
-    "Position file (CSV): account, contract, quantity in contracts (minus is short)";
-
 const SPAN_MORE: &str = "\
 docs/FORMATS.md describes the files, what is printed, faults and statuses.
 docs/METHOD.md describes the method and the units.";
 
-const CHECK_MORE: &str = "\
+const ACCOUNT_HELP: &str = "The account that is explained; without it, all are";
+
+const BAD_ACCOUNT: &str =
+    "invalid value for '--account <NAME>': a name is 1 to 16 bytes of A to Z, 0 to 9, _ and -";
+
+const WORKERS_HELP: &str =
+    "Workers that share the accounts, 1 to 16; as many as processors save time";
+
+// What the name of a file is called, with its help, and whether it has to be given.
+#[derive(Clone, Copy)]
+struct FileArg {
+    id: &'static str,
+    help: &'static str,
+    required: bool,
+}
+
+// An option, which need not be given.
+#[derive(Clone, Copy)]
+enum OptionArg {
+    // How many workers share the accounts.
+    Workers,
+    // The one account that is explained.
+    Account,
+}
+
+// A command: what is said of it in help, its files in their order, and its option.
+#[derive(Clone, Copy)]
+struct CommandRow {
+    name: &'static str,
+    about: &'static str,
+    more: &'static str,
+    files: &'static [FileArg],
+    option: Option<OptionArg>,
+}
+
+const PARAMS: FileArg = FileArg {
+    id: "PARAMS",
+    help: "Parameter file (CSV): a set with its commodities, contracts, tiers and spreads",
+    required: true,
+};
+
+const NEXT: FileArg = FileArg {
+    id: "NEXT",
+    help: "Parameter file (CSV) of the next set",
+    required: true,
+};
+
+const POSITIONS: FileArg = FileArg {
+    id: "POSITIONS",
+    help: "Position file (CSV): account, contract, quantity in contracts (minus is short)",
+    required: true,
+};
+
+const CHECK: CommandRow = CommandRow {
+    name: "check",
+    about: "Checks a parameter file and counts its records",
+    more: "\
 Prints one line, with the id of the set and how many records of each kind it has:
   OK,set,commodities,contracts,tiers,intra,spots,inter
 A file that is no valid set is refused with its first fault and the number of the record.
-docs/FORMATS.md describes the records and the faults.";
+docs/FORMATS.md describes the records and the faults.",
+    files: &[PARAMS],
+    option: None,
+};
 
-const PLAN_MORE: &str = "\
+const PLAN: CommandRow = CommandRow {
+    name: "plan",
+    about: "Prints the steps of the compiled plan of a parameter file",
+    more: "\
 Prints a line for each step: its number, its operation, and the numbers of its inputs:
   7 Final(0) 2 4 5 6 19
 A file that is no valid set is refused as by `check`.
-docs/PLAN.md describes the steps.";
+docs/PLAN.md describes the steps.",
+    files: &[PARAMS],
+    option: None,
+};
 
-const MARGIN_MORE: &str = "\
+const MARGIN: CommandRow = CommandRow {
+    name: "margin",
+    about: "Prints the margin statement of every account",
+    more: "\
 Prints a line for each commodity that an account holds, then one for its total:
   R,account,set,commodity,scan,active,intra,delivery,credit,minimum,requirement
   T,account,set,total
@@ -67,16 +129,15 @@ options, what it has to bring after that, and what their value is over the total
   T,account,set,total,value,due,excess
 Amounts are whole numbers in the minor unit of the set's currency, as cents for USD;
 `active` is the scenario, 1 to 16, that decides the scan risk.
-docs/FORMATS.md describes the files and the statement, docs/METHOD.md the figures.";
+docs/FORMATS.md describes the files and the statement, docs/METHOD.md the figures.",
+    files: &[PARAMS, POSITIONS],
+    option: Some(OptionArg::Workers),
+};
 
-const NEXT_HELP: &str = "Parameter file (CSV) of the next set";
-
-const ROLL_MORE: &str = "\
-Prints the statement under PARAMS, as `margin` does, and after it that under NEXT, for the same positions.
-NEXT is made ready beside the first batch. The lines of the two statements have the ids of their sets.
-docs/ROLL.md has a day's roll in commands.";
-
-const EXPLAIN_MORE: &str = "\
+const EXPLAIN: CommandRow = CommandRow {
+    name: "explain",
+    about: "Prints why each figure of a margin statement is what it is",
+    more: "\
 Prints for each account, and for each commodity of which it holds a contract, lines from which its figures can be
 computed by hand, and then its R line; after its commodities its T line. Each line begins with its word, the
 account, the set and, but for T, the commodity. Behind them stand:
@@ -90,22 +151,33 @@ account, the set and, but for T, the commodity. Behind them stand:
   CREDIT  price risk,net delta,weight
   SHORT   short calls,short puts,method,rate
   R, T    as `margin` prints them
-docs/FORMATS.md describes the lines, docs/METHOD.md the figures; docs/EXPLAIN.md reads them for one account.";
+docs/FORMATS.md describes the lines, docs/METHOD.md the figures; docs/EXPLAIN.md reads them for one account.",
+    files: &[PARAMS, POSITIONS],
+    option: Some(OptionArg::Account),
+};
 
-const ACCOUNT_HELP: &str = "The account that is explained; without it, all are";
+const ROLL: CommandRow = CommandRow {
+    name: "roll",
+    about: "Prints the margin statements under a set and under the next",
+    more: "\
+Prints the statement under PARAMS, as `margin` does, and after it that under NEXT, for the same positions.
+NEXT is made ready beside the first batch. The lines of the two statements have the ids of their sets.
+docs/ROLL.md has a day's roll in commands.",
+    files: &[PARAMS, NEXT, POSITIONS],
+    option: Some(OptionArg::Workers),
+};
 
-const BAD_ACCOUNT: &str =
-    "invalid value for '--account <NAME>': a name is 1 to 16 bytes of A to Z, 0 to 9, _ and -";
+// The commands, as help lists them.
+const COMMANDS: [CommandRow; 5] = [CHECK, PLAN, MARGIN, EXPLAIN, ROLL];
 
-const WORKERS_HELP: &str =
-    "Workers that share the accounts, 1 to 16; as many as processors save time";
-
-// A file's name, which has to be given.
-fn file<'a>(alloc: Global, id: &'a str, help: &'a str) -> Arg<'a>
-    ensures rule { rule_of result ≡ file_rule id.entry.now }
+// A file's name.
+fn file_arg<'a>(alloc: Global, file: &FileArg) -> Arg<'a>
+    ensures rule { rule_of result ≡ file_rule_of file.now }
     ensures local { result.global ≡ false }
 {
-    Arg::new(alloc, id).required(true).help(help)
+    Arg::new(alloc, file.id)
+        .required(file.required)
+        .help(file.help)
 }
 
 // The number of workers, which need not be given.
@@ -152,146 +224,74 @@ fn with_command<'a>(program: Command<'a>, command: Command<'a>) -> Result<Comman
     Ok(program)
 }
 
-fn check<'a>(alloc: Global) -> Result<Command<'a>, AllocError>
-    ensures shape { IfOk result (λ c. app_of c ≡ check_app) }
+// An option.
+fn option_arg<'a>(alloc: Global, option: OptionArg) -> Arg<'a>
+    ensures rule { rule_of result ≡ option_rule option }
+    ensures local { result.global ≡ false }
+{
+    match option {
+        OptionArg::Workers => workers(alloc),
+        OptionArg::Account => account(alloc),
+    }
+}
+
+// A command with the names of its files.
+fn with_files<'a>(alloc: Global, row: &CommandRow) -> Result<Command<'a>, AllocError>
+    ensures shape { IfOk result (λ c. app_of c
+        ≡ with_rules (new_app row.now.name.now) (map file_rule_of row.now.files.now)) }
     ensures local { IfOk result (λ c. (fields_of c).has_globals ≡ false) }
 {
-    let command = Command::new(alloc, "check")
-        .about("Checks a parameter file and counts its records")
-        .after_help(CHECK_MORE);
-    let command = with_arg(command, file(alloc, "PARAMS", PARAMS_HELP))?;
+    let mut command = Command::new(alloc, row.name)
+        .about(row.about)
+        .after_help(row.more);
+    for file in row.files {
+        command = with_arg(command, file_arg(alloc, file))?;
+    }
     Ok(command)
 }
 
-fn plan<'a>(alloc: Global) -> Result<Command<'a>, AllocError>
-    ensures shape { IfOk result (λ c. app_of c ≡ plan_app) }
+// The command of a row.
+fn command<'a>(alloc: Global, row: &CommandRow) -> Result<Command<'a>, AllocError>
+    ensures shape { IfOk result (λ c. app_of c ≡ row_app row.now) }
     ensures local { IfOk result (λ c. (fields_of c).has_globals ≡ false) }
 {
-    let command = Command::new(alloc, "plan")
-        .about("Prints the steps of the compiled plan of a parameter file")
-        .after_help(PLAN_MORE);
-    let command = with_arg(command, file(alloc, "PARAMS", PARAMS_HELP))?;
-    Ok(command)
+    let command = with_files(alloc, row)?;
+    match row.option {
+        Some(option) => with_arg(command, option_arg(alloc, option)),
+        None => Ok(command),
+    }
 }
 
-// The command `margin` with its files alone.
-fn margin_of_files<'a>(alloc: Global) -> Result<Command<'a>, AllocError>
-    ensures shape { IfOk result (λ c. app_of c ≡ files_app) }
-    ensures local { IfOk result (λ c. (fields_of c).has_globals ≡ false) }
+// The program without its commands.
+fn bare<'a>(alloc: Global) -> Command<'a>
+    ensures { app_of result ≡ bare_app }
 {
-    let command = Command::new(alloc, "margin")
-        .about("Prints the margin statement of every account")
-        .after_help(MARGIN_MORE);
-    let command = with_arg(command, file(alloc, "PARAMS", PARAMS_HELP))?;
-    let command = with_arg(command, file(alloc, "POSITIONS", POSITIONS_HELP))?;
-    Ok(command)
-}
-
-fn margin<'a>(alloc: Global) -> Result<Command<'a>, AllocError>
-    ensures shape { IfOk result (λ c. app_of c ≡ margin_app) }
-    ensures local { IfOk result (λ c. (fields_of c).has_globals ≡ false) }
-{
-    let command = margin_of_files(alloc)?;
-    let command = with_arg(command, workers(alloc))?;
-    Ok(command)
-}
-
-// The command `explain` with its files alone.
-fn explain_of_files<'a>(alloc: Global) -> Result<Command<'a>, AllocError>
-    ensures shape { IfOk result (λ c. app_of c ≡ explained_app) }
-    ensures local { IfOk result (λ c. (fields_of c).has_globals ≡ false) }
-{
-    let command = Command::new(alloc, "explain")
-        .about("Prints why each figure of a margin statement is what it is")
-        .after_help(EXPLAIN_MORE);
-    let command = with_arg(command, file(alloc, "PARAMS", PARAMS_HELP))?;
-    let command = with_arg(command, file(alloc, "POSITIONS", POSITIONS_HELP))?;
-    Ok(command)
-}
-
-fn explain<'a>(alloc: Global) -> Result<Command<'a>, AllocError>
-    ensures shape { IfOk result (λ c. app_of c ≡ explain_app) }
-    ensures local { IfOk result (λ c. (fields_of c).has_globals ≡ false) }
-{
-    let command = explain_of_files(alloc)?;
-    let command = with_arg(command, account(alloc))?;
-    Ok(command)
-}
-
-// The command `roll` with its files alone.
-fn roll_of_sets<'a>(alloc: Global) -> Result<Command<'a>, AllocError>
-    ensures shape { IfOk result (λ c. app_of c ≡ sets_app) }
-    ensures local { IfOk result (λ c. (fields_of c).has_globals ≡ false) }
-{
-    let command = Command::new(alloc, "roll")
-        .about("Prints the margin statements under a set and under the next")
-        .after_help(ROLL_MORE);
-    let command = with_arg(command, file(alloc, "PARAMS", PARAMS_HELP))?;
-    let command = with_arg(command, file(alloc, "NEXT", NEXT_HELP))?;
-    let command = with_arg(command, file(alloc, "POSITIONS", POSITIONS_HELP))?;
-    Ok(command)
-}
-
-fn roll<'a>(alloc: Global) -> Result<Command<'a>, AllocError>
-    ensures shape { IfOk result (λ c. app_of c ≡ roll_app) }
-    ensures local { IfOk result (λ c. (fields_of c).has_globals ≡ false) }
-{
-    let command = roll_of_sets(alloc)?;
-    let command = with_arg(command, workers(alloc))?;
-    Ok(command)
-}
-
-// The program with the command `check` alone.
-fn span_of_check<'a>(alloc: Global) -> Result<Command<'a>, AllocError>
-    ensures shape { IfOk result (λ c. app_of c ≡ with_subcommand bare_app check_app.top) }
-{
-    let check = check(alloc)?;
-    let program = Command::new(alloc, "span")
+    Command::new(alloc, "span")
         .about("Margins futures and options accounts by the SPAN method")
         .after_help(SPAN_MORE)
         .version(VERSION)
-        .subcommand_required(true);
-    let program = with_command(program, check)?;
-    Ok(program)
+        .subcommand_required(true)
 }
 
-// The program with the commands that take a parameter file alone.
-fn span_of_params<'a>(alloc: Global) -> Result<Command<'a>, AllocError>
-    ensures shape { IfOk result (λ c. app_of c ≡ params_app) }
+// A program with the commands of these rows.
+fn with_rows<'a>(
+    alloc: Global,
+    mut program: Command<'a>,
+    rows: &[CommandRow],
+) -> Result<Command<'a>, AllocError>
+    ensures { IfOk result (λ p. app_of p ≡ with_commands (app_of program.entry) (map row_app rows.now)) }
 {
-    let plan = plan(alloc)?;
-    let program = span_of_check(alloc)?;
-    let program = with_command(program, plan)?;
-    Ok(program)
-}
-
-// The program with the command `margin` too.
-fn span_with_margin<'a>(alloc: Global) -> Result<Command<'a>, AllocError>
-    ensures shape { IfOk result (λ c. app_of c ≡ with_subcommand params_app margin_app.top) }
-{
-    let margin = margin(alloc)?;
-    let program = span_of_params(alloc)?;
-    let program = with_command(program, margin)?;
-    Ok(program)
-}
-
-// The program with the commands that take one parameter file.
-fn span_of_one_set<'a>(alloc: Global) -> Result<Command<'a>, AllocError>
-    ensures shape { IfOk result (λ c. app_of c ≡ one_set_app) }
-{
-    let explain = explain(alloc)?;
-    let program = span_with_margin(alloc)?;
-    let program = with_command(program, explain)?;
+    for row in rows {
+        let added = command(alloc, row)?;
+        program = with_command(program, added)?;
+    }
     Ok(program)
 }
 
 fn span<'a>(alloc: Global) -> Result<Command<'a>, AllocError>
     ensures shape { IfOk result (λ c. app_of c ≡ span_app) }
 {
-    let roll = roll(alloc)?;
-    let program = span_of_one_set(alloc)?;
-    let program = with_command(program, roll)?;
-    Ok(program)
+    with_rows(alloc, bare(alloc), &COMMANDS)
 }
 
 fn text<'a>(matches: &ArgMatches<'a>, id: &str) -> Option<&'a str>
@@ -308,36 +308,9 @@ fn number(text: &str) -> Option<usize>
 }
 
 fn workers_asked(matches: &ArgMatches<'_>) -> Option<usize>
-    ensures { result ≡ number_of (codes "workers") (rows_of (found_of matches.now)) }
+    ensures { result ≡ workers_in (rows_of (found_of matches.now)) }
 {
     number(text(matches, "workers")?)
-}
-
-fn check_request<'a>(matches: &ArgMatches<'a>) -> Option<Request<'a>>
-    ensures { option_map asked_by result ≡ check_in (rows_of (found_of matches.now)) }
-{
-    let params = text(matches, "PARAMS")?;
-    Some(Request::Check { params })
-}
-
-fn plan_request<'a>(matches: &ArgMatches<'a>) -> Option<Request<'a>>
-    ensures { option_map asked_by result ≡ plan_in (rows_of (found_of matches.now)) }
-{
-    let params = text(matches, "PARAMS")?;
-    Some(Request::Plan { params })
-}
-
-fn margin_request<'a>(matches: &ArgMatches<'a>) -> Option<Request<'a>>
-    ensures { option_map asked_by result ≡ margin_in (rows_of (found_of matches.now)) }
-{
-    let params = text(matches, "PARAMS")?;
-    let positions = text(matches, "POSITIONS")?;
-    let workers = workers_asked(matches)?;
-    Some(Request::Margin {
-        params,
-        positions,
-        workers,
-    })
 }
 
 // The account that is asked for, if one is; `None` where what is given is no name.
@@ -350,46 +323,35 @@ fn account_asked(matches: &ArgMatches<'_>) -> Option<Option<Name>>
     }
 }
 
-fn explain_request<'a>(matches: &ArgMatches<'a>) -> Option<Request<'a>>
-    ensures { option_map asked_by result ≡ explain_in (rows_of (found_of matches.now)) }
-{
-    let params = text(matches, "PARAMS")?;
-    let positions = text(matches, "POSITIONS")?;
-    let account = account_asked(matches)?;
-    Some(Request::Explain {
-        params,
-        positions,
-        account,
-    })
-}
-
-fn roll_request<'a>(matches: &ArgMatches<'a>) -> Option<Request<'a>>
-    ensures { option_map asked_by result ≡ roll_in (rows_of (found_of matches.now)) }
-{
-    Some(Request::Roll {
-        params: text(matches, "PARAMS")?,
-        next: text(matches, "NEXT")?,
-        positions: text(matches, "POSITIONS")?,
-        workers: workers_asked(matches)?,
-    })
-}
-
 // What a command of this name asks for.
 fn request_under<'a>(name: &str, matches: &ArgMatches<'a>) -> Option<Request<'a>>
-    ensures { option_map asked_by result ≡ asked_under name.now (rows_of (found_of matches.now)) }
+    ensures { option_map asked_by result ≡ asked_among commands name.now (rows_of (found_of matches.now)) }
 {
-    if name == "check" {
-        check_request(matches)
-    } else if name == "plan" {
-        plan_request(matches)
-    } else if name == "margin" {
-        margin_request(matches)
-    } else if name == "explain" {
-        explain_request(matches)
-    } else if name == "roll" {
-        roll_request(matches)
-    } else {
-        None
+    let file = |file: FileArg| text(matches, file.id);
+    match name {
+        "check" => Some(Request::Check {
+            params: file(PARAMS)?,
+        }),
+        "plan" => Some(Request::Plan {
+            params: file(PARAMS)?,
+        }),
+        "margin" => Some(Request::Margin {
+            params: file(PARAMS)?,
+            positions: file(POSITIONS)?,
+            workers: workers_asked(matches)?,
+        }),
+        "explain" => Some(Request::Explain {
+            params: file(PARAMS)?,
+            positions: file(POSITIONS)?,
+            account: account_asked(matches)?,
+        }),
+        "roll" => Some(Request::Roll {
+            params: file(PARAMS)?,
+            next: file(NEXT)?,
+            positions: file(POSITIONS)?,
+            workers: workers_asked(matches)?,
+        }),
+        _ => None,
     }
 }
 
@@ -404,7 +366,7 @@ fn misnames(name: &str, matches: &ArgMatches<'_>) -> bool
 fn misnamed(alloc: Global) -> Result<Error, AllocError>
     ensures { IfOk result (λ e. kind_of e ≡ ErrorKind.ValueValidation) }
 {
-    let mut command = explain(alloc)?.bin_name("span explain")?;
+    let mut command = command(alloc, &EXPLAIN)?.bin_name("span explain")?;
     command.error(ErrorKind::ValueValidation, BAD_ACCOUNT)
 }
 
@@ -524,9 +486,9 @@ fn answer_words<
 ) -> u8
     requires { out.old.failed ≡ false }
     ensures taken { is_taken (map T.text words.now) ≡ true → IfSome (asked_in (map T.text words.now)) (λ asked.
-        OfAnswer (S.file sources.old) asked (λ answer. Serves answer result out.old out.new err.old err.new)) }
+        Serves (S.file sources.old) asked result out.old out.new err.old err.new) }
     ensures words { AnswersWords (kinds_of (map T.text words.now)) (IfSome (asked_in (map T.text words.now)) (λ asked.
-        OfAnswer (S.file sources.old) asked (λ answer. Serves answer result out.old out.new err.old err.new)))
+        Serves (S.file sources.old) asked result out.old out.new err.old err.new))
         result out.old out.new err.old err.new }
 {
     match request(alloc, words) {
@@ -557,11 +519,12 @@ pub fn run_words<
 ) -> u8
     requires { out.old.failed ≡ false }
     ensures taken { is_taken (joined_words (map T.text words.now)) ≡ true
-        → IfSome (asked_in (joined_words (map T.text words.now))) (λ asked. OfAnswer (S.file sources.old) asked (λ answer.
-        Serves answer result out.old out.new err.old err.new)) }
+        → IfSome (asked_in (joined_words (map T.text words.now))) (λ asked.
+        Serves (S.file sources.old) asked result out.old out.new err.old err.new) }
     ensures words { AnswersWords (kinds_of (joined_words (map T.text words.now)))
-        (IfSome (asked_in (joined_words (map T.text words.now))) (λ asked. OfAnswer (S.file sources.old) asked (λ answer.
-        Serves answer result out.old out.new err.old err.new))) result out.old out.new err.old err.new }
+        (IfSome (asked_in (joined_words (map T.text words.now))) (λ asked.
+        Serves (S.file sources.old) asked result out.old out.new err.old err.new))
+        result out.old out.new err.old err.new }
 {
     match join_words(alloc, words) {
         Ok(joined) => answer_words(rt, alloc, &joined, sources, gate, out, err),

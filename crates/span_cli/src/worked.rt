@@ -2,7 +2,7 @@
 #![tactic(auto, unfolding(crate::specs::near::OnLiterals::on_literals))]
 
 ghost use Rattle.clap.specs.declared.error.kind.ErrorKind.TheVariants as kind;
-ghost use Rattle.span_cli.specs.Serving.{OfAnswer, a_check, a_explain, a_margin, a_plan, a_roll, done, refused};
+ghost use Rattle.span_cli.specs.Serving.{Check, Explain, IsAnswer, Margin, Plan, Roll, done, refused};
 ghost use Rattle.span_cli.specs.Words.{asked_in, is_taken, joined_words, kinds_of};
 ghost use Rattle.span_cli.specs.declared.sources.ReadFault.TheVariants as read;
 ghost use Rattle.span_cli.specs.declared.disk.TheConstants.{MAX_TURNS};
@@ -12,27 +12,27 @@ ghost use Rattle.std.specs.Prelude.{◌≡◌, ◌∷◌, Err, None, Ok, Some, [
 // `span check p` is taken, and asks for just that.
 fn check_of_a_file()
     ensures taken { is_taken (codes "span" ∷ codes "check" ∷ codes "p" ∷ []) ≡ true }
-    ensures asked { asked_in (codes "span" ∷ codes "check" ∷ codes "p" ∷ []) ≡ Some (a_check (codes "p")) }
+    ensures asked { asked_in (codes "span" ∷ codes "check" ∷ codes "p" ∷ []) ≡ Some (Check, codes "p" ∷ []) }
 {}
 
 // `span plan p` is taken, and asks for just that.
 fn plan_of_a_file()
     ensures taken { is_taken (codes "span" ∷ codes "plan" ∷ codes "p" ∷ []) ≡ true }
-    ensures asked { asked_in (codes "span" ∷ codes "plan" ∷ codes "p" ∷ []) ≡ Some (a_plan (codes "p")) }
+    ensures asked { asked_in (codes "span" ∷ codes "plan" ∷ codes "p" ∷ []) ≡ Some (Plan, codes "p" ∷ []) }
 {}
 
 // `span margin p q` is taken, and asks for just that, with the files in their order and one worker.
 fn margin_of_two_files()
     ensures taken { is_taken (codes "span" ∷ codes "margin" ∷ codes "p" ∷ codes "q" ∷ []) ≡ true }
     ensures asked { asked_in (codes "span" ∷ codes "margin" ∷ codes "p" ∷ codes "q" ∷ [])
-        ≡ Some (a_margin 1 (codes "p") (codes "q")) }
+        ≡ Some (Margin 1, codes "p" ∷ codes "q" ∷ []) }
 {}
 
 // `span explain p q` is taken, and asks for just that, with the files in their order and no account.
 fn explain_of_two_files()
     ensures taken { is_taken (codes "span" ∷ codes "explain" ∷ codes "p" ∷ codes "q" ∷ []) ≡ true }
     ensures asked { asked_in (codes "span" ∷ codes "explain" ∷ codes "p" ∷ codes "q" ∷ [])
-        ≡ Some (a_explain None (codes "p") (codes "q")) }
+        ≡ Some (Explain None, codes "p" ∷ codes "q" ∷ []) }
     ensures no_positions { kinds_of (codes "span" ∷ codes "explain" ∷ codes "p" ∷ []) ≡ kind.MissingRequiredArgument ∷ [] }
     ensures workers { kinds_of (codes "span" ∷ codes "explain" ∷ codes "p" ∷ codes "q" ∷ codes "--workers=2" ∷ [])
         ≡ kind.UnknownArgument ∷ [] }
@@ -42,9 +42,9 @@ fn explain_of_two_files()
 fn explain_of_an_account()
     ensures taken { is_taken (codes "span" ∷ codes "explain" ∷ codes "--account=X-1" ∷ codes "p" ∷ codes "q" ∷ []) ≡ true }
     ensures before { asked_in (codes "span" ∷ codes "explain" ∷ codes "--account=X-1" ∷ codes "p" ∷ codes "q" ∷ [])
-        ≡ Some (a_explain (Some (codes "X-1")) (codes "p") (codes "q")) }
+        ≡ Some (Explain (Some (codes "X-1")), codes "p" ∷ codes "q" ∷ []) }
     ensures minus { asked_in (codes "span" ∷ codes "explain" ∷ codes "p" ∷ codes "q" ∷ codes "--account=-X" ∷ [])
-        ≡ Some (a_explain (Some (codes "-X")) (codes "p") (codes "q")) }
+        ≡ Some (Explain (Some (codes "-X")), codes "p" ∷ codes "q" ∷ []) }
 {}
 
 // Accounts that are refused: no name, an empty one, one of 17 bytes; none behind the option, and two of them.
@@ -85,9 +85,9 @@ fn joined_accounts()
 fn roll_of_three_files()
     ensures taken { is_taken (codes "span" ∷ codes "roll" ∷ codes "p" ∷ codes "n" ∷ codes "q" ∷ []) ≡ true }
     ensures asked { asked_in (codes "span" ∷ codes "roll" ∷ codes "p" ∷ codes "n" ∷ codes "q" ∷ [])
-        ≡ Some (a_roll 1 (codes "p") (codes "n") (codes "q")) }
+        ≡ Some (Roll 1, codes "p" ∷ codes "n" ∷ codes "q" ∷ []) }
     ensures workers { asked_in (codes "span" ∷ codes "roll" ∷ codes "p" ∷ codes "n" ∷ codes "--workers=3" ∷ codes "q" ∷ [])
-        ≡ Some (a_roll 3 (codes "p") (codes "n") (codes "q")) }
+        ≡ Some (Roll 3, codes "p" ∷ codes "n" ∷ codes "q" ∷ []) }
     ensures no_next { kinds_of (codes "span" ∷ codes "roll" ∷ codes "p" ∷ codes "q" ∷ []) ≡ kind.MissingRequiredArgument ∷ [] }
 {}
 
@@ -96,21 +96,21 @@ fn workers_behind_the_files()
     ensures taken { is_taken (codes "span" ∷ codes "margin" ∷ codes "p" ∷ codes "q" ∷ codes "--workers" ∷ codes "16" ∷ [])
         ≡ true }
     ensures asked { asked_in (codes "span" ∷ codes "margin" ∷ codes "p" ∷ codes "q" ∷ codes "--workers" ∷ codes "16" ∷ [])
-        ≡ Some (a_margin 16 (codes "p") (codes "q")) }
+        ≡ Some (Margin 16, codes "p" ∷ codes "q" ∷ []) }
 {}
 
 // A number of workers before the files, in the option's word.
 fn workers_before_the_files()
     ensures taken { is_taken (codes "span" ∷ codes "margin" ∷ codes "--workers=2" ∷ codes "p" ∷ codes "q" ∷ []) ≡ true }
     ensures asked { asked_in (codes "span" ∷ codes "margin" ∷ codes "--workers=2" ∷ codes "p" ∷ codes "q" ∷ [])
-        ≡ Some (a_margin 2 (codes "p") (codes "q")) }
+        ≡ Some (Margin 2, codes "p" ∷ codes "q" ∷ []) }
 {}
 
 // A number of workers with a plus and zeros.
 fn workers_with_a_plus()
     ensures taken { is_taken (codes "span" ∷ codes "margin" ∷ codes "p" ∷ codes "q" ∷ codes "--workers=+003" ∷ []) ≡ true }
     ensures asked { asked_in (codes "span" ∷ codes "margin" ∷ codes "p" ∷ codes "q" ∷ codes "--workers=+003" ∷ [])
-        ≡ Some (a_margin 3 (codes "p") (codes "q")) }
+        ≡ Some (Margin 3, codes "p" ∷ codes "q" ∷ []) }
 {}
 
 // Numbers of workers that are refused: none, one too many, and texts that are no number.
@@ -155,50 +155,50 @@ fn shown()
 
 // A file that cannot be read, or is too long, is named.
 fn files_that_are_not_read()
-    ensures failed { OfAnswer (λ _. Some (Err read.Failed)) (a_check (codes "p"))
-        (λ answer. answer ≡ refused 6 (codes "file: p\n")) }
-    ensures too_long { OfAnswer (λ _. Some (Err read.TooLong)) (a_check (codes "p"))
-        (λ answer. answer ≡ refused 6 (codes "file: p\n")) }
-    ensures memory { OfAnswer (λ _. Some (Err read.OutOfMemory)) (a_check (codes "p"))
-        (λ answer. answer ≡ refused 5 (codes "memory\n")) }
-    ensures of_a_plan { OfAnswer (λ _. Some (Err read.Failed)) (a_plan (codes "p"))
-        (λ answer. answer ≡ refused 6 (codes "file: p\n")) }
+    ensures failed { IsAnswer (λ _. Some (Err read.Failed)) (Check, codes "p" ∷ [])
+        (refused 6 (codes "file: p\n")) }
+    ensures too_long { IsAnswer (λ _. Some (Err read.TooLong)) (Check, codes "p" ∷ [])
+        (refused 6 (codes "file: p\n")) }
+    ensures memory { IsAnswer (λ _. Some (Err read.OutOfMemory)) (Check, codes "p" ∷ [])
+        (refused 5 (codes "memory\n")) }
+    ensures of_a_plan { IsAnswer (λ _. Some (Err read.Failed)) (Plan, codes "p" ∷ [])
+        (refused 6 (codes "file: p\n")) }
 {}
 
 // The first of several is named, also where those behind it are unknown.
 fn first_that_is_not_read()
-    ensures first { OfAnswer (λ _. Some (Err read.Failed)) (a_margin 1 (codes "p") (codes "q"))
-        (λ answer. answer ≡ refused 6 (codes "file: p\n")) }
-    ensures second_unknown { OfAnswer (λ name. if bytes_eq name (codes "p") then Some (Err read.Failed) else None)
-        (a_margin 1 (codes "p") (codes "q")) (λ answer. answer ≡ refused 6 (codes "file: p\n")) }
-    ensures second { OfAnswer (λ name. if bytes_eq name (codes "p") then Some (Ok []) else Some (Err read.Failed))
-        (a_margin 1 (codes "p") (codes "q")) (λ answer. answer ≡ refused 6 (codes "file: q\n")) }
-    ensures of_a_roll { OfAnswer (λ name. if bytes_eq name (codes "p") then Some (Err read.TooLong) else None)
-        (a_roll 1 (codes "p") (codes "n") (codes "q")) (λ answer. answer ≡ refused 6 (codes "file: p\n")) }
-    ensures next_of_a_roll { OfAnswer (λ name. if bytes_eq name (codes "p") then Some (Ok [])
+    ensures first { IsAnswer (λ _. Some (Err read.Failed)) (Margin 1, codes "p" ∷ codes "q" ∷ [])
+        (refused 6 (codes "file: p\n")) }
+    ensures second_unknown { IsAnswer (λ name. if bytes_eq name (codes "p") then Some (Err read.Failed) else None)
+        (Margin 1, codes "p" ∷ codes "q" ∷ []) (refused 6 (codes "file: p\n")) }
+    ensures second { IsAnswer (λ name. if bytes_eq name (codes "p") then Some (Ok []) else Some (Err read.Failed))
+        (Margin 1, codes "p" ∷ codes "q" ∷ []) (refused 6 (codes "file: q\n")) }
+    ensures of_a_roll { IsAnswer (λ name. if bytes_eq name (codes "p") then Some (Err read.TooLong) else None)
+        (Roll 1, codes "p" ∷ codes "n" ∷ codes "q" ∷ []) (refused 6 (codes "file: p\n")) }
+    ensures next_of_a_roll { IsAnswer (λ name. if bytes_eq name (codes "p") then Some (Ok [])
         else if bytes_eq name (codes "n") then Some (Err read.Failed) else None)
-        (a_roll 1 (codes "p") (codes "n") (codes "q")) (λ answer. answer ≡ refused 6 (codes "file: n\n")) }
+        (Roll 1, codes "p" ∷ codes "n" ∷ codes "q" ∷ []) (refused 6 (codes "file: n\n")) }
 {}
 
 // The counts and the statement of small files, and two that are refused.
 fn files_that_are_read()
-    ensures counts { OfAnswer (λ _. Some (Ok (codes "SET,D1,1,USD\nCOMMODITY,AA,0,SUM\n"))) (a_check (codes "p"))
-        (λ answer. answer ≡ done (codes "OK,D1,1,0,0,0,0,0\n")) }
-    ensures no_accounts { OfAnswer (λ name. if bytes_eq name (codes "p") then Some (Ok (codes "SET,D1,1,USD\n"))
-        else Some (Ok [])) (a_margin 1 (codes "p") (codes "q")) (λ answer. answer ≡ done []) }
-    ensures no_set { OfAnswer (λ _. Some (Ok [])) (a_check (codes "p"))
-        (λ answer. answer ≡ refused 3 (codes "parameters: P1 NoSet at record 0\n")) }
-    ensures unknown_contract { OfAnswer (λ name. if bytes_eq name (codes "p") then Some (Ok (codes "SET,D1,1,USD\n"))
-        else Some (Ok (codes "X,FA,1\n"))) (a_margin 1 (codes "p") (codes "q"))
-        (λ answer. answer ≡ refused 4 (codes "positions: B1 UnknownContract at record 1 account X\n")) }
+    ensures counts { IsAnswer (λ _. Some (Ok (codes "SET,D1,1,USD\nCOMMODITY,AA,0,SUM\n"))) (Check, codes "p" ∷ [])
+        (done (codes "OK,D1,1,0,0,0,0,0\n")) }
+    ensures no_accounts { IsAnswer (λ name. if bytes_eq name (codes "p") then Some (Ok (codes "SET,D1,1,USD\n"))
+        else Some (Ok [])) (Margin 1, codes "p" ∷ codes "q" ∷ []) (done []) }
+    ensures no_set { IsAnswer (λ _. Some (Ok [])) (Check, codes "p" ∷ [])
+        (refused 3 (codes "parameters: P1 NoSet at record 0\n")) }
+    ensures unknown_contract { IsAnswer (λ name. if bytes_eq name (codes "p") then Some (Ok (codes "SET,D1,1,USD\n"))
+        else Some (Ok (codes "X,FA,1\n"))) (Margin 1, codes "p" ∷ codes "q" ∷ [])
+        (refused 4 (codes "positions: B1 UnknownContract at record 1 account X\n")) }
 {}
 
 // The plan of a set alone, and the refusal of a file that is no set.
 fn plans()
-    ensures alone { OfAnswer (λ _. Some (Ok (codes "SET,D1,1,USD\n"))) (a_plan (codes "p"))
-        (λ answer. answer ≡ done (codes "0 InterStart()\n1 TotalStart()\n")) }
-    ensures no_set { OfAnswer (λ _. Some (Ok [])) (a_plan (codes "p"))
-        (λ answer. answer ≡ refused 3 (codes "parameters: P1 NoSet at record 0\n")) }
+    ensures alone { IsAnswer (λ _. Some (Ok (codes "SET,D1,1,USD\n"))) (Plan, codes "p" ∷ [])
+        (done (codes "0 InterStart()\n1 TotalStart()\n")) }
+    ensures no_set { IsAnswer (λ _. Some (Ok [])) (Plan, codes "p" ∷ [])
+        (refused 3 (codes "parameters: P1 NoSet at record 0\n")) }
 {}
 
 // How long a file may be, and how many turns a reading of it has.

@@ -4,7 +4,7 @@ use Rattle.clap.specs.declared.error.kind.ErrorKind.{ErrorKind}
 use Rattle.clap.specs.declared.error.kind.ErrorKind.TheVariants.{OutOfMemory}
 use Rattle.span_cli.specs.Telling.{Refuses, Serves}
 use Rattle.span_cli.specs.Words.{asked_in, joined_words, kinds_of}
-use Rattle.span_cli.proofs.ServingLemmas.{OfAnswer-each, words_refused}
+use Rattle.span_cli.proofs.ServingLemmas.{IfSome-each, words_refused}
 use Rattle.span_cli.proofs.words.run_words.Goals as goal
 
 pub returns-in-Ok-clause-taken : goal.returns-in-Ok-clause-taken
@@ -18,13 +18,13 @@ returns-in-Err-clause-words g c =
     let wanted : kind_of c.from.result ≡ OutOfMemory = search rules in
     words_refused (kinds_of (joined_words (map g.T.AsStr.text c.args.words.now))) _ c.from.result _ _ _ _ _
     (inl wanted) c.refuse.ensures (λ told.
-    OfAnswer-each (g.S.Sources.file c.args.sources.now) (asked_in (joined_words (map g.T.AsStr.text c.args.words.now)))
-    (λ answer. Serves answer c.refuse.result c.args.out.now c.refuse.new.out c.args.err.now c.refuse.new.err) (λ a. inr told))
+    IfSome-each (asked_in (joined_words (map g.T.AsStr.text c.args.words.now)))
+    (λ asked. Serves (g.S.Sources.file c.args.sources.now) asked c.refuse.result c.args.out.now c.refuse.new.out c.args.err.now c.refuse.new.err) (λ a. inr told))
 
 pub returns-in-Err-clause-taken : goal.returns-in-Err-clause-taken
 returns-in-Err-clause-taken g c = λ taken.
     let wanted : kind_of c.from.result ≡ OutOfMemory = search rules in
     let told = subst (λ (k : ErrorKind). Refuses k c.refuse.result c.args.out.now c.refuse.new.out c.args.err.now c.refuse.new.err)
     wanted c.refuse.ensures in
-    OfAnswer-each (g.S.Sources.file c.args.sources.now) (asked_in (joined_words (map g.T.AsStr.text c.args.words.now)))
-    (λ answer. Serves answer c.refuse.result c.args.out.now c.refuse.new.out c.args.err.now c.refuse.new.err) (λ a. inr told)
+    IfSome-each (asked_in (joined_words (map g.T.AsStr.text c.args.words.now)))
+    (λ asked. Serves (g.S.Sources.file c.args.sources.now) asked c.refuse.result c.args.out.now c.refuse.new.out c.args.err.now c.refuse.new.err) (λ a. inr told)

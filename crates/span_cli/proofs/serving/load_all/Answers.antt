@@ -1,0 +1,27 @@
+use Rattle.std.proofs.Common.{◌≡◌, ◌∷◌, ◌∙◌, Vec, ℕ, Global, map, drop, rules, arith}
+use Rattle.std.proofs.lemmas.List.{drop_all, map-append}
+use Rattle.std.specs.Prelude.{IfSome, Some, None, Ok, Err}
+use Rattle.span_cli.specs.Serving.{all_read}
+use Rattle.span_cli.specs.near.Refusals.{LoadsAll, read_then}
+use Rattle.span_cli.proofs.ServingLemmas.{last_read, next_of_names, unread_of_names}
+use Rattle.span_cli.proofs.serving.load_all.Goals as goal
+
+pub returns-clause-known : goal.returns-clause-known
+returns-clause-known g c =
+    last_read (all_read (g.S.Sources.file c.args.sources.now) (map (λ name. name.now) c.args.names.now))
+    (map (λ file. file.items) c.loop-name.files.items)
+    (rw (drop_all c.loop-name.name-index c.args.names.now c.loop-name-test.false) at c.loop-name.invariant.known)
+
+pub returns-in_err-load-clause-known : goal.returns-in_err-load-clause-known
+returns-in_err-load-clause-known g c =
+    let is : c.from_residual.result ≡ Err c.in_err-load.field-0.0 = search rules in
+    rw (is) (unread_of_names (λ (v : Vec ℕ Global). v.items) (g.S.Sources.file c.args.sources.now) _ _ _ c.args.names.now _ _ _
+    c.loop-name-test.true c.loop-name.invariant.same c.in_err-load.ensures.known c.loop-name.invariant.known)
+
+pub loop-name-preserved : goal.loop-name-preserved
+loop-name-preserved g c = record {
+  count = search rules;
+  same = λ name. c.load.ensures.same name ∙ c.loop-name.invariant.same name;
+  known = rw (c.push.ensures.items, map-append) (next_of_names (g.S.Sources.file c.args.sources.now) _ _ _ c.args.names.now _ _ _
+      c.loop-name-test.true c.loop-name.invariant.same c.in_ok-load.ensures.known c.loop-name.invariant.known);
+}
