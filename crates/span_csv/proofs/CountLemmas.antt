@@ -5,7 +5,7 @@ use Rattle.std.proofs.Common.{List, [], ◌∷◌, ◌++◌, length, map, Option
 use Rattle.std.specs.Prelude.{⊤, count_by, filter_map, is_none, codes}
 use Rattle.std.specs.List.{cons_option}
 use Rattle.std.specs.Option.{option_map_or}
-use Rattle.std.proofs.lemmas.Bool.{eqb-true, eqb-false, cases_Bool, false_from_ne_true}
+use Rattle.std.proofs.lemmas.Bool.{eqb-false, cases_Bool}
 use Rattle.std.proofs.lemmas.List.{append-nil}
 use Rattle.std.proofs.lemmas.List.Sums.{sum_by-cons, sum_by_push}
 use Rattle.span_tables.specs.Faults.{first_that_holds}

@@ -1,6 +1,6 @@
 -- Contracts have an option value under the profile of such values alone.
 use Rattle.std.proofs.Common.{◌≡◌, ◌∙◌, refl, ap, subst, arith, ℕ, ◌-◌, ◌<◌, ◌≤◌, false}
-use Rattle.std.proofs.Common.{◌==◌, List, [], ◌∷◌, ◌++◌, length, length-append, map, Some, None, Ok}
+use Rattle.std.proofs.Common.{List, [], ◌∷◌, ◌++◌, length, length-append, map, Some, None, Ok}
 use Rattle.std.specs.Prelude.{All}
 use Rattle.std.specs.List.{AllByRecursion, cons_option}
 use Rattle.std.proofs.lemmas.Bool.{not-false}
@@ -14,7 +14,7 @@ use Rattle.span_tables.specs.declared.records.Record.{Record}
 use Rattle.span_tables.proofs.FaultLaws.{first_fault_none}
 use Rattle.span_csv.specs.ParamFaults.{is_set, param_fault, params_of, profile_of}
 use Rattle.span_csv.specs.Records.{Fields}
-use Rattle.span_csv.specs.Records.{count_at, exactly, extras_place, kind_of, layout_of, param_record, product_at}
+use Rattle.span_csv.specs.Records.{count_at, exactly, extras_place, kind_of, layout_of, param_record}
 use Rattle.span_csv.specs.declared.contents.TheConstants.{EXTRAS}
 use Rattle.span_csv.specs.Records.{record_of_kind, records_of}
 use Rattle.span_csv.proofs.CountLemmas.{IsClean, fault_of, clean, clean_kind, param_record-kind, some_of, word_named}

@@ -20,7 +20,6 @@ use Rattle.span_tables.specs.declared.limits.TheConstants.{SCENARIOS, MAX_PROFIL
 use Rattle.span_tables.specs.declared.limits.TheConstants.{MAX_TIER_NUMBER}
 use Rattle.span_tables.specs.declared.records.IntraLeg.{IntraLeg}
 use Rattle.span_tables.specs.declared.records.InterLeg.{InterLeg}
-use Rattle.span_tables.specs.declared.records.ProductKind.{ProductKind}
 use Rattle.span_tables.proofs.Ranges.{is_contract}
 use Rattle.span_csv.specs.near.Grammar.{Fits}
 use Rattle.span_csv.specs.Records.{Fields, all_have, has_word_form, is_in_range, exactly, with_legs, forms_of}
@@ -52,7 +51,8 @@ module _ {forms : List FieldForm} {fields : Fields} (h : HaveForms forms fields)
   range : (i : ℕ) (f : FieldForm) → slice_get forms i ≡ Some f → is_in_range f (text_at fields i) ≡ true
   range i f is = passes_at is_in_range forms fields i f h.ranges (omega (arith, h.count, slice_get_within forms i f is)) is
 
-  whole : (i low high : ℕ) → slice_get forms i ≡ Some (form.Whole (pos low) (pos high)) → lies_within low high (count_at fields i) ≡ true
+  whole : (i low high : ℕ) → slice_get forms i ≡ Some (form.Whole (pos low) (pos high))
+      → lies_within low high (count_at fields i) ≡ true
   whole i low high is = count_within low high (whole_number (text_at fields i)) (range i (form.Whole (pos low) (pos high)) is)
 
   below : (i high : ℕ) → slice_get forms i ≡ Some (form.Whole (pos 0) (pos high)) → nat_le (count_at fields i) high ≡ true
@@ -212,7 +212,8 @@ intra_kept first fields k low high h =
     let all : length fields ≡ 3 + k * 3 =
     omega (arith, h.count, length-append intra_front (repeat k intra_leg_forms), length-repeat k intra_leg_forms) in
     let threes : length (drop 3 fields) ≡ k * 3 = omega (arith, all, length-drop 3 fields) in
-    let legs = legs_all intra_leg_passes (form.Whole (pos 1) (pos MAX_TIER_NUMBER)) form.Side (form.Decimal (pos 1) (pos MAX_RATIO)) (λ x y z name number ratio.
+    let legs = legs_all intra_leg_passes (form.Whole (pos 1) (pos MAX_TIER_NUMBER)) form.Side (form.Decimal (pos 1) (pos MAX_RATIO))
+    (λ x y z name number ratio.
     and_from _ _ (count_within 1 MAX_TIER_NUMBER (whole_number x) number) (count_within 1 MAX_RATIO (decimal_number z) ratio))
     k (drop 3 fields) threes (all_behind has_word_form intra_front (repeat k intra_leg_forms) fields h.words)
     (all_behind is_in_range intra_front (repeat k intra_leg_forms) fields h.ranges) in

@@ -22,7 +22,8 @@ module _ (test : FieldForm → List ℕ → Bool) (forms : List FieldForm) (fiel
       let there : i < length texts = omega (arith, length-drop place fields) in
       at_drop_more (λ fs. all_have test fs (drop i texts)) forms i form.Name inside
       ∙ at_drop_more (λ ts. all_have test (get_or forms i form.Name ∷ drop (i + 1) forms) ts) texts i [] there
-      ∙ ap (λ t. test (get_or forms i form.Name) t && all_have test (drop (i + 1) forms) (drop (i + 1) texts)) (get_or-drop place fields i [])
+      ∙ ap (λ t. test (get_or forms i form.Name) t && all_have test (drop (i + 1) forms) (drop (i + 1) texts))
+      (get_or-drop place fields i [])
 
   -- a field that passes leaves the answer to the others
   pub passed : (i : ℕ) (text : List ℕ) (b whole : Bool) → i < length forms → text ≡ text_at fields (place + i)
@@ -45,7 +46,8 @@ module _ (test : FieldForm → List ℕ → Bool) (forms : List FieldForm) (fiel
 
 -- ---- forms that stand several times
 
-module _ (test : FieldForm → List ℕ → Bool) (forms : List FieldForm) (fields : Fields) (place times turn : ℕ) (more : turn < times) where
+module _ (test : FieldForm → List ℕ → Bool) (forms : List FieldForm) (fields : Fields) (place times turn : ℕ)
+    (more : turn < times) where
   -- how often they stand yet
   abbrev left : ℕ
   left = times - (turn + 1)
@@ -61,7 +63,8 @@ module _ (test : FieldForm → List ℕ → Bool) (forms : List FieldForm) (fiel
   turn_all =
       ap (λ n. all_have test (repeat n forms) (drop place fields)) once_more
       ∙ all_have-append test forms (repeat left forms) (drop place fields)
-      ∙ ap (λ ts. all_have test forms (drop place fields) && all_have test (repeat left forms) ts) (drop-drop (length forms) place fields)
+      ∙ ap (λ ts. all_have test forms (drop place fields) && all_have test (repeat left forms) ts)
+      (drop-drop (length forms) place fields)
 
   pub turn_passed : (b whole : Bool) → b ≡ all_have test forms (drop place fields) → b ≡ true
       → all_have test (repeat (times - turn) forms) (drop place fields) ≡ whole

@@ -23,12 +23,13 @@ pub values_all : (values : List ℤ) (fields : Fields) → length values ≡ SCE
     → ((k : ℕ) → k < SCENARIOS → get_or values k (pos 0) ≡ whole_at fields (FIRST_VALUE + k))
     → values ≡ map (λ text. unwrap_or (whole_number text) (pos 0)) (take SCENARIOS (drop FIRST_VALUE fields))
 values_all values fields sixteen all each =
-    let behind : SCENARIOS ≤ length (drop FIRST_VALUE fields) = omega (arith, length-drop FIRST_VALUE fields) in
-    let left : length (take SCENARIOS (drop FIRST_VALUE fields)) ≡ SCENARIOS = length-take-le SCENARIOS (drop FIRST_VALUE fields) behind in
-    ext_get_or (pos 0) values (map (λ text. unwrap_or (whole_number text) (pos 0)) (take SCENARIOS (drop FIRST_VALUE fields)))
-    (simp length-map (omega arith))
+    let number : List ℕ → ℤ = λ text. unwrap_or (whole_number text) (pos 0) in
+    let behind = drop FIRST_VALUE fields in
+    let enough : SCENARIOS ≤ length behind = omega (arith, length-drop FIRST_VALUE fields) in
+    let left : length (take SCENARIOS behind) ≡ SCENARIOS = length-take-le SCENARIOS behind enough in
+    ext_get_or (pos 0) values (map number (take SCENARIOS behind)) (simp length-map (omega arith))
     (λ i inside.
     let few : i < SCENARIOS = omega arith in
-    let there : i < length (take SCENARIOS (drop FIRST_VALUE fields)) = omega arith in
-    each i few ∙ sym (get_or-map (λ text. unwrap_or (whole_number text) (pos 0)) (take SCENARIOS (drop FIRST_VALUE fields)) i [] (pos 0) there
-    ∙ ap (λ text. unwrap_or (whole_number text) (pos 0)) (get_or-take SCENARIOS (drop FIRST_VALUE fields) i [] few ∙ get_or-drop FIRST_VALUE fields i [])))
+    let there : i < length (take SCENARIOS behind) = omega arith in
+    each i few ∙ sym (get_or-map number (take SCENARIOS behind) i [] (pos 0) there
+    ∙ ap number (get_or-take SCENARIOS behind i [] few ∙ get_or-drop FIRST_VALUE fields i [])))
