@@ -1,7 +1,7 @@
 -- What the forms of fields say of the numbers that a record takes from them.
-use Rattle.std.proofs.Common.{◌≡◌, ◌∙◌, ◌+◌, ◌*◌, ◌<◌, ◌≤◌, ◌&&◌, ◌==◌, sym, refl, ap, arith, ℕ, suc, zero}
-use Rattle.std.proofs.Common.{Bool, true, false, length-append}
-use Rattle.std.proofs.Common.{if◌then◌else◌, ℤ, pos, negsuc, List, [], ◌∷◌, ◌++◌, length, take, drop, Option, Some, None}
+use Rattle.std.proofs.Common.{◌≡◌, ◌∙◌, ◌+◌, ◌*◌, ◌<◌, ◌≤◌, ◌&&◌, ◌==◌, sym, refl, ap, arith, ℕ, suc, zero, Bool, true}
+use Rattle.std.proofs.Common.{false, length-append, if◌then◌else◌, ℤ, pos, negsuc, List, [], ◌∷◌, ◌++◌, length, take}
+use Rattle.std.proofs.Common.{drop, Option, Some, None}
 use Rattle.std.specs.Prelude.{nat_le, nat_abs, unwrap_or, slice_get}
 use Rattle.std.specs.Char.{is_ascii_digit}
 use Rattle.std.specs.List.{list_all, repeat}
@@ -10,7 +10,7 @@ use Rattle.std.proofs.Math.Nat.{suc-mul}
 use Rattle.std.proofs.lemmas.List.{get_or_past}
 use Rattle.std.proofs.lemmas.Bool.{and_parts, and_from, leb-true, le-leb, eqb-true, ne_eqb}
 use Rattle.span_money.specs.Numbers.{positive_part, whole_number, month_number, are_digits, digits_value, is_month}
-use Rattle.span_tables.specs.Limits.{lies_within}
+use Rattle.span_tables.specs.near.Limits.{lies_within}
 use Rattle.span_csv.specs.Records.{Fields, count_at, text_at, all_have, is_within, is_in_range}
 use Rattle.span_csv.specs.declared.grammar.FieldForm.{FieldForm}
 use Rattle.span_csv.specs.declared.grammar.FieldForm.TheVariants as form

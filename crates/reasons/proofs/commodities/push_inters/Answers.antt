@@ -19,9 +19,9 @@ loop-inter-preserved c =
     let i = length c.loop-inter.yielded in
     let s = c.in-Some.inter.now in
     let f = c.in-Some.ways.now in
-    let turn = zip_turn spreads formed c.loop-inter.yielded c.into_iter-inter-iterator.result c.loop-inter.inter-iterator
-    c.next.new.self c.next.result (cc) (cc) c.loop-inter.yielded_by (c.in-Some.inter, c.in-Some.ways) c.in-Some.is
-    c.next.ensures.steps in
+    let turn = zip_turn spreads formed c.loop-inter.yielded c.into_iter-inter-iterator.result
+    c.loop-inter.inter-iterator c.next.new.self c.next.result (cc) (cc) c.loop-inter.yielded_by
+    (c.in-Some.inter, c.in-Some.ways) c.in-Some.is c.next.ensures.steps in
     let long : length (c.loop-inter.yielded ++ (c.in-Some.inter, c.in-Some.ways) ∷ []) ≡ i + 1 = length-append _ _ in
     let lines : List ShownInter → List ℕ = λ xs. reasons_text ids (map inter_reason xs) in
     c.in_ok-push_inter_ways.ensures ∙ ap (λ o. o ++ lines (ways_in n (s, f))) c.loop-inter.invariant
@@ -42,4 +42,5 @@ returns c = λ all is.
     let whole : take i pairs ≡ pairs = take_all i pairs (omega (arith, end, length-zip spreads formed)) in
     c.loop-inter.invariant
     ∙ ap (λ xs. c.args.out.now.items ++ reasons_text c.args.ids.now (map inter_reason xs))
-    (ap (flat_map (ways_in n)) whole ∙ ap (λ fs. flat_map (ways_in n) (zip spreads fs)) is ∙ inters_shown-zip n spreads all)
+    (ap (flat_map (ways_in n)) whole ∙ ap (λ fs. flat_map (ways_in n) (zip spreads fs)) is
+    ∙ inters_shown-zip n spreads all)
