@@ -1,7 +1,7 @@
 //! What the tests share: a writer that breaks, and what a command line gives.
 use span_cli::sources::Sources;
 use span_cli::words::run_words;
-use span_told::MarkedWriter;
+use statement::marked_writer::MarkedWriter;
 use std::alloc::Global;
 use std::io;
 use std::io::{ErrorKind, Write};

@@ -8,7 +8,7 @@ use span_cli::reading::{Turns, read_within};
 use span_cli::serving::{Request, serve};
 use span_cli::sources::{ReadFault, Sources};
 use span_cli::words::request;
-use span_told::MarkedWriter;
+use statement::marked_writer::MarkedWriter;
 use std::alloc::Global;
 use std::process::Abort;
 use std::rt::Files;

@@ -4,7 +4,7 @@ use sample_files::one_future::{PARAMS, POSITIONS, STATEMENT};
 use span_cli::memory::InMemory;
 use span_cli::sources::{ReadFault, Sources};
 use span_cli::words::{refuse_words, run_words};
-use span_told::MarkedWriter;
+use statement::marked_writer::MarkedWriter;
 use std::alloc::Global;
 use std::io;
 use std::io::{ErrorKind, Write};

@@ -3,7 +3,7 @@ ghost use Rattle.clap.specs.Words.{subcommand_of};
 ghost use Rattle.span_cli.specs.Serving.{Answer, answer_of, done, file_line, refused};
 ghost use Rattle.span_cli.specs.Telling.{Tells};
 ghost use Rattle.span_cli.specs.Words.{is_taken, span_app};
-ghost use Rattle.span_told.specs.Streams.{Stream};
+ghost use Rattle.statement.specs.Streams.{Stream};
 ghost use Rattle.statement.specs.FaultLines.{fault_line, fault_status};
 ghost use Rattle.statement.specs.declared.faults.SpanFault.{SpanFault};
 ghost use Rattle.std.specs.Io.KnownBytes.{Appends};

@@ -3,7 +3,7 @@ ghost use Rattle.span_cli.specs.Serving.{IsAnswer, IsOfRoll, all_read, answered,
 ghost use Rattle.span_cli.specs.Telling.{Serves, Tells};
 ghost use Rattle.span_cli.specs.near.Refusals.{Loads, LoadsAll, MayGive, Runs, refusal_line, refusal_status};
 ghost use Rattle.span_cli.specs.declared.serving.Refusal.TheVariants as refusal;
-ghost use Rattle.span_told.specs.Streams.{Says};
+ghost use Rattle.statement.specs.Streams.{Says};
 ghost use Rattle.std.specs.Prelude.{◌≡◌, ◌≤◌, IfOk, IfSome, List, false, length, map, ℕ};
 
 use crate::sources::{ReadFault, Sources};
@@ -11,11 +11,11 @@ use arrayvec::ArrayVec;
 use explanation::explaining::explain;
 use result_book::books::ResultBook;
 use span_tables::name::Name;
-use span_told::MarkedWriter;
 use statement::counts::check_plain;
 use statement::fault_lines::tell_fault;
 use statement::faults::{SpanFault, status};
 use statement::margin::margin;
+use statement::marked_writer::MarkedWriter;
 use statement::plans::plan_plain;
 use statement::roll::roll;
 use statement::statuses::{DONE, FILE_FAILED};

@@ -8,7 +8,7 @@ ghost use Rattle.span_cli.specs.Words.{account_in, account_rule, asked_among, as
 ghost use Rattle.span_cli.specs.Words.{has_form, is_taken, joined_words, kinds_of, misnames_in, number_in, span_app};
 ghost use Rattle.span_cli.specs.Words.{with_commands, with_rules, workers_in, workers_rule};
 ghost use Rattle.span_cli.specs.near.Rows.{file_rule_of, option_rule, row_app};
-ghost use Rattle.span_told.specs.Streams.{Says};
+ghost use Rattle.statement.specs.Streams.{Says};
 ghost use Rattle.statement.specs.FaultLines.{memory_line};
 ghost use Rattle.std.specs.IoError.{error_kind};
 ghost use Rattle.std.specs.declared.io.ErrorKind.TheVariants as kind;
@@ -21,7 +21,7 @@ use clap::builder::ValueParser;
 use clap::error::ErrorKind;
 use clap::{Arg, ArgMatches, Command, Error};
 use span_tables::name::Name;
-use span_told::MarkedWriter;
+use statement::marked_writer::MarkedWriter;
 use statement::statuses::{DONE, FILE_FAILED, OUT_OF_MEMORY, USAGE};
 use std::alloc::{AllocError, Global};
 use std::convert::AsStr;

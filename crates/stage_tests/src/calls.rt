@@ -17,7 +17,6 @@ use span_tables::groups::{empty_lists, push_at};
 use span_tables::held::{Held, gather, gather_all, gather_held};
 use span_tables::portfolios::{Portfolio, Portfolios};
 use span_tables::tables::Tables;
-use span_told::MarkedWriter;
 use spread_stage::deltas::month_deltas;
 use spread_stage::months::MonthUnits;
 use spread_stage::tiers::{spread, start};
@@ -29,7 +28,6 @@ use std::test::Fail;
 fn calls_succeed(rt: HostRuntime) -> Result<(), Fail> {
     let alloc = rt.alloc();
     fields(&rt, alloc)?;
-    writes(&rt, alloc)?;
     lists(&rt, alloc)?;
     let tables = tables_read(&rt, alloc)?;
     let account = account_read(&rt, alloc, &tables)?;
@@ -49,16 +47,6 @@ fn fields(rt: &impl Abort, alloc: Global) -> Result<(), AllocError> {
         line.as_slice(),
         b"0.5X,AA,1.5,A\nY,AA,-12,1740\n".as_slice()
     );
-    Ok(())
-}
-
-// `span_told`: bytes and a text.
-fn writes(rt: &impl Abort, alloc: Global) -> Result<(), Fail> {
-    let mut told = MarkedWriter::new(Vec::new(alloc));
-    told.write_all(b"one,")?;
-    told.write_fmt("two\n")?;
-    assert!(rt; !told.failed());
-    assert_eq!(rt; told.into_inner().as_slice(), b"one,two\n".as_slice());
     Ok(())
 }
 

@@ -3,3 +3,4 @@ pub mod FitLemmas
 pub mod OutcomeLemmas
 pub mod RollLemmas
 pub mod FaultLemmas
+pub mod SayLemmas

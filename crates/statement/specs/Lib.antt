@@ -4,4 +4,5 @@ pub mod Listing
 pub mod FaultLines
 pub mod Rolls
 pub mod Statement
+pub mod Streams
 pub mod near

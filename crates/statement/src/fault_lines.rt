@@ -2,16 +2,16 @@
 ghost use Rattle.statement.specs.FaultLines.{account_line, bind_line, book_line, check_line, fault_line, param_line};
 ghost use Rattle.statement.specs.FaultLines.{place_text, position_line, record_line};
 ghost use Rattle.statement.specs.near.LineParts.{text_of};
-ghost use Rattle.span_told.specs.Streams.{Says};
+ghost use Rattle.statement.specs.Streams.{Says};
 ghost use Rattle.std.specs.Io.KnownBytes.{Appends};
 ghost use Rattle.std.specs.Prelude.{◌++◌, ◌≡◌, OnOk, codes};
 
 use crate::faults::SpanFault;
+use crate::marked_writer::MarkedWriter;
 use param_check::faults::{BindFault, CheckFault};
 use result_book::books::BookFault;
 use span_csv::faults::{ParamFault, PositionFault};
 use span_tables::name::Name;
-use span_told::MarkedWriter;
 use std::io;
 use std::io::Write;
 

@@ -10,6 +10,7 @@ mod kept;
 pub mod laws;
 pub mod lines;
 pub mod margin;
+pub mod marked_writer;
 pub mod plans;
 pub mod roll;
 pub mod statuses;

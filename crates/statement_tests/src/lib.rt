@@ -1,5 +1,5 @@
 //! Tests of statements and of their reasons, from the teams of workers up: of what no clause says, as that the calls succeed where
-//! there is memory, that a roll has a second thread, and the texts of faults.
+//! there is memory, that a roll has a second thread, that a writer which fails is remembered, and the texts of faults.
 //!
 //! They stand in a crate of their own, since a crate with tests is proved twice.
 #![tactic(auto)]
@@ -8,5 +8,7 @@
 mod calls;
 #[cfg(test)]
 mod faults;
+#[cfg(test)]
+mod marked_writer;
 #[cfg(test)]
 mod rolls;

@@ -1,4 +1,4 @@
-use Rattle.span_told.proofs.SayLemmas.{Says-two}
+use Rattle.statement.proofs.SayLemmas.{Says-two}
 use Rattle.statement.proofs.fault_lines.tell_place.Goals as goal
 
 pub returns : goal.returns

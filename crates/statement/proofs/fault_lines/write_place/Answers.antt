@@ -1,4 +1,4 @@
-use Rattle.span_told.proofs.SayLemmas.{OnOk-two}
+use Rattle.statement.proofs.SayLemmas.{OnOk-two}
 use Rattle.statement.proofs.fault_lines.write_place.Goals as goal
 
 pub returns : goal.returns

@@ -1,5 +1,5 @@
 //! Writers that fail: no clause says when a write does.
-use span_told::MarkedWriter;
+use statement::marked_writer::MarkedWriter;
 use std::fmt;
 use std::fmt::{Display, Formatter};
 use std::io::Write;
@@ -13,6 +13,16 @@ impl Display for Unsayable {
     fn fmt<W: fmt::Write>(&self, _f: &mut Formatter<W>) -> fmt::Result {
         Err(fmt::Error)
     }
+}
+
+#[test]
+fn writes_where_nothing_fails(rt: HostRuntime) -> Result<(), Fail> {
+    let mut told = MarkedWriter::new(Vec::new(rt.alloc()));
+    told.write_all(b"one,")?;
+    told.write_fmt("two\n")?;
+    assert!(rt; !told.failed());
+    assert_eq!(rt; told.into_inner().as_slice(), b"one,two\n".as_slice());
+    Ok(())
 }
 
 #[test]

@@ -1,6 +1,4 @@
 //! Writers that remember whether a write failed.
-#![tactic(auto)]
-
 ghost use Rattle.std.specs.Io.KnownBytes.{Appends};
 ghost use Rattle.std.specs.Prelude.{◌≡◌, IfSome, OnErr, OnOk, false, true};
 
@@ -18,7 +16,7 @@ pub struct MarkedWriter<W: Write> {
 }
 
 impl<W: Write> Model for MarkedWriter<W> {
-    ghost use Rattle.span_told.specs.Streams.{Stream};
+    ghost use Rattle.statement.specs.Streams.{Stream};
 
     ghost Value = { Stream };
 
