@@ -2,13 +2,13 @@
 ghost use Rattle.std.specs.Prelude.{◌≡◌, ◌≤◌, ◌+◌, ◌<◌, ◌^◌, drop, length, map, pos, take, true, unwrap_or};
 ghost use Rattle.csv.specs.Records.{fields_of};
 ghost use Rattle.span_csv.specs.near.Grammar.{Fits, leg_at};
-ghost use Rattle.span_csv.specs.Records.{array_place, commodity_record, extras_in};
+ghost use Rattle.span_csv.specs.Records.{array_place, commodity_record, contract_record, count_at, extras_in, inter_leg};
+ghost use Rattle.span_csv.specs.Records.{inter_record, intra_leg, intra_record, legs_of, ratio_at, record_of_kind, set_record};
+ghost use Rattle.span_csv.specs.Records.{spot_record, text_at, tier_record};
 ghost use Rattle.span_csv.specs.declared.contents.TheConstants.{EXTRAS};
-ghost use Rattle.span_csv.specs.Records.{contract_record, count_at, inter_leg, inter_record, intra_leg, intra_record, legs_of};
-ghost use Rattle.span_csv.specs.Records.{ratio_at, record_of_kind, set_record, spot_record, text_at, tier_record};
+ghost use Rattle.span_csv.specs.declared.grammar.Kind.TheVariants as kind;
 ghost use Rattle.span_money.specs.Numbers.{whole_number};
 ghost use Rattle.span_tables.specs.Names.{is_name};
-ghost use Rattle.span_csv.specs.declared.grammar.Kind.TheVariants as kind;
 
 use crate::fields::{
     count_at, currency_at, delta_at, method_at, name_at, product_at, profile_at, ratio_at,
@@ -23,9 +23,10 @@ use span_tables::records::{
     SetRecord, Spot, Tier,
 };
 
-// The fields of a CONTRACT's risk array begin at this one, and those that its profile adds at that one.
+// The place of the first value of a CONTRACT's risk array.
 const FIRST_VALUE: usize = 7;
 
+// The place of what a profile adds, behind the risk array.
 const EXTRAS: usize = FIRST_VALUE + SCENARIOS;
 
 fn set_record(row: &ByteRecord) -> SetRecord
