@@ -47,6 +47,8 @@ records_of bytes = records default_config (strip_bom bytes)
 
 -- ---- forms
 
+-- what a field may be is `FieldForm`: a number has its lowest and its highest value, a decimal those in 10^-4
+
 -- a rate, from 0
 abbrev pub a_rate : FieldForm
 a_rate = form.Whole (pos 0) (pos MAX_RATE)
