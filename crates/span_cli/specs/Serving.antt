@@ -1,5 +1,5 @@
 -- What is answered to a request.
-use Rattle.std.specs.Prelude.{◌≡◌, ℕ, List, [], ◌∷◌, ◌++◌, codes, Option, Some, None, option_map, Result, Ok, Err, ⊤}
+use Rattle.std.specs.Prelude.{◌≡◌, ℕ, List, [], ◌∷◌, ◌++◌, codes, Option, Some, None, Result, Ok, Err, ⊤}
 use Rattle.explanation.specs.Explanation.{explanation_of}
 use Rattle.statement.specs.Counts.{counts_of}
 use Rattle.statement.specs.Listing.{listing_of}

@@ -1,8 +1,7 @@
-use Rattle.std.proofs.Common.{◌≡◌, ◌∷◌, ◌∙◌, Vec, ℕ, Global, map, drop, rules, arith}
+use Rattle.std.proofs.Common.{◌≡◌, ◌∙◌, Vec, ℕ, Global, map, rules}
 use Rattle.std.proofs.lemmas.List.{drop_all, map-append}
-use Rattle.std.specs.Prelude.{IfSome, Some, None, Ok, Err}
+use Rattle.std.specs.Prelude.{Err}
 use Rattle.span_cli.specs.Serving.{all_read}
-use Rattle.span_cli.specs.near.Refusals.{LoadsAll, read_then}
 use Rattle.span_cli.proofs.ServingLemmas.{last_read, next_of_names, unread_of_names}
 use Rattle.span_cli.proofs.serving.load_all.Goals as goal
 

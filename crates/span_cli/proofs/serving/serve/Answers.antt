@@ -1,4 +1,4 @@
-use Rattle.std.proofs.Common.{◌≡◌, ◌⊎◌, ℕ, inl, inr, refl, rules}
+use Rattle.std.proofs.Common.{inl}
 use Rattle.span_cli.proofs.ServingLemmas.{refusal_serves}
 use Rattle.span_cli.proofs.serving.serve.Goals as goal
 
