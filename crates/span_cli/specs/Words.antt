@@ -38,9 +38,9 @@ pub record FileWord : Type 0 where
 abbrev pub file_rule : FileWord → Rule
 file_rule file = record (new_rule file.id) { required = file.required }
 
--- a name that has to be given
-abbrev pub needed : Text → FileWord
-needed id = record { id = id; required = true }
+-- names that have to be given
+abbrev pub needed : List Text → List FileWord
+needed ids = map (λ id. record { id = id; required = true }) ids
 
 -- the number of workers, from 1 to the most that there can be, and by itself 1
 abbrev pub workers_rule : Rule
@@ -80,16 +80,6 @@ pub record CommandWords : Type 0 where
   pub options : List Rule
   pub asks : List Row → Option Command
 
--- the names of files
-abbrev pub params_word : FileWord
-params_word = needed (codes "PARAMS")
-
-abbrev pub next_word : FileWord
-next_word = needed (codes "NEXT")
-
-abbrev pub positions_word : FileWord
-positions_word = needed (codes "POSITIONS")
-
 -- a command that takes workers, and one that takes an account
 abbrev pub with_workers : (ℕ → Command) → List Row → Option Command
 with_workers command rows = option_map command (workers_in rows)
@@ -104,11 +94,12 @@ words_of name files options asks = record { name = name; files = files; options 
 -- all commands, a line each
 abbrev pub commands : List CommandWords
 commands =
-    words_of (codes "check") (params_word ∷ []) [] (λ rows. Some Check)
-    ∷ words_of (codes "plan") (params_word ∷ []) [] (λ rows. Some Plan)
-    ∷ words_of (codes "margin") (params_word ∷ positions_word ∷ []) (workers_rule ∷ []) (with_workers Margin)
-    ∷ words_of (codes "explain") (params_word ∷ positions_word ∷ []) (account_rule ∷ []) (with_account Explain)
-    ∷ words_of (codes "roll") (params_word ∷ next_word ∷ positions_word ∷ []) (workers_rule ∷ []) (with_workers Roll)
+    words_of (codes "check") (needed (codes "PARAMS" ∷ [])) [] (λ rows. Some Check)
+    ∷ words_of (codes "plan") (needed (codes "PARAMS" ∷ [])) [] (λ rows. Some Plan)
+    ∷ words_of (codes "margin") (needed (codes "PARAMS" ∷ codes "POSITIONS" ∷ [])) (workers_rule ∷ []) (with_workers Margin)
+    ∷ words_of (codes "explain") (needed (codes "PARAMS" ∷ codes "POSITIONS" ∷ [])) (account_rule ∷ []) (with_account Explain)
+    ∷ words_of (codes "roll") (needed (codes "PARAMS" ∷ codes "NEXT" ∷ codes "POSITIONS" ∷ [])) (workers_rule ∷ [])
+    (with_workers Roll)
     ∷ []
 
 -- a command with these arguments behind its own

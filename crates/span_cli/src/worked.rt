@@ -155,14 +155,11 @@ fn shown()
 
 // A file that cannot be read, or is too long, is named.
 fn files_that_are_not_read()
-    ensures failed { IsAnswer (λ _. Some (Err read.Failed)) (Check, codes "p" ∷ [])
-        (refused 6 (codes "file: p\n")) }
-    ensures too_long { IsAnswer (λ _. Some (Err read.TooLong)) (Check, codes "p" ∷ [])
-        (refused 6 (codes "file: p\n")) }
+    ensures failed { IsAnswer (λ _. Some (Err read.Failed)) (Check, codes "p" ∷ []) (refused 6 (codes "file: p\n")) }
+    ensures too_long { IsAnswer (λ _. Some (Err read.TooLong)) (Check, codes "p" ∷ []) (refused 6 (codes "file: p\n")) }
     ensures memory { IsAnswer (λ _. Some (Err read.OutOfMemory)) (Check, codes "p" ∷ [])
         (refused 5 (codes "memory\n")) }
-    ensures of_a_plan { IsAnswer (λ _. Some (Err read.Failed)) (Plan, codes "p" ∷ [])
-        (refused 6 (codes "file: p\n")) }
+    ensures of_a_plan { IsAnswer (λ _. Some (Err read.Failed)) (Plan, codes "p" ∷ []) (refused 6 (codes "file: p\n")) }
 {}
 
 // The first of several is named, also where those behind it are unknown.
