@@ -19,7 +19,8 @@ returns-in-Err-clause-words g c =
     words_refused (kinds_of (joined_words (map g.T.AsStr.text c.args.words.now))) _ c.from.result _ _ _ _ _
     (inl wanted) c.refuse.ensures (λ told.
     IfSome-each (asked_in (joined_words (map g.T.AsStr.text c.args.words.now)))
-    (λ asked. Serves (g.S.Sources.file c.args.sources.now) asked c.refuse.result c.args.out.now c.refuse.new.out c.args.err.now c.refuse.new.err) (λ a. inr told))
+    (λ asked. Serves (g.S.Sources.file c.args.sources.now) asked c.refuse.result c.args.out.now c.refuse.new.out
+    c.args.err.now c.refuse.new.err) (λ a. inr told))
 
 pub returns-in-Err-clause-taken : goal.returns-in-Err-clause-taken
 returns-in-Err-clause-taken g c = λ taken.
@@ -27,4 +28,5 @@ returns-in-Err-clause-taken g c = λ taken.
     let told = subst (λ (k : ErrorKind). Refuses k c.refuse.result c.args.out.now c.refuse.new.out c.args.err.now c.refuse.new.err)
     wanted c.refuse.ensures in
     IfSome-each (asked_in (joined_words (map g.T.AsStr.text c.args.words.now)))
-    (λ asked. Serves (g.S.Sources.file c.args.sources.now) asked c.refuse.result c.args.out.now c.refuse.new.out c.args.err.now c.refuse.new.err) (λ a. inr told)
+    (λ asked. Serves (g.S.Sources.file c.args.sources.now) asked c.refuse.result c.args.out.now c.refuse.new.out
+    c.args.err.now c.refuse.new.err) (λ a. inr told)

@@ -1,4 +1,5 @@
-use Rattle.std.proofs.Common.{rules, ◌++◌, ◌≡◌, ◌<◌, ◌≤◌, ◌≢◌, List, length, Bool, true, false, ltb, arith, get_or, refl, ap, ◌∙◌, sym, subst}
+use Rattle.std.proofs.Common.{rules, ◌++◌, ◌≡◌, ◌<◌, ◌≤◌, ◌≢◌, List, length, Bool, true, false, ltb, arith, get_or, refl, ap}
+use Rattle.std.proofs.Common.{◌∙◌, sym, subst}
 use Rattle.std.specs.List.{AllWithin}
 use Rattle.std.specs.List.Sorted.{IsPartitionPoint, IsPartitionedBy}
 use Rattle.std.proofs.lemmas.Bool.Decides.{nat_tests}
@@ -48,5 +49,6 @@ returns-in_ok-insert c =
     ] in
     subst (AreGathered t (holdings ++ c.args.run.now)) (sym c.in_ok-insert.ensures.items)
     (inserted t limits holdings c.args.run.now c.args.commodity of known lists before place
-    (record { commodity = c.args.commodity; holdings = c.in_ok-holdings.holdings }) (omega (arith, c.partition_point-place.ensures.bound)) below
+    (record { commodity = c.args.commodity; holdings = c.in_ok-holdings.holdings })
+    (omega (arith, c.partition_point-place.ensures.bound)) below
     (above_place lists c.args.commodity place before.rise most other) refl c.in_ok-holdings.ensures.items c.requires)

@@ -19,4 +19,5 @@ invariant_of-self c =
     subst (λ (ms : List MonthUnits). AreTiers (record { rests = ms; charge = charge }) c.self.inside.sides) (sym same)
     (tiers_after before c.self.inside.sides rests charge c.self.invariant c.form-formed.ensures.rise
     (c.form-formed.ensures.shrinks c.self.inside.rests.items
-    (rw c.deref_mut.ensures.value (shrinks_none c.self.inside.rests.items))) (omega (arith, size, c.charge_of.ensures.bound, c.form-formed.ensures.less)))
+    (rw c.deref_mut.ensures.value (shrinks_none c.self.inside.rests.items)))
+    (omega (arith, size, c.charge_of.ensures.bound, c.form-formed.ensures.less)))
