@@ -11,6 +11,7 @@ use result_book::rows::Row;
 use sample_files::{calendar, two_commodities};
 use sample_sets::files::tables_of;
 use span_csv::positions::read_positions;
+use span_money::line_fields::Field;
 use span_tables::portfolios::{Portfolio, Portfolios};
 use span_tables::tables::Tables;
 use statement::accepting::{Accepted, accept};
@@ -167,7 +168,8 @@ fn reasons_of(alloc: Global, tables: &Tables, portfolio: &Portfolio) -> Result<V
     let _kept = portfolio.holdings();
     let _limits = tables.commodities();
     let mut out = Vec::new(alloc);
-    push_reasons(alloc, &mut out, b",X,D1,AA", tables, &stages, 0)?;
+    let ids = [Field::Text("X"), Field::Text("D1"), Field::Text("AA")];
+    push_reasons(alloc, &mut out, &ids, tables, &stages, 0)?;
     Ok(out)
 }
 
