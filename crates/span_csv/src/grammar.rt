@@ -250,7 +250,6 @@ fn with_legs(
 }
 
 // Whether each field from a place on passes the test of its form, one for each form.
-#[inline(always)]
 fn all_from(test: FieldTest, forms: &[FieldForm], row: &ByteRecord, place: usize) -> bool
     requires room { place + length forms.now ≤ length (fields_of row.now) }
     requires small { place + length forms.now < 2 ^ 64 }
