@@ -1,6 +1,7 @@
 //! A calendar spread with a spot month, under a set and under the next.
 
-/// Two tiers with a spread between them, and a spot month in the first.
+/// Two tiers with a spread between them, and a spot month in the first:
+/// `tests/cases/two-tier-spread-and-spot-month/params.csv`.
 pub const PARAMS: &[u8] = b"\
 SET,D1,1,USD
 COMMODITY,AA,0,SUM
@@ -12,7 +13,7 @@ INTRA,AA,1,250,1,A,1,2,B,1
 SPOT,AA,202503,10,20
 ";
 
-/// The next set: each spread costs 300, and not 250.
+/// The next set: each spread costs 300, and not 250: `tests/cases/next-set-with-a-higher-rate/next.csv`.
 pub const NEXT: &[u8] = b"\
 SET,D2,1,USD
 COMMODITY,AA,0,SUM
@@ -24,7 +25,7 @@ INTRA,AA,1,300,1,A,1,2,B,1
 SPOT,AA,202503,10,20
 ";
 
-/// A next set that lacks FA2, which is held.
+/// A next set that lacks FA2, which is held: `tests/cases/next-set-lacks-a-held-contract/next.csv`.
 pub const NEXT_WITHOUT_A_CONTRACT: &[u8] = b"\
 SET,D2,1,USD
 COMMODITY,AA,0,SUM
@@ -35,22 +36,25 @@ INTRA,AA,1,300,1,A,1,2,B,1
 SPOT,AA,202503,10,20
 ";
 
-/// What a check of the first set says of it.
+/// What a check of the first set says of it: `tests/cases/counts-of-a-full-file/stdout`.
 pub const COUNTS: &[u8] = b"OK,D1,1,2,2,1,1,0\n";
 
-/// An account that is long three of the near month and short two of the far one.
+/// An account that is long three of the near month and short two of the far one:
+/// `tests/cases/two-tier-spread-and-spot-month/positions.csv`.
 pub const POSITIONS: &[u8] = b"\
 X,FA,3
 X,FA2,-2
 ";
 
-/// One at 1200, two spreads at 250, one month left at 20 and two spreads of it at 10.
+/// One at 1200, two spreads at 250, one month left at 20 and two spreads of it at 10:
+/// `tests/cases/two-tier-spread-and-spot-month/stdout`.
 pub const STATEMENT: &[u8] = b"\
 R,X,D1,AA,1200,13,500,40,0,0,1740
 T,X,D1,1740
 ";
 
-/// Its lines: two spreads of 250 form, which leaves one of the near month.
+/// Its lines: two spreads of 250 form, which leaves one of the near month:
+/// `tests/cases/two-tier-spread-and-spot-month-explained/stdout`.
 pub const EXPLANATION: &[u8] = b"\
 HELD,X,D1,AA,FA,F,202503,3
 HELD,X,D1,AA,FA2,F,202506,-2
@@ -66,7 +70,8 @@ R,X,D1,AA,1200,13,500,40,0,0,1740
 T,X,D1,1740
 ";
 
-/// The same, and then under the next set two spreads at 300.
+/// The same, and then under the next set two spreads at 300:
+/// `tests/cases/next-set-with-a-higher-rate/stdout`.
 pub const BOTH_STATEMENTS: &[u8] = b"\
 R,X,D1,AA,1200,13,500,40,0,0,1740
 T,X,D1,1740

@@ -1,6 +1,7 @@
 //! Three commodities with two spreads between them, of which the second has what the first left.
 
-/// Three commodities with a future each, and two intercommodity spreads.
+/// Three commodities with a future each, and two intercommodity spreads:
+/// `tests/cases/three-commodities-two-spreads/params.csv`.
 pub const PARAMS: &[u8] = b"\
 SET,D1,1,USD
 COMMODITY,AA,0,SUM
@@ -13,14 +14,16 @@ INTER,1,5000,AA,A,1,BB,B,1
 INTER,2,2000,AA,A,1,CC,B,1
 ";
 
-/// An account that is long in the first commodity, and short in each other.
+/// An account that is long in the first commodity, and short in each other:
+/// `tests/cases/three-commodities-two-spreads/positions.csv`.
 pub const POSITIONS: &[u8] = b"\
 X,FA,3
 X,FB,-1
 X,FC,-1
 ";
 
-/// Three at 1200, which earn half of 1200 and a fifth of 1200; half of 900; a fifth of 300.
+/// Three at 1200, which earn half of 1200 and a fifth of 1200; half of 900; a fifth of 300:
+/// `tests/cases/three-commodities-two-spreads/stdout`.
 pub const STATEMENT: &[u8] = b"\
 R,X,D1,AA,3600,13,0,0,840,0,2760
 R,X,D1,BB,900,11,0,0,450,0,450

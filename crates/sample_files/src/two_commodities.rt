@@ -1,6 +1,7 @@
 //! Two commodities with a spread between them.
 
-/// Two commodities with a future each, and an intercommodity spread.
+/// Two commodities with a future each, and an intercommodity spread:
+/// `tests/cases/two-commodities-one-credit/params.csv`.
 pub const PARAMS: &[u8] = b"\
 SET,D1,1,USD
 COMMODITY,AA,0,SUM
@@ -10,20 +11,23 @@ CONTRACT,FB,BB,F,202503,1,1,0,0,-300,-300,300,300,-600,-600,600,600,-900,-900,90
 INTER,1,5000,AA,A,1,BB,B,1
 ";
 
-/// An account that is long one in the first commodity, and short two in the second.
+/// An account that is long one in the first commodity, and short two in the second:
+/// `tests/cases/two-commodities-one-credit/positions.csv`.
 pub const POSITIONS: &[u8] = b"\
 X,FA,1
 X,FB,-2
 ";
 
-/// One at 1200, of which half is credited; two at 900, and half of 900.
+/// One at 1200, of which half is credited; two at 900, and half of 900:
+/// `tests/cases/two-commodities-one-credit/stdout`.
 pub const STATEMENT: &[u8] = b"\
 R,X,D1,AA,1200,13,0,0,600,0,600
 R,X,D1,BB,1800,11,0,0,450,0,1350
 T,X,D1,1950
 ";
 
-/// Their lines: one spread forms, at half of what each of its deltas risks.
+/// Their lines: one spread forms, at half of what each of its deltas risks:
+/// `tests/cases/two-commodities-one-credit-explained/stdout`.
 pub const EXPLANATION: &[u8] = b"\
 HELD,X,D1,AA,FA,F,202503,1
 SUMS,X,D1,AA,0,0,-400,-400,400,400,-800,-800,800,800,-1200,-1200,1200,1200,-1188,1188
