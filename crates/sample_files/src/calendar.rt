@@ -53,7 +53,7 @@ R,X,D1,AA,1200,13,500,40,0,0,1740
 T,X,D1,1740
 ";
 
-/// Its lines: two spreads of 250 form, which leaves one of the near month:
+/// The account explained: two spreads of 250 form, which leaves one of the near month:
 /// `tests/cases/two-tier-spread-and-spot-month-explained/stdout`.
 pub const EXPLANATION: &[u8] = b"\
 HELD,X,D1,AA,FA,F,202503,3
@@ -70,7 +70,7 @@ R,X,D1,AA,1200,13,500,40,0,0,1740
 T,X,D1,1740
 ";
 
-/// The same, and then under the next set two spreads at 300:
+/// The statement, and behind it the one under the next set, with two spreads at 300:
 /// `tests/cases/next-set-with-a-higher-rate/stdout`.
 pub const BOTH_STATEMENTS: &[u8] = b"\
 R,X,D1,AA,1200,13,500,40,0,0,1740

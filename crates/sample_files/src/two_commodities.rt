@@ -26,7 +26,7 @@ R,X,D1,BB,1800,11,0,0,450,0,1350
 T,X,D1,1950
 ";
 
-/// Their lines: one spread forms, at half of what each of its deltas risks:
+/// The account explained: one spread forms, at half of what each of its deltas risks:
 /// `tests/cases/two-commodities-one-credit-explained/stdout`.
 pub const EXPLANATION: &[u8] = b"\
 HELD,X,D1,AA,FA,F,202503,1
