@@ -1,5 +1,5 @@
 -- What the tests of a record's fields say of it.
-use Rattle.std.proofs.Common.{◌≡◌, ◌-◌, ◌∙◌, ap, refl, ℕ, Bool, true, false, if◌then◌else◌, List}
+use Rattle.std.proofs.Common.{◌≡◌, ◌-◌, ◌&&◌, ◌∙◌, ap, refl, sym, ℕ, Bool, true, false, if◌then◌else◌, List}
 use Rattle.std.proofs.Common.{[], ◌∷◌, ◌++◌, length, drop, Option, Some, None, inl, inr}
 use Rattle.std.specs.Prelude.{ℤ, is_some, option_map}
 use Rattle.std.specs.Option.{option_map_or}
@@ -10,6 +10,7 @@ use Rattle.span_csv.specs.near.Checks.{IsFree, IsFaultOf, field_faults}
 use Rattle.span_csv.specs.Records.{Fields, forms_of, kind_of, layout_of, product_at}
 use Rattle.span_csv.specs.Records.{is_within, is_in_range, has_number_form, has_word_form, all_have}
 use Rattle.span_csv.specs.declared.faults.ParamFault.{ParamFault}
+use Rattle.span_csv.specs.declared.faults.ParamFault.TheVariants as fault
 use Rattle.span_csv.specs.declared.grammar.FieldForm.{FieldForm}
 use Rattle.span_csv.specs.declared.grammar.FieldForm.TheVariants as form
 use Rattle.span_csv.specs.declared.grammar.Kind.{Kind}
@@ -73,6 +74,37 @@ all_in_range_number (form ∷ forms) (text ∷ fields) e =
     and_from (has_number_form form text) (all_have has_number_form forms fields) (in_range_number form text parts.0)
     (all_in_range_number forms fields parts.1)
 
+-- ---- two tests at once
+
+both_parts : (a b c d : Bool) → ((a && b) && (c && d)) ≡ ((a && c) && (b && d))
+both_parts true true c d = refl
+both_parts true false true d = refl
+both_parts true false false d = refl
+both_parts false b c d = refl
+
+-- all fields pass two tests where all pass the first and all the second
+pub all_have_both : (a b : FieldForm → List ℕ → Bool) (forms : List FieldForm) (fields : Fields)
+    → all_have (λ form text. a form text && b form text) forms fields ≡ (all_have a forms fields && all_have b forms fields)
+all_have_both a b [] fields = refl
+all_have_both a b (form ∷ forms) [] = refl
+all_have_both a b (form ∷ forms) (text ∷ fields) =
+    rw (all_have_both a b forms fields) (both_parts (a form text) (b form text) (all_have a forms fields) (all_have b forms fields))
+
+module _ (forms : List FieldForm) (fields : Fields) (right : Bool)
+    (is : right ≡ all_have (λ form text. has_word_form form text && is_in_range form text) forms fields) where
+  split : right ≡ (all_have has_word_form forms fields && all_have is_in_range forms fields)
+  split = is ∙ all_have_both has_word_form is_in_range forms fields
+
+  -- a record that passes has words of their forms, and numbers in their ranges
+  pub right_parts : right ≡ true → (all_have has_word_form forms fields ≡ true) × (all_have is_in_range forms fields ≡ true)
+  right_parts passes = and_parts _ _ (sym split ∙ passes)
+
+  -- one that fails, and has words of their forms, has a number out of its range
+  pub range_fails : right ≡ false → all_have has_word_form forms fields ≡ true → all_have is_in_range forms fields ≡ false
+  range_fails fails words = sym (ap (λ b. b && all_have is_in_range forms fields) words) ∙ sym split ∙ fails
+
+-- ---- the faults of fields
+
 -- no fault of fields holds that are of their forms and in their ranges
 pub none_fails : (kind : Kind) (profile : ℕ) (r : Fields) (forms : List FieldForm) → kind_of r ≡ Some kind
     → forms_of kind profile (product_at r 3) (length r - 1) ≡ Some forms
@@ -81,4 +113,13 @@ pub none_fails : (kind : Kind) (profile : ℕ) (r : Fields) (forms : List FieldF
 none_fails kind profile r forms is e words ranges =
     let layout : layout_of profile r ≡ Some forms = rw is e in
     let numbers = all_in_range_number forms (drop 1 r) ranges in
+    rw (layout, words, numbers, ranges) refl
+
+-- the fault of fields that have their forms, and of which a number is out of its range
+pub out_of_range : (kind : Kind) (profile at : ℕ) (r : Fields) (forms : List FieldForm) → kind_of r ≡ Some kind
+    → forms_of kind profile (product_at r 3) (length r - 1) ≡ Some forms
+    → all_have has_word_form forms (drop 1 r) ≡ true → all_have has_number_form forms (drop 1 r) ≡ true
+    → all_have is_in_range forms (drop 1 r) ≡ false → IsFaultOf (field_faults profile r) at (fault.OutOfRange at)
+out_of_range kind profile at r forms is e words numbers ranges =
+    let layout : layout_of profile r ≡ Some forms = rw is e in
     rw (layout, words, numbers, ranges) refl

@@ -45,12 +45,12 @@ fn check_fields(at: usize, profile: u8, kind: Kind, row: &ByteRecord) -> Result<
     let Some(layout) = kind.layout(profile, row) else {
         return Err(ParamFault::FieldCount { at });
     };
+    // One walk over the fields serves a record without a fault.
+    if layout.all_have(FieldTest::All, row) {
+        return Ok(());
+    }
     if !layout.all_have(FieldTest::Word, row) {
         return Err(ParamFault::BadName { at });
-    }
-    // A number in its range has its form, which is tested of the others alone.
-    if layout.all_have(FieldTest::Range, row) {
-        return Ok(());
     }
     if layout.all_have(FieldTest::Number, row) {
         Err(ParamFault::OutOfRange { at })
@@ -73,8 +73,6 @@ pub(crate) fn check_form(
     ensures free { OnOk result (IsFree (kind_faults first (fields_of row.now) ++ field_faults profile (fields_of row.now))) }
 {
     let kind = check_kind(first, at, row)?;
-    match check_fields(at, profile, kind, row) {
-        Ok(()) => Ok(kind),
-        Err(fault) => Err(fault),
-    }
+    check_fields(at, profile, kind, row)?;
+    Ok(kind)
 }

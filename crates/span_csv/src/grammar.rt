@@ -45,12 +45,13 @@ pub enum Kind {
     Inter,
 }
 
-/// What is tested of a field: that a word is of its form, that a number is of its form, or that a number is in its range.
+/// What is tested of a field: that a word is of its form, that a number is of its form, or that a word is of its form and a
+/// number in its range.
 #[derive(Clone, Copy)]
 pub(crate) enum FieldTest {
     Word,
     Number,
-    Range,
+    All,
 }
 
 const VERSION: FieldForm = FieldForm::Whole {
@@ -119,7 +120,7 @@ static CONTRACT_FRONT: [FieldForm; 6] = [
     SCALE,
 ];
 
-static ARRAY_VALUES: [FieldForm; 1] = [ARRAY_VALUE];
+static ARRAY_VALUES: [FieldForm; SCENARIOS] = [ARRAY_VALUE; SCENARIOS];
 
 // The back of a future's record and of an option's, where options have a value.
 static FUTURE_BACK: [FieldForm; 1] = [NO_VALUE];
@@ -229,7 +230,7 @@ fn contract_forms(profile: u8, product: ProductKind) -> Layout
     Layout {
         front: &CONTRACT_FRONT,
         middle: &ARRAY_VALUES,
-        times: SCENARIOS,
+        times: 1,
         back: contract_back(profile, product),
     }
 }
@@ -422,7 +423,7 @@ impl FieldForm {
         match test {
             FieldTest::Word => self.has_word_form(text),
             FieldTest::Number => self.has_number_form(text),
-            FieldTest::Range => self.is_in_range(text),
+            FieldTest::All => self.has_word_form(text) && self.is_in_range(text),
         }
     }
 }

@@ -1,5 +1,5 @@
 -- What the code tests of a field, and what it takes from a record whose fields pass the tests.
-use Rattle.std.specs.Prelude.{◌≡◌, ◌<◌, ◌≤◌, ◌+◌, ◌*◌, ◌^◌, ℕ, Bool, true, List, [], ◌∷◌, length, nat_abs}
+use Rattle.std.specs.Prelude.{◌≡◌, ◌<◌, ◌≤◌, ◌+◌, ◌*◌, ◌^◌, ◌&&◌, ℕ, Bool, true, List, [], ◌∷◌, length, nat_abs}
 use Rattle.span_tables.specs.Names.{is_name}
 use Rattle.span_tables.specs.declared.limits.TheConstants.{MAX_LEGS}
 use Rattle.span_csv.specs.Records.{Fields, has_word_form, has_number_form, is_in_range, text_at, count_at, decimal_at, ratio_at}
@@ -14,7 +14,7 @@ use Rattle.span_csv.specs.declared.grammar.FieldTest.TheVariants as field_test
 abbrev pub passes : FieldTest → FieldForm → List ℕ → Bool
 passes field_test.Word = has_word_form
 passes field_test.Number = has_number_form
-passes field_test.Range = is_in_range
+passes field_test.All = λ form text. has_word_form form text && is_in_range form text
 
 -- the three fields of a leg, from a place on
 abbrev pub leg_at : Fields → ℕ → Fields
