@@ -38,7 +38,7 @@ fn power(exponent: usize) -> u64
     POWERS[exponent]
 }
 
-// How many whole ones there are, and what is left of the number.
+// The whole ones in a number, and the rest below one.
 fn split(number: u128, one: u64) -> (u128, u64)
     requires { 0 < one }
     ensures whole { result.0 ≡ number / one }
@@ -61,7 +61,7 @@ fn push_whole(out: &mut Vec<u8>, whole: u128) -> Result<(), AllocError>
     }
 }
 
-// The digits of a fraction of so many places, up to the last that is not 0.
+// Appends the digits of a fraction of so many places, up to the last digit that is not 0.
 fn push_digits(out: &mut Vec<u8>, fraction: u64, places: usize) -> Result<(), AllocError>
     requires few { places ≤ 18 }
     requires below { fraction < 10 ^ places }
@@ -78,7 +78,7 @@ fn push_digits(out: &mut Vec<u8>, fraction: u64, places: usize) -> Result<(), Al
     Ok(())
 }
 
-// A point and the digits of a fraction, where it is not 0.
+// Appends a point and the digits of a fraction, where the fraction is not 0.
 fn push_fraction(out: &mut Vec<u8>, fraction: u64, places: usize) -> Result<(), AllocError>
     requires few { places ≤ 18 }
     requires below { fraction < 10 ^ places }
@@ -91,7 +91,7 @@ fn push_fraction(out: &mut Vec<u8>, fraction: u64, places: usize) -> Result<(), 
     push_digits(out, fraction, places)
 }
 
-// A number from 0 on.
+// Appends the exact decimal of a number from 0 on.
 fn push_unsigned(out: &mut Vec<u8>, number: u128, places: usize) -> Result<(), AllocError>
     requires { places ≤ 18 }
     ensures { OnOk result (out.new.items ≡ out.old.items ++ unsigned_exact places number) }
@@ -102,7 +102,7 @@ fn push_unsigned(out: &mut Vec<u8>, number: u128, places: usize) -> Result<(), A
 }
 
 /// Appends the exact decimal of a number that is held in 10^-`places` (docs/FORMATS.md, Explanation): 50000000 at 8 places
-/// is `0.5`. `Err` is want of memory, and then a part of the text may have been appended.
+/// is `0.5`. At an `Err` a part of the text may have been appended.
 #[tactic(auto, unfolding(crate::specs::ExactDecimals::exact_decimal))]
 pub fn push_exact(out: &mut Vec<u8>, number: i128, places: usize) -> Result<(), AllocError>
     requires { places ≤ 18 }

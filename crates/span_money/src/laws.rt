@@ -18,18 +18,21 @@ pub fn money_has_these_digits()
 {}
 
 /// Rounded up, a quotient is the least number that is large enough.
+#[tactic(auto, using(crate::proofs::NumberLaws::div_ceil_least))]
 pub fn rounding_up_is_least()
     ensures { (x d : ℕ) → 0 < d → (x ≤ div_ceil x d * d) × ((g : ℕ) → x ≤ g * d → div_ceil x d ≤ g) }
 {}
 
 /// Rounded down, a quotient is the greatest number that fits: `greatest_fit` gives the greatest n with n times the ratio at
 /// most the rest.
+#[tactic(auto, using(crate::proofs::NumberLaws::div_greatest))]
 pub fn greatest_fit_is_greatest()
     ensures { (rest ratio : ℕ) → 0 < ratio
         → ((rest / ratio) * ratio ≤ rest) × ((n : ℕ) → n * ratio ≤ rest → n ≤ rest / ratio) }
 {}
 
 /// What `decimal` writes of a whole number of at most 18 digits, `parse_whole` reads as that number.
+#[tactic(auto, using(crate::proofs::TextLaws::read_back))]
 pub fn written_numbers_read_back()
     ensures { (z : ℤ) → nat_abs z < 10 ^ 18 → whole_number (signed_decimal z) ≡ Some z }
 {}
@@ -38,10 +41,11 @@ pub fn written_numbers_read_back()
 /// digits. It is read as what these spell.
 pub fn decimals_are_read()
     ensures reads { (text : List ℕ) (z : ℤ) → IsDecimal text z → decimal_number text ≡ Some z }
-    ensures only { (text : List ℕ) (z : ℤ) → decimal_number text ≡ Some z → IsDecimal text z }
+    ensures no_other { (text : List ℕ) (z : ℤ) → decimal_number text ≡ Some z → IsDecimal text z }
 {}
 
 /// An exact decimal reads back as the number that it was written of, of at most 64 digits.
+#[tactic(auto, using(crate::proofs::ExactLaws::exact_read_back))]
 pub fn exact_decimals_read_back()
     ensures { (places : ℕ) (z : ℤ) → nat_abs z < 10 ^ 64 → exact_value places (exact_decimal places z) ≡ z }
 {}

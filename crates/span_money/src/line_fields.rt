@@ -28,7 +28,7 @@ fn push_field(out: &mut Vec<u8>, text: &[u8]) -> Result<(), AllocError>
     out.extend_from_slice(text)
 }
 
-/// Appends a comma and a whole number. `Err` is want of memory.
+/// Appends a comma and a whole number.
 pub fn push_number(out: &mut Vec<u8>, n: i128) -> Result<(), AllocError>
     ensures { OnOk result (out.new.items ≡ out.old.items ++ field (signed_decimal n)) }
 {
@@ -82,7 +82,7 @@ fn push_fields(out: &mut Vec<u8>, fields: &[Field<'_>]) -> Result<(), AllocError
     Ok(())
 }
 
-/// Appends what a line begins with: its word, and the ids behind it. `Err` is want of memory.
+/// Appends what a line begins with: its word, and the ids behind it.
 pub fn push_start(out: &mut Vec<u8>, word: &str, ids: &[Field<'_>]) -> Result<(), AllocError>
     ensures { OnOk result (out.new.items ≡ out.old.items ++ word.now ++ flat_map field (map field_text ids.now)) }
 {
@@ -90,7 +90,7 @@ pub fn push_start(out: &mut Vec<u8>, word: &str, ids: &[Field<'_>]) -> Result<()
     push_fields(out, ids)
 }
 
-/// Appends a line: its word, the ids behind it, and its fields. `Err` is want of memory.
+/// Appends a line: its word, the ids behind it, and its fields.
 pub fn push_line(
     out: &mut Vec<u8>,
     word: &str,
@@ -106,7 +106,7 @@ pub fn push_line(
     Ok(())
 }
 
-/// Appends a line whose fields behind its ids are whole numbers. `Err` is want of memory.
+/// Appends a line whose fields behind its ids are whole numbers.
 pub fn push_line_of_numbers(
     out: &mut Vec<u8>,
     word: &str,
