@@ -49,7 +49,7 @@ module _ {X : Type 0} (key : X → List ℕ) where
         | inr none ↦ (let n : length (filter (λ x. bytes_eq (key x) id) xs) ≡ 0 = ap length (none_has id xs none) in omega (arith, n))
       ]
 
-  -- and in another order
+  -- at most so many have any name where the list stands in another order
   pub at_most_permuted : {Y : Type 0} (f : X → Y) (most : ℕ) (xs ys : List X) → at_most_each most key xs ≡ true
       → IsPermutation xs ys → (id : List ℕ)
       → length (map f (filter (λ x. bytes_eq (key x) id) ys)) ≤ most

@@ -25,7 +25,7 @@ module _ {A F : Type 0} (fault_of : List A → A → Option (ℕ → F)) where
       let h = head_none before x xs (fault_of before x) refl e in
       (h.0, first_fault_none (before ++ x ∷ []) xs h.1)
 
-  -- and the other way round
+  -- where no element has a fault, there is no answer
   pub first_fault_free : (before xs : List A) → IsFaultFree fault_of before xs → first_fault_after fault_of before xs ≡ None
   first_fault_free before [] free = refl
   first_fault_free before (x ∷ xs) free = rw free.0 (first_fault_free (before ++ x ∷ []) xs free.1)

@@ -95,7 +95,7 @@ module _ {C X Y : Type 0} (id : C → List ℕ) (key : X → List ℕ) (f : X �
   groups_none [] = refl
   groups_none (c ∷ cs) = ap (λ zs. [] ∷ zs) (groups_none cs)
 
-  -- those of the k-th
+  -- the list of the k-th name
   pub groups_at : (cs : List C) (xs : List X) (k : ℕ) (d : C) → k < length cs
       → get_or (groups cs xs) k [] ≡ group xs (get_or cs k d)
   groups_at [] xs k d lt = absurd (omega arith)

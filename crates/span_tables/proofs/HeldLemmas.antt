@@ -220,18 +220,3 @@ pub held_here : (held : List HeldContract) (i : ℕ) (x : Contract) (n : ℤ) �
 held_here [] i x n lt contract net = absurd (omega arith)
 held_here (h ∷ hs) zero x n lt contract net = λ j. record { contract = contract j; net = net j }
 held_here (h ∷ hs) (suc i) x n lt contract net = held_here hs i x n (omega arith) contract net
-
--- one contract more, and a holding of it
-pub AreHoldings-push : (xs : List Contract) (hs : List Holding) (x : Contract) (h : Holding) → AreHoldings xs hs → length hs < MAX_HELD
-    → nat_abs h.net ≤ MAX_NET → h.contract ≡ length xs → IsContract x → AreHoldings (xs ++ x ∷ []) (hs ++ h ∷ [])
-AreHoldings-push xs hs x h are few net at is =
-    let long = length-append xs (x ∷ []) in
-    let longer = length-append hs (h ∷ []) in
-    record {
-      few = omega (arith, few, longer);
-      nets = All-push (λ g. nat_abs g.net ≤ MAX_NET) hs h are.nets net;
-      known =
-          All-push (λ g. g.contract < length (xs ++ x ∷ [])) hs h (λ k d lt. let below = are.known k d lt in omega (arith, long, below))
-          (omega (arith, long, at));
-      in_range = All-push IsContract xs x are.in_range is;
-    }

@@ -1,6 +1,6 @@
 -- Each commodity that a record names is one of the file.
 use Rattle.std.proofs.Common.{◌≡◌, ℕ, suc, ◌+◌, ◌<◌, Bool, true, false, cond, eqb}
-use Rattle.std.proofs.Common.{ltb, not, List, [], ◌∷◌, length, map, refl, ap, ◌∙◌, arith}
+use Rattle.std.proofs.Common.{ltb, not, Option, List, [], ◌∷◌, length, map, refl, ap, ◌∙◌, arith}
 use Rattle.std.specs.Prelude.{All, MatchOption, ◌||◌, ◌==◌, bytes_eq, filter_map}
 use Rattle.std.specs.List.{AllByRecursion, list_any}
 use Rattle.std.proofs.lemmas.Bool.Decides.{nat_tests}
@@ -56,21 +56,19 @@ abbrev pub NamesKnown : List Commodity → Record → Type 0
 NamesKnown cs r = All (IsKnown cs) (named_commodities r)
 
 module _ (cs : List Commodity) where
-  contract_known : (r : Record) → NamesKnown cs r → MatchOption (as_contract r) (Unit {0}) (λ x. IsKnown cs x.commodity)
-  contract_known (record_of.Contract x) k = All-head (IsKnown cs) x.commodity [] k
-  contract_known _ k = tt
+  -- the commodity of a record is known, where the record is of a kind
+  abbrev KnownIf : {Y : Type 0} → (Y → List ℕ) → Option Y → Type 0
+  KnownIf commodity o = MatchOption o (Unit {0}) (λ y. IsKnown cs (commodity y))
 
-  tier_known : (r : Record) → NamesKnown cs r → MatchOption (as_tier r) (Unit {0}) (λ x. IsKnown cs x.commodity)
-  tier_known (record_of.Tier x) k = All-head (IsKnown cs) x.commodity [] k
-  tier_known _ k = tt
-
-  intra_known : (r : Record) → NamesKnown cs r → MatchOption (as_intra r) (Unit {0}) (λ x. IsKnown cs x.commodity)
-  intra_known (record_of.Intra x) k = All-head (IsKnown cs) x.commodity [] k
-  intra_known _ k = tt
-
-  spot_known : (r : Record) → NamesKnown cs r → MatchOption (as_spot r) (Unit {0}) (λ x. IsKnown cs x.commodity)
-  spot_known (record_of.Spot x) k = All-head (IsKnown cs) x.commodity [] k
-  spot_known _ k = tt
+  -- the commodity of a contract, a tier, an intra or a spot
+  one_known : (r : Record) → NamesKnown cs r
+      → KnownIf (λ x. x.commodity) (as_contract r) × KnownIf (λ x. x.commodity) (as_tier r)
+      × KnownIf (λ x. x.commodity) (as_intra r) × KnownIf (λ x. x.commodity) (as_spot r)
+  one_known (record_of.Contract x) k = (All-head (IsKnown cs) x.commodity [] k, tt, tt, tt)
+  one_known (record_of.Tier x) k = (tt, All-head (IsKnown cs) x.commodity [] k, tt, tt)
+  one_known (record_of.Intra x) k = (tt, tt, All-head (IsKnown cs) x.commodity [] k, tt)
+  one_known (record_of.Spot x) k = (tt, tt, tt, All-head (IsKnown cs) x.commodity [] k)
+  one_known _ k = (tt, tt, tt, tt)
 
   legs_known : (legs : List InterLeg) → All (IsKnown cs) (map (λ leg. leg.commodity) legs)
       → All (λ leg. IsKnown cs leg.commodity) legs
@@ -87,17 +85,17 @@ module _ (cs : List Commodity) where
 
   pub contracts_known : (rs : List Record) → AllByRecursion (NamesKnown cs) rs
       → All (λ x. IsKnown cs x.commodity) (filter_map as_contract rs)
-  contracts_known = of_kind as_contract _ (NamesKnown cs) contract_known
+  contracts_known = of_kind as_contract _ (NamesKnown cs) (λ r k. (one_known r k).0)
 
   pub tiers_known : (rs : List Record) → AllByRecursion (NamesKnown cs) rs → All (λ x. IsKnown cs x.commodity) (filter_map as_tier rs)
-  tiers_known = of_kind as_tier _ (NamesKnown cs) tier_known
+  tiers_known = of_kind as_tier _ (NamesKnown cs) (λ r k. (one_known r k).1)
 
   pub intras_known : (rs : List Record) → AllByRecursion (NamesKnown cs) rs
       → All (λ x. IsKnown cs x.commodity) (filter_map as_intra rs)
-  intras_known = of_kind as_intra _ (NamesKnown cs) intra_known
+  intras_known = of_kind as_intra _ (NamesKnown cs) (λ r k. (one_known r k).2)
 
   pub spots_known : (rs : List Record) → AllByRecursion (NamesKnown cs) rs → All (λ x. IsKnown cs x.commodity) (filter_map as_spot rs)
-  spots_known = of_kind as_spot _ (NamesKnown cs) spot_known
+  spots_known = of_kind as_spot _ (NamesKnown cs) (λ r k. (one_known r k).3)
 
   pub inters_known : (rs : List Record) → AllByRecursion (NamesKnown cs) rs
       → All (λ x. All (λ leg. IsKnown cs leg.commodity) x.legs.items) (filter_map as_inter rs)
@@ -139,7 +137,7 @@ module _ (cs : List Commodity) (apart : has_repeat (λ c d. bytes_eq c.id d.id) 
       let rest = any_same a legs (All-tail (λ (leg : InterLeg). IsKnown cs leg.commodity) b legs k) in
       λ i. here i || rest i
 
-  -- so legs of commodities apart have numbers apart
+  -- legs of commodities apart have numbers apart
   pub legs_apart : (legs : List InterLeg) → All (λ leg. IsKnown cs leg.commodity) legs
       → has_repeat (λ (a b : CommodityLeg). a.commodity == b.commodity) (map (commodity_leg cs) legs)
       ≡ has_repeat (λ a b. bytes_eq a.commodity b.commodity) legs

@@ -28,7 +28,7 @@ name_at keys a known name within is same = slice_get-get_or keys a known within 
 pub among_at : (keys : List (List ℕ)) (a : ℕ) (name : List ℕ) → slice_get keys a ≡ Some name → is_among keys name ≡ true
 among_at keys a name at = any_passes_from_place (bytes_eq name) keys a name at ((bytes_eq-Decides name name).1 refl)
 
--- and is what is read there
+-- a name that stands at a place is what is read at the place
 pub name_there : (keys : List (List ℕ)) (a : ℕ) (name : List ℕ) → slice_get keys a ≡ Some name → get_or keys a [] ≡ name
 name_there [] a name at = cc
 name_there (k ∷ keys) zero name at = cc
@@ -82,7 +82,7 @@ module _ (keys keys' : List (List ℕ)) (records : List NumberedPosition) (p : N
       ∙ ap (λ front. front ++ named_position keys' p ∷ [])
       (ap (λ ks. named_positions ks records) more ∙ same_named keys name records was.known)
 
-  -- and they are numbered by their accounts
+  -- the records with one more are numbered by their accounts
   pub numbered_more : length keys' ≤ MAX_ACCOUNTS → nat_abs p.quantity ≤ MAX_QUANTITY → AreNumbered keys' (records ++ p ∷ [])
   numbered_more few small = record {
     accounts_are =
@@ -98,13 +98,3 @@ module _ (keys keys' : List (List ℕ)) (records : List NumberedPosition) (p : N
         (slice_get_within keys' p.account name at);
     small = All-push (λ (q : NumberedPosition). nat_abs q.quantity ≤ MAX_QUANTITY) records p was.small small;
   }
-
--- no record, of no account
-pub numbered_none : AreNumbered [] []
-numbered_none =
-    record {
-      accounts_are = refl;
-      few = omega arith;
-      known = λ i d within. absurd (omega (arith, within));
-      small = λ i d within. absurd (omega (arith, within));
-    }

@@ -59,7 +59,7 @@ module _ {A : Type 0} (key : A → ℕ) where
       rising_if (nat_le (key x) (key y)) x y ys (placed_by key x ys) refl r r.0 (λ le. placed_at_least (key y) x ys le r.0)
       (placed_rises x ys r.1)
 
-  -- and they rise
+  -- a list in order of a key rises by the key
   pub rising_rises : (xs : List A) → IsRisingBy key (rising_by key xs)
   rising_rises [] = tt
   rising_rises (x ∷ xs) = placed_rises x (rising_by key xs) (rising_rises xs)

@@ -1,5 +1,5 @@
 -- What the ranges of records say of those of each kind.
-use Rattle.std.proofs.Common.{◌≡◌, ℕ, ◌<◌, ◌≤◌, Bool, true, arith, List, [], ◌∷◌, length, map, sym, subst}
+use Rattle.std.proofs.Common.{◌≡◌, ℕ, ◌<◌, ◌≤◌, Bool, true, arith, Option, List, [], ◌∷◌, length, map, sym, subst}
 use Rattle.std.specs.Prelude.{All, MatchOption, filter_map, find, nat_abs, nat_le, option_map, unwrap_or}
 use Rattle.std.specs.List.{AllByRecursion, list_all}
 use Rattle.std.proofs.lemmas.Bool.{leb-true}
@@ -42,29 +42,30 @@ within low high n e = let h = and_true (nat_le low n) (nat_le n high) e in (leb-
 
 -- ---- the records of each kind pass their tests
 
-set_passes : (r : Record) → in_range r ≡ true → MatchOption (as_set r) (Unit {0}) (λ s. set_in_range s ≡ true)
-set_passes (record_of.Set s) e = e
-set_passes _ e = tt
+-- the test of a kind is passed by a record, where the record is of the kind
+abbrev PassesIf : {Y : Type 0} → (Y → Bool) → Option Y → Type 0
+PassesIf test o = MatchOption o (Unit {0}) (λ y. test y ≡ true)
 
-commodity_passes : (r : Record) → in_range r ≡ true → MatchOption (as_commodity r) (Unit {0}) (λ c. commodity_in_range c ≡ true)
-commodity_passes (record_of.Commodity c) e = e
-commodity_passes _ e = tt
+-- a record in its ranges passes the test of its kind: set, commodity, contract, intra, spot and inter
+abbrev Passes : Record → Type 0
+Passes r =
+    PassesIf set_in_range (as_set r) × PassesIf commodity_in_range (as_commodity r) × PassesIf contract_in_range (as_contract r)
+    × PassesIf intra_in_range (as_intra r) × PassesIf spot_in_range (as_spot r) × PassesIf inter_in_range (as_inter r)
 
-contract_passes : (r : Record) → in_range r ≡ true → MatchOption (as_contract r) (Unit {0}) (λ c. contract_in_range c ≡ true)
-contract_passes (record_of.Contract c) e = e
-contract_passes _ e = tt
+passes : (r : Record) → in_range r ≡ true → Passes r
+passes (record_of.Set s) e = (e, tt, tt, tt, tt, tt)
+passes (record_of.Commodity c) e = (tt, e, tt, tt, tt, tt)
+passes (record_of.Contract c) e = (tt, tt, e, tt, tt, tt)
+passes (record_of.Tier t) e = (tt, tt, tt, tt, tt, tt)
+passes (record_of.Intra s) e = (tt, tt, tt, e, tt, tt)
+passes (record_of.Spot s) e = (tt, tt, tt, tt, e, tt)
+passes (record_of.Inter s) e = (tt, tt, tt, tt, tt, e)
 
-intra_passes : (r : Record) → in_range r ≡ true → MatchOption (as_intra r) (Unit {0}) (λ s. intra_in_range s ≡ true)
-intra_passes (record_of.Intra s) e = e
-intra_passes _ e = tt
-
-spot_passes : (r : Record) → in_range r ≡ true → MatchOption (as_spot r) (Unit {0}) (λ s. spot_in_range s ≡ true)
-spot_passes (record_of.Spot s) e = e
-spot_passes _ e = tt
-
-inter_passes : (r : Record) → in_range r ≡ true → MatchOption (as_inter r) (Unit {0}) (λ s. inter_in_range s ≡ true)
-inter_passes (record_of.Inter s) e = e
-inter_passes _ e = tt
+-- all records of a kind pass its test
+of_test : {Y : Type 0} (of : Record → Option Y) (test : Y → Bool) → ((r : Record) → Passes r → PassesIf test (of r))
+    → (rs : List Record) → list_all in_range rs ≡ true → All (λ y. test y ≡ true) (filter_map of rs)
+of_test of test pick rs e =
+    of_kind of (λ y. test y ≡ true) (λ r. in_range r ≡ true) (λ r h. pick r (passes r h)) rs (by_recursion in_range rs e)
 
 -- ---- what the tests say
 
@@ -148,32 +149,22 @@ first_profile [] all = omega arith
 first_profile (s ∷ ss) all = (within 1 MAX_PROFILE s.profile (and_true _ _ (All-head (λ x. set_in_range x ≡ true) s ss all)).1).1
 
 pub profile_within : (rs : List Record) → list_all in_range rs ≡ true → profile_in rs ≤ MAX_PROFILE
-profile_within rs e =
-    first_profile (filter_map as_set rs)
-    (of_kind as_set (λ s. set_in_range s ≡ true) (λ r. in_range r ≡ true) set_passes rs (by_recursion in_range rs e))
+profile_within rs e = first_profile (filter_map as_set rs) (of_test as_set set_in_range (λ r p. p.0) rs e)
 
 pub rates_within : (rs : List Record) → list_all in_range rs ≡ true
     → All (λ c. c.minimum_rate ≤ MAX_RATE) (filter_map as_commodity rs)
 rates_within rs e =
-    All-weaker (λ c. commodity_in_range c ≡ true) _ rate_within
-    _ (of_kind as_commodity (λ c. commodity_in_range c ≡ true) (λ r. in_range r ≡ true) commodity_passes rs
-    (by_recursion in_range rs e))
+    All-weaker (λ c. commodity_in_range c ≡ true) _ rate_within _ (of_test as_commodity commodity_in_range (λ r p. p.1) rs e)
 
 pub are_contracts : (rs : List Record) → list_all in_range rs ≡ true → All IsContract (filter_map as_contract rs)
 are_contracts rs e =
-    All-weaker (λ c. contract_in_range c ≡ true) _ is_contract
-    _ (of_kind as_contract (λ c. contract_in_range c ≡ true) (λ r. in_range r ≡ true) contract_passes rs (by_recursion in_range rs e))
+    All-weaker (λ c. contract_in_range c ≡ true) _ is_contract _ (of_test as_contract contract_in_range (λ r p. p.2) rs e)
 
 pub are_intras : (rs : List Record) → list_all in_range rs ≡ true → All (λ s. intra_in_range s ≡ true) (filter_map as_intra rs)
-are_intras rs e =
-    of_kind as_intra (λ s. intra_in_range s ≡ true) (λ r. in_range r ≡ true) intra_passes rs (by_recursion in_range rs e)
+are_intras = of_test as_intra intra_in_range (λ r p. p.3)
 
 pub are_spots : (rs : List Record) → list_all in_range rs ≡ true → All IsSpot (filter_map as_spot rs)
-are_spots rs e =
-    All-weaker (λ s. spot_in_range s ≡ true) _ is_spot
-    _ (of_kind as_spot (λ s. spot_in_range s ≡ true) (λ r. in_range r ≡ true) spot_passes rs (by_recursion in_range rs e))
+are_spots rs e = All-weaker (λ s. spot_in_range s ≡ true) _ is_spot _ (of_test as_spot spot_in_range (λ r p. p.4) rs e)
 
 pub are_inters : (rs : List Record) → list_all in_range rs ≡ true → All IsInterRecord (filter_map as_inter rs)
-are_inters rs e =
-    All-weaker (λ s. inter_in_range s ≡ true) _ is_inter
-    _ (of_kind as_inter (λ s. inter_in_range s ≡ true) (λ r. in_range r ≡ true) inter_passes rs (by_recursion in_range rs e))
+are_inters rs e = All-weaker (λ s. inter_in_range s ≡ true) _ is_inter _ (of_test as_inter inter_in_range (λ r p. p.5) rs e)

@@ -146,12 +146,12 @@ module _ (t : AcceptedTables) (limits : IsWithinLimits t) (hs run : List Holding
       ∙ ap (λ gs. filter test hs ++ gs) (filter_alike test (eqb n d) run (tells d below))
       ∙ ap (λ c. filter test hs ++ cond c run []) is
 
-  -- those of its commodity
+  -- a run of a commodity stands behind the holdings of that commodity
   here : n < length t.commodities
       → holdings_in t.contracts (hs ++ run) (commodity_id t n) ≡ holdings_in t.contracts hs (commodity_id t n) ++ run
   here below = let same : eqb n n ≡ true = grind (arith, nat_tests) in with_run n true below same
 
-  -- those of another
+  -- a run of a commodity adds nothing to the holdings of another commodity
   there : (d : ℕ) → d < length t.commodities → d ≢ n
       → holdings_in t.contracts (hs ++ run) (commodity_id t d) ≡ holdings_in t.contracts hs (commodity_id t d)
   there d below apart =
@@ -256,16 +256,6 @@ module _ (t : AcceptedTables) (limits : IsWithinLimits t) (hs run : List Holding
                 there c lt other
                 ∙ before.others c lt (left_of_insert (λ l. l.commodity ≢ c) lists p y le none);
           }
-
--- nothing is gathered of no holdings
-pub none_gathered : (t : AcceptedTables) → AreGathered t [] []
-none_gathered t = record {
-  rise = λ i j d less lt. absurd (omega (arith, lt));
-  in_range = λ k d lt. absurd (omega (arith, lt));
-  each = λ k d lt. absurd (omega (arith, lt));
-  some = λ k d lt. absurd (omega (arith, lt));
-  others = λ c lt none. refl;
-}
 
 -- the gathered holdings are within the limits, and with their records they are what is held
 module _ (t : AcceptedTables) (hs : List Holding) (lists : List HoldingsOf) (limits : IsWithinLimits t) (portfolio : ArePortfolio hs)

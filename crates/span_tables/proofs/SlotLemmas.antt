@@ -43,7 +43,7 @@ pub with_within : (word other number : ℕ) → IsMarked word number → Within 
 with_within word other number h within i =
     omega (arith, bit_at_or other (2 ^ (number % SLOTS)) i, bit_of_one word (number % SLOTS) i (i == number % SLOTS) refl h, within i)
 
--- so all of its slots are there
+-- a set within another has no slot that the other lacks
 pub within_has_all : (word other : ℕ) → Within word other → has_all word other ≡ true
 within_has_all word other within =
     let same : bit_and word other ≡ other =

@@ -37,7 +37,7 @@ tie a b =
     (λ e. grind (arith, nat_tests)) (λ e f. grind (arith, nat_tests))
 
 module _ {A : Type 0} (key : A → ℕ) where
-  -- those of a key
+  -- the elements of a key
   abbrev of_key : ℕ → List A → List A
   of_key k xs = filter (λ x. eqb (key x) k) xs
 
@@ -126,7 +126,7 @@ module _ {A : Type 0} (key : A → ℕ) where
       ∙ filter_agree (ties (λ x y. is_lt (nat_cmp (key x) (key y))) a) (λ y. eqb (key y) (key a)) (λ y. tie (key a) (key y)) xs
       ∙ sym (rising_of_key (key a) xs))
 
-  -- the same from the clauses of `sort_by_key`, where each call gives the key
+  -- a list that `sort_by_key` sorted rises by the key that each call gives
   pub sorted_by_closure : {F : Type 0} {g : Mut F (Bor A × Unit {0}) ℕ} {f : F} (xs ys : List A) → IsSortedByKeyClosure g nat_cmp f ys
       → IsStableByKeyClosure g nat_cmp f xs ys
       → ((a : Bor A × Unit {0}) (r : ℕ) (f' : F) → Called g f a r f' → (r ≡ key a.0.now) × (f' ≡ f))

@@ -4,13 +4,14 @@ use Rattle.std.proofs.Common.{length, map, filter, get_or, refl, ap, ◌∙◌, 
 use Rattle.std.specs.Prelude.{bytes_eq, option_map, slice_get, unwrap_or}
 use Rattle.std.proofs.lemmas.List.{length-map}
 use Rattle.span_tables.specs.Accepted.{commodity_number}
-use Rattle.span_tables.specs.near.Kept.{IsAccepted, IsTables}
+use Rattle.span_tables.specs.near.Kept.{IsAccepted, IsTables, tables_from}
 use Rattle.span_tables.specs.Tables.{commodity_id}
 use Rattle.span_tables.specs.near.ByKind.{AreByKind}
 use Rattle.span_tables.specs.near.Limits.{is_readable}
 use Rattle.span_tables.specs.Rules.{keeps_rules}
 use Rattle.span_tables.specs.Tables.{AcceptedTables, inter_spread, inters_of, intra_spread}
 use Rattle.span_tables.specs.Tables.{intras_of, profile_in, rising_by, set_id_in, spots_of, tables_of}
+use Rattle.span_tables.specs.declared.kinds.Kinds.{Kinds}
 use Rattle.span_tables.specs.declared.records.Commodity.{Commodity}
 use Rattle.span_tables.specs.declared.records.Contract.{Contract}
 use Rattle.span_tables.specs.declared.records.Inter.{Inter}
@@ -67,15 +68,13 @@ module _ (t : AcceptedTables) (accepted : IsAccepted t) where
     inters_are = inters_all inters x;
   }
 
--- the parts of the tables, each as it was made
-pub same_tables : (rs : List Record) (id : List ℕ) (profile : ℕ)
-    (cs : List Commodity) (xs : List Contract) (ts : List Tier) (is js : List IntraRecord)
+-- records by their kinds, of which the spreads were put in order, are those of the tables
+pub same_tables : (rs : List Record) (cs : List Commodity) (xs : List Contract) (ts : List Tier) (is js : List IntraRecord)
     (ss : List Spot) (ns ms : List InterRecord)
-    → id ≡ set_id_in rs → profile ≡ profile_in rs → AreByKind rs cs xs ts is ss ns → js ≡ rising_by (λ s. s.priority) is
-    → ms ≡ rising_by (λ s. s.priority) ns
+    → AreByKind rs cs xs ts is ss ns → js ≡ rising_by (λ s. s.priority) is → ms ≡ rising_by (λ s. s.priority) ns
     → record {
-      set_id = id;
-      profile = profile;
+      set_id = set_id_in rs;
+      profile = profile_in rs;
       commodities = cs;
       contracts = xs;
       tiers = ts;
@@ -84,19 +83,23 @@ pub same_tables : (rs : List Record) (id : List ℕ) (profile : ℕ)
       inters = ms;
     } ≡ tables_of rs
 unfolding tables_of
-same_tables rs id profile cs xs ts is js ss ns ms named version kinds i n =
-    let js_are = i ∙ ap (rising_by (λ (s : IntraRecord). s.priority)) kinds.intras_are in
-    let ms_are = n ∙ ap (rising_by (λ (s : InterRecord). s.priority)) kinds.inters_are in
+same_tables rs cs xs ts is js ss ns ms are i n =
+    let intras_are = i ∙ ap (rising_by (λ (s : IntraRecord). s.priority)) are.intras_are in
+    let inters_are = n ∙ ap (rising_by (λ (s : InterRecord). s.priority)) are.inters_are in
     λ k. record {
-      set_id = named k;
-      profile = version k;
-      commodities = kinds.commodities_are k;
-      contracts = kinds.contracts_are k;
-      tiers = kinds.tiers_are k;
-      intras = js_are k;
-      spots = kinds.spots_are k;
-      inters = ms_are k;
+      set_id = set_id_in rs;
+      profile = profile_in rs;
+      commodities = are.commodities_are k;
+      contracts = are.contracts_are k;
+      tiers = are.tiers_are k;
+      intras = intras_are k;
+      spots = are.spots_are k;
+      inters = inters_are k;
     }
+
+pub named_tables : (rs : List Record) (id : List ℕ) (profile : ℕ) (kinds : Kinds) → id ≡ set_id_in rs → profile ≡ profile_in rs
+    → tables_from (set_id_in rs) (profile_in rs) kinds ≡ tables_of rs → tables_from id profile kinds ≡ tables_of rs
+named_tables rs id profile kinds named version same = rw (named, version) same
 
 -- accepted tables in parts
 pub accepted_as : (t : AcceptedTables) (rs : List Record) → t ≡ tables_of rs → is_readable rs ≡ true → keeps_rules rs ≡ true

@@ -21,7 +21,6 @@ use Rattle.span_tables.specs.declared.records.InterRecord.{InterRecord}
 use Rattle.span_tables.specs.declared.records.IntraRecord.{IntraRecord}
 use Rattle.span_tables.specs.declared.records.Record.{Record}
 use Rattle.span_tables.specs.declared.records.Spot.{Spot}
-use Rattle.span_tables.specs.declared.records.Tier.{Tier}
 use Rattle.span_tables.proofs.Counts.{at_most, at_most_permuted}
 use Rattle.span_tables.proofs.KeptRules.{all_kept, and_true, apart, of_each}
 use Rattle.span_tables.proofs.Known.{IsKnown, NamesKnown, all_known, contracts_known, inters_apart}
@@ -140,40 +139,23 @@ within_limits rs is_r keeps =
 
 -- ---- of accepted tables
 
-known_tiers : (rs : List Record) → KeepsRules rs
-    → All (λ x. commodity_number (tables_of rs).commodities x.commodity < length (tables_of rs).commodities) (tables_of rs).tiers
-unfolding tables_of
-known_tiers rs k = tiers_known (commodities_in rs) rs k.named
-
-known_spots : (rs : List Record) → KeepsRules rs
-    → All (λ x. commodity_number (tables_of rs).commodities x.commodity < length (tables_of rs).commodities) (tables_of rs).spots
-unfolding tables_of
-known_spots rs k = spots_known (commodities_in rs) rs k.named
-
-known_intras : (rs : List Record) → KeepsRules rs
-    → All (λ x. commodity_number (tables_of rs).commodities x.commodity < length (tables_of rs).commodities) (tables_of rs).intras
-unfolding tables_of
-known_intras rs k =
-    All-permutation (λ (x : IntraRecord). commodity_number (commodities_in rs) x.commodity < length (commodities_in rs)) (intras_in rs) _
-    (rising_permutation (λ (s : IntraRecord). s.priority) (intras_in rs)) (intras_known (commodities_in rs) rs k.named)
-
 pub accepted_limits : (t : AcceptedTables) → IsAccepted t → IsWithinLimits t
 accepted_limits t a = subst IsWithinLimits (sym a.tables) (within_limits a.records a.readable a.kept)
 
 pub accepted_tiers : (t : AcceptedTables) → IsAccepted t
     → All (λ x. commodity_number t.commodities x.commodity < length t.commodities) t.tiers
-accepted_tiers t a =
-    subst (λ (u : AcceptedTables). All (λ (x : Tier). commodity_number u.commodities x.commodity < length u.commodities) u.tiers)
-    (sym a.tables) (known_tiers a.records (kept a.records a.kept))
+unfolding tables_of
+accepted_tiers t a = rw a.tables (tiers_known (commodities_in a.records) a.records (kept a.records a.kept).named)
 
 pub accepted_spots : (t : AcceptedTables) → IsAccepted t
     → All (λ x. commodity_number t.commodities x.commodity < length t.commodities) t.spots
-accepted_spots t a =
-    subst (λ (u : AcceptedTables). All (λ (x : Spot). commodity_number u.commodities x.commodity < length u.commodities) u.spots)
-    (sym a.tables) (known_spots a.records (kept a.records a.kept))
+unfolding tables_of
+accepted_spots t a = rw a.tables (spots_known (commodities_in a.records) a.records (kept a.records a.kept).named)
 
 pub accepted_intras : (t : AcceptedTables) → IsAccepted t
     → All (λ x. commodity_number t.commodities x.commodity < length t.commodities) t.intras
+unfolding tables_of
 accepted_intras t a =
-    subst (λ (u : AcceptedTables). All (λ (x : IntraRecord). commodity_number u.commodities x.commodity < length u.commodities) u.intras)
-    (sym a.tables) (known_intras a.records (kept a.records a.kept))
+    rw a.tables (All-permutation (λ (x : IntraRecord). IsKnown (commodities_in a.records) x.commodity) (intras_in a.records) _
+    (rising_permutation (λ (s : IntraRecord). s.priority) (intras_in a.records))
+    (intras_known (commodities_in a.records) a.records (kept a.records a.kept).named))

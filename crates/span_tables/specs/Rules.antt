@@ -100,7 +100,7 @@ named_commodities (Intra x) = x.commodity ∷ []
 named_commodities (SpotRecord x) = x.commodity ∷ []
 named_commodities (Inter x) = map (λ leg. leg.commodity) x.legs.items
 
--- it names a commodity that no COMMODITY record of the file has
+-- a record names a commodity that no COMMODITY record of the file has
 abbrev pub names_no_commodity : List Record → Record → Bool
 names_no_commodity all r =
     list_any (λ name. not (list_any (λ c. bytes_eq c.id name) (commodities_in all))) (named_commodities r)

@@ -51,7 +51,7 @@ set_in rs = find (λ s. true) (filter_map as_set rs)
 abbrev pub set_id_in : List Record → List ℕ
 set_id_in rs = unwrap_or (option_map (λ s. s.id) (set_in rs)) []
 
--- its profile
+-- the profile of the set
 abbrev pub profile_in : List Record → ℕ
 profile_in rs = unwrap_or (option_map (λ s. s.profile) (set_in rs)) 1
 

@@ -17,6 +17,7 @@ fn place_of(commodities: &[Commodity], id: &Name) -> Option<usize>
 }
 
 // The number of the commodity of an id, or the number of commodities where there is none.
+#[tactic(auto, using(crate::proofs::Places::position_or_length))]
 pub(crate) fn number_of(commodities: &[Commodity], id: &Name) -> usize
     ensures { result ≡ commodity_number commodities.now id.now }
 {
@@ -38,7 +39,7 @@ pub(crate) fn numbers_of(
     Ok(numbers)
 }
 
-/// As many empty lists. `Err` is want of memory.
+/// Empty lists, as many as `count` says.
 pub fn empty_lists<T: Drop>(alloc: Global, count: usize) -> Result<Vec<Vec<T>>, AllocError>
     ensures { IfOk result (λ lists. map (λ v. v.items) lists.items ≡ replicate count []) }
 {
@@ -63,7 +64,7 @@ pub(crate) fn lists_with_room<T: Drop>(
     Ok(lists)
 }
 
-/// Appends a value to the list at a place. `Err` is want of memory.
+/// Appends a value to the list at a place.
 pub fn push_at<T: Drop>(lists: &mut Vec<Vec<T>>, place: usize, value: T) -> Result<(), AllocError>
     requires { place < length lists.old.items }
     ensures items { OnOk result (map (λ v. v.items) lists.new.items

@@ -58,7 +58,7 @@ impl Held {
         }
     }
 
-    /// No held contracts, under these tables. `Err` is want of memory.
+    /// No held contracts, under these tables.
     pub fn none(alloc: Global, tables: &Tables) -> Result<Held, AllocError>
         ensures { IfOk result (λ held. held ≡ []) }
     {
@@ -299,8 +299,8 @@ pub fn gather_held(
     with_records(alloc, tables, lists)
 }
 
-/// Which commodities an account holds a contract of, by the commodities' numbers, in one pass over the holdings. It takes
-/// no memory.
+/// Which commodities an account holds a contract of, by the commodities' numbers, in one pass over the holdings, without
+/// taking memory.
 pub fn held_commodities(tables: &Tables, portfolio: &Portfolio) -> [bool; MAX_COMMODITIES]
     requires { fits (length tables.now.contracts) portfolio.now.holdings ≡ true }
     ensures { (c : ℕ) → c < length tables.now.commodities → slice_index_or result c false

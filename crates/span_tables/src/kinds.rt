@@ -1,9 +1,10 @@
 //! The records of a file by their kinds.
 ghost use Rattle.std.specs.Prelude.{◌≡◌, ◌++◌, true, IfOk, OnOk, option_to_list};
 ghost use Rattle.span_tables.specs.near.ByKind.{AreByKind};
+ghost use Rattle.span_tables.specs.near.Kept.{tables_from};
 ghost use Rattle.span_tables.specs.near.Limits.{begins_with_set};
 ghost use Rattle.span_tables.specs.Rules.{as_commodity, as_contract, as_inter, as_intra, as_spot, as_tier};
-ghost use Rattle.span_tables.specs.Tables.{profile_in, set_id_in};
+ghost use Rattle.span_tables.specs.Tables.{profile_in, set_id_in, tables_of};
 
 use crate::name::Name;
 use crate::records::{Commodity, Contract, InterRecord, IntraRecord, Record, Spot, Tier};
@@ -60,8 +61,8 @@ fn add(kinds: &mut Kinds, next: Record) -> Result<(), AllocError>
     Ok(())
 }
 
-// The records by their kinds.
-pub(crate) fn by_kind(alloc: Global, records: Vec<Record>) -> Result<Kinds, AllocError>
+// The records by their kinds, in file order.
+fn by_kind(alloc: Global, records: Vec<Record>) -> Result<Kinds, AllocError>
     ensures { IfOk result (λ kinds. AreByKind records.items kinds.commodities.items kinds.contracts.items kinds.tiers.items
         kinds.intras.items kinds.spots.items kinds.inters.items) }
 {
@@ -69,6 +70,16 @@ pub(crate) fn by_kind(alloc: Global, records: Vec<Record>) -> Result<Kinds, Allo
     for record in records {
         add(&mut kinds, record)?;
     }
+    Ok(kinds)
+}
+
+// The records by their kinds in the order that tables have: spreads stand by rising priority.
+pub(crate) fn in_order(alloc: Global, records: Vec<Record>) -> Result<Kinds, AllocError>
+    ensures { IfOk result (λ kinds. tables_from (set_id_in records.items) (profile_in records.items) kinds ≡ tables_of records.items) }
+{
+    let mut kinds = by_kind(alloc, records)?;
+    kinds.intras.sort_by_key(|intra| intra.priority)?;
+    kinds.inters.sort_by_key(|inter| inter.priority)?;
     Ok(kinds)
 }
 

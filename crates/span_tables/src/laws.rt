@@ -15,6 +15,7 @@ ghost use Rattle.span_tables.specs.declared.records.PositionRecord.{PositionReco
 ghost use Rattle.span_tables.specs.declared.slots.TheConstants.{SLOTS};
 
 /// A sum over the held contracts of a commodity is that over all of its contracts: what is not held adds nothing.
+#[tactic(auto, using(crate::proofs::NetLaws::sum_of_held))]
 pub fn held_contracts_are_enough()
     ensures { (f : Contract → ℤ → ℤ) → ((x : Contract) → f x (pos 0) ≡ pos 0)
         → (positions : List PositionRecord) (account commodity : List ℕ) (contracts : List Contract)
@@ -30,6 +31,7 @@ pub fn spreads_formed_are_greatest()
 {}
 
 /// Spreads are put in order of priority, and none is lost.
+#[tactic(auto, using(crate::proofs::OrderLaws::rising_rises, crate::proofs::OrderLaws::rising_permutation))]
 pub fn spreads_are_in_order()
     ensures rising { (spreads : List InterRecord)
         → IsRisingBy (λ s. s.priority) (rising_by (λ s. s.priority) spreads) }
@@ -42,6 +44,7 @@ pub fn spreads_are_in_order()
 {}
 
 /// The distinct names of a list are each there once, and are those of the list.
+#[tactic(auto, using(crate::proofs::NameLaws::distinct_once, crate::proofs::NameLaws::distinct_same))]
 pub fn distinct_names_stand_once()
     ensures once { (names : List (List ℕ)) → has_repeat bytes_eq (distinct names) ≡ false }
     ensures same { (names : List (List ℕ)) (name : List ℕ)

@@ -14,7 +14,6 @@ pub mod raw;
 pub mod records;
 pub mod sides;
 pub mod slots;
-mod sorting;
 mod spreads;
 pub mod tables;
 pub mod tier_slots;

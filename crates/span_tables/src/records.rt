@@ -64,7 +64,7 @@ impl ContractExtras {
     ghost use Rattle.std.specs.Prelude.{◌≡◌};
     ghost use Rattle.span_tables.specs.Profiles.{no_extras};
 
-    /// Those of a contract to which its profile adds none.
+    /// The extras of a contract to which its profile adds none.
     pub fn none() -> ContractExtras
         ensures { result ≡ no_extras }
     {

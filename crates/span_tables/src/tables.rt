@@ -3,19 +3,18 @@ ghost use Rattle.std.specs.Prelude.{◌≡◌, ◌<◌, ◌≤◌, [], bytes_eq,
 ghost use Rattle.std.specs.Prelude.{slice_get, slice_index_or, false, true, All, IfOk, IfSome};
 ghost use Rattle.std.specs.Arc.{arc_value};
 ghost use Rattle.span_tables.specs.Accepted.{IsInter, IsIntra, IsSpot, IsWithinLimits, commodity_number};
-ghost use Rattle.span_tables.specs.near.Kept.{IsAccepted};
+ghost use Rattle.span_tables.specs.near.Kept.{IsAccepted, tables_from};
 ghost use Rattle.span_tables.specs.Tables.{commodity_id};
 ghost use Rattle.span_tables.specs.Rules.{keeps_rules};
 ghost use Rattle.span_tables.specs.Tables.{has_option_value, inters_of, intras_of, spots_of, tables_of};
 ghost use Rattle.span_tables.specs.declared.limits.TheConstants.{MAX_INTER_SPREADS, MAX_INTRA_SPREADS, MAX_SPOT_MONTHS};
 
 use crate::groups::{numbers_of, spots_by_commodity};
-use crate::kinds::{Kinds, by_kind, profile, set_id};
+use crate::kinds::{Kinds, in_order, profile, set_id};
 use crate::name::Name;
 use crate::profiles::facts_of;
 use crate::raw::RawTables;
 use crate::records::{Commodity, Contract, Inter, InterRecord, Intra, IntraRecord, Spot, Tier};
-use crate::sorting::{inters_by_priority, intras_by_priority};
 use crate::spreads::{inters_with_numbers, intras_by_commodity};
 use std::alloc::{AllocError, Global};
 use std::marker::Model;
@@ -102,18 +101,8 @@ impl Tables {
     {
         let set_id = set_id(raw.records());
         let profile = profile(raw.records());
-        let kinds = by_kind(alloc, raw.into_records())?;
-        let intras = intras_by_priority(kinds.intras)?;
-        let inters = inters_by_priority(kinds.inters)?;
-        let sorted = Kinds {
-            commodities: kinds.commodities,
-            contracts: kinds.contracts,
-            tiers: kinds.tiers,
-            intras,
-            spots: kinds.spots,
-            inters,
-        };
-        Tables::with_numbers(alloc, set_id, profile, sorted)
+        let kinds = in_order(alloc, raw.into_records())?;
+        Tables::with_numbers(alloc, set_id, profile, kinds)
     }
 
     // The tables of records that are in order, with what they name.
@@ -123,26 +112,8 @@ impl Tables {
         profile: u8,
         kinds: Kinds,
     ) -> Result<Tables, AllocError>
-        requires { IsAccepted (record {
-          set_id = set_id;
-          profile = profile;
-          commodities = kinds.commodities.items;
-          contracts = kinds.contracts.items;
-          tiers = kinds.tiers.items;
-          intras = kinds.intras.items;
-          spots = kinds.spots.items;
-          inters = kinds.inters.items;
-        }) }
-        ensures { IfOk result (λ tables. tables ≡ record {
-          set_id = set_id;
-          profile = profile;
-          commodities = kinds.commodities.items;
-          contracts = kinds.contracts.items;
-          tiers = kinds.tiers.items;
-          intras = kinds.intras.items;
-          spots = kinds.spots.items;
-          inters = kinds.inters.items;
-        }) }
+        requires { IsAccepted (tables_from set_id profile kinds) }
+        ensures { IfOk result (λ tables. tables ≡ tables_from set_id profile kinds) }
     {
         let commodities = kinds.commodities.as_slice();
         let tiers = kinds.tiers.as_slice();
@@ -215,6 +186,7 @@ impl Tables {
     }
 
     // Whether the contract of a number is of the commodity of a number: their numbers are compared, and no names.
+    #[tactic(auto, using(crate::proofs::HeldLemmas::number_tells))]
     pub(crate) fn is_of(&self, contract: usize, commodity: usize) -> bool
         requires contract { contract < length self.now.contracts }
         requires commodity { commodity < length self.now.commodities }
@@ -224,6 +196,7 @@ impl Tables {
     }
 
     // The number of the commodity of the contract of a number.
+    #[tactic(auto, using(crate::proofs::GatherLemmas::number_is, crate::proofs::GatherLemmas::number_known))]
     pub(crate) fn commodity_of(&self, contract: usize) -> usize
         requires { contract < length self.now.contracts }
         ensures value { IfSome (slice_get self.now.contracts contract)

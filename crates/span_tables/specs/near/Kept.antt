@@ -3,11 +3,25 @@ use Rattle.std.specs.Prelude.{◌≡◌, true, List, ℕ, ◌<◌, [], length, m
 use Rattle.span_tables.specs.Rules.{keeps_rules}
 use Rattle.span_tables.specs.near.Limits.{is_readable}
 use Rattle.span_tables.specs.Tables.{AcceptedTables, tables_of, intras_of, spots_of, inters_of, commodity_id}
+use Rattle.span_tables.specs.declared.kinds.Kinds.{Kinds}
 use Rattle.span_tables.specs.declared.records.Record.{Record}
 use Rattle.span_tables.specs.declared.records.Spot.{Spot}
 use Rattle.span_tables.specs.declared.records.Intra.{Intra}
 use Rattle.span_tables.specs.declared.records.Inter.{Inter}
 use Rattle.span_tables.specs.Accepted.{IsWithinLimits, commodity_number}
+
+-- the tables of records that stand by their kinds
+abbrev pub tables_from : List ℕ → ℕ → Kinds → AcceptedTables
+tables_from set_id profile kinds = record {
+  set_id = set_id;
+  profile = profile;
+  commodities = kinds.commodities.items;
+  contracts = kinds.contracts.items;
+  tiers = kinds.tiers.items;
+  intras = kinds.intras.items;
+  spots = kinds.spots.items;
+  inters = kinds.inters.items;
+}
 
 -- the tables are those of records without a fault that keep the rules
 pub record IsAccepted (t : AcceptedTables) : Type 0 where

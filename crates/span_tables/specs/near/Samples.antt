@@ -46,6 +46,16 @@ future_values =
     pos 0 ∷ pos 0 ∷ neg_ℤ (pos 400) ∷ neg_ℤ (pos 400) ∷ pos 400 ∷ pos 400 ∷ neg_ℤ (pos 800) ∷ neg_ℤ (pos 800) ∷ pos 800 ∷ pos 800
     ∷ neg_ℤ (pos 1200) ∷ neg_ℤ (pos 1200) ∷ pos 1200 ∷ pos 1200 ∷ neg_ℤ (pos 1188) ∷ pos 1188 ∷ []
 
+-- a spread of two tiers of a commodity, one to one, the first on side A
+abbrev pub tier_spread : List ℕ → ℕ → ℕ → ℕ → ℕ → Record
+tier_spread of priority rate first other = record_of.Intra (record {
+  commodity = of;
+  priority = priority;
+  rate = rate;
+  legs =
+      record { items = record { tier = first; side = side.A; ratio = 10000 } ∷ record { tier = other; side = side.B; ratio = 10000 } ∷ [] };
+})
+
 -- a spread of two commodities, one to one, the first on side A
 abbrev pub spread : ℕ → ℕ → List ℕ → List ℕ → Record
 spread priority basis_points first other = record_of.Inter (record {
@@ -67,20 +77,8 @@ small_file =
     ∷ record_of.Contract (contract product.Future (codes "FB") (codes "BB") 202506 (repeat 16 (pos 7 ∷ [])))
     ∷ record_of.Tier (record { commodity = codes "AA"; number = 1; first = 202501; last = 202503 })
     ∷ record_of.Tier (record { commodity = codes "AA"; number = 2; first = 202504; last = 202512 })
-    ∷ record_of.Intra (record {
-      commodity = codes "AA";
-      priority = 2;
-      rate = 250;
-      legs =
-          record { items = record { tier = 1; side = side.A; ratio = 10000 } ∷ record { tier = 2; side = side.B; ratio = 10000 } ∷ [] };
-    })
-    ∷ record_of.Intra (record {
-      commodity = codes "AA";
-      priority = 1;
-      rate = 100;
-      legs =
-          record { items = record { tier = 2; side = side.A; ratio = 10000 } ∷ record { tier = 1; side = side.B; ratio = 10000 } ∷ [] };
-    })
+    ∷ tier_spread (codes "AA") 2 250 1 2
+    ∷ tier_spread (codes "AA") 1 100 2 1
     ∷ record_of.Spot (record { commodity = codes "AA"; month = 202503; spread_rate = 10; outright_rate = 20 })
     ∷ spread 1 5000 (codes "BB") (codes "AA")
     ∷ []
