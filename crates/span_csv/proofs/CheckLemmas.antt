@@ -17,17 +17,16 @@ use Rattle.span_csv.specs.declared.grammar.Kind.{Kind}
 
 -- ---- the first of some faults
 
-chosen : {F : Type 0} (b : Bool) (x : F) (o p : Option F) → (if b then Some x else o) ≡ None → (o ≡ None → p ≡ p)
-    → (b ≡ false) × (o ≡ None)
-chosen true x o p e same = cc
-chosen false x o p e same = (refl, e)
+chosen : {F : Type 0} (b : Bool) (x : F) (o : Option F) → (if b then Some x else o) ≡ None → (b ≡ false) × (o ≡ None)
+chosen true x o e = cc
+chosen false x o e = (refl, e)
 
 -- behind faults that do not hold stand the others
 pub first_append : {F : Type 0} (xs ys : List (Bool × F)) → first_that_holds xs ≡ None
     → first_that_holds (xs ++ ys) ≡ first_that_holds ys
 first_append [] ys e = refl
 first_append (x ∷ xs) ys e =
-    let h = chosen x.0 x.1 (first_that_holds xs) None e (λ _. refl) in
+    let h = chosen x.0 x.1 (first_that_holds xs) e in
     rw h.0 (first_append xs ys h.1)
 
 pub fault_behind : (xs ys : List (Bool × (ℕ → ParamFault))) (at : ℕ) (answer : ParamFault) → IsFree xs → IsFaultOf ys at answer

@@ -101,7 +101,7 @@ kind_of_word : (k : Kind) → kind_named (word_of k) ≡ Some k
 kind_of_word kind.Set = refl
 kind_of_word _ = refl
 
--- and a word names its kind
+-- a record that has a kind's word is of the kind
 pub word_named : (r : Fields) (k : Kind) → has_kind k r ≡ true → kind_of r ≡ Some k
 word_named r k h = ap kind_named (same_name (text_at r 0) (word_of k) h) ∙ kind_of_word k
 

@@ -10,7 +10,7 @@ pub field_present : (o : Option (Bor (List ℕ))) (fields : Fields) (i : ℕ) �
 field_present None fields i inside value = absurd (field-there fields i inside (sym value))
 field_present (Some s) fields i inside value = refl
 
--- which is the one that the call gives
+-- the field that the call gives is the one at the place
 pub field_same : (o : Option (Bor (List ℕ))) (s : Bor (List ℕ)) (fields : Fields) (i : ℕ)
     → option_map (λ s. s.now) o ≡ field_at fields i → o ≡ Some s → s.now ≡ text_at fields i
 field_same None s fields i value e = cc

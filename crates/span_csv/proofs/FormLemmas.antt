@@ -24,7 +24,7 @@ count_within l h None e = cc
 count_within l h (Some (pos n)) e = e
 count_within l h (Some (negsuc n)) e = cc
 
--- the same, of which 0 is the least
+-- a number from 0 to its highest value, taken as a count
 pub count_below : (h : ℕ) (o : Option ℤ) → is_within (pos 0) (pos h) o ≡ true
     → nat_le (positive_part (unwrap_or o (pos 0))) h ≡ true
 count_below h o e =
@@ -141,6 +141,6 @@ layout_length front middle back times =
 
 -- ---- fields past the end
 
--- such a field is no number
+-- a field past the end is no number, and counts 0
 pub count_past : (r : Fields) (i : ℕ) → length r ≤ i → count_at r i ≡ 0
 count_past r i past = ap (λ text. positive_part (unwrap_or (whole_number text) (pos 0))) (get_or_past r i [] past)

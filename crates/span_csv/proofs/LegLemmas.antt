@@ -51,7 +51,7 @@ leg_each p (suc k) (x ∷ y ∷ z ∷ xs) len all (suc i) few =
     subst (λ leg. p leg ≡ true) (leg_text (x ∷ y ∷ z ∷ xs) 3 (i * 3) (suc i * 3) (omega arith))
     (leg_each p k xs (omega (arith, len)) later i (omega (arith, few)))
 
--- and in the whole record
+-- what is tested of all legs holds of the leg at each place of the whole record
 pub leg_passes : (p : Fields → Bool) (r : Fields) (from k : ℕ) → length r ≡ from + k * 3 → list_all p (legs_of (drop from r)) ≡ true
     → (i : ℕ) → i < k → p (leg_at r (from + 3 * i)) ≡ true
 leg_passes p r from k len all i few =

@@ -5,7 +5,7 @@ mod FormLemmas
 mod LegLemmas
 mod NumberedLemmas
 mod PositionLemmas
-mod ProfileLaws
+pub mod ProfileLaws
 mod RangeLemmas
 mod ReadLemmas
 pub mod ReadableLaws

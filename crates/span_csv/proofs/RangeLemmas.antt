@@ -21,7 +21,7 @@ use Rattle.span_tables.specs.declared.limits.TheConstants.{MAX_TIER_NUMBER}
 use Rattle.span_tables.specs.declared.records.IntraLeg.{IntraLeg}
 use Rattle.span_tables.specs.declared.records.InterLeg.{InterLeg}
 use Rattle.span_tables.proofs.Ranges.{is_contract}
-use Rattle.span_csv.specs.near.Grammar.{Fits}
+use Rattle.span_csv.specs.near.Grammar.{Fits, HasLegs, leg_at}
 use Rattle.span_csv.specs.Records.{Fields, all_have, has_word_form, is_in_range, exactly, with_legs, forms_of}
 use Rattle.span_csv.specs.Records.{set_forms, commodity_forms, contract_front, an_array_value, an_option_value}
 use Rattle.span_csv.specs.Records.{tier_forms, intra_front, intra_leg_forms, spot_forms, inter_front, inter_leg_forms}
@@ -202,76 +202,79 @@ legs_count front leg forms n e =
       | inr h ↦ (4, omega arith, omega arith, h)
     ]
 
-abbrev intra_leg_passes : Fields → Bool
-intra_leg_passes leg = is_tier_number (intra_leg leg).tier && is_ratio (intra_leg leg).ratio
+-- what the forms of legs behind others say: how many legs there are, and that each passes a test
+record LegsKept {L : Type 0} (leg : Fields → L) (passes : L → Bool) (from k : ℕ) (first : List ℕ) (fields : Fields) : Type 0 where
+  count : lies_within 2 4 (length (map leg (legs_of (drop from fields)))) ≡ true
+  all : list_all passes (map leg (legs_of (drop from fields))) ≡ true
+  long : length (first ∷ fields) ≡ suc from + 3 * k
+  each : (i : ℕ) → i < k → passes (leg (leg_at (first ∷ fields) (suc from + 3 * i))) ≡ true
+
+legs_kept : {L : Type 0} (leg : Fields → L) (passes : L → Bool) (front : List FieldForm) (a c : FieldForm) (first : List ℕ)
+    (fields : Fields) (k : ℕ)
+    → ((x y z : List ℕ) → has_word_form a x ≡ true → is_in_range a x ≡ true → is_in_range c z ≡ true
+    → passes (leg (x ∷ y ∷ z ∷ [])) ≡ true)
+    → 2 ≤ k → k ≤ 4 → HaveForms (front ++ repeat k (a ∷ form.Side ∷ c ∷ [])) fields
+    → LegsKept leg passes (length front) k first fields
+legs_kept leg passes front a c first fields k says low high h =
+    let forms = a ∷ form.Side ∷ c ∷ [] in
+    let from = length front in
+    let long : length fields ≡ from + k * 3 =
+    omega (arith, h.count, length-append front (repeat k forms), length-repeat k forms) in
+    let threes : length (drop from fields) ≡ k * 3 = omega (arith, long, length-drop from fields) in
+    let legs = legs_all (λ l. passes (leg l)) a form.Side c says k (drop from fields) threes
+    (all_behind has_word_form front (repeat k forms) fields h.words)
+    (all_behind is_in_range front (repeat k forms) fields h.ranges) in
+    record {
+      count = two_to_four _ k (length-map (legs_of (drop from fields)) leg ∙ length-legs_of k (drop from fields) threes) low high;
+      all = list_all-map passes leg (legs_of (drop from fields)) ∙ legs;
+      long = omega (arith, long);
+      each = leg_passes (λ l. passes (leg l)) (first ∷ fields) (suc from) k (omega (arith, long)) legs;
+    }
+
+has_legs : {L : Type 0} {leg : Fields → L} {passes : L → Bool} {from k : ℕ} {first : List ℕ} {fields : Fields}
+    → LegsKept leg passes from k first fields → k ≤ 4 → (Keeps : ℕ → Type 0)
+    → ((at : ℕ) → passes (leg (leg_at (first ∷ fields) at)) ≡ true → Keeps at) → HasLegs (suc from) Keeps (first ∷ fields)
+has_legs {from = from} {k = k} kept high Keeps says =
+    record { legs = k; few = high; fields = kept.long; each = λ i lt. says (suc from + 3 * i) (kept.each i lt) }
 
 intra_kept : (first : List ℕ) (fields : Fields) (k : ℕ) → 2 ≤ k → k ≤ 4 → HaveForms (intra_front ++ repeat k intra_leg_forms) fields
     → Keeps kind.Intra (first ∷ fields)
 intra_kept first fields k low high h =
-    let r = first ∷ fields in
-    let all : length fields ≡ 3 + k * 3 =
-    omega (arith, h.count, length-append intra_front (repeat k intra_leg_forms), length-repeat k intra_leg_forms) in
-    let threes : length (drop 3 fields) ≡ k * 3 = omega (arith, all, length-drop 3 fields) in
-    let legs = legs_all intra_leg_passes (form.Whole (pos 1) (pos MAX_TIER_NUMBER)) form.Side (form.Decimal (pos 1) (pos MAX_RATIO))
+    let legs = legs_kept intra_leg (λ (leg : IntraLeg). is_tier_number leg.tier && is_ratio leg.ratio) intra_front
+    (form.Whole (pos 1) (pos MAX_TIER_NUMBER)) (form.Decimal (pos 1) (pos MAX_RATIO)) first fields k
     (λ x y z name number ratio.
     and_from _ _ (count_within 1 MAX_TIER_NUMBER (whole_number x) number) (count_within 1 MAX_RATIO (decimal_number z) ratio))
-    k (drop 3 fields) threes (all_behind has_word_form intra_front (repeat k intra_leg_forms) fields h.words)
-    (all_behind is_in_range intra_front (repeat k intra_leg_forms) fields h.ranges) in
+    low high h in
     let id = word h 0 form.Name refl in
     let priority = whole h 1 1 MAX_PRIORITY refl in
     let rate = below h 2 MAX_RATE refl in (
-      and_from _ _
-          (and_from _ _ (and_from _ _ (and_from _ _ id priority) rate)
-          (two_to_four _ k (length-map (legs_of (drop 3 fields)) intra_leg ∙ length-legs_of k (drop 3 fields) threes) low high))
-          (list_all-map (λ (leg : IntraLeg). is_tier_number leg.tier && is_ratio leg.ratio) intra_leg (legs_of (drop 3 fields)) ∙ legs),
+      and_from _ _ (and_from _ _ (and_from _ _ (and_from _ _ id priority) rate) legs.count) legs.all,
       (
         id,
         omega (arith, most 1 MAX_PRIORITY (count_at fields 1) priority),
         omega (arith, leb-true (count_at fields 2) MAX_RATE rate),
-        record {
-          legs = k;
-          few = high;
-          fields = omega (arith, all);
-          each = λ i lt.
-              let parts = and_parts _ _ (leg_passes intra_leg_passes r 4 k (omega (arith, all)) legs i lt) in (
-                omega (arith, most 1 MAX_TIER_NUMBER (count_at r (4 + 3 * i)) parts.0),
-                omega (arith, most 1 MAX_RATIO (ratio_at r (4 + 3 * i + 2)) parts.1),
-              );
-        },
+        has_legs legs high _ (λ at passes.
+            let parts = and_parts _ _ passes in (
+              omega (arith, most 1 MAX_TIER_NUMBER (count_at (first ∷ fields) at) parts.0),
+              omega (arith, most 1 MAX_RATIO (ratio_at (first ∷ fields) (at + 2)) parts.1),
+            )),
       ),
     )
-
-abbrev inter_leg_passes : Fields → Bool
-inter_leg_passes leg = is_name (inter_leg leg).commodity && is_ratio (inter_leg leg).ratio
 
 inter_kept : (first : List ℕ) (fields : Fields) (k : ℕ) → 2 ≤ k → k ≤ 4 → HaveForms (inter_front ++ repeat k inter_leg_forms) fields
     → Keeps kind.Inter (first ∷ fields)
 inter_kept first fields k low high h =
-    let r = first ∷ fields in
-    let all : length fields ≡ 2 + k * 3 =
-    omega (arith, h.count, length-append inter_front (repeat k inter_leg_forms), length-repeat k inter_leg_forms) in
-    let threes : length (drop 2 fields) ≡ k * 3 = omega (arith, all, length-drop 2 fields) in
-    let legs = legs_all inter_leg_passes form.Name form.Side (form.Decimal (pos 1) (pos MAX_RATIO)) (λ x y z name text ratio.
-    and_from _ _ name (count_within 1 MAX_RATIO (decimal_number z) ratio))
-    k (drop 2 fields) threes (all_behind has_word_form inter_front (repeat k inter_leg_forms) fields h.words)
-    (all_behind is_in_range inter_front (repeat k inter_leg_forms) fields h.ranges) in
+    let legs = legs_kept inter_leg (λ (leg : InterLeg). is_name leg.commodity && is_ratio leg.ratio) inter_front
+    form.Name (form.Decimal (pos 1) (pos MAX_RATIO)) first fields k
+    (λ x y z name text ratio. and_from _ _ name (count_within 1 MAX_RATIO (decimal_number z) ratio)) low high h in
     let priority = whole h 0 1 MAX_PRIORITY refl in
     let points = below h 1 MAX_BASIS_POINTS refl in (
-      and_from _ _
-          (and_from _ _ (and_from _ _ priority points)
-          (two_to_four _ k (length-map (legs_of (drop 2 fields)) inter_leg ∙ length-legs_of k (drop 2 fields) threes) low high))
-          (list_all-map (λ (leg : InterLeg). is_name leg.commodity && is_ratio leg.ratio) inter_leg (legs_of (drop 2 fields)) ∙ legs),
+      and_from _ _ (and_from _ _ (and_from _ _ priority points) legs.count) legs.all,
       (
         omega (arith, most 1 MAX_PRIORITY (count_at fields 0) priority),
         omega (arith, leb-true (count_at fields 1) MAX_BASIS_POINTS points),
-        record {
-          legs = k;
-          few = high;
-          fields = omega (arith, all);
-          each = λ i lt.
-              let parts = and_parts _ _ (leg_passes inter_leg_passes r 3 k (omega (arith, all)) legs i lt) in
-              (parts.0, omega (arith, most 1 MAX_RATIO (ratio_at r (3 + 3 * i + 2)) parts.1));
-        },
+        has_legs legs high _ (λ at passes.
+            let parts = and_parts _ _ passes in (parts.0, omega (arith, most 1 MAX_RATIO (ratio_at (first ∷ fields) (at + 2)) parts.1))),
       ),
     )
 

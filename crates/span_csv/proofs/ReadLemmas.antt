@@ -7,7 +7,7 @@ use Rattle.std.proofs.lemmas.Bool.{eqb-true, false≢true}
 use Rattle.std.proofs.lemmas.List.{append_assoc, append-nil, map-append, length-map}
 use Rattle.span_tables.specs.Faults.{first_that_holds, first_fault_after, ok_unless}
 use Rattle.span_tables.specs.declared.records.Record.{Record}
-use Rattle.span_csv.specs.near.Checks.{HasTallied, IsFaultOf, NextIs, Tallies, params_in}
+use Rattle.span_csv.specs.near.Checks.{IsFaultOf, NextIs, Tallies, params_in}
 use Rattle.span_csv.specs.ParamFaults.{param_faults, param_fault, params_of, is_memory}
 use Rattle.span_csv.specs.Records.{Fields, records_of, param_record}
 use Rattle.span_csv.specs.declared.faults.ParamFault.{ParamFault}
@@ -26,19 +26,11 @@ pub record IsSoFar (all : List Fields) (xs : List Record) (t : Tally) (rest : Li
   pub tallies : Tallies t earlier
   pub answer : first_fault_after fault_of earlier rest ≡ first_fault_after fault_of [] all
 
--- nothing was read
-pub so_far_none : (all : List Fields) (xs : List Record) (t : Tally) → xs ≡ [] → Tallies t [] → IsSoFar all xs t all
-so_far_none all xs t none tallies = record { earlier = []; whole = refl; said = none; tallies = tallies; answer = refl }
-
+-- as many records were read as there are earlier ones
 pub so_far_count : (all : List Fields) (xs : List Record) (t : Tally) (rest : List Fields) (s : IsSoFar all xs t rest)
     → length s.earlier ≡ length xs
 so_far_count all xs t rest s =
     let len : length (map param_record s.earlier) ≡ length s.earlier = simp length-map in sym (ap length s.said ∙ len)
-
--- as many were counted as were read
-pub so_far_tallied : (all : List Fields) (xs : List Record) (t : Tally) (rest : List Fields) → IsSoFar all xs t rest
-    → HasTallied t (length xs)
-so_far_tallied all xs t rest s = (s.earlier, so_far_count all xs t rest s, s.tallies)
 
 -- a record without a fault is read
 pub so_far_more : (all : List Fields) (xs : List Record) (t u : Tally) (r : Fields) (before rest : List Fields) (x : Record)

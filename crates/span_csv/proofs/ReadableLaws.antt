@@ -57,7 +57,7 @@ all_in_range before (r ∷ rows) free =
 
 -- ---- the SET
 
--- the first is one
+-- the first record is a SET
 first_set : (r : Fields) → IsClean [] r → is_some (as_set (param_record r)) ≡ true
 first_set r c =
     let word : is_set r ≡ true = not-false (is_set r) c.first in
@@ -68,7 +68,7 @@ not_set : (k : Kind) (r : Fields) → kind_of r ≡ Some k → is_set r ≡ fals
 not_set kind.Set r e other = absurd (both_ways (is_set r) other (named_word (text_at r 0) kind.Set e))
 not_set _ r e other = refl
 
--- and none behind it
+-- no record behind the first is a SET
 later_set : (earlier : List Fields) (r : Fields) → 0 < length earlier → IsClean earlier r
     → not (is_some (as_set (param_record r))) ≡ true
 later_set earlier r some c =

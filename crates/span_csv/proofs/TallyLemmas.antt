@@ -125,13 +125,14 @@ count_small t kind.Intra rs cc tallies = subst (λ n. n ≤ length rs) (sym (tal
 count_small t kind.Spot rs cc tallies = subst (λ n. n ≤ length rs) (sym (tallies.spots cc)) (count_by-le-length _ rs)
 count_small t kind.Inter rs cc tallies = rw tallies.inters (count_by-le-length _ rs)
 
--- as many as there may be, or not
+-- where a kind has as many records as there may be, one more exceeds the limit
 pub count_full : (t : Tally) (kind : Kind) (rs : List Fields) (r : Fields) (count limit : ℕ) → kind_of r ≡ Some kind
     → Tallies t rs
     → count ≡ count_for t kind (text_at r 1) → limit ≡ limit_of kind → count ≡ limit → exceeds_limit rs r (kind_of r) ≡ true
 count_full t kind rs r count limit is tallies counts limits e =
     count_exceeds t kind rs r is tallies ∙ equal_true (count_for t kind (text_at r 1)) (limit_of kind) (sym counts ∙ e ∙ limits)
 
+-- where a kind has fewer records than there may be, one more is within the limit
 pub count_within : (t : Tally) (kind : Kind) (rs : List Fields) (r : Fields) (count limit : ℕ) → kind_of r ≡ Some kind
     → Tallies t rs
     → count ≡ count_for t kind (text_at r 1) → limit ≡ limit_of kind → (count ≡ limit → ⊥)

@@ -72,12 +72,5 @@ params_of bytes = ok_unless (param_fault (records_of bytes)) (map param_record (
 
 -- the fault is want of memory, of which the definition does not speak
 abbrev pub is_memory : ParamFault → Bool
-is_memory (fault.NoSet at) = false
-is_memory (fault.SecondSet at) = false
-is_memory (fault.UnknownKind at) = false
-is_memory (fault.FieldCount at) = false
-is_memory (fault.BadName at) = false
-is_memory (fault.BadNumber at) = false
-is_memory (fault.OutOfRange at) = false
-is_memory (fault.TooMany at) = false
 is_memory fault.OutOfMemory = true
+is_memory _ = false

@@ -35,9 +35,5 @@ positions_of bytes = ok_unless (position_fault (records_of bytes)) (map position
 
 -- the fault is want of memory, of which the definition does not speak
 abbrev pub is_memory : PositionFault → Bool
-is_memory (fault.FieldCount at) = false
-is_memory (fault.BadName at) = false
-is_memory (fault.BadNumber at) = false
-is_memory (fault.OutOfRange at) = false
-is_memory (fault.TooManyAccounts at) = false
 is_memory fault.OutOfMemory = true
+is_memory _ = false

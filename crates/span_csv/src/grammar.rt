@@ -20,7 +20,7 @@ use span_tables::profiles::facts_of;
 use span_tables::records::ProductKind;
 use std::marker::Model;
 
-/// What a field may be. A number has its lowest and its highest value, a decimal those in 10^-4.
+/// What a field may be. A whole number and a decimal have their lowest and their highest value, a decimal in 10^-4.
 #[derive(Clone, Copy)]
 pub enum FieldForm {
     Name,
@@ -28,8 +28,8 @@ pub enum FieldForm {
     Method,
     Product,
     Side,
-    Whole { low: i64, high: i64 },
-    Decimal { low: i64, high: i64 },
+    Whole(i64, i64),
+    Decimal(i64, i64),
     Month,
 }
 
@@ -54,58 +54,29 @@ pub(crate) enum FieldTest {
     All,
 }
 
-const VERSION: FieldForm = FieldForm::Whole {
-    low: 1,
-    high: MAX_PROFILE as i64,
-};
+// Numbers from their lowest to their highest value.
+const VERSION: FieldForm = FieldForm::Whole(1, MAX_PROFILE as i64);
 
-const RATE: FieldForm = FieldForm::Whole {
-    low: 0,
-    high: MAX_RATE as i64,
-};
+const RATE: FieldForm = FieldForm::Whole(0, MAX_RATE as i64);
 
-const TIER_NUMBER: FieldForm = FieldForm::Whole {
-    low: 1,
-    high: MAX_TIER_NUMBER as i64,
-};
+const TIER_NUMBER: FieldForm = FieldForm::Whole(1, MAX_TIER_NUMBER as i64);
 
-const PRIORITY: FieldForm = FieldForm::Whole {
-    low: 1,
-    high: MAX_PRIORITY as i64,
-};
+const PRIORITY: FieldForm = FieldForm::Whole(1, MAX_PRIORITY as i64);
 
-const BASIS_POINTS: FieldForm = FieldForm::Whole {
-    low: 0,
-    high: MAX_BASIS_POINTS as i64,
-};
+const BASIS_POINTS: FieldForm = FieldForm::Whole(0, MAX_BASIS_POINTS as i64);
 
-const ARRAY_VALUE: FieldForm = FieldForm::Whole {
-    low: -(MAX_ARRAY_VALUE as i64),
-    high: MAX_ARRAY_VALUE as i64,
-};
+const ARRAY_VALUE: FieldForm = FieldForm::Whole(-(MAX_ARRAY_VALUE as i64), MAX_ARRAY_VALUE as i64);
 
-// The option value of a future, and that of an option.
-const NO_VALUE: FieldForm = FieldForm::Whole { low: 0, high: 0 };
+// The option value of a future.
+const NO_VALUE: FieldForm = FieldForm::Whole(0, 0);
+// The option value of an option.
+const OPTION_VALUE: FieldForm = FieldForm::Whole(0, MAX_OPTION_VALUE as i64);
 
-const OPTION_VALUE: FieldForm = FieldForm::Whole {
-    low: 0,
-    high: MAX_OPTION_VALUE as i64,
-};
+const DELTA: FieldForm = FieldForm::Decimal(-(MAX_DELTA as i64), MAX_DELTA as i64);
 
-const DELTA: FieldForm = FieldForm::Decimal {
-    low: -(MAX_DELTA as i64),
-    high: MAX_DELTA as i64,
-};
+const SCALE: FieldForm = FieldForm::Decimal(1, MAX_SCALE as i64);
 
-const SCALE: FieldForm = FieldForm::Decimal {
-    low: 1,
-    high: MAX_SCALE as i64,
-};
-
-const RATIO: FieldForm = FieldForm::Decimal {
-    low: 1,
-    high: MAX_RATIO as i64,
-};
+const RATIO: FieldForm = FieldForm::Decimal(1, MAX_RATIO as i64);
 
 static SET_FIELDS: [FieldForm; 3] = [FieldForm::Name, VERSION, FieldForm::Currency];
 
@@ -189,7 +160,7 @@ pub(crate) fn kind_named(word: &[u8]) -> Option<Kind>
     }
 }
 
-// Those in front, and so many legs.
+// A layout of the forms in front and a leg's forms that stand `times` times.
 fn with_times(front: &'static [FieldForm], leg: &'static [FieldForm], times: usize) -> Layout
     requires { length front.now + times * length leg.now < 2 ^ 32 }
     ensures { result ≡ front.now ++ repeat times leg.now }
@@ -202,7 +173,7 @@ fn with_times(front: &'static [FieldForm], leg: &'static [FieldForm], times: usi
     }
 }
 
-// These forms alone.
+// A layout of these forms alone.
 fn alone(forms: &'static [FieldForm]) -> Layout
     requires { length forms.now < 2 ^ 32 }
     ensures { result ≡ forms.now }
@@ -264,7 +235,7 @@ fn all_from(test: FieldTest, forms: &[FieldForm], row: &ByteRecord, place: usize
     true
 }
 
-// The same of forms that stand so many times.
+// Whether each field from a place on passes the test of its form, where the forms stand `times` times.
 fn all_times(
     test: FieldTest,
     forms: &[FieldForm],
@@ -291,7 +262,7 @@ impl Layout {
     ghost use Rattle.span_csv.specs.near.Grammar.{passes};
     ghost use Rattle.span_csv.specs.Records.{all_have, exactly};
 
-    // How many forms there are.
+    // How many forms the layout has.
     #[tactic(auto, using(crate::proofs::FormLemmas::layout_length))]
     fn len(&self) -> usize
         ensures { result ≡ length self.now }
@@ -299,7 +270,7 @@ impl Layout {
         self.front.len() + self.times * self.middle.len() + self.back.len()
     }
 
-    // This layout, if a record has just so many fields behind the first.
+    // The layout, if a record has just so many fields behind the first.
     fn exactly(self, fields: usize) -> Option<Layout>
         ensures { result ≡ exactly self fields }
     {
@@ -380,7 +351,7 @@ impl FieldForm {
             FieldForm::Method => matches!(text, b"SUM" | b"MAX"),
             FieldForm::Product => matches!(text, b"F" | b"C" | b"P"),
             FieldForm::Side => matches!(text, b"A" | b"B"),
-            FieldForm::Whole { .. } | FieldForm::Decimal { .. } | FieldForm::Month => true,
+            FieldForm::Whole(..) | FieldForm::Decimal(..) | FieldForm::Month => true,
         }
     }
 
@@ -388,8 +359,8 @@ impl FieldForm {
         ensures { result ≡ has_number_form self text.now }
     {
         match self {
-            FieldForm::Whole { .. } => parse_whole(text).is_some(),
-            FieldForm::Decimal { .. } => parse_decimal(text).is_some(),
+            FieldForm::Whole(..) => parse_whole(text).is_some(),
+            FieldForm::Decimal(..) => parse_decimal(text).is_some(),
             FieldForm::Month => parse_month(text).is_some(),
             FieldForm::Name
             | FieldForm::Currency
@@ -403,8 +374,8 @@ impl FieldForm {
         ensures { result ≡ is_in_range self text.now }
     {
         match self {
-            FieldForm::Whole { low, high } => is_within(low, high, parse_whole(text)),
-            FieldForm::Decimal { low, high } => is_within(low, high, parse_decimal(text)),
+            FieldForm::Whole(low, high) => is_within(low, high, parse_whole(text)),
+            FieldForm::Decimal(low, high) => is_within(low, high, parse_decimal(text)),
             FieldForm::Month => match parse_month(text) {
                 Some(month) => is_month(month),
                 None => false,

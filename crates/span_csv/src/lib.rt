@@ -10,7 +10,6 @@ pub mod param_laws;
 pub mod params;
 pub mod position_laws;
 pub mod positions;
-pub mod readable;
 mod rows;
 mod tally;
 mod worked;

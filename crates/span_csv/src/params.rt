@@ -53,7 +53,7 @@ fn read_rows(
     Ok(())
 }
 
-// The same, counting the records in a tally of its own.
+// Reads each row of a file onto `records`, with a tally that begins here.
 fn read_and_tally(
     alloc: Global,
     rows: &mut Rows,
@@ -81,6 +81,7 @@ fn read_records(alloc: Global, bytes: &[u8]) -> Result<Vec<Record>, ParamFault>
 
 /// The records of a parameter file, or the first record with a fault and its lowest-numbered fault, of P1 to P8
 /// (docs/FORMATS.md, "Parameter file" and "Faults").
+#[tactic(auto, using(crate::proofs::ReadableLaws::params_readable))]
 pub fn read_params(alloc: Global, bytes: &[u8]) -> Result<RawTables, ParamFault>
     ensures { Gives is_memory result (params_of bytes.now) }
 {

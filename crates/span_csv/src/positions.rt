@@ -85,6 +85,7 @@ fn is_one_too_many(accounts: &IndexSet<Name>, account: &Name) -> bool
 }
 
 // The place of an account, which is put last where it is new. The place of the last record's account is tried first.
+#[tactic(auto, using(span_tables::proofs::NumberedLaws::among_at))]
 fn place(
     at: usize,
     accounts: &mut IndexSet<Name>,
