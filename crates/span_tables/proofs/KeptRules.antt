@@ -16,6 +16,9 @@ pub and_true : (a b : Bool) → (a && b) ≡ true → (a ≡ true) × (b ≡ tru
 and_true true b e = (refl, e)
 and_true false b e = cc
 
+pub all_true : (a b c : Bool) → ((a && b) && c) ≡ true → (a ≡ true) × (b ≡ true) × (c ≡ true)
+all_true a b c e = let last = and_true (a && b) c e in let front = and_true a b last.0 in (front.0, front.1, last.1)
+
 -- no record breaks a rule behind those before it
 abbrev pub Unbroken : (List Record → Record → Bool) → List Record → List Record → Type 0
 Unbroken breaks earlier [] = Unit {0}

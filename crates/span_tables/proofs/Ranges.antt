@@ -25,7 +25,7 @@ use Rattle.span_tables.specs.declared.records.ProductKind.TheVariants as product
 use Rattle.span_tables.specs.declared.records.SetRecord.{SetRecord}
 use Rattle.span_tables.specs.declared.records.Spot.{Spot}
 use Rattle.span_tables.specs.declared.records.Tier.{Tier}
-use Rattle.span_tables.proofs.KeptRules.{and_true, of_kind}
+use Rattle.span_tables.proofs.KeptRules.{all_true, and_true, of_kind}
 
 -- what a test of all says of each
 pub all_by : {X : Type 0} (p : X → Bool) (P : X → Type 0) → ((x : X) → p x ≡ true → P x) → (xs : List X)
@@ -79,32 +79,27 @@ most_small product.Put = omega arith
 
 pub is_contract : (x : Contract) → contract_in_range x ≡ true → IsContract x
 is_contract x e =
-    let all = and_true _ _ e in
-    let a = and_true _ _ all.0 in
-    let b = and_true _ _ a.0 in
-    let d = and_true _ _ b.0 in
-    let f = and_true _ _ d.0 in
-    let most = leb-true x.extras.option_value (most_option_value x.kind) all.1 in
+    let last = all_true _ _ _ e in
+    let middle = all_true _ _ _ last.0 in
+    let most = leb-true x.extras.option_value (most_option_value x.kind) last.2 in
     record {
-      delta = leb-true _ _ f.1;
-      scale = (within _ _ _ d.1).1;
-      sixteen = (Decides-eqb _ _).0 b.1;
-      values = all_by _ (λ v. nat_abs v ≤ MAX_ARRAY_VALUE) (λ v le. leb-true _ _ le) x.values a.1;
+      delta = leb-true _ _ (and_true _ _ middle.0).1;
+      scale = (within _ _ _ middle.1).1;
+      sixteen = (Decides-eqb _ _).0 middle.2;
+      values = all_by _ (λ v. nat_abs v ≤ MAX_ARRAY_VALUE) (λ v le. leb-true _ _ le) x.values last.1;
       option_value = omega (arith, most, most_small x.kind);
     }
 
 pub is_intra : (tiers : List Tier) (s : IntraRecord) → intra_in_range s ≡ true → IsIntra (intra_spread tiers s)
 is_intra tiers s e =
-    let a = and_true _ _ e in
-    let b = and_true _ _ a.0 in
-    let d = and_true _ _ b.0 in
-    let few : (2 ≤ length s.legs.items) × (length s.legs.items ≤ 4) = within _ _ _ b.1 in
+    let last = all_true _ _ _ e in
+    let few : (2 ≤ length s.legs.items) × (length s.legs.items ≤ 4) = within _ _ _ last.1 in
     let long : length (map (month_leg tiers s.commodity) s.legs.items) ≡ length s.legs.items =
     length-map s.legs.items (month_leg tiers s.commodity) in
     let ratios = all_by _ (λ leg. (1 ≤ leg.ratio) × (leg.ratio ≤ MAX_RATIO))
-    (λ leg t. within 1 MAX_RATIO leg.ratio (and_true _ _ t).1) s.legs.items a.1 in
+    (λ leg t. within 1 MAX_RATIO leg.ratio (and_true _ _ t).1) s.legs.items last.2 in
     record {
-      rate = leb-true _ _ d.1;
+      rate = leb-true _ _ (and_true _ _ last.0).1;
       at_least_two = subst (λ n. 2 ≤ n) (sym long) few.0;
       at_most_four = subst (λ n. n ≤ 4) (sym long) few.1;
       ratios_above = All-map (λ leg. 0 < leg.ratio) (month_leg tiers s.commodity) s.legs.items (λ k z lt. (ratios k z lt).0);
@@ -113,9 +108,7 @@ is_intra tiers s e =
 
 pub is_spot : (s : Spot) → spot_in_range s ≡ true → IsSpot s
 is_spot s e =
-    let a = and_true _ _ e in
-    let b = and_true _ _ a.0 in
-    record { spread_rate = leb-true _ _ b.1; outright_rate = leb-true _ _ a.1 }
+    let last = all_true _ _ _ e in record { spread_rate = leb-true _ _ last.1; outright_rate = leb-true _ _ last.2 }
 
 -- the fields of an intercommodity spread, and its legs' ratios
 pub record IsInterRecord (s : InterRecord) : Type 0 where
@@ -127,14 +120,12 @@ pub record IsInterRecord (s : InterRecord) : Type 0 where
 
 pub is_inter : (s : InterRecord) → inter_in_range s ≡ true → IsInterRecord s
 is_inter s e =
-    let a = and_true _ _ e in
-    let b = and_true _ _ a.0 in
-    let d = and_true _ _ b.0 in
-    let few : (2 ≤ length s.legs.items) × (length s.legs.items ≤ 4) = within _ _ _ b.1 in
+    let last = all_true _ _ _ e in
+    let few : (2 ≤ length s.legs.items) × (length s.legs.items ≤ 4) = within _ _ _ last.1 in
     let ratios = all_by _ (λ leg. (1 ≤ leg.ratio) × (leg.ratio ≤ MAX_RATIO))
-    (λ leg t. within 1 MAX_RATIO leg.ratio (and_true _ _ t).1) s.legs.items a.1 in
+    (λ leg t. within 1 MAX_RATIO leg.ratio (and_true _ _ t).1) s.legs.items last.2 in
     record {
-      basis_points = leb-true _ _ d.1;
+      basis_points = leb-true _ _ (and_true _ _ last.0).1;
       at_least_two = few.0;
       at_most_four = few.1;
       ratios_above = λ k z lt. (ratios k z lt).0;

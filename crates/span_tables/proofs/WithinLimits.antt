@@ -22,7 +22,7 @@ use Rattle.span_tables.specs.declared.records.IntraRecord.{IntraRecord}
 use Rattle.span_tables.specs.declared.records.Record.{Record}
 use Rattle.span_tables.specs.declared.records.Spot.{Spot}
 use Rattle.span_tables.proofs.Counts.{at_most, at_most_permuted}
-use Rattle.span_tables.proofs.KeptRules.{all_kept, and_true, apart, of_each}
+use Rattle.span_tables.proofs.KeptRules.{all_kept, all_true, and_true, apart, of_each}
 use Rattle.span_tables.proofs.Known.{IsKnown, NamesKnown, all_known, contracts_known, inters_apart}
 use Rattle.span_tables.proofs.Known.{inters_known, intras_known, legs_apart, spots_known, tiers_known}
 use Rattle.span_tables.proofs.OrderLaws.{rising_permutation}
@@ -42,21 +42,17 @@ pub record IsReadable (rs : List Record) : Type 0 where
 pub readable : (rs : List Record) → is_readable rs ≡ true → IsReadable rs
 unfolding is_readable
 readable rs e =
-    let a = and_true _ _ e in
-    let b = and_true _ _ a.0 in
-    let k = and_true _ _ a.1 in
-    let l = and_true _ _ k.0 in
-    let m = and_true _ _ l.0 in
-    let n = and_true _ _ m.0 in
-    let o = and_true _ _ n.0 in
+    let parts = all_true _ _ _ e in
+    let by_commodity = all_true _ _ _ parts.2 in
+    let counts = all_true _ _ _ (and_true _ _ by_commodity.0).0 in
     record {
-      begins = b.0;
-      ranges = b.1;
-      few_commodities = leb-true _ _ o.0;
-      few_contracts = leb-true _ _ o.1;
-      few_inters = leb-true _ _ n.1;
-      few_intras = l.1;
-      few_spots = k.1;
+      begins = parts.0;
+      ranges = parts.1;
+      few_commodities = leb-true _ _ counts.0;
+      few_contracts = leb-true _ _ counts.1;
+      few_inters = leb-true _ _ counts.2;
+      few_intras = by_commodity.1;
+      few_spots = by_commodity.2;
     }
 
 -- what records that keep the rules keep, as far as the tables need it
