@@ -1,6 +1,6 @@
 -- The reading of a file, one record after another.
 use Rattle.std.proofs.Common.{◌≡◌, ◌+◌, ◌∙◌, sym, ap, refl, arith, ℕ, Bool, true, false}
-use Rattle.std.proofs.Common.{List, [], ◌∷◌, ◌++◌, length, map, Option, Some, None, Ok, Err}
+use Rattle.std.proofs.Common.{List, [], ◌∷◌, ◌++◌, length, map, Option, Some, None, Ok, Err, Result}
 use Rattle.std.specs.Prelude.{⊤, option_map, MatchBool, ◌==◌}
 use Rattle.std.specs.Option.{option_or}
 use Rattle.std.proofs.lemmas.Bool.{eqb-true, false≢true}
@@ -27,10 +27,17 @@ pub record IsSoFar (all : List Fields) (xs : List Record) (t : Tally) (rest : Li
   pub answer : first_fault_after fault_of earlier rest ≡ first_fault_after fault_of [] all
 
 -- as many records were read as there are earlier ones
-pub so_far_count : (all : List Fields) (xs : List Record) (t : Tally) (rest : List Fields) (s : IsSoFar all xs t rest)
+so_far_count : (all : List Fields) (xs : List Record) (t : Tally) (rest : List Fields) (s : IsSoFar all xs t rest)
     → length s.earlier ≡ length xs
 so_far_count all xs t rest s =
     let len : length (map param_record s.earlier) ≡ length s.earlier = simp length-map in sym (ap length s.said ∙ len)
+
+-- what was answered for a record behind as many others is the answer behind the earlier ones
+pub next_is : {all : List Fields} {xs : List Record} {t : Tally} {rest : List Fields} {n : ℕ} (s : IsSoFar all xs t rest) (r : Fields)
+    (answer : Result Record ParamFault) (u : Tally) → length xs ≡ n
+    → ((rs : List Fields) → length rs ≡ n → Tallies t rs → NextIs rs r answer u) → NextIs s.earlier r answer u
+next_is {all = all} {xs = xs} {t = t} {rest = rest} s r answer u count answered =
+    answered s.earlier (so_far_count all xs t rest s ∙ count) s.tallies
 
 -- a record without a fault is read
 pub so_far_more : (all : List Fields) (xs : List Record) (t u : Tally) (r : Fields) (before rest : List Fields) (x : Record)
