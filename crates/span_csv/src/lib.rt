@@ -1,6 +1,7 @@
 //! The readers of parameter and position files.
 #![tactic(auto)]
 
+pub mod accepted_files;
 mod checks;
 mod contents;
 pub mod faults;

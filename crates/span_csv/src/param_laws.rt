@@ -1,12 +1,11 @@
 //! Laws of the definitions of a parameter file, in the format's own words: each is the contract of a function that
 //! does nothing.
-ghost use Rattle.std.specs.Prelude.{◌≡◌, ◌∷◌, ℕ, All, List, [], Ok, Some, None, false, true};
+ghost use Rattle.std.specs.Prelude.{◌≡◌, ◌∷◌, ℕ, All, List, [], Ok, Some, None, false};
 ghost use Rattle.span_csv.specs.ParamFaults.{param_fault, param_faults, params_of};
 ghost use Rattle.span_csv.specs.Records.{Fields};
 ghost use Rattle.span_csv.specs.declared.faults.ParamFault.{ParamFault};
 ghost use Rattle.span_tables.specs.Faults.{first_that_holds};
 ghost use Rattle.span_tables.specs.Laws.{IsFaultFree, IsFirstFault};
-ghost use Rattle.span_tables.specs.near.Limits.{is_readable};
 ghost use Rattle.span_tables.specs.Profiles.{facts_of};
 ghost use Rattle.span_tables.specs.Rules.{contracts_in};
 ghost use Rattle.span_tables.specs.Tables.{profile_in};
@@ -21,14 +20,6 @@ pub fn first_faulty_record_counts()
     ensures free { (r : Fields) (rs : List Fields)
         → IsFaultFree (λ earlier x. first_that_holds (param_faults earlier x)) [] (r ∷ rs)
         → param_fault (r ∷ rs) ≡ None }
-{}
-
-/// The records of a parameter file without a fault begin with its one SET, are in their ranges, and are no more of a
-/// kind than there may be.
-#[tactic(auto, using(crate::proofs::ReadableLaws::params_readable))]
-pub fn accepted_files_are_readable()
-    ensures { (bytes : List ℕ) (records : List Record) → params_of bytes ≡ Ok records
-        → is_readable records ≡ true }
 {}
 
 /// Contracts have an option value under the profiles of such values alone: in a file of another profile it is 0.
