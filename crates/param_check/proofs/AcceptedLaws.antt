@@ -1,6 +1,6 @@
 -- What positions without a fault keep, and which fault goes first.
 use Rattle.std.proofs.Common.{◌≡◌, ℕ, ◌≤◌, true, false, ◌&&◌, List}
-use Rattle.std.proofs.Common.{length, map, Option, Some, None, refl, sym, ap, ◌∙◌}
+use Rattle.std.proofs.Common.{length, map, Option, Some, None, refl, sym, ◌∙◌}
 use Rattle.std.specs.Prelude.{nat_abs}
 use Rattle.std.specs.List.{list_any}
 use Rattle.std.specs.Option.{option_or}
@@ -17,69 +17,85 @@ use Rattle.param_check.proofs.KindLaws.{net_of_kind, held_of_kind}
 use Rattle.param_check.proofs.PortfolioLaws.{net_within, few_from}
 use Rattle.param_check.proofs.UnfitLaws.{unfit_none, fit_from_none}
 
+-- the three faults of positions, each by itself
+abbrev pub unknown : List Contract → List PositionRecord → Option BindFault
+unknown contracts all = first_unfit fault.UnknownContract (λ earlier p. is_unknown contracts p) all
+
+abbrev pub out_of_range : List PositionRecord → Option BindFault
+out_of_range all = first_unfit fault.NetOutOfRange (λ earlier p. is_first_of_contract earlier p && exceeds_net all p) all
+
+abbrev pub too_many : List Contract → List PositionRecord → Option BindFault
+too_many contracts all = first_unfit fault.TooManyHeld (λ earlier p. is_first_of_account earlier p && exceeds_held contracts all p) all
+
+-- each record is of a known contract, and no account's net and no account's number of contracts is over its limit
+pub record IsFit (contracts : List Contract) (all : List PositionRecord) : Type 0 where
+  pub known : list_any (is_unknown contracts) all ≡ false
+  pub within : list_any (exceeds_net all) all ≡ false
+  pub few : list_any (exceeds_held contracts all) all ≡ false
+
+-- the first of three faults is none only where all are
+none_of : (a b c : Option BindFault) → option_or a (option_or b (option_or c None)) ≡ None
+    → (a ≡ None) × (b ≡ None) × (c ≡ None)
+none_of (Some x) b c e = cc
+none_of None (Some x) c e = cc
+none_of None None (Some x) e = cc
+none_of None None None e = (refl, refl, refl)
+
 module _ (contracts : List Contract) (all : List PositionRecord) where
-  unknown : Option BindFault
-  unknown = first_unfit fault.UnknownContract (λ earlier p. is_unknown contracts p) all
-
-  out_of_range : Option BindFault
-  out_of_range = first_unfit fault.NetOutOfRange (λ earlier p. is_first_of_contract earlier p && exceeds_net all p) all
-
-  too_many : Option BindFault
-  too_many = first_unfit fault.TooManyHeld (λ earlier p. is_first_of_account earlier p && exceeds_held contracts all p) all
-
-  in_order : bind_fault contracts all ≡ option_or unknown (option_or out_of_range (option_or too_many None))
-  unfolding bind_fault unknown out_of_range too_many
+  pub in_order : bind_fault contracts all
+      ≡ option_or (unknown contracts all) (option_or (out_of_range all) (option_or (too_many contracts all) None))
+  unfolding bind_fault
   in_order = refl
 
-  none_of : (a b c : Option BindFault) → option_or a (option_or b (option_or c None)) ≡ None
-      → (a ≡ None) × (b ≡ None) × (c ≡ None)
-  none_of (Some x) b c e = cc
-  none_of None (Some x) c e = cc
-  none_of None None (Some x) e = cc
-  none_of None None None e = (refl, refl, refl)
+  no_unknown : list_any (is_unknown contracts) all ≡ false → unknown contracts all ≡ None
+  no_unknown known = unfit_none fault.UnknownContract (is_unknown contracts) all known
 
-  module _ (none : bind_fault contracts all ≡ None) where
-    parts : (unknown ≡ None) × (out_of_range ≡ None) × (too_many ≡ None)
-    parts = none_of unknown out_of_range too_many (sym in_order ∙ none)
+  none_out_of_range : list_any (exceeds_net all) all ≡ false → out_of_range all ≡ None
+  none_out_of_range within = net_of_kind all ∙ unfit_none fault.NetOutOfRange (exceeds_net all) all within
 
-    pub all_known : list_any (is_unknown contracts) all ≡ false
-    unfolding unknown
-    all_known = fit_from_none fault.UnknownContract (is_unknown contracts) all parts.0
+  none_too_many : list_any (exceeds_held contracts all) all ≡ false → too_many contracts all ≡ None
+  none_too_many few = held_of_kind contracts all ∙ unfit_none fault.TooManyHeld (exceeds_held contracts all) all few
 
-    pub nets_within : (account contract : List ℕ) → nat_abs (net_of all account contract) ≤ MAX_NET
-    unfolding out_of_range
-    nets_within account contract =
-        net_within all account contract (fit_from_none fault.NetOutOfRange (exceeds_net all) all (sym (net_of_kind all) ∙ parts.1))
+  -- records without a fault are fit
+  pub fit_of_none : bind_fault contracts all ≡ None → IsFit contracts all
+  fit_of_none none =
+      let parts = none_of (unknown contracts all) (out_of_range all) (too_many contracts all) (sym in_order ∙ none) in
+      record {
+        known = fit_from_none fault.UnknownContract (is_unknown contracts) all parts.0;
+        within = fit_from_none fault.NetOutOfRange (exceeds_net all) all (sym (net_of_kind all) ∙ parts.1);
+        few = fit_from_none fault.TooManyHeld (exceeds_held contracts all) all (sym (held_of_kind contracts all) ∙ parts.2);
+      }
 
-    pub few_held : (account : List ℕ) → is_among (map (λ p. p.account) all) account ≡ true
-        → length (holdings_of contracts all account) ≤ MAX_HELD
-    unfolding too_many
-    few_held account among =
-        few_from contracts all account all among
-        (fit_from_none fault.TooManyHeld (exceeds_held contracts all) all (sym (held_of_kind contracts all) ∙ parts.2))
+  -- fit records have no fault
+  pub none_of_fit : IsFit contracts all → bind_fault contracts all ≡ None
+  none_of_fit fit =
+      let a = no_unknown fit.known in
+      let b = none_out_of_range fit.within in
+      let c = none_too_many fit.few in
+      in_order ∙ (λ k. option_or (a k) (option_or (b k) (option_or (c k) None)))
 
-  pub unknown_first : (y : BindFault) → first_unfit fault.UnknownContract (λ earlier p. is_unknown contracts p) all ≡ Some y
+  pub all_known : bind_fault contracts all ≡ None → list_any (is_unknown contracts) all ≡ false
+  all_known none = (fit_of_none none).known
+
+  pub nets_within : bind_fault contracts all ≡ None → (account contract : List ℕ) → nat_abs (net_of all account contract) ≤ MAX_NET
+  nets_within none account contract = net_within all account contract (fit_of_none none).within
+
+  pub few_held : bind_fault contracts all ≡ None → (account : List ℕ) → is_among (map (λ p. p.account) all) account ≡ true
+      → length (holdings_of contracts all account) ≤ MAX_HELD
+  few_held none account among = few_from contracts all account all among (fit_of_none none).few
+
+  pub unknown_first : (y : BindFault) → unknown contracts all ≡ Some y → bind_fault contracts all ≡ Some y
+  unknown_first y e = in_order ∙ (λ k. option_or (e k) (option_or (out_of_range all) (option_or (too_many contracts all) None)))
+
+  pub net_second : (y : BindFault) → list_any (is_unknown contracts) all ≡ false → out_of_range all ≡ Some y
       → bind_fault contracts all ≡ Some y
-  unfolding unknown
-  unknown_first y e = in_order ∙ ap (λ o. option_or o (option_or out_of_range (option_or too_many None))) e
-
-  not_unknown : list_any (is_unknown contracts) all ≡ false → unknown ≡ None
-  unfolding unknown
-  not_unknown known = unfit_none fault.UnknownContract (is_unknown contracts) all known
-
-  pub net_second : (y : BindFault) → list_any (is_unknown contracts) all ≡ false
-      → first_unfit fault.NetOutOfRange (λ earlier p. is_first_of_contract earlier p && exceeds_net all p) all ≡ Some y
-      → bind_fault contracts all ≡ Some y
-  unfolding out_of_range
   net_second y known e =
-      in_order ∙ ap (λ o. option_or o (option_or out_of_range (option_or too_many None))) (not_unknown known)
-      ∙ ap (λ o. option_or o (option_or too_many None)) e
+      let a = no_unknown known in
+      in_order ∙ (λ k. option_or (a k) (option_or (e k) (option_or (too_many contracts all) None)))
 
   pub held_last : (y : BindFault) → list_any (is_unknown contracts) all ≡ false → list_any (exceeds_net all) all ≡ false
-      → first_unfit fault.TooManyHeld (λ earlier p. is_first_of_account earlier p && exceeds_held contracts all p) all ≡ Some y
-      → bind_fault contracts all ≡ Some y
-  unfolding out_of_range too_many
+      → too_many contracts all ≡ Some y → bind_fault contracts all ≡ Some y
   held_last y known within e =
-      in_order ∙ ap (λ o. option_or o (option_or out_of_range (option_or too_many None))) (not_unknown known)
-      ∙ ap (λ o. option_or o (option_or too_many None)) (net_of_kind all ∙ unfit_none fault.NetOutOfRange (exceeds_net all) all within)
-      ∙ ap (λ o. option_or o None) e
+      let a = no_unknown known in
+      let b = none_out_of_range within in
+      in_order ∙ (λ k. option_or (a k) (option_or (b k) (option_or (e k) None)))

@@ -1,5 +1,5 @@
 -- What positions are bound to, fault by fault.
-use Rattle.std.proofs.Common.{◌≡◌, ℕ, Bool, true, false, ◌&&◌, List, length, map}
+use Rattle.std.proofs.Common.{◌≡◌, ℕ, Bool, true, false, List, length, map}
 use Rattle.std.proofs.Common.{Option, Some, None, Ok, Err, refl, sym, ap, subst, ◌∙◌}
 use Rattle.std.specs.Prelude.{All, bytes_eq, MatchBool, ⊤, Result}
 use Rattle.std.specs.Option.{option_or}
@@ -14,14 +14,14 @@ use Rattle.span_tables.specs.Net.{AccountHoldings, accounts_of, holdings_of, por
 use Rattle.span_tables.specs.declared.portfolios.Holding.{Holding}
 use Rattle.span_tables.specs.declared.records.Contract.{Contract}
 use Rattle.span_tables.specs.declared.records.PositionRecord.{PositionRecord}
-use Rattle.param_check.specs.Binding.{first_unfit, is_unknown, is_first_of_contract, is_first_of_account}
-use Rattle.param_check.specs.Binding.{exceeds_net, exceeds_held, bind_fault, bindings_of, is_memory}
+use Rattle.param_check.specs.Binding.{exceeds_net, exceeds_held, bindings_of, is_memory}
 use Rattle.param_check.specs.near.Holdings.{ids_of, net_fault, held_fault, portfolios_from, portfolios_or_fault}
 use Rattle.param_check.specs.near.Ledger.{IsLedger, is_foreign, foreign_fault}
 use Rattle.param_check.specs.near.Nets.{entry_holdings, entries_of}
 use Rattle.param_check.specs.declared.faults.BindFault.{BindFault}
 use Rattle.param_check.specs.declared.faults.BindFault.TheVariants as fault
 use Rattle.param_check.specs.declared.binding.nets.Entry.{Entry}
+use Rattle.param_check.proofs.AcceptedLaws.{in_order, out_of_range, too_many, unknown}
 use Rattle.param_check.proofs.HoldingLaws.{all_holdings_are}
 use Rattle.param_check.proofs.PlaceLaws.{net_fault_any, held_fault_any, net_fault_is, held_fault_is, foreign_fault_is}
 use Rattle.param_check.proofs.PortfolioLaws.{portfolios_hold, paired_is}
@@ -32,29 +32,20 @@ option_or-None None = refl
 option_or-None (Some e) = refl
 
 module _ (contracts : List Contract) (positions : List PositionRecord) where
-  unknown : Option BindFault
-  unknown = first_unfit fault.UnknownContract (λ earlier p. is_unknown contracts p) positions
-
-  out_of_range : Option BindFault
-  out_of_range = first_unfit fault.NetOutOfRange (λ earlier p. is_first_of_contract earlier p && exceeds_net positions p) positions
-
-  too_many : Option BindFault
-  too_many = first_unfit fault.TooManyHeld (λ earlier p. is_first_of_account earlier p && exceeds_held contracts positions p) positions
-
-  bound_is : (b1 b2 b3 : Option BindFault) → unknown ≡ b1 → out_of_range ≡ b2 → too_many ≡ b3
+  bound_is : (b1 b2 b3 : Option BindFault) → unknown contracts positions ≡ b1 → out_of_range positions ≡ b2
+      → too_many contracts positions ≡ b3
       → bindings_of contracts positions ≡ ok_unless (option_or b1 (option_or b2 (option_or b3 None)))
       (portfolios_of contracts positions)
-  unfolding bindings_of bind_fault unknown out_of_range too_many
+  unfolding bindings_of
   bound_is b1 b2 b3 x y z =
-      ap (λ o. ok_unless (option_or o (option_or out_of_range (option_or too_many None))) (portfolios_of contracts positions)) x
-      ∙ ap (λ o. ok_unless (option_or b1 (option_or o (option_or too_many None))) (portfolios_of contracts positions)) y
-      ∙ ap (λ o. ok_unless (option_or b1 (option_or b2 (option_or o None))) (portfolios_of contracts positions)) z
+      ap (λ o. ok_unless o (portfolios_of contracts positions)) (in_order contracts positions)
+      ∙ (λ k. ok_unless (option_or (x k) (option_or (y k) (option_or (z k) None))) (portfolios_of contracts positions))
 
   -- a record of an unknown contract
   pub bound_unknown : (e : BindFault) → foreign_fault (ids_of contracts) positions ≡ Some e
       → bindings_of contracts positions ≡ Err e
-  unfolding unknown
-  bound_unknown e h = bound_is (Some e) out_of_range too_many (sym (foreign_fault_is contracts positions) ∙ h) refl refl
+  bound_unknown e h =
+      bound_is (Some e) (out_of_range positions) (too_many contracts positions) (sym (foreign_fault_is contracts positions) ∙ h) refl refl
 
   -- a record of an unknown contract, as it is answered
   pub unknown_given : (r : Result (List AccountHoldings) BindFault) (ids : List (List ℕ)) (e : BindFault) → ids ≡ ids_of contracts
@@ -74,8 +65,8 @@ module _ (contracts : List Contract) (positions : List PositionRecord) where
     known : list_any (is_foreign (ids_of contracts)) positions ≡ false
     known = ap (λ k. list_any (is_foreign k) positions) (sym ids_are) ∙ ledger.all_known
 
-    no_unknown : unknown ≡ None
-    unfolding unknown foreign_fault
+    no_unknown : unknown contracts positions ≡ None
+    unfolding foreign_fault
     no_unknown =
         sym (foreign_fault_is contracts positions) ∙ unfit_none fault.UnknownContract (is_foreign (ids_of contracts)) positions known
 
@@ -84,14 +75,12 @@ module _ (contracts : List Contract) (positions : List PositionRecord) where
         nets_are ∙ all_holdings_are contracts positions (accounts_of positions) books apart
         (ledger.books_are ∙ ap (λ k. map (entries_of k positions) (accounts_of positions)) ids_are)
 
-    range_is : net_fault ids (accounts_of positions) nets positions ≡ out_of_range
-    unfolding out_of_range
+    range_is : net_fault ids (accounts_of positions) nets positions ≡ out_of_range positions
     range_is =
         ap (λ k. net_fault k (accounts_of positions) nets positions) ids_are
         ∙ net_fault_is contracts positions (accounts_of positions) nets refl holdings known
 
-    many_is : held_fault (accounts_of positions) nets positions ≡ too_many
-    unfolding too_many
+    many_is : held_fault (accounts_of positions) nets positions ≡ too_many contracts positions
     many_is = held_fault_is contracts positions (accounts_of positions) nets refl holdings known
 
     -- what the nets are settled to is what the records are bound to
