@@ -52,6 +52,10 @@ module _ (marks : List ℕ) (places : List ℤ) where
   unfolding sums_of
   sums_at k d h = get_or-map-range_with_len (sum_at marks places) 0 (length places) k k d h (omega arith)
 
+-- the sums that a value shows are as many as its places
+pub long_as : (marks : List ℕ) (places : List ℤ) {sums : List ℤ} → sums_of marks places ≡ sums → length sums ≡ length places
+long_as marks places is = sym (ap length is) ∙ sums_long marks places
+
 -- with no mark, each sum is 0
 pub sums_clear : (m : ℕ) (places : List ℤ) → sums_of (replicate m 0) places ≡ replicate (length places) (pos 0)
 unfolding sums_of

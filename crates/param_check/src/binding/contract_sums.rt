@@ -61,12 +61,18 @@ fn kept_net(net: i128) -> i64
     net as i64
 }
 
-// Appends the net in the contract of a number, unless it is 0.
-fn push_held(held: &mut Vec<Holding>, places: &[i128], contract: usize) -> Result<(), AllocError>
-    requires { contract < length places.now }
-    ensures { OnOk result (held.new.items
-        ≡ held.old.items ++ map kept_holding (held_part contract (slice_index_or places.now contract (pos 0)))) }
+// Appends the net in the contract of a mark of a word, unless it is 0.
+fn push_held(
+    held: &mut Vec<Holding>,
+    places: &[i128],
+    word: usize,
+    mark: u32,
+) -> Result<(), AllocError>
+    requires { MARKS * word + mark < length places.now }
+    ensures { OnOk result (held.new.items ≡ held.old.items ++ map kept_holding
+        (held_part (MARKS * word + mark) (slice_index_or places.now (MARKS * word + mark) (pos 0)))) }
 {
+    let contract = MARKS * word + mark as usize;
     let net = kept_net(places[contract]);
     if net != 0 {
         held.push(Holding { contract, net })?;
@@ -88,10 +94,9 @@ fn push_word(
 {
     let mut left = marks[word];
     while left != 0 {
-        let place = left.trailing_zeros();
-        let number = MARKS * word + place as usize;
-        push_held(held, places, number)?;
-        left &= !(1 << place);
+        let mark = left.trailing_zeros();
+        push_held(held, places, word, mark)?;
+        left &= !(1 << mark);
     }
     Ok(())
 }

@@ -1,4 +1,4 @@
-use Rattle.std.proofs.Common.{◌<◌, ◌*◌, ◌^◌, ◌%◌, ◌-◌, ◌∙◌, ℕ, refl, sym, get_or, length, arith, rules, bit_and}
+use Rattle.std.proofs.Common.{◌<◌, ◌*◌, ◌^◌, ◌%◌, ◌∙◌, ℕ, refl, sym, get_or, arith, rules, bit_and}
 use Rattle.std.specs.Int.{w64, bit_not, trailing_zeros}
 use Rattle.std.proofs.lemmas.Nat.Bits.{bit_at-trailing_zeros}
 use Rattle.param_check.proofs.MarkLaws.{below_lowest, lowest_le, next_lowest, word_begun, word_done, lowest_marked, held_more, marks_left}
@@ -21,22 +21,6 @@ push_held-requires c =
     let fits : c.loop-left.left < 2 ^ 64 = search rules in
     lowest_marked c.args.marks.now c.args.places.now c.args.word c.loop-left.left c.requires.marks fits
     (omega (arith, c.loop-left-test.true)) c.loop-left.invariant.same
-
-pub overflow_mul-number : goal.overflow_mul-number
-overflow_mul-number c =
-    let fits : c.loop-left.left < 2 ^ 64 = search rules in
-    let within = lowest_marked c.args.marks.now c.args.places.now c.args.word c.loop-left.left c.requires.marks fits
-    (omega (arith, c.loop-left-test.true)) c.loop-left.invariant.same in
-    let short : length c.args.places.now < 2 ^ 64 = search rules in
-    omega (arith, within, short)
-
-pub overflow_add-number : goal.overflow_add-number
-overflow_add-number c =
-    let fits : c.loop-left.left < 2 ^ 64 = search rules in
-    let within = lowest_marked c.args.marks.now c.args.places.now c.args.word c.loop-left.left c.requires.marks fits
-    (omega (arith, c.loop-left-test.true)) c.loop-left.invariant.same in
-    let short : length c.args.places.now < 2 ^ 64 = search rules in
-    omega (arith, within, short)
 
 pub loop-left-smaller : goal.loop-left-smaller
 loop-left-smaller c =

@@ -4,23 +4,19 @@ use Rattle.std.specs.Int.{w64, w128}
 use Rattle.std.proofs.lemmas.Int.{to_z-of_z}
 use Rattle.std.proofs.lemmas.List.{set_past, length-set, get_or_default}
 use Rattle.param_check.specs.near.Sums.{sums_of, AreMarks}
-use Rattle.param_check.proofs.MarkLaws.{sums_long, sums_set, mark_set, marks_more}
+use Rattle.param_check.proofs.MarkLaws.{long_as, sums_set, mark_set, marks_more}
 use Rattle.param_check.proofs.binding.contract_sums.Sums.add.Goals as goal
 
 pub returns-then-number-len : goal.returns-then-number-len
 returns-then-number-len c =
-    let marks = c.self.inside.marks.items in
-    let places = c.self.inside.places.items in
-    let long : length c.args.self.now ≡ length places = sym (ap length c.self.view_is) ∙ sums_long marks places in
+    let long = long_as c.self.inside.marks.items c.self.inside.places.items c.self.view_is in
     let past : length c.args.self.now ≤ c.args.number =
     omega (arith, c.if-number-len.true, c.len.ensures, long, c.self.inside.places.ok.0) in
     sym (set_past c.args.self.now c.args.number _ past)
 
 pub at-requires : goal.at-requires
 at-requires c =
-    let marks = c.self.inside.marks.items in
-    let places = c.self.inside.places.items in
-    let long : length c.args.self.now ≡ length places = sym (ap length c.self.view_is) ∙ sums_long marks places in
+    let long = long_as c.self.inside.marks.items c.self.inside.places.items c.self.view_is in
     omega (arith, c.if-number-len.false, c.len.ensures, long, c.self.inside.places.ok.0)
 
 pub invariant_of-self : goal.invariant_of-self
