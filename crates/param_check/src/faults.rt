@@ -4,7 +4,7 @@ ghost use Rattle.param_check.specs.declared.faults.CheckFault.TheVariants as che
 ghost use Rattle.std.specs.Prelude.{◌≡◌};
 
 use span_tables::name::Name;
-use std::alloc::{AllocError, AllocFailed};
+use std::alloc::AllocError;
 use thiserror::Error;
 
 /// Which rule the records of a parameter file break.
@@ -73,26 +73,10 @@ impl From<AllocError> for CheckFault {
     }
 }
 
-impl<T: Drop> From<AllocFailed<T>> for CheckFault {
-    ghost from_gives = { λ _ e. e ≡ check.OutOfMemory };
-
-    fn from(_error: AllocFailed<T>) -> CheckFault {
-        CheckFault::OutOfMemory
-    }
-}
-
 impl From<AllocError> for BindFault {
     ghost from_gives = { λ _ e. e ≡ bind.OutOfMemory };
 
     fn from(_error: AllocError) -> BindFault {
-        BindFault::OutOfMemory
-    }
-}
-
-impl<T: Drop> From<AllocFailed<T>> for BindFault {
-    ghost from_gives = { λ _ e. e ≡ bind.OutOfMemory };
-
-    fn from(_error: AllocFailed<T>) -> BindFault {
         BindFault::OutOfMemory
     }
 }
