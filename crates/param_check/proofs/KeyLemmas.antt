@@ -5,10 +5,9 @@ use Rattle.std.specs.List.{list_any}
 use Rattle.std.proofs.Math.Bool.{or-false, and-true}
 use Rattle.std.proofs.lemmas.Bool.Decides.{nat_tests}
 use Rattle.span_tables.specs.Rules.{is_and, first_breaking, as_commodity, as_contract, as_tier, as_intra, as_inter, as_spot}
-use Rattle.span_tables.specs.Rules.{repeats_commodity, repeats_contract, repeats_tier, repeats_priority, repeats_spot}
 use Rattle.span_tables.specs.declared.records.Record.{Record}
 use Rattle.span_tables.specs.declared.records.Record.TheVariants as record_of
-use Rattle.param_check.specs.near.Keys.{name_key, key_of, is_same_key, repeats_key, first_repeat}
+use Rattle.param_check.specs.near.Keys.{name_key, key_of, is_same_key, repeats_key, repeats}
 use Rattle.param_check.specs.declared.check.keys.Key.{Key}
 use Rattle.param_check.specs.declared.check.keys.Identity.{Identity}
 use Rattle.param_check.specs.declared.check.keys.Identity.TheVariants as identity
@@ -37,133 +36,56 @@ among i h key q same earlier =
 
 commodity_alike : (id : List ℕ) (r : Record)
     → is_and (key_of identity.Commodity r) (is_same_key (name_key id 0)) ≡ is_and (as_commodity r) (λ d. bytes_eq d.id id)
-commodity_alike id (record_of.Set x) = refl
 commodity_alike id (record_of.Commodity x) = name_swap id x.id
-commodity_alike id (record_of.Contract x) = refl
-commodity_alike id (record_of.Tier x) = refl
-commodity_alike id (record_of.Intra x) = refl
-commodity_alike id (record_of.Spot x) = refl
-commodity_alike id (record_of.Inter x) = refl
+commodity_alike id _ = refl
 
 contract_alike : (id : List ℕ) (r : Record)
     → is_and (key_of identity.Contract r) (is_same_key (name_key id 0)) ≡ is_and (as_contract r) (λ y. bytes_eq y.id id)
-contract_alike id (record_of.Set x) = refl
-contract_alike id (record_of.Commodity x) = refl
 contract_alike id (record_of.Contract x) = name_swap id x.id
-contract_alike id (record_of.Tier x) = refl
-contract_alike id (record_of.Intra x) = refl
-contract_alike id (record_of.Spot x) = refl
-contract_alike id (record_of.Inter x) = refl
+contract_alike id _ = refl
 
 tier_alike : (c : List ℕ) (n : ℕ) (r : Record)
     → is_and (key_of identity.Tier r) (is_same_key (name_key c n)) ≡ is_and (as_tier r) (λ u. bytes_eq u.commodity c && eqb u.number n)
-tier_alike c n (record_of.Set x) = refl
-tier_alike c n (record_of.Commodity x) = refl
-tier_alike c n (record_of.Contract x) = refl
 tier_alike c n (record_of.Tier x) = key_swap c x.commodity n x.number
-tier_alike c n (record_of.Intra x) = refl
-tier_alike c n (record_of.Spot x) = refl
-tier_alike c n (record_of.Inter x) = refl
+tier_alike c n _ = refl
 
 intra_alike : (c : List ℕ) (n : ℕ) (r : Record)
     → is_and (key_of identity.Priority r) (is_same_key (name_key c n))
     ≡ is_and (as_intra r) (λ s. bytes_eq s.commodity c && eqb s.priority n)
-intra_alike c n (record_of.Set x) = refl
-intra_alike c n (record_of.Commodity x) = refl
-intra_alike c n (record_of.Contract x) = refl
-intra_alike c n (record_of.Tier x) = refl
 intra_alike c n (record_of.Intra x) = key_swap c x.commodity n x.priority
-intra_alike c n (record_of.Spot x) = refl
-intra_alike c n (record_of.Inter x) = refl
+intra_alike c n _ = refl
 
 inter_alike : (n : ℕ) (r : Record) → is_and (key_of identity.Priority r) (is_same_key (record { name = None; number = n }))
     ≡ is_and (as_inter r) (λ s. eqb s.priority n)
-inter_alike n (record_of.Set x) = refl
-inter_alike n (record_of.Commodity x) = refl
-inter_alike n (record_of.Contract x) = refl
-inter_alike n (record_of.Tier x) = refl
-inter_alike n (record_of.Intra x) = refl
-inter_alike n (record_of.Spot x) = refl
 inter_alike n (record_of.Inter x) = eqb-swap n x.priority
+inter_alike n _ = refl
 
 spot_alike : (c : List ℕ) (n : ℕ) (r : Record)
     → is_and (key_of identity.SpotMonth r) (is_same_key (name_key c n))
     ≡ is_and (as_spot r) (λ s. bytes_eq s.commodity c && eqb s.month n)
-spot_alike c n (record_of.Set x) = refl
-spot_alike c n (record_of.Commodity x) = refl
-spot_alike c n (record_of.Contract x) = refl
-spot_alike c n (record_of.Tier x) = refl
-spot_alike c n (record_of.Intra x) = refl
 spot_alike c n (record_of.Spot x) = key_swap c x.commodity n x.month
-spot_alike c n (record_of.Inter x) = refl
+spot_alike c n _ = refl
 
-repeats_commodity-key : (earlier : List Record) (r : Record) → repeats_key identity.Commodity earlier r ≡ repeats_commodity earlier r
-repeats_commodity-key earlier (record_of.Set x) = refl
-repeats_commodity-key earlier (record_of.Commodity x) =
+repeats_key-is : (i : Identity) (earlier : List Record) (r : Record) → repeats_key i earlier r ≡ repeats i earlier r
+repeats_key-is identity.Commodity earlier (record_of.Commodity x) =
     among identity.Commodity as_commodity (name_key x.id 0) (λ d. bytes_eq d.id x.id) (commodity_alike x.id) earlier
-repeats_commodity-key earlier (record_of.Contract x) = refl
-repeats_commodity-key earlier (record_of.Tier x) = refl
-repeats_commodity-key earlier (record_of.Intra x) = refl
-repeats_commodity-key earlier (record_of.Spot x) = refl
-repeats_commodity-key earlier (record_of.Inter x) = refl
-
-pub first_repeated_commodity : (all : List Record)
-    → first_repeat identity.Commodity all ≡ first_breaking (λ at. at) repeats_commodity all
-first_repeated_commodity all = first_breaking-same (λ at. at) (repeats_key identity.Commodity) repeats_commodity repeats_commodity-key all
-
-repeats_contract-key : (earlier : List Record) (r : Record) → repeats_key identity.Contract earlier r ≡ repeats_contract earlier r
-repeats_contract-key earlier (record_of.Set x) = refl
-repeats_contract-key earlier (record_of.Commodity x) = refl
-repeats_contract-key earlier (record_of.Contract x) =
+repeats_key-is identity.Contract earlier (record_of.Contract x) =
     among identity.Contract as_contract (name_key x.id 0) (λ d. bytes_eq d.id x.id) (contract_alike x.id) earlier
-repeats_contract-key earlier (record_of.Tier x) = refl
-repeats_contract-key earlier (record_of.Intra x) = refl
-repeats_contract-key earlier (record_of.Spot x) = refl
-repeats_contract-key earlier (record_of.Inter x) = refl
-
-pub first_repeated_contract : (all : List Record) → first_repeat identity.Contract all ≡ first_breaking (λ at. at) repeats_contract all
-first_repeated_contract all = first_breaking-same (λ at. at) (repeats_key identity.Contract) repeats_contract repeats_contract-key all
-
-repeats_tier-key : (earlier : List Record) (r : Record) → repeats_key identity.Tier earlier r ≡ repeats_tier earlier r
-repeats_tier-key earlier (record_of.Set x) = refl
-repeats_tier-key earlier (record_of.Commodity x) = refl
-repeats_tier-key earlier (record_of.Contract x) = refl
-repeats_tier-key earlier (record_of.Tier x) =
+repeats_key-is identity.Tier earlier (record_of.Tier x) =
     among identity.Tier as_tier (name_key x.commodity x.number) (λ u. bytes_eq u.commodity x.commodity && eqb u.number x.number)
     (tier_alike x.commodity x.number) earlier
-repeats_tier-key earlier (record_of.Intra x) = refl
-repeats_tier-key earlier (record_of.Spot x) = refl
-repeats_tier-key earlier (record_of.Inter x) = refl
-
-pub first_repeated_tier : (all : List Record) → first_repeat identity.Tier all ≡ first_breaking (λ at. at) repeats_tier all
-first_repeated_tier all = first_breaking-same (λ at. at) (repeats_key identity.Tier) repeats_tier repeats_tier-key all
-
-repeats_priority-key : (earlier : List Record) (r : Record) → repeats_key identity.Priority earlier r ≡ repeats_priority earlier r
-repeats_priority-key earlier (record_of.Set x) = refl
-repeats_priority-key earlier (record_of.Commodity x) = refl
-repeats_priority-key earlier (record_of.Contract x) = refl
-repeats_priority-key earlier (record_of.Tier x) = refl
-repeats_priority-key earlier (record_of.Intra x) =
+repeats_key-is identity.Priority earlier (record_of.Intra x) =
     among identity.Priority as_intra (name_key x.commodity x.priority) (λ u. bytes_eq u.commodity x.commodity && eqb u.priority x.priority)
     (intra_alike x.commodity x.priority) earlier ∙ sym (or-false _)
-repeats_priority-key earlier (record_of.Spot x) = refl
-repeats_priority-key earlier (record_of.Inter x) =
+repeats_key-is identity.Priority earlier (record_of.Inter x) =
     among identity.Priority as_inter (record { name = None; number = x.priority }) (λ u. eqb u.priority x.priority)
     (inter_alike x.priority) earlier
-
-pub first_repeated_priority : (all : List Record) → first_repeat identity.Priority all ≡ first_breaking (λ at. at) repeats_priority all
-first_repeated_priority all = first_breaking-same (λ at. at) (repeats_key identity.Priority) repeats_priority repeats_priority-key all
-
-repeats_spot-key : (earlier : List Record) (r : Record) → repeats_key identity.SpotMonth earlier r ≡ repeats_spot earlier r
-repeats_spot-key earlier (record_of.Set x) = refl
-repeats_spot-key earlier (record_of.Commodity x) = refl
-repeats_spot-key earlier (record_of.Contract x) = refl
-repeats_spot-key earlier (record_of.Tier x) = refl
-repeats_spot-key earlier (record_of.Intra x) = refl
-repeats_spot-key earlier (record_of.Spot x) =
+repeats_key-is identity.SpotMonth earlier (record_of.Spot x) =
     among identity.SpotMonth as_spot (name_key x.commodity x.month) (λ u. bytes_eq u.commodity x.commodity && eqb u.month x.month)
     (spot_alike x.commodity x.month) earlier
-repeats_spot-key earlier (record_of.Inter x) = refl
+repeats_key-is _ _ _ = refl
 
-pub first_repeated_spot : (all : List Record) → first_repeat identity.SpotMonth all ≡ first_breaking (λ at. at) repeats_spot all
-first_repeated_spot all = first_breaking-same (λ at. at) (repeats_key identity.SpotMonth) repeats_spot repeats_spot-key all
+-- the first repeated key is that of the first record that breaks the rule of its kind
+pub first_repeated : (i : Identity) (all : List Record)
+    → first_breaking (λ at. at) (repeats_key i) all ≡ first_breaking (λ at. at) (repeats i) all
+first_repeated i all = first_breaking-same (λ at. at) (repeats_key i) (repeats i) (repeats_key-is i) all

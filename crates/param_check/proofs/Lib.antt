@@ -3,7 +3,6 @@ pub mod AccountLaws
 pub mod BindLaws
 pub mod FilterMaps
 pub mod FirstFaults
-pub mod GroupLemmas
 pub mod HoldingLaws
 pub mod IdLaws
 pub mod KeyLemmas
@@ -15,6 +14,7 @@ pub mod MarkLaws
 pub mod NetLaws
 pub mod NumberedUnfit
 pub mod OrderLaws
+pub mod OutcomeLemmas
 pub mod OverlapLemmas
 pub mod PlaceLaws
 pub mod PortfolioLaws

@@ -1,6 +1,6 @@
 -- Tiers by their commodity, and the rule that they share no month.
 use Rattle.std.proofs.Common.{◌≡◌, ℕ, ◌++◌, ◌∷◌, [], List, false, true, Bool, cond}
-use Rattle.std.proofs.Common.{bytes_eq, Option, None, Some, refl, sym, ap, ◌∙◌, ◌&&◌}
+use Rattle.std.proofs.Common.{bytes_eq, Option, None, Some, refl, sym, ap, ◌∙◌, ◌&&◌, get_or, take}
 use Rattle.std.specs.Prelude.{if◌then◌else◌, filter_map}
 use Rattle.std.specs.List.{list_any}
 use Rattle.std.specs.Option.{option_map_or}
@@ -26,37 +26,22 @@ under false m test = refl
 
 alike : (commodity : List ℕ) (m : Months) (r : Record) → is_and (months_under commodity r) (meet m)
     ≡ is_and (as_tier r) (λ u. bytes_eq u.commodity commodity && meet m (months_of u))
-alike commodity m (record_of.Set x) = refl
-alike commodity m (record_of.Commodity x) = refl
-alike commodity m (record_of.Contract x) = refl
 alike commodity m (record_of.Tier x) = under (bytes_eq x.commodity commodity) (months_of x) (meet m)
-alike commodity m (record_of.Intra x) = refl
-alike commodity m (record_of.Spot x) = refl
-alike commodity m (record_of.Inter x) = refl
+alike commodity m _ = refl
 
 -- a tier overlaps the earlier ones just where it meets those of its commodity
 pub overlaps_tier-meets : (earlier : List Record) (r : Record)
     → meets_earlier (λ commodity. filter_map (months_under commodity) earlier) r ≡ overlaps_tier earlier r
-overlaps_tier-meets earlier (record_of.Set x) = refl
-overlaps_tier-meets earlier (record_of.Commodity x) = refl
-overlaps_tier-meets earlier (record_of.Contract x) = refl
 overlaps_tier-meets earlier (record_of.Tier x) =
     list_any-filter_map (months_under x.commodity) (meet (months_of x)) earlier
     ∙ list_any-same _ _ (alike x.commodity (months_of x)) earlier
     ∙ sym (list_any-filter_map as_tier (λ u. bytes_eq u.commodity x.commodity && share_month x u) earlier)
-overlaps_tier-meets earlier (record_of.Intra x) = refl
-overlaps_tier-meets earlier (record_of.Spot x) = refl
-overlaps_tier-meets earlier (record_of.Inter x) = refl
+overlaps_tier-meets earlier _ = refl
 
 meets_earlier-same : (these those : List ℕ → List Months) → ((c : List ℕ) → these c ≡ those c) → (r : Record)
     → meets_earlier these r ≡ meets_earlier those r
-meets_earlier-same these those same (record_of.Set x) = refl
-meets_earlier-same these those same (record_of.Commodity x) = refl
-meets_earlier-same these those same (record_of.Contract x) = refl
 meets_earlier-same these those same (record_of.Tier x) = ap (list_any (meet (months_of x))) (same x.commodity)
-meets_earlier-same these those same (record_of.Intra x) = refl
-meets_earlier-same these those same (record_of.Spot x) = refl
-meets_earlier-same these those same (record_of.Inter x) = refl
+meets_earlier-same these those same _ = refl
 
 -- groups of the earlier tiers by their commodity give the answer
 pub overlaps_tier-grouped : (groups : List ℕ → List Months) (earlier : List Record)
@@ -64,3 +49,10 @@ pub overlaps_tier-grouped : (groups : List ℕ → List Months) (earlier : List 
     → (r : Record) → meets_earlier groups r ≡ overlaps_tier earlier r
 overlaps_tier-grouped groups earlier are r =
     meets_earlier-same groups (λ c. filter_map (months_under c) earlier) are r ∙ overlaps_tier-meets earlier r
+
+-- so they do for the record at a place, behind those before it
+pub overlaps_tier-at : (groups : List ℕ → List Months) (all : List Record) (i : ℕ) (r : Record) (b : Bool)
+    → ((c : List ℕ) → groups c ≡ filter_map (months_under c) (take i all)) → r ≡ get_or all i r → b ≡ meets_earlier groups r
+    → overlaps_tier (take i all) (get_or all i r) ≡ b
+overlaps_tier-at groups all i r b are is met =
+    rw (← is) (sym (overlaps_tier-grouped groups (take i all) are r) ∙ sym met)

@@ -17,13 +17,8 @@ use Rattle.param_check.proofs.FirstFaults.{first_breaking-same}
 
 commodity_alike : (id : List ℕ) (r : Record)
     → is_same (key_of identity.Commodity r) (name_key id 0) ≡ is_and (as_commodity r) (λ c. bytes_eq c.id id)
-commodity_alike id (record_of.Set x) = refl
 commodity_alike id (record_of.Commodity x) = and-true (bytes_eq x.id id)
-commodity_alike id (record_of.Contract x) = refl
-commodity_alike id (record_of.Tier x) = refl
-commodity_alike id (record_of.Intra x) = refl
-commodity_alike id (record_of.Spot x) = refl
-commodity_alike id (record_of.Inter x) = refl
+commodity_alike id _ = refl
 
 has_commodity : (all : List Record) (id : List ℕ)
     → has_key identity.Commodity all (name_key id 0) ≡ list_any (λ c. bytes_eq c.id id) (commodities_in all)
@@ -38,8 +33,6 @@ module _ (keys : List Key) (all : List Record) (are : (key : Key) → is_among k
   alone id = unknown id ∙ sym (or-false _)
 
   names_unknown-alike : (earlier : List Record) (r : Record) → names_unknown keys r ≡ names_no_commodity all r
-  names_unknown-alike earlier (record_of.Set x) = refl
-  names_unknown-alike earlier (record_of.Commodity x) = refl
   names_unknown-alike earlier (record_of.Contract x) = alone x.commodity
   names_unknown-alike earlier (record_of.Tier x) = alone x.commodity
   names_unknown-alike earlier (record_of.Intra x) = alone x.commodity
@@ -47,6 +40,7 @@ module _ (keys : List Key) (all : List Record) (are : (key : Key) → is_among k
   names_unknown-alike earlier (record_of.Inter x) =
       list_any-same _ _ (λ leg. unknown leg.commodity) x.legs.items
       ∙ sym (list_any-map (λ name. not (list_any (λ c. bytes_eq c.id name) (commodities_in all))) (λ leg. leg.commodity) x.legs.items)
+  names_unknown-alike earlier _ = refl
 
   pub names_unknown-first : first_breaking (λ at. at) (λ earlier r. names_unknown keys r) all
       ≡ first_breaking (λ at. at) (λ earlier r. names_no_commodity all r) all
@@ -57,13 +51,8 @@ module _ (keys : List Key) (all : List Record) (are : (key : Key) → is_among k
 
 tier_alike : (c : List ℕ) (n : ℕ) (r : Record)
     → is_same (key_of identity.Tier r) (name_key c n) ≡ is_and (as_tier r) (λ t. bytes_eq t.commodity c && eqb t.number n)
-tier_alike c n (record_of.Set x) = refl
-tier_alike c n (record_of.Commodity x) = refl
-tier_alike c n (record_of.Contract x) = refl
 tier_alike c n (record_of.Tier x) = refl
-tier_alike c n (record_of.Intra x) = refl
-tier_alike c n (record_of.Spot x) = refl
-tier_alike c n (record_of.Inter x) = refl
+tier_alike c n _ = refl
 
 has_tier-key : (all : List Record) (c : List ℕ) (n : ℕ) → has_key identity.Tier all (name_key c n) ≡ has_tier all c n
 has_tier-key all c n =
@@ -74,13 +63,8 @@ module _ (keys : List Key) (all : List Record) (are : (key : Key) → is_among k
   unknown_tier c n = ap not (are (name_key c n) ∙ has_tier-key all c n)
 
   names_unknown_tier-alike : (earlier : List Record) (r : Record) → names_unknown_tier keys r ≡ names_no_tier all r
-  names_unknown_tier-alike earlier (record_of.Set x) = refl
-  names_unknown_tier-alike earlier (record_of.Commodity x) = refl
-  names_unknown_tier-alike earlier (record_of.Contract x) = refl
-  names_unknown_tier-alike earlier (record_of.Tier x) = refl
   names_unknown_tier-alike earlier (record_of.Intra x) = list_any-same _ _ (λ leg. unknown_tier x.commodity leg.tier) x.legs.items
-  names_unknown_tier-alike earlier (record_of.Spot x) = refl
-  names_unknown_tier-alike earlier (record_of.Inter x) = refl
+  names_unknown_tier-alike earlier _ = refl
 
   pub names_unknown_tier-first : first_breaking (λ at. at) (λ earlier r. names_unknown_tier keys r) all
       ≡ first_breaking (λ at. at) (λ earlier r. names_no_tier all r) all

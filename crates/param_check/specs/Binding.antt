@@ -51,7 +51,5 @@ bindings_of contracts all = ok_unless (bind_fault contracts all) (portfolios_of 
 
 -- the fault is want of memory, of which the definition does not speak
 abbrev pub is_memory : BindFault → Bool
-is_memory (fault.UnknownContract at account) = false
-is_memory (fault.NetOutOfRange at account) = false
-is_memory (fault.TooManyHeld at account) = false
 is_memory fault.OutOfMemory = true
+is_memory _ = false

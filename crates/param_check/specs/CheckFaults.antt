@@ -33,15 +33,5 @@ checked records = ok_unless (check_fault records) (tables_of records)
 
 -- the fault is want of memory, of which the definition does not speak
 abbrev pub is_memory : CheckFault → Bool
-is_memory (fault.DuplicateCommodity at) = false
-is_memory (fault.UnknownCommodity at) = false
-is_memory (fault.DuplicateContract at) = false
-is_memory (fault.DuplicateTier at) = false
-is_memory (fault.TierBackwards at) = false
-is_memory (fault.TierOverlap at) = false
-is_memory (fault.UnknownTier at) = false
-is_memory (fault.RepeatedLeg at) = false
-is_memory (fault.OneSided at) = false
-is_memory (fault.DuplicatePriority at) = false
-is_memory (fault.DuplicateSpot at) = false
 is_memory fault.OutOfMemory = true
+is_memory _ = false

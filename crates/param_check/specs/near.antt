@@ -1,9 +1,9 @@
 -- What no promise's words stand on: forms near to the code, what types keep, samples.
-pub mod Groups
 pub mod Holdings
 pub mod Keys
 pub mod Ledger
 pub mod Nets
+pub mod Outcomes
 pub mod Overlaps
 pub mod RecordRules
 pub mod Samples

@@ -1,7 +1,8 @@
 -- What no two records of a kind may share, as keys that are compared.
 use Rattle.std.specs.Prelude.{ℕ, Bool, true, false, not, ◌&&◌, ◌==◌, List, filter_map, Option, Some, None, bytes_eq}
 use Rattle.std.specs.List.{list_any}
-use Rattle.span_tables.specs.Rules.{is_and, as_intra, first_breaking}
+use Rattle.span_tables.specs.Rules.{is_and, as_intra, repeats_commodity, repeats_contract, repeats_tier, repeats_priority}
+use Rattle.span_tables.specs.Rules.{repeats_spot}
 use Rattle.span_tables.specs.declared.records.Record.{Record}
 use Rattle.span_tables.specs.declared.records.Record.TheVariants as record_of
 use Rattle.param_check.specs.declared.check.keys.Identity.{Identity}
@@ -48,9 +49,13 @@ has_key identity all key = list_any (λ r. is_same (key_of identity r) key) all
 abbrev pub repeats_key : Identity → List Record → Record → Bool
 repeats_key identity earlier r = is_among (filter_map (key_of identity) earlier) (key_of identity r)
 
--- the number of the first record with the key of an earlier one
-abbrev pub first_repeat : Identity → List Record → Option ℕ
-first_repeat identity all = first_breaking (λ at. at) (repeats_key identity) all
+-- the rule that such a record breaks
+abbrev pub repeats : Identity → List Record → Record → Bool
+repeats identity.Commodity = repeats_commodity
+repeats identity.Contract = repeats_contract
+repeats identity.Tier = repeats_tier
+repeats identity.Priority = repeats_priority
+repeats identity.SpotMonth = repeats_spot
 
 -- no COMMODITY record has this id, where these are the keys of all
 abbrev pub is_unknown : List Key → List ℕ → Bool
@@ -58,13 +63,12 @@ is_unknown commodities id = not (is_among commodities (Some (name_key id 0)))
 
 -- it names a commodity that no COMMODITY record has
 abbrev pub names_unknown : List Key → Record → Bool
-names_unknown commodities (record_of.Set x) = false
-names_unknown commodities (record_of.Commodity x) = false
 names_unknown commodities (record_of.Contract x) = is_unknown commodities x.commodity
 names_unknown commodities (record_of.Tier x) = is_unknown commodities x.commodity
 names_unknown commodities (record_of.Intra x) = is_unknown commodities x.commodity
 names_unknown commodities (record_of.Spot x) = is_unknown commodities x.commodity
 names_unknown commodities (record_of.Inter x) = list_any (λ leg. is_unknown commodities leg.commodity) x.legs.items
+names_unknown commodities _ = false
 
 -- no TIER record has this commodity and number, where these are the keys of all
 abbrev pub is_unknown_tier : List Key → List ℕ → ℕ → Bool

@@ -1,6 +1,7 @@
 //! What no two records of a kind may share, as keys of a set.
 ghost use Rattle.std.specs.Prelude.{◌≡◌, ◌++◌, ◌||◌, false, option_to_list, IfOk, OnOk};
-ghost use Rattle.param_check.specs.near.Keys.{first_repeat, has_key, is_among, is_same, key_of};
+ghost use Rattle.span_tables.specs.Rules.{first_breaking};
+ghost use Rattle.param_check.specs.near.Keys.{has_key, is_among, is_same, key_of, repeats};
 
 use indexmap::IndexSet;
 use span_tables::name::Name;
@@ -73,13 +74,13 @@ fn repeats_or_joins(keys: &mut IndexSet<Key>, key: Option<Key>) -> Result<bool, 
     Ok(!is_new)
 }
 
-/// The number of the first record with the key of an earlier one.
+/// The number of the first record with the key of an earlier one, which breaks C1, C3, C4, C10 or C11.
 pub(crate) fn first_repeat(
     alloc: Global,
     identity: Identity,
     records: &[Record],
 ) -> Result<Option<usize>, AllocError>
-    ensures { IfOk result (λ at. at ≡ first_repeat identity records.now) }
+    ensures { IfOk result (λ at. at ≡ first_breaking (λ at. at) (repeats identity) records.now) }
 {
     let mut keys = IndexSet::new(alloc);
     for (index, item) in records.iter().enumerate() {

@@ -1,14 +1,13 @@
-//! What each rule forbids of one record, and the first record that breaks it, rule by rule.
+//! The rules that a record breaks by itself or by what it names: C2, C5, C7, C8 and C9, and the first record that breaks one.
 ghost use Rattle.std.specs.Prelude.{◌≡◌, ◌&&◌, ◌==◌, bytes_eq, map, IfOk};
 ghost use Rattle.std.specs.List.{list_all, list_any};
 ghost use Rattle.span_tables.specs.Names.{has_repeat};
 ghost use Rattle.span_tables.specs.Rules.{are_one_sided, first_breaking, is_backwards, is_one_sided, is_side_a};
-ghost use Rattle.span_tables.specs.Rules.{names_no_commodity, names_no_tier, repeats_commodity, repeats_contract};
-ghost use Rattle.span_tables.specs.Rules.{repeats_leg, repeats_priority, repeats_spot, repeats_tier, same_side};
+ghost use Rattle.span_tables.specs.Rules.{names_no_commodity, names_no_tier, repeats_leg, same_side};
 ghost use Rattle.param_check.specs.near.Keys.{is_unknown, is_unknown_tier, names_unknown, names_unknown_tier};
 ghost use Rattle.param_check.specs.near.RecordRules.{breaks};
 
-use crate::check::keys::{Identity, Key, all_keys, first_repeat, name_key};
+use crate::check::keys::{Identity, Key, all_keys, name_key};
 use indexmap::IndexSet;
 use span_tables::name::Name;
 use span_tables::records::{InterLeg, IntraLeg, Record, Side};
@@ -16,7 +15,7 @@ use std::alloc::{AllocError, Global};
 
 /// A rule that a record breaks by itself, or by what it names among the keys of the file.
 #[derive(Drop)]
-enum RecordRule {
+pub(crate) enum RecordRule {
     /// C2: the commodities that a record names are among these.
     KnownCommodities(IndexSet<Key>),
     /// C5: a tier does not end before it begins.
@@ -42,8 +41,8 @@ fn breaks(rule: &RecordRule, item: &Record) -> bool
     }
 }
 
-// The number of the first record that breaks a rule.
-fn first_that_breaks(rule: &RecordRule, records: &[Record]) -> Option<usize>
+/// The number of the first record that breaks a rule.
+pub(crate) fn first_that_breaks(rule: &RecordRule, records: &[Record]) -> Option<usize>
     ensures { result ≡ first_breaking (λ at. at) (λ earlier r. breaks rule.now r) records.now }
 {
     for (index, item) in records.iter().enumerate() {
@@ -52,19 +51,6 @@ fn first_that_breaks(rule: &RecordRule, records: &[Record]) -> Option<usize>
         }
     }
     None
-}
-
-// ---- C1
-
-/// The number of the first record that breaks C1.
-#[tactic(auto, using(crate::proofs::KeyLemmas::first_repeated_commodity))]
-pub(crate) fn first_repeated_commodity(
-    alloc: Global,
-    records: &[Record],
-) -> Result<Option<usize>, AllocError>
-    ensures { IfOk result (λ at. at ≡ first_breaking (λ at. at) repeats_commodity records.now) }
-{
-    first_repeat(alloc, Identity::Commodity, records)
 }
 
 // ---- C2
@@ -110,32 +96,6 @@ pub(crate) fn first_unknown_commodity(
     Ok(first_that_breaks(&RecordRule::KnownCommodities(commodities), records))
 }
 
-// ---- C3
-
-/// The number of the first record that breaks C3.
-#[tactic(auto, using(crate::proofs::KeyLemmas::first_repeated_contract))]
-pub(crate) fn first_repeated_contract(
-    alloc: Global,
-    records: &[Record],
-) -> Result<Option<usize>, AllocError>
-    ensures { IfOk result (λ at. at ≡ first_breaking (λ at. at) repeats_contract records.now) }
-{
-    first_repeat(alloc, Identity::Contract, records)
-}
-
-// ---- C4
-
-/// The number of the first record that breaks C4.
-#[tactic(auto, using(crate::proofs::KeyLemmas::first_repeated_tier))]
-pub(crate) fn first_repeated_tier(
-    alloc: Global,
-    records: &[Record],
-) -> Result<Option<usize>, AllocError>
-    ensures { IfOk result (λ at. at ≡ first_breaking (λ at. at) repeats_tier records.now) }
-{
-    first_repeat(alloc, Identity::Tier, records)
-}
-
 // ---- C5
 
 // Whether it is a TIER whose first month is after its last.
@@ -147,15 +107,6 @@ fn is_backwards(item: &Record) -> bool
         _ => false,
     }
 }
-
-/// The number of the first record that breaks C5.
-pub(crate) fn first_backwards(records: &[Record]) -> Option<usize>
-    ensures { result ≡ first_breaking (λ at. at) (λ earlier r. is_backwards r) records.now }
-{
-    first_that_breaks(&RecordRule::NotBackwards, records)
-}
-
-// ---- C6: in `overlaps`
 
 // ---- C7
 
@@ -267,13 +218,6 @@ fn repeats_leg(item: &Record) -> bool
     }
 }
 
-/// The number of the first record that breaks C8.
-pub(crate) fn first_repeated_leg(records: &[Record]) -> Option<usize>
-    ensures { result ≡ first_breaking (λ at. at) (λ earlier r. repeats_leg r) records.now }
-{
-    first_that_breaks(&RecordRule::LegsApart, records)
-}
-
 // ---- C9
 
 // Whether the legs are all on a side.
@@ -317,37 +261,4 @@ fn is_one_sided(item: &Record) -> bool
         Record::Inter(spread) => commodity_legs_one_sided(&spread.legs),
         _ => false,
     }
-}
-
-/// The number of the first record that breaks C9.
-pub(crate) fn first_one_sided(records: &[Record]) -> Option<usize>
-    ensures { result ≡ first_breaking (λ at. at) (λ earlier r. is_one_sided r) records.now }
-{
-    first_that_breaks(&RecordRule::TwoSided, records)
-}
-
-// ---- C10
-
-/// The number of the first record that breaks C10.
-#[tactic(auto, using(crate::proofs::KeyLemmas::first_repeated_priority))]
-pub(crate) fn first_repeated_priority(
-    alloc: Global,
-    records: &[Record],
-) -> Result<Option<usize>, AllocError>
-    ensures { IfOk result (λ at. at ≡ first_breaking (λ at. at) repeats_priority records.now) }
-{
-    first_repeat(alloc, Identity::Priority, records)
-}
-
-// ---- C11
-
-/// The number of the first record that breaks C11.
-#[tactic(auto, using(crate::proofs::KeyLemmas::first_repeated_spot))]
-pub(crate) fn first_repeated_spot(
-    alloc: Global,
-    records: &[Record],
-) -> Result<Option<usize>, AllocError>
-    ensures { IfOk result (λ at. at ≡ first_breaking (λ at. at) repeats_spot records.now) }
-{
-    first_repeat(alloc, Identity::SpotMonth, records)
 }

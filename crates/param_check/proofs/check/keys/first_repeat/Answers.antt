@@ -2,7 +2,11 @@ use Rattle.std.proofs.Common.{◌≡◌, arith, sym, ◌∙◌, false, get_or, t
 use Rattle.param_check.specs.near.Keys.{key_of, repeats_key, is_among}
 use Rattle.param_check.proofs.FilterMaps.{filter_map_more}
 use Rattle.param_check.proofs.FirstFaults.{breaking_from-next}
+use Rattle.param_check.proofs.KeyLemmas.{first_repeated}
 use Rattle.param_check.proofs.check.keys.first_repeat.Goals as goal
+
+pub loop-index-init : goal.loop-index-init
+loop-index-init c = record { seen = cc; rest = first_repeated c.args.identity c.args.records.now }
 
 pub loop-index-preserved : goal.loop-index-preserved
 loop-index-preserved c =

@@ -6,7 +6,7 @@ use Rattle.span_tables.specs.Rules.{overlaps_tier}
 use Rattle.param_check.specs.near.Overlaps.{months_under}
 use Rattle.param_check.proofs.FilterMaps.{filter_map_more}
 use Rattle.param_check.proofs.FirstFaults.{breaking_from-here, breaking_from-next}
-use Rattle.param_check.proofs.OverlapLemmas.{overlaps_tier-grouped}
+use Rattle.param_check.proofs.OverlapLemmas.{overlaps_tier-at}
 use Rattle.param_check.proofs.check.overlaps.first_overlap.Goals as goal
 
 pub returns-then-branch : goal.returns-then-branch
@@ -14,11 +14,8 @@ returns-then-branch c =
     let i = c.loop-index.index in
     let all = c.args.records.now in
     let x = c.index-records-index.result in
-    let is : x ≡ get_or all i x = c.index-records-index.is in
-    let grouped = overlaps_tier-grouped (λ q. option_map_or (λ v. v.items) (get bytes_eq c.loop-index.tiers q) [])
-    (take i all) c.loop-index.invariant.groups x in
-    let met = sym c.in_ok-overlaps_or_joins.ensures.meets ∙ c.if-branch.true in
-    let breaks : overlaps_tier (take i all) (get_or all i x) ≡ true = rw (← is) (sym grouped ∙ met) in
+    let breaks = overlaps_tier-at (λ q. option_map_or (λ v. v.items) (get bytes_eq c.loop-index.tiers q) []) all i x true
+    c.loop-index.invariant.groups c.index-records-index.is (sym c.if-branch.true ∙ c.in_ok-overlaps_or_joins.ensures.meets) in
     sym (breaking_from-here overlaps_tier all i x (omega arith) breaks) ∙ c.loop-index.invariant.rest
 
 pub loop-index-preserved : goal.loop-index-preserved
@@ -27,10 +24,8 @@ loop-index-preserved c =
     let all = c.args.records.now in
     let x = c.index-records-index.result in
     let is : x ≡ get_or all i x = c.index-records-index.is in
-    let grouped = overlaps_tier-grouped (λ q. option_map_or (λ v. v.items) (get bytes_eq c.loop-index.tiers q) [])
-    (take i all) c.loop-index.invariant.groups x in
-    let met = sym c.in_ok-overlaps_or_joins.ensures.meets ∙ c.if-branch.false in
-    let keeps : overlaps_tier (take i all) (get_or all i x) ≡ false = rw (← is) (sym grouped ∙ met) in
+    let keeps = overlaps_tier-at (λ q. option_map_or (λ v. v.items) (get bytes_eq c.loop-index.tiers q) []) all i x false
+    c.loop-index.invariant.groups is (sym c.if-branch.false ∙ c.in_ok-overlaps_or_joins.ensures.meets) in
     record {
       groups = λ q.
           c.in_ok-overlaps_or_joins.ensures.joins c.if-branch.false q
