@@ -42,7 +42,7 @@ not_before k ks a name none at =
       | inr apart ↦ apart
     ]
 
--- so its place is the first one where it is found
+-- the place of a name is the first one where the name is found, in a list without a repeat
 first_place : (ks : List (List ℕ)) (a : ℕ) (name : List ℕ) → has_repeat bytes_eq ks ≡ false → slice_get ks a ≡ Some name
     → position_or_len (bytes_eq name) ks ≡ a
 first_place [] a name apart at = cc

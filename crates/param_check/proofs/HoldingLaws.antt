@@ -114,10 +114,10 @@ holdings_are contracts positions account h =
     ∙ (let z : k ≡ 0 + k = omega arith in ap (entry_net (entries_of (ids_of contracts) positions account)) z)))
 
 pub all_holdings_are : (contracts : List Contract) (positions : List PositionRecord) (accounts : List (List ℕ))
-    (books : List (List Entry)) → has_repeat (λ y z. bytes_eq y.id z.id) contracts ≡ false
-    → books ≡ map (entries_of (ids_of contracts) positions) accounts
-    → map (entry_holdings (length contracts)) books ≡ map (holdings_of contracts positions) accounts
-all_holdings_are contracts positions accounts books h e = ap (map (entry_holdings (length contracts))) e ∙ each accounts
+    (ledgers : List (List Entry)) → has_repeat (λ y z. bytes_eq y.id z.id) contracts ≡ false
+    → ledgers ≡ map (entries_of (ids_of contracts) positions) accounts
+    → map (entry_holdings (length contracts)) ledgers ≡ map (holdings_of contracts positions) accounts
+all_holdings_are contracts positions accounts ledgers h e = ap (map (entry_holdings (length contracts))) e ∙ each accounts
   where
     each : (ks : List (List ℕ)) → map (entry_holdings (length contracts)) (map (entries_of (ids_of contracts) positions) ks)
         ≡ map (holdings_of contracts positions) ks

@@ -15,13 +15,14 @@ use Rattle.span_tables.specs.declared.portfolios.Holding.{Holding}
 use Rattle.span_tables.specs.declared.records.Contract.{Contract}
 use Rattle.span_tables.specs.declared.records.PositionRecord.{PositionRecord}
 use Rattle.param_check.specs.Binding.{first_unfit, bindings_of}
-use Rattle.param_check.specs.near.Holdings.{ids_of, is_over, is_over_at, over_at, net_exceeds, are_many, many_at}
-use Rattle.param_check.specs.near.Holdings.{held_exceeds, net_fault, held_fault, portfolios_from, portfolios_or_fault}
-use Rattle.param_check.specs.near.Ledger.{IsLedger}
+use Rattle.param_check.specs.near.Holdings.{are_many, exceeds, exceeds_at, exceeds_in, fault_of, ids_of, is_over, is_over_at}
+use Rattle.param_check.specs.near.Holdings.{limit_fault, portfolios_from, portfolios_or_fault}
+use Rattle.param_check.specs.declared.binding.over_limits.Limit.{Limit}
+use Rattle.param_check.specs.declared.binding.over_limits.Limit.TheVariants as limit
+use Rattle.param_check.specs.near.Ledgers.{AreLedgers}
 use Rattle.param_check.specs.near.Nets.{entry_holdings}
 use Rattle.param_check.specs.near.Sums.{kept_holding, kept_holdings}
 use Rattle.param_check.specs.declared.faults.BindFault.{BindFault}
-use Rattle.param_check.specs.declared.faults.BindFault.TheVariants as fault
 use Rattle.param_check.specs.declared.binding.nets.Entry.{Entry}
 use Rattle.param_check.proofs.BindLaws.{bound_settled, nets_hold}
 
@@ -61,30 +62,23 @@ kept_at [] a = refl
 kept_at (hs ∷ nets) zero = refl
 kept_at (hs ∷ nets) (suc a) = kept_at nets a
 
--- so the same records are at fault
-over_at_all : (a c : Option ℕ) (nets : List (List Holding)) → over_at a c (all_kept nets) ≡ over_at a c nets
-over_at_all (Some a) (Some c) nets = ap (is_over_at c) (kept_at nets a) ∙ over_at_kept c (get_or nets a [])
-over_at_all (Some a) None nets = refl
-over_at_all None c nets = refl
+in_kept : (l : Limit) (c : Option ℕ) (hs : List Holding) → exceeds_in l c (map kept_holding hs) ≡ exceeds_in l c hs
+in_kept limit.Net (Some c) hs = over_at_kept c hs
+in_kept limit.Net None hs = refl
+in_kept limit.Held c hs = many_kept hs
 
-many_at_all : (a : Option ℕ) (nets : List (List Holding)) → many_at a (all_kept nets) ≡ many_at a nets
-many_at_all (Some a) nets = ap are_many (kept_at nets a) ∙ many_kept (get_or nets a [])
-many_at_all None nets = refl
+-- the same records exceed a limit by the nets and by the nets as they are kept
+at_all : (l : Limit) (a c : Option ℕ) (nets : List (List Holding)) → exceeds_at l a c (all_kept nets) ≡ exceeds_at l a c nets
+at_all l (Some a) c nets = ap (exceeds_in l c) (kept_at nets a) ∙ in_kept l c (get_or nets a [])
+at_all l None c nets = refl
 
-module _ (ids accounts : List (List ℕ)) (nets : List (List Holding)) (positions : List PositionRecord) where
-  exceeds_all : (p : PositionRecord) → net_exceeds ids accounts (all_kept nets) p ≡ net_exceeds ids accounts nets p
-  exceeds_all p = over_at_all (position (bytes_eq p.account) accounts) (position (bytes_eq p.contract) ids) nets
+module _ (l : Limit) (ids accounts : List (List ℕ)) (nets : List (List Holding)) (positions : List PositionRecord) where
+  exceeds_all : (p : PositionRecord) → exceeds l ids accounts (all_kept nets) p ≡ exceeds l ids accounts nets p
+  exceeds_all p = at_all l (position (bytes_eq p.account) accounts) (position (bytes_eq p.contract) ids) nets
 
-  too_many_all : (p : PositionRecord) → held_exceeds accounts (all_kept nets) p ≡ held_exceeds accounts nets p
-  too_many_all p = many_at_all (position (bytes_eq p.account) accounts) nets
-
-  net_fault_kept : net_fault ids accounts (all_kept nets) positions ≡ net_fault ids accounts nets positions
-  unfolding net_fault
-  net_fault_kept = λ i. first_unfit fault.NetOutOfRange (λ earlier p. exceeds_all p i) positions
-
-  held_fault_kept : held_fault accounts (all_kept nets) positions ≡ held_fault accounts nets positions
-  unfolding held_fault
-  held_fault_kept = λ i. first_unfit fault.TooManyHeld (λ earlier p. too_many_all p i) positions
+  limit_fault_kept : limit_fault l ids accounts (all_kept nets) positions ≡ limit_fault l ids accounts nets positions
+  unfolding limit_fault
+  limit_fault_kept = λ i. first_unfit (fault_of l) (λ earlier p. exceeds_all p i) positions
 
 -- nets within the limit are kept as they are
 kept_same : (h : Holding) → nat_abs h.net ≤ MAX_NET → kept_holding h ≡ h
@@ -107,66 +101,64 @@ all_same (hs ∷ nets) all =
     let rest = all_same nets (λ k d lt. all (suc k) d (omega (arith, lt))) in
     λ i. here i ∷ rest i
 
-module _ (contracts : List Contract) (positions : List PositionRecord) (ids : List (List ℕ)) (books : List (List Entry))
+module _ (contracts : List Contract) (positions : List PositionRecord) (ids : List (List ℕ)) (ledgers : List (List Entry))
     (nets : List (List Holding))
     (apart : has_repeat (λ x y. bytes_eq x.id y.id) contracts ≡ false) (ids_are : ids ≡ ids_of contracts)
-    (ledger : IsLedger ids positions books)
-    (nets_are : nets ≡ map (kept_holdings (length contracts)) books) where
+    (ledger : AreLedgers ids positions ledgers)
+    (nets_are : nets ≡ map (kept_holdings (length contracts)) ledgers) where
   exact : List (List Holding)
-  exact = map (entry_holdings (length contracts)) books
+  exact = map (entry_holdings (length contracts)) ledgers
 
   are_kept : nets ≡ all_kept exact
   unfolding exact all_kept
-  are_kept = nets_are ∙ each books
+  are_kept = nets_are ∙ each ledgers
     where
       each : (bs : List (List Entry)) → map (kept_holdings (length contracts)) bs
           ≡ map (map kept_holding) (map (entry_holdings (length contracts)) bs)
       each [] = refl
       each (b ∷ bs) = ap (λ ns. kept_holdings (length contracts) b ∷ ns) (each bs)
 
-  exact_hold : net_fault ids (accounts_of positions) exact positions ≡ None
-      → held_fault (accounts_of positions) exact positions ≡ None → All ArePortfolio exact
+  exact_hold : limit_fault limit.Net ids (accounts_of positions) exact positions ≡ None
+      → limit_fault limit.Held ids (accounts_of positions) exact positions ≡ None → All ArePortfolio exact
   unfolding exact
-  exact_hold = nets_hold contracts positions ids books exact apart ids_are ledger refl
+  exact_hold = nets_hold contracts positions ids ledgers exact apart ids_are ledger refl
 
-  net_fault_is : net_fault ids (accounts_of positions) nets positions ≡ net_fault ids (accounts_of positions) exact positions
-  net_fault_is =
-      ap (λ ns. net_fault ids (accounts_of positions) ns positions) are_kept ∙ net_fault_kept ids (accounts_of positions) exact positions
-
-  held_fault_is : held_fault (accounts_of positions) nets positions ≡ held_fault (accounts_of positions) exact positions
-  held_fault_is =
-      ap (λ ns. held_fault (accounts_of positions) ns positions) are_kept ∙ held_fault_kept ids (accounts_of positions) exact positions
+  fault_is : (l : Limit) → limit_fault l ids (accounts_of positions) nets positions
+      ≡ limit_fault l ids (accounts_of positions) exact positions
+  fault_is l =
+      ap (λ ns. limit_fault l ids (accounts_of positions) ns positions) are_kept
+      ∙ limit_fault_kept l ids (accounts_of positions) exact positions
 
   -- what the kept nets are settled to is what the records are bound to
   pub kept_settled : portfolios_or_fault ids (accounts_of positions) nets positions ≡ bindings_of contracts positions
   unfolding portfolios_or_fault exact
   kept_settled =
-      by (net_fault ids (accounts_of positions) exact positions) (held_fault (accounts_of positions) exact positions) refl refl
+      by (limit_fault limit.Net ids (accounts_of positions) exact positions) (limit_fault limit.Held ids (accounts_of positions) exact positions) refl refl
       ∙ exact_settled
     where
       exact_settled : portfolios_or_fault ids (accounts_of positions) exact positions ≡ bindings_of contracts positions
-      exact_settled = bound_settled contracts positions ids books exact apart ids_are ledger refl
+      exact_settled = bound_settled contracts positions ids ledgers exact apart ids_are ledger refl
 
-      settles : (ns : List (List Holding)) (b2 b3 : Option BindFault) → net_fault ids (accounts_of positions) ns positions ≡ b2
-          → held_fault (accounts_of positions) ns positions ≡ b3
+      settles : (ns : List (List Holding)) (b2 b3 : Option BindFault) → limit_fault limit.Net ids (accounts_of positions) ns positions ≡ b2
+          → limit_fault limit.Held ids (accounts_of positions) ns positions ≡ b3
           → portfolios_or_fault ids (accounts_of positions) ns positions
           ≡ ok_unless (option_or b2 b3) (portfolios_from (accounts_of positions) ns)
       settles ns b2 b3 x y =
-          ap (λ o. ok_unless (option_or o (held_fault (accounts_of positions) ns positions)) (portfolios_from (accounts_of positions) ns))
+          ap (λ o. ok_unless (option_or o (limit_fault limit.Held ids (accounts_of positions) ns positions)) (portfolios_from (accounts_of positions) ns))
           x ∙ ap (λ o. ok_unless (option_or b2 o) (portfolios_from (accounts_of positions) ns)) y
 
-      by : (b2 b3 : Option BindFault) → net_fault ids (accounts_of positions) exact positions ≡ b2
-          → held_fault (accounts_of positions) exact positions ≡ b3
+      by : (b2 b3 : Option BindFault) → limit_fault limit.Net ids (accounts_of positions) exact positions ≡ b2
+          → limit_fault limit.Held ids (accounts_of positions) exact positions ≡ b3
           → portfolios_or_fault ids (accounts_of positions) nets positions
           ≡ portfolios_or_fault ids (accounts_of positions) exact positions
-      by (Some e) b3 x y = settles nets (Some e) b3 (net_fault_is ∙ x) (held_fault_is ∙ y) ∙ sym (settles exact (Some e) b3 x y)
-      by None (Some e) x y = settles nets None (Some e) (net_fault_is ∙ x) (held_fault_is ∙ y) ∙ sym (settles exact None (Some e) x y)
+      by (Some e) b3 x y = settles nets (Some e) b3 (fault_is limit.Net ∙ x) (fault_is limit.Held ∙ y) ∙ sym (settles exact (Some e) b3 x y)
+      by None (Some e) x y = settles nets None (Some e) (fault_is limit.Net ∙ x) (fault_is limit.Held ∙ y) ∙ sym (settles exact None (Some e) x y)
       by None None x y =
           ap (λ ns. portfolios_or_fault ids (accounts_of positions) ns positions) (are_kept ∙ all_same exact (exact_hold x y))
 
-  -- and they are portfolios where there is no fault
-  pub kept_hold : net_fault ids (accounts_of positions) nets positions ≡ None
-      → held_fault (accounts_of positions) nets positions ≡ None → All ArePortfolio nets
+  -- the kept nets are portfolios where there is no fault
+  pub kept_hold : limit_fault limit.Net ids (accounts_of positions) nets positions ≡ None
+      → limit_fault limit.Held ids (accounts_of positions) nets positions ≡ None → All ArePortfolio nets
   kept_hold none few =
-      let holds = exact_hold (sym net_fault_is ∙ none) (sym held_fault_is ∙ few) in
+      let holds = exact_hold (sym (fault_is limit.Net) ∙ none) (sym (fault_is limit.Held) ∙ few) in
       subst (All ArePortfolio) (sym (are_kept ∙ all_same exact holds)) holds

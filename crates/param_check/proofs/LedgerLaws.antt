@@ -12,7 +12,7 @@ use Rattle.span_tables.specs.near.Positions.{named_position, named_positions}
 use Rattle.span_tables.specs.declared.records.NumberedPosition.{NumberedPosition}
 use Rattle.span_tables.specs.declared.records.PositionRecord.{PositionRecord}
 use Rattle.span_tables.proofs.NameLaws.{distinct_once}
-use Rattle.param_check.specs.near.Ledger.{is_foreign, known_entry, foreign_fault}
+use Rattle.param_check.specs.near.Ledgers.{is_foreign, known_entry, foreign_fault}
 use Rattle.param_check.specs.near.Nets.{entry_of, entries_of}
 use Rattle.param_check.specs.declared.faults.BindFault.TheVariants as fault
 use Rattle.param_check.specs.declared.binding.nets.Entry.{Entry}
@@ -68,7 +68,7 @@ module _ (positions : List PositionRecord) (records : List NumberedPosition)
       let f = named_position (accounts_of positions) in
       ap f at ∙ sym (get_or-map f records i r (f r) lt) ∙ ap (λ ps. get_or ps i (f r)) named
 
-  -- and its account at that of the number
+  -- the number of a numbered record is that of one of the accounts
   pub number_within : (i : ℕ) (r : NumberedPosition) → i < length records → r ≡ get_or records i r
       → r.account < length (accounts_of positions)
   number_within i r lt at = subst (λ (p : NumberedPosition). p.account < length (accounts_of positions)) (sym at) (known i r lt)
@@ -77,14 +77,14 @@ module _ (positions : List PositionRecord) (records : List NumberedPosition)
       → slice_get (accounts_of positions) r.account ≡ Some (get_or (accounts_of positions) r.account [])
   account_at i r lt at = slice_get-get_or (accounts_of positions) r.account [] (number_within i r lt at)
 
-  -- whatever is read there is its name
+  -- what is read at the number of an account is its name
   pub account_is : (i : ℕ) (r : NumberedPosition) (names : List (List ℕ)) (name : List ℕ) → i < length records
       → r ≡ get_or records i r
       → names ≡ accounts_of positions → name ≡ get_or names r.account name → name ≡ get_or (accounts_of positions) r.account []
   account_is i r names name lt at are is =
       is ∙ ap (λ ns. get_or ns r.account name) are ∙ get_or_default (accounts_of positions) r.account name [] (number_within i r lt at)
 
-  -- so its name, copied, is seen at its place
+  -- the copied name of the account of a numbered record is seen at the place of the record
   pub seen : (i : ℕ) (r : NumberedPosition) (names : List (List ℕ)) (name copied : List ℕ) → i < length records
       → r ≡ get_or records i r → names ≡ accounts_of positions → name ≡ get_or names r.account name → copied ≡ name
       → IsSeen positions i (named_position (accounts_of positions) r) copied
@@ -102,13 +102,13 @@ module _ (positions : List PositionRecord) (records : List NumberedPosition)
   pub apart : has_repeat bytes_eq (accounts_of positions) ≡ false
   apart = distinct_once (map (λ (p : PositionRecord). p.account) positions)
 
-  -- the books after the record at a place
-  pub books_step : (ids : List (List ℕ)) (i : ℕ) (r : NumberedPosition) (books books' : List (List Entry)) (e : Entry)
-      → i < length records → r ≡ get_or records i r → books ≡ map (entries_of ids (take i positions)) (accounts_of positions)
+  -- the ledgers after the record at a place
+  pub ledgers_step : (ids : List (List ℕ)) (i : ℕ) (r : NumberedPosition) (ledgers ledgers' : List (List Entry)) (e : Entry)
+      → i < length records → r ≡ get_or records i r → ledgers ≡ map (entries_of ids (take i positions)) (accounts_of positions)
       → e ≡ entry_of ids (named_position (accounts_of positions) r)
-      → books' ≡ set books r.account (get_or books r.account [] ++ e ∷ [])
-      → books' ≡ map (entries_of ids (take (i + 1) positions)) (accounts_of positions)
-  books_step ids i r books books' e lt at was is more =
+      → ledgers' ≡ set ledgers r.account (get_or ledgers r.account [] ++ e ∷ [])
+      → ledgers' ≡ map (entries_of ids (take (i + 1) positions)) (accounts_of positions)
+  ledgers_step ids i r ledgers ledgers' e lt at was is more =
       let p = named_position (accounts_of positions) r in
       let lt' : i < length positions = omega (arith, lt, as_many) in
       let next : take (i + 1) positions ≡ take i positions ++ p ∷ [] = take_more positions i p lt'
@@ -122,7 +122,7 @@ module _ (positions : List PositionRecord) (records : List NumberedPosition)
       (accounts_of positions) r.account apart (account_at i r lt at)
       ∙ ap (λ ps. map (entries_of ids ps) (accounts_of positions)) (sym next)
 
-  -- and a test that no record so far passes
+  -- a test that no record up to a place passes, where no record before the place does and that at the place does not
   pub none_step : (test : PositionRecord → Bool) (i : ℕ) (r : NumberedPosition) → i < length records → r ≡ get_or records i r
       → list_any test (take i positions) ≡ false → test (named_position (accounts_of positions) r) ≡ false
       → list_any test (take (i + 1) positions) ≡ false
@@ -140,4 +140,4 @@ module _ (positions : List PositionRecord) (records : List NumberedPosition)
 pub no_entries : (ids : List (List ℕ)) (accounts : List (List ℕ))
     → replicate (length accounts) [] ≡ map (entries_of ids []) accounts
 no_entries ids [] = refl
-no_entries ids (a ∷ accounts) = ap (λ books. [] ∷ books) (no_entries ids accounts)
+no_entries ids (a ∷ accounts) = ap (λ ledgers. [] ∷ ledgers) (no_entries ids accounts)

@@ -7,9 +7,10 @@ use Rattle.std.proofs.lemmas.Bool.{or_parts, or_from, and_right}
 use Rattle.std.proofs.lemmas.List.{take_all}
 use Rattle.span_tables.specs.declared.portfolios.Holding.{Holding}
 use Rattle.span_tables.specs.declared.records.PositionRecord.{PositionRecord}
-use Rattle.param_check.specs.near.Holdings.{is_over, is_over_at, over_at, net_exceeds, are_many}
-use Rattle.param_check.specs.near.Holdings.{many_at, held_exceeds, net_fault, held_fault}
-use Rattle.param_check.specs.declared.faults.BindFault.TheVariants as fault
+use Rattle.param_check.specs.near.Holdings.{exceeds, exceeds_any, exceeds_at, exceeds_in, fault_of, is_over, is_over_at}
+use Rattle.param_check.specs.near.Holdings.{limit_fault}
+use Rattle.param_check.specs.declared.binding.over_limits.Limit.{Limit}
+use Rattle.param_check.specs.declared.binding.over_limits.Limit.TheVariants as limit
 use Rattle.param_check.proofs.LedgerLaws.{IsSeen}
 use Rattle.param_check.proofs.UnfitLaws.{unfit_none, unfit_found}
 
@@ -25,72 +26,50 @@ none_over_in c (h ∷ holdings) e =
     or_from ((h.contract == c) && is_over h) (is_over_at c holdings) (and_right (h.contract == c) (is_over h) parts.0)
     (none_over_in c holdings parts.1)
 
-none_over_from : (a c : ℕ) (nets : List (List Holding)) → list_any (λ holdings. list_any is_over holdings) nets ≡ false
-    → is_over_at c (get_or nets a []) ≡ false
-none_over_from a c [] e = refl
-none_over_from zero c (x ∷ nets) e =
-    none_over_in c x (or_parts (list_any is_over x) (list_any (λ holdings. list_any is_over holdings) nets) e).0
-none_over_from (suc a) c (x ∷ nets) e =
-    none_over_from a c nets (or_parts (list_any is_over x) (list_any (λ holdings. list_any is_over holdings) nets) e).1
+nothing_exceeds : (l : Limit) → exceeds_any l [] ≡ false
+nothing_exceeds limit.Net = refl
+nothing_exceeds limit.Held = refl
 
-none_over : (a c : Option ℕ) (nets : List (List Holding)) → list_any (λ holdings. list_any is_over holdings) nets ≡ false
-    → over_at a c nets ≡ false
-none_over (Some a) (Some c) nets e = none_over_from a c nets e
-none_over (Some a) None nets e = refl
-none_over None c nets e = refl
+none_in : (l : Limit) (c : Option ℕ) (holdings : List Holding) → exceeds_any l holdings ≡ false → exceeds_in l c holdings ≡ false
+none_in limit.Net (Some c) holdings e = none_over_in c holdings e
+none_in limit.Net None holdings e = refl
+none_in limit.Held c holdings e = e
 
-none_many_from : (a : ℕ) (nets : List (List Holding)) → list_any are_many nets ≡ false → are_many (get_or nets a []) ≡ false
-none_many_from a [] e = refl
-none_many_from zero (x ∷ nets) e = (or_parts (are_many x) (list_any are_many nets) e).0
-none_many_from (suc a) (x ∷ nets) e = none_many_from a nets (or_parts (are_many x) (list_any are_many nets) e).1
+-- nothing that is held exceeds no limit
+pub none_held : (l : Limit) (c : Option ℕ) → exceeds_in l c [] ≡ false
+none_held l c = none_in l c [] (nothing_exceeds l)
 
-none_many : (a : Option ℕ) (nets : List (List Holding)) → list_any are_many nets ≡ false → many_at a nets ≡ false
-none_many (Some a) nets e = none_many_from a nets e
-none_many None nets e = refl
+none_from : (l : Limit) (a : ℕ) (c : Option ℕ) (nets : List (List Holding)) → list_any (exceeds_any l) nets ≡ false
+    → exceeds_in l c (get_or nets a []) ≡ false
+none_from l a c [] e = none_held l c
+none_from l zero c (x ∷ nets) e = none_in l c x (or_parts (exceeds_any l x) (list_any (exceeds_any l) nets) e).0
+none_from l (suc a) c (x ∷ nets) e = none_from l a c nets (or_parts (exceeds_any l x) (list_any (exceeds_any l) nets) e).1
 
-module _ (ids accounts : List (List ℕ)) (nets : List (List Holding)) (positions : List PositionRecord) where
-  -- no net is over the limit
-  pub net_fault-none : list_any (λ holdings. list_any is_over holdings) nets ≡ false → None ≡ net_fault ids accounts nets positions
-  unfolding net_fault
-  net_fault-none e =
-      sym (unfit_none fault.NetOutOfRange (net_exceeds ids accounts nets) positions
-      (none_of_all (net_exceeds ids accounts nets)
-      (λ p. none_over (position (bytes_eq p.account) accounts) (position (bytes_eq p.contract) ids) nets e) positions))
+none_at : (l : Limit) (a c : Option ℕ) (nets : List (List Holding)) → list_any (exceeds_any l) nets ≡ false
+    → exceeds_at l a c nets ≡ false
+none_at l (Some a) c nets e = none_from l a c nets e
+none_at l None c nets e = refl
 
-  pub net_fault-all : (i : ℕ) → length positions ≤ i → list_any (net_exceeds ids accounts nets) (take i positions) ≡ false
-      → None ≡ net_fault ids accounts nets positions
-  unfolding net_fault
-  net_fault-all i le e =
-      sym (unfit_none fault.NetOutOfRange (net_exceeds ids accounts nets) positions
-      (ap (list_any (net_exceeds ids accounts nets)) (sym (take_all i positions le)) ∙ e))
+module _ (l : Limit) (ids accounts : List (List ℕ)) (nets : List (List Holding)) (positions : List PositionRecord) where
+  -- where what no account holds exceeds the limit
+  pub limit_fault-none : list_any (exceeds_any l) nets ≡ false → None ≡ limit_fault l ids accounts nets positions
+  unfolding limit_fault
+  limit_fault-none e =
+      sym (unfit_none (fault_of l) (exceeds l ids accounts nets) positions
+      (none_of_all (exceeds l ids accounts nets)
+      (λ p. none_at l (position (bytes_eq p.account) accounts) (position (bytes_eq p.contract) ids) nets e) positions))
 
-  pub net_fault-found : (i : ℕ) (p : PositionRecord) (name : List ℕ) → IsSeen positions i p name
-      → list_any (net_exceeds ids accounts nets) (take i positions) ≡ false → net_exceeds ids accounts nets p ≡ true
-      → Some (fault.NetOutOfRange (i + 1) name) ≡ net_fault ids accounts nets positions
-  unfolding net_fault
-  net_fault-found i p name seen h e =
-      ap (λ z. Some (fault.NetOutOfRange (i + 1) z)) seen.named
-      ∙ sym (unfit_found fault.NetOutOfRange (net_exceeds ids accounts nets) positions i p seen.within (sym seen.at) h e)
+  pub limit_fault-all : (i : ℕ) → length positions ≤ i → list_any (exceeds l ids accounts nets) (take i positions) ≡ false
+      → None ≡ limit_fault l ids accounts nets positions
+  unfolding limit_fault
+  limit_fault-all i le e =
+      sym (unfit_none (fault_of l) (exceeds l ids accounts nets) positions
+      (ap (list_any (exceeds l ids accounts nets)) (sym (take_all i positions le)) ∙ e))
 
-module _ (accounts : List (List ℕ)) (nets : List (List Holding)) (positions : List PositionRecord) where
-  -- no account holds too many contracts
-  pub held_fault-none : list_any are_many nets ≡ false → None ≡ held_fault accounts nets positions
-  unfolding held_fault
-  held_fault-none e =
-      sym (unfit_none fault.TooManyHeld (held_exceeds accounts nets) positions
-      (none_of_all (held_exceeds accounts nets) (λ p. none_many (position (bytes_eq p.account) accounts) nets e) positions))
-
-  pub held_fault-all : (i : ℕ) → length positions ≤ i → list_any (held_exceeds accounts nets) (take i positions) ≡ false
-      → None ≡ held_fault accounts nets positions
-  unfolding held_fault
-  held_fault-all i le e =
-      sym (unfit_none fault.TooManyHeld (held_exceeds accounts nets) positions
-      (ap (list_any (held_exceeds accounts nets)) (sym (take_all i positions le)) ∙ e))
-
-  pub held_fault-found : (i : ℕ) (p : PositionRecord) (name : List ℕ) → IsSeen positions i p name
-      → list_any (held_exceeds accounts nets) (take i positions) ≡ false → held_exceeds accounts nets p ≡ true
-      → Some (fault.TooManyHeld (i + 1) name) ≡ held_fault accounts nets positions
-  unfolding held_fault
-  held_fault-found i p name seen h e =
-      ap (λ z. Some (fault.TooManyHeld (i + 1) z)) seen.named
-      ∙ sym (unfit_found fault.TooManyHeld (held_exceeds accounts nets) positions i p seen.within (sym seen.at) h e)
+  pub limit_fault-found : (i : ℕ) (p : PositionRecord) (name : List ℕ) → IsSeen positions i p name
+      → list_any (exceeds l ids accounts nets) (take i positions) ≡ false → exceeds l ids accounts nets p ≡ true
+      → Some (fault_of l (i + 1) name) ≡ limit_fault l ids accounts nets positions
+  unfolding limit_fault
+  limit_fault-found i p name seen h e =
+      ap (λ z. Some (fault_of l (i + 1) z)) seen.named
+      ∙ sym (unfit_found (fault_of l) (exceeds l ids accounts nets) positions i p seen.within (sym seen.at) h e)

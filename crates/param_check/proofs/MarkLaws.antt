@@ -6,6 +6,7 @@ use Rattle.std.specs.Prelude.{ℤ, pos, replicate}
 use Rattle.std.specs.Int.{w64, bit_at, bit_not, trailing_zeros}
 use lib.Count.{count_trailing_zeros}
 use Rattle.std.specs.List.{range_with_len}
+use Rattle.std.proofs.Math.Bool.{or-false}
 use Rattle.std.proofs.lemmas.Bool.{cases_eq, cases_lt, eq-eqb, ne_eqb}
 use Rattle.std.proofs.lemmas.List.{append-nil, map-append, length-set, get_or_past, get_or-set_same, get_or-set_other, same_lists}
 use Rattle.std.proofs.lemmas.List.FromFn.{get_or-map-range_with_len, length-map-range_with_len, filter_of_map_range_with_len_more}
@@ -68,6 +69,10 @@ sums_clear m places = by (length places) 0
         let rest = by n (a + 1) in
         λ i. here i ∷ rest i
 
+or_true : (b : Bool) → (b || true) ≡ true
+or_true true = refl
+or_true false = refl
+
 -- a sum that is written, with its mark
 pub sums_set : (marks next : List ℕ) (places : List ℤ) (c : ℕ) (z : ℤ) → c < length places
     → ((k : ℕ) → is_marked next k ≡ (is_marked marks k || (k == c)))
@@ -84,14 +89,6 @@ sums_set marks next places c z lt marked = same_lists _ _ size (λ k d h. by k d
         → sum_at next (set places c z) k ≡ cond b (get_or (set places c z) k (pos 0)) (pos 0)
     with_mark k b e = ap (λ t. cond t (get_or (set places c z) k (pos 0)) (pos 0)) e
 
-    or_true : (b : Bool) → (b || true) ≡ true
-    or_true true = refl
-    or_true false = refl
-
-    or_false : (b : Bool) → (b || false) ≡ b
-    or_false true = refl
-    or_false false = refl
-
     by : (k : ℕ) (d : ℤ) → k < length places → (k ≡ c) ⊎ (k ≡ c → ⊥)
         → get_or (sums_of next (set places c z)) k d ≡ get_or (set (sums_of marks places) c z) k d
     by k d h (inl same) =
@@ -107,7 +104,7 @@ sums_set marks next places c z lt marked = same_lists _ _ size (λ k d h. by k d
         let at_new : k < length (set places c z) = omega (arith, h, length-set places c z) in
         sums_at next (set places c z) k d at_new
         ∙ with_mark k (is_marked marks k) (marked k ∙ ap (λ b. is_marked marks k || b) (ne_eqb k c other)
-        ∙ or_false (is_marked marks k))
+        ∙ or-false (is_marked marks k))
         ∙ ap (λ x. cond (is_marked marks k) x (pos 0)) (get_or-set_other places c k z (pos 0) other)
         ∙ sym (sums_at marks places k d h)
         ∙ sym (get_or-set_other (sums_of marks places) c k z d other)
@@ -123,10 +120,6 @@ mark_set marks c w lt is k = by (cases_eq (k / 64) (c / 64)) (cases_eq (k % 64) 
     same_number : k / 64 ≡ c / 64 → k % 64 ≡ c % 64 → k ≡ c
     same_number x y = omega (arith, x, y)
 
-    or_false : (b : Bool) → b ≡ (b || false)
-    or_false true = refl
-    or_false false = refl
-
     by : (k / 64 ≡ c / 64) ⊎ (k / 64 ≡ c / 64 → ⊥) → (k % 64 ≡ c % 64) ⊎ (k % 64 ≡ c % 64 → ⊥)
         → is_marked (set marks (c / 64) new) k ≡ (is_marked marks k || (k == c))
     by (inl x) (inl y) =
@@ -135,24 +128,20 @@ mark_set marks c w lt is k = by (cases_eq (k / 64) (c / 64)) (cases_eq (k % 64) 
         let is_set : bit_at new (k % 64) ≡ 1 = ap (bit_at new) y ∙ bit_at_set_same w64 w (c % 64) (omega arith) in
         ap (λ n. bit_at n (k % 64) == 1) here ∙ ap (λ b. b == 1) is_set
         ∙ sym (ap (λ b. is_marked marks k || b) (eq-eqb k c (same_number x y)) ∙ or_true (is_marked marks k))
-      where
-        or_true : (b : Bool) → (b || true) ≡ true
-        or_true true = refl
-        or_true false = refl
     by (inl x) (inr n) =
         let here : get_or (set marks (c / 64) new) (k / 64) 0 ≡ new = ap (λ j. get_or (set marks (c / 64) new) j 0) x
         ∙ get_or-set_same marks (c / 64) new 0 lt in
         let other : bit_at new (k % 64) ≡ bit_at w (k % 64) = bit_at_set_other w64 w (c % 64) (omega arith) (k % 64) n in
         ap (λ m. bit_at m (k % 64) == 1) here ∙ ap (λ b. b == 1) other
         ∙ ap (λ m. bit_at m (k % 64) == 1) (is ∙ ap (λ j. get_or marks j 0) (sym x))
-        ∙ or_false (is_marked marks k)
+        ∙ sym (or-false (is_marked marks k))
         ∙ sym (ap (λ b. is_marked marks k || b) (ne_eqb k c (λ e. n (ap (λ j. j % 64) e))))
     by (inr n) y =
         ap (λ m. bit_at m (k % 64) == 1) (get_or-set_other marks (c / 64) (k / 64) new 0 n)
-        ∙ or_false (is_marked marks k)
+        ∙ sym (or-false (is_marked marks k))
         ∙ sym (ap (λ b. is_marked marks k || b) (ne_eqb k c (λ e. n (ap (λ j. j / 64) e))))
 
--- they are marks of as many numbers
+-- the marks with one more are marks of as many numbers
 pub marks_more : (marks : List ℕ) (c w n : ℕ) → c < n → c / 64 < length marks → w ≡ get_or marks (c / 64) 0 → AreMarks marks n
     → AreMarks (set marks (c / 64) (bit_or w (1 * 2 ^ (c % 64) % 2 ^ 64))) n
 marks_more marks c w n lt word is are = record {
@@ -160,13 +149,9 @@ marks_more marks c w n lt word is are = record {
   within = λ k e. by k (cases_eq k c) (sym (mark_set marks c w word is k) ∙ e);
 }
   where
-    or_false : (b : Bool) → b ≡ (b || false)
-    or_false true = refl
-    or_false false = refl
-
     by : (k : ℕ) → (k ≡ c) ⊎ (k ≡ c → ⊥) → (is_marked marks k || (k == c)) ≡ true → k < n
     by k (inl same) e = omega (arith, same, lt)
-    by k (inr other) e = are.within k (or_false (is_marked marks k) ∙ ap (λ b. is_marked marks k || b) (sym (ne_eqb k c other)) ∙ e)
+    by k (inr other) e = are.within k (sym (or-false (is_marked marks k)) ∙ ap (λ b. is_marked marks k || b) (sym (ne_eqb k c other)) ∙ e)
 
 -- sums of 0 hold nothing
 pub holdings_skip : (sums : List ℤ) (a d : ℕ) → ((k : ℕ) → a ≤ k → k < a + d → get_or sums k (pos 0) ≡ pos 0)

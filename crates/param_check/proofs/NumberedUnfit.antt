@@ -6,7 +6,8 @@ use Rattle.span_tables.specs.near.Positions.{named_position, named_positions}
 use Rattle.span_tables.specs.declared.portfolios.Holding.{Holding}
 use Rattle.span_tables.specs.declared.records.NumberedPosition.{NumberedPosition}
 use Rattle.span_tables.specs.declared.records.PositionRecord.{PositionRecord}
-use Rattle.param_check.specs.near.Holdings.{held_exceeds, many_at, net_exceeds, over_at}
+use Rattle.param_check.specs.near.Holdings.{exceeds, exceeds_at}
+use Rattle.param_check.specs.declared.binding.over_limits.Limit.{Limit}
 use Rattle.param_check.proofs.AccountLaws.{place_is}
 use Rattle.param_check.proofs.LedgerLaws.{account_at, apart}
 
@@ -19,13 +20,8 @@ module _ (positions : List PositionRecord) (records : List NumberedPosition)
       place_is (accounts_of positions) r.account (get_or (accounts_of positions) r.account []) (apart positions records named known)
       (account_at positions records named known i r lt at)
 
-  -- a record's net is over the limit
-  pub net_at : (ids : List (List ℕ)) (i : ℕ) (r : NumberedPosition) → i < length records → r ≡ get_or records i r
-      → over_at (Some r.account) (position (bytes_eq r.contract) ids) nets
-      ≡ net_exceeds ids (accounts_of positions) nets (named_position (accounts_of positions) r)
-  net_at ids i r lt at = ap (λ o. over_at o (position (bytes_eq r.contract) ids) nets) (sym (place i r lt at))
-
-  -- its account holds too many contracts
-  pub many_held_at : (i : ℕ) (r : NumberedPosition) → i < length records → r ≡ get_or records i r
-      → many_at (Some r.account) nets ≡ held_exceeds (accounts_of positions) nets (named_position (accounts_of positions) r)
-  many_held_at i r lt at = ap (λ o. many_at o nets) (sym (place i r lt at))
+  -- a record exceeds a limit
+  pub exceeds_numbered : (l : Limit) (ids : List (List ℕ)) (i : ℕ) (r : NumberedPosition) → i < length records → r ≡ get_or records i r
+      → exceeds_at l (Some r.account) (position (bytes_eq r.contract) ids) nets
+      ≡ exceeds l ids (accounts_of positions) nets (named_position (accounts_of positions) r)
+  exceeds_numbered l ids i r lt at = ap (λ o. exceeds_at l o (position (bytes_eq r.contract) ids) nets) (sym (place i r lt at))

@@ -5,6 +5,7 @@ use Rattle.std.specs.Prelude.{pos, ◌==◌}
 use Rattle.std.specs.List.{range_with_len, AllPairs}
 use Rattle.std.specs.List.Sorted.{IsStrictlyIncreasing, IsBinarySearchResult, IsNonDecreasingBy}
 use Rattle.std.specs.Ordering.{nat_cmp, ordering_index}
+use Rattle.std.proofs.Math.Bool.{or-false}
 use Rattle.std.proofs.lemmas.Bool.{or_from, ne_eqb, eq-eqb}
 use Rattle.std.proofs.lemmas.Bool.Decides.{nat_tests}
 use Rattle.std.proofs.lemmas.Cmp.{ranked}
@@ -94,11 +95,7 @@ over_in c (x ∷ holdings) zero rise lt at =
     ap (λ b. (b && is_over x) || is_over_at c holdings) (eq-eqb x.contract c at)
     ∙ ap (λ b. is_over x || b) (absent_in c holdings (λ k l same. let less = rise 0 (suc k) none (omega arith) (omega (arith, l)) in
     omega (arith, less, at, same)))
-    ∙ alone (is_over x)
-  where
-    alone : (b : Bool) → (b || false) ≡ b
-    alone true = refl
-    alone false = refl
+    ∙ or-false (is_over x)
 over_in c (x ∷ holdings) (suc k) rise lt at =
     let less = rise 0 (suc k) none (omega arith) lt in
     ap (λ b. (b && is_over x) || is_over_at c holdings) (ne_eqb x.contract c (λ same. omega (arith, less, at, same)))

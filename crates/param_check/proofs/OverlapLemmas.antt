@@ -50,7 +50,7 @@ pub overlaps_tier-grouped : (groups : List ℕ → List Months) (earlier : List 
 overlaps_tier-grouped groups earlier are r =
     meets_earlier-same groups (λ c. filter_map (months_under c) earlier) are r ∙ overlaps_tier-meets earlier r
 
--- so they do for the record at a place, behind those before it
+-- groups of the tiers before a place give the answer for the record at the place
 pub overlaps_tier-at : (groups : List ℕ → List Months) (all : List Record) (i : ℕ) (r : Record) (b : Bool)
     → ((c : List ℕ) → groups c ≡ filter_map (months_under c) (take i all)) → r ≡ get_or all i r → b ≡ meets_earlier groups r
     → overlaps_tier (take i all) (get_or all i r) ≡ b

@@ -3,6 +3,7 @@ use Rattle.std.proofs.Common.{◌≡◌, ℕ, suc, ◌+◌, ◌<◌, Bool, true,
 use Rattle.std.proofs.Common.{◌∷◌, length, get_or, filter, map, Some, None, position, refl, sym, ap, ◌∙◌, arith}
 use Rattle.std.specs.Prelude.{ℤ, nat_abs, bytes_eq, ◌==◌, nat_lt}
 use Rattle.std.specs.List.{list_any, enumerate_from, position_or_len}
+use Rattle.std.proofs.Math.Bool.{or-false}
 use Rattle.std.proofs.lemmas.Bool.{true≢false, false≢true, eq-eqb, ne_eqb, eqb-true, lt-ltb, le-ltb, not-false, false_from_ne_true}
 use Rattle.std.proofs.lemmas.List.{get_or-map, length-map}
 use Rattle.std.proofs.lemmas.List.Folds.{list_any_at}
@@ -14,9 +15,9 @@ use Rattle.span_tables.specs.declared.records.PositionRecord.{PositionRecord}
 use Rattle.span_tables.proofs.NameLaws.{distinct_same}
 use Rattle.span_tables.proofs.NameLemmas.{same_name}
 use Rattle.param_check.specs.Binding.{first_unfit, is_unknown, is_first_of_contract, is_first_of_account, exceeds_net, exceeds_held}
-use Rattle.param_check.specs.near.Holdings.{ids_of, is_over, is_over_at, over_at, net_exceeds}
-use Rattle.param_check.specs.near.Holdings.{are_many, many_at, held_exceeds, net_fault, held_fault}
-use Rattle.param_check.specs.near.Ledger.{is_foreign, foreign_fault}
+use Rattle.param_check.specs.near.Holdings.{are_many, exceeds, exceeds_at, ids_of, is_over, is_over_at, limit_fault}
+use Rattle.param_check.specs.declared.binding.over_limits.Limit.TheVariants as limit
+use Rattle.param_check.specs.near.Ledgers.{is_foreign, foreign_fault}
 use Rattle.param_check.specs.declared.faults.BindFault.TheVariants as fault
 use Rattle.param_check.proofs.AccountLaws.{bytes_eq-refl, bytes_eq-flip}
 use Rattle.param_check.proofs.KindLaws.{net_of_kind, held_of_kind}
@@ -55,10 +56,6 @@ at_place {H} f (k ∷ ks) name d h = by (bytes_eq name k) refl h (at_place f ks 
         ap (λ n. get_or (f k ∷ map f ks) n d) up) ∙ more h
 
 -- ---- a net over the limit
-
-or-false : (b : Bool) → (b || false) ≡ b
-or-false true = refl
-or-false false = refl
 
 module _ (positions : List PositionRecord) (account : List ℕ) where
   held_from : ℕ → List Contract → List Holding
@@ -140,7 +137,7 @@ module _ (contracts : List Contract) (positions : List PositionRecord) (accounts
       (omega (arith, lt, length-map positions (λ (p : PositionRecord). p.account)))
       (ap (bytes_eq name) (get_or-map (λ (p : PositionRecord). p.account) positions k d [] lt) ∙ bytes_eq-refl name)
 
-  -- its contract is among the ids
+  -- the contract of a record is among the ids
   contract_among : (k : ℕ) (d : PositionRecord) → k < length positions
       → list_any (bytes_eq (get_or positions k d).contract) (ids_of contracts) ≡ true
   contract_among k d lt =
@@ -156,42 +153,44 @@ module _ (contracts : List Contract) (positions : List PositionRecord) (accounts
 
   net_exceeds_is : (p : PositionRecord) → list_any (bytes_eq p.account) accounts ≡ true
       → list_any (bytes_eq p.contract) (ids_of contracts) ≡ true
-      → net_exceeds (ids_of contracts) accounts nets p ≡ exceeds_net positions p
+      → exceeds limit.Net (ids_of contracts) accounts nets p ≡ exceeds_net positions p
   unfolding held_from
   net_exceeds_is p a c =
-      ap (λ o. over_at o (position (bytes_eq p.contract) (ids_of contracts)) nets) (position_is accounts p.account a)
-      ∙ ap (λ o. over_at (Some (position_or_len (bytes_eq p.account) accounts)) o nets) (position_is (ids_of contracts) p.contract c)
+      ap (λ o. exceeds_at limit.Net o (position (bytes_eq p.contract) (ids_of contracts)) nets) (position_is accounts p.account a)
+      ∙ ap (λ o. exceeds_at limit.Net (Some (position_or_len (bytes_eq p.account) accounts)) o nets)
+      (position_is (ids_of contracts) p.contract c)
       ∙ ap (is_over_at (position_or_len (bytes_eq p.contract) (ids_of contracts))) (nets_at p.account a)
       ∙ over_here positions p.account 0 (position_or_len (bytes_eq p.contract) (ids_of contracts)) contracts p.contract c (omega arith)
 
   held_exceeds_is : (p : PositionRecord) → list_any (bytes_eq p.account) accounts ≡ true
-      → held_exceeds accounts nets p ≡ exceeds_held contracts positions p
+      → exceeds limit.Held (ids_of contracts) accounts nets p ≡ exceeds_held contracts positions p
   held_exceeds_is p a =
-      ap (λ o. many_at o nets) (position_is accounts p.account a) ∙ ap are_many (nets_at p.account a)
+      ap (λ o. exceeds_at limit.Held o (position (bytes_eq p.contract) (ids_of contracts)) nets) (position_is accounts p.account a)
+      ∙ ap are_many (nets_at p.account a)
 
   -- a fault of a net is that of a record, the first of its account and contract or not
-  pub net_fault_any : net_fault (ids_of contracts) accounts nets positions
+  pub net_fault_any : limit_fault limit.Net (ids_of contracts) accounts nets positions
       ≡ first_unfit fault.NetOutOfRange (λ earlier p. exceeds_net positions p) positions
-  unfolding net_fault
+  unfolding limit_fault
   net_fault_any =
-      unfit_same fault.NetOutOfRange (net_exceeds (ids_of contracts) accounts nets) (exceeds_net positions) positions
+      unfit_same fault.NetOutOfRange (exceeds limit.Net (ids_of contracts) accounts nets) (exceeds_net positions) positions
       (λ k d lt. net_exceeds_is (get_or positions k d) (account_among k d lt) (contract_among k d lt))
 
-  pub held_fault_any : held_fault accounts nets positions
+  pub held_fault_any : limit_fault limit.Held (ids_of contracts) accounts nets positions
       ≡ first_unfit fault.TooManyHeld (λ earlier p. exceeds_held contracts positions p) positions
-  unfolding held_fault
+  unfolding limit_fault
   held_fault_any =
-      unfit_same fault.TooManyHeld (held_exceeds accounts nets) (exceeds_held contracts positions) positions
+      unfit_same fault.TooManyHeld (exceeds limit.Held (ids_of contracts) accounts nets) (exceeds_held contracts positions) positions
       (λ k d lt. held_exceeds_is (get_or positions k d) (account_among k d lt))
 
   -- the first net over the limit is that of the definition
-  pub net_fault_is : net_fault (ids_of contracts) accounts nets positions
+  pub net_fault_is : limit_fault limit.Net (ids_of contracts) accounts nets positions
       ≡ first_unfit fault.NetOutOfRange (λ earlier p. is_first_of_contract earlier p && exceeds_net positions p) positions
   net_fault_is =
       net_fault_any ∙ sym (net_of_kind positions)
 
   -- the first account that holds too many contracts is that of the definition
-  pub held_fault_is : held_fault accounts nets positions
+  pub held_fault_is : limit_fault limit.Held (ids_of contracts) accounts nets positions
       ≡ first_unfit fault.TooManyHeld (λ earlier p. is_first_of_account earlier p && exceeds_held contracts positions p) positions
   held_fault_is =
       held_fault_any ∙ sym (held_of_kind contracts positions)

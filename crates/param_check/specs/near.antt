@@ -1,7 +1,7 @@
 -- What no promise's words stand on: forms near to the code, what types keep, samples.
 pub mod Holdings
 pub mod Keys
-pub mod Ledger
+pub mod Ledgers
 pub mod Nets
 pub mod Outcomes
 pub mod Overlaps

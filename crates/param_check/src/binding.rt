@@ -1,5 +1,5 @@
 //! The binding of positions to tables.
-mod books;
+mod ledgers;
 mod contract_ids;
 mod contract_sums;
 mod nets;
@@ -7,16 +7,17 @@ mod over_limits;
 
 ghost use Rattle.std.specs.Prelude.{◌≡◌, false, None, length, bytes_eq, All, IfOk};
 ghost use Rattle.param_check.specs.Binding.{bindings_of, is_memory};
-ghost use Rattle.param_check.specs.near.Holdings.{held_fault, net_fault, portfolios_from, portfolios_or_fault};
+ghost use Rattle.param_check.specs.declared.binding.over_limits.Limit.TheVariants as limit;
+ghost use Rattle.param_check.specs.near.Holdings.{limit_fault, portfolios_from, portfolios_or_fault};
 ghost use Rattle.span_tables.specs.Gives.{Gives};
 ghost use Rattle.span_tables.specs.Holdings.{ArePortfolio};
 ghost use Rattle.span_tables.specs.Names.{has_repeat};
 ghost use Rattle.span_tables.specs.Net.{accounts_of};
 
-use crate::binding::books::books_of;
+use crate::binding::ledgers::ledgers_of;
 use crate::binding::contract_ids::contract_numbers;
 use crate::binding::nets::{AccountNets, all_nets};
-use crate::binding::over_limits::{held_fault, net_fault};
+use crate::binding::over_limits::{Limit, limit_fault};
 use crate::faults::BindFault;
 use indexmap::IndexSet;
 use span_tables::name::Name;
@@ -52,15 +53,16 @@ fn settle(
     positions: &RawPositions,
 ) -> Result<Portfolios, BindFault>
     requires as_many { length nets.items ≡ length (accounts_of positions.now) }
-    requires fit { net_fault numbers.now.keys (accounts_of positions.now) nets.items positions.now ≡ None
-        → held_fault (accounts_of positions.now) nets.items positions.now ≡ None → All ArePortfolio nets.items }
+    requires fit { limit_fault limit.Net numbers.now.keys (accounts_of positions.now) nets.items positions.now ≡ None
+        → limit_fault limit.Held numbers.now.keys (accounts_of positions.now) nets.items positions.now ≡ None
+        → All ArePortfolio nets.items }
     ensures { Gives is_memory result
         (portfolios_or_fault numbers.now.keys (accounts_of positions.now) nets.items positions.now) }
 {
-    if let Some(fault) = net_fault(numbers, &nets, positions) {
+    if let Some(fault) = limit_fault(Limit::Net, numbers, &nets, positions) {
         return Err(fault);
     }
-    if let Some(fault) = held_fault(&nets, positions) {
+    if let Some(fault) = limit_fault(Limit::Held, numbers, &nets, positions) {
         return Err(fault);
     }
     let all = portfolios(alloc, positions.accounts(), nets)?;
@@ -77,8 +79,8 @@ pub fn bind_positions(
     ensures { Gives is_memory result (bindings_of contracts.now positions.now) }
 {
     let numbers = contract_numbers(alloc, contracts)?;
-    let books = books_of(alloc, &numbers, positions)?;
-    let nets = all_nets(alloc, contracts.len(), books)?;
+    let ledgers = ledgers_of(alloc, &numbers, positions)?;
+    let nets = all_nets(alloc, contracts.len(), ledgers)?;
     settle(alloc, &numbers, nets, positions)
 }
 

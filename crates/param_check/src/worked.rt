@@ -87,7 +87,7 @@ fn priority_of_an_earlier_spread()
         ≡ Some (check.DuplicatePriority 4) }
 {}
 
-// One priority within a commodity and between commodities is two.
+// A priority within a commodity and the same priority between commodities are two priorities.
 fn priority_of_both_kinds()
     ensures { check_fault (commodity (codes "AA") ∷ commodity (codes "BB")
         ∷ tier_record (codes "AA") 1 202501 ∷ tier_record (codes "AA") 2 202504

@@ -10,6 +10,8 @@ use Rattle.span_tables.specs.declared.portfolios.Holding.{Holding}
 use Rattle.span_tables.specs.declared.records.Contract.{Contract}
 use Rattle.span_tables.specs.declared.records.PositionRecord.{PositionRecord}
 use Rattle.param_check.specs.Binding.{first_unfit}
+use Rattle.param_check.specs.declared.binding.over_limits.Limit.{Limit}
+use Rattle.param_check.specs.declared.binding.over_limits.Limit.TheVariants as limit
 use Rattle.param_check.specs.declared.faults.BindFault.{BindFault}
 use Rattle.param_check.specs.declared.faults.BindFault.TheVariants as fault
 
@@ -25,33 +27,39 @@ is_over h = nat_lt MAX_NET (nat_abs h.net)
 abbrev pub is_over_at : ℕ → List Holding → Bool
 is_over_at c holdings = list_any (λ h. (h.contract == c) && is_over h) holdings
 
--- a record's net is over the limit, by the places of its account and its contract
-abbrev pub over_at : Option ℕ → Option ℕ → List (List Holding) → Bool
-over_at (Some a) (Some c) nets = is_over_at c (slice_index_or nets a [])
-over_at (Some a) None nets = false
-over_at None c nets = false
-
-abbrev pub net_exceeds : List (List ℕ) → List (List ℕ) → List (List Holding) → PositionRecord → Bool
-net_exceeds ids accounts nets p = over_at (position (bytes_eq p.account) accounts) (position (bytes_eq p.contract) ids) nets
-
 -- more contracts are held than may be
 abbrev pub are_many : List Holding → Bool
 are_many holdings = nat_lt MAX_HELD (length holdings)
 
--- a record's account holds too many contracts, by the place of the account
-abbrev pub many_at : Option ℕ → List (List Holding) → Bool
-many_at (Some a) nets = are_many (slice_index_or nets a [])
-many_at None nets = false
+-- some net of what is held, or the number of contracts, exceeds a limit
+abbrev pub exceeds_any : Limit → List Holding → Bool
+exceeds_any limit.Net holdings = list_any is_over holdings
+exceeds_any limit.Held holdings = are_many holdings
 
-abbrev pub held_exceeds : List (List ℕ) → List (List Holding) → PositionRecord → Bool
-held_exceeds accounts nets p = many_at (position (bytes_eq p.account) accounts) nets
+-- what is held exceeds a limit at a contract, which has a number where it is known
+abbrev pub exceeds_in : Limit → Option ℕ → List Holding → Bool
+exceeds_in limit.Net (Some c) holdings = is_over_at c holdings
+exceeds_in limit.Net None holdings = false
+exceeds_in limit.Held c holdings = are_many holdings
 
--- the first record whose net is over the limit, and the first whose account holds too many contracts
-unfoldable pub net_fault : List (List ℕ) → List (List ℕ) → List (List Holding) → List PositionRecord → Option BindFault
-net_fault ids accounts nets positions = first_unfit fault.NetOutOfRange (λ earlier p. net_exceeds ids accounts nets p) positions
+-- what an account holds exceeds a limit at a contract, by the places of both
+abbrev pub exceeds_at : Limit → Option ℕ → Option ℕ → List (List Holding) → Bool
+exceeds_at limit (Some a) c nets = exceeds_in limit c (slice_index_or nets a [])
+exceeds_at limit None c nets = false
 
-unfoldable pub held_fault : List (List ℕ) → List (List Holding) → List PositionRecord → Option BindFault
-held_fault accounts nets positions = first_unfit fault.TooManyHeld (λ earlier p. held_exceeds accounts nets p) positions
+-- a record exceeds a limit
+abbrev pub exceeds : Limit → List (List ℕ) → List (List ℕ) → List (List Holding) → PositionRecord → Bool
+exceeds limit ids accounts nets p = exceeds_at limit (position (bytes_eq p.account) accounts) (position (bytes_eq p.contract) ids) nets
+
+-- the fault of a record that exceeds a limit
+abbrev pub fault_of : Limit → ℕ → List ℕ → BindFault
+fault_of limit.Net = fault.NetOutOfRange
+fault_of limit.Held = fault.TooManyHeld
+
+-- the fault of the first record that exceeds a limit
+unfoldable pub limit_fault : Limit → List (List ℕ) → List (List ℕ) → List (List Holding) → List PositionRecord → Option BindFault
+limit_fault limit ids accounts nets positions =
+    first_unfit (fault_of limit) (λ earlier p. exceeds limit ids accounts nets p) positions
 
 -- each account with its nets
 abbrev pub portfolios_from : List (List ℕ) → List (List Holding) → List AccountHoldings
@@ -61,4 +69,6 @@ portfolios_from accounts nets = map (λ n. record { account = n.0; holdings = n.
 unfoldable pub portfolios_or_fault : List (List ℕ) → List (List ℕ) → List (List Holding) → List PositionRecord
     → Result (List AccountHoldings) BindFault
 portfolios_or_fault ids accounts nets positions =
-    ok_unless (option_or (net_fault ids accounts nets positions) (held_fault accounts nets positions)) (portfolios_from accounts nets)
+    ok_unless
+    (option_or (limit_fault limit.Net ids accounts nets positions) (limit_fault limit.Held ids accounts nets positions))
+    (portfolios_from accounts nets)

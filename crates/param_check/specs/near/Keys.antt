@@ -61,7 +61,7 @@ repeats identity.SpotMonth = repeats_spot
 abbrev pub is_unknown : List Key → List ℕ → Bool
 is_unknown commodities id = not (is_among commodities (Some (name_key id 0)))
 
--- it names a commodity that no COMMODITY record has
+-- the record names a commodity that no COMMODITY record has
 abbrev pub names_unknown : List Key → Record → Bool
 names_unknown commodities (record_of.Contract x) = is_unknown commodities x.commodity
 names_unknown commodities (record_of.Tier x) = is_unknown commodities x.commodity
@@ -74,7 +74,7 @@ names_unknown commodities _ = false
 abbrev pub is_unknown_tier : List Key → List ℕ → ℕ → Bool
 is_unknown_tier tiers commodity number = not (is_among tiers (Some (name_key commodity number)))
 
--- it is an INTRA with a leg whose tier no TIER record of its commodity has
+-- the record is an INTRA with a leg whose tier no TIER record of its commodity has
 abbrev pub names_unknown_tier : List Key → Record → Bool
 names_unknown_tier tiers r =
     is_and (as_intra r) (λ s. list_any (λ leg. is_unknown_tier tiers s.commodity leg.tier) s.legs.items)

@@ -102,7 +102,7 @@ fn push_word(
 }
 
 impl Sums {
-    /// So many sums of 0.
+    /// A number of sums of 0.
     pub(crate) fn new(alloc: Global, count: usize) -> Result<Sums, AllocError>
         ensures { IfOk result (λ sums. sums ≡ replicate count (pos 0)) }
     {

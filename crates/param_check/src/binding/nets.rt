@@ -6,7 +6,7 @@ ghost use Rattle.param_check.specs.near.Nets.{entry_net};
 ghost use Rattle.param_check.specs.near.Sums.{kept_holdings};
 ghost use Rattle.span_tables.specs.declared.limits.TheConstants.{MAX_QUANTITY};
 
-use crate::binding::books::Book;
+use crate::binding::ledgers::Ledger;
 use crate::binding::contract_sums::Sums;
 use span_tables::portfolios::Holding;
 use std::alloc::{AllocError, Global};
@@ -56,13 +56,6 @@ impl AccountNets {
     {
         self.holdings
     }
-
-    /// How many contracts are held.
-    pub(crate) fn len(&self) -> usize
-        ensures { result ≡ length self.now }
-    {
-        self.holdings.len()
-    }
 }
 
 // Adds an entry's quantity to the net of its contract; one of no contract adds nothing.
@@ -87,29 +80,29 @@ fn add_all(nets: &mut Sums, entries: &[Entry])
 }
 
 // What an account of these entries holds, by sums that have a place for each contract.
-fn account_nets(alloc: Global, sums: &mut Sums, book: &Book) -> Result<AccountNets, AllocError>
-    ensures nets { IfOk result (λ nets. nets ≡ kept_holdings (length sums.old) book.now) }
+fn account_nets(alloc: Global, sums: &mut Sums, ledger: &Ledger) -> Result<AccountNets, AllocError>
+    ensures nets { IfOk result (λ nets. nets ≡ kept_holdings (length sums.old) ledger.now) }
     ensures places { length sums.new ≡ length sums.old }
 {
-    let entries = book.as_slice();
+    let entries = ledger.as_slice();
     sums.clear();
     add_all(sums, entries);
     let holdings = sums.holdings(alloc, entries.len().min(sums.len()))?;
     Ok(AccountNets { holdings })
 }
 
-/// What the account of each book holds, of so many contracts.
+/// What the account of each ledger holds, of so many contracts.
 pub(crate) fn all_nets(
     alloc: Global,
     contracts: usize,
-    books: Vec<Book>,
+    ledgers: Vec<Ledger>,
 ) -> Result<Vec<AccountNets>, AllocError>
-    ensures { IfOk result (λ nets. nets.items ≡ map (kept_holdings contracts) books.items) }
+    ensures { IfOk result (λ nets. nets.items ≡ map (kept_holdings contracts) ledgers.items) }
 {
     let mut sums = Sums::new(alloc, contracts)?;
-    let mut nets = Vec::with_capacity(alloc, books.len())?;
-    for book in books {
-        nets.push(account_nets(alloc, &mut sums, &book)?)?;
+    let mut nets = Vec::with_capacity(alloc, ledgers.len())?;
+    for ledger in ledgers {
+        nets.push(account_nets(alloc, &mut sums, &ledger)?)?;
     }
     Ok(nets)
 }

@@ -1,8 +1,9 @@
-//! The records whose nets or whose accounts are over a limit.
+//! The records whose nets or whose accounts exceed a limit.
 ghost use Rattle.std.specs.Prelude.{◌≡◌, Some, bytes_eq, map, position};
 ghost use Rattle.std.specs.List.Sorted.{IsStrictlyIncreasing};
 ghost use Rattle.std.specs.List.{list_any};
-ghost use Rattle.param_check.specs.near.Holdings.{are_many, held_fault, is_over, is_over_at, many_at, net_fault, over_at};
+ghost use Rattle.param_check.specs.near.Holdings.{are_many, exceeds_any, exceeds_at, exceeds_in, fault_of};
+ghost use Rattle.param_check.specs.near.Holdings.{is_over, is_over_at, limit_fault};
 ghost use Rattle.span_tables.specs.Net.{accounts_of};
 
 use crate::binding::nets::AccountNets;
@@ -13,6 +14,15 @@ use span_tables::name::Name;
 use span_tables::portfolios::Holding;
 use span_tables::raw::RawPositions;
 use span_tables::records::NumberedPosition;
+
+/// What of an account has a limit.
+#[derive(Clone, Copy)]
+pub(crate) enum Limit {
+    /// B2: the net in a contract, either way.
+    Net,
+    /// B3: how many contracts are held.
+    Held,
+}
 
 // Whether a net is over the limit either way.
 fn is_over(holding: &Holding) -> bool
@@ -39,88 +49,85 @@ fn is_over_at(holdings: &[Holding], contract: usize) -> bool
     }
 }
 
-// Whether some account has a net over the limit.
-fn any_over(nets: &[AccountNets]) -> bool
-    ensures { result ≡ list_any (λ holdings. list_any is_over holdings) nets.now }
-{
-    nets.iter().any(|account| has_over(account.as_slice()))
-}
-
 // Whether more contracts are held than may be.
-fn is_many(account: &AccountNets) -> bool
-    ensures { result ≡ are_many account.now }
+fn are_many(holdings: &[Holding]) -> bool
+    ensures { result ≡ are_many holdings.now }
 {
-    account.len() > MAX_HELD
+    holdings.len() > MAX_HELD
 }
 
-// Whether some account holds more contracts than it may.
-fn any_many(nets: &[AccountNets]) -> bool
-    ensures { result ≡ list_any are_many nets.now }
+// Whether some net of what is held, or the number of contracts, exceeds a limit.
+fn exceeds_any(limit: Limit, holdings: &[Holding]) -> bool
+    ensures { result ≡ exceeds_any limit holdings.now }
 {
-    nets.iter().any(|account| is_many(account))
+    match limit {
+        Limit::Net => has_over(holdings),
+        Limit::Held => are_many(holdings),
+    }
 }
 
-// Whether a record's net is over the limit.
-fn exceeds_net(numbers: &IndexSet<Name>, nets: &[AccountNets], numbered: &NumberedPosition) -> bool
-    ensures { result
-        ≡ over_at (Some numbered.now.account) (position (bytes_eq numbered.now.contract) numbers.now.keys) nets.now }
+// Whether what some account holds exceeds a limit.
+fn some_exceeds(limit: Limit, nets: &[AccountNets]) -> bool
+    ensures { result ≡ list_any (exceeds_any limit) nets.now }
 {
-    let Some(contract) = numbers.get_index_of(&numbered.contract) else {
-        return false;
-    };
+    nets.iter().any(|account| exceeds_any(limit, account.as_slice()))
+}
+
+// Whether what an account holds exceeds a limit at a contract, which has a number where it is known.
+fn exceeds_in(limit: Limit, account: &AccountNets, contract: Option<usize>) -> bool
+    ensures { result ≡ exceeds_in limit contract account.now }
+{
+    match (limit, contract) {
+        (Limit::Net, Some(contract)) => is_over_at(account.as_slice(), contract),
+        (Limit::Net, None) => false,
+        (Limit::Held, _) => are_many(account.as_slice()),
+    }
+}
+
+// Whether a record exceeds a limit.
+#[tactic(auto, using(crate::proofs::LimitLaws::none_held))]
+fn exceeds_at(
+    limit: Limit,
+    numbers: &IndexSet<Name>,
+    nets: &[AccountNets],
+    numbered: &NumberedPosition,
+) -> bool
+    ensures { result ≡ exceeds_at limit (Some numbered.now.account)
+        (position (bytes_eq numbered.now.contract) numbers.now.keys) nets.now }
+{
     match nets.get(numbered.account as usize) {
-        Some(holdings) => is_over_at(holdings.as_slice(), contract),
+        Some(account) => exceeds_in(limit, account, numbers.get_index_of(&numbered.contract)),
         None => false,
     }
 }
 
-// Whether a record's account holds too many contracts.
-fn exceeds_held(nets: &[AccountNets], numbered: &NumberedPosition) -> bool
-    ensures { result ≡ many_at (Some numbered.now.account) nets.now }
+// The fault of a record that exceeds a limit.
+fn fault_of(limit: Limit, at: usize, account: Name) -> BindFault
+    ensures { result ≡ fault_of limit at account }
 {
-    match nets.get(numbered.account as usize) {
-        Some(holdings) => is_many(holdings),
-        None => false,
+    match limit {
+        Limit::Net => BindFault::NetOutOfRange { at, account },
+        Limit::Held => BindFault::TooManyHeld { at, account },
     }
 }
 
-/// The first record whose net is over the limit.
-pub(crate) fn net_fault(
+/// The fault of the first record that exceeds a limit.
+pub(crate) fn limit_fault(
+    limit: Limit,
     numbers: &IndexSet<Name>,
     nets: &[AccountNets],
     positions: &RawPositions,
 ) -> Option<BindFault>
-    ensures { result ≡ net_fault numbers.now.keys (accounts_of positions.now) nets.now positions.now }
+    ensures { result ≡ limit_fault limit numbers.now.keys (accounts_of positions.now) nets.now positions.now }
 {
-    if !any_over(nets) {
+    if !some_exceeds(limit, nets) {
         return None;
     }
     let accounts = positions.accounts();
     for (number, position) in positions.records().iter().enumerate() {
-        if exceeds_net(numbers, nets, position) {
-            return Some(BindFault::NetOutOfRange {
-                at: number + 1,
-                account: accounts[position.account as usize].copied(),
-            });
-        }
-    }
-    None
-}
-
-/// The first record whose account holds too many contracts.
-pub(crate) fn held_fault(nets: &[AccountNets], positions: &RawPositions) -> Option<BindFault>
-    ensures { result ≡ held_fault (accounts_of positions.now) nets.now positions.now }
-{
-    if !any_many(nets) {
-        return None;
-    }
-    let accounts = positions.accounts();
-    for (number, position) in positions.records().iter().enumerate() {
-        if exceeds_held(nets, position) {
-            return Some(BindFault::TooManyHeld {
-                at: number + 1,
-                account: accounts[position.account as usize].copied(),
-            });
+        if exceeds_at(limit, numbers, nets, position) {
+            let account = accounts[position.account as usize].copied();
+            return Some(fault_of(limit, number + 1, account));
         }
     }
     None

@@ -70,7 +70,7 @@ fn has_unknown_leg(commodities: &IndexSet<Key>, legs: &[InterLeg]) -> bool
         .any(|leg| is_unknown(commodities, &leg.commodity))
 }
 
-// Whether it names an unknown commodity.
+// Whether a record names an unknown commodity.
 fn names_unknown(commodities: &IndexSet<Key>, item: &Record) -> bool
     ensures { result ≡ names_unknown commodities.now.keys item.now }
 {
@@ -98,7 +98,7 @@ pub(crate) fn first_unknown_commodity(
 
 // ---- C5
 
-// Whether it is a TIER whose first month is after its last.
+// Whether a record is a TIER whose first month is after its last.
 fn is_backwards(item: &Record) -> bool
     ensures { result ≡ is_backwards item.now }
 {
@@ -125,7 +125,7 @@ fn has_unknown_tier(tiers: &IndexSet<Key>, commodity: &Name, legs: &[IntraLeg]) 
         .any(|leg| is_unknown_tier(tiers, commodity, leg.tier))
 }
 
-// Whether it is an INTRA with a leg of an unknown tier.
+// Whether a record is an INTRA with a leg of an unknown tier.
 fn names_unknown_tier(tiers: &IndexSet<Key>, item: &Record) -> bool
     ensures { result ≡ names_unknown_tier tiers.now.keys item.now }
 {
@@ -207,7 +207,7 @@ fn repeats_commodity_leg(legs: &[InterLeg]) -> bool
     false
 }
 
-// Whether it is a spread with two legs of one tier and side, or of one commodity.
+// Whether a record is a spread with two legs of one tier and side, or of one commodity.
 fn repeats_leg(item: &Record) -> bool
     ensures { result ≡ repeats_leg item.now }
 {
@@ -252,7 +252,7 @@ fn commodity_legs_one_sided(legs: &[InterLeg]) -> bool
     commodity_legs_on(legs, Side::A) || commodity_legs_on(legs, Side::B)
 }
 
-// Whether it is a spread with no leg on A or none on B.
+// Whether a record is a spread with no leg on A or none on B.
 fn is_one_sided(item: &Record) -> bool
     ensures { result ≡ is_one_sided item.now }
 {

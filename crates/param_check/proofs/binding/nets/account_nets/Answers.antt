@@ -10,26 +10,26 @@ use Rattle.param_check.proofs.binding.nets.account_nets.Goals as goal
 pub returns-clause-nets : goal.returns-clause-nets
 returns-clause-nets c =
     c.in_ok-holdings.ensures
-    ∙ ap (map kept_holding) (table_holds (length c.args.sums.now) c.as_slice-entries.result.now c.args.book.now c.clear.new.self
+    ∙ ap (map kept_holding) (table_holds (length c.args.sums.now) c.as_slice-entries.result.now c.args.ledger.now c.clear.new.self
     c.add_all.new.nets c.clear.ensures c.as_slice-entries.ensures.value c.add_all.ensures)
 
 pub returns-clause-places : goal.returns-clause-places
 returns-clause-places c =
-    table_long (length c.args.sums.now) c.as_slice-entries.result.now c.args.book.now c.clear.new.self c.add_all.new.nets c.clear.ensures
+    table_long (length c.args.sums.now) c.as_slice-entries.result.now c.args.ledger.now c.clear.new.self c.add_all.new.nets c.clear.ensures
     c.as_slice-entries.ensures.value c.add_all.ensures
 
 pub returns-in_err-holdings-clause-places : goal.returns-in_err-holdings-clause-places
 returns-in_err-holdings-clause-places c =
-    table_long (length c.args.sums.now) c.as_slice-entries.result.now c.args.book.now c.clear.new.self c.add_all.new.nets c.clear.ensures
+    table_long (length c.args.sums.now) c.as_slice-entries.result.now c.args.ledger.now c.clear.new.self c.add_all.new.nets c.clear.ensures
     c.as_slice-entries.ensures.value c.add_all.ensures
 
 pub invariant_of-result : goal.invariant_of-result
 invariant_of-result c =
     let n = length c.args.sums.now in
-    let book = c.args.book.now in
-    let held : c.in_ok-holdings.holdings.items ≡ kept_holdings n book =
+    let ledger = c.args.ledger.now in
+    let held : c.in_ok-holdings.holdings.items ≡ kept_holdings n ledger =
     c.in_ok-holdings.ensures ∙ ap (map kept_holding)
-    (table_holds n c.as_slice-entries.result.now book c.clear.new.self c.add_all.new.nets c.clear.ensures
+    (table_holds n c.as_slice-entries.result.now ledger c.clear.new.self c.add_all.new.nets c.clear.ensures
     c.as_slice-entries.ensures.value c.add_all.ensures) in
     subst (λ hs. IsStrictlyIncreasing (map (λ h. h.contract) hs)) (sym held)
-    (kept_rise (entry_holdings n book) (entry_holdings_rise n book))
+    (kept_rise (entry_holdings n ledger) (entry_holdings_rise n ledger))

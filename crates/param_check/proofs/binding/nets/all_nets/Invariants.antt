@@ -2,8 +2,8 @@ use Rattle.std.proofs.Common.{◌≡◌, map, length}
 use Rattle.param_check.specs.near.Sums.{kept_holdings}
 use Rattle.param_check.proofs.binding.nets.all_nets.Given as goal
 
-abbrev pub invariant-loop-book : goal.invariant-loop-book
-invariant-loop-book l = record {
+abbrev pub invariant-loop-ledger : goal.invariant-loop-ledger
+invariant-loop-ledger l = record {
   nets : l.nets.items ≡ map (kept_holdings l.contracts) l.yielded;
   places : length l.sums ≡ l.contracts;
 }

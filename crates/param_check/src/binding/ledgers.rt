@@ -3,7 +3,7 @@ ghost use Rattle.std.specs.Prelude.{◌≡◌, ◌≤◌, ◌++◌, ◌∷◌, [
 ghost use Rattle.std.specs.Prelude.{nat_abs, replicate, All, IfOk, IfSome, OnOk, MatchBool, MatchResult};
 ghost use Rattle.span_tables.specs.declared.limits.TheConstants.{MAX_QUANTITY};
 ghost use Rattle.param_check.specs.Binding.{is_memory};
-ghost use Rattle.param_check.specs.near.Ledger.{foreign_fault, known_entry, IsLedger};
+ghost use Rattle.param_check.specs.near.Ledgers.{foreign_fault, known_entry, AreLedgers};
 
 use crate::binding::nets::Entry;
 use crate::faults::BindFault;
@@ -16,11 +16,11 @@ use std::marker::Model;
 
 /// The entries of one account, in file order.
 #[derive(Drop)]
-pub(crate) struct Book {
+pub(crate) struct Ledger {
     entries: Vec<Entry>,
 }
 
-impl Model for Book {
+impl Model for Ledger {
     ghost use Rattle.std.specs.Prelude.{◌≤◌, All, List, nat_abs};
     ghost use Rattle.param_check.specs.declared.binding.nets.Entry.{Entry};
     ghost use Rattle.span_tables.specs.declared.limits.TheConstants.{MAX_QUANTITY};
@@ -32,11 +32,11 @@ impl Model for Book {
     ghost invariant = { λ b. All (λ e. nat_abs e.quantity ≤ MAX_QUANTITY) b.entries.items };
 }
 
-impl Book {
-    fn new(alloc: Global) -> Book
+impl Ledger {
+    fn new(alloc: Global) -> Ledger
         ensures { result ≡ [] }
     {
-        Book {
+        Ledger {
             entries: Vec::new(alloc),
         }
     }
@@ -59,7 +59,7 @@ impl Book {
 }
 
 // The entry of a record, or `None` where its contract is not known.
-#[tactic(auto, unfolding(crate::specs::near::Ledger::known_entry))]
+#[tactic(auto, unfolding(crate::specs::near::Ledgers::known_entry))]
 fn entry(numbers: &IndexSet<Name>, position: &NumberedPosition) -> Option<Entry>
     ensures entry { result ≡ known_entry numbers.now.keys position.now.contract position.now.quantity }
     ensures quantity { IfSome result (λ entry. entry.quantity ≡ position.now.quantity) }
@@ -71,30 +71,30 @@ fn entry(numbers: &IndexSet<Name>, position: &NumberedPosition) -> Option<Entry>
     })
 }
 
-// So many books without an entry.
-fn empty_books(alloc: Global, count: usize) -> Result<Vec<Book>, AllocError>
-    ensures { IfOk result (λ books. books.items ≡ replicate count []) }
+// A number of ledgers without an entry.
+fn empty_ledgers(alloc: Global, count: usize) -> Result<Vec<Ledger>, AllocError>
+    ensures { IfOk result (λ ledgers. ledgers.items ≡ replicate count []) }
 {
-    let mut books = Vec::with_capacity(alloc, count)?;
+    let mut ledgers = Vec::with_capacity(alloc, count)?;
     for _ in 0..count {
-        books.push(Book::new(alloc))?;
+        ledgers.push(Ledger::new(alloc))?;
     }
-    Ok(books)
+    Ok(ledgers)
 }
 
-/// The books of the accounts of positions, or the first record whose contract is not among these.
-#[tactic(auto, unfolding(crate::specs::near::Ledger::known_entry))]
-pub(crate) fn books_of(
+/// The ledgers of the accounts of positions, or the first record whose contract is not among these.
+#[tactic(auto, unfolding(crate::specs::near::Ledgers::known_entry))]
+pub(crate) fn ledgers_of(
     alloc: Global,
     numbers: &IndexSet<Name>,
     positions: &RawPositions,
-) -> Result<Vec<Book>, BindFault>
+) -> Result<Vec<Ledger>, BindFault>
     ensures { MatchResult result
-        (λ books. IsLedger numbers.now.keys positions.now books.items)
+        (λ ledgers. AreLedgers numbers.now.keys positions.now ledgers.items)
         (λ e. MatchBool (is_memory e) ⊤ (foreign_fault numbers.now.keys positions.now ≡ Some e)) }
 {
     let accounts = positions.accounts();
-    let mut books = empty_books(alloc, accounts.len())?;
+    let mut ledgers = empty_ledgers(alloc, accounts.len())?;
     for (number, position) in positions.records().iter().enumerate() {
         let account = position.account as usize;
         let Some(entry) = entry(numbers, position) else {
@@ -103,7 +103,7 @@ pub(crate) fn books_of(
                 account: accounts[account].copied(),
             });
         };
-        books[account].push(entry)?;
+        ledgers[account].push(entry)?;
     }
-    Ok(books)
+    Ok(ledgers)
 }

@@ -2,15 +2,15 @@ use Rattle.std.proofs.Common.{◌<◌, ◌++◌, ◌∷◌, [], ◌∙◌, ap, a
 use Rattle.std.proofs.lemmas.List.{get_or_default, length-map}
 use Rattle.span_tables.specs.Net.{accounts_of}
 use Rattle.span_tables.specs.near.Positions.{named_position}
-use Rattle.param_check.specs.near.Ledger.{is_foreign}
+use Rattle.param_check.specs.near.Ledgers.{is_foreign}
 use Rattle.param_check.specs.near.Nets.{entries_of}
-use Rattle.param_check.proofs.LedgerLaws.{books_step, foreign_from_none, foreign_found, known_from_some, no_entries}
+use Rattle.param_check.proofs.LedgerLaws.{ledgers_step, foreign_from_none, foreign_found, known_from_some, no_entries}
 use Rattle.param_check.proofs.LedgerLaws.{none_step, number_within, seen}
-use Rattle.param_check.proofs.binding.books.books_of.Goals as goal
+use Rattle.param_check.proofs.binding.ledgers.ledgers_of.Goals as goal
 
 pub loop-number-init : goal.loop-number-init
 loop-number-init c = record {
-  books_are = c.in_ok-books.ensures ∙ ap (λ ks. replicate (length ks) []) c.accounts-accounts.ensures.value
+  ledgers_are = c.in_ok-ledgers.ensures ∙ ap (λ ks. replicate (length ks) []) c.accounts-accounts.ensures.value
       ∙ no_entries c.args.numbers.now.keys (accounts_of c.args.positions.now);
   all_known = refl;
 }
@@ -35,15 +35,15 @@ loop-number-preserved c =
     let r = c.position-item.result in
     let lt : i < length records = c.loop-number-test.true in
     let at = c.position-item.is in
-    let books = c.loop-number.books.items in
+    let ledgers = c.loop-number.ledgers.items in
     let e = c.in-Some.entry in
     let number = number_within positions records named known i r lt at in
-    let many = ap length c.loop-number.invariant.books_are ∙ length-map (accounts_of positions) (entries_of ids (take i positions)) in
-    let within : r.account < length books = omega (arith, number, many) in
-    let read = c.index_mut.ensures.value ∙ get_or_default books r.account c.index_mut.result.now [] within in
+    let many = ap length c.loop-number.invariant.ledgers_are ∙ length-map (accounts_of positions) (entries_of ids (take i positions)) in
+    let within : r.account < length ledgers = omega (arith, number, many) in
+    let read = c.index_mut.ensures.value ∙ get_or_default ledgers r.account c.index_mut.result.now [] within in
     let some = known_from_some ids (named_position (accounts_of positions) r) e c.in-Some.ensures.entry in
     record {
-      books_are = books_step positions records named known ids i r books _ e lt at c.loop-number.invariant.books_are some.1
-          (ap (set books r.account) (c.in_ok-push.ensures ∙ ap (λ b. b ++ e ∷ []) read));
+      ledgers_are = ledgers_step positions records named known ids i r ledgers _ e lt at c.loop-number.invariant.ledgers_are some.1
+          (ap (set ledgers r.account) (c.in_ok-push.ensures ∙ ap (λ b. b ++ e ∷ []) read));
       all_known = none_step positions records named known (is_foreign ids) i r lt at c.loop-number.invariant.all_known some.0;
     }

@@ -24,6 +24,6 @@ unfoldable pub foreign_fault : List (List ℕ) → List PositionRecord → Optio
 foreign_fault ids positions = first_unfit fault.UnknownContract (λ earlier p. is_foreign ids p) positions
 
 -- the entries of each account of the positions, where every contract is among the ids
-pub record IsLedger (ids : List (List ℕ)) (positions : List PositionRecord) (books : List (List Entry)) : Type 0 where
-  pub books_are : books ≡ map (entries_of ids positions) (accounts_of positions)
+pub record AreLedgers (ids : List (List ℕ)) (positions : List PositionRecord) (ledgers : List (List Entry)) : Type 0 where
+  pub ledgers_are : ledgers ≡ map (entries_of ids positions) (accounts_of positions)
   pub all_known : list_any (is_foreign ids) positions ≡ false
