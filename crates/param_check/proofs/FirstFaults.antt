@@ -1,9 +1,9 @@
 -- The first record that breaks a rule, in a loop over the records.
-use Rattle.std.proofs.Common.{◌≡◌, ℕ, ◌+◌, ◌<◌, ◌≤◌, Bool, true, false, List, [], ◌∷◌}
+use Rattle.std.proofs.Common.{◌≡◌, ℕ, ◌+◌, ◌<◌, Bool, true, false, List, [], ◌∷◌}
 use Rattle.std.proofs.Common.{◌++◌, Option, Some, None, refl, length, take, drop, get_or, ap, ◌∙◌, arith}
 use Rattle.std.specs.Prelude.{option_map, if◌then◌else◌}
 use Rattle.std.specs.Option.{option_or}
-use Rattle.std.proofs.lemmas.List.{take_more, drop_more, drop_all, length-take-le}
+use Rattle.std.proofs.lemmas.List.{take_more, drop_more, length-take-le}
 use Rattle.span_tables.specs.Faults.{first_fault_after}
 use Rattle.span_tables.specs.Rules.{first_breaking}
 use Rattle.span_tables.specs.declared.records.Record.{Record}
@@ -37,10 +37,6 @@ module _ (breaks : List Record → Record → Bool) (all : List Record) where
   breaking_from-here i d h e =
       at_record i d h ∙ ap (λ b. answer_by b (length (take i all) + 1) (breaking_from breaks all (i + 1))) e
       ∙ ap (λ n. Some (n + 1)) (length-take-le i all (omega arith))
-
-  -- no record is left
-  pub breaking_from-end : (i : ℕ) → length all ≤ i → breaking_from breaks all i ≡ None
-  breaking_from-end i h = rw (drop_all i all h) refl
 
 -- rules that say the same of each record are broken first by the same
 pub same_from : {F : Type 0} (fault : ℕ → F) (these those : List Record → Record → Bool)

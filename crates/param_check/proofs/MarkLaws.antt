@@ -32,17 +32,6 @@ pub none_marked : (m k : ℕ) → is_marked (replicate m 0) k ≡ false
 unfolding nothing
 none_marked m k = ap (λ n. bit_at n (k % 64) == 1) (zeros m (k / 64)) ∙ ap (λ n. n == 1) (bit_at-zero (k % 64))
 
-pub no_marks : (m n : ℕ) → n ≤ 64 * m → AreMarks (replicate m 0) n
-unfolding nothing
-no_marks m n room = record { room = omega (arith, room, long m); within = λ k e. absurd (no k (sym e ∙ none_marked m k)) }
-  where
-    long : (j : ℕ) → length (replicate j nothing) ≡ j
-    long zero = refl
-    long (suc j) = ap suc (long j)
-
-    no : (k : ℕ) → true ≡ false → ⊥
-    no k e = cc
-
 module _ (marks : List ℕ) (places : List ℤ) where
   -- the sums' places
   pub sums_long : length (sums_of marks places) ≡ length places

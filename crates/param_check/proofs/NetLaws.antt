@@ -10,7 +10,7 @@ use Rattle.std.proofs.lemmas.List.{get_or-set_same, get_or-set_other, same_lists
 use Rattle.std.proofs.lemmas.List.Elements.{filter-append}
 use Rattle.std.proofs.lemmas.List.FromFn.{get_or-map-range_with_len, length-map-range_with_len}
 use Rattle.std.proofs.lemmas.List.Sums.{fold_push}
-use Rattle.std.proofs.lemmas.Bool.{not_from_true, not_from_false, cases_eq, cases_lt, eq-eqb, ne_eqb}
+use Rattle.std.proofs.lemmas.Bool.{not_from_true, cases_eq, cases_lt, eq-eqb, ne_eqb}
 use Rattle.span_money.specs.Numbers.{int_sum_by}
 use Rattle.span_tables.specs.Net.{is_held}
 use Rattle.span_tables.specs.declared.limits.TheConstants.{MAX_QUANTITY}
@@ -118,10 +118,7 @@ small_more nets c i q small all k = by (cases_eq k c) (cases_lt c (length nets))
     by (inl e) (inr le) = rw (set_past nets c sum le) (same (get_or nets k (pos 0)) (all k))
     by (inr ne) z = rw (get_or-set_other nets c k sum (pos 0) ne) (same (get_or nets k (pos 0)) (all k))
 
--- what is held is not 0
-pub is_held-ne : (h : Holding) → (h.net ≡ pos 0 → ⊥) → is_held h ≡ true
-is_held-ne h ne = not_from_false (nat_abs h.net == 0) (ne_eqb (nat_abs h.net) 0 (λ e. ne (omega (arith, ints, e))))
-
+-- a net of 0 is not held
 pub is_held-eq : (h : Holding) → h.net ≡ pos 0 → is_held h ≡ false
 is_held-eq h e = not_from_true (nat_abs h.net == 0) (eq-eqb (nat_abs h.net) 0 (ap nat_abs e))
 
