@@ -4,6 +4,7 @@ use Rattle.std.proofs.Common.{append_assoc, arith, flat_map}
 use Rattle.std.specs.List.{zip}
 use Rattle.std.specs.Prelude.{fold}
 use Rattle.std.proofs.lemmas.List.{append-nil, flat_map_more, take_more}
+use Rattle.std.proofs.lemmas.List.Sums.{fold_more}
 use Rattle.std.proofs.lemmas.Slice.Zip.{get_or-zip, length-zip}
 use Rattle.span_tables.specs.declared.records.Inter.{Inter}
 use Rattle.span_tables.specs.declared.records.Intra.{Intra}
@@ -17,6 +18,12 @@ use Rattle.reasons.specs.Shown.{inter_ways, inters_shown, intra_ways, intras_sho
 use Rattle.reasons.specs.near.Stages.{inters_formed}
 use Rattle.reasons.specs.declared.shown.ShownInter.{ShownInter}
 
+-- a fold one step further along a list
+pub fold_step : {S A : Type 0} (f : S → A → S) (start now next : S) (xs : List A) (i : ℕ) (x : A) → i < length xs
+    → x ≡ get_or xs i x → next ≡ f now x → now ≡ fold f start (take i xs) → next ≡ fold f start (take (i + 1) xs)
+fold_step f start now next xs i x lt at step so_far =
+    step ∙ (λ k. f (so_far k) (at k)) ∙ sym (fold_more f start xs i x lt)
+
 intras_shown-push : (spreads : List Intra) (s : Intra) (t : TierRests)
     → intras_shown (spreads ++ s ∷ []) t
     ≡ intras_shown spreads t ++ intra_ways s (months.formed_both (fold spread_both_ways t spreads) s)
@@ -28,7 +35,7 @@ intras_shown-push (x ∷ spreads) s t =
     ap (λ others. first ++ others) (intras_shown-push spreads s next)
     ∙ sym (append_assoc first (intras_shown spreads next) last)
 
--- those of the first spreads of a list, and of the next
+-- what is shown of the first spreads of a list, and of the next
 pub intras_shown_more : (spreads : List Intra) (i : ℕ) (s : Intra) (t : TierRests) → i < length spreads
     → s ≡ get_or spreads i s
     → intras_shown (take i spreads) t ++ intra_ways s (months.formed_both (fold spread_both_ways t (take i spreads)) s)
@@ -45,7 +52,7 @@ inters_formed-push [] s lines = refl
 inters_formed-push (x ∷ spreads) s lines =
     ap (λ fs. commodities.formed_both lines x ∷ fs) (inters_formed-push spreads s (inter_both_ways lines x))
 
--- those of the first spreads of a list, and of the next
+-- how many the first spreads of a list form, and the next
 pub inters_formed_more : (spreads : List Inter) (i : ℕ) (s : Inter) (lines : List InterLine) → i < length spreads
     → s ≡ get_or spreads i s
     → inters_formed (take i spreads) lines ++ commodities.formed_both (fold inter_both_ways lines (take i spreads)) s ∷ []

@@ -1,10 +1,9 @@
-use Rattle.std.proofs.Common.{◌≡◌, ◌++◌, append_assoc, take, sym, ap, ◌∙◌}
+use Rattle.std.proofs.Common.{◌≡◌, ◌++◌, append_assoc, take, ap, ◌∙◌}
 use Rattle.std.specs.Prelude.{fold}
-use Rattle.std.proofs.lemmas.List.Sums.{fold_more}
 use Rattle.span_tables.specs.declared.sides.Direction.TheVariants.{ALong, AShort}
 use Rattle.spread_stage.specs.Spreads.{formed_both, spread_both_ways}
 use Rattle.reasons.specs.Shown.{intra_in, intra_ways}
-use Rattle.reasons.proofs.FormedLemmas.{intras_shown_more}
+use Rattle.reasons.proofs.FormedLemmas.{fold_step, intras_shown_more}
 use Rattle.reasons.proofs.months.form_intras.Goals as goal
 
 pub loop-intra-preserved : goal.loop-intra-preserved
@@ -18,9 +17,8 @@ loop-intra-preserved c =
     let formed : f ≡ formed_both (fold spread_both_ways tiers (take i spreads)) s =
     c.spread_counted-formed.ensures.formed ∙ ap (λ t. formed_both t s) before.tiers in
     record {
-      tiers = c.spread_counted-formed.ensures.value ∙ ap (λ t. spread_both_ways t s) before.tiers
-          ∙ ap (spread_both_ways (fold spread_both_ways tiers (take i spreads))) c.intra-item.is
-          ∙ sym (fold_more spread_both_ways tiers spreads i s c.loop-intra-test.true);
+      tiers = fold_step spread_both_ways tiers _ _ spreads i s c.loop-intra-test.true c.intra-item.is
+          c.spread_counted-formed.ensures.value before.tiers;
       shown = c.in_ok-push_formed-2.ensures ∙ ap (λ xs. xs ++ intra_in s AShort f.a_short) c.in_ok-push_formed.ensures
           ∙ append_assoc _ (intra_in s ALong f.a_long) (intra_in s AShort f.a_short)
           ∙ (λ k. before.shown k ++ intra_ways s (formed k))
