@@ -1,6 +1,6 @@
 -- Lines that are written one after another.
-use Rattle.std.proofs.Common.{◌≡◌, ℕ, ◌+◌, ◌<◌, List, [], ◌∷◌, ◌++◌, length, map, take, refl, sym, ap, ◌∙◌}
-use Rattle.std.proofs.Common.{subst, arith, append_assoc, flat_map, get_or, inl, inr}
+use Rattle.std.proofs.Common.{◌≡◌, ℕ, ◌+◌, ◌<◌, List, [], ◌∷◌, ◌++◌, length, map, take, sym, ap, ◌∙◌}
+use Rattle.std.proofs.Common.{subst, arith, append_assoc, get_or, inl, inr}
 use Rattle.std.specs.Prelude.{IfSome, slice_get}
 use Rattle.std.proofs.lemmas.List.{append-nil, flat_map_more, get_or-map, length-map, map-append, take_more}
 use Rattle.std.proofs.lemmas.Grind.{flat_map-append}
@@ -29,11 +29,11 @@ pub lines-of-append : {A : Type 0} (f : A → Line) (ids : List Field) (old : Li
 lines-of-append f ids old xs ys =
     lines-append ids old (map f xs) (map f ys) ∙ ap (λ rs. old ++ reasons_text ids rs) (sym (map-append f xs ys))
 
--- one line
+-- a line by itself is a list of one
 pub one_line : (ids : List Field) (old : List ℕ) (r : Line) → old ++ reason_text ids r ≡ old ++ reasons_text ids (r ∷ [])
 one_line ids old r = ap (λ t. old ++ t) (sym (append-nil (reason_text ids r)))
 
--- one line more behind those of a list
+-- a list of lines with one more
 pub line_more : {A : Type 0} (f : A → Line) (ids : List Field) (xs : List A) (x : A) (old now next : List ℕ)
     → next ≡ now ++ reason_text ids (f x) → now ≡ old ++ reasons_text ids (map f xs)
     → next ≡ old ++ reasons_text ids (map f (xs ++ x ∷ []))

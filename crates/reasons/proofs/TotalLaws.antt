@@ -110,7 +110,7 @@ module _ (t : AcceptedTables) (holdings : List Holding) (c : ℕ) (none : held_a
       ∙ (λ k. requirement_of (no_scan k) (no_intra k) (no_delivery k) (no_credit lt k) (no_minimum k))
       ∙ nothing_required
 
-  -- and it is worth nothing
+  -- a commodity of which nothing is held is worth nothing
   no_value : values_shown_at t holdings c ≡ pos 0
   no_value = ap (int_sum_by position_value) none
 

@@ -128,19 +128,19 @@ short_reason c held = record {
 
 -- ---- of the commodity of a number, for an account with these holdings
 
--- its spreads between months, as they form
+-- the spreads between months of the commodity, as they form
 abbrev pub intras_shown_at : AcceptedTables → List Holding → ℕ → List ShownIntra
 intras_shown_at t holdings c = intras_shown (intras_at t c) (unspread (deltas_at t holdings c))
 
--- its months, with what is left of them
+-- the months of the commodity, with what is left of them
 abbrev pub months_shown_at : AcceptedTables → List Holding → ℕ → List ShownMonth
 months_shown_at t holdings c = months_shown (deltas_at t holdings c) (tiers_at t holdings c).rests
 
--- its spot months, with what spreads used of them
+-- the spot months of the commodity, with what spreads used of them
 abbrev pub spots_shown_at : AcceptedTables → List Holding → ℕ → List ShownSpot
 spots_shown_at t holdings c = spots_shown (deltas_at t holdings c) (tiers_at t holdings c).rests (spots_at t c)
 
--- the spreads between commodities that have a leg in it, as they form
+-- the spreads between commodities that have a leg in the commodity, as they form
 abbrev pub inters_shown_at : AcceptedTables → List Holding → ℕ → List ShownInter
 inters_shown_at t holdings c = inters_shown c (inters_of t) (loaded_lines t holdings)
 
@@ -148,28 +148,28 @@ inters_shown_at t holdings c = inters_shown c (inters_of t) (loaded_lines t hold
 abbrev pub line_after_all : AcceptedTables → List Holding → ℕ → InterLine
 line_after_all t holdings c = line_at (inter_lines t holdings) c
 
--- the lines of its held contracts
+-- the lines of the held contracts of the commodity
 abbrev pub held_reasons : AcceptedTables → List Holding → ℕ → List Line
 held_reasons t holdings c = map (held_reason t) (held_at t holdings c)
 
--- the lines of its scan
+-- the lines of the scan of the commodity
 abbrev pub scan_reasons : AcceptedTables → List Holding → ℕ → List Line
 scan_reasons t holdings c =
     let sums = scenario_sums (held_at t holdings c) in
     sums_reason sums ∷ scan_reason (scan_of sums) ∷ []
 
--- the lines of its months, of the spreads between them and of its spot months
+-- the lines of the months of the commodity, of the spreads between them and of its spot months
 abbrev pub month_reasons : AcceptedTables → List Holding → ℕ → List Line
 month_reasons t holdings c =
     map month_reason (months_shown_at t holdings c)
     ++ (map intra_reason (intras_shown_at t holdings c) ++ map spot_reason (spots_shown_at t holdings c))
 
--- the lines of the spreads between it and other commodities, and of its credit
+-- the lines of the spreads between the commodity and others, and of its credit
 abbrev pub credit_reasons : AcceptedTables → List Holding → ℕ → List Line
 credit_reasons t holdings c =
     map inter_reason (inters_shown_at t holdings c) ++ credit_reason (line_after_all t holdings c) ∷ []
 
--- all of its lines but that of its figures
+-- all lines of the commodity but that of its figures
 unfoldable pub reasons_of : AcceptedTables → List Holding → ℕ → List Line
 reasons_of t holdings c =
     held_reasons t holdings c

@@ -17,7 +17,7 @@ use span_tables::records::{CommodityLeg, Inter};
 use span_tables::sides::{Direction, SpreadsFormed};
 use std::alloc::{AllocError, Global};
 
-/// Forms the spreads in their order, and tells how many each forms in each direction. `Err` is want of memory.
+/// Forms the intercommodity spreads in their order, and tells how many each forms in each direction, in 10^-4 spreads.
 pub(crate) fn form_inters(
     alloc: Global,
     state: &mut InterState,
@@ -41,7 +41,7 @@ fn leg_in(legs: &[CommodityLeg], commodity: usize) -> Option<&CommodityLeg>
     legs.iter().find(|leg| leg.commodity == commodity)
 }
 
-// What so many spreads use of a leg's commodity.
+// What so many spreads (in 10^-4) use of the commodity of a leg of this ratio, in 10^-8 deltas.
 fn used_by(formed: u64, ratio: u32) -> u128
     ensures value { result ≡ formed * ratio }
     ensures bound { result < 2 ^ 127 }
@@ -110,7 +110,7 @@ pub(crate) fn push_inters(
     Ok(())
 }
 
-/// Appends the line of what the credit of a commodity is of.
+/// Appends the line of the price risk, the net delta and the weight that the credit of a commodity is computed from.
 pub(crate) fn push_credit(
     out: &mut Vec<u8>,
     ids: &[Field<'_>],

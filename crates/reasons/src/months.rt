@@ -77,7 +77,7 @@ fn push_formed(
     Ok(())
 }
 
-/// Forms the spreads in their order, and gives each in the directions in which it forms. `Err` is want of memory.
+/// Forms the intracommodity spreads in their order, and gives each in the directions in which it forms.
 pub(crate) fn form_intras(
     alloc: Global,
     tiers: &mut TierState,
@@ -98,7 +98,7 @@ pub(crate) fn form_intras(
     Ok(shown)
 }
 
-// So many at a rate.
+// The charge of so many spreads (in 10^-4) at a rate, in 10^-4 minor units.
 fn at_rate(count: u64, rate: u32) -> i128
     ensures { result ≡ pos (count * rate) }
 {

@@ -40,7 +40,7 @@ impl Model for Stages {
     ghost view = { λ s. record { held = s.held.items; lines = s.state; formed = s.formed.items } };
 }
 
-// The commodities before any spread between them. `Err` is want of memory.
+// The commodities before any spread between them.
 fn loaded(
     alloc: Global,
     tables: &Tables,
@@ -65,7 +65,7 @@ fn loaded(
     Ok(state)
 }
 
-/// The stages of an account that its commodities share. `Err` is want of memory.
+/// The stages of an account that its commodities share.
 pub fn stages_of(
     alloc: Global,
     tables: &Tables,
@@ -107,7 +107,7 @@ fn push_month_reasons(
 }
 
 /// Appends the lines of the reasons for the figures of the commodity of a number, with these ids behind each word: those
-/// of its held contracts, scan, months, spreads and spot months, credit and short options. `Err` is want of memory.
+/// of its held contracts, scan, months, spreads and spot months, credit and short options.
 pub fn push_reasons(
     alloc: Global,
     out: &mut Vec<u8>,

@@ -24,7 +24,7 @@ abbrev pub inters_formed : List Inter → List InterLine → List SpreadsFormed
 inters_formed [] lines = []
 inters_formed (s ∷ spreads) lines = formed_both lines s ∷ inters_formed spreads (inter_both_ways lines s)
 
--- those of an account with these holdings
+-- the stages of an account with these holdings
 abbrev pub stages_of : AcceptedTables → List Holding → StagesView
 stages_of t holdings = record {
   held = all_held t holdings;
