@@ -15,7 +15,7 @@ ghost use Rattle.span_tables.specs.Names.{has_repeat};
 ghost use Rattle.span_tables.specs.Net.{accounts_of};
 
 use crate::binding::ledgers::ledgers_of;
-use crate::binding::contract_ids::contract_numbers;
+use crate::binding::contract_ids::ids_of;
 use crate::binding::nets::{AccountNets, all_nets};
 use crate::binding::over_limits::{Limit, limit_fault};
 use crate::faults::BindFault;
@@ -28,7 +28,7 @@ use span_tables::tables::Tables;
 use std::alloc::{AllocError, Global};
 
 // The portfolios of accounts with these nets.
-fn portfolios(
+fn portfolios_from(
     alloc: Global,
     accounts: &[Name],
     nets: Vec<AccountNets>,
@@ -46,7 +46,7 @@ fn portfolios(
 }
 
 // The portfolios of accounts with these nets, or the fault in them.
-fn settle(
+fn portfolios_or_fault(
     alloc: Global,
     numbers: &IndexSet<Name>,
     nets: Vec<AccountNets>,
@@ -65,7 +65,7 @@ fn settle(
     if let Some(fault) = limit_fault(Limit::Held, numbers, &nets, positions) {
         return Err(fault);
     }
-    let all = portfolios(alloc, positions.accounts(), nets)?;
+    let all = portfolios_from(alloc, positions.accounts(), nets)?;
     Ok(all)
 }
 
@@ -78,10 +78,10 @@ pub fn bind_positions(
     requires { has_repeat (λ x y. bytes_eq x.id y.id) contracts.now ≡ false }
     ensures { Gives is_memory result (bindings_of contracts.now positions.now) }
 {
-    let numbers = contract_numbers(alloc, contracts)?;
+    let numbers = ids_of(alloc, contracts)?;
     let ledgers = ledgers_of(alloc, &numbers, positions)?;
     let nets = all_nets(alloc, contracts.len(), ledgers)?;
-    settle(alloc, &numbers, nets, positions)
+    portfolios_or_fault(alloc, &numbers, nets, positions)
 }
 
 /// What each account holds, by the accounts' first appearance (docs/METHOD.md, "Positions"), or the fault of the

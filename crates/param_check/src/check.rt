@@ -5,7 +5,7 @@ mod rules;
 
 ghost use Rattle.std.specs.Prelude.{◌≡◌, IfOk};
 ghost use Rattle.param_check.specs.CheckFaults.{check_fault, checked, is_memory};
-ghost use Rattle.param_check.specs.near.Outcomes.{spread_outcome};
+ghost use Rattle.param_check.specs.near.Outcomes.{spread_fault};
 ghost use Rattle.span_tables.specs.Gives.{Gives};
 
 use crate::check::keys::{Identity, first_repeat};
@@ -21,7 +21,7 @@ use std::alloc::{AllocError, Global};
 
 // The lowest-numbered rule of C8 to C11 that a record breaks, with the first record that breaks it.
 fn spread_fault(alloc: Global, records: &[Record]) -> Result<Option<CheckFault>, AllocError>
-    ensures { IfOk result (λ fault. fault ≡ spread_outcome records.now) }
+    ensures { IfOk result (λ fault. fault ≡ spread_fault records.now) }
 {
     if let Some(at) = first_that_breaks(&RecordRule::LegsApart, records) {
         return Ok(Some(CheckFault::RepeatedLeg { at }));

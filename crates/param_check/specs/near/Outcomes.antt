@@ -19,5 +19,5 @@ unfoldable pub first_outcome : List Record → Option CheckFault
 first_outcome all = first_some (outcomes all)
 
 -- the outcome of the lowest-numbered rule of C8 to C11 that some record breaks
-abbrev pub spread_outcome : List Record → Option CheckFault
-spread_outcome all = first_some (drop 7 (outcomes all))
+abbrev pub spread_fault : List Record → Option CheckFault
+spread_fault all = first_some (drop 7 (outcomes all))

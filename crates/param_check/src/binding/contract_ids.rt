@@ -9,7 +9,7 @@ use span_tables::records::Contract;
 use std::alloc::{AllocError, Global};
 
 /// The ids of contracts that stand apart; an id's index is its contract's number.
-pub(crate) fn contract_numbers(
+pub(crate) fn ids_of(
     alloc: Global,
     contracts: &[Contract],
 ) -> Result<IndexSet<Name>, AllocError>

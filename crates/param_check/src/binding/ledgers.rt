@@ -60,7 +60,7 @@ impl Ledger {
 
 // The entry of a record, or `None` where its contract is not known.
 #[tactic(auto, unfolding(crate::specs::near::Ledgers::known_entry))]
-fn entry(numbers: &IndexSet<Name>, position: &NumberedPosition) -> Option<Entry>
+fn known_entry(numbers: &IndexSet<Name>, position: &NumberedPosition) -> Option<Entry>
     ensures entry { result ≡ known_entry numbers.now.keys position.now.contract position.now.quantity }
     ensures quantity { IfSome result (λ entry. entry.quantity ≡ position.now.quantity) }
 {
@@ -97,7 +97,7 @@ pub(crate) fn ledgers_of(
     let mut ledgers = empty_ledgers(alloc, accounts.len())?;
     for (number, position) in positions.records().iter().enumerate() {
         let account = position.account as usize;
-        let Some(entry) = entry(numbers, position) else {
+        let Some(entry) = known_entry(numbers, position) else {
             return Err(BindFault::UnknownContract {
                 at: number + 1,
                 account: accounts[account].copied(),

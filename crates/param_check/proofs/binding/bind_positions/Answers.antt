@@ -12,14 +12,14 @@ returns-in_err-ledgers c =
     c.in_ok-numbers.ensures c.in_err-ledgers.ensures
     (err_is c.from_residual-in_err-ledgers.result e c.from_residual-in_err-ledgers.ensures.1)
 
-pub settle-requires-clause-fit : goal.settle-requires-clause-fit
-settle-requires-clause-fit c =
+pub portfolios_or_fault-requires-clause-fit : goal.portfolios_or_fault-requires-clause-fit
+portfolios_or_fault-requires-clause-fit c =
     kept_hold c.args.contracts.now c.args.positions.now c.in_ok-numbers.numbers.keys c.in_ok-ledgers.ledgers.items c.in_ok-nets.nets.items
     c.requires c.in_ok-numbers.ensures c.in_ok-ledgers.ensures c.in_ok-nets.ensures
 
 pub returns : goal.returns
 returns c =
-    subst (Gives is_memory c.settle.result)
+    subst (Gives is_memory c.portfolios_or_fault.result)
     (kept_settled c.args.contracts.now c.args.positions.now c.in_ok-numbers.numbers.keys c.in_ok-ledgers.ledgers.items c.in_ok-nets.nets.items
     c.requires c.in_ok-numbers.ensures c.in_ok-ledgers.ensures c.in_ok-nets.ensures)
-    c.settle.ensures
+    c.portfolios_or_fault.ensures

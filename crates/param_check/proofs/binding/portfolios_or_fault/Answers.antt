@@ -6,7 +6,7 @@ use Rattle.param_check.specs.declared.binding.over_limits.Limit.{Limit}
 use Rattle.param_check.specs.declared.binding.over_limits.Limit.TheVariants as limit
 use Rattle.param_check.specs.declared.faults.BindFault.{BindFault}
 use Rattle.param_check.proofs.BindLaws.{settled_net, settled_held, settled_all}
-use Rattle.param_check.proofs.binding.settle.Goals as goal
+use Rattle.param_check.proofs.binding.portfolios_or_fault.Goals as goal
 
 pub returns-in-Some : goal.returns-in-Some
 returns-in-Some c =

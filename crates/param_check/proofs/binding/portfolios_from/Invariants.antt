@@ -1,7 +1,7 @@
 use Rattle.std.proofs.Common.{◌≡◌, ◌+◌, take}
 use Rattle.std.specs.Prelude.{length}
 use Rattle.param_check.specs.near.Holdings.{portfolios_from}
-use Rattle.param_check.proofs.binding.portfolios.Given as goal
+use Rattle.param_check.proofs.binding.portfolios_from.Given as goal
 
 abbrev pub invariant-loop-held : goal.invariant-loop-held
 invariant-loop-held l = record {

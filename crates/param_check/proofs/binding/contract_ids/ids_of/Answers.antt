@@ -2,7 +2,7 @@ use Rattle.std.proofs.Common.{◌∙◌, ap}
 use Rattle.std.specs.Prelude.{bytes_eq}
 use Rattle.indexmap.specs.IndexSet.{insert_key}
 use Rattle.param_check.proofs.IdLaws.{next_id}
-use Rattle.param_check.proofs.binding.contract_ids.contract_numbers.Goals as goal
+use Rattle.param_check.proofs.binding.contract_ids.ids_of.Goals as goal
 
 pub loop-contract-preserved : goal.loop-contract-preserved
 loop-contract-preserved c =

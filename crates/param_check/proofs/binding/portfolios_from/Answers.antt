@@ -1,7 +1,7 @@
 use Rattle.std.proofs.Common.{◌≡◌, ◌+◌, ◌<◌, ◌∙◌, ◌++◌, ◌∷◌, [], ap, sym, length, arith}
 use Rattle.std.proofs.lemmas.List.{length-append}
 use Rattle.param_check.proofs.PortfolioLaws.{paired_more}
-use Rattle.param_check.proofs.binding.portfolios.Goals as goal
+use Rattle.param_check.proofs.binding.portfolios_from.Goals as goal
 
 pub loop-held-preserved : goal.loop-held-preserved
 loop-held-preserved c =
