@@ -41,7 +41,7 @@ impl Model for Stages {
 }
 
 // The commodities before any spread between them.
-fn loaded(
+fn loaded_lines(
     alloc: Global,
     tables: &Tables,
     portfolio: &Portfolio,
@@ -75,7 +75,7 @@ pub fn stages_of(
     ensures { IfOk result (λ stages. stages ≡ stages_of tables.now portfolio.now.holdings) }
 {
     let held = gather_all(alloc, tables, portfolio)?;
-    let mut state = loaded(alloc, tables, portfolio, &held)?;
+    let mut state = loaded_lines(alloc, tables, portfolio, &held)?;
     let formed = form_inters(alloc, &mut state, tables.inters())?;
     Ok(Stages {
         held,

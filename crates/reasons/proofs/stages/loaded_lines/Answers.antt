@@ -7,7 +7,7 @@ use Rattle.plan_compiler.specs.Meaning.{lines_loaded}
 use Rattle.plan_compiler.proofs.Meanings.{load_more}
 use Rattle.plan_compiler.proofs.Taken.{length_partly, not_loaded, unspread}
 use Rattle.plan_compiler.proofs.StageLemmas.{held_read}
-use Rattle.reasons.proofs.stages.loaded.Goals as goal
+use Rattle.reasons.proofs.stages.loaded_lines.Goals as goal
 
 pub load-requires-clause-commodity : goal.load-requires-clause-commodity
 load-requires-clause-commodity c =
