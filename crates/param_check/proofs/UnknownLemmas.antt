@@ -7,7 +7,7 @@ use Rattle.span_tables.specs.Rules.{commodities_in, has_tier, names_no_commodity
 use Rattle.span_tables.specs.declared.records.Record.{Record}
 use Rattle.span_tables.specs.declared.records.Record.TheVariants as record_of
 use Rattle.param_check.specs.near.Keys.{name_key, key_of, is_same, is_among, has_key, is_unknown}
-use Rattle.param_check.specs.near.Keys.{names_unknown, is_unknown_tier, names_unknown_tier}
+use Rattle.param_check.specs.near.Keys.{names_unknown, names_unknown_tier}
 use Rattle.param_check.specs.declared.check.keys.Key.{Key}
 use Rattle.param_check.specs.declared.check.keys.Identity.TheVariants as identity
 use Rattle.param_check.proofs.FilterMaps.{list_any-filter_map, list_any-map, list_any-same}
@@ -25,10 +25,10 @@ has_commodity : (all : List Record) (id : List ℕ)
 has_commodity all id = list_any-same _ _ (commodity_alike id) all ∙ sym (list_any-filter_map as_commodity (λ c. bytes_eq c.id id) all)
 
 module _ (keys : List Key) (all : List Record) (are : (key : Key) → is_among keys (Some key) ≡ has_key identity.Commodity all key) where
-  unknown : (id : List ℕ) → is_unknown keys id ≡ not (list_any (λ c. bytes_eq c.id id) (commodities_in all))
+  unknown : (id : List ℕ) → is_unknown keys id 0 ≡ not (list_any (λ c. bytes_eq c.id id) (commodities_in all))
   unknown id = ap not (are (name_key id 0) ∙ has_commodity all id)
 
-  alone : (id : List ℕ) → is_unknown keys id
+  alone : (id : List ℕ) → is_unknown keys id 0
       ≡ list_any (λ name. not (list_any (λ c. bytes_eq c.id name) (commodities_in all))) (id ∷ [])
   alone id = unknown id ∙ sym (or-false _)
 
@@ -59,7 +59,7 @@ has_tier-key all c n =
     list_any-same _ _ (tier_alike c n) all ∙ sym (list_any-filter_map as_tier (λ t. bytes_eq t.commodity c && eqb t.number n) all)
 
 module _ (keys : List Key) (all : List Record) (are : (key : Key) → is_among keys (Some key) ≡ has_key identity.Tier all key) where
-  unknown_tier : (c : List ℕ) (n : ℕ) → is_unknown_tier keys c n ≡ not (has_tier all c n)
+  unknown_tier : (c : List ℕ) (n : ℕ) → is_unknown keys c n ≡ not (has_tier all c n)
   unknown_tier c n = ap not (are (name_key c n) ∙ has_tier-key all c n)
 
   names_unknown_tier-alike : (earlier : List Record) (r : Record) → names_unknown_tier keys r ≡ names_no_tier all r

@@ -57,24 +57,20 @@ repeats identity.Tier = repeats_tier
 repeats identity.Priority = repeats_priority
 repeats identity.SpotMonth = repeats_spot
 
--- no COMMODITY record has this id, where these are the keys of all
-abbrev pub is_unknown : List Key → List ℕ → Bool
-is_unknown commodities id = not (is_among commodities (Some (name_key id 0)))
+-- no record has the key of this name and number, where these are the keys of all
+abbrev pub is_unknown : List Key → List ℕ → ℕ → Bool
+is_unknown keys name number = not (is_among keys (Some (name_key name number)))
 
 -- the record names a commodity that no COMMODITY record has
 abbrev pub names_unknown : List Key → Record → Bool
-names_unknown commodities (record_of.Contract x) = is_unknown commodities x.commodity
-names_unknown commodities (record_of.Tier x) = is_unknown commodities x.commodity
-names_unknown commodities (record_of.Intra x) = is_unknown commodities x.commodity
-names_unknown commodities (record_of.Spot x) = is_unknown commodities x.commodity
-names_unknown commodities (record_of.Inter x) = list_any (λ leg. is_unknown commodities leg.commodity) x.legs.items
+names_unknown commodities (record_of.Contract x) = is_unknown commodities x.commodity 0
+names_unknown commodities (record_of.Tier x) = is_unknown commodities x.commodity 0
+names_unknown commodities (record_of.Intra x) = is_unknown commodities x.commodity 0
+names_unknown commodities (record_of.Spot x) = is_unknown commodities x.commodity 0
+names_unknown commodities (record_of.Inter x) = list_any (λ leg. is_unknown commodities leg.commodity 0) x.legs.items
 names_unknown commodities _ = false
-
--- no TIER record has this commodity and number, where these are the keys of all
-abbrev pub is_unknown_tier : List Key → List ℕ → ℕ → Bool
-is_unknown_tier tiers commodity number = not (is_among tiers (Some (name_key commodity number)))
 
 -- the record is an INTRA with a leg whose tier no TIER record of its commodity has
 abbrev pub names_unknown_tier : List Key → Record → Bool
 names_unknown_tier tiers r =
-    is_and (as_intra r) (λ s. list_any (λ leg. is_unknown_tier tiers s.commodity leg.tier) s.legs.items)
+    is_and (as_intra r) (λ s. list_any (λ leg. is_unknown tiers s.commodity leg.tier) s.legs.items)
