@@ -1,7 +1,7 @@
 //! The binding of positions to tables.
-mod ledgers;
 mod contract_ids;
 mod contract_sums;
+mod ledgers;
 mod nets;
 mod over_limits;
 
@@ -14,8 +14,8 @@ ghost use Rattle.span_tables.specs.Holdings.{ArePortfolio};
 ghost use Rattle.span_tables.specs.Names.{has_repeat};
 ghost use Rattle.span_tables.specs.Net.{accounts_of};
 
-use crate::binding::ledgers::ledgers_of;
 use crate::binding::contract_ids::ids_of;
+use crate::binding::ledgers::ledgers_of;
 use crate::binding::nets::{AccountNets, all_nets};
 use crate::binding::over_limits::{Limit, limit_fault};
 use crate::faults::BindFault;

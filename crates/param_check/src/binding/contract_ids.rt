@@ -9,10 +9,7 @@ use span_tables::records::Contract;
 use std::alloc::{AllocError, Global};
 
 /// The ids of contracts that stand apart; an id's index is its contract's number.
-pub(crate) fn ids_of(
-    alloc: Global,
-    contracts: &[Contract],
-) -> Result<IndexSet<Name>, AllocError>
+pub(crate) fn ids_of(alloc: Global, contracts: &[Contract]) -> Result<IndexSet<Name>, AllocError>
     requires { has_repeat (λ x y. bytes_eq x.id y.id) contracts.now ≡ false }
     ensures { IfOk result (λ numbers. numbers.keys ≡ ids_of contracts.now) }
 {

@@ -6,8 +6,8 @@ ghost use Rattle.param_check.specs.near.Nets.{entry_net};
 ghost use Rattle.param_check.specs.near.Sums.{kept_holdings};
 ghost use Rattle.span_tables.specs.declared.limits.TheConstants.{MAX_QUANTITY};
 
-use crate::binding::ledgers::Ledger;
 use crate::binding::contract_sums::Sums;
+use crate::binding::ledgers::Ledger;
 use span_tables::portfolios::Holding;
 use std::alloc::{AllocError, Global};
 use std::marker::Model;

@@ -70,7 +70,8 @@ fn exceeds_any(limit: Limit, holdings: &[Holding]) -> bool
 fn some_exceeds(limit: Limit, nets: &[AccountNets]) -> bool
     ensures { result ≡ list_any (exceeds_any limit) nets.now }
 {
-    nets.iter().any(|account| exceeds_any(limit, account.as_slice()))
+    nets.iter()
+        .any(|account| exceeds_any(limit, account.as_slice()))
 }
 
 // Whether what an account holds exceeds a limit at a contract, which has a number where it is known.
