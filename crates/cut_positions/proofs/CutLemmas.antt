@@ -90,7 +90,7 @@ IsPlain state.AfterQuote fields field = ⊥
 IsPlain state.InEscape fields field = ⊥
 IsPlain state.InComment fields field = ⊥
 
--- so it is behind a byte too
+-- what a reader has read is plain, too, behind one more byte and what the reader does at it
 abbrev IsPlainBehind : State → Action → Fields → List ℕ → ℕ → Type 0
 IsPlainBehind s act.EndRecord fields field c = IsPlain s [] []
 IsPlainBehind s act.Skip fields field c = IsPlain s fields field
@@ -144,7 +144,7 @@ line_cut state.AfterQuote fields field ys plain = absurd plain
 line_cut state.InEscape fields field ys plain = absurd plain
 line_cut state.InComment fields field ys plain = absurd plain
 
--- and so they do behind bytes without a quote and a line feed
+-- the rows behind bytes without a quote and a line feed are those of the further bytes by themselves
 rows_cut : (front : List ℕ) (s : State) (fields : Fields) (field ys : List ℕ) → IsPlain s fields field → has_quote front ≡ false
     → rows s fields field (front ++ 10 ∷ ys) ≡ rows s fields field (front ++ 10 ∷ []) ++ rows state.StartRecord [] [] ys
 rows_cut [] s fields field ys plain free = line_cut s fields field ys plain
@@ -182,7 +182,7 @@ unfolding strip_bom
 mark_second a [] = refl
 mark_second a (c ∷ ys) = ap (λ b. if (b && (c == 0xBF)) then ys else a ∷ 10 ∷ c ∷ ys) (never (a == 0xEF))
 
--- so the mark is taken from bytes that end in a line feed as from those before it
+-- the mark is taken from bytes with a line feed behind them as from the bytes before the line feed
 mark_front : (front ys : List ℕ) → strip_bom (front ++ 10 ∷ ys) ≡ strip_bom front ++ 10 ∷ ys
 unfolding strip_bom
 mark_front [] ys = mark_first ys
@@ -194,7 +194,7 @@ mark_front (a ∷ b ∷ c ∷ front) ys = by (is_bom a b c) where
   by true = refl
   by false = refl
 
--- and no quote comes in
+-- bytes without a quote have none once their mark is taken
 mark_free : (front : List ℕ) → has_quote front ≡ false → has_quote (strip_bom front) ≡ false
 unfolding strip_bom
 mark_free [] free = free

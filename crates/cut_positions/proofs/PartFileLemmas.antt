@@ -100,7 +100,7 @@ last_test false false true d e f is none = cc
 last_test false false false true e f is none = cc
 last_test false false false false e f is none = rw is refl
 
--- so a record without a fault has none behind other records, where it is not of one account too many
+-- a record without a fault has none behind other records, where its account is not one too many
 fault_behind : (earlier others : List Fields) (r : Fields) → exceeds_accounts others r ≡ false → fault_of earlier r ≡ None
     → fault_of others r ≡ None
 fault_behind earlier others r within none = last_test _ _ _ _ (exceeds_accounts earlier r) (exceeds_accounts others r) within none
@@ -125,7 +125,7 @@ free_joined earlier (r ∷ rs) ss free more = (
       (subst (λ es. IsFaultFree fault_of es ss) (sym (append_assoc earlier (r ∷ []) rs)) more),
 )
 
--- and the same taken apart
+-- records without a fault, taken apart
 free_parts : (earlier rs ss : List Fields) → IsFaultFree fault_of earlier (rs ++ ss)
     → IsFaultFree fault_of earlier rs × IsFaultFree fault_of (earlier ++ rs) ss
 free_parts earlier [] ss free = (tt, subst (λ es. IsFaultFree fault_of es ss) (sym (append-nil earlier)) free)
@@ -144,7 +144,7 @@ fifth_test false false false true e none = cc
 fifth_test false false false false true none = cc
 fifth_test false false false false false none = refl
 
--- so records without a fault are of no more accounts than there may be: one more record
+-- one more record without a fault leaves no more accounts than there may be
 one_more_within : (earlier : List Fields) (r : Fields) → count earlier ≤ MAX_ACCOUNTS → fault_of earlier r ≡ None
     → count (earlier ++ r ∷ []) ≤ MAX_ACCOUNTS
 one_more_within earlier r within none = by (is_among (accounts_in earlier) (text_at r 0)) refl where
@@ -164,7 +164,7 @@ one_more_within earlier r within none = by (is_among (accounts_in earlier) (text
       let less : count earlier ≡ MAX_ACCOUNTS → ⊥ = λ e. grind (arith, nat_tests, other, e) in
       grind (arith, pushed, long, within, less)
 
--- and all
+-- records without a fault are of no more accounts than there may be
 count_within : (earlier rs : List Fields) → count earlier ≤ MAX_ACCOUNTS → IsFaultFree fault_of earlier rs
     → count (earlier ++ rs) ≤ MAX_ACCOUNTS
 count_within earlier [] within free = rw (append-nil earlier) within
@@ -200,7 +200,7 @@ of_records t bytes text is = by (position_fault (records_of bytes)) refl is wher
   by (Some f) e is = cc
   by None e is = (first_fault_none fault_of [] (records_of bytes) e, is)
 
--- and the other way round
+-- records without a fault, with a statement of theirs, are those of a file with that statement
 of_file : (t : AcceptedTables) (bytes text : List ℕ) → IsFaultFree fault_of [] (records_of bytes)
     → statement_bound t (map position_record (records_of bytes)) ≡ Ok text → statement_under t bytes ≡ Ok text
 unfolding statement_under positions_of position_fault
@@ -265,7 +265,7 @@ module _ (whole first second : List ℕ) (cut : records_of whole ≡ records_of 
     by (Ok t) is_one is_other = under_joined t one other few is_one is_other
     by (Err e) is_one is_other = cc
 
-  -- and that file has a statement only where both have one
+  -- the whole file has a statement only where both parts have one
   pub files_parted : (params text : List ℕ) → statement_of params whole ≡ Ok text
       → (one : List ℕ) × (other : List ℕ) × (statement_of params first ≡ Ok one) × (statement_of params second ≡ Ok other)
       × (text ≡ one ++ other)
@@ -277,7 +277,7 @@ module _ (whole first second : List ℕ) (cut : records_of whole ≡ records_of 
     by (Ok t) is = under_parted t text is
     by (Err e) is = cc
 
--- so it is with the bytes of two files, one behind the other
+-- the statement of two files, one behind the other, is that of the first and then that of the second
 pub bytes_joined : (params first second one other : List ℕ) → EndsInLineFeed first → has_quote first ≡ false
     → BeginsWithNoMark second → AreFilesApart first second → count (records_of (first ++ second)) ≤ MAX_ACCOUNTS
     → statement_of params first ≡ Ok one → statement_of params second ≡ Ok other
@@ -285,7 +285,7 @@ pub bytes_joined : (params first second one other : List ℕ) → EndsInLineFeed
 bytes_joined params first second one other ends free unmarked apart few =
     files_joined (first ++ second) first second (records_joined first second ends free unmarked) apart params one other few
 
--- and the other way round
+-- two files, one behind the other, have a statement only where each has one
 pub bytes_parted : (params first second text : List ℕ) → EndsInLineFeed first → has_quote first ≡ false
     → BeginsWithNoMark second → AreFilesApart first second → statement_of params (first ++ second) ≡ Ok text
     → (one : List ℕ) × (other : List ℕ) × (statement_of params first ≡ Ok one) × (statement_of params second ≡ Ok other)

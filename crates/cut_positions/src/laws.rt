@@ -13,7 +13,7 @@ ghost use Rattle.statement.specs.Statement.{statement_bound, statement_of};
 ghost use Rattle.std.specs.Prelude.{◌++◌, ◌≡◌, ◌≤◌, List, Ok, false, length, ℕ};
 
 /// Where no account has records in both of two lists, the statement of the lists joined is that of the first and behind it
-/// that of the second; and the joined list has a statement only where each of the two has one.
+/// that of the second. The joined list has a statement only where each of the two has one.
 pub fn statements_of_parts_join()
     ensures joined { (t : AcceptedTables) (ps qs : List PositionRecord) (one other : List ℕ) → AreApart ps qs
         → statement_bound t ps ≡ Ok one → statement_bound t qs ≡ Ok other
@@ -24,9 +24,9 @@ pub fn statements_of_parts_join()
         × (text ≡ one ++ other) }
 {}
 
-/// The same of files: where the records of a whole are those of a first part and then those of a second, which share no
-/// account, the statements of the parts, joined, are that of the whole, if the whole has no more accounts than a file may have;
-/// and the whole has a statement only where each part has one.
+/// Where the records of a whole file are those of a first part and then those of a second, and the parts share no account, the
+/// statements of the parts, joined, are that of the whole, if the whole has no more accounts than a file may have. The whole has
+/// a statement only where each part has one.
 pub fn statements_of_files_join()
     ensures joined { (params whole first second one other : List ℕ)
         → records_of whole ≡ records_of first ++ records_of second → AreFilesApart first second
@@ -40,8 +40,8 @@ pub fn statements_of_files_join()
         × (statement_of params second ≡ Ok other) × (text ≡ one ++ other) }
 {}
 
-/// So it is where a file is cut behind a line feed: the first part has no double quote, and the second no byte order mark at
-/// its start.
+/// Where a file is cut behind a line feed, the statements of its parts, joined, are that of the file, if the first part has no
+/// double quote, and the second no byte order mark at its start.
 pub fn statements_of_cut_files_join()
     ensures joined { (params first second one other : List ℕ)
         → EndsInLineFeed first → has_quote first ≡ false → BeginsWithNoMark second → AreFilesApart first second

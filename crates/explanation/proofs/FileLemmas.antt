@@ -30,7 +30,7 @@ unfolding account_text
 account_explained params positions name t records portfolios p a q b found =
     accepted_explained params positions (Some name) t records portfolios a q b ∙ ap (named_text t name) found
 
--- and where they do not
+-- an account of which the positions have no record is unknown
 pub account_unknown : (params positions name : List ℕ) (t : AcceptedTables) (records : List PositionRecord)
     (portfolios : List AccountHoldings) → accepted_of params ≡ Ok t → positions_of positions ≡ Ok records
     → portfolios_under t records ≡ Ok portfolios → find (λ q. bytes_eq q.account name) portfolios ≡ None

@@ -37,8 +37,7 @@ fn push_commodity(
     Ok(())
 }
 
-/// Appends the lines of an account: for each commodity that it holds the reasons and the figures, and its total. `Err` is
-/// want of memory.
+/// Appends the lines of an account: for each commodity that it holds the reasons and the figures, and its total.
 #[tactic(auto, unfolding(crate::specs::Explanation::account_text))]
 pub(crate) fn push_account(alloc: Global, out: &mut Vec<u8>, row: &Row) -> Result<(), AllocError>
     requires { fits (length row.now.set.tables.contracts) row.now.portfolio.holdings ≡ true }
