@@ -4,7 +4,6 @@ use Rattle.std.proofs.Common.{List, [], ◌∷◌, ◌++◌, map, filter}
 use Rattle.std.proofs.Common.{Option, Some, None, Ok, refl, sym, ap}
 use Rattle.std.specs.Prelude.{bytes_eq, flat_map, length, nat_abs, nat_lt}
 use Rattle.std.specs.List.{enumerate_from, list_any}
-use Rattle.std.specs.Option.{option_or}
 use Rattle.std.proofs.lemmas.Bool.{or_parts, true≢false}
 use Rattle.std.proofs.lemmas.Grind.{flat_map-append}
 use Rattle.std.proofs.lemmas.List.{append-nil, map-append}
@@ -20,13 +19,10 @@ use Rattle.span_tables.specs.declared.portfolios.Holding.{Holding}
 use Rattle.span_tables.specs.declared.records.Contract.{Contract}
 use Rattle.span_tables.specs.declared.records.PositionRecord.{PositionRecord}
 use Rattle.span_tables.proofs.NameLemmas.{is_among-distinct}
-use Rattle.param_check.specs.Binding.{bind_fault, bindings_of, exceeds_held, exceeds_net, first_unfit, is_first_of_account}
-use Rattle.param_check.specs.Binding.{is_first_of_contract, is_unknown}
+use Rattle.param_check.specs.Binding.{bind_fault, bindings_of, exceeds_held, exceeds_net, is_unknown}
 use Rattle.param_check.specs.declared.faults.BindFault.{BindFault}
-use Rattle.param_check.specs.declared.faults.BindFault.TheVariants as bind
+use Rattle.param_check.proofs.AcceptedLaws.{IsFit, fit_of_none, none_of_fit}
 use Rattle.param_check.proofs.AccountLaws.{bytes_eq-flip, bytes_eq-refl}
-use Rattle.param_check.proofs.KindLaws.{held_of_kind, net_of_kind}
-use Rattle.param_check.proofs.UnfitLaws.{fit_from_none, unfit_none}
 use Rattle.cut_positions.specs.Parts.{AreApart, ShareNoName, records_of_account}
 use Rattle.statement.specs.Statement.{and_then, portfolios_under, row_text, same, statement_bound, statement_text}
 use Rattle.statement.specs.declared.faults.SpanFault.TheVariants as fault
@@ -93,7 +89,7 @@ records_in_first ps qs account new =
     ∙ ap (λ rs. records_of_account ps account ++ rs) (no_records qs account new)
     ∙ append-nil (records_of_account ps account)
 
--- and one that the first does not have has them in the second
+-- an account that the first part does not have has its records in the second
 records_in_second : (ps qs : List PositionRecord) (account : List ℕ) → is_among (map (λ p. p.account) ps) account ≡ false
     → records_of_account (ps ++ qs) account ≡ records_of_account qs account
 records_in_second ps qs account new =
@@ -117,7 +113,7 @@ net_by_account ps account contract =
     ap (int_sum_by (λ (p : PositionRecord). p.quantity))
     (both_tests (λ p. bytes_eq p.account account) (λ p. bytes_eq p.contract contract) ps)
 
--- so it is the same for the same records of the account
+-- two lists with the same records of an account give the account the same net
 pub net_alone : (ps qs : List PositionRecord) (account contract : List ℕ)
     → records_of_account ps account ≡ records_of_account qs account → net_of ps account contract ≡ net_of qs account contract
 net_alone ps qs account contract alike =
@@ -125,7 +121,7 @@ net_alone ps qs account contract alike =
     ∙ ap (λ rs. int_sum_by (λ (p : PositionRecord). p.quantity) (filter (λ p. bytes_eq p.contract contract) rs)) alike
     ∙ sym (net_by_account qs account contract)
 
--- and so are the contracts that it holds
+-- two lists with the same records of an account give the account the same holdings
 pub holdings_alone : (contracts : List Contract) (ps qs : List PositionRecord) (account : List ℕ)
     → records_of_account ps account ≡ records_of_account qs account
     → holdings_of contracts ps account ≡ holdings_of contracts qs account
@@ -144,7 +140,7 @@ holdings_alone contracts ps qs account alike =
 abbrev portfolio : List Contract → List PositionRecord → List ℕ → AccountHoldings
 portfolio contracts ps account = record { account = account; holdings = holdings_of contracts ps account }
 
--- it goes by the records of the account alone
+-- two lists with the same records of an account give the account the same portfolio
 portfolio_alone : (contracts : List Contract) (ps qs : List PositionRecord) (account : List ℕ)
     → records_of_account ps account ≡ records_of_account qs account
     → portfolio contracts ps account ≡ portfolio contracts qs account
@@ -186,50 +182,6 @@ portfolios_joined contracts ps qs apart =
 
 -- ---- the faults of binding
 
--- each record is of a known contract, and no account's net and no account's number of contracts is over its limit
-record IsFit (contracts : List Contract) (all : List PositionRecord) : Type 0 where
-  known : list_any (is_unknown contracts) all ≡ false
-  within : list_any (exceeds_net all) all ≡ false
-  few : list_any (exceeds_held contracts all) all ≡ false
-
--- the first of three faults is none just where all are
-none_of : (a b c : Option BindFault) → option_or a (option_or b (option_or c None)) ≡ None
-    → (a ≡ None) × (b ≡ None) × (c ≡ None)
-none_of (Some x) b c e = cc
-none_of None (Some x) c e = cc
-none_of None None (Some x) e = cc
-none_of None None None e = (refl, refl, refl)
-
-of_none : (a b c : Option BindFault) → a ≡ None → b ≡ None → c ≡ None → option_or a (option_or b (option_or c None)) ≡ None
-of_none a b c e f g = rw (e, f, g) refl
-
-module _ (contracts : List Contract) (all : List PositionRecord) where
-  -- records without a fault are fit
-  fit_of_none : bind_fault contracts all ≡ None → IsFit contracts all
-  unfolding bind_fault
-  fit_of_none none =
-      let parts = none_of
-      (first_unfit bind.UnknownContract (λ earlier p. is_unknown contracts p) all)
-      (first_unfit bind.NetOutOfRange (λ earlier p. is_first_of_contract earlier p && exceeds_net all p) all)
-      (first_unfit bind.TooManyHeld (λ earlier p. is_first_of_account earlier p && exceeds_held contracts all p) all) none in
-      record {
-        known = fit_from_none bind.UnknownContract (is_unknown contracts) all parts.0;
-        within = fit_from_none bind.NetOutOfRange (exceeds_net all) all (sym (net_of_kind all) ∙ parts.1);
-        few = fit_from_none bind.TooManyHeld (exceeds_held contracts all) all (sym (held_of_kind contracts all) ∙ parts.2);
-      }
-
-  -- and fit ones have none
-  none_of_fit : IsFit contracts all → bind_fault contracts all ≡ None
-  unfolding bind_fault
-  none_of_fit fit =
-      of_none
-      (first_unfit bind.UnknownContract (λ earlier p. is_unknown contracts p) all)
-      (first_unfit bind.NetOutOfRange (λ earlier p. is_first_of_contract earlier p && exceeds_net all p) all)
-      (first_unfit bind.TooManyHeld (λ earlier p. is_first_of_account earlier p && exceeds_held contracts all p) all)
-      (unfit_none bind.UnknownContract (is_unknown contracts) all fit.known)
-      (net_of_kind all ∙ unfit_none bind.NetOutOfRange (exceeds_net all) all fit.within)
-      (held_of_kind contracts all ∙ unfit_none bind.TooManyHeld (exceeds_held contracts all) all fit.few)
-
 -- tests that agree on the records, by their accounts, find one in the same lists
 any_alike : (f g : PositionRecord → Bool) (ps : List PositionRecord)
     → ((p : PositionRecord) → is_among (map (λ q. q.account) ps) p.account ≡ true → f p ≡ g p)
@@ -260,7 +212,7 @@ module _ (contracts : List Contract) (ps qs : List PositionRecord) (apart : AreA
           any_alike (test (ps ++ qs)) (test qs) qs (λ p among.
           alone (ps ++ qs) qs p (records_in_second ps qs p.account (share_none_back _ _ apart p.account among)))
 
-  -- so it is with each of the three tests
+  -- each of the three tests finds a record among both parts where it finds one among either
   known_joined : list_any (is_unknown contracts) (ps ++ qs)
       ≡ (list_any (is_unknown contracts) ps || list_any (is_unknown contracts) qs)
   known_joined = list_any-append (is_unknown contracts) ps qs
@@ -287,7 +239,7 @@ module _ (contracts : List Contract) (ps qs : List PositionRecord) (apart : AreA
     few = held_joined ∙ neither _ _ one.few other.few;
   }
 
-  -- and where they are fit as one, each is
+  -- where both parts are fit as one list, each part is fit
   fit_parts : IsFit contracts (ps ++ qs) → IsFit contracts ps × IsFit contracts qs
   fit_parts both =
       let known = or_parts (list_any (is_unknown contracts) ps) (list_any (is_unknown contracts) qs) (sym known_joined ∙ both.known) in
@@ -336,7 +288,7 @@ statements_joined t ps qs one other apart first second =
     text_of_fit t (ps ++ qs) (fit_joined t.contracts ps qs apart of_first.0 of_second.0)
     ∙ ap Ok (text_joined t ps qs apart ∙ (λ i. sym of_first.1 i ++ sym of_second.1 i))
 
--- and the whole has a statement only where each part has one
+-- the joined list has a statement only where each part has one
 pub statements_parted : (t : AcceptedTables) (ps qs : List PositionRecord) (text : List ℕ) → AreApart ps qs
     → statement_bound t (ps ++ qs) ≡ Ok text
     → (one : List ℕ) × (other : List ℕ) × (statement_bound t ps ≡ Ok one) × (statement_bound t qs ≡ Ok other)
