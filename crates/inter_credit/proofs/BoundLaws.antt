@@ -1,42 +1,33 @@
 -- The sizes of minimums, of credits and of requirements, and that lines stay within their ranges.
-use Rattle.std.proofs.Common.{◌≡◌, ◌≢◌, ℕ, zero, suc, ◌+◌, ◌-◌, ◌*◌, ◌^◌, ◌<◌, ◌≤◌, ◌==◌}
-use Rattle.std.proofs.Common.{Bool, true, false, cond, List, [], ◌∷◌, length, filter, fold, sum_by, nat_abs}
-use Rattle.std.proofs.Common.{ℤ, pos, negsuc, ◌+ℤ◌, ◌-ℤ◌, refl, ap, ◌∙◌, arith}
+use Rattle.std.proofs.Common.{◌≡◌, ◌≢◌, ℕ, zero, suc, ◌+◌, ◌-◌, ◌*◌, ◌^◌, ◌<◌, ◌≤◌, ◌==◌, Bool, true, false, cond, List, [], ◌∷◌}
+use Rattle.std.proofs.Common.{length, filter, fold, sum_by, nat_abs, ℤ, pos, negsuc, ◌+ℤ◌, ◌-ℤ◌, refl, ap, ◌∙◌, arith}
 use Rattle.std.specs.Prelude.{All}
 use Rattle.std.proofs.Math.Nat.{lt_of_mul-lt-mul_right, mul-le-mul, mul-le-mul_right}
 use Rattle.std.proofs.lemmas.Bool.Decides.{nat_tests}
 use Rattle.std.proofs.lemmas.List.Elements.{All-head, All-tail}
-use Rattle.std.proofs.lemmas.List.Sums.{sum_by-cons}
 use Rattle.span_money.specs.Numbers.{negative_part, positive_part}
 use Rattle.span_tables.specs.Accepted.{IsInter}
 use Rattle.span_tables.specs.Holdings.{AreHeld}
 use Rattle.span_tables.specs.Net.{HeldContract}
 use Rattle.span_tables.specs.Sides.{IsLeftOf}
 use Rattle.span_tables.specs.declared.limits.TheConstants.{MAX_BASIS_POINTS, MAX_HELD, MAX_NET, MAX_PRICE2, MAX_RATE}
-use Rattle.span_tables.specs.declared.limits.TheConstants.{MAX_UNITS}
 use Rattle.span_tables.specs.declared.records.Inter.{Inter}
 use Rattle.span_tables.specs.declared.records.MinimumMethod.{MinimumMethod}
 use Rattle.span_tables.specs.declared.records.MinimumMethod.TheVariants as method
 use Rattle.span_tables.specs.declared.records.ProductKind.{ProductKind}
 use Rattle.span_tables.specs.declared.records.ProductKind.TheVariants as product
-use Rattle.inter_credit.specs.Credits.{after_inter_spreads, credit_of, inter_both_ways, unspread_line}
+use Rattle.inter_credit.specs.Credits.{after_inter_spreads, credit_at, credit_of, inter_both_ways, line_at}
 use Rattle.inter_credit.specs.Requirement.{is_call, is_put, minimum_of, requirement_of, short_count, short_options}
 use Rattle.inter_credit.specs.States.{UsesLine}
 use Rattle.inter_credit.specs.near.Lines.{IsLine}
-use Rattle.inter_credit.specs.Credits.{credit_at, line_at}
 use Rattle.inter_credit.specs.declared.state.InterLine.{InterLine}
 use Rattle.inter_credit.proofs.CreditLaws.{credit_greatest, credit_zero}
+use Rattle.inter_credit.proofs.MinimumLaws.{by_test}
 use Rattle.inter_credit.proofs.OpenLemmas.{loaded_line}
 use Rattle.inter_credit.proofs.RestLaws.{both_ways_use, length-inter_both_ways}
-use Rattle.inter_credit.proofs.Sizes.{size-add, size-int_max, size-sub}
+use Rattle.inter_credit.proofs.Sizes.{size-int_max, size-parts}
 
 -- ---- the short option minimum
-
-short_if : (b : Bool) (h : HeldContract) (hs : List HeldContract)
-    → sum_by (λ x. negative_part x.net) (cond b (h ∷ hs) hs)
-    ≡ cond b (negative_part h.net) 0 + sum_by (λ x. negative_part x.net) hs
-short_if true h hs = sum_by-cons (λ (x : HeldContract). negative_part x.net) h hs
-short_if false h hs = omega arith
 
 -- a contract is a call, a put or neither
 short_part : (kind : ProductKind) (n : ℕ) → cond (is_call kind) n 0 + cond (is_put kind) n 0 ≤ n
@@ -53,23 +44,24 @@ shorts_small : (held : List HeldContract) (m : ℕ) → All (λ h. nat_abs h.net
     → short_count is_call held + short_count is_put held ≤ length held * m
 shorts_small [] m all = omega arith
 shorts_small (h ∷ hs) m all =
-    let calls = short_if (is_call h.contract.kind) h (filter (λ x. is_call x.contract.kind) hs) in
-    let puts = short_if (is_put h.contract.kind) h (filter (λ x. is_put x.contract.kind) hs) in
+    let short : HeldContract → ℕ = λ x. negative_part x.net in
+    let calls = by_test (is_call h.contract.kind) short h (filter (λ x. is_call x.contract.kind) hs) in
+    let puts = by_test (is_put h.contract.kind) short h (filter (λ x. is_put x.contract.kind) hs) in
     let part = short_part h.contract.kind (negative_part h.net) in
     let size = negative_part-le h.net in
     let first : nat_abs h.net ≤ m = All-head (λ x. nat_abs x.net ≤ m) h hs all in
     let rest = shorts_small hs m (All-tail (λ x. nat_abs x.net ≤ m) h hs all) in
     omega (arith, calls, puts, part, size, first, rest)
 
+counts_small : (held : List HeldContract) → AreHeld held
+    → short_count is_call held + short_count is_put held ≤ MAX_HELD * MAX_NET
+counts_small held are =
+    let few : length held * MAX_NET ≤ MAX_HELD * MAX_NET = mul-le-mul_right MAX_NET are.few in
+    omega (arith, shorts_small held MAX_NET are.nets, few)
+
 options_small : (m : MinimumMethod) (held : List HeldContract) → AreHeld held → short_options m held ≤ MAX_HELD * MAX_NET
-options_small method.Sum held are =
-    let all = shorts_small held MAX_NET are.nets in
-    let few : length held * MAX_NET ≤ MAX_HELD * MAX_NET = mul-le-mul_right MAX_NET are.few in
-    omega (arith, all, few)
-options_small method.Max held are =
-    let all = shorts_small held MAX_NET are.nets in
-    let few : length held * MAX_NET ≤ MAX_HELD * MAX_NET = mul-le-mul_right MAX_NET are.few in
-    omega (arith, all, few)
+options_small method.Sum held are = counts_small held are
+options_small method.Max held are = omega (arith, counts_small held are)
 
 pub minimum_small : (rate : ℕ) (m : MinimumMethod) (held : List HeldContract) → rate ≤ MAX_RATE → AreHeld held
     → minimum_of rate m held ≤ MAX_RATE * (MAX_HELD * MAX_NET)
@@ -82,18 +74,10 @@ pub requirement_small : (scan intra delivery credit minimum : ℤ) → nat_abs (
     ≤ nat_abs scan + nat_abs intra + nat_abs delivery + nat_abs credit + nat_abs minimum
 unfolding requirement_of
 requirement_small scan intra delivery credit minimum =
-    let one = size-add scan intra in
-    let two = size-add (scan +ℤ intra) delivery in
-    let three = size-sub ((scan +ℤ intra) +ℤ delivery) credit in
     let larger = size-int_max (((scan +ℤ intra) +ℤ delivery) -ℤ credit) minimum in
-    omega (arith, one, two, three, larger)
+    omega (arith, size-parts scan intra delivery credit, larger)
 
 -- ---- lines
-
--- the line of a commodity before any spread
-pub unspread_is_line : (net : ℤ) (price2 : ℕ) → nat_abs net ≤ MAX_UNITS → price2 ≤ MAX_PRICE2
-    → IsLine (unspread_line net price2)
-unspread_is_line = loaded_line
 
 parts_size : (z : ℤ) → nat_abs z ≡ positive_part z + negative_part z
 parts_size (pos n) = omega arith
@@ -165,7 +149,7 @@ pub lines_stay : (spreads : List Inter) (lines : List InterLine) → All IsLine 
 unfolding after_inter_spreads
 lines_stay spreads lines all are = fold_stays spreads (length lines) lines refl all are
 
--- and there are as many commodities as before
+-- spreads keep the number of commodities
 pub length-after_inter_spreads : (spreads : List Inter) (lines : List InterLine)
     → length (after_inter_spreads spreads lines) ≡ length lines
 unfolding after_inter_spreads

@@ -5,9 +5,8 @@ use Rattle.std.specs.Prelude.{◌==◌, ◌≢◌}
 use Rattle.std.proofs.Math.Nat.{mul-zero, zero-div}
 use Rattle.std.proofs.lemmas.Bool.Decides.{nat_tests}
 use Rattle.span_money.proofs.NumberLaws.{div_greatest}
-use Rattle.inter_credit.specs.Credits.{after_inter_spreads, credit_of}
+use Rattle.inter_credit.specs.Credits.{after_inter_spreads, credit_of, credit_at}
 use Rattle.inter_credit.specs.States.{IsUnspread}
-use Rattle.inter_credit.specs.Credits.{credit_at}
 use Rattle.inter_credit.specs.declared.state.InterLine.{InterLine}
 
 -- with a net delta of 0 there is no credit

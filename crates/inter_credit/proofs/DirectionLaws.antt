@@ -11,7 +11,8 @@ use Rattle.span_tables.specs.declared.records.Side.TheVariants as side
 use Rattle.span_tables.specs.declared.sides.Direction.TheVariants.{ALong, AShort}
 use Rattle.inter_credit.specs.Credits.{commodity_rooms, formed_both, formed_in, inter_one_way, rest_at}
 use Rattle.inter_credit.specs.declared.state.InterLine.{InterLine}
-use Rattle.inter_credit.proofs.OpenLemmas.{rest_of_line, some_of_some}
+use Rattle.inter_credit.proofs.LineLemmas.{rest_of_line}
+use Rattle.inter_credit.proofs.OpenLemmas.{some_of_some}
 use Rattle.inter_credit.proofs.RestLaws.{one_way_uses}
 
 -- what has a part on a leg's side with A long leaves nothing on its side with A short

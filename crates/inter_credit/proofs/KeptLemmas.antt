@@ -7,8 +7,7 @@ use Rattle.span_tables.specs.declared.records.Inter.{Inter}
 use Rattle.span_tables.specs.declared.sides.Direction.{Direction}
 use Rattle.span_tables.specs.declared.sides.Direction.TheVariants.{ALong, AShort}
 use Rattle.span_tables.specs.declared.sides.MarketSide.{MarketSide}
-use Rattle.inter_credit.specs.Credits.{change_at, formed_in, inter_both_ways, inter_one_way, line_after, lines_after}
-use Rattle.inter_credit.specs.Credits.{line_at}
+use Rattle.inter_credit.specs.Credits.{change_at, formed_in, inter_both_ways, inter_one_way, line_after, lines_after, line_at}
 use Rattle.inter_credit.specs.declared.state.InterLine.{InterLine}
 
 -- what is read of a line, and using a part of its rest keeps it

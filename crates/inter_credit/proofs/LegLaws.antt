@@ -12,12 +12,11 @@ use Rattle.span_tables.specs.declared.sides.MarketSide.{MarketSide}
 use Rattle.span_tables.specs.declared.sides.MarketSide.TheVariants.{Long, Short}
 use Rattle.span_tables.specs.declared.records.CommodityLeg.{CommodityLeg}
 use Rattle.span_tables.specs.declared.records.Inter.{Inter}
-use Rattle.inter_credit.specs.Credits.{change_at, commodity_rooms, inter_one_way, leg_side, line_after, lines_after}
-use Rattle.inter_credit.specs.Credits.{rest_at}
+use Rattle.inter_credit.specs.Credits.{change_at, commodity_rooms, inter_one_way, leg_side, line_after, line_at}
+use Rattle.inter_credit.specs.Credits.{lines_after, rest_at}
 use Rattle.inter_credit.specs.near.Rooms.{HaveRoom}
-use Rattle.inter_credit.specs.Credits.{line_at}
 use Rattle.inter_credit.specs.declared.state.InterLine.{InterLine}
-use Rattle.inter_credit.proofs.LineLemmas.{HaveRoom-rest, not_equal, or_left, or_right, rest_at-change_at}
+use Rattle.inter_credit.proofs.LineLemmas.{HaveRoom-rest, line_at-change_at, not_equal, or_left, or_right, rest_at-change_at}
 use Rattle.inter_credit.proofs.SpreadLemmas.{formed_have_room}
 
 part_of_neg : (n : ℕ) → negative_part (neg_ℤ (pos n)) ≡ n
@@ -40,15 +39,6 @@ side_falls : (on : MarketSide) (used basis_points i : ℕ) (lines : List InterLi
 side_falls on used bp i [] lt le = absurd (omega arith)
 side_falls on used bp zero (line ∷ lines) lt le = used_part on line.rest used le
 side_falls on used bp (suc i) (line ∷ lines) lt le = side_falls on used bp i lines (omega arith) le
-
--- the lines of other commodities stay
-pub line_at-change_at : (f : InterLine → InterLine) (i k : ℕ) (lines : List InterLine) → i ≢ k
-    → line_at (change_at f i lines) k ≡ line_at lines k
-line_at-change_at f i k [] ne = refl
-line_at-change_at f zero zero (line ∷ lines) ne = absurd (ne refl)
-line_at-change_at f zero (suc k) (line ∷ lines) ne = refl
-line_at-change_at f (suc i) zero (line ∷ lines) ne = refl
-line_at-change_at f (suc i) (suc k) (line ∷ lines) ne = line_at-change_at f i k lines (λ e. ne (ap suc e))
 
 -- no other leg is of a leg's commodity
 each_apart : (leg : CommodityLeg) (legs : List CommodityLeg) → list_any (λ b. leg.commodity == b.commodity) legs ≡ false

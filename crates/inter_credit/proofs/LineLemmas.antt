@@ -8,7 +8,7 @@ use Rattle.span_tables.specs.Names.{has_repeat}
 use Rattle.span_tables.specs.Sides.{market_side, part_on}
 use Rattle.span_tables.specs.declared.sides.Direction.{Direction}
 use Rattle.span_tables.specs.declared.records.CommodityLeg.{CommodityLeg}
-use Rattle.inter_credit.specs.Credits.{change_at, rest_at}
+use Rattle.inter_credit.specs.Credits.{change_at, line_at, rest_at}
 use Rattle.inter_credit.specs.near.Rooms.{HaveRoom}
 use Rattle.inter_credit.specs.declared.state.InterLine.{InterLine}
 
@@ -27,14 +27,27 @@ length-change_at f i [] = refl
 length-change_at f zero (x ∷ xs) = refl
 length-change_at f (suc i) (x ∷ xs) = ap suc (length-change_at f i xs)
 
+-- the lines of other commodities stay
+pub line_at-change_at : (f : InterLine → InterLine) (i k : ℕ) (lines : List InterLine) → i ≢ k
+    → line_at (change_at f i lines) k ≡ line_at lines k
+line_at-change_at f i k [] ne = refl
+line_at-change_at f zero zero (line ∷ lines) ne = absurd (ne refl)
+line_at-change_at f zero (suc k) (line ∷ lines) ne = refl
+line_at-change_at f (suc i) zero (line ∷ lines) ne = refl
+line_at-change_at f (suc i) (suc k) (line ∷ lines) ne = line_at-change_at f i k lines (λ e. ne (ap suc e))
+
+-- the rest of a commodity stands in its line
+pub rest_of_line : (lines : List InterLine) (k : ℕ) → rest_at lines k ≡ (line_at lines k).rest
+rest_of_line [] k = refl
+rest_of_line (line ∷ lines) zero = refl
+rest_of_line (line ∷ lines) (suc k) = rest_of_line lines k
+
 -- the rests of other commodities stay
-pub rest_at-change_at : (f : InterLine → InterLine) (i j : ℕ) (lines : List InterLine) → i ≢ j
-    → rest_at (change_at f i lines) j ≡ rest_at lines j
-rest_at-change_at f i j [] ne = refl
-rest_at-change_at f zero zero (x ∷ xs) ne = absurd (ne refl)
-rest_at-change_at f zero (suc j) (x ∷ xs) ne = refl
-rest_at-change_at f (suc i) zero (x ∷ xs) ne = refl
-rest_at-change_at f (suc i) (suc j) (x ∷ xs) ne = rest_at-change_at f i j xs (λ e. ne (ap suc e))
+pub rest_at-change_at : (f : InterLine → InterLine) (i k : ℕ) (lines : List InterLine) → i ≢ k
+    → rest_at (change_at f i lines) k ≡ rest_at lines k
+rest_at-change_at f i k lines ne =
+    rest_of_line (change_at f i lines) k ∙ ap (λ (line : InterLine). line.rest) (line_at-change_at f i k lines ne)
+    ∙ sym (rest_of_line lines k)
 
 pub or_left : (a b : Bool) → (a || b) ≡ false → a ≡ false
 or_left true b e = e

@@ -1,7 +1,6 @@
 -- The short option minimum counts short calls and short puts; the requirement is the larger of two numbers.
-use Rattle.std.proofs.Common.{◌≡◌, ℕ, ◌+◌, ◌*◌, ◌<◌, Bool, true, false, cond, ◌&&◌, List, [], ◌∷◌, max}
-use Rattle.std.proofs.Common.{filter, length, take, get_or, sum_by, nat_abs, ℤ, pos, negsuc, ◌≤ℤ◌, ◌+ℤ◌, ◌-ℤ◌, refl}
-use Rattle.std.proofs.Common.{sym, ap, ◌∙◌, arith}
+use Rattle.std.proofs.Common.{◌≡◌, ℕ, ◌+◌, ◌*◌, ◌<◌, Bool, true, false, cond, ◌&&◌, List, [], ◌∷◌, max, filter, length, take}
+use Rattle.std.proofs.Common.{get_or, sum_by, nat_abs, ℤ, pos, negsuc, ◌≤ℤ◌, ◌+ℤ◌, ◌-ℤ◌, refl, sym, ap, ◌∙◌, arith}
 use Rattle.std.specs.Prelude.{IfSome, int_lt, slice_get}
 use Rattle.std.specs.Int.{int_max}
 use Rattle.std.proofs.lemmas.Bool.Decides.{nat_tests}
@@ -17,7 +16,7 @@ use Rattle.span_tables.specs.declared.records.MinimumMethod.TheVariants as metho
 use Rattle.inter_credit.specs.Requirement.{is_call, is_put, minimum_of, requirement_of, short_count}
 
 -- a filter's sum, by its first element
-by_test : {A : Type 0} (b : Bool) (f : A → ℕ) (x : A) (xs : List A) → sum_by f (cond b (x ∷ xs) xs) ≡ cond b (f x) 0 + sum_by f xs
+pub by_test : {A : Type 0} (b : Bool) (f : A → ℕ) (x : A) (xs : List A) → sum_by f (cond b (x ∷ xs) xs) ≡ cond b (f x) 0 + sum_by f xs
 by_test true f x xs = sum_by-cons f x xs
 by_test false f x xs = omega arith
 
@@ -67,14 +66,8 @@ pub minimum_of_max : (rate : ℕ) (held : List HeldContract)
 unfolding minimum_of
 minimum_of_max rate held = refl
 
-int_max_left : (a b : ℤ) → a ≤ℤ int_max a b
-int_max_left a b = omega (arith, ints, clamps)
-
-int_max_right : (a b : ℤ) → b ≤ℤ int_max a b
-int_max_right a b = omega (arith, ints, clamps)
-
-int_max_least : (a b g : ℤ) → a ≤ℤ g → b ≤ℤ g → int_max a b ≤ℤ g
-int_max_least a b g p q = omega (arith, ints, clamps)
+larger_is_least : (a b : ℤ) → (a ≤ℤ int_max a b) × (b ≤ℤ int_max a b) × ((g : ℤ) → a ≤ℤ g → b ≤ℤ g → int_max a b ≤ℤ g)
+larger_is_least a b = (omega (arith, ints, clamps), omega (arith, ints, clamps), λ g p q. omega (arith, ints, clamps))
 
 -- the requirement is the least number that is at least both
 pub requirement_is_least : (scan intra delivery credit minimum : ℤ)
@@ -83,6 +76,4 @@ pub requirement_is_least : (scan intra delivery credit minimum : ℤ)
     × ((g : ℤ) → (((scan +ℤ intra) +ℤ delivery) -ℤ credit) ≤ℤ g → minimum ≤ℤ g
     → requirement_of scan intra delivery credit minimum ≤ℤ g)
 unfolding requirement_of
-requirement_is_least scan intra delivery credit minimum =
-    let risk : ℤ = ((scan +ℤ intra) +ℤ delivery) -ℤ credit in
-    (int_max_left risk minimum, int_max_right risk minimum, λ g a b. int_max_least risk minimum g a b)
+requirement_is_least scan intra delivery credit minimum = larger_is_least (((scan +ℤ intra) +ℤ delivery) -ℤ credit) minimum

@@ -12,13 +12,13 @@ use Rattle.span_tables.specs.declared.records.Inter.{Inter}
 use Rattle.span_tables.specs.declared.sides.Direction.{Direction}
 use Rattle.span_tables.specs.declared.sides.MarketSide.TheVariants.{Long, Short}
 use Rattle.span_tables.specs.declared.slots.OpenSides.{OpenSides}
-use Rattle.inter_credit.specs.Credits.{commodity_rooms, inter_one_way, unspread_line, rest_at}
+use Rattle.inter_credit.specs.Credits.{commodity_rooms, inter_one_way, line_at, rest_at, unspread_line}
 use Rattle.inter_credit.specs.States.{IsNotLoaded, IsUnspread, IsUnspreadLine}
 use Rattle.inter_credit.specs.near.Lines.{IsLine}
-use Rattle.inter_credit.specs.Credits.{line_at}
 use Rattle.inter_credit.specs.declared.state.InterLine.{InterLine}
 use Rattle.inter_credit.specs.near.Open.{AreOpen}
 use Rattle.span_tables.specs.declared.limits.TheConstants.{MAX_PRICE2, MAX_UNITS}
+use Rattle.inter_credit.proofs.LineLemmas.{rest_of_line}
 use Rattle.inter_credit.proofs.NothingFormed.{nothing_formed}
 use Rattle.inter_credit.proofs.RestLaws.{one_way_uses}
 
@@ -60,12 +60,6 @@ pub closed_way : (spread : Inter) (d : Direction) (sides : OpenSides) (lines : L
     → AreOpen sides lines → marked ≡ false → inter_one_way spread d lines ≡ lines
 closed_way spread d sides lines marked tells open_sides not =
     closed_by (spreads_formed (commodity_rooms d spread.legs lines)) spread d sides lines marked refl tells open_sides not
-
--- the rest of a commodity stands in its line
-pub rest_of_line : (lines : List InterLine) (k : ℕ) → rest_at lines k ≡ (line_at lines k).rest
-rest_of_line [] k = refl
-rest_of_line (line ∷ lines) zero = refl
-rest_of_line (line ∷ lines) (suc k) = rest_of_line lines k
 
 open_left : (sides : OpenSides) (k : ℕ) (before after : ℤ) → IsLeftOf before after → IsOpenAt sides k before
     → IsOpenAt sides k after

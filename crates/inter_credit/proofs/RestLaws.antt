@@ -10,11 +10,10 @@ use Rattle.span_tables.specs.declared.sides.MarketSide.{MarketSide}
 use Rattle.span_tables.specs.declared.sides.MarketSide.TheVariants.{Long, Short}
 use Rattle.span_tables.specs.declared.records.CommodityLeg.{CommodityLeg}
 use Rattle.span_tables.specs.declared.records.Inter.{Inter}
-use Rattle.inter_credit.specs.Credits.{change_at, commodity_rooms, inter_both_ways, inter_one_way, line_after}
-use Rattle.inter_credit.specs.Credits.{lines_after, rest_at}
+use Rattle.inter_credit.specs.Credits.{change_at, commodity_rooms, inter_both_ways, inter_one_way, line_after, lines_after}
+use Rattle.inter_credit.specs.Credits.{rest_at, line_at}
 use Rattle.inter_credit.specs.near.Rooms.{HaveRoom}
 use Rattle.inter_credit.specs.States.{UsesLine}
-use Rattle.inter_credit.specs.Credits.{line_at}
 use Rattle.inter_credit.specs.declared.state.InterLine.{InterLine}
 use Rattle.inter_credit.proofs.LineLemmas.{HaveRoom-rest, length-change_at}
 use Rattle.inter_credit.proofs.SpreadLemmas.{formed_have_room}
@@ -123,7 +122,7 @@ both_ways_use lines s inter k =
     then_line s.basis_points (line_at lines k) (line_at first k) (line_at (inter_one_way s AShort first) k)
     (one_way_uses s ALong lines inter k) (one_way_uses s AShort first (rw long inter) k)
 
--- and there are as many commodities as before
+-- a spread keeps the number of commodities
 pub length-inter_both_ways : (lines : List InterLine) (s : Inter) → length (inter_both_ways lines s) ≡ length lines
 unfolding inter_both_ways
 length-inter_both_ways lines s =

@@ -1,6 +1,5 @@
 -- The sizes of signed sums, and that what is small keeps its value in 128 bits.
-use Rattle.std.proofs.Common.{◌≡◌, ◌+◌, ◌*◌, ◌^◌, ◌<◌, ◌≤◌, ℕ, ℤ, ◌+ℤ◌, ◌-ℤ◌, nat_abs, to_z}
-use Rattle.std.proofs.Common.{of_z, FitsSigned, arith, lit<}
+use Rattle.std.proofs.Common.{◌≡◌, ◌+◌, ◌*◌, ◌^◌, ◌<◌, ◌≤◌, ℕ, ℤ, ◌+ℤ◌, ◌-ℤ◌, nat_abs, to_z, of_z, FitsSigned, arith, lit<}
 use Rattle.std.specs.Int.{int_max, w128}
 use Rattle.std.proofs.lemmas.Int.{ints, clamps, fits_signed_from_abs, to_z-of_z}
 use Rattle.inter_credit.specs.declared.requirement.TheConstants.{MAX_PART}
@@ -27,7 +26,7 @@ same_larger x y m n le lt e =
     rw (e, same x n (omega (arith, le)) lt, same y n (omega (arith, le)) lt) (same (int_max x y) n below lt)
 
 -- the size of a sum less a number
-size-parts : (a b d e : ℤ) → nat_abs (((a +ℤ b) +ℤ d) -ℤ e) ≤ nat_abs a + nat_abs b + nat_abs d + nat_abs e
+pub size-parts : (a b d e : ℤ) → nat_abs (((a +ℤ b) +ℤ d) -ℤ e) ≤ nat_abs a + nat_abs b + nat_abs d + nat_abs e
 size-parts a b d e = omega (arith, size-add a b, size-add (a +ℤ b) d, size-sub ((a +ℤ b) +ℤ d) e)
 
 -- what the code's sums and difference of four numbers give

@@ -1,22 +1,19 @@
 -- The weight of a commodity grows by the spreads formed times its legs' ratios times the basis points.
 use Rattle.std.proofs.Common.{◌≡◌, ◌≢◌, ◌+◌, ◌*◌, ◌<◌, ◌==◌, ℕ, zero, suc, Bool, true, false, cond, List, [], ◌∷◌}
 use Rattle.std.proofs.Common.{filter, length, sum_by, refl, ap, ◌∙◌, arith}
-use Rattle.std.specs.Prelude.{Option, Some, pos, slice_get, unwrap_or}
 use Rattle.std.proofs.Math.Nat.{add-mul}
 use Rattle.std.proofs.lemmas.Bool.Decides.{nat_tests}
 use Rattle.std.proofs.lemmas.List.Sums.{sum_by-cons}
-use Rattle.std.proofs.lemmas.Option.{slice_get_within}
 use Rattle.span_tables.specs.Sides.{market_side}
 use Rattle.span_tables.specs.declared.sides.Direction.{Direction}
 use Rattle.span_tables.specs.declared.sides.Direction.TheVariants.{ALong, AShort}
 use Rattle.span_tables.specs.declared.records.CommodityLeg.{CommodityLeg}
 use Rattle.span_tables.specs.declared.records.Inter.{Inter}
 use Rattle.inter_credit.specs.Credits.{change_at, formed_both, formed_in, inter_both_ways, inter_one_way}
-use Rattle.inter_credit.specs.Credits.{line_after, lines_after, unspread_line}
-use Rattle.inter_credit.specs.Credits.{line_at}
+use Rattle.inter_credit.specs.Credits.{line_after, line_at, lines_after}
 use Rattle.inter_credit.specs.declared.state.InterLine.{InterLine}
-use Rattle.inter_credit.proofs.LegLaws.{line_at-change_at}
-use Rattle.inter_credit.proofs.LineLemmas.{length-change_at}
+use Rattle.inter_credit.proofs.LineLemmas.{length-change_at, line_at-change_at}
+use Rattle.inter_credit.proofs.MinimumLaws.{by_test}
 use Rattle.inter_credit.proofs.RestLaws.{length-lines_after}
 
 -- the line at the place of a change
@@ -25,11 +22,6 @@ changed_here : (f : InterLine → InterLine) (i : ℕ) (lines : List InterLine) 
 changed_here f i [] lt = absurd (omega arith)
 changed_here f zero (line ∷ lines) lt = refl
 changed_here f (suc i) (line ∷ lines) lt = changed_here f i lines (omega arith)
-
--- a filter's sum, by its first element
-by_test : {A : Type 0} (b : Bool) (f : A → ℕ) (x : A) (xs : List A) → sum_by f (cond b (x ∷ xs) xs) ≡ cond b (f x) 0 + sum_by f xs
-by_test true f x xs = sum_by-cons f x xs
-by_test false f x xs = omega arith
 
 module _ (d : Direction) (n basis_points c : ℕ) where
   abbrev after : CommodityLeg → List InterLine → List InterLine
@@ -96,19 +88,3 @@ weight-inter_both_ways lines s c lt =
     let b = weight_after AShort k s.basis_points c s.legs first (omega (arith, lt, long)) in
     let both = both_parts n k s.basis_points of_c in
     omega (arith, a, b, both)
-
-line_read : (lines : List InterLine) (c : ℕ) (line : InterLine) → slice_get lines c ≡ Some line → line_at lines c ≡ line
-line_read lines c line read = ap (λ (o : Option InterLine). unwrap_or o (unspread_line (pos 0) 0)) read
-
--- the same, of lines that are read before and after
-pub weight-slice_get : (lines : List InterLine) (s : Inter) (c : ℕ) (before after : InterLine)
-    → slice_get lines c ≡ Some before → slice_get (inter_both_ways lines s) c ≡ Some after
-    → after.weight
-    ≡ before.weight
-    + sum_by (λ leg. ((formed_both lines s).a_long + (formed_both lines s).a_short) * leg.ratio * s.basis_points)
-    (filter (λ leg. leg.commodity == c) s.legs)
-weight-slice_get lines s c before after a b =
-    let w = weight-inter_both_ways lines s c (slice_get_within lines c before a) in
-    let x = ap (λ (l : InterLine). l.weight) (line_read lines c before a) in
-    let y = ap (λ (l : InterLine). l.weight) (line_read (inter_both_ways lines s) c after b) in
-    omega (arith, w, x, y)

@@ -1,6 +1,5 @@
 -- What the lines of commodities keep.
-use Rattle.std.specs.Prelude.{◌≡◌, ℕ, ◌+◌, ◌*◌, List, slice_get, IfSome, All, pos}
-use Rattle.std.specs.Prelude.{nat_abs}
+use Rattle.std.specs.Prelude.{◌≡◌, ℕ, ◌+◌, ◌*◌, List, slice_get, IfSome, All, pos, nat_abs}
 use Rattle.span_tables.specs.Sides.{IsLeftOf}
 use Rattle.inter_credit.specs.declared.state.InterLine.{InterLine}
 

@@ -1,8 +1,7 @@
 //! The credit of a commodity (docs/METHOD.md, Intercommodity spreads).
-ghost use Rattle.std.specs.Prelude.{◌≡◌, ◌<◌, ◌≤◌, ◌*◌, ◌^◌, length, pos, nat_abs};
-ghost use Rattle.inter_credit.specs.Credits.{credit_of};
+ghost use Rattle.std.specs.Prelude.{◌≡◌, ◌<◌, ◌≤◌, ◌*◌, length, pos, nat_abs};
+ghost use Rattle.inter_credit.specs.Credits.{credit_of, credit_at};
 ghost use Rattle.inter_credit.specs.near.Lines.{IsLine};
-ghost use Rattle.inter_credit.specs.Credits.{credit_at};
 ghost use Rattle.span_tables.specs.declared.limits.TheConstants.{MAX_PRICE2};
 
 use crate::state::{InterLine, InterState};

@@ -9,11 +9,10 @@ ghost use Rattle.span_tables.specs.declared.records.MinimumMethod.TheVariants as
 ghost use Rattle.span_tables.specs.declared.records.ProductKind.{ProductKind};
 ghost use Rattle.span_tables.specs.declared.sides.Direction.{Direction};
 ghost use Rattle.inter_credit.specs.Credits.{after_inter_spreads, credit_of, formed_both, formed_in, inter_both_ways};
-ghost use Rattle.inter_credit.specs.Credits.{inter_one_way, leg_side};
+ghost use Rattle.inter_credit.specs.Credits.{inter_one_way, leg_side, credit_at, line_at};
 ghost use Rattle.inter_credit.specs.OptionValue.{due_of, excess_of};
 ghost use Rattle.inter_credit.specs.Requirement.{is_call, is_put, minimum_of, requirement_of, short_count};
 ghost use Rattle.inter_credit.specs.States.{IsUnspread, UsesLine};
-ghost use Rattle.inter_credit.specs.Credits.{credit_at, line_at};
 ghost use Rattle.inter_credit.specs.declared.requirement.TheConstants.{MAX_PART};
 ghost use Rattle.inter_credit.specs.declared.state.InterLine.{InterLine};
 

@@ -1,6 +1,6 @@
 //! Intercommodity spreads: how many are formed in a direction, and what they use of each commodity (docs/METHOD.md,
 //! Intercommodity spreads).
-ghost use Rattle.std.specs.Prelude.{◌≡◌, ◌<◌, ◌≤◌, ◌*◌, ◌/◌, ◌+◌, length, false, List, All, IfOk, nat_abs};
+ghost use Rattle.std.specs.Prelude.{◌≡◌, ◌<◌, ◌≤◌, ◌*◌, ◌/◌, ◌+◌, length, false, List, All, IfOk};
 ghost use Rattle.span_tables.specs.Accepted.{IsInter};
 ghost use Rattle.span_tables.specs.Sides.{market_side, part_on, spreads_formed};
 ghost use Rattle.span_tables.specs.declared.limits.TheConstants.{MAX_BASIS_POINTS};

@@ -11,75 +11,36 @@ ghost use Rattle.inter_credit.specs.Credits.{after_inter_spreads, credit_of, for
 ghost use Rattle.inter_credit.specs.OptionValue.{due_of, excess_of, net_value_of};
 ghost use Rattle.inter_credit.specs.Requirement.{minimum_of, requirement_of};
 ghost use Rattle.inter_credit.specs.declared.option_value.TheConstants.{MAX_NET_VALUE};
-ghost use Rattle.inter_credit.specs.near.Samples.{held_of_kind, held_with_value, line_with, short, spread_of};
+ghost use Rattle.inter_credit.specs.near.Samples.{credited, held_of_kind, held_with_value, line_with, short};
+ghost use Rattle.inter_credit.specs.near.Samples.{short_calls_and_puts, spread_of, two_lines};
 
-// One long delta against two short ones, at 5000 basis points.
-fn one_credit()
-    ensures lines { after_inter_spreads (spread_of 5000 0 10000 1 10000 ∷ [])
-        (unspread_line (pos 100000000) 2400 ∷ unspread_line (short 200000000) 3600 ∷ [])
-        ≡ line_with (pos 100000000) (pos 0) 2400 500000000000
-        ∷ line_with (short 200000000) (short 100000000) 3600 500000000000 ∷ [] }
-    ensures credits { map credit_of (line_with (pos 100000000) (pos 0) 2400 500000000000
-        ∷ line_with (short 200000000) (short 100000000) 3600 500000000000 ∷ [])
-        ≡ 600 ∷ 450 ∷ [] }
+// The credits that one spread earns: of one long delta against two short ones at 5000 basis points, credits of 399.96 and 299.97
+// rounded down, a ratio of 2 against 3, a net delta of 0 that forms no spread, and side A short with B long.
+fn credits_of_one_spread()
+    ensures long { credited (spread_of 5000 0 10000 1 10000 ∷ []) (two_lines (pos 100000000) (short 200000000))
+        ≡ (line_with (pos 100000000) (pos 0) 2400 500000000000, 600)
+        ∷ (line_with (short 200000000) (short 100000000) 3600 500000000000, 450) ∷ [] }
+    ensures rounded_down { credited (spread_of 3333 0 10000 1 10000 ∷ []) (two_lines (pos 100000000) (short 200000000))
+        ≡ (line_with (pos 100000000) (pos 0) 2400 333300000000, 399)
+        ∷ (line_with (short 200000000) (short 100000000) 3600 333300000000, 299) ∷ [] }
+    ensures unequal_ratios { credited (spread_of 5000 0 20000 1 30000 ∷ []) (two_lines (pos 100000000) (short 200000000))
+        ≡ (line_with (pos 100000000) (pos 0) 2400 500000000000, 600)
+        ∷ (line_with (short 200000000) (short 50000000) 3600 750000000000, 675) ∷ [] }
+    ensures no_net_delta { credited (spread_of 5000 0 10000 1 10000 ∷ []) (two_lines (pos 0) (short 200000000))
+        ≡ (line_with (pos 0) (pos 0) 2400 0, 0) ∷ (line_with (short 200000000) (short 200000000) 3600 0, 0) ∷ [] }
+    ensures second_direction { credited (spread_of 5000 0 10000 1 10000 ∷ []) (two_lines (short 100000000) (pos 200000000))
+        ≡ (line_with (short 100000000) (pos 0) 2400 500000000000, 600)
+        ∷ (line_with (pos 200000000) (pos 100000000) 3600 500000000000, 450) ∷ [] }
 {}
 
 // Two spreads that share a commodity.
 fn two_spreads()
-    ensures lines { after_inter_spreads (spread_of 5000 0 10000 1 10000 ∷ spread_of 2000 0 10000 2 10000 ∷ [])
+    ensures { credited (spread_of 5000 0 10000 1 10000 ∷ spread_of 2000 0 10000 2 10000 ∷ [])
         (unspread_line (pos 300000000) 7200 ∷ unspread_line (short 100000000) 1800
         ∷ unspread_line (short 100000000) 600 ∷ [])
-        ≡ line_with (pos 300000000) (pos 100000000) 7200 700000000000
-        ∷ line_with (short 100000000) (pos 0) 1800 500000000000
-        ∷ line_with (short 100000000) (pos 0) 600 200000000000 ∷ [] }
-    ensures credits { map credit_of (line_with (pos 300000000) (pos 100000000) 7200 700000000000
-        ∷ line_with (short 100000000) (pos 0) 1800 500000000000
-        ∷ line_with (short 100000000) (pos 0) 600 200000000000 ∷ [])
-        ≡ 840 ∷ 450 ∷ 60 ∷ [] }
-{}
-
-// Credits of 399.96 and 299.97.
-fn rounded_down()
-    ensures lines { after_inter_spreads (spread_of 3333 0 10000 1 10000 ∷ [])
-        (unspread_line (pos 100000000) 2400 ∷ unspread_line (short 200000000) 3600 ∷ [])
-        ≡ line_with (pos 100000000) (pos 0) 2400 333300000000
-        ∷ line_with (short 200000000) (short 100000000) 3600 333300000000 ∷ [] }
-    ensures credits { map credit_of (line_with (pos 100000000) (pos 0) 2400 333300000000
-        ∷ line_with (short 200000000) (short 100000000) 3600 333300000000 ∷ [])
-        ≡ 399 ∷ 299 ∷ [] }
-{}
-
-// A ratio of 2 against 3.
-fn unequal_ratios()
-    ensures lines { after_inter_spreads (spread_of 5000 0 20000 1 30000 ∷ [])
-        (unspread_line (pos 100000000) 2400 ∷ unspread_line (short 200000000) 3600 ∷ [])
-        ≡ line_with (pos 100000000) (pos 0) 2400 500000000000
-        ∷ line_with (short 200000000) (short 50000000) 3600 750000000000 ∷ [] }
-    ensures credits { map credit_of (line_with (pos 100000000) (pos 0) 2400 500000000000
-        ∷ line_with (short 200000000) (short 50000000) 3600 750000000000 ∷ [])
-        ≡ 600 ∷ 675 ∷ [] }
-{}
-
-// A net delta of 0 forms no spread.
-fn no_net_delta()
-    ensures lines { after_inter_spreads (spread_of 5000 0 10000 1 10000 ∷ [])
-        (unspread_line (pos 0) 2400 ∷ unspread_line (short 200000000) 3600 ∷ [])
-        ≡ line_with (pos 0) (pos 0) 2400 0
-        ∷ line_with (short 200000000) (short 200000000) 3600 0 ∷ [] }
-    ensures credits { map credit_of (line_with (pos 0) (pos 0) 2400 0
-        ∷ line_with (short 200000000) (short 200000000) 3600 0 ∷ [])
-        ≡ 0 ∷ 0 ∷ [] }
-{}
-
-// Side A short and B long.
-fn second_direction()
-    ensures lines { after_inter_spreads (spread_of 5000 0 10000 1 10000 ∷ [])
-        (unspread_line (short 100000000) 2400 ∷ unspread_line (pos 200000000) 3600 ∷ [])
-        ≡ line_with (short 100000000) (pos 0) 2400 500000000000
-        ∷ line_with (pos 200000000) (pos 100000000) 3600 500000000000 ∷ [] }
-    ensures credits { map credit_of (line_with (short 100000000) (pos 0) 2400 500000000000
-        ∷ line_with (pos 200000000) (pos 100000000) 3600 500000000000 ∷ [])
-        ≡ 600 ∷ 450 ∷ [] }
+        ≡ (line_with (pos 300000000) (pos 100000000) 7200 700000000000, 840)
+        ∷ (line_with (short 100000000) (pos 0) 1800 500000000000, 450)
+        ∷ (line_with (short 100000000) (pos 0) 600 200000000000, 60) ∷ [] }
 {}
 
 // The largest credits of an account: half of the contracts that may be held of one commodity, against as many of another.
@@ -91,39 +52,23 @@ fn largest_credits_of_an_account()
 
 // Spreads with A long, of which the first commodity has room for a half, and with A short.
 fn spreads_formed_each_way()
-    ensures a_long { formed_both (unspread_line (pos 100000000) 2400 ∷ unspread_line (short 200000000) 3600 ∷ [])
-        (spread_of 5000 0 20000 1 30000) ≡ record { a_long = 5000; a_short = 0 } }
-    ensures a_short { formed_both (unspread_line (short 100000000) 2400 ∷ unspread_line (pos 200000000) 3600 ∷ [])
-        (spread_of 5000 0 10000 1 10000) ≡ record { a_long = 0; a_short = 10000 } }
+    ensures a_long { formed_both (two_lines (pos 100000000) (short 200000000)) (spread_of 5000 0 20000 1 30000)
+        ≡ record { a_long = 5000; a_short = 0 } }
+    ensures a_short { formed_both (two_lines (short 100000000) (pos 200000000)) (spread_of 5000 0 10000 1 10000)
+        ≡ record { a_long = 0; a_short = 10000 } }
 {}
 
-// Two short calls and three short puts, beside long puts and short futures.
-fn minimum_by_sum()
-    ensures { minimum_of 500 method.Sum (held_of_kind kind.Call (short 2) ∷ held_of_kind kind.Put (short 3)
-        ∷ held_of_kind kind.Put (pos 4) ∷ held_of_kind kind.Future (short 5) ∷ [])
-        ≡ 2500 }
+// Two short calls and three short puts, beside long puts and short futures: the sum, and the larger.
+fn minimums()
+    ensures by_sum { minimum_of 500 method.Sum short_calls_and_puts ≡ 2500 }
+    ensures by_max { minimum_of 500 method.Max short_calls_and_puts ≡ 1500 }
 {}
 
-// The larger of two short calls and three short puts.
-fn minimum_by_max()
-    ensures { minimum_of 500 method.Max (held_of_kind kind.Call (short 2) ∷ held_of_kind kind.Put (short 3)
-        ∷ held_of_kind kind.Put (pos 4) ∷ held_of_kind kind.Future (short 5) ∷ [])
-        ≡ 1500 }
-{}
-
-// The minimum is the larger.
-fn requirement_of_the_minimum()
-    ensures { requirement_of (pos 40) (pos 0) (pos 0) (pos 0) (pos 2500) ≡ pos 2500 }
-{}
-
-// Scan risk and both charges.
-fn requirement_of_charges()
-    ensures { requirement_of (pos 1200) (pos 500) (pos 40) (pos 0) (pos 0) ≡ pos 1740 }
-{}
-
-// Scan risk less the credit.
-fn requirement_less_credit()
-    ensures { requirement_of (pos 1200) (pos 0) (pos 0) (pos 600) (pos 0) ≡ pos 600 }
+// The minimum where it is the larger, scan risk with both charges, and scan risk less the credit.
+fn requirements()
+    ensures of_the_minimum { requirement_of (pos 40) (pos 0) (pos 0) (pos 0) (pos 2500) ≡ pos 2500 }
+    ensures of_charges { requirement_of (pos 1200) (pos 500) (pos 40) (pos 0) (pos 0) ≡ pos 1740 }
+    ensures less_credit { requirement_of (pos 1200) (pos 0) (pos 0) (pos 600) (pos 0) ≡ pos 600 }
 {}
 
 // A credit above all else.

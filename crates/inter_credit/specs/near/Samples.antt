@@ -1,5 +1,5 @@
 -- Spreads and contracts that worked numbers speak of.
-use Rattle.std.specs.Prelude.{ℕ, [], ◌∷◌, codes, ℤ, pos, neg_ℤ}
+use Rattle.std.specs.Prelude.{ℕ, List, [], ◌∷◌, codes, map, ℤ, pos, neg_ℤ}
 use Rattle.std.specs.List.{repeat}
 use Rattle.span_tables.specs.Net.{HeldContract}
 use Rattle.span_tables.specs.Profiles.{no_extras}
@@ -7,7 +7,9 @@ use Rattle.span_tables.specs.near.Samples.{contract}
 use Rattle.span_tables.specs.declared.limits.TheConstants.{SCENARIOS}
 use Rattle.span_tables.specs.declared.records.Inter.{Inter}
 use Rattle.span_tables.specs.declared.records.ProductKind.{ProductKind}
+use Rattle.span_tables.specs.declared.records.ProductKind.TheVariants as product
 use Rattle.span_tables.specs.declared.records.Side.TheVariants as side
+use Rattle.inter_credit.specs.Credits.{after_inter_spreads, credit_of, unspread_line}
 use Rattle.inter_credit.specs.declared.state.InterLine.{InterLine}
 
 -- a spread of one commodity against another, with their ratios
@@ -19,15 +21,23 @@ spread_of basis_points first first_ratio second second_ratio = record {
       ∷ record { commodity = second; side = side.B; ratio = second_ratio } ∷ [];
 }
 
--- so much on the short side of the market
+-- a number on the short side of the market
 abbrev pub short : ℕ → ℤ
 short n = neg_ℤ (pos n)
+
+-- commodities after these spreads, each with its credit
+abbrev pub credited : List Inter → List InterLine → List (InterLine × ℕ)
+credited spreads lines = map (λ line. (line, credit_of line)) (after_inter_spreads spreads lines)
+
+-- two commodities with these net deltas before any spread, and with price risks doubled of 2400 and 3600
+abbrev pub two_lines : ℤ → ℤ → List InterLine
+two_lines first second = unspread_line first 2400 ∷ unspread_line second 3600 ∷ []
 
 -- a commodity with this net delta, of which this is left, and with this price risk doubled and this weight
 abbrev pub line_with : ℤ → ℤ → ℕ → ℕ → InterLine
 line_with net rest price2 weight = record { net = net; rest = rest; price2 = price2; weight = weight }
 
--- so many of a contract of a kind, with this option value
+-- a number of contracts of a kind, with this option value
 abbrev pub held_with_value : ProductKind → ℤ → ℕ → HeldContract
 held_with_value kind net value = record {
   contract = record (contract kind (codes "X") (codes "AA") 202503 (repeat SCENARIOS (pos 0 ∷ []))) {
@@ -36,6 +46,15 @@ held_with_value kind net value = record {
   net = net;
 }
 
--- so many of a contract of a kind, without option value
+-- a number of contracts of a kind, without option value
 abbrev pub held_of_kind : ProductKind → ℤ → HeldContract
 held_of_kind kind net = held_with_value kind net 0
+
+-- two short calls and three short puts, beside long puts and short futures
+abbrev pub short_calls_and_puts : List HeldContract
+short_calls_and_puts =
+    held_of_kind product.Call (short 2)
+    ∷ held_of_kind product.Put (short 3)
+    ∷ held_of_kind product.Put (pos 4)
+    ∷ held_of_kind product.Future (short 5)
+    ∷ []
