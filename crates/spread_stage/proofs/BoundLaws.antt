@@ -1,6 +1,5 @@
 -- The sizes of month deltas, of charges, and of what spreads leave.
-use Rattle.std.proofs.Common.{ℕ, ◌*◌, ◌<◌, ◌≤◌, List, [], ◌∷◌, length, get_or, fold, sum_by}
-use Rattle.std.proofs.Common.{ap, arith, lit<}
+use Rattle.std.proofs.Common.{ℕ, ◌*◌, ◌<◌, ◌≤◌, List, [], ◌∷◌, length, get_or, fold, sum_by, ap, arith, lit<}
 use Rattle.std.specs.Prelude.{pos, ◌*ℤ◌, All, nat_abs}
 use Rattle.std.proofs.Math.Nat.{mul-le-mul, mul-le-mul_right}
 use Rattle.std.proofs.lemmas.Int.{ints}

@@ -1,6 +1,5 @@
 -- What months and the rests of tiers keep.
-use Rattle.std.specs.Prelude.{◌≡◌, ℕ, ◌+◌, ◌*◌, ◌<◌, ◌≤◌, List, [], ◌∷◌, sum_by, ⊤, ℤ, pos, negsuc}
-use Rattle.std.specs.Prelude.{nat_abs}
+use Rattle.std.specs.Prelude.{◌≡◌, ℕ, ◌+◌, ◌*◌, ◌<◌, ◌≤◌, List, [], ◌∷◌, sum_by, ⊤, ℤ, pos, negsuc, nat_abs}
 use Rattle.std.specs.List.{AllByRecursion}
 use Rattle.span_tables.specs.declared.limits.TheConstants.{MAX_RATE, MAX_UNITS}
 use Rattle.spread_stage.specs.Spreads.{TierRests}

@@ -1,6 +1,5 @@
 -- Intracommodity spreads: the sides of tiers, what spreads use of them, and the rests and the charge after them.
-use Rattle.std.specs.Prelude.{ℕ, ◌+◌, ◌-◌, ◌*◌, min, Bool, ◌&&◌, nat_lt, nat_le, if◌then◌else◌, List, map, filter}
-use Rattle.std.specs.Prelude.{sum_by, fold}
+use Rattle.std.specs.Prelude.{ℕ, ◌+◌, ◌-◌, ◌*◌, min, Bool, ◌&&◌, nat_lt, nat_le, if◌then◌else◌, List, map, filter, sum_by, fold}
 use Rattle.span_tables.specs.Sides.{market_side, part_on, less_used, Room, spreads_formed}
 use Rattle.span_tables.specs.declared.sides.Direction.{Direction}
 use Rattle.span_tables.specs.declared.sides.Direction.TheVariants.{ALong, AShort}

@@ -1,11 +1,10 @@
 //! The intracommodity charge and the delivery charge (docs/METHOD.md, Charges).
-ghost use Rattle.std.specs.Prelude.{option_copied, ◌≡◌, ◌+◌, ◌*◌, ◌/◌, ◌==◌, ◌≤◌, find, length};
-ghost use Rattle.std.specs.Prelude.{All, sum_by, nat_abs, pos};
+ghost use Rattle.std.specs.Prelude.{option_copied, ◌≡◌, ◌+◌, ◌*◌, ◌/◌, ◌==◌, ◌≤◌, find, length, All, sum_by, nat_abs, pos};
 ghost use Rattle.span_tables.specs.Accepted.{IsSpot};
 ghost use Rattle.span_tables.specs.declared.limits.TheConstants.{MAX_RATE, MAX_SPOT_MONTHS, MAX_UNITS};
 ghost use Rattle.spread_stage.specs.Charges.{delivery_charge, intra_charge, left_of, spot_charge, used_of};
 ghost use Rattle.spread_stage.specs.Deltas.{units_at};
-ghost use Rattle.spread_stage.specs.Months.{AreMonths, Shrinks, total_size};
+ghost use Rattle.spread_stage.specs.Months.{Shrinks, total_size};
 
 use crate::months::{MonthUnits, Months};
 use crate::tiers::TierState;
@@ -83,12 +82,12 @@ fn size_at(months: &[MonthUnits], month: u32) -> u64
     units_at(months, month).get().unsigned_abs()
 }
 
-// So many units at a rate, in 10^-8 minor units.
-fn at_rate(units: u64, rate: u32) -> u128
+// What units or spreads cost at a rate, in minor units times the part that one of them is of a delta or a spread.
+pub(crate) fn at_rate(units: u64, rate: u32) -> u128
     requires units { units ≤ MAX_UNITS }
     requires rate { rate ≤ MAX_RATE }
     ensures value { result ≡ units * rate }
-    ensures bound { result ≤ MAX_UNITS * MAX_RATE }
+    ensures bound { result ≤ MAX_RATE * units }
 {
     u128::from(units) * u128::from(rate)
 }

@@ -68,7 +68,6 @@ fn rising(alloc: Global, mut months: Vec<MonthUnits>) -> Result<Vec<MonthUnits>,
 }
 
 /// The months (`yyyymm`) in which contracts are held, rising, each with the sum of its contracts' deltas in units of 10^-8.
-/// `Err` is want of memory.
 ///
 /// Where the contracts stand by rising month, as they mostly do, they are gone over once and nothing is sorted.
 #[tactic(auto, unfolding(crate::specs::Deltas::month_deltas))]

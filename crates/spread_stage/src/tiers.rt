@@ -6,13 +6,14 @@ ghost use Rattle.std.specs.List.Sorted.{IsPartitionPoint};
 ghost use Rattle.span_tables.specs.Accepted.{IsIntra};
 ghost use Rattle.span_tables.specs.Sides.{part_on, spreads_formed};
 ghost use Rattle.span_tables.specs.declared.limits.TheConstants.{MAX_RATE, MAX_UNITS};
-ghost use Rattle.spread_stage.specs.Months.{AreMonths, AreTierRests, MonthsRise, Shrinks, total_size};
+ghost use Rattle.spread_stage.specs.Months.{AreTierRests, MonthsRise, Shrinks, total_size};
 ghost use Rattle.spread_stage.specs.Spreads.{formed_both, formed_in, rests_after, rests_after_leg, spread_both_ways};
 ghost use Rattle.spread_stage.specs.Spreads.{spread_one_way, tier_rooms, tier_side, unspread};
 ghost use Rattle.spread_stage.specs.near.Places.{IsTierAt};
 ghost use Rattle.spread_stage.specs.near.Uses.{used_in_turn};
 ghost use Rattle.spread_stage.specs.declared.months.MonthUnits.{MonthUnits};
 
+use crate::charges::at_rate;
 use crate::months::{MonthUnits, Months};
 use crate::open_months::open_sides;
 use span_money::division::greatest_fit;
@@ -22,7 +23,7 @@ use span_tables::slots::OpenSides;
 use std::alloc::{AllocError, Global};
 use std::marker::Model;
 
-// So many months are gone through one by one.
+// The number of months, at most, that are gone through one by one.
 const FEW_MONTHS: usize = 8;
 
 /// What spreads left of the delta of each month, and the exact sum of the spreads formed times their rates.
@@ -63,7 +64,7 @@ impl TierState {
         self.charge
     }
 
-    /// The same state again. `Err` is want of memory.
+    /// A copy of the state.
     pub fn copied(&self, alloc: Global) -> Result<TierState, AllocError>
         ensures { IfOk result (λ tiers. tiers ≡ self.now) }
     {
@@ -95,7 +96,7 @@ impl TierState {
         self.spread_counted(intra);
     }
 
-    /// The same as `spread`, and tells how many spreads it forms in each direction, in 10^-4 spreads.
+    /// Forms one more spread as `spread` does, and tells how many spreads it forms in each direction, in 10^-4 spreads.
     #[inline(always)]
     pub fn spread_counted(&mut self, intra: &Intra) -> SpreadsFormed
         requires { IsIntra intra.now }
@@ -117,23 +118,11 @@ impl TierState {
         ensures formed { result ≡ formed_in intra.now direction self.old }
         ensures shrinks { (months : List MonthUnits) → Shrinks months self.old.rests → Shrinks months self.new.rests }
     {
-        if intra.may_form(direction, &self.sides) {
-            self.form_one_way(direction, intra)
-        } else {
-            0
+        if !intra.may_form(direction, &self.sides) {
+            return 0;
         }
-    }
-
-    // The same, with no look at the words.
-    #[inline(never)]
-    fn form_one_way(&mut self, direction: Direction, intra: &Intra) -> u64
-        requires { IsIntra intra.now }
-        ensures value { self.new ≡ spread_one_way intra.now direction self.old }
-        ensures formed { result ≡ formed_in intra.now direction self.old }
-        ensures shrinks { (months : List MonthUnits) → Shrinks months self.old.rests → Shrinks months self.new.rests }
-    {
         let formed = form(&mut self.rests, direction, intra.legs());
-        self.charge += charge_of(formed, intra.rate());
+        self.charge += at_rate(formed, intra.rate());
         formed
     }
 }
@@ -273,6 +262,7 @@ fn use_legs(rests: &mut [MonthUnits], direction: Direction, legs: &[MonthLeg], f
 }
 
 // Forms a spread in one direction, and gives the number of spreads formed, in 10^-4 spreads.
+#[inline(never)]
 fn form(rests: &mut [MonthUnits], direction: Direction, legs: &[MonthLeg]) -> u64
     requires rise { MonthsRise rests.old }
     requires small { total_size rests.old ≤ MAX_UNITS }
@@ -291,17 +281,7 @@ fn form(rests: &mut [MonthUnits], direction: Direction, legs: &[MonthLeg]) -> u6
     formed
 }
 
-// The charge of so many spreads, in 10^-4 minor units.
-fn charge_of(formed: u64, rate: u32) -> u128
-    requires formed { formed ≤ MAX_UNITS }
-    requires rate { rate ≤ MAX_RATE }
-    ensures value { result ≡ formed * rate }
-    ensures bound { result ≤ MAX_RATE * formed }
-{
-    u128::from(formed) * u128::from(rate)
-}
-
-/// The state before any spread: each month's rest is its delta, and nothing is charged. `Err` is want of memory.
+/// The state before any spread: each month's rest is its delta, and nothing is charged.
 pub fn start(alloc: Global, months: &Months) -> Result<TierState, AllocError>
     ensures value { IfOk result (λ tiers. tiers ≡ unspread months.now) }
     ensures shrinks { IfOk result (λ tiers. Shrinks months.now tiers.rests) }
@@ -315,8 +295,7 @@ pub fn start(alloc: Global, months: &Months) -> Result<TierState, AllocError>
     })
 }
 
-/// The state after one more spread, formed in both directions, with side A long first. `Err` is want of memory, and `tiers`
-/// stays as it was.
+/// The state after one more spread, formed in both directions, with side A long first.
 pub fn spread(alloc: Global, tiers: &TierState, intra: &Intra) -> Result<TierState, AllocError>
     requires { IsIntra intra.now }
     ensures value { IfOk result (λ t. t ≡ spread_both_ways tiers.now intra.now) }

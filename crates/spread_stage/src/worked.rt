@@ -4,8 +4,7 @@ ghost use Rattle.std.specs.List.{repeat};
 ghost use Rattle.span_tables.specs.declared.limits.TheConstants.{MAX_HELD, MAX_NET, MAX_UNITS};
 ghost use Rattle.spread_stage.specs.Charges.{delivery_charge, intra_charge};
 ghost use Rattle.spread_stage.specs.Deltas.{month_deltas, net_delta};
-ghost use Rattle.spread_stage.specs.near.Samples.{calendar_spread, future, held, largest, march, month_units};
-ghost use Rattle.spread_stage.specs.near.Samples.{own_spread};
+ghost use Rattle.spread_stage.specs.near.Samples.{calendar_spread, future, held, largest, march, month_units, own_spread};
 ghost use Rattle.spread_stage.specs.Spreads.{after_spreads, formed_both, unspread};
 
 // The deltas of two held months.
@@ -15,18 +14,34 @@ fn deltas_of_two_months()
         ≡ month_units 202503 (pos 300000000) ∷ month_units 202506 (neg_ℤ (pos 200000000)) ∷ [] }
 {}
 
-// Two spreads of ratio 1 at rate 250 leave one long delta.
+// What spreads leave, and charge: two spreads of ratio 1 at rate 250 leave one long delta, a third of a spread leaves 10000 units on
+// each month, the earliest month of a tier is used first, side A may be short and B long, and a tier may be spread against itself.
 #[tactic(auto, unfolding(crate::specs::Spreads::after_spreads, crate::specs::Spreads::spread_both_ways))]
 fn rests_of_one_spread()
-    ensures { after_spreads (calendar_spread 10000 ∷ [])
+    ensures whole { after_spreads (calendar_spread 10000 ∷ [])
         (month_units 202503 (pos 300000000) ∷ month_units 202506 (neg_ℤ (pos 200000000)) ∷ [])
         ≡ record { rests = month_units 202503 (pos 100000000) ∷ month_units 202506 (pos 0) ∷ []; charge = 5000000 } }
+    ensures third { after_spreads (calendar_spread 30000 ∷ [])
+        (month_units 202503 (pos 100000000) ∷ month_units 202506 (neg_ℤ (pos 100000000)) ∷ [])
+        ≡ record { rests = month_units 202503 (pos 10000) ∷ month_units 202506 (neg_ℤ (pos 10000)) ∷ []; charge = 833250 } }
+    ensures earliest_first { after_spreads (calendar_spread 10000 ∷ [])
+        (month_units 202503 (pos 100000000) ∷ month_units 202504 (pos 200000000) ∷ month_units 202506 (neg_ℤ (pos 200000000)) ∷ [])
+        ≡ record {
+          rests = month_units 202503 (pos 0) ∷ month_units 202504 (pos 100000000) ∷ month_units 202506 (pos 0) ∷ [];
+          charge = 5000000;
+        } }
+    ensures second_direction { after_spreads (calendar_spread 10000 ∷ [])
+        (month_units 202503 (neg_ℤ (pos 300000000)) ∷ month_units 202506 (pos 200000000) ∷ [])
+        ≡ record { rests = month_units 202503 (neg_ℤ (pos 100000000)) ∷ month_units 202506 (pos 0) ∷ []; charge = 5000000 } }
+    ensures one_tier { after_spreads (own_spread ∷ []) (month_units 202503 (pos 200000000) ∷ month_units 202506 (neg_ℤ (pos 100000000)) ∷ [])
+        ≡ record { rests = month_units 202503 (pos 100000000) ∷ month_units 202506 (pos 0) ∷ []; charge = 2500000 } }
 {}
 
-// The charge of two spreads at rate 250.
+// The charge of two spreads at rate 250, and one of 83.325, rounded up.
 #[tactic(auto, unfolding(crate::specs::Charges::intra_charge))]
 fn charges_of_one_spread()
-    ensures { intra_charge 5000000 ≡ 500 }
+    ensures whole { intra_charge 5000000 ≡ 500 }
+    ensures third { intra_charge 833250 ≡ 84 }
 {}
 
 // Two deltas used at 10 and one left at 20.
@@ -34,46 +49,6 @@ fn charges_of_one_spread()
 fn delivery_of_one_spread()
     ensures { delivery_charge (month_units 202503 (pos 300000000) ∷ []) (month_units 202503 (pos 100000000) ∷ []) (march ∷ [])
         ≡ 40 }
-{}
-
-// A third of a spread leaves 10000 units on each month.
-#[tactic(auto, unfolding(crate::specs::Spreads::after_spreads, crate::specs::Spreads::spread_both_ways))]
-fn rests_of_a_third()
-    ensures { after_spreads (calendar_spread 30000 ∷ [])
-        (month_units 202503 (pos 100000000) ∷ month_units 202506 (neg_ℤ (pos 100000000)) ∷ [])
-        ≡ record { rests = month_units 202503 (pos 10000) ∷ month_units 202506 (neg_ℤ (pos 10000)) ∷ []; charge = 833250 } }
-{}
-
-// A charge of 83.325, rounded up.
-#[tactic(auto, unfolding(crate::specs::Charges::intra_charge))]
-fn charge_of_a_third()
-    ensures { intra_charge 833250 ≡ 84 }
-{}
-
-// The earliest month of a tier is used first.
-#[tactic(auto, unfolding(crate::specs::Spreads::after_spreads, crate::specs::Spreads::spread_both_ways))]
-fn earliest_month_first()
-    ensures { after_spreads (calendar_spread 10000 ∷ [])
-        (month_units 202503 (pos 100000000) ∷ month_units 202504 (pos 200000000) ∷ month_units 202506 (neg_ℤ (pos 200000000)) ∷ [])
-        ≡ record {
-          rests = month_units 202503 (pos 0) ∷ month_units 202504 (pos 100000000) ∷ month_units 202506 (pos 0) ∷ [];
-          charge = 5000000;
-        } }
-{}
-
-// With side A short and B long.
-#[tactic(auto, unfolding(crate::specs::Spreads::after_spreads, crate::specs::Spreads::spread_both_ways))]
-fn rests_of_the_second_direction()
-    ensures { after_spreads (calendar_spread 10000 ∷ [])
-        (month_units 202503 (neg_ℤ (pos 300000000)) ∷ month_units 202506 (pos 200000000) ∷ [])
-        ≡ record { rests = month_units 202503 (neg_ℤ (pos 100000000)) ∷ month_units 202506 (pos 0) ∷ []; charge = 5000000 } }
-{}
-
-// A tier against itself.
-#[tactic(auto, unfolding(crate::specs::Spreads::after_spreads, crate::specs::Spreads::spread_both_ways))]
-fn both_sides_of_one_tier()
-    ensures { after_spreads (own_spread ∷ []) (month_units 202503 (pos 200000000) ∷ month_units 202506 (neg_ℤ (pos 100000000)) ∷ [])
-        ≡ record { rests = month_units 202503 (pos 100000000) ∷ month_units 202506 (pos 0) ∷ []; charge = 2500000 } }
 {}
 
 // Spreads with A long alone, with both, and where those with A long leave nothing for A short.

@@ -1,5 +1,4 @@
-use Rattle.std.proofs.Common.{◌≡◌, ◌≤◌, ◌<◌, ◌+◌, ◌-◌, ◌+ℤ◌, ℤ, nat_abs, sym, ap, ◌∙◌, arith}
-use Rattle.std.proofs.Common.{get_or, set, length, List, Some}
+use Rattle.std.proofs.Common.{◌≡◌, ◌≤◌, ◌<◌, ◌+◌, ◌-◌, ◌+ℤ◌, ℤ, nat_abs, sym, ap, ◌∙◌, arith, get_or, set, length, List, Some}
 use Rattle.std.proofs.Common.{◌++◌, ◌∷◌, [], None, rules}
 use Rattle.std.specs.Prelude.{slice_get}
 use Rattle.std.proofs.lemmas.Int.{ints}

@@ -1,5 +1,9 @@
-use Rattle.std.proofs.Common.{ap, arith, get_or}
+use Rattle.std.proofs.Common.{◌≡◌, ℕ, ◌<◌, ◌≤◌, true, false, List, ap, arith, get_or, length}
+use Rattle.std.specs.List.{AllWithin}
 use Rattle.std.proofs.lemmas.List.{get_or_default}
+use Rattle.span_tables.specs.declared.records.MonthLeg.{MonthLeg}
+use Rattle.spread_stage.specs.Spreads.{is_in_tier}
+use Rattle.spread_stage.specs.near.Places.{IsTierAt}
 use Rattle.spread_stage.specs.declared.months.MonthUnits.{MonthUnits}
 use Rattle.spread_stage.proofs.PlaceLemmas.{before_tier, behind_tier, one_more, rise_by_place}
 use Rattle.spread_stage.proofs.tiers.tier_places.Goals as goal
@@ -21,30 +25,30 @@ loop-end-preserved c =
           before.order c.loop-end-test.true (c.months_before-start.ensures.parted).1 before.inside c.if-rests-end.true;
     }
 
+-- the months from one place on and before another, where those behind are no longer of the tier
+placed : (leg : MonthLeg) (rests : List MonthUnits) (start stop : ℕ) → start ≤ stop → stop ≤ length rests
+    → AllWithin (λ m. m.month < leg.first) rests 0 start → AllWithin (λ m. is_in_tier leg m ≡ true) rests start stop
+    → AllWithin (λ m. is_in_tier leg m ≡ false) rests stop (length rests) → IsTierAt leg rests start stop
+placed leg rests start stop order stops earlier inside behind = record {
+  order = order;
+  stops = stops;
+  before = λ k d low below. before_tier leg (get_or rests k d) (earlier k d low below);
+  inside = inside;
+  behind = behind;
+}
+
 pub returns-else-rests-end : goal.returns-else-rests-end
 returns-else-rests-end c =
+    let rests = c.args.rests.now in
     let before = c.loop-end.invariant in
-    record {
-      order = before.order;
-      stops = before.stops;
-      before = λ k d low below. before_tier c.args.leg.now (get_or c.args.rests.now k d)
-          ((c.months_before-start.ensures.parted).0 k d low below);
-      inside = before.inside;
-      behind = λ k d low below. behind_tier c.args.leg.now (get_or c.args.rests.now k d)
-          (let later = rise_by_place c.args.rests.now c.requires c.loop-end.end k d low below in
-          let same = ap (λ (m : MonthUnits). m.month)
-          (get_or_default c.args.rests.now c.loop-end.end c.index-rests-end.result d c.loop-end-test.true) in
-          omega (arith, later, same, c.if-rests-end.false));
-    }
+    placed c.args.leg.now rests _ _ before.order before.stops (c.months_before-start.ensures.parted).0 before.inside
+    (λ k d low below. behind_tier c.args.leg.now (get_or rests k d)
+    (let later = rise_by_place rests c.requires c.loop-end.end k d low below in
+    let same = ap (λ (m : MonthUnits). m.month) (get_or_default rests c.loop-end.end c.index-rests-end.result d c.loop-end-test.true) in
+    omega (arith, later, same, c.if-rests-end.false)))
 
 pub returns-after-loop-end : goal.returns-after-loop-end
 returns-after-loop-end c =
     let before = c.loop-end.invariant in
-    record {
-      order = before.order;
-      stops = before.stops;
-      before = λ k d low below. before_tier c.args.leg.now (get_or c.args.rests.now k d)
-          ((c.months_before-start.ensures.parted).0 k d low below);
-      inside = before.inside;
-      behind = λ k d low below. absurd (omega (arith, low, below));
-    }
+    placed c.args.leg.now c.args.rests.now _ _ before.order before.stops (c.months_before-start.ensures.parted).0 before.inside
+    (λ k d low below. absurd (omega (arith, low, below)))
