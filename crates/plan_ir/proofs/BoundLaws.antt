@@ -1,5 +1,5 @@
 -- The sizes of what an account has under tables within their limits: of each figure, and of the total.
-use Rattle.std.proofs.Common.{◌≡◌, ℕ, ◌+◌, ◌*◌, ◌<◌, ◌≤◌, true, List, length, get_or, subst, sym, ◌∙◌}
+use Rattle.std.proofs.Common.{◌≡◌, ℤ, ℕ, ◌+◌, ◌*◌, ◌<◌, ◌≤◌, true, List, length, get_or, subst, sym, ◌∙◌}
 use Rattle.std.proofs.Common.{arith}
 use Rattle.std.specs.Prelude.{pos, ◌+ℤ◌, All, nat_abs}
 use Rattle.std.specs.List.{range_with_len}
@@ -25,7 +25,8 @@ use Rattle.spread_stage.proofs.FallLemmas.{spreads_shrink}
 use Rattle.inter_credit.specs.near.Lines.{IsLine}
 use Rattle.inter_credit.specs.Credits.{credit_at}
 use Rattle.inter_credit.proofs.BoundLaws.{credit_small, length-after_inter_spreads, lines_stay, minimum_small}
-use Rattle.inter_credit.proofs.BoundLaws.{requirement_small, unspread_is_line}
+use Rattle.inter_credit.proofs.BoundLaws.{requirement_small}
+use Rattle.inter_credit.proofs.OpenLemmas.{loaded_line}
 use Rattle.inter_credit.proofs.Sizes.{size-add}
 use Rattle.inter_credit.proofs.ValueLemmas.{net_value_small}
 use Rattle.inter_credit.specs.declared.option_value.TheConstants.{MAX_NET_VALUE}
@@ -39,40 +40,40 @@ module _ (t : AcceptedTables) (holdings : List Holding) (limits : IsWithinLimits
     (known : fits (length t.contracts) holdings ≡ true) where
   -- ---- a commodity
 
-  -- what is held of it
+  -- what is held of a commodity
   pub held_at_are : (c : ℕ) → AreHeld (held_at t holdings c)
   held_at_are c = are_held_of t holdings (commodity_id t c) limits portfolio known
 
-  -- its scan
+  -- the scan of a commodity
   pub risk_at_small : (c : ℕ) → nat_abs (scan_at t holdings c).risk ≤ MAX_SUM
   risk_at_small c = risk_small (scenario_sums (held_at t holdings c)) (sums_small (held_at t holdings c) (held_at_are c))
 
   pub price2_at_small : (c : ℕ) → (scan_at t holdings c).price2 ≤ MAX_PRICE2
   price2_at_small c = price2_small (scenario_sums (held_at t holdings c)) (sums_small (held_at t holdings c) (held_at_are c))
 
-  -- its months, before and after its spreads
+  -- the months of a commodity, before and after its spreads
   pub deltas_at_are : (c : ℕ) → AreMonths (deltas_at t holdings c)
   deltas_at_are c = months_are (held_at t holdings c) (held_at_are c)
 
   pub tiers_at_are : (c : ℕ) → AreTierRests (tiers_at t holdings c)
   tiers_at_are c = tiers_are (intras_at t c) (deltas_at t holdings c) (deltas_at_are c) (limits.intras_in_range (commodity_id t c))
 
-  -- its delivery charge
+  -- the delivery charge of a commodity
   pub delivery_at_small : (c : ℕ) → delivery_at t holdings c ≤ MAX_DELIVERY_CHARGE
   delivery_at_small c =
       delivery_small (deltas_at t holdings c) (tiers_at t holdings c).rests (spots_at t c) (deltas_at_are c)
       (spreads_shrink (intras_at t c) (deltas_at t holdings c)) (limits.few_spots (commodity_id t c))
       (limits.spots_in_range (commodity_id t c))
 
-  -- its minimum
+  -- the minimum of a commodity
   pub minimum_at_small : (c : ℕ) → c < length t.commodities → minimum_at t holdings c ≤ MAX_RATE * (MAX_HELD * MAX_NET)
   minimum_at_small c lt =
       minimum_small (commodity_at t c).minimum_rate (commodity_at t c).method (held_at t holdings c)
       (limits.minimum_rates c _ lt) (held_at_are c)
 
-  -- its line before any intercommodity spread
+  -- the line of a commodity before any intercommodity spread
   pub line_of_is : (c : ℕ) → IsLine (line_of t holdings c)
-  line_of_is c = unspread_is_line _ _ (net_small (deltas_at t holdings c) (deltas_at_are c)) (price2_at_small c)
+  line_of_is c = loaded_line _ _ (net_small (deltas_at t holdings c) (deltas_at_are c)) (price2_at_small c)
 
   -- ---- all commodities
 
@@ -129,64 +130,29 @@ module _ (t : AcceptedTables) (holdings : List Holding) (limits : IsWithinLimits
       (λ k d lt. net_value_at_small (get_or (range_with_len 0 n) k d)) in
       omega (arith, all, length-range_with_len 0 n)
 
--- the requirement of a commodity
-pub figures_small : (t : AcceptedTables) (holdings : List Holding) (c : ℕ) → IsWithinLimits t → ArePortfolio holdings
-    → fits (length t.contracts) holdings ≡ true → c < length t.commodities
-    → nat_abs (figures_of t holdings c).requirement ≤ MAX_REQUIREMENT
-figures_small t holdings c limits portfolio known lt = requirement_at_small t holdings limits portfolio known c lt
+-- a sum over the commodities in front of one, and what that one adds, are an amount of money
+next_is_money : (before next : ℤ) (c n m : ℕ) → nat_abs before ≤ c * m → nat_abs next ≤ m → c < n → n ≤ MAX_COMMODITIES
+    → MAX_COMMODITIES * m ≤ MAX_MONEY → nat_abs (before +ℤ next) ≤ MAX_MONEY
+next_is_money before next c n m small one lt few money =
+    let fewer : c + 1 ≤ MAX_COMMODITIES = omega (arith, lt, few) in
+    let all : (c + 1) * m ≤ MAX_COMMODITIES * m = mul-le-mul_right m fewer in
+    let parts : (c + 1) * m ≡ c * m + m = omega arith in
+    omega (arith, size-add before next, small, one, all, parts, money)
 
--- the total of the first commodities
-pub total_small : (t : AcceptedTables) (holdings : List Holding) (n : ℕ) → IsWithinLimits t → ArePortfolio holdings
-    → fits (length t.contracts) holdings ≡ true → n ≤ length t.commodities
-    → nat_abs (total_to t holdings n) ≤ n * MAX_REQUIREMENT
-total_small t holdings n limits portfolio known le = sum_to_small t holdings limits portfolio known n le
-
--- as many requirements as there may be commodities are an amount of money
-pub totals_are_money : MAX_COMMODITIES * MAX_REQUIREMENT ≤ MAX_MONEY
-totals_are_money = omega arith
-
--- so the total of the first commodities is an amount of money
-pub total_is_money : (t : AcceptedTables) (holdings : List Holding) (n : ℕ) → IsWithinLimits t → ArePortfolio holdings
-    → fits (length t.contracts) holdings ≡ true → n ≤ length t.commodities → nat_abs (total_to t holdings n) ≤ MAX_MONEY
-total_is_money t holdings n limits portfolio known le =
-    let all = total_small t holdings n limits portfolio known le in
-    let fewer : n ≤ MAX_COMMODITIES = omega (arith, le, limits.commodities) in
-    let few : n * MAX_REQUIREMENT ≤ MAX_COMMODITIES * MAX_REQUIREMENT = mul-le-mul_right MAX_REQUIREMENT fewer in
-    omega (arith, all, few, totals_are_money)
-
--- and so is that total with the requirement of the next commodity
+-- the total of the first commodities, with the requirement of the next
 pub next_total_is_money : (t : AcceptedTables) (holdings : List Holding) (c : ℕ) → IsWithinLimits t → ArePortfolio holdings
     → fits (length t.contracts) holdings ≡ true → c < length t.commodities
     → nat_abs (total_to t holdings c +ℤ (figures_of t holdings c).requirement) ≤ MAX_MONEY
 next_total_is_money t holdings c limits portfolio known lt =
-    let before = total_small t holdings c limits portfolio known (omega (arith, lt)) in
-    let next = figures_small t holdings c limits portfolio known lt in
-    let larger = size-add (total_to t holdings c) (figures_of t holdings c).requirement in
-    let fewer : c + 1 ≤ MAX_COMMODITIES = omega (arith, lt, limits.commodities) in
-    let few : (c + 1) * MAX_REQUIREMENT ≤ MAX_COMMODITIES * MAX_REQUIREMENT = mul-le-mul_right MAX_REQUIREMENT fewer in
-    omega (arith, before, next, larger, few, totals_are_money)
+    next_is_money (total_to t holdings c) (figures_of t holdings c).requirement c (length t.commodities) MAX_REQUIREMENT
+    (sum_to_small t holdings limits portfolio known c (omega (arith, lt)))
+    (requirement_at_small t holdings limits portfolio known c lt) lt limits.commodities (omega arith)
 
--- as many option values as there may be commodities are an amount of money
-values_are_money : MAX_COMMODITIES * MAX_NET_VALUE ≤ MAX_MONEY
-values_are_money = omega arith
-
--- so the option value of the first commodities is an amount of money
-pub value_is_money : (t : AcceptedTables) (holdings : List Holding) (n : ℕ) → IsWithinLimits t → ArePortfolio holdings
-    → fits (length t.contracts) holdings ≡ true → n ≤ length t.commodities → nat_abs (value_to t holdings n) ≤ MAX_MONEY
-value_is_money t holdings n limits portfolio known le =
-    let all = value_to_small t holdings limits portfolio known n in
-    let fewer : n ≤ MAX_COMMODITIES = omega (arith, le, limits.commodities) in
-    let few : n * MAX_NET_VALUE ≤ MAX_COMMODITIES * MAX_NET_VALUE = mul-le-mul_right MAX_NET_VALUE fewer in
-    omega (arith, all, few, values_are_money)
-
--- and so is that value with the option value of the next commodity
+-- the option value of the first commodities, with that of the next
 pub next_value_is_money : (t : AcceptedTables) (holdings : List Holding) (c : ℕ) → IsWithinLimits t → ArePortfolio holdings
     → fits (length t.contracts) holdings ≡ true → c < length t.commodities
     → nat_abs (value_to t holdings c +ℤ net_value_at t holdings c) ≤ MAX_MONEY
 next_value_is_money t holdings c limits portfolio known lt =
-    let before = value_to_small t holdings limits portfolio known c in
-    let next = net_value_at_small t holdings limits portfolio known c in
-    let larger = size-add (value_to t holdings c) (net_value_at t holdings c) in
-    let fewer : c + 1 ≤ MAX_COMMODITIES = omega (arith, lt, limits.commodities) in
-    let few : (c + 1) * MAX_NET_VALUE ≤ MAX_COMMODITIES * MAX_NET_VALUE = mul-le-mul_right MAX_NET_VALUE fewer in
-    omega (arith, before, next, larger, few, values_are_money)
+    next_is_money (value_to t holdings c) (net_value_at t holdings c) c (length t.commodities) MAX_NET_VALUE
+    (value_to_small t holdings limits portfolio known c)
+    (net_value_at_small t holdings limits portfolio known c) lt limits.commodities (omega arith)

@@ -1,9 +1,9 @@
 -- Elements that are gone through with their places.
-use Rattle.std.proofs.Common.{◌≡◌, ℕ, ◌+◌, ◌<◌, List, [], ◌∷◌, ◌++◌, length, flat_map, map}
+use Rattle.std.proofs.Common.{◌≡◌, ℕ, ◌+◌, ◌<◌, List, [], ◌∷◌, ◌++◌, length, flat_map}
 use Rattle.std.proofs.Common.{take, slice_index_or, sym, ap, ◌∙◌, arith}
 use Rattle.std.specs.List.{enumerate_from}
 use Rattle.std.proofs.lemmas.Grind.{flat_map-append, take_at_read}
-use Rattle.std.proofs.lemmas.List.{append-nil, map-append}
+use Rattle.std.proofs.lemmas.List.{append-nil}
 use Rattle.std.proofs.lemmas.List.Concat.{flat_map-cons}
 use Rattle.std.proofs.lemmas.List.FromFn.{get_or-enumerate_from, length-enumerate_from}
 use Rattle.std.proofs.Math.Seq.{take-length}
@@ -18,10 +18,6 @@ take_next xs i d lt =
     (take_at_read (enumerate_from 0 xs) i (0, d) inside).1
     ∙ ap (λ x. take i (enumerate_from 0 xs) ++ x ∷ [])
     (get_or-enumerate_from 0 xs i (0, d) lt ∙ ap (λ n. (n, slice_index_or xs i d)) zero_more)
-
-pub map_next : {A B : Type 0} (f : ℕ × A → B) (xs : List A) (i : ℕ) (d : A) → i < length xs
-    → map f (take (i + 1) (enumerate_from 0 xs)) ≡ map f (take i (enumerate_from 0 xs)) ++ f (i, slice_index_or xs i d) ∷ []
-map_next f xs i d lt = ap (map f) (take_next xs i d lt) ∙ map-append f (take i (enumerate_from 0 xs)) ((i, slice_index_or xs i d) ∷ [])
 
 pub flat_map_next : {A B : Type 0} (f : ℕ × A → List B) (xs : List A) (i : ℕ) (d : A) → i < length xs
     → flat_map f (take (i + 1) (enumerate_from 0 xs)) ≡ flat_map f (take i (enumerate_from 0 xs)) ++ f (i, slice_index_or xs i d)

@@ -46,15 +46,6 @@ as_many_steps [] lists e = refl
 as_many_steps (o ∷ ops) [] e = let no : ⊥ = omega (arith, e) in elim no [ ]
 as_many_steps (o ∷ ops) (x ∷ lists) e = ap suc (as_many_steps ops lists (omega (arith, e)))
 
--- one more operation, with its inputs
-pub steps_push : (ops : List Op) (lists : List (List ℕ)) (o : Op) (inputs : List ℕ) → length lists ≡ length ops
-    → steps_with (ops ++ o ∷ []) (lists ++ inputs ∷ []) ≡ steps_with ops lists ++ record { op = o; inputs = inputs } ∷ []
-steps_push [] [] o inputs e = refl
-steps_push [] (x ∷ lists) o inputs e = let no : ⊥ = omega (arith, e) in elim no [ ]
-steps_push (p ∷ ops) [] o inputs e = let no : ⊥ = omega (arith, e) in elim no [ ]
-steps_push (p ∷ ops) (x ∷ lists) o inputs e =
-    ap (λ steps. record { op = p; inputs = x } ∷ steps) (steps_push ops lists o inputs (omega (arith, e)))
-
 -- ---- the lists of users, after one more step
 
 -- the last list decides whether its place is appended

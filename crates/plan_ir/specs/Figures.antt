@@ -90,19 +90,24 @@ loaded_lines t holdings = map (line_of t holdings) (range_with_len 0 (length t.c
 unfoldable pub inter_lines : AcceptedTables → List Holding → List InterLine
 inter_lines t holdings = after_inter_spreads (inters_of t) (loaded_lines t holdings)
 
+-- figures from their numbers, in the order in which a statement prints them
+abbrev pub figures_with : ℤ → ℕ → ℤ → ℤ → ℤ → ℤ → ℤ → Figures
+figures_with scan active intra delivery credit minimum requirement = record {
+  scan = scan;
+  active = active;
+  intra = intra;
+  delivery = delivery;
+  credit = credit;
+  minimum = minimum;
+  requirement = requirement;
+}
+
 -- the figures of a commodity, from its scan, its months after all spreads, and its amounts
 abbrev pub figures_from : Scan → TierRests → ℤ → ℤ → ℤ → Figures
 figures_from scan tiers delivery credit minimum =
     let intra = pos (intra_charge tiers.charge) in
-    record {
-      scan = scan.risk;
-      active = scan.active;
-      intra = intra;
-      delivery = delivery;
-      credit = credit;
-      minimum = minimum;
-      requirement = requirement_of scan.risk intra delivery credit minimum;
-    }
+    figures_with scan.risk scan.active intra delivery credit minimum
+    (requirement_of scan.risk intra delivery credit minimum)
 
 -- the figures in the order in which a statement prints them
 abbrev pub numbers_of : Figures → List ℤ

@@ -5,6 +5,7 @@ use Rattle.scan_risk.specs.declared.Scan.{Scan}
 use Rattle.spread_stage.specs.Spreads.{TierRests, unspread}
 use Rattle.spread_stage.specs.declared.months.MonthUnits.{MonthUnits}
 use Rattle.inter_credit.specs.declared.state.InterLine.{InterLine}
+use Rattle.plan_ir.specs.Figures.{figures_with}
 use Rattle.plan_ir.specs.declared.figures.Figures.{Figures}
 use Rattle.plan_ir.specs.declared.values.Value.{Value}
 use Rattle.plan_ir.specs.declared.values.Value.TheVariants as value
@@ -57,15 +58,7 @@ no_scan = record { risk = pos 0; active = 1; paired = 2; price2 = 0 }
 
 -- the figures of nothing
 abbrev pub no_figures : Figures
-no_figures = record {
-  scan = pos 0;
-  active = 1;
-  intra = pos 0;
-  delivery = pos 0;
-  credit = pos 0;
-  minimum = pos 0;
-  requirement = pos 0;
-}
+no_figures = figures_with (pos 0) 1 (pos 0) (pos 0) (pos 0) (pos 0) (pos 0)
 
 abbrev pub held_in : Value → List HeldContract
 held_in (value.Held x) = x

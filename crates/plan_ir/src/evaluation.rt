@@ -8,19 +8,15 @@ ghost use Rattle.span_money.specs.declared.amounts.TheConstants.{MAX_MONEY};
 ghost use Rattle.span_tables.specs.Accepted.{IsInter, IsIntra};
 ghost use Rattle.span_tables.specs.Holdings.{fits};
 ghost use Rattle.span_tables.specs.Tables.{inters_of};
-ghost use Rattle.span_tables.specs.declared.limits.TheConstants.{MAX_PRICE2, MAX_UNITS};
 ghost use Rattle.span_tables.specs.declared.portfolios.Holding.{Holding};
 ghost use Rattle.spread_stage.specs.Deltas.{net_delta};
-ghost use Rattle.spread_stage.specs.Spreads.{spread_both_ways};
-ghost use Rattle.inter_credit.specs.Credits.{inter_both_ways, unspread_line};
+ghost use Rattle.inter_credit.specs.Credits.{unspread_line};
 ghost use Rattle.inter_credit.specs.Requirement.{minimum_of};
 ghost use Rattle.inter_credit.specs.States.{IsNotLoaded, IsUnspread};
 ghost use Rattle.inter_credit.specs.declared.state.InterLine.{InterLine};
 ghost use Rattle.plan_ir.specs.Apply.{Takes, TakesFinal, final_figures, inter_at, intra_at, value_on};
 ghost use Rattle.plan_ir.specs.Figures.{commodity_at, intras_at};
-ghost use Rattle.plan_ir.specs.Values.{IsInter as IsLines, IsPremium, IsTiers, IsTotal, lines_in, premium_in, tiers_in, total_in};
 ghost use Rattle.plan_ir.specs.near.Copying.{IsChangeable, IsInPlace};
-ghost use Rattle.plan_ir.specs.declared.values.Value.TheVariants as value;
 
 use crate::figures::{Figures, figures_from};
 use crate::ops::Op;
@@ -32,7 +28,7 @@ use inter_credit::state::empty;
 use scan_risk::Scan;
 use scan_risk::scanning::scan;
 use scan_risk::scenarios::sums;
-use span_money::amounts::{Money, Units};
+use span_money::amounts::Money;
 use span_tables::held::{Held, gather};
 use span_tables::portfolios::Portfolio;
 use span_tables::records::{Inter, Intra};
@@ -124,82 +120,22 @@ pub fn changes_nothing(tables: &Tables, op: Op, first: &Value, rest: &[Arc<Value
     }
 }
 
-// Forms a spread on the months of a commodity.
-fn spread(first: &mut Value, intra: &Intra)
-    requires tiers { IsTiers first.old }
-    requires spread { IsIntra intra.now }
-    ensures { first.new ≡ value.Tiers (spread_both_ways (tiers_in first.old) intra.now) }
-{
-    match first {
-        Value::Tiers(tiers) => tiers.spread(intra),
-        _ => unreachable!(),
-    }
-}
-
-// Loads a commodity: its net delta, and its price risk doubled.
-fn load(first: &mut Value, commodity: u32, net: Units, price2: u64)
-    requires lines { IsLines first.old }
-    requires commodity { commodity < length (lines_in first.old) }
-    requires net { nat_abs net ≤ MAX_UNITS }
-    requires price2 { price2 ≤ MAX_PRICE2 }
-    requires not_loaded { IsNotLoaded (lines_in first.old) commodity }
-    requires unspread { IsUnspread (lines_in first.old) }
-    ensures { first.new ≡ value.Inter (slice_set (lines_in first.old) commodity (unspread_line net price2)) }
-{
-    match first {
-        Value::Inter(lines) => lines.load(commodity as usize, net, price2),
-        _ => unreachable!(),
-    }
-}
-
-// Forms an intercommodity spread.
-fn inter_spread(first: &mut Value, inter: &Inter)
-    requires lines { IsLines first.old }
-    requires spread { IsInter (length (lines_in first.old)) inter.now }
-    ensures { first.new ≡ value.Inter (inter_both_ways (lines_in first.old) inter.now) }
-{
-    match first {
-        Value::Inter(lines) => lines.spread(inter),
-        _ => unreachable!(),
-    }
-}
-
-// Adds the requirement of a commodity to a total.
-fn add(first: &mut Value, requirement: Money)
-    requires total { IsTotal first.old }
-    requires small { nat_abs (total_in first.old +ℤ requirement) ≤ MAX_MONEY }
-    ensures { first.new ≡ value.Total (total_in first.old +ℤ requirement) }
-{
-    match first {
-        Value::Total(total) => *total = sum(*total, requirement),
-        _ => unreachable!(),
-    }
-}
-
-// Adds the option value of a commodity to that of others.
-fn add_value(first: &mut Value, amount: Money)
-    requires premium { IsPremium first.old }
-    requires small { nat_abs (premium_in first.old +ℤ amount) ≤ MAX_MONEY }
-    ensures { first.new ≡ value.Premium (premium_in first.old +ℤ amount) }
-{
-    match first {
-        Value::Premium(premium) => *premium = sum(*premium, amount),
-        _ => unreachable!(),
-    }
-}
-
 // Writes the operation's value over its first input, of which it makes another of the same kind.
 fn apply_in_place(tables: &Tables, op: Op, first: &mut Value, rest: &[Arc<Value>])
     requires in_place { IsInPlace op }
     requires inputs { Takes tables.now op (first.old ∷ map arc_value rest.now) }
     ensures { (holdings : List Holding) → first.new ≡ value_on tables.now holdings op (first.old ∷ map arc_value rest.now) }
 {
-    match op {
-        Op::Spread(c, j) => spread(first, intra_at(tables, c, j)),
-        Op::InterLoad(c) => load(first, c, rest[0].months().net(), rest[1].scan().price2),
-        Op::InterSpread(j) => inter_spread(first, inter_at(tables, j)),
-        Op::TotalAdd(_) => add(first, rest[0].figures().requirement),
-        Op::ValueAdd(_) => add_value(first, rest[0].amount()),
+    match (op, first) {
+        (Op::Spread(c, j), Value::Tiers(tiers)) => tiers.spread(intra_at(tables, c, j)),
+        (Op::InterLoad(c), Value::Inter(lines)) => {
+            lines.load(c as usize, rest[0].months().net(), rest[1].scan().price2)
+        }
+        (Op::InterSpread(j), Value::Inter(lines)) => lines.spread(inter_at(tables, j)),
+        (Op::TotalAdd(_), Value::Total(total)) => {
+            *total = sum(*total, rest[0].figures().requirement)
+        }
+        (Op::ValueAdd(_), Value::Premium(premium)) => *premium = sum(*premium, rest[0].amount()),
         _ => unreachable!(),
     }
 }
@@ -290,7 +226,7 @@ fn apply_alone(
     }
 }
 
-/// The value of an operation on the values of its inputs, for an account under the tables. `Err` is want of memory.
+/// The value of an operation on the values of its inputs, for an account under the tables.
 ///
 /// The portfolio fits the tables, the operation's numbers are those of a commodity or a spread of the tables, and the
 /// inputs are in number, kind and range what the operation takes.

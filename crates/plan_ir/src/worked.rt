@@ -2,7 +2,7 @@
 #![tactic(auto, unfolding(crate::specs::near::OnLiterals::on_literals))]
 
 ghost use Rattle.std.specs.Prelude.{◌≡◌, [], ◌∷◌, codes, pos};
-ghost use Rattle.plan_ir.specs.Figures.{figures_from};
+ghost use Rattle.plan_ir.specs.Figures.{figures_from, figures_with};
 ghost use Rattle.plan_ir.specs.Listing.{op_text, plan_text};
 ghost use Rattle.plan_ir.specs.Plans.{inputs_at, op_at, users_of};
 ghost use Rattle.plan_ir.specs.near.Samples.{scan, small_plan, step, tiers};
@@ -42,14 +42,6 @@ fn steps_of_a_small_plan()
 // A charge of 83.325 rounded up, and the larger of what the stages make and the minimum.
 fn figures_of_a_commodity()
     ensures stages { figures_from scan tiers (pos 40) (pos 600) (pos 500)
-        ≡ record {
-          scan = pos 1200;
-          active = 13;
-          intra = pos 84;
-          delivery = pos 40;
-          credit = pos 600;
-          minimum = pos 500;
-          requirement = pos 724;
-        } }
+        ≡ figures_with (pos 1200) 13 (pos 84) (pos 40) (pos 600) (pos 500) (pos 724) }
     ensures minimum { (figures_from scan tiers (pos 40) (pos 600) (pos 2500)).requirement ≡ pos 2500 }
 {}
