@@ -21,9 +21,6 @@ pub times_push_other : (x y : ℕ) (ys : List ℕ) → (y ≡ x → ⊥) → tim
 times_push_other x y ys n = times-append x ys (y ∷ []) ∙ rw (ne_eqb y x n) (omega arith)
 
 module _ (plan : List StepView) where
-  pub no_counts : AreInputCounts plan [] 0
-  no_counts = record { long = refl; counts = λ j h. absurd (omega arith) }
-
   pub one_count_more : (missing : List ℕ) (k n : ℕ) → AreInputCounts plan missing k → n ≡ length (inputs_at plan k)
       → AreInputCounts plan (missing ++ n ∷ []) (k + 1)
   one_count_more missing k n c e = record {

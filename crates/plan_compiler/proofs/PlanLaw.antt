@@ -17,7 +17,7 @@ use Rattle.plan_ir.specs.Plans.{AreInputs, StepView, inputs_at, no_step, op_at, 
 use Rattle.plan_ir.specs.declared.ops.Op.{Op}
 use Rattle.plan_ir.specs.declared.ops.Op.TheVariants as op
 use Rattle.plan_ir.proofs.UserLemmas.{all_ops, as_many_steps, inputs_are, op_is}
-use Rattle.plan_compiler.specs.Compiled.{IsCompiled}
+use Rattle.plan_compiler.specs.Compiled.{IsCompiled, SetView}
 use Rattle.plan_compiler.specs.Meaning.{meaning, rank_of, wanted}
 use Rattle.plan_compiler.specs.Plan.{IsPlanOf, ops_of}
 use Rattle.plan_compiler.specs.Places.{inputs_of, place_of, plan_of}
@@ -106,13 +106,16 @@ module _ (t : AcceptedTables) (plan : List StepView) (ops : ops_in plan ≡ ops_
     gives = λ holdings fits k lt. rw (inputs_mean holdings k lt) (gives_meaning t holdings (op_at plan k) (op_known k lt));
   }
 
-  -- ---- the places of figures and total
+-- ---- a compiled set's step at the place of an operation
 
-  pub place_within : (o : Op) → IsPlanned t o → place_of t o < length plan
-  place_within o known = let within = slice_get_within (ops_of t) (place_of t o) o (place_stands t o known) in omega (arith, within, long)
-
-  pub op_at_place : (o : Op) → IsPlanned t o → op_at plan (place_of t o) ≡ o
-  op_at_place o known = stands o known
+pub step_at_place : (t : AcceptedTables) (plan : List StepView) (firsts missing ready : List ℕ) → IsSet t plan firsts missing ready
+    → (set : SetView) → record { tables = t; plan = plan } ≡ set → (o : Op) → IsPlanned t o → (k : ℕ) → k ≡ place_of t o
+    → (k < length set.plan) × (op_at set.plan k ≡ o)
+step_at_place t plan firsts missing ready is set same o planned k at =
+    let ops = is.is_plan.ops in
+    let within = slice_get_within (ops_of t) (place_of t o) o (place_stands t o planned) in
+    let inside : place_of t o < length plan = omega (arith, within, long t plan ops is.wires) in
+    rw (← same, at) (inside, stands t plan ops is.wires o planned)
 
 -- ---- the plan of accepted tables
 

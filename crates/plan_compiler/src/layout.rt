@@ -194,8 +194,8 @@ fn push_inputs(
             first_step(tables, firsts, c) + MONTHS,
             last_tiers_step(tables, firsts, c),
         ]),
-        Op::Final(c) => push_final(lists, tables, firsts, c),
-        Op::InterLoad(c) => push_load(lists, tables, firsts, c),
+        Op::Final(c) => lists.push(&final_inputs(tables, firsts, c)),
+        Op::InterLoad(c) => lists.push(&load_inputs(tables, firsts, c)),
         Op::InterSpread(j) => lists.push(&[inter_step(tables, firsts, j)]),
         Op::TotalAdd(c) => lists.push(&[
             total_step(tables, firsts, c),
@@ -208,40 +208,30 @@ fn push_inputs(
     }
 }
 
-// Appends the inputs of a commodity's Final step, of which the last stands behind it.
-fn push_final(
-    lists: &mut NumberLists,
-    tables: &Tables,
-    firsts: &[u32],
-    c: u32,
-) -> Result<(), AllocError>
+// The inputs of a commodity's Final step, of which the last stands behind it.
+fn final_inputs(tables: &Tables, firsts: &[u32], c: u32) -> [u32; 5]
     requires firsts { AreFirsts tables.now firsts.now }
     requires among { c < length tables.now.commodities }
-    ensures { OnOk result (lists.new ≡ lists.old ++ inputs_of tables.now (Final c) ∷ []) }
+    ensures { result ≡ inputs_of tables.now (Final c) }
 {
     let tiers = last_tiers_step(tables, firsts, c);
-    lists.push(&[
+    [
         first_step(tables, firsts, c) + SCAN,
         tiers,
         tiers + DELIVERY,
         tiers + MINIMUM,
         last_inter_step(tables, firsts),
-    ])
+    ]
 }
 
-// Appends the inputs of the step that loads a commodity: its months as they are before its spreads, and its scan.
-fn push_load(
-    lists: &mut NumberLists,
-    tables: &Tables,
-    firsts: &[u32],
-    c: u32,
-) -> Result<(), AllocError>
+// The inputs of the step that loads a commodity: its months as they are before its spreads, and its scan.
+fn load_inputs(tables: &Tables, firsts: &[u32], c: u32) -> [u32; 3]
     requires firsts { AreFirsts tables.now firsts.now }
     requires among { c < length tables.now.commodities }
-    ensures { OnOk result (lists.new ≡ lists.old ++ inputs_of tables.now (InterLoad c) ∷ []) }
+    ensures { result ≡ inputs_of tables.now (InterLoad c) }
 {
     let first = first_step(tables, firsts, c);
-    lists.push(&[load_step(tables, firsts, c), first + MONTHS, first + SCAN])
+    [load_step(tables, firsts, c), first + MONTHS, first + SCAN]
 }
 
 // The inputs of the step of each of these operations.

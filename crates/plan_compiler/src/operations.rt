@@ -1,4 +1,6 @@
 //! The operations of a plan, in their order (docs/METHOD.md, "The plan of steps").
+#![tactic(auto, using(crate::proofs::LayoutLemmas::each_appended))]
+
 ghost use Rattle.std.specs.Prelude.{◌≡◌, ◌++◌, ◌<◌, [], ◌∷◌, IfOk, OnOk, length};
 ghost use Rattle.plan_compiler.specs.Plan.{commodity_ops, each, final_ops, ops_of, premium_ops, spread_ops};
 ghost use Rattle.plan_ir.specs.declared.ops.Op.TheVariants.{InterLoad, InterSpread, TotalAdd, ValueAdd};

@@ -1,21 +1,10 @@
-use Rattle.std.proofs.Common.{◌<◌, length}
-use Rattle.std.specs.Arc.{arc_value}
 use Rattle.plan_ir.specs.declared.ops.Op.TheVariants as op
-use Rattle.plan_compiler.proofs.PlanLaw.{op_at_place, place_within}
+use Rattle.plan_compiler.proofs.PlanLaw.{step_at_place}
 use Rattle.plan_compiler.proofs.set.CompiledSet.gather_step.Goals as goal
 
-pub returns-clause-in_range : goal.returns-clause-in_range
-returns-clause-in_range c =
-    let set = c.self.invariant in
-    let t = (arc_value c.self.inside.shared).tables in
-    let known : c.args.commodity < length t.commodities = rw (← c.self.view_is) at c.requires in
-    rw (← c.self.view_is, c.first_step.ensures.value, c.deref.ensures)
-    (place_within t (arc_value c.self.inside.shared).plan set.is_plan.ops set.wires (op.Gather c.args.commodity) known)
-
-pub returns-clause-op : goal.returns-clause-op
-returns-clause-op c =
-    let set = c.self.invariant in
-    let t = (arc_value c.self.inside.shared).tables in
-    let known : c.args.commodity < length t.commodities = rw (← c.self.view_is) at c.requires in
-    rw (← c.self.view_is, c.first_step.ensures.value, c.deref.ensures)
-    (op_at_place t (arc_value c.self.inside.shared).plan set.is_plan.ops set.wires (op.Gather c.args.commodity) known)
+pub returns : goal.returns
+returns c =
+    let known = rw (← c.self.view_is) at c.requires in
+    let place = rw c.deref.ensures at c.first_step.ensures.value in
+    let step = step_at_place _ _ _ _ _ c.self.invariant _ c.self.view_is (op.Gather c.args.commodity) known _ place in
+    record { in_range = step.0; op = step.1 }
