@@ -1,6 +1,6 @@
 -- The sizes of minimums, of credits and of requirements, and that lines stay within their ranges.
 use Rattle.std.proofs.Common.{◌≡◌, ◌≢◌, ℕ, zero, suc, ◌+◌, ◌-◌, ◌*◌, ◌^◌, ◌<◌, ◌≤◌, ◌==◌, Bool, true, false, cond, List, [], ◌∷◌}
-use Rattle.std.proofs.Common.{length, filter, fold, sum_by, nat_abs, ℤ, pos, negsuc, ◌+ℤ◌, ◌-ℤ◌, refl, ap, ◌∙◌, arith}
+use Rattle.std.proofs.Common.{length, filter, fold, nat_abs, ℤ, pos, negsuc, ◌+ℤ◌, ◌-ℤ◌, refl, ap, ◌∙◌, arith}
 use Rattle.std.specs.Prelude.{All}
 use Rattle.std.proofs.Math.Nat.{lt_of_mul-lt-mul_right, mul-le-mul, mul-le-mul_right}
 use Rattle.std.proofs.lemmas.Bool.Decides.{nat_tests}
@@ -83,7 +83,7 @@ parts_size : (z : ℤ) → nat_abs z ≡ positive_part z + negative_part z
 parts_size (pos n) = omega arith
 parts_size (negsuc n) = omega arith
 
--- what is left is not larger
+-- what is left of a number is not larger
 left_size : (a b : ℤ) → IsLeftOf a b → nat_abs b ≤ nat_abs a
 left_size a b left = omega (arith, parts_size a, parts_size b, left.long, left.short)
 

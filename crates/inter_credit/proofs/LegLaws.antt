@@ -96,7 +96,7 @@ module _ (d : Direction) (n basis_points : ℕ) where
         from_first leg legs (lines_after d n basis_points legs (after leg lines)) lines apart others,
       )
 
--- as many as are formed
+-- the side of each leg falls by what the spreads formed need
 pub formed_fall : (d : Direction) (s : Inter) (lines : List InterLine) → IsInter (length lines) s
     → AllByRecursion (λ leg. leg_side d leg (inter_one_way s d lines)
     + spreads_formed (commodity_rooms d s.legs lines) * leg.ratio ≡ leg_side d leg lines) s.legs

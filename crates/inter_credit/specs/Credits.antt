@@ -56,7 +56,7 @@ inter_one_way s d lines = lines_after d (formed_in s d lines) s.basis_points s.l
 unfoldable pub inter_both_ways : List InterLine → Inter → List InterLine
 inter_both_ways lines s = inter_one_way s AShort (inter_one_way s ALong lines)
 
--- how many spreads it forms in both directions: with A long of what there is, with A short of what that leaves
+-- how many spreads a spread forms in both directions: with A long of what there is, with A short of what A long leaves
 abbrev pub formed_both : List InterLine → Inter → SpreadsFormed
 formed_both lines s = record { a_long = formed_in s ALong lines; a_short = formed_in s AShort (inter_one_way s ALong lines) }
 

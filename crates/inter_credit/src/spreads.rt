@@ -200,8 +200,6 @@ pub(crate) fn may_form_either(sides: &OpenSides, spread: &Inter) -> bool
 /// The state after a spread in both directions, with A long first.
 ///
 /// In each direction as many are formed as every leg has room for.
-///
-/// `Err` is want of memory, and `state` stays as it was.
 pub fn inter_spread(
     alloc: Global,
     state: &InterState,

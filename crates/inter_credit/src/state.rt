@@ -70,7 +70,7 @@ impl InterState {
         &self.lines
     }
 
-    /// The same state again. `Err` is want of memory.
+    /// A copy of the state.
     pub fn copied(&self, alloc: Global) -> Result<InterState, AllocError>
         ensures { IfOk result (λ state. state ≡ self.now) }
     {
@@ -107,7 +107,7 @@ impl InterState {
         spread_both_ways(&mut self.lines, &self.sides, spread);
     }
 
-    /// The same as `spread`, and tells how many spreads it forms in each direction, in 10^-4 spreads.
+    /// Forms a spread as `spread` does, and tells how many spreads it forms in each direction, in 10^-4 spreads.
     pub fn spread_counted(&mut self, spread: &Inter) -> SpreadsFormed
         requires { IsInter (length self.old) spread.now }
         ensures value { self.new ≡ inter_both_ways self.old spread.now }
@@ -138,7 +138,7 @@ fn unspread_line(net: Units, price2: u64) -> InterLine
     }
 }
 
-/// So many commodities of which nothing is known yet: net deltas and price risks of 0. `Err` is want of memory.
+/// Commodities of which nothing is known yet: net deltas and price risks of 0.
 pub fn empty(alloc: Global, commodities: usize) -> Result<InterState, AllocError>
     ensures value { IfOk result (λ state. state ≡ replicate commodities (unspread_line (pos 0) 0)) }
     ensures unspread { IfOk result IsUnspread }
@@ -152,8 +152,6 @@ pub fn empty(alloc: Global, commodities: usize) -> Result<InterState, AllocError
 /// net delta.
 ///
 /// Nothing was loaded for that commodity, and no spread was formed.
-///
-/// `Err` is want of memory, and `state` stays as it was.
 pub fn load(
     alloc: Global,
     state: &InterState,

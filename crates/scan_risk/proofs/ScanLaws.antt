@@ -4,10 +4,9 @@ use Rattle.std.proofs.Common.{refl, sym, ap, ◌∙◌, arith, subst, inl, inr, 
 use Rattle.std.specs.Prelude.{ℤ, pos, fold, All, ◌≤ℤ◌, ◌<ℤ◌, unwrap_or, None, int_le, nat_lt, position}
 use Rattle.std.specs.List.{position_or_len}
 use Rattle.std.specs.Int.{int_max}
-use Rattle.std.proofs.lemmas.Int.{ints}
+use Rattle.std.proofs.lemmas.Int.{ints, fold-int_max_bounds, fold-int_max_reached}
 use Rattle.std.proofs.lemmas.Bool.Decides.{nat_tests}
 use Rattle.std.proofs.lemmas.List.{get_or_default}
-use Rattle.std.proofs.lemmas.Int.{fold-int_max_bounds, fold-int_max_reached}
 use Rattle.std.proofs.lemmas.List.Sums.{position_or_len_is, AllPass-from_list_all, list_all-from_AllPass}
 use Rattle.std.proofs.lemmas.List.Folds.{list_all_at}
 use Rattle.std.proofs.lemmas.List.Quantifiers.{position-Some}

@@ -1,6 +1,5 @@
 //! Laws of the scan, in the methodology's words: each is the contract of a function that does nothing.
-ghost use Rattle.std.specs.Prelude.{◌≡◌, ℕ, ◌+◌, ◌<◌, List, ◌∷◌, length, slice_index_or, All};
-ghost use Rattle.std.specs.Prelude.{ℤ, pos, ◌≤ℤ◌, ◌<ℤ◌};
+ghost use Rattle.std.specs.Prelude.{◌≡◌, ℕ, ◌+◌, ◌<◌, List, ◌∷◌, length, slice_index_or, All, ℤ, pos, ◌≤ℤ◌, ◌<ℤ◌};
 ghost use Rattle.scan_risk.specs.Scenarios.{active_scenario, at_scenario, scan_risk};
 
 /// Scan risk is the least number that is at least 0 and at least every sum.

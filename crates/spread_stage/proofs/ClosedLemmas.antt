@@ -33,7 +33,7 @@ push_all : {X : Type 0} (P : X → Type 0) (xs : List X) (x : X) → All P xs �
 push_all P [] x all p = All-cons P x [] p (All-nil P)
 push_all P (y ∷ ys) x all p = All-cons P y (ys ++ x ∷ []) (All-head P y ys all) (push_all P ys x (All-tail P y ys all) p)
 
--- one more month
+-- months have their sides also with one month more
 pub have_more : (sides next : OpenSides) (months : List MonthUnits) (m : MonthUnits) → HaveSides sides months
     → ((other : ℕ) (z : ℤ) → IsOpenAt sides other z → IsOpenAt next other z) → IsOpenAt next (month_count m.month) m.units
     → HaveSides next (months ++ m ∷ [])
@@ -131,7 +131,7 @@ module _ (d : Direction) (sides : OpenSides) (rests : List MonthUnits) (have : H
   by_count legs zero e closed = e
   by_count legs (suc n) e closed = let never : false ≡ true = closed (legs_open legs (omega (arith, e))) in cc
 
-  -- so where some leg has none, no spread is formed
+  -- where some leg has no month that is marked, no spread is formed
   pub formed_closed : (legs : List MonthLeg)
       → (All (λ leg. IsTierMarked (numbers_on (market_side d leg.side) sides) leg) legs → false ≡ true)
       → spreads_formed (tier_rooms d legs rests) ≡ 0
@@ -185,7 +185,7 @@ spots_of_nothing [] = refl
 spots_of_nothing (s ∷ spots) =
     let all = sum_by-cons (spot_charge [] []) s spots in let rest = spots_of_nothing spots in omega (arith, all, rest)
 
--- nor is anything delivered
+-- where no month is held, nothing is delivered
 pub delivery_of_nothing : (spots : List Spot) → delivery_charge [] [] spots ≡ 0
 unfolding delivery_charge
 delivery_of_nothing spots = ap (λ n. div_ceil n (10 ^ 8)) (spots_of_nothing spots)

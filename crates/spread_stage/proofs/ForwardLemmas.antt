@@ -43,11 +43,11 @@ module _ (p : ℕ) (u : ℤ) (m : MonthUnits) (ms : List MonthUnits) where
   pub before : p < m.month → with_units p u (m ∷ ms) ≡ of_month p u ∷ m ∷ ms
   before lt = later_if p u (nat_lt p m.month) (p == m.month) m ms (with_units p u ms) refl lt
 
-  -- of the first month
+  -- units of the first month
   pub here : p ≡ m.month → with_units p u (m ∷ ms) ≡ of_month m.month (m.units +ℤ u) ∷ ms
   here e = same_if p u (nat_lt p m.month) (p == m.month) m ms (with_units p u ms) refl refl (sym e)
 
-  -- of a later month
+  -- units of a later month
   behind : m.month < p → with_units p u (m ∷ ms) ≡ m ∷ with_units p u ms
   behind lt = earlier_if p u (nat_lt p m.month) (p == m.month) m ms (with_units p u ms) refl refl lt
 

@@ -102,7 +102,7 @@ size-last p u (m ∷ n ∷ ms) =
     let b = sum_by-cons (λ (x : MonthUnits). nat_abs x.units) m (with_units_last p u (n ∷ ms)) in
     let less = size-last p u (n ∷ ms) in omega (arith, a, b, less)
 
--- and once they are gathered
+-- gathered months have no larger size than the months
 pub size-gathered : (ms : List MonthUnits) → total_size (gathered ms) ≤ total_size ms
 size-gathered [] = omega arith
 size-gathered (m ∷ ms) =
@@ -142,7 +142,7 @@ module _ (p : ℕ) (u : ℤ) where
     still false = (h.0, (omega arith, tt))
   none_later_after (m ∷ n ∷ ms) h = (h.0, none_later_after (n ∷ ms) h.1)
 
-  -- and the months rise as before
+  -- months that rise still rise after units are added at the end
   pub rise_after : (ms : List MonthUnits) → MonthsRise ms → NoneLater p ms → MonthsRise (with_units_last p u ms)
   rise_after [] up h = (tt, tt)
   rise_after (m ∷ []) up h = still (p == m.month) refl where

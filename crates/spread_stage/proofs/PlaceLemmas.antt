@@ -38,7 +38,7 @@ earlier_before ms rise place month m within early k d low below =
     let same = ap (λ (n : MonthUnits). n.month) (get_or_default ms place m d within) in
     omega (arith, le, same, early)
 
--- and those from one on that is not earlier are not either
+-- where the month at a place is not earlier, none of the months from that place on is
 pub not_earlier_from : (ms : List MonthUnits) → MonthsRise ms → (place month : ℕ) (m : MonthUnits) → place < length ms
     → month ≤ (get_or ms place m).month
     → AllWithin (λ n. month ≤ n.month) ms place (length ms)

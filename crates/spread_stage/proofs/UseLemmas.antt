@@ -127,7 +127,7 @@ module _ (on : MarketSide) (leg : MonthLeg) where
   out_all needed back out =
       ap (leg_in_turn needed) (sym (append-nil back)) ∙ out_front needed back [] out ∙ append-nil back
 
-  -- and those of the tier are used in turn
+  -- the months of the tier are used in turn
   in_front : (needed : ℕ) (tier back : List MonthUnits) → IsInTier leg tier → IsOutOfTier leg back
       → leg_in_turn needed (tier ++ back) ≡ used_in_turn on needed tier ++ back
   in_front needed [] back all out = out_all needed back out

@@ -13,7 +13,7 @@ intra_charge exact = div_ceil exact (10 ^ 4)
 abbrev pub left_of : List MonthUnits → ℕ → ℕ
 left_of rests p = nat_abs (units_at rests p)
 
--- what the spreads used of it
+-- what the spreads used of a month's delta, in units of 10^-8
 abbrev pub used_of : List MonthUnits → List MonthUnits → ℕ → ℕ
 used_of deltas rests p = nat_abs (units_at deltas p) - left_of rests p
 

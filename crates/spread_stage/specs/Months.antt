@@ -31,7 +31,7 @@ IsPartOf (pos n) (negsuc k) = ⊥
 IsPartOf (negsuc n) (pos k) = k ≡ 0
 IsPartOf (negsuc n) (negsuc k) = k ≤ n
 
--- the same months in order, and each rest is a part of its month's delta
+-- rests stand by the months of the deltas, in order, and each rest is a part of its month's delta
 abbrev pub Shrinks : List MonthUnits → List MonthUnits → Type 0
 Shrinks [] [] = ⊤
 Shrinks [] (r ∷ rests) = ⊥

@@ -17,7 +17,7 @@ is_in_tier leg m = nat_le leg.first m.month && nat_le m.month leg.last
 abbrev pub tier_side : List MonthUnits → MarketSide → MonthLeg → ℕ
 tier_side rests on leg = sum_by (λ m. part_on on m.units) (filter (is_in_tier leg) rests)
 
--- the part of that side that is in earlier months
+-- the part of a tier's side that is in earlier months
 abbrev pub side_before : List MonthUnits → MarketSide → MonthLeg → ℕ → ℕ
 side_before rests on leg month =
     sum_by (λ m. part_on on m.units) (filter (λ m. is_in_tier leg m && nat_lt m.month month) rests)
@@ -60,7 +60,7 @@ spread_one_way s d t =
 unfoldable pub spread_both_ways : TierRests → Intra → TierRests
 spread_both_ways t s = spread_one_way s AShort (spread_one_way s ALong t)
 
--- how many spreads it forms in both directions: with A long of what there is, with A short of what that leaves
+-- how many spreads a spread forms in both directions: with A long of what there is, with A short of what A long leaves
 abbrev pub formed_both : TierRests → Intra → SpreadsFormed
 formed_both t s = record { a_long = formed_in s ALong t; a_short = formed_in s AShort (spread_one_way s ALong t) }
 

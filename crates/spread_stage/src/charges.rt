@@ -82,7 +82,7 @@ fn size_at(months: &[MonthUnits], month: u32) -> u64
     units_at(months, month).get().unsigned_abs()
 }
 
-// What units or spreads cost at a rate, in minor units times the part that one of them is of a delta or a spread.
+// What a number costs at a rate: of units in 10^-8 minor units, of 10^-4 spreads in 10^-4 minor units.
 pub(crate) fn at_rate(units: u64, rate: u32) -> u128
     requires units { units ≤ MAX_UNITS }
     requires rate { rate ≤ MAX_RATE }

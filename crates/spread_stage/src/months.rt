@@ -46,7 +46,7 @@ fn net_delta(months: &[MonthUnits]) -> i64
 }
 
 impl Months {
-    /// These months, which rise.
+    /// Months that rise.
     pub(crate) fn new(months: Vec<MonthUnits>) -> Months
         requires { AreMonths months.items }
         ensures { result ≡ months.items }

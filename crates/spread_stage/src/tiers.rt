@@ -109,8 +109,8 @@ impl TierState {
         SpreadsFormed { a_long, a_short }
     }
 
-    // Forms a spread in one direction, and gives how many spreads, in 10^-4 spreads. Of most spreads the words of their legs'
-    // months tell that they form nothing.
+    // Forms a spread in one direction, and gives how many spreads, in 10^-4 spreads. For most spreads the open sides of their legs'
+    // months tell that nothing forms.
     #[inline(always)]
     fn spread_one_way(&mut self, direction: Direction, intra: &Intra) -> u64
         requires { IsIntra intra.now }

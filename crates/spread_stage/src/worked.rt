@@ -33,7 +33,8 @@ fn rests_of_one_spread()
     ensures second_direction { after_spreads (calendar_spread 10000 ∷ [])
         (month_units 202503 (neg_ℤ (pos 300000000)) ∷ month_units 202506 (pos 200000000) ∷ [])
         ≡ record { rests = month_units 202503 (neg_ℤ (pos 100000000)) ∷ month_units 202506 (pos 0) ∷ []; charge = 5000000 } }
-    ensures one_tier { after_spreads (own_spread ∷ []) (month_units 202503 (pos 200000000) ∷ month_units 202506 (neg_ℤ (pos 100000000)) ∷ [])
+    ensures one_tier { after_spreads (own_spread ∷ [])
+        (month_units 202503 (pos 200000000) ∷ month_units 202506 (neg_ℤ (pos 100000000)) ∷ [])
         ≡ record { rests = month_units 202503 (pos 100000000) ∷ month_units 202506 (pos 0) ∷ []; charge = 2500000 } }
 {}
 

@@ -16,6 +16,6 @@ abbrev pub largest : Contract
 largest = record (contract product.Future (codes "L") (codes "AA") 202503
     (repeat 2 (neg_ℤ (pos MAX_ARRAY_VALUE) ∷ []) ++ repeat 14 (pos MAX_ARRAY_VALUE ∷ []))) { scale = MAX_SCALE }
 
--- so many of a contract
+-- a number of contracts
 abbrev pub held : ℤ → Contract → HeldContract
 held net contract = record { contract = contract; net = net }

@@ -15,11 +15,11 @@ use Rattle.span_tables.specs.declared.records.Spot.{Spot}
 abbrev pub future : ℕ → Contract
 future month = contract product.Future (codes "FA") (codes "AA") month (repeat 16 (pos 0 ∷ []))
 
--- so many of a contract
+-- a number of contracts
 abbrev pub held : ℤ → Contract → HeldContract
 held net contract = record { contract = contract; net = net }
 
--- a month with so many units
+-- a month with its units
 abbrev pub month_units : ℕ → ℤ → MonthUnits
 month_units month units = record { month = month; units = units }
 

@@ -19,7 +19,7 @@ with_units_last p units (m ∷ []) =
     if p == m.month then record { month = m.month; units = m.units +ℤ units } ∷ [] else m ∷ record { month = p; units = units } ∷ []
 with_units_last p units (m ∷ n ∷ ms) = m ∷ with_units_last p units (n ∷ ms)
 
--- the months of a list in which a month may stand more than once, rising and each once, with the sum of its units
+-- the months of a list, rising and each once, with the sum of what the list has of each
 abbrev pub gathered : List MonthUnits → List MonthUnits
 gathered [] = []
 gathered (m ∷ ms) = with_units m.month m.units (gathered ms)
