@@ -1,6 +1,5 @@
 -- The sizes of what an account has under tables within their limits: of each figure, and of the total.
-use Rattle.std.proofs.Common.{◌≡◌, ℤ, ℕ, ◌+◌, ◌*◌, ◌<◌, ◌≤◌, true, List, length, get_or, subst, sym, ◌∙◌}
-use Rattle.std.proofs.Common.{arith}
+use Rattle.std.proofs.Common.{◌≡◌, ℤ, ℕ, ◌+◌, ◌*◌, ◌<◌, ◌≤◌, true, List, length, get_or, subst, sym, ◌∙◌, arith}
 use Rattle.std.specs.Prelude.{pos, ◌+ℤ◌, All, nat_abs}
 use Rattle.std.specs.List.{range_with_len}
 use Rattle.std.proofs.Math.Nat.{mul-le-mul_right}
@@ -8,11 +7,9 @@ use Rattle.std.proofs.lemmas.List.Elements.{All-map}
 use Rattle.std.proofs.lemmas.List.FromFn.{get_or-range_with_len, length-map-range_with_len, length-range_with_len}
 use Rattle.span_money.specs.declared.amounts.TheConstants.{MAX_MONEY}
 use Rattle.span_tables.specs.Accepted.{IsInter, IsWithinLimits}
-use Rattle.span_tables.specs.Tables.{commodity_id}
+use Rattle.span_tables.specs.Tables.{commodity_id, AcceptedTables, inters_of}
 use Rattle.span_tables.specs.Holdings.{AreHeld, ArePortfolio, fits}
-use Rattle.span_tables.specs.Tables.{AcceptedTables, inters_of}
-use Rattle.span_tables.specs.declared.limits.TheConstants.{MAX_COMMODITIES, MAX_HELD, MAX_NET, MAX_PRICE2, MAX_RATE}
-use Rattle.span_tables.specs.declared.limits.TheConstants.{MAX_SUM}
+use Rattle.span_tables.specs.declared.limits.TheConstants.{MAX_COMMODITIES, MAX_HELD, MAX_NET, MAX_PRICE2, MAX_RATE, MAX_SUM}
 use Rattle.span_tables.specs.declared.portfolios.Holding.{Holding}
 use Rattle.span_tables.proofs.BoundLaws.{are_held_of, int_sum_size}
 use Rattle.scan_risk.specs.Scenarios.{scenario_sums}
@@ -24,15 +21,13 @@ use Rattle.spread_stage.proofs.BoundLaws.{delivery_small, intra_small, months_ar
 use Rattle.spread_stage.proofs.FallLemmas.{spreads_shrink}
 use Rattle.inter_credit.specs.near.Lines.{IsLine}
 use Rattle.inter_credit.specs.Credits.{credit_at}
-use Rattle.inter_credit.proofs.BoundLaws.{credit_small, length-after_inter_spreads, lines_stay, minimum_small}
-use Rattle.inter_credit.proofs.BoundLaws.{requirement_small}
+use Rattle.inter_credit.proofs.BoundLaws.{credit_small, length-after_inter_spreads, lines_stay, minimum_small, requirement_small}
 use Rattle.inter_credit.proofs.OpenLemmas.{loaded_line}
 use Rattle.inter_credit.proofs.Sizes.{size-add}
 use Rattle.inter_credit.proofs.ValueLemmas.{net_value_small}
 use Rattle.inter_credit.specs.declared.option_value.TheConstants.{MAX_NET_VALUE}
-use Rattle.plan_ir.specs.Figures.{commodity_at, delivery_at, deltas_at, figures_of, held_at, inter_lines, intras_at}
-use Rattle.plan_ir.specs.Figures.{line_of, loaded_lines, minimum_at, net_value_at, scan_at, spots_at, tiers_at}
-use Rattle.plan_ir.specs.Figures.{total_to, value_to}
+use Rattle.plan_ir.specs.Figures.{commodity_at, delivery_at, deltas_at, figures_of, held_at, inter_lines, intras_at, line_of}
+use Rattle.plan_ir.specs.Figures.{loaded_lines, minimum_at, net_value_at, scan_at, spots_at, tiers_at, total_to, value_to}
 use Rattle.plan_ir.specs.declared.figures.TheConstants.{MAX_REQUIREMENT}
 
 -- an account with holdings, under tables within their limits

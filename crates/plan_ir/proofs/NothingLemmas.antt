@@ -18,18 +18,18 @@ pub month_deltas_of_nothing : month_deltas [] ≡ []
 unfolding month_deltas
 month_deltas_of_nothing = refl
 
--- their sums are 0
+-- the sums of no contracts are 0
 pub sums_of_nothing : scenario_sums [] ≡ replicate 16 (pos 0)
 unfolding scenario_sums
 sums_of_nothing = refl
 
--- none of them is a short option
+-- the minimum of no contracts is 0
 pub minimum_of_nothing : (rate : ℕ) (m : MinimumMethod) → minimum_of rate m [] ≡ 0
 unfolding minimum_of
 minimum_of_nothing rate method.Sum = mul-zero rate
 minimum_of_nothing rate method.Max = mul-zero rate
 
--- and none of them has an option value
+-- the option value of no contracts is 0
 pub value_of_nothing : net_value_of [] ≡ pos 0
 unfolding net_value_of
 value_of_nothing = refl

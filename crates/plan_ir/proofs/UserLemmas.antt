@@ -1,7 +1,6 @@
 -- The users of steps.
-use Rattle.std.proofs.Common.{◌≡◌, ℕ, zero, suc, ◌+◌, ◌<◌, Bool, true, false, cond, List, [], ◌∷◌}
-use Rattle.std.proofs.Common.{◌++◌, length, take, slice_index_or, slice_set, refl, sym, ap, ◌∙◌, arith}
-use Rattle.std.proofs.Common.{◌⊎◌, inl, inr}
+use Rattle.std.proofs.Common.{◌≡◌, ℕ, zero, suc, ◌+◌, ◌<◌, Bool, true, false, cond, List, [], ◌∷◌, ◌++◌, length, take}
+use Rattle.std.proofs.Common.{slice_index_or, slice_set, refl, sym, ap, ◌∙◌, arith, ◌⊎◌, inl, inr}
 use Rattle.std.specs.Prelude.{◌==◌, All, replicate}
 use Rattle.std.specs.List.{list_any, range_with_len}
 use Rattle.std.proofs.lemmas.List.{append-nil, get_or-set_same, get_or-set_other, length-set, length-map}
@@ -100,7 +99,7 @@ at_noted_step number p places lists k out lt rest = by (cases_eq k p) where
       let other : (k == p) ≡ false = ne_eqb k p ne in
       rest ∙ rw (other, get_or-set_other lists p k (slice_index_or lists p [] ++ number ∷ []) [] ne) refl
 
--- each list has the number appended where its place is among those
+-- a list has the number appended where its place is one of the places
 pub at_noted : (number : ℕ) (places : List ℕ) (lists : List (List ℕ)) (k : ℕ)
     → has_repeat (λ a b. a == b) places ≡ false → All (λ p. p < length lists) places → k < length lists
     → slice_index_or (noted number places lists) k [] ≡ slice_index_or lists k [] ++ cond (is_among k places) (number ∷ []) []
@@ -113,7 +112,7 @@ at_noted number (p ∷ places) lists k apart inside lt =
     (at_noted number places next k parts.1
     (λ i d below. rw long (All-tail (λ q. q < length lists) p places inside i d below)) (omega (arith, lt, long)))
 
--- as many lists as numbers
+-- there is a list of places for each number
 pub length_places : (n : ℕ) (lists : List (List ℕ)) → length (places_of_all n lists) ≡ n
 length_places n lists = length-map (range_with_len 0 n) (λ k. places_from 0 k lists) ∙ length-range_with_len 0 n
 

@@ -8,9 +8,8 @@ use Rattle.std.proofs.lemmas.Int.{ints}
 use Rattle.std.proofs.lemmas.Option.{get_or_from_slice_get, slice_get_within}
 use Rattle.span_money.specs.Numbers.{int_sum_by}
 use Rattle.span_tables.specs.Accepted.{IsWithinLimits, commodity_number}
-use Rattle.span_tables.specs.Tables.{commodity_id}
+use Rattle.span_tables.specs.Tables.{commodity_id, AcceptedTables}
 use Rattle.span_tables.specs.Net.{HeldContract, held_contracts, held_of}
-use Rattle.span_tables.specs.Tables.{AcceptedTables}
 use Rattle.span_tables.specs.declared.portfolios.Holding.{Holding}
 use Rattle.span_tables.specs.declared.records.Contract.{Contract}
 use Rattle.span_tables.proofs.Places.{place_names}
@@ -48,7 +47,7 @@ module _ (end p : ℕ) (v : ℤ) (is_there : ℕ → Bool) (tells : (c : ℕ) �
       let split = int_sum_by-cons value_there a (range_with_len (a + 1) n) in
       omega (arith, ints, here, rest, split)
 
-  -- and from there on the value is counted once
+  -- from a place up to p the value is counted once
   counted_once : (a n : ℕ) → end ≡ a + n → a ≤ p → p < end → int_sum_by value_there (range_with_len a n) ≡ v
   counted_once a zero to le lt = absurd (omega (arith, to, le, lt))
   counted_once a (suc n) to le lt =
@@ -87,7 +86,7 @@ module _ (t : AcceptedTables) (limits : IsWithinLimits t) where
   abbrev numbers : List ℕ
   numbers = range_with_len 0 (length t.commodities)
 
-  -- the same over all commodities
+  -- what held contracts of all commodities are worth
   abbrev worth : List HeldContract → ℤ
   worth held = int_sum_by (worth_at held) numbers
 

@@ -9,11 +9,10 @@ use Rattle.spread_stage.specs.Charges.{delivery_charge}
 use Rattle.spread_stage.specs.Deltas.{month_deltas, net_delta}
 use Rattle.spread_stage.specs.Months.{Shrinks}
 use Rattle.spread_stage.specs.Spreads.{spread_both_ways, unspread}
-use Rattle.inter_credit.specs.Credits.{inter_both_ways, unspread_line}
+use Rattle.inter_credit.specs.Credits.{inter_both_ways, unspread_line, credit_at}
 use Rattle.inter_credit.specs.OptionValue.{net_value_of}
 use Rattle.inter_credit.specs.Requirement.{minimum_of}
 use Rattle.inter_credit.specs.States.{IsNotLoaded, IsUnspread}
-use Rattle.inter_credit.specs.Credits.{credit_at}
 use Rattle.inter_credit.specs.declared.requirement.TheConstants.{MAX_PART}
 use Rattle.inter_credit.specs.declared.state.InterLine.{InterLine}
 use Rattle.span_tables.specs.declared.portfolios.Holding.{Holding}

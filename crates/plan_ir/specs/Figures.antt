@@ -2,17 +2,15 @@
 use Rattle.std.specs.Prelude.{ℕ, Bool, not, ◌==◌, if◌then◌else◌, List, [], ◌∷◌, length, map, slice_index_or, ℤ, pos}
 use Rattle.std.specs.List.{range_with_len}
 use Rattle.span_money.specs.Numbers.{int_sum_by}
-use Rattle.span_tables.specs.Tables.{commodity_id}
+use Rattle.span_tables.specs.Tables.{commodity_id, AcceptedTables, has_option_value, intras_of, spots_of, inters_of}
 use Rattle.span_tables.specs.Net.{HeldContract, held_of}
-use Rattle.span_tables.specs.Tables.{AcceptedTables, has_option_value, intras_of, spots_of, inters_of}
 use Rattle.scan_risk.specs.Scenarios.{scenario_sums, scan_of}
 use Rattle.spread_stage.specs.Charges.{intra_charge, delivery_charge}
 use Rattle.spread_stage.specs.Deltas.{month_deltas, net_delta}
 use Rattle.spread_stage.specs.Spreads.{TierRests, after_spreads}
-use Rattle.inter_credit.specs.Credits.{unspread_line, after_inter_spreads}
+use Rattle.inter_credit.specs.Credits.{unspread_line, after_inter_spreads, credit_at}
 use Rattle.inter_credit.specs.OptionValue.{net_value_of}
 use Rattle.inter_credit.specs.Requirement.{minimum_of, requirement_of}
-use Rattle.inter_credit.specs.Credits.{credit_at}
 use Rattle.span_tables.specs.declared.records.Commodity.{Commodity}
 use Rattle.span_tables.specs.declared.records.Intra.{Intra}
 use Rattle.span_tables.specs.declared.records.MinimumMethod.TheVariants as method
@@ -29,25 +27,25 @@ use Rattle.plan_ir.specs.declared.figures.Figures.{Figures}
 abbrev pub no_commodity : Commodity
 no_commodity = record { id = []; minimum_rate = 0; method = method.Sum }
 
--- its record
+-- the record of the commodity of a number
 abbrev pub commodity_at : AcceptedTables → ℕ → Commodity
 commodity_at t c = slice_index_or t.commodities c no_commodity
 
--- its spreads, by rising priority
+-- the spreads of the commodity of a number, by rising priority
 abbrev pub intras_at : AcceptedTables → ℕ → List Intra
 intras_at t c = intras_of t (commodity_id t c)
 
--- its spot months
+-- the spot months of the commodity of a number
 abbrev pub spots_at : AcceptedTables → ℕ → List Spot
 spots_at t c = spots_of t (commodity_id t c)
 
--- ---- what an account has of it
+-- ---- what an account has of the commodity of a number
 
 -- the held contracts
 abbrev pub held_at : AcceptedTables → List Holding → ℕ → List HeldContract
 held_at t holdings c = held_of t.contracts holdings (commodity_id t c)
 
--- the account holds a contract of it
+-- the account holds a contract of the commodity
 abbrev pub is_held : AcceptedTables → List Holding → ℕ → Bool
 is_held t holdings c = not (length (held_at t holdings c) == 0)
 
@@ -59,7 +57,7 @@ scan_at t holdings c = scan_of (scenario_sums (held_at t holdings c))
 abbrev pub deltas_at : AcceptedTables → List Holding → ℕ → List MonthUnits
 deltas_at t holdings c = month_deltas (held_at t holdings c)
 
--- the months after all of its spreads
+-- the months after all spreads of the commodity
 abbrev pub tiers_at : AcceptedTables → List Holding → ℕ → TierRests
 tiers_at t holdings c = after_spreads (intras_at t c) (deltas_at t holdings c)
 
@@ -72,11 +70,11 @@ abbrev pub minimum_at : AcceptedTables → List Holding → ℕ → ℕ
 minimum_at t holdings c =
     minimum_of (commodity_at t c).minimum_rate (commodity_at t c).method (held_at t holdings c)
 
--- its option value
+-- the option value
 abbrev pub net_value_at : AcceptedTables → List Holding → ℕ → ℤ
 net_value_at t holdings c = net_value_of (held_at t holdings c)
 
--- its line before any intercommodity spread
+-- the line before any intercommodity spread
 abbrev pub line_of : AcceptedTables → List Holding → ℕ → InterLine
 line_of t holdings c = unspread_line (net_delta (deltas_at t holdings c)) (scan_at t holdings c).price2
 
@@ -92,15 +90,7 @@ inter_lines t holdings = after_inter_spreads (inters_of t) (loaded_lines t holdi
 
 -- figures from their numbers, in the order in which a statement prints them
 abbrev pub figures_with : ℤ → ℕ → ℤ → ℤ → ℤ → ℤ → ℤ → Figures
-figures_with scan active intra delivery credit minimum requirement = record {
-  scan = scan;
-  active = active;
-  intra = intra;
-  delivery = delivery;
-  credit = credit;
-  minimum = minimum;
-  requirement = requirement;
-}
+figures_with s a i d c m r = record { scan = s; active = a; intra = i; delivery = d; credit = c; minimum = m; requirement = r }
 
 -- the figures of a commodity, from its scan, its months after all spreads, and its amounts
 abbrev pub figures_from : Scan → TierRests → ℤ → ℤ → ℤ → Figures

@@ -36,7 +36,7 @@ ops_in plan = map (λ s. s.op) plan
 abbrev pub inputs_in : List StepView → List (List ℕ)
 inputs_in plan = map (λ s. s.inputs) plan
 
--- the number is one of those
+-- a number is one of a list
 abbrev pub is_among : ℕ → List ℕ → Bool
 is_among k numbers = list_any (λ n. k == n) numbers
 

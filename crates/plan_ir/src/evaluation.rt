@@ -154,24 +154,6 @@ fn copied(alloc: Global, first: &Value) -> Result<Value, AllocError>
     }
 }
 
-// The operation's value, written over a copy of its first input.
-fn apply_to_copy(
-    alloc: Global,
-    tables: &Tables,
-    op: Op,
-    first: &Value,
-    rest: &[Arc<Value>],
-) -> Result<Value, AllocError>
-    requires in_place { IsInPlace op }
-    requires inputs { Takes tables.now op (first.now ∷ map arc_value rest.now) }
-    ensures { IfOk result (λ v. (holdings : List Holding)
-        → v ≡ value_on tables.now holdings op (first.now ∷ map arc_value rest.now)) }
-{
-    let mut next = copied(alloc, first)?;
-    apply_in_place(tables, op, &mut next, rest);
-    Ok(next)
-}
-
 // The operation's value on inputs of which the first stands apart. No operation with an input looks at what the account holds.
 fn apply_beside(
     alloc: Global,
@@ -202,7 +184,11 @@ fn apply_beside(
         | Op::InterLoad(_)
         | Op::InterSpread(_)
         | Op::TotalAdd(_)
-        | Op::ValueAdd(_) => apply_to_copy(alloc, tables, op, first, rest),
+        | Op::ValueAdd(_) => {
+            let mut value = copied(alloc, first)?;
+            apply_in_place(tables, op, &mut value, rest);
+            Ok(value)
+        }
     }
 }
 

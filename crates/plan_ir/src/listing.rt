@@ -88,7 +88,7 @@ fn push_step(out: &mut Vec<u8>, number: usize, op: &Op, inputs: &[u32]) -> Resul
 }
 
 /// The text of a plan, a line for each step: its number, its operation and the numbers of its inputs
-/// (docs/FORMATS.md, "Plan listing"). `Err` is want of memory.
+/// (docs/FORMATS.md, "Plan listing").
 pub fn list(alloc: Global, plan: &Plan) -> Result<Vec<u8>, AllocError>
     ensures { IfOk result (λ text. text.items ≡ plan_text plan.now) }
 {

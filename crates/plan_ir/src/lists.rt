@@ -1,6 +1,5 @@
 //! Lists of numbers, kept one behind the other.
-ghost use Rattle.std.specs.Prelude.{◌≡◌, ◌+◌, ◌<◌, ◌≤◌, [], ◌∷◌, ◌++◌};
-ghost use Rattle.std.specs.Prelude.{All, drop, length, map, slice_index_or, take, OnOk, OnErr};
+ghost use Rattle.std.specs.Prelude.{◌≡◌, ◌+◌, ◌<◌, ◌≤◌, [], ◌∷◌, ◌++◌, All, drop, length, map, slice_index_or, take, OnOk, OnErr};
 ghost use Rattle.plan_ir.specs.near.Packing.{IsWithin, list_in};
 
 use std::alloc::{AllocError, Global};
@@ -49,7 +48,7 @@ impl NumberLists {
         self.spans.as_slice().len()
     }
 
-    /// Appends a list. `Err` is want of memory.
+    /// Appends a list.
     pub fn push(&mut self, list: &[u32]) -> Result<(), AllocError>
         ensures ok { OnOk result (self.new ≡ self.old ++ list.now ∷ []) }
         ensures err { OnErr result (self.new ≡ self.old) }
@@ -71,7 +70,7 @@ impl NumberLists {
     }
 }
 
-// So many numbers from a place on.
+// The numbers of a span.
 fn numbers_in(numbers: &[u32], span: Span) -> &[u32]
     requires { span.start + span.len ≤ length numbers.now }
     ensures { result.now ≡ take span.len (drop span.start numbers.now) }

@@ -44,7 +44,7 @@ fn op_in(ops: &[Op], place: usize) -> Op
 }
 
 impl Plan {
-    /// The plan of these operations, each with its inputs. `Err` is want of memory.
+    /// The plan of operations, each with its inputs.
     ///
     /// There is a list of inputs for each operation: numbers of steps of this plan, none of them twice.
     pub fn new(alloc: Global, ops: Vec<Op>, inputs: NumberLists) -> Result<Plan, AllocError>

@@ -34,7 +34,7 @@ fn users_by_step(alloc: Global, inputs: &NumberLists) -> Result<Vec<Vec<u32>>, A
     Ok(users)
 }
 
-// These lists, one behind the other.
+// Lists, one behind the other.
 fn pack(alloc: Global, lists: &[Vec<u32>]) -> Result<NumberLists, AllocError>
     ensures { IfOk result (λ packed. packed ≡ map (λ v. v.items) lists.now) }
 {

@@ -4,7 +4,7 @@ use Rattle.std.specs.List.{range_with_len}
 use Rattle.plan_ir.specs.Plans.{places_from}
 use Rattle.plan_ir.specs.declared.ops.Op.{Op}
 
--- the lists with a number appended to each of those at the places
+-- lists, with a number appended to those that stand at the places
 abbrev pub noted : ℕ → List ℕ → List (List ℕ) → List (List ℕ)
 noted number places lists = fold (λ ls place. slice_set ls place (slice_index_or ls place [] ++ number ∷ [])) lists places
 
