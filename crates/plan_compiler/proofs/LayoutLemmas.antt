@@ -1,13 +1,11 @@
 -- Where the steps of a plan stand.
-use Rattle.std.proofs.Common.{◌≡◌, ℕ, zero, suc, ◌+◌, ◌*◌, ◌<◌, ◌≤◌}
-use Rattle.std.proofs.Common.{Bool, true, false, List, [], ◌∷◌, ◌++◌}
-use Rattle.std.proofs.Common.{length, Some, slice_get, refl, sym, ap, ◌∙◌, arith, add-one, inl, inr}
+use Rattle.std.proofs.Common.{◌≡◌, ℕ, zero, suc, ◌+◌, ◌*◌, ◌<◌, ◌≤◌, Bool, true, false, List, [], ◌∷◌, ◌++◌, length, Some}
+use Rattle.std.proofs.Common.{slice_get, refl, sym, ap, ◌∙◌, arith, add-one, inl, inr}
 use Rattle.std.specs.Prelude.{if◌then◌else◌}
 use Rattle.std.proofs.lemmas.Bool.{cases_eq}
 use Rattle.std.proofs.lemmas.List.{append_assoc, length-append}
 use Rattle.span_tables.specs.Accepted.{IsWithinLimits}
-use Rattle.span_tables.specs.Tables.{commodity_id}
-use Rattle.span_tables.specs.Tables.{AcceptedTables, has_option_value, inters_of}
+use Rattle.span_tables.specs.Tables.{commodity_id, AcceptedTables, has_option_value, inters_of}
 use Rattle.span_tables.specs.declared.limits.TheConstants.{MAX_INTRA_SPREADS}
 use Rattle.plan_ir.specs.Apply.{IsOp}
 use Rattle.plan_ir.specs.Figures.{intras_at}
@@ -44,11 +42,11 @@ planned_is_op t (op.NetValue c) is = is.1
 planned_is_op t op.ValueStart is = tt
 planned_is_op t (op.ValueAdd c) is = is.1
 
--- one more of each
+-- operations for one number more
 pub each_more : (f : ℕ → List Op) (n : ℕ) → each f (n + 1) ≡ each f n ++ f n
 each_more f n = rw add-one refl
 
--- one more of each, behind others
+-- operations for one number more, behind other operations
 pub each_appended : (f : ℕ → List Op) (n : ℕ) (old now new : List Op) → now ≡ old ++ each f n → new ≡ now ++ f n
     → new ≡ old ++ each f (n + 1)
 each_appended f n old now new e more =
@@ -108,7 +106,7 @@ first_more t c =
     ap length (each_more (commodity_ops t) c) ∙ length-append (each (commodity_ops t) c) (commodity_ops t c)
     ∙ ap (λ n. first_step t c + n) (length_commodity t c)
 
--- not too many stand before it
+-- not too many steps stand before a commodity's first
 pub first_small : (t : AcceptedTables) → IsWithinLimits t → (c : ℕ)
     → first_step t c ≤ c * (COMMODITY_STEPS + VALUE_STEPS + MAX_INTRA_SPREADS)
 first_small t limits zero = omega arith
@@ -118,7 +116,7 @@ first_small t limits (suc c) =
     let few = limits.few_intras (commodity_id t c) in
     omega (arith, before, here, few, value_steps_small t, length-append (each (commodity_ops t) c) (commodity_ops t c))
 
--- and fewer where options have no value
+-- fewer steps stand before it where options have no value
 pub first_smaller : (t : AcceptedTables) → IsWithinLimits t → has_option_value t ≡ false → (c : ℕ)
     → first_step t c ≤ c * (COMMODITY_STEPS + MAX_INTRA_SPREADS)
 first_smaller t limits none zero = omega arith

@@ -20,7 +20,7 @@ use Rattle.plan_ir.specs.declared.ops.Op.{Op}
 use Rattle.plan_ir.specs.declared.ops.Op.TheVariants as op
 use Rattle.plan_ir.specs.declared.values.Value.TheVariants as value
 use Rattle.plan_compiler.specs.Meaning.{before_inter, before_load, before_spread, before_total, before_value, last_inter, last_tiers}
-use Rattle.plan_compiler.specs.Meaning.{lines_after, lines_loaded, meaning, tiers_after, wanted}
+use Rattle.plan_compiler.specs.Meaning.{lines_after_first, lines_loaded, meaning, tiers_after, wanted}
 use Rattle.plan_compiler.proofs.StageLemmas.{loaded_whole}
 
 module _ (t : AcceptedTables) (holdings : List Holding) where
@@ -35,11 +35,11 @@ module _ (t : AcceptedTables) (holdings : List Holding) where
   meaning-before_load zero = refl
   meaning-before_load (suc c) = rw add-one refl
 
-  pub loaded_all : lines_loaded t holdings (length t.commodities) ≡ lines_after t holdings 0
+  pub loaded_all : lines_loaded t holdings (length t.commodities) ≡ lines_after_first t holdings 0
   unfolding after_inter_spreads
   loaded_all = loaded_whole t holdings
 
-  pub meaning-before_inter : (j : ℕ) → meaning t holdings (before_inter t j) ≡ value.Inter (lines_after t holdings j)
+  pub meaning-before_inter : (j : ℕ) → meaning t holdings (before_inter t j) ≡ value.Inter (lines_after_first t holdings j)
   meaning-before_inter zero = meaning-before_load (length t.commodities) ∙ ap value.Inter loaded_all
   meaning-before_inter (suc j) = rw add-one refl
 
@@ -61,7 +61,7 @@ module _ (t : AcceptedTables) (holdings : List Holding) where
   spread_more c j lt = sym (fold_more spread_both_ways (unspread (deltas_at t holdings c)) (intras_at t c) j no_intra lt)
 
   inter_more : (j : ℕ) → j < length (inters_of t)
-      → inter_both_ways (lines_after t holdings j) (inter_at t j) ≡ lines_after t holdings (j + 1)
+      → inter_both_ways (lines_after_first t holdings j) (inter_at t j) ≡ lines_after_first t holdings (j + 1)
   unfolding after_inter_spreads
   inter_more j lt = sym (fold_more inter_both_ways (loaded_lines t holdings) (inters_of t) j no_inter lt)
 
@@ -102,7 +102,7 @@ module _ (t : AcceptedTables) (holdings : List Holding) where
       ap (λ spreads. after_spreads spreads (deltas_at t holdings c))
       (take_all (length (intras_at t c)) (intras_at t c) (omega arith))
 
-  pub all_lines : lines_after t holdings (length (inters_of t)) ≡ inter_lines t holdings
+  pub all_lines : lines_after_first t holdings (length (inters_of t)) ≡ inter_lines t holdings
   unfolding inter_lines
   all_lines =
       ap (λ spreads. after_inter_spreads spreads (loaded_lines t holdings))

@@ -1,6 +1,5 @@
 -- A plan of a set's operations, each with the places of what it wants, keeps the plan law.
-use Rattle.std.proofs.Common.{◌≡◌, ℕ, ◌+◌, ◌*◌, ◌≤◌, ◌<◌, false, List, [], ◌∷◌, length, map, Some}
-use Rattle.std.proofs.Common.{slice_get, slice_index_or}
+use Rattle.std.proofs.Common.{◌≡◌, ℕ, ◌+◌, ◌*◌, ◌≤◌, ◌<◌, false, List, [], ◌∷◌, length, map, Some, slice_get, slice_index_or}
 use Rattle.std.proofs.Common.{refl, sym, ap, subst, ◌∙◌, arith}
 use Rattle.std.specs.Prelude.{All, ◌==◌}
 use Rattle.std.specs.List.{AllByRecursion}
@@ -140,11 +139,11 @@ module _ (t : AcceptedTables) where
   pub plan_is_wired : IsPlanOf t (plan_of t)
   plan_is_wired = is_plan t (plan_of t) plan_ops plan_wires
 
-  -- and the plan keeps the plan law
+  -- the plan of accepted tables keeps the plan law
   pub plan_keeps_law : IsWithinLimits t → IsCompiled (record { tables = t; plan = plan_of t })
   plan_keeps_law limits = compiled t (plan_of t) plan_ops plan_wires limits
 
-  -- and is no longer than that of the largest set
+  -- the plan of accepted tables is no longer than that of the largest set
   pub value_plan_is_short : IsWithinLimits t
       → length (plan_of t) ≤ MAX_COMMODITIES * (12 + MAX_INTRA_SPREADS) + 1 + MAX_INTER_SPREADS + 1 + 1
   unfolding plan_of
@@ -155,7 +154,7 @@ module _ (t : AcceptedTables) where
       let many = as_many_steps (ops_of t) (map (inputs_of t) (ops_of t)) lists_long in
       omega (arith, many, length_ops t, few_premiums t, small, commodities, inters)
 
-  -- where options have no value it is shorter
+  -- where options have no value the plan is shorter
   pub plan_is_short : IsWithinLimits t → has_option_value t ≡ false
       → length (plan_of t) ≤ MAX_COMMODITIES * (10 + MAX_INTRA_SPREADS) + 1 + MAX_INTER_SPREADS + 1
   unfolding plan_of

@@ -4,9 +4,8 @@ use Rattle.std.specs.Prelude.{fold, option_map, pos, unwrap_or}
 use Rattle.std.proofs.lemmas.List.{append-nil, get_or-map}
 use Rattle.std.proofs.lemmas.List.FromFn.{get_or-map-range_with_len}
 use Rattle.std.proofs.lemmas.Option.{slice_get-get_or, unwrap_or-slice_get}
-use Rattle.span_tables.specs.Tables.{commodity_id}
+use Rattle.span_tables.specs.Tables.{commodity_id, AcceptedTables, inters_of}
 use Rattle.span_tables.specs.Net.{HeldContract, held_of}
-use Rattle.span_tables.specs.Tables.{AcceptedTables, inters_of}
 use Rattle.span_tables.specs.declared.portfolios.Holding.{Holding}
 use Rattle.span_tables.specs.declared.records.Commodity.{Commodity}
 use Rattle.span_tables.specs.declared.records.Inter.{Inter}
@@ -14,12 +13,10 @@ use Rattle.span_tables.specs.declared.records.Intra.{Intra}
 use Rattle.span_tables.specs.declared.sides.MarketSide.{MarketSide}
 use Rattle.spread_stage.specs.Spreads.{TierRests, after_spreads, spread_both_ways, unspread}
 use Rattle.spread_stage.specs.declared.months.MonthUnits.{MonthUnits}
-use Rattle.inter_credit.specs.Credits.{after_inter_spreads, inter_both_ways, line_after, unspread_line}
-use Rattle.inter_credit.specs.Credits.{line_at}
+use Rattle.inter_credit.specs.Credits.{after_inter_spreads, inter_both_ways, line_after, unspread_line, line_at}
 use Rattle.inter_credit.specs.declared.state.InterLine.{InterLine}
 use Rattle.inter_credit.proofs.KeptLemmas.{kept}
-use Rattle.plan_ir.specs.Figures.{deltas_at, held_at, inter_lines, intras_at, line_of, loaded_lines, no_commodity}
-use Rattle.plan_ir.specs.Figures.{tiers_at}
+use Rattle.plan_ir.specs.Figures.{deltas_at, held_at, inter_lines, intras_at, line_of, loaded_lines, no_commodity, tiers_at}
 use Rattle.plan_compiler.specs.Meaning.{lines_loaded}
 
 module _ (t : AcceptedTables) (holdings : List Holding) where

@@ -24,10 +24,9 @@ use Rattle.plan_ir.specs.Apply.{IsOp, Takes, inter_at, no_inter}
 use Rattle.plan_ir.specs.Figures.{deltas_at, delivery_at, held_at, intras_at, line_of, loaded_lines, minimum_at, scan_at}
 use Rattle.plan_ir.specs.declared.ops.Op.{Op}
 use Rattle.plan_ir.specs.declared.ops.Op.TheVariants as op
-use Rattle.plan_compiler.specs.Meaning.{lines_after, lines_loaded, meaning, wanted}
+use Rattle.plan_compiler.specs.Meaning.{lines_after_first, lines_loaded, meaning, wanted}
 use Rattle.plan_compiler.proofs.Meanings.{meaning-before_inter, meaning-before_load, meaning-before_spread, meaning-before_total}
-use Rattle.plan_compiler.proofs.Meanings.{meaning-before_value}
-use Rattle.plan_compiler.proofs.Meanings.{meaning-last_inter, meaning-last_tiers}
+use Rattle.plan_compiler.proofs.Meanings.{meaning-before_value, meaning-last_inter, meaning-last_tiers}
 
 -- the element behind a front
 at_seam : {A : Type 0} (xs : List A) (x : A) (ys : List A) → slice_get (xs ++ x ∷ ys) (length xs) ≡ Some x
@@ -50,7 +49,7 @@ module _ (t : AcceptedTables) (holdings : List Holding) (limits : IsWithinLimits
 
   -- ---- the commodities
 
-  length_lines : (j : ℕ) → length (lines_after t holdings j) ≡ length t.commodities
+  length_lines : (j : ℕ) → length (lines_after_first t holdings j) ≡ length t.commodities
   length_lines j =
       length-after_inter_spreads (take j (inters_of t)) (loaded_lines t holdings)
       ∙ length-loaded_lines t holdings limits portfolio known
@@ -68,7 +67,7 @@ module _ (t : AcceptedTables) (holdings : List Holding) (limits : IsWithinLimits
       )
 
   legs_among : (j : ℕ) → j < length (inters_of t)
-      → All (λ leg. leg.commodity < length (lines_after t holdings j)) (inter_at t j).legs
+      → All (λ leg. leg.commodity < length (lines_after_first t holdings j)) (inter_at t j).legs
   legs_among j lt =
       let known = (limits.inters_in_range j no_inter lt).known in
       λ i d in_range. let among = known i d in_range in omega (arith, among, length_lines j)

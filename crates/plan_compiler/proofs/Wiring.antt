@@ -1,14 +1,12 @@
 -- The inputs of a step: few, each once, and of lower rank.
-use Rattle.std.proofs.Common.{◌≡◌, ℕ, zero, suc, ◌+◌, ◌<◌, ◌≤◌, false, [], ◌∷◌, length}
-use Rattle.std.proofs.Common.{refl, arith}
+use Rattle.std.proofs.Common.{◌≡◌, ℕ, zero, suc, ◌+◌, ◌<◌, ◌≤◌, false, [], ◌∷◌, length, refl, arith}
 use Rattle.std.specs.Prelude.{All, ◌==◌}
 use Rattle.std.specs.List.{AllByRecursion}
 use Rattle.std.proofs.lemmas.Bool.{ne_eqb}
 use Rattle.std.proofs.lemmas.List.Elements.{All-from_recursion}
 use Rattle.span_tables.specs.Accepted.{IsWithinLimits}
-use Rattle.span_tables.specs.Tables.{commodity_id}
+use Rattle.span_tables.specs.Tables.{commodity_id, AcceptedTables, inters_of}
 use Rattle.span_tables.specs.Names.{has_repeat}
-use Rattle.span_tables.specs.Tables.{AcceptedTables, inters_of}
 use Rattle.plan_ir.specs.Apply.{IsOp}
 use Rattle.plan_ir.specs.Figures.{intras_at}
 use Rattle.plan_ir.specs.declared.ops.Op.{Op}

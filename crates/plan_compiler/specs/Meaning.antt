@@ -25,8 +25,8 @@ lines_loaded t holdings n =
     map (line_of t holdings) (range_with_len 0 n) ++ replicate (length t.commodities - n) (unspread_line (pos 0) 0)
 
 -- all commodities after the first intercommodity spreads
-abbrev pub lines_after : AcceptedTables → List Holding → ℕ → List InterLine
-lines_after t holdings spreads = after_inter_spreads (take spreads (inters_of t)) (loaded_lines t holdings)
+abbrev pub lines_after_first : AcceptedTables → List Holding → ℕ → List InterLine
+lines_after_first t holdings spreads = after_inter_spreads (take spreads (inters_of t)) (loaded_lines t holdings)
 
 -- what an operation means at its place, for an account with these holdings
 abbrev pub meaning : AcceptedTables → List Holding → Op → Value
@@ -41,7 +41,7 @@ meaning t holdings (op.Minimum c) = value.Amount (pos (minimum_at t holdings c))
 meaning t holdings (op.Final c) = value.Figures (figures_of t holdings c)
 meaning t holdings op.InterStart = value.Inter (lines_loaded t holdings 0)
 meaning t holdings (op.InterLoad c) = value.Inter (lines_loaded t holdings (c + 1))
-meaning t holdings (op.InterSpread j) = value.Inter (lines_after t holdings (j + 1))
+meaning t holdings (op.InterSpread j) = value.Inter (lines_after_first t holdings (j + 1))
 meaning t holdings op.TotalStart = value.Total (pos 0)
 meaning t holdings (op.TotalAdd c) = value.Total (total_to t holdings (c + 1))
 meaning t holdings (op.NetValue c) = value.Amount (net_value_at t holdings c)

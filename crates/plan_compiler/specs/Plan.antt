@@ -1,6 +1,5 @@
 -- The plan of accepted tables.
-use Rattle.std.specs.Prelude.{◌≡◌, ℕ, zero, suc, ◌<◌, if◌then◌else◌, Some}
-use Rattle.std.specs.Prelude.{List, [], ◌∷◌, ◌++◌, length, map, slice_get}
+use Rattle.std.specs.Prelude.{◌≡◌, ℕ, zero, suc, ◌<◌, if◌then◌else◌, Some, List, [], ◌∷◌, ◌++◌, length, map, slice_get}
 use Rattle.span_tables.specs.Tables.{AcceptedTables, has_option_value, inters_of}
 use Rattle.plan_ir.specs.Figures.{intras_at}
 use Rattle.plan_ir.specs.Plans.{StepView, inputs_at, op_at, ops_in}

@@ -96,7 +96,7 @@ impl CompiledSet {
     }
 
     /// Another set of the same tables and plan, which it shares, with values of nothing held of its own: threads that take
-    /// and drop holds on these would else wait for one another. `Err` is want of memory.
+    /// and drop holds on these would else wait for one another.
     pub fn another(&self, alloc: Global) -> Result<CompiledSet, AllocError>
         ensures { IfOk result (λ set. set ≡ self.now) }
     {
@@ -150,7 +150,7 @@ impl CompiledSet {
     }
 }
 
-// The plan of the tables' operations, whose first steps are given. `Err` is want of memory.
+// The plan of the tables' operations, whose first steps are given.
 fn plan_of(alloc: Global, tables: &Tables, firsts: &[u32]) -> Result<Plan, AllocError>
     requires { AreFirsts tables.now firsts.now }
     ensures { IfOk result (λ plan. plan ≡ plan_of tables.now) }
@@ -163,7 +163,7 @@ fn plan_of(alloc: Global, tables: &Tables, firsts: &[u32]) -> Result<Plan, Alloc
     Ok(plan)
 }
 
-// What compiled sets of these tables share. `Err` is want of memory.
+// What compiled sets of the tables share.
 fn shared_of(alloc: Global, tables: Tables) -> Result<Shared, AllocError>
     ensures tables { IfOk result (λ shared. shared.tables ≡ tables) }
     ensures plan { IfOk result (λ shared. shared.plan ≡ plan_of tables) }
@@ -183,7 +183,7 @@ fn shared_of(alloc: Global, tables: Tables) -> Result<Shared, AllocError>
     })
 }
 
-/// The tables with the plan of their steps (docs/METHOD.md, "The plan of steps"). `Err` is want of memory.
+/// The tables with the plan of their steps (docs/METHOD.md, "The plan of steps").
 pub fn compile(alloc: Global, tables: Tables) -> Result<CompiledSet, AllocError>
     ensures tables { IfOk result (λ set. set.tables ≡ tables) }
     ensures plan { IfOk result (λ set. set.plan ≡ plan_of tables) }

@@ -1,6 +1,5 @@
 -- What a run of a plan begins with: how many inputs each step misses, and which steps miss none.
-use Rattle.std.specs.Prelude.{◌≡◌, ℕ, ◌+◌, ◌<◌, ◌==◌, List, [], ◌∷◌, All, length, nat_lt, slice_index}
-use Rattle.std.specs.Prelude.{if◌then◌else◌}
+use Rattle.std.specs.Prelude.{◌≡◌, ℕ, ◌+◌, ◌<◌, ◌==◌, List, [], ◌∷◌, All, length, nat_lt, slice_index, if◌then◌else◌}
 use Rattle.plan_ir.specs.Plans.{StepView, inputs_at}
 
 -- how often x stands in the list
@@ -13,7 +12,7 @@ pub record AreInputCounts (plan : List StepView) (missing : List ℕ) (k : ℕ) 
   pub long : length missing ≡ k
   pub counts : (j : ℕ) → j < k → slice_index missing j ≡ length (inputs_at plan j)
 
--- those of the first k steps that have no input, each once
+-- the steps without input of the first k steps, each once
 pub record AreWithoutInputs (plan : List StepView) (ready : List ℕ) (k : ℕ) : Type 0 where
   pub in_range : All (λ x. x < k) ready
   pub listed : (j : ℕ) → times j ready ≡ (if nat_lt j k then (if length (inputs_at plan j) == 0 then 1 else 0) else 0)

@@ -3,7 +3,7 @@ use Rattle.std.specs.Prelude.{◌≡◌, ℕ, ◌<◌, ◌≤◌, ◌==◌, List
 use Rattle.plan_ir.specs.Plans.{StepView, inputs_at}
 use Rattle.plan_compiler.specs.near.Beginnings.{times}
 
--- those of the steps from k on that have no input, each once
+-- the steps from k on that have no input, each once
 pub record AreWithoutFrom (plan : List StepView) (ready : List ℕ) (k : ℕ) : Type 0 where
   pub in_range : All (λ x. x < length plan) ready
   pub below : (j : ℕ) → j < k → times j ready ≡ 0
