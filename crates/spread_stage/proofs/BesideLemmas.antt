@@ -1,7 +1,7 @@
 -- Rests beside their months: what stands beside a month is what is found by its number.
 use Rattle.std.proofs.Common.{◌≡◌, ℕ, zero, suc, ◌<◌, Bool, true, false, cond, List, [], ◌∷◌, length, get_or}
 use Rattle.std.proofs.Common.{refl, sym, ap, ◌∙◌, subst, arith}
-use Rattle.std.specs.Prelude.{ℤ, pos, ◌==◌, Option, Some, find, option_map, unwrap_or}
+use Rattle.std.specs.Prelude.{pos, ◌==◌, Option, Some, find, option_map, unwrap_or}
 use Rattle.std.specs.List.{AllByRecursion}
 use Rattle.std.proofs.lemmas.Bool.Decides.{nat_tests}
 use Rattle.spread_stage.specs.Deltas.{units_at}
