@@ -16,19 +16,18 @@ use Rattle.step_scheduler.specs.declared.progress.Progress.{Progress}
 use Rattle.step_scheduler.specs.declared.progress.Progress.TheVariants.{Waiting, Taken, Done}
 use Rattle.step_scheduler.specs.near.Steps.{was_taken, is_done, events_of, progress_at, AreDone, CanStart}
 use Rattle.plan_compiler.specs.near.Beginnings.{times, AreInputCounts, AreWithoutInputs}
-use Rattle.step_scheduler.specs.near.Counts.{open_inputs, ready_times, freed_times, IsCounted}
+use Rattle.step_scheduler.specs.near.Counts.{open_inputs, ready_times, freed_times, CanBeReleased, IsCounted, Released}
 use Rattle.std.specs.Arc.{arc_value}
 use Rattle.plan_compiler.specs.Compiled.{Fits, IsCompiled}
 use Rattle.step_scheduler.specs.Jobs.{JobView, meaning_at}
 use Rattle.step_scheduler.specs.Runs.{IsReady, AllFinished, is_finished, unfinished}
-use Rattle.step_scheduler.specs.near.Kept.{IsBoard}
+use Rattle.step_scheduler.specs.near.Stored.{IsStepped}
 use Rattle.step_scheduler.specs.declared.events.Event.{Event}
 use Rattle.step_scheduler.specs.declared.events.Event.TheVariants.{Take, Finish}
 use Rattle.step_scheduler.proofs.BoardLemmas.{board_takes, board_finishes, waiting_not_done}
-use Rattle.step_scheduler.specs.near.Keeping.{Place, place_at, KeepsMeanings}
-use Rattle.step_scheduler.proofs.Places.{kept_takes, kept_finishes, kept_new}
+use Rattle.step_scheduler.specs.near.Storing.{Slot, slot_at, StoresMeanings}
+use Rattle.step_scheduler.proofs.Slots.{right_after_take, right_after_finish, right_at_first}
 use Rattle.plan_compiler.proofs.CounterLemmas.{times_push_same, times_push_other}
-use Rattle.step_scheduler.proofs.Counting.{Released}
 use Rattle.step_scheduler.proofs.UserLemmas.{HasUsers, has_users}
 
 open_same : (steps steps' : List Progress) → ((i : ℕ) → is_done (progress_at steps' i) ≡ is_done (progress_at steps i))
@@ -242,10 +241,10 @@ ready_times_some : (taken : Bool) (m : ℕ) → 0 < m → ready_times taken m �
 ready_times_some true m h = refl
 ready_times_some false m h = rw (ne_eqb m 0 (λ e. absurd (omega arith))) refl
 
-module _ (job : JobView) (steps : List Progress) (places : List Place) (history : List Event) (capacity : ℕ) (missing : List ℕ) where
+module _ (job : JobView) (steps : List Progress) (slots : List Slot) (history : List Event) (capacity : ℕ) (missing : List ℕ) where
   -- the last step of the list can start
   pub last_starts : (ready rest : List ℕ) (ready_capacity k : ℕ)
-      → IsBoard job steps places history capacity missing ready ready_capacity → ready ≡ rest ++ k ∷ []
+      → IsStepped job steps slots history capacity missing ready ready_capacity → ready ≡ rest ++ k ∷ []
       → CanStart job.set.plan steps k
   last_starts ready rest ready_capacity k b e =
       let some : 0 < times k ready = let t = ap (times k) e ∙ times_push_same k rest in omega arith in
@@ -254,7 +253,7 @@ module _ (job : JobView) (steps : List Progress) (places : List Place) (history 
 
   -- where the list is empty, no step is ready
   pub none_starts : (ready : List ℕ) (ready_capacity : ℕ)
-      → IsBoard job steps places history capacity missing ready ready_capacity → ready ≡ [] → (k : ℕ)
+      → IsStepped job steps slots history capacity missing ready ready_capacity → ready ≡ [] → (k : ℕ)
       → IsReady job.set.plan history k → ⊥
   none_starts ready ready_capacity b e k r =
       empty_none job.set.plan steps missing b.board.long ready_capacity
@@ -265,13 +264,13 @@ module _ (job : JobView) (steps : List Progress) (places : List Place) (history 
       })
 
   module _ (ready : List ℕ) (ready_capacity j : ℕ)
-      (b : IsBoard job steps places history capacity missing ready ready_capacity) (h : j < length steps)
+      (b : IsStepped job steps slots history capacity missing ready ready_capacity) (h : j < length steps)
       (open_j : is_done (progress_at steps j) ≡ false) where
     in_plan : j < length job.set.plan
     in_plan = let l = b.board.long in omega arith
 
     -- the users of a step without a value miss something
-    pub users_miss : (k : ℕ) → 0 < times k (users_of job.set.plan j) → 0 < slice_index missing k
+    users_miss : (k : ℕ) → 0 < times k (users_of job.set.plan j) → 0 < slice_index missing k
     users_miss k some =
         let range = times_in_range (length job.set.plan) k (users_of job.set.plan j) ((has_users _ b.board.compiled).in_range j) some in
         let same = (has_users _ b.board.compiled).same j k range in
@@ -279,8 +278,8 @@ module _ (job : JobView) (steps : List Progress) (places : List Place) (history 
         let less = open_still steps j h open_j (inputs_at job.set.plan k) in
         omega arith
 
-    -- and there is room for them in the list
-    pub users_fit : length ready + length (users_of job.set.plan j) ≤ ready_capacity
+    -- there is room for the users of a step in the list
+    users_fit : length ready + length (users_of job.set.plan j) ≤ ready_capacity
     users_fit =
         let all = fits_together (length job.set.plan) ready (users_of job.set.plan j) b.counted.in_range
         ((has_users _ b.board.compiled).in_range j) (λ k l.
@@ -294,29 +293,40 @@ module _ (job : JobView) (steps : List Progress) (places : List Place) (history 
         let room = b.counted.room in
         omega arith
 
+    -- the users of a step without a value can be counted down
+    pub users_can_be_released : CanBeReleased (users_of job.set.plan j) missing ready ready_capacity
+    users_can_be_released =
+        let users = has_users _ b.board.compiled in
+        record {
+          in_range = rw b.counted.long (users.in_range j);
+          once = users.once j;
+          positive = users_miss;
+          room = users_fit;
+        }
+
   pub board_takes_last : (ready rest : List ℕ) (ready_capacity k : ℕ)
-      → IsBoard job steps places history capacity missing ready ready_capacity → ready ≡ rest ++ k ∷ []
-      → IsBoard job (slice_set steps k Taken) places (history ++ Take k ∷ []) capacity missing rest ready_capacity
+      → IsStepped job steps slots history capacity missing ready ready_capacity → ready ≡ rest ++ k ∷ []
+      → IsStepped job (slice_set steps k Taken) slots (history ++ Take k ∷ []) capacity missing rest ready_capacity
   board_takes_last ready rest ready_capacity k b e =
       let s = last_starts ready rest ready_capacity k b e in
       record {
         board = board_takes job steps history capacity k b.board s;
-        kept = kept_takes job steps places b.kept k (let l = b.board.long in let r = s.in_range in omega arith);
+        values = right_after_take job steps slots b.values k (let l = b.board.long in let r = s.in_range in omega arith);
         counted = counted_takes job.set.plan steps missing b.board.long rest ready_capacity k
             (subst (λ (xs : List ℕ). IsCounted job.set.plan steps missing xs ready_capacity) e b.counted) s.in_range s.waits
             (b.counted.missing_is k s.in_range ∙ none_open steps (inputs_at job.set.plan k) s.fed) (waiting_not_done _ s.waits);
       }
 
   pub board_finishes_and_releases : (ready missing' ready' : List ℕ) (ready_capacity ready_capacity' k : ℕ)
-      (v : Arc Value Global) → IsBoard job steps places history capacity missing ready ready_capacity
+      (v : Arc Value Global) → IsStepped job steps slots history capacity missing ready ready_capacity
       → k < length steps → was_taken (progress_at steps k) ≡ true → is_done (progress_at steps k) ≡ false
       → arc_value v ≡ meaning_at job k
       → Released (users_of job.set.plan k) missing missing' ready ready' ready_capacity ready_capacity'
-      → IsBoard job (slice_set steps k Done) (slice_set places k (Some v))
+      → IsStepped job (slice_set steps k Done) (slice_set slots k (Some v))
       (history ++ Finish k ∷ []) capacity missing' ready' ready_capacity'
   board_finishes_and_releases ready missing' ready' ready_capacity ready_capacity' k v b h taken_k open_k right r = record {
     board = board_finishes job steps history capacity k b.board h taken_k open_k;
-    kept = kept_finishes job steps places b.kept k v (let l = b.board.long in let m = b.kept.long in omega arith) right;
+    values = right_after_finish job steps slots b.values k v (let l = b.board.long in let m = b.values.long in omega arith) right;
     counted = counted_finishes job.set.plan steps missing b.board.long ready missing' ready' ready_capacity ready_capacity' k
         (has_users _ b.board.compiled) b.counted (let l = b.board.long in omega arith) taken_k open_k r;
   }
@@ -336,12 +346,12 @@ no_events zero = refl
 no_events (suc n) = rw sum_by-cons (zero-add _ ∙ no_events n)
 
 -- a new board
-pub board_new : (job : JobView) (n : ℕ) (places : List Place) (capacity : ℕ) (missing ready : List ℕ) (ready_capacity : ℕ)
+pub board_new : (job : JobView) (n : ℕ) (slots : List Slot) (capacity : ℕ) (missing ready : List ℕ) (ready_capacity : ℕ)
     → IsCompiled job.set → Fits job.set.tables (job.portfolio).holdings → n ≡ length job.set.plan → 2 * n ≤ capacity
-    → length places ≡ length job.set.plan → KeepsMeanings job places
+    → length slots ≡ length job.set.plan → StoresMeanings job slots
     → IsCounted job.set.plan (replicate (length job.set.plan) Waiting) missing ready ready_capacity
-    → IsBoard job (replicate n Waiting) places [] capacity missing ready ready_capacity
-board_new job n places capacity missing ready ready_capacity compiled fits is_n room long means counted = record {
+    → IsStepped job (replicate n Waiting) slots [] capacity missing ready ready_capacity
+board_new job n slots capacity missing ready ready_capacity compiled fits is_n room long means counted = record {
   board = record {
     compiled = compiled;
     fits = fits;
@@ -352,7 +362,7 @@ board_new job n places capacity missing ready ready_capacity compiled fits is_n 
     count = no_events n;
     room = rw (length-replicate n Waiting) room;
   };
-  kept = kept_new job n places long means;
+  values = right_at_first job n slots long means;
   counted = rw is_n counted;
 }
 
@@ -365,12 +375,12 @@ open_is_unfinished steps history same (i ∷ is) =
     ap (λ b. (if b then 0 else 1) + open_inputs steps is) (sym (same i))
     ∙ ap (λ n. (if is_finished history i then 0 else 1) + n) (open_is_unfinished steps history same is)
 
--- when all steps are finished, each of their values is kept
-pub kept_when_complete : (job : JobView) (steps : List Progress) (places : List Place) (history : List Event) (capacity : ℕ)
-    (missing ready : List ℕ) (ready_capacity j : ℕ) → IsBoard job steps places history capacity missing ready ready_capacity
-    → AllFinished job.set.plan history → j < length job.set.plan → IsSome (place_at places j)
-kept_when_complete job steps places history capacity missing ready ready_capacity j b all h =
-    b.kept.here j (sym (b.board.finished j) ∙ all j h)
+-- when all steps are finished, each of their values is stored
+pub stored_when_complete : (job : JobView) (steps : List Progress) (slots : List Slot) (history : List Event) (capacity : ℕ)
+    (missing ready : List ℕ) (ready_capacity j : ℕ) → IsStepped job steps slots history capacity missing ready ready_capacity
+    → AllFinished job.set.plan history → j < length job.set.plan → IsSome (slot_at slots j)
+stored_when_complete job steps slots history capacity missing ready ready_capacity j b all h =
+    b.values.here j (sym (b.board.finished j) ∙ all j h)
 
 open_all : (n : ℕ) (is : List ℕ) → open_inputs (replicate n Waiting) is ≡ length is
 open_all n [] = refl

@@ -16,18 +16,18 @@ use Rattle.plan_ir.specs.declared.values.Value.{Value}
 use Rattle.plan_ir.specs.declared.values.Value.TheVariants as value
 use Rattle.plan_compiler.specs.Meaning.{meaning}
 use Rattle.step_scheduler.specs.Jobs.{JobView, meaning_at}
-use Rattle.step_scheduler.specs.near.Keeping.{KeepsMeanings, Place}
-use Rattle.step_scheduler.proofs.Places.{keeps_more}
+use Rattle.step_scheduler.specs.near.Storing.{StoresMeanings, Slot}
+use Rattle.step_scheduler.proofs.Slots.{stores_more}
 
 -- the contracts that are held of each commodity
 abbrev pub all_held : JobView → List (List HeldContract)
 all_held job =
     map (λ c. held_of job.set.tables.contracts (job.portfolio).holdings c.id) job.set.tables.commodities
 
--- what the places have after the first commodities, of which the others are left
-pub record AreFound (job : JobView) (commodity : ℕ) (left : List (List HeldContract)) (places : List Place) : Type 0 where
-  pub long : length places ≡ length job.set.plan
-  pub means : KeepsMeanings job places
+-- what the slots have after the first commodities, of which the others are left
+pub record AreFound (job : JobView) (commodity : ℕ) (left : List (List HeldContract)) (slots : List Slot) : Type 0 where
+  pub long : length slots ≡ length job.set.plan
+  pub means : StoresMeanings job slots
   pub others : left ≡ drop commodity (all_held job)
 
 -- the first of what is left behind some
@@ -56,10 +56,10 @@ held_read job c held h at =
 
 -- one more commodity
 pub found_more : (job : JobView) (c step : ℕ) (held : List HeldContract) (left left' : List (List HeldContract))
-    (places : List Place) (v : Arc Value Global) → AreFound job c left places → left ≡ held ∷ left'
+    (slots : List Slot) (v : Arc Value Global) → AreFound job c left slots → left ≡ held ∷ left'
     → step < length job.set.plan → op_at job.set.plan step ≡ op.Gather c → arc_value v ≡ value.Held held
-    → AreFound job (c + 1) left' (slice_set places step (Some v))
-found_more job c step held left left' places v found e h is_gather right =
+    → AreFound job (c + 1) left' (slice_set slots step (Some v))
+found_more job c step held left left' slots v found e h is_gather right =
     let first = drop_first (all_held job) c held left' (sym found.others ∙ e) in
     let many = length-map job.set.tables.commodities
     (λ (x : Commodity). held_of job.set.tables.contracts (job.portfolio).holdings x.id) in
@@ -67,7 +67,7 @@ found_more job c step held left left' places v found e h is_gather right =
     let means : arc_value v ≡ meaning_at job step =
     right ∙ ap value.Held (sym read) ∙ sym (ap (meaning job.set.tables (job.portfolio).holdings) is_gather) in
     record {
-      long = length-set places step (Some v) ∙ found.long;
-      means = keeps_more job places step v (let l = found.long in omega (arith, l, h)) found.means means;
+      long = length-set slots step (Some v) ∙ found.long;
+      means = stores_more job slots step v (let l = found.long in omega (arith, l, h)) found.means means;
       others = sym first.1.1;
     }

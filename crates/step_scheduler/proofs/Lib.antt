@@ -4,13 +4,15 @@ pub mod GoesOn
 pub mod RunValues
 pub mod Counting
 pub mod UserLemmas
-pub mod Places
+pub mod Slots
 pub mod HeldLemmas
-pub mod PartBounds
+pub mod FoldLemmas
 pub mod PassedOver
+pub mod PartBounds
 pub mod WrittenLemmas
 pub mod NothingLemmas
 pub mod WholeLemmas
+pub mod FormLemmas
 pub mod Counted
 pub mod RunOnce
 pub mod RunOrder

@@ -4,7 +4,6 @@ use Rattle.std.specs.Prelude.{None, Option, Some, nat_abs, option_map, pos, slic
 use Rattle.span_tables.specs.Tables.{AcceptedTables}
 use Rattle.span_tables.specs.declared.portfolios.Holding.{Holding}
 use Rattle.scan_risk.specs.Scenarios.{scan_of, scenario_sums}
-use Rattle.scan_risk.specs.declared.Scan.{Scan}
 use Rattle.spread_stage.specs.Charges.{delivery_charge, intra_charge}
 use Rattle.spread_stage.specs.Deltas.{month_deltas, net_delta}
 use Rattle.spread_stage.specs.Spreads.{after_spreads, unspread}
@@ -17,18 +16,15 @@ use Rattle.inter_credit.specs.declared.state.InterLine.{InterLine}
 use Rattle.inter_credit.proofs.CreditLaws.{credit_zero}
 use Rattle.plan_ir.specs.Figures.{commodity_at, deltas_at, delivery_at, figures_from, figures_of, held_at, inter_lines}
 use Rattle.plan_ir.specs.Figures.{intras_at, line_of, minimum_at, net_value_at, scan_at, spots_at, tiers_at}
+use Rattle.plan_ir.specs.Values.{no_figures, no_scan}
 use Rattle.plan_ir.proofs.NothingLemmas.{minimum_of_nothing, month_deltas_of_nothing, value_of_nothing}
 use Rattle.plan_compiler.proofs.StageLemmas.{kept_at}
-use Rattle.step_scheduler.specs.near.Parts.{figures_of_nothing}
-
-abbrev no_scan : Scan
-no_scan = record { risk = pos 0; active = 1; paired = 2; price2 = 0 }
 
 scan_of_nothing : scan_of (scenario_sums []) ≡ no_scan
 unfolding scan_of scenario_sums
 scan_of_nothing = refl
 
-figures_from_nothing : figures_from no_scan (unspread []) (pos 0) (pos 0) (pos 0) ≡ figures_of_nothing
+figures_from_nothing : figures_from no_scan (unspread []) (pos 0) (pos 0) (pos 0) ≡ no_figures
 unfolding intra_charge requirement_of
 figures_from_nothing = refl
 
@@ -60,7 +56,7 @@ module _ (t : AcceptedTables) (holdings : List Holding) (c : ℕ) (none : held_a
   pub no_line : line_of t holdings c ≡ unspread_line (pos 0) 0
   no_line = λ k. unspread_line (net_delta (no_months k)) (nothing_scanned k).price2
 
-  -- it adds nothing to the option value
+  -- a commodity of which nothing is held adds nothing to the option value
   pub no_value : net_value_at t holdings c ≡ pos 0
   no_value = ap net_value_of none ∙ value_of_nothing
 
@@ -69,9 +65,9 @@ module _ (t : AcceptedTables) (holdings : List Holding) (c : ℕ) (none : held_a
       credit_read (slice_get (inter_lines t holdings) c) (kept_at t holdings (λ line. line.net) (λ on used bp line. refl) c lt
       ∙ ap (λ (line : InterLine). line.net) no_line)
 
-  -- its figures are those of nothing held
-  pub no_figures : c < length t.commodities → figures_of t holdings c ≡ figures_of_nothing
+  -- the figures are those of nothing held
+  pub figures_of_nothing : c < length t.commodities → figures_of t holdings c ≡ no_figures
   unfolding figures_of
-  no_figures lt =
+  figures_of_nothing lt =
       (λ k. figures_from (nothing_scanned k) (no_tiers k) (pos (nothing_delivered k)) (pos (no_credit lt k)) (pos (no_minimum k)))
       ∙ figures_from_nothing

@@ -1,39 +1,60 @@
 -- How large what a whole run has of a held commodity may be.
-use Rattle.std.proofs.Common.{◌≡◌, ◌*◌, ◌<◌, ◌≤◌, true, List, length, arith}
-use Rattle.std.specs.Prelude.{nat_abs}
+use Rattle.std.proofs.Common.{◌≡◌, ◌<◌, ◌≤◌, true, ℕ, List, length, ap, sym, subst, ◌∙◌, arith}
 use Rattle.span_tables.specs.Accepted.{IsWithinLimits}
 use Rattle.span_tables.specs.Holdings.{ArePortfolio, fits}
 use Rattle.span_tables.specs.Tables.{AcceptedTables}
-use Rattle.span_tables.specs.declared.limits.TheConstants.{MAX_PRICE2, MAX_RATE, MAX_UNITS}
 use Rattle.span_tables.specs.declared.portfolios.Holding.{Holding}
 use Rattle.spread_stage.proofs.BoundLaws.{net_small}
-use Rattle.inter_credit.specs.declared.requirement.TheConstants.{MAX_PART}
-use Rattle.plan_ir.specs.Figures.{deltas_at}
+use Rattle.inter_credit.specs.States.{IsNotLoaded, IsUnspread}
+use Rattle.inter_credit.specs.declared.state.InterLine.{InterLine}
+use Rattle.plan_ir.specs.Figures.{deltas_at, inter_lines}
 use Rattle.plan_ir.proofs.BoundLaws.{deltas_at_are, delivery_at_small, minimum_at_small, price2_at_small, risk_at_small, tiers_at_are}
+use Rattle.plan_ir.proofs.BoundLaws.{length-inter_lines}
+use Rattle.plan_compiler.specs.Meaning.{lines_loaded}
+use Rattle.plan_compiler.proofs.Taken.{length_partly, not_loaded, unspread}
 use Rattle.step_scheduler.specs.declared.parts.Part.{Part}
-use Rattle.step_scheduler.specs.near.Parts.{IsPart}
+use Rattle.step_scheduler.specs.near.Parts.{CanBeLoaded, HasLine, IsNext, IsPart, IsSmall}
+use Rattle.step_scheduler.proofs.PassedOver.{lines_over}
 
 -- an account with holdings, under tables within their limits
 module _ (t : AcceptedTables) (holdings : List Holding) (limits : IsWithinLimits t) (portfolio : ArePortfolio holdings)
     (known : fits (length t.contracts) holdings ≡ true) (p : Part) (is : IsPart t holdings p) where
-  pub risk_small : nat_abs (p.scan).risk ≤ MAX_PART
-  risk_small = rw is.scan (let small = risk_at_small t holdings limits portfolio known p.commodity in omega (arith, small))
+  small_part : p.commodity < length t.commodities → IsSmall p
+  small_part lt =
+      let risk = risk_at_small t holdings limits portfolio known p.commodity in
+      let tiers = tiers_at_are t holdings limits portfolio known p.commodity in
+      let delivery = delivery_at_small t holdings limits portfolio known p.commodity in
+      let minimum = minimum_at_small t holdings limits portfolio known p.commodity lt in
+      let deltas = deltas_at_are t holdings limits portfolio known p.commodity in
+      record {
+        risk = rw is.scan (omega (arith, risk));
+        charge = rw is.charge (omega (arith, tiers.small));
+        delivery = rw is.delivery (omega (arith, delivery));
+        minimum = rw is.minimum (omega (arith, minimum));
+        net = rw is.net (net_small (deltas_at t holdings p.commodity) deltas);
+        price2 = rw is.scan (price2_at_small t holdings limits portfolio known p.commodity);
+      }
 
-  pub charge_part_small : p.charge ≤ MAX_RATE * MAX_UNITS
-  charge_part_small =
-      rw is.charge (let are = tiers_at_are t holdings limits portfolio known p.commodity in omega (arith, are.small))
+  -- after all spreads the commodity has its line
+  pub has_line : (lines : List InterLine) → p.commodity < length t.commodities → lines ≡ inter_lines t holdings → HasLine lines p
+  has_line lines lt all = record {
+    known = let long = length-inter_lines t holdings limits portfolio known in omega (arith, lt, long, ap length all);
+    small = small_part lt;
+  }
 
-  pub delivery_part_small : nat_abs p.delivery ≤ MAX_PART
-  delivery_part_small =
-      rw is.delivery (let small = delivery_at_small t holdings limits portfolio known p.commodity in omega (arith, small))
-
-  pub minimum_part_small : p.commodity < length t.commodities → nat_abs p.minimum ≤ MAX_PART
-  minimum_part_small lt =
-      rw is.minimum (let small = minimum_at_small t holdings limits portfolio known p.commodity lt in omega (arith, small))
-
-  pub net_part_small : nat_abs p.net ≤ MAX_UNITS
-  net_part_small =
-      rw is.net (net_small (deltas_at t holdings p.commodity) (deltas_at_are t holdings limits portfolio known p.commodity))
-
-  pub price2_part_small : (p.scan).price2 ≤ MAX_PRICE2
-  price2_part_small = rw is.scan (price2_at_small t holdings limits portfolio known p.commodity)
+  -- the next part can be loaded
+  pub can_be_loaded : (from : ℕ) (lines : List InterLine) → IsNext t holdings from p.commodity
+      → lines ≡ lines_loaded t holdings from → CanBeLoaded lines p
+  can_be_loaded from lines next loaded =
+      let le : p.commodity ≤ length t.commodities = omega (arith, next.known) in
+      let here = loaded ∙ lines_over t holdings from p.commodity next.behind le next.none in
+      record {
+        line = record {
+          known = let long = length_partly t holdings limits portfolio known p.commodity le in
+              omega (arith, next.known, long, ap length here);
+          small = small_part next.known;
+        };
+        not_loaded = subst (λ ls. IsNotLoaded ls p.commodity) (sym here)
+            (not_loaded t holdings limits portfolio known p.commodity next.known);
+        unspread = subst IsUnspread (sym here) (unspread t holdings limits portfolio known p.commodity);
+      }

@@ -13,7 +13,7 @@ use Rattle.plan_ir.specs.Figures.{held_at, line_of, value_to}
 use Rattle.plan_compiler.specs.Meaning.{lines_loaded}
 use Rattle.plan_compiler.proofs.Meanings.{load_more, value_more}
 use Rattle.step_scheduler.specs.declared.parts.Part.{Part}
-use Rattle.step_scheduler.specs.near.Parts.{IsPart, NoneHeld}
+use Rattle.step_scheduler.specs.near.Parts.{IsNext, IsPart, NoneHeld}
 use Rattle.step_scheduler.proofs.NothingLemmas.{no_line, no_value}
 
 -- what stays the same from each number to the next stays the same
@@ -46,18 +46,19 @@ module _ (t : AcceptedTables) (holdings : List Holding) where
   lines_over from to le few none =
       steady_up_to (lines_loaded t holdings) from to le (λ c a b. one_over c (omega (arith, b, few)) (none c a b))
 
-  -- one that is held is loaded
-  pub load_part : (p : Part) (before after : List InterLine) → p.commodity < length t.commodities → IsPart t holdings p
-      → before ≡ lines_loaded t holdings p.commodity
+  -- the next that is held is loaded
+  pub loaded_more : (p : Part) (from : ℕ) (before after : List InterLine) → IsNext t holdings from p.commodity
+      → IsPart t holdings p → before ≡ lines_loaded t holdings from
       → after ≡ slice_set before p.commodity (unspread_line p.net (p.scan).price2) → after ≡ lines_loaded t holdings (p.commodity + 1)
-  load_part p before after lt is b a =
-      a ∙ (λ k. slice_set (b k) p.commodity (unspread_line (is.net k) (is.scan k).price2)) ∙ load_more t holdings p.commodity lt
+  loaded_more p from before after next is b a =
+      let here = b ∙ lines_over from p.commodity next.behind (omega (arith, next.known)) next.none in
+      a ∙ (λ k. slice_set (here k) p.commodity (unspread_line (is.net k) (is.scan k).price2)) ∙ load_more t holdings p.commodity next.known
 
   value_over : (c : ℕ) → held_at t holdings c ≡ [] → value_to t holdings c ≡ value_to t holdings (c + 1)
   value_over c none =
       sym (+ℤ_idr (value_to t holdings c)) ∙ ap (λ z. value_to t holdings c +ℤ z) (sym (no_value t holdings c none))
       ∙ value_more t holdings c
 
-  -- they add nothing to the option value
+  -- commodities of which nothing is held add nothing to the option value
   pub values_over : (from to : ℕ) → from ≤ to → NoneHeld t holdings from to → value_to t holdings from ≡ value_to t holdings to
   values_over from to le none = steady_up_to (value_to t holdings) from to le (λ c a b. value_over c (none c a b))

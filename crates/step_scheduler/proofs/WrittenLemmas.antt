@@ -1,73 +1,55 @@
 -- Figures are written over those of nothing held.
-use Rattle.std.proofs.Common.{◌≡◌, ℕ, ◌+◌, ◌<◌, ◌≤◌, List, length, sym, ap, ◌∙◌, arith, slice_set, subst, inl, inr}
+use Rattle.std.proofs.Common.{◌≡◌, ℕ, ◌+◌, ◌<◌, ◌≤◌, List, length, sym, ◌∙◌, arith, slice_set, subst, inl, inr}
 use Rattle.std.proofs.Common.{length-set, get_or-set_same, get_or-set_other}
-use Rattle.std.specs.Prelude.{replicate, pos, slice_index_or}
+use Rattle.std.specs.Prelude.{[], replicate, pos, slice_index_or}
 use Rattle.std.proofs.lemmas.Bool.{cases_eq, cases_lt}
 use Rattle.std.proofs.lemmas.List.{get_or-replicate, length-replicate}
 use Rattle.span_tables.specs.Tables.{AcceptedTables}
 use Rattle.span_tables.specs.declared.portfolios.Holding.{Holding}
-use Rattle.spread_stage.specs.Charges.{intra_charge}
-use Rattle.inter_credit.specs.Requirement.{requirement_of}
 use Rattle.inter_credit.specs.Credits.{credit_at}
 use Rattle.inter_credit.specs.declared.state.InterLine.{InterLine}
-use Rattle.plan_ir.specs.Figures.{figures_of, inter_lines}
+use Rattle.plan_ir.specs.Figures.{figures_from, figures_of, inter_lines}
+use Rattle.plan_ir.specs.Values.{no_figures}
 use Rattle.plan_ir.specs.declared.figures.Figures.{Figures}
 use Rattle.step_scheduler.specs.near.Figures.{AreAllFigures}
 use Rattle.step_scheduler.specs.declared.parts.Part.{Part}
-use Rattle.step_scheduler.specs.near.Parts.{AreWritten, IsPart, NoneHeld, figures_of_nothing}
-use Rattle.step_scheduler.proofs.NothingLemmas.{no_figures}
+use Rattle.step_scheduler.specs.near.Parts.{AreWritten, IsEnd, IsNext, IsPart, NoneHeld, figures_of_part}
+use Rattle.step_scheduler.proofs.NothingLemmas.{figures_of_nothing}
 
--- the figures of a held commodity, from its part and its credit
-pub figures_are : (t : AcceptedTables) (holdings : List Holding) (credit : ℕ) (p : Part) (lines : List InterLine)
-    → IsPart t holdings p → lines ≡ inter_lines t holdings → credit ≡ credit_at lines p.commodity
-    → ◌≡◌ {A = Figures} (record {
-      scan = (p.scan).risk;
-      active = (p.scan).active;
-      intra = pos (intra_charge p.charge);
-      delivery = p.delivery;
-      credit = pos credit;
-      minimum = p.minimum;
-      requirement = requirement_of (p.scan).risk (pos (intra_charge p.charge)) p.delivery (pos credit) p.minimum;
-    }) (figures_of t holdings p.commodity)
+-- the figures of a held commodity are those of its part and its credit
+figures_are : (t : AcceptedTables) (holdings : List Holding) (p : Part) (lines : List InterLine) → IsPart t holdings p
+    → lines ≡ inter_lines t holdings
+    → figures_of_part p (pos (credit_at lines p.commodity)) ≡ figures_of t holdings p.commodity
 unfolding figures_of
-figures_are t holdings credit p lines is l e =
-    let credit_is : credit ≡ credit_at (inter_lines t holdings) p.commodity = e ∙ ap (λ ls. credit_at ls p.commodity) l in
-    λ k. record {
-      scan = (is.scan k).risk;
-      active = (is.scan k).active;
-      intra = pos (intra_charge (is.charge k));
-      delivery = is.delivery k;
-      credit = pos (credit_is k);
-      minimum = is.minimum k;
-      requirement = requirement_of (is.scan k).risk (pos (intra_charge (is.charge k))) (is.delivery k) (pos (credit_is k))
-          (is.minimum k);
-    }
+figures_are t holdings p lines is l =
+    λ k. figures_from (is.scan k) (record { rests = []; charge = is.charge k }) (is.delivery k) (pos (credit_at (l k) p.commodity))
+        (is.minimum k)
 
 -- nothing is written yet
 pub none_written : (t : AcceptedTables) (holdings : List Holding) (figures : List Figures)
-    → figures ≡ replicate (length t.commodities) figures_of_nothing → AreWritten t holdings 0 figures
+    → figures ≡ replicate (length t.commodities) no_figures → AreWritten t holdings 0 figures
 none_written t holdings figures is = rw is (record {
-  many = length-replicate (length t.commodities) figures_of_nothing;
+  many = length-replicate (length t.commodities) no_figures;
   done = λ k lt. absurd (omega (arith, lt));
-  left = λ k le lt d. get_or-replicate (length t.commodities) k figures_of_nothing d
-      (omega (arith, lt, length-replicate (length t.commodities) figures_of_nothing));
+  left = λ k le lt d. get_or-replicate (length t.commodities) k no_figures d
+      (omega (arith, lt, length-replicate (length t.commodities) no_figures));
 })
 
 module _ (t : AcceptedTables) (holdings : List Holding) (n : ℕ) (figures : List Figures) (before : AreWritten t holdings n figures) where
-  -- those of commodities of which nothing is held stand there
-  pub figures_over : (to : ℕ) → n ≤ to → to ≤ length t.commodities → NoneHeld t holdings n to → AreWritten t holdings to figures
+  -- where nothing is held, the right figures stand already
+  figures_over : (to : ℕ) → n ≤ to → to ≤ length t.commodities → NoneHeld t holdings n to → AreWritten t holdings to figures
   figures_over to le few none = record {
     many = before.many;
     done = λ k below d. elim (cases_lt k n) [
       | inl under ↦ before.done k under d
       | inr from ↦ before.left k from (omega (arith, below, few, before.many)) d
-          ∙ sym (no_figures t holdings k (none k from below) (omega (arith, below, few)))
+          ∙ sym (figures_of_nothing t holdings k (none k from below) (omega (arith, below, few)))
     ];
     left = λ k at lt d. before.left k (omega (arith, at, le)) lt d;
   }
 
   -- a commodity's figures are written
-  pub one_written : (f : Figures) (after : List Figures) → n < length t.commodities → f ≡ figures_of t holdings n
+  one_written : (f : Figures) (after : List Figures) → n < length t.commodities → f ≡ figures_of t holdings n
       → after ≡ slice_set figures n f → AreWritten t holdings (n + 1) after
   one_written f after lt e is = rw is (record {
     many = length-set figures n f ∙ before.many;
@@ -81,9 +63,19 @@ module _ (t : AcceptedTables) (holdings : List Holding) (n : ℕ) (figures : Lis
         get_or-set_other figures n k f d apart ∙ before.left k (omega (arith, le)) (omega (arith, at, length-set figures n f)) d;
   })
 
-  -- all are written
-  pub all_written : n ≡ length t.commodities → AreAllFigures t holdings figures
-  all_written all = record {
-    every = before.many;
-    each = λ c lt d. before.done c (omega (arith, lt, all, before.many)) d;
-  }
+-- the figures of the next part are written
+pub part_written : (t : AcceptedTables) (holdings : List Holding) (p : Part) (lines : List InterLine) (from : ℕ)
+    (before after : List Figures) (f : Figures) → IsNext t holdings from p.commodity → IsPart t holdings p
+    → lines ≡ inter_lines t holdings → AreWritten t holdings from before
+    → f ≡ figures_of_part p (pos (credit_at lines p.commodity)) → after ≡ slice_set before p.commodity f
+    → AreWritten t holdings (p.commodity + 1) after
+part_written t holdings p lines from before after f next is l written e set =
+    let over = figures_over t holdings from before written p.commodity next.behind (omega (arith, next.known)) next.none in
+    one_written t holdings p.commodity before over f after next.known (e ∙ figures_are t holdings p lines is l) set
+
+-- where nothing is left, all are written
+pub all_written : (t : AcceptedTables) (holdings : List Holding) (from : ℕ) (figures : List Figures) → IsEnd t holdings from
+    → AreWritten t holdings from figures → AreAllFigures t holdings figures
+all_written t holdings from figures end written =
+    let over = figures_over t holdings from figures written (length t.commodities) end.behind (omega arith) end.none in
+    record { every = over.many; each = λ c lt d. over.done c (omega (arith, lt, over.many)) d }

@@ -1,5 +1,5 @@
 -- What contracts see of a board.
-use Rattle.std.specs.Prelude.{◌≡◌, Bool, false, List}
+use Rattle.std.specs.Prelude.{◌≡◌, Bool, false, List, IfOk, IfSome, Option, Result}
 use Rattle.plan_compiler.specs.Compiled.{SetView}
 use Rattle.step_scheduler.specs.Jobs.{JobView}
 use Rattle.step_scheduler.specs.Runs.{AllFinished}
@@ -20,3 +20,7 @@ pub record IsComplete (b : BoardView) : Type 0 where
 pub record CourseView : Type 0 where
   pub set : SetView
   pub events : List Event
+
+-- what is true of a task that was handed out
+abbrev pub IfHanded : {A E : Type 0} → Result (Option A) E → (A → Type 0) → Type 0
+IfHanded result P = IfOk result (λ r. IfSome r P)

@@ -2,8 +2,8 @@
 pub mod Counts
 pub mod Figures
 pub mod Forms
-pub mod Keeping
-pub mod Kept
+pub mod Storing
+pub mod Stored
 pub mod Parts
 pub mod Steps
 pub mod Tasks

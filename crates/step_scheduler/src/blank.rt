@@ -1,6 +1,7 @@
 //! What an account has that holds nothing.
 ghost use Rattle.std.specs.Prelude.{◌≡◌, IfOk};
-ghost use Rattle.step_scheduler.specs.near.Parts.{IsBlank, figures_of_nothing};
+ghost use Rattle.plan_ir.specs.Values.{no_figures};
+ghost use Rattle.step_scheduler.specs.near.Parts.{IsBlank};
 
 use inter_credit::state::{InterState, empty};
 use plan_ir::figures::Figures;
@@ -20,14 +21,14 @@ impl Blank {
     {
         Ok(Blank {
             lines: empty(alloc, commodities)?,
-            figures: vec![in alloc; no_figures(); commodities]?,
+            figures: vec![in alloc; figures_of_nothing(); commodities]?,
         })
     }
 }
 
 // The figures of a commodity of which nothing is held.
-fn no_figures() -> Figures
-    ensures { result ≡ figures_of_nothing }
+fn figures_of_nothing() -> Figures
+    ensures { result ≡ no_figures }
 {
     let none = Money::new(0);
     Figures {

@@ -5,22 +5,27 @@ ghost use Rattle.std.specs.Prelude.{IsSome, length};
 ghost use Rattle.std.specs.Arc.{arc_value};
 ghost use Rattle.plan_ir.specs.Figures.{figures_of, option_value_of, total_to};
 ghost use Rattle.plan_ir.specs.Plans.{inputs_at};
-ghost use Rattle.step_scheduler.specs.Boards.{IsComplete};
+ghost use Rattle.step_scheduler.specs.Boards.{IfHanded, IsComplete};
 ghost use Rattle.step_scheduler.specs.near.Figures.{AreAllFigures};
 ghost use Rattle.step_scheduler.specs.Jobs.{inputs_for, meaning_at};
 ghost use Rattle.step_scheduler.specs.Runs.{AllFinished, CanGoOn, IsOnce, IsReady, IsRun, IsUnderWay, is_finished};
 ghost use Rattle.step_scheduler.specs.Runs.{run_values, unfinished};
 ghost use Rattle.step_scheduler.specs.declared.events.Event.TheVariants.{Take, Finish};
 
+use crate::counters::{counters, last_of, release};
 use crate::courses::Course;
 use crate::events::Event;
 use crate::finished::Finished;
+use crate::handing::task_of;
 use crate::jobs::Job;
+use crate::opening::found_values;
+use crate::progress::{Progress, all_done, is_under_way};
 use crate::stepped::Stepped;
 use crate::tasks::Task;
 use crate::watches::Watch;
-use crate::whole::Whole;
+use crate::whole::{Whole, copied};
 use plan_ir::figures::Figures;
+use plan_ir::values::Value;
 use span_money::amounts::Money;
 use std::alloc::{AllocError, Global};
 use std::marker::Model;
@@ -38,49 +43,69 @@ pub enum Refused {
     Failed,
 }
 
-// How a board goes through its plan.
+// How a board goes through its plan: its steps are handed out one by one, or all of them were run in one call.
 #[derive(Drop)]
 enum Form {
-    // Its steps are handed out one by one.
     Stepped(Stepped),
-    // All of them were run in one call.
     Whole(Whole),
 }
 
 /// The run of a job's plan: what has happened to its steps, and their values.
 ///
-/// Contracts see the job, the history, and whether the board has failed.
+/// Contracts see the job, the history, and whether the board has failed. The values that are stored are the steps' meanings.
 #[derive(Drop)]
 pub struct Board {
+    alloc: Global,
+    job: Arc<Job>,
+    history: Vec<Event>,
+    failed: bool,
     form: Form,
 }
 
 impl Model for Board {
+    ghost use Rattle.std.specs.Prelude.{vec_capacity};
+    ghost use Rattle.std.specs.Arc.{arc_value};
     ghost use Rattle.step_scheduler.specs.Boards.{BoardView};
-    ghost use Rattle.step_scheduler.specs.near.Forms.{view_of};
+    ghost use Rattle.step_scheduler.specs.near.Forms.{IsBoard};
 
     ghost Value = { BoardView };
 
-    ghost view = { λ b. view_of b.form };
+    ghost view = { λ b. record { job = arc_value b.job; history = b.history.items; failed = b.failed } };
+
+    ghost invariant = { λ b. IsBoard (arc_value b.job) b.history.items (vec_capacity b.history) b.form };
 }
 
 impl Board {
-    /// A board of a job of which nothing has happened. `Err` is want of memory.
+    /// A board of a job of which nothing has happened.
     ///
-    /// It makes all the room that the board will ever need.
+    /// All the room that the board will ever need is made here.
     pub fn new(alloc: Global, job: Arc<Job>) -> Result<Board, AllocError>
         ensures { IfOk result (λ b. b ≡ record { job = arc_value job; history = []; failed = false }) }
     {
+        let count = job.plan().len();
+        let steps = vec![in alloc; Progress::Waiting; count]?;
+        let (missing, ready) = counters(alloc, job.set())?;
+        let slots = found_values(alloc, &job)?;
+        let history = Vec::with_capacity(alloc, 2 * count)?;
+        let stepped = Stepped {
+            steps,
+            missing,
+            ready,
+            slots,
+        };
         Ok(Board {
-            form: Form::Stepped(Stepped::new(alloc, job)?),
+            alloc,
+            job,
+            history,
+            failed: false,
+            form: Form::Stepped(stepped),
         })
     }
 
-    /// A board of a job on which every step of its plan was run, in one call: its history is that of the set's course. `Err`
-    /// is want of memory.
+    /// A board of a job on which every step of its plan was run, in one call: its history is that of the set's course.
     ///
-    /// The watch is passed for each step in the order of that history, and before the step is evaluated. It is passed also for
-    /// the steps of what is not held, of which nothing is evaluated. As with [`Board::new`], the held contracts of all
+    /// The watch is passed for each step in the order of that history, and before the step is evaluated. The watch is passed also
+    /// for the steps of what is not held, of which nothing is evaluated. As with [`Board::new`], the held contracts of all
     /// commodities are found before the first step.
     pub fn whole<W: Watch>(
         alloc: Global,
@@ -92,8 +117,16 @@ impl Board {
         ensures value { IfOk result (λ b. b ≡ record { job = arc_value job; history = course.now.events; failed = false }) }
         ensures complete { IfOk result (λ b. IsComplete b) }
     {
+        // Called for its clauses: the plan keeps the plan law, and the portfolio fits the tables.
+        let _plan = job.plan();
+        let whole = Whole::new(alloc, &job, course, watch)?;
+        let history = copied(alloc, course.events())?;
         Ok(Board {
-            form: Form::Whole(Whole::new(alloc, job, course, watch)?),
+            alloc,
+            job,
+            history,
+            failed: false,
+            form: Form::Whole(whole),
         })
     }
 
@@ -101,41 +134,47 @@ impl Board {
     pub fn job(&self) -> &Arc<Job>
         ensures { arc_value result.now ≡ self.now.job }
     {
-        match &self.form {
-            Form::Stepped(board) => board.job(),
-            Form::Whole(board) => board.job(),
-        }
+        &self.job
     }
 
     /// Hands out a ready step, with the values of its inputs.
     ///
-    /// `None` where no step is ready or the board has failed. `Err` is want of memory. After either the board is as it was.
+    /// `None` where no step is ready or the board has failed. After `None` and after `Err` the board is as it was.
     pub fn take_ready(&mut self) -> Result<Option<Task>, AllocError>
         ensures same_job { self.new.job ≡ self.old.job }
-        ensures ready { IfOk result (λ r. IfSome r (λ task. IsReady self.old.job.set.plan self.old.history task.step)) }
-        ensures live { IfOk result (λ r. IfSome r (λ task. self.old.failed ≡ false)) }
-        ensures job { IfOk result (λ r. IfSome r (λ task. task.job ≡ self.old.job)) }
-        ensures inputs { IfOk result (λ r. IfSome r (λ task. task.inputs ≡ inputs_for self.old.job task.step)) }
-        ensures taken { IfOk result (λ r. IfSome r (λ task.
-            self.new ≡ record self.old { history = self.old.history ++ Take task.step ∷ [] })) }
+        ensures ready { IfHanded result (λ task. IsReady self.old.job.set.plan self.old.history task.step) }
+        ensures live { IfHanded result (λ task. self.old.failed ≡ false) }
+        ensures job { IfHanded result (λ task. task.job ≡ self.old.job) }
+        ensures inputs { IfHanded result (λ task. task.inputs ≡ inputs_for self.old.job task.step) }
+        ensures taken { IfHanded result (λ task.
+            self.new ≡ record self.old { history = self.old.history ++ Take task.step ∷ [] }) }
         ensures none { IfOk result (λ r. IfNone r (self.old.failed ≡ false
             → (k : ℕ) → IsReady self.old.job.set.plan self.old.history k → ⊥)) }
         ensures unchanged { IfOk result (λ r. IfNone r (self.new ≡ self.old)) }
         ensures err { OnErr result (self.new ≡ self.old) }
     {
+        if self.failed {
+            return Ok(None);
+        }
         match &mut self.form {
-            Form::Stepped(board) => board.take_ready(),
-            Form::Whole(board) => {
-                board.rests();
-                Ok(None)
+            Form::Stepped(stepped) => {
+                let Some(step) = last_of(stepped.ready.as_slice()) else {
+                    return Ok(None);
+                };
+                let task = task_of(self.alloc, &self.job, stepped.slots.as_slice(), step)?;
+                stepped.ready.truncate(stepped.ready.len() - 1);
+                stepped.steps[step as usize] = Progress::Taken;
+                self.history.push_reserved(Event::Take(step));
+                Ok(Some(task))
             }
+            Form::Whole(_) => Ok(None),
         }
     }
 
-    /// Keeps the value of a step that was handed out. It takes no memory.
+    /// Stores the value of a step that was handed out, which takes no memory.
     ///
-    /// The mark that there was none for the value makes the board failed. Refused is, first, every step where the board has
-    /// failed, and then one that is not under way; the board is then as it was. The step's job is the board's.
+    /// The mark that there was no memory for the value makes the board failed. A board that has failed refuses every step, and
+    /// another board refuses a step that is not under way. After a refusal the board is as it was. The step's job is the board's.
     pub fn finish(&mut self, finished: Finished) -> Result<(), Refused>
         requires { finished.job ≡ self.old.job }
         ensures same_job { self.new.job ≡ self.old.job }
@@ -147,9 +186,51 @@ impl Board {
             self.new ≡ record self.old { history = self.old.history ++ Finish finished.step ∷ [] })) }
         ensures no_memory { OnOk result (IfNone finished.value (self.new ≡ record self.old { failed = true })) }
     {
+        if self.failed {
+            return Err(Refused::Failed);
+        }
+        let (step, value) = finished.into_parts();
+        if !self.is_under_way(step) {
+            return Err(Refused::NotTaken);
+        }
+        match value {
+            Some(value) => self.store_value(step, value),
+            None => self.failed = true,
+        }
+        Ok(())
+    }
+
+    // Whether a step was handed out and has no value yet.
+    fn is_under_way(&self, step: u32) -> bool
+        requires { step < length self.now.job.set.plan }
+        ensures { IsTrue result ↔ IsUnderWay self.now.history step }
+    {
+        match &self.form {
+            Form::Stepped(stepped) => is_under_way(stepped.steps.as_slice(), step as usize),
+            Form::Whole(_) => false,
+        }
+    }
+
+    // Stores the value of a step that is under way.
+    fn store_value(&mut self, step: u32, value: Arc<Value>)
+        requires in_range { step < length self.old.job.set.plan }
+        requires under_way { IsUnderWay self.old.history step }
+        requires means { arc_value value ≡ meaning_at self.old.job step }
+        ensures { self.new ≡ record self.old { history = self.old.history ++ Finish step ∷ [] } }
+    {
         match &mut self.form {
-            Form::Stepped(board) => board.finish(finished),
-            Form::Whole(board) => board.refuse(finished),
+            Form::Stepped(stepped) => {
+                let place = step as usize;
+                stepped.steps[place] = Progress::Done;
+                stepped.slots[place] = Some(value);
+                self.history.push_reserved(Event::Finish(step));
+                release(
+                    self.job.plan().users(place),
+                    &mut stepped.missing,
+                    &mut stepped.ready,
+                );
+            }
+            Form::Whole(_) => unreachable!(),
         }
     }
 
@@ -157,10 +238,7 @@ impl Board {
     pub fn fail(&mut self)
         ensures { self.new ≡ record self.old { failed = true } }
     {
-        match &mut self.form {
-            Form::Stepped(board) => board.fail(),
-            Form::Whole(board) => board.fail(),
-        }
+        self.failed = true;
     }
 
     /// Whether every step has its value, and the board has not failed.
@@ -169,9 +247,12 @@ impl Board {
         ensures goes_on { result ≡ false → self.now.failed ≡ false
             → (k : ℕ) × CanGoOn self.now.job.set.plan self.now.history k }
     {
+        if self.failed {
+            return false;
+        }
         match &self.form {
-            Form::Stepped(board) => board.is_complete(),
-            Form::Whole(board) => board.is_complete(),
+            Form::Stepped(stepped) => all_done(stepped.steps.as_slice(), self.history.len()),
+            Form::Whole(_) => true,
         }
     }
 
@@ -181,11 +262,8 @@ impl Board {
         ensures { result ≡ unfinished self.now.history (inputs_at self.now.job.set.plan k) }
     {
         match &self.form {
-            Form::Stepped(board) => board.missing(k),
-            Form::Whole(board) => {
-                board.rests();
-                0
-            }
+            Form::Stepped(stepped) => stepped.missing[k] as usize,
+            Form::Whole(_) => 0,
         }
     }
 
@@ -197,10 +275,7 @@ impl Board {
         ensures values { (k : ℕ) → is_finished self.now.history k ≡ true
             → run_values self.now.job self.now.history k ≡ meaning_at self.now.job k }
     {
-        match &self.form {
-            Form::Stepped(board) => board.history(),
-            Form::Whole(board) => board.history(),
-        }
+        self.history.as_slice()
     }
 
     /// The figures of the commodity of a number, once the board is complete. `None` before that, and past the last commodity.
@@ -208,10 +283,13 @@ impl Board {
         ensures complete { IsSome result ↔ (IsComplete self.now × (commodity < length self.now.job.set.tables.commodities)) }
         ensures value { IfSome result (λ f. f ≡ figures_of self.now.job.set.tables self.now.job.portfolio.holdings commodity) }
     {
-        match &self.form {
-            Form::Stepped(board) => board.figures(commodity),
-            Form::Whole(board) => board.figures(commodity),
+        if !self.is_complete() || commodity >= self.job.set().tables().commodities().len() {
+            return None;
         }
+        Some(match &self.form {
+            Form::Stepped(stepped) => stepped.figures(&self.job, commodity),
+            Form::Whole(whole) => whole.figures[commodity],
+        })
     }
 
     /// The total, in minor units, once the board is complete, and `None` before.
@@ -220,32 +298,45 @@ impl Board {
         ensures value { IfSome result (λ total. total ≡ total_to self.now.job.set.tables
             self.now.job.portfolio.holdings (length self.now.job.set.tables.commodities)) }
     {
-        match &self.form {
-            Form::Stepped(board) => board.total(),
-            Form::Whole(board) => board.total(),
+        if !self.is_complete() {
+            return None;
         }
+        Some(match &self.form {
+            Form::Stepped(stepped) => stepped.total(&self.job),
+            Form::Whole(whole) => whole.total,
+        })
     }
 
-    /// The account's option value, in minor units, once the board is complete, and `None` before. It is 0 under a profile in
+    /// The account's option value, in minor units, once the board is complete, and `None` before: 0 under a profile in
     /// which options have none.
     pub fn value(&self) -> Option<Money>
         ensures complete { IsSome result ↔ IsComplete self.now }
         ensures value { IfSome result (λ value. value ≡ option_value_of self.now.job.set.tables self.now.job.portfolio.holdings) }
     {
-        match &self.form {
-            Form::Stepped(board) => board.value(),
-            Form::Whole(board) => board.value(),
+        if !self.is_complete() {
+            return None;
         }
+        Some(match &self.form {
+            Form::Stepped(stepped) => stepped.value(&self.job),
+            Form::Whole(whole) => whole.value,
+        })
     }
 
-    /// The figures of all commodities by their numbers, handed over. The board is complete. `Err` is want of memory.
+    /// The figures of all commodities by their numbers, handed over. The board is complete.
     pub fn into_figures(self, alloc: Global) -> Result<Vec<Figures>, AllocError>
         requires { IsComplete self }
         ensures { IfOk result (λ figures. AreAllFigures self.job.set.tables self.job.portfolio.holdings figures.items) }
     {
-        match self.form {
-            Form::Stepped(board) => board.all_figures(alloc),
-            Form::Whole(board) => Ok(board.into_figures()),
+        let Board {
+            alloc: _,
+            job,
+            history: _,
+            failed: _,
+            form,
+        } = self;
+        match form {
+            Form::Stepped(stepped) => stepped.all_figures(alloc, &job),
+            Form::Whole(whole) => Ok(whole.figures),
         }
     }
 }

@@ -1,10 +1,7 @@
 //! Counters of missing inputs, and the list of ready steps.
-ghost use Rattle.std.specs.Prelude.{◌≡◌, ℕ, ◌+◌, ◌<◌, ◌≤◌, ◌++◌, ◌∷◌, [], ◌-◌};
-ghost use Rattle.std.specs.Prelude.{All, IfOk, MatchOption, length, replicate};
-ghost use Rattle.std.specs.Prelude.{slice_index, take, vec_capacity};
-ghost use Rattle.plan_compiler.specs.near.Beginnings.{times};
+ghost use Rattle.std.specs.Prelude.{◌≡◌, ◌++◌, ◌∷◌, [], ◌-◌, IfOk, MatchOption, length, replicate, take, vec_capacity};
 ghost use Rattle.step_scheduler.specs.declared.progress.Progress.TheVariants.{Waiting};
-ghost use Rattle.step_scheduler.specs.near.Counts.{freed_times, IsCounted};
+ghost use Rattle.step_scheduler.specs.near.Counts.{CanBeReleased, IsCounted, Released};
 
 use plan_compiler::set::CompiledSet;
 use std::alloc::{AllocError, Global};
@@ -34,20 +31,11 @@ pub(crate) fn counters(alloc: Global, set: &CompiledSet) -> Result<(Vec<u8>, Vec
 
 // Counts the users of a finished step down, and lists those that miss nothing any more.
 //
-// They are listed from the last to the first: the list is a stack, and so the lowest of them is the first to be handed out.
+// Users are listed from the last to the first: the list is a stack, so its lowest user is the first to be handed out.
 pub(crate) fn release(users: &[u32], missing: &mut Vec<u8>, ready: &mut Vec<u32>)
-    requires in_range { All (λ u. u < length missing.old.items) users.now }
-    requires once { (k : ℕ) → times k users.now ≤ 1 }
-    requires positive { (k : ℕ) → 0 < times k users.now → 0 < slice_index missing.old.items k }
-    requires room { length ready.old.items + length users.now ≤ vec_capacity ready.old }
-    ensures long { length missing.new.items ≡ length missing.old.items }
-    ensures missing { (k : ℕ) → slice_index missing.new.items k + times k users.now ≡ slice_index missing.old.items k }
-    ensures ready { (k : ℕ) → times k ready.new.items ≡ times k ready.old.items
-        + freed_times (times k users.now) (slice_index missing.new.items k) }
-    ensures ready_in_range { (n : ℕ) → n ≡ length missing.old.items → All (λ u. u < n) ready.old.items
-        → All (λ u. u < n) ready.new.items }
-    ensures few { length ready.new.items ≤ length ready.old.items + length users.now }
-    ensures capacity { vec_capacity ready.new ≡ vec_capacity ready.old }
+    requires { CanBeReleased users.now missing.old.items ready.old.items (vec_capacity ready.old) }
+    ensures { Released users.now missing.old.items missing.new.items ready.old.items ready.new.items
+        (vec_capacity ready.old) (vec_capacity ready.new) }
 {
     for user in users.iter().rev() {
         let left = missing[*user as usize] - 1;

@@ -6,10 +6,10 @@ ghost use Rattle.step_scheduler.specs.near.Parts.{IsBlank};
 ghost use Rattle.step_scheduler.specs.near.Whole.{IsCourse};
 
 use crate::blank::Blank;
+use crate::boards::Board;
 use crate::evaluation::evaluate;
 use crate::events::Event;
 use crate::jobs::Job;
-use crate::stepped::Stepped;
 use plan_compiler::set::CompiledSet;
 use span_tables::name::Name;
 use span_tables::portfolios::Portfolio;
@@ -42,15 +42,15 @@ impl Model for Course {
 }
 
 // Runs a board until no step can be handed out.
-fn run(alloc: Global, board: &mut Stepped) -> Result<(), AllocError>
+fn run(alloc: Global, board: &mut Board) -> Result<(), AllocError>
     ensures { board.new.job ≡ board.old.job }
 {
     for _ in 0..board.job().plan().len() {
         let Some(task) = board.take_ready()? else {
             return Ok(());
         };
-        // It is not refused: the task is the board's own. Without memory for its value the board has failed, and hands out no
-        // further step.
+        // The board does not refuse its own task. Without memory for the value the board has failed, and hands out no further
+        // step.
         let _taken = board.finish(evaluate(alloc, task));
     }
     Ok(())
@@ -59,13 +59,12 @@ fn run(alloc: Global, board: &mut Stepped) -> Result<(), AllocError>
 impl Course {
     /// A run of a set's plan, in which the lowest step that is ready always comes next: each step is the one that a board hands
     /// out next, and is finished before the next is taken.
-    /// `Err` is want of memory.
     pub fn of(alloc: Global, set: &Arc<CompiledSet>) -> Result<Course, AllocError>
         ensures { IfOk result (λ c. c.set ≡ arc_value set.now) }
     {
         let nobody = Portfolio::new(Name::default(), Vec::new(alloc));
         let job = Job::new(Arc::try_clone(set)?, nobody, 0);
-        let mut board = Stepped::new(alloc, Arc::new(alloc, job)?)?;
+        let mut board = Board::new(alloc, Arc::new(alloc, job)?)?;
         run(alloc, &mut board)?;
         if !board.is_complete() {
             return Err(AllocError);

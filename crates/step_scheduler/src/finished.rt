@@ -49,7 +49,7 @@ impl Finished {
         self.step as usize
     }
 
-    /// Its value, or `None` where there was no memory for it.
+    /// The step's value, or `None` where there was no memory for it.
     pub fn value(&self) -> Option<&Value>
         ensures { MatchOption result (self.now.value ≡ None) (λ v. self.now.value ≡ Some v.now) }
     {

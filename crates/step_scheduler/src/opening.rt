@@ -2,7 +2,7 @@
 ghost use Rattle.std.specs.Prelude.{◌≡◌, IfOk, None, length, replicate};
 ghost use Rattle.std.specs.Arc.{arc_value};
 ghost use Rattle.plan_ir.specs.declared.values.Value.TheVariants as value;
-ghost use Rattle.step_scheduler.specs.near.Keeping.{KeepsMeanings};
+ghost use Rattle.step_scheduler.specs.near.Storing.{StoresMeanings};
 
 use crate::jobs::Job;
 use plan_compiler::set::CompiledSet;
@@ -11,15 +11,15 @@ use span_tables::held::{Held, gather_all};
 use std::alloc::{AllocError, Global};
 use std::sync::Arc;
 
-// So many empty places.
+// So many empty slots.
 fn empty(alloc: Global, count: usize) -> Result<Vec<Option<Arc<Value>>>, AllocError>
     ensures { IfOk result (λ v. v.items ≡ replicate count None) }
 {
-    let mut places = Vec::with_capacity(alloc, count)?;
+    let mut slots = Vec::with_capacity(alloc, count)?;
     for _ in 0..count {
-        places.push_reserved(None);
+        slots.push_reserved(None);
     }
-    Ok(places)
+    Ok(slots)
 }
 
 // Held contracts as a value: that of the set, where there are none.
@@ -33,22 +33,22 @@ fn as_value(alloc: Global, set: &CompiledSet, held: Held) -> Result<Arc<Value>, 
     }
 }
 
-// The places for the values of a job's steps, with what is found at once: the contracts that are held of each commodity,
+// The slots for the values of a job's steps, with what is found at once: the contracts that are held of each commodity,
 // which are known after one pass over the holdings.
 pub(crate) fn found_values(alloc: Global, job: &Job) -> Result<Vec<Option<Arc<Value>>>, AllocError>
     ensures long { IfOk result (λ v. length v.items ≡ length job.now.set.plan) }
-    ensures means { IfOk result (λ v. KeepsMeanings job.now v.items) }
+    ensures means { IfOk result (λ v. StoresMeanings job.now v.items) }
 {
     let set = job.set();
     // Called for its clause: the tables are within their limits.
     let _limits = set.tables().commodities();
     let held = gather_all(alloc, set.tables(), job.portfolio())?;
-    let mut places = empty(alloc, set.plan().len())?;
+    let mut slots = empty(alloc, set.plan().len())?;
     let mut commodity = 0;
     for of_commodity in held {
         let step = set.gather_step(commodity);
-        places[step as usize] = Some(as_value(alloc, set, of_commodity)?);
+        slots[step as usize] = Some(as_value(alloc, set, of_commodity)?);
         commodity += 1;
     }
-    Ok(places)
+    Ok(slots)
 }

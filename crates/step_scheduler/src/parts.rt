@@ -2,27 +2,23 @@
 //!
 //! Before each evaluation the watch of the walk is passed, with the number of its step: each step of a held commodity here,
 //! and each of what is not held at its place in the order.
-ghost use Rattle.std.specs.Prelude.{◌≡◌, ◌*◌, ◌<◌, ◌≤◌, ◌+ℤ◌, All, IfOk, List, fold, length, nat_abs, pos, replicate};
+ghost use Rattle.std.specs.Prelude.{◌≡◌, ◌<◌, ◌≤◌, ◌+ℤ◌, All, IfOk, List, fold, length, nat_abs, pos, replicate};
 ghost use Rattle.std.specs.Prelude.{slice_set, true};
 ghost use Rattle.span_money.specs.declared.amounts.TheConstants.{MAX_MONEY};
 ghost use Rattle.span_tables.specs.Accepted.{IsInter, IsIntra};
 ghost use Rattle.span_tables.specs.Holdings.{fits};
 ghost use Rattle.span_tables.specs.Tables.{has_option_value};
 ghost use Rattle.span_tables.specs.declared.portfolios.Holding.{Holding};
-ghost use Rattle.span_tables.specs.declared.limits.TheConstants.{MAX_RATE, MAX_UNITS};
-ghost use Rattle.spread_stage.specs.Charges.{intra_charge};
 ghost use Rattle.spread_stage.specs.Months.{Shrinks};
 ghost use Rattle.spread_stage.specs.Spreads.{spread_both_ways};
 ghost use Rattle.spread_stage.specs.declared.months.MonthUnits.{MonthUnits};
-ghost use Rattle.inter_credit.specs.Credits.{inter_both_ways, unspread_line};
+ghost use Rattle.inter_credit.specs.Credits.{credit_at, inter_both_ways, unspread_line};
 ghost use Rattle.inter_credit.specs.OptionValue.{net_value_of};
-ghost use Rattle.inter_credit.specs.Requirement.{requirement_of};
-ghost use Rattle.inter_credit.specs.declared.requirement.TheConstants.{MAX_PART};
 ghost use Rattle.plan_ir.specs.Figures.{held_at, inter_lines, loaded_lines, option_value_of, total_to};
+ghost use Rattle.plan_ir.specs.Values.{no_figures};
 ghost use Rattle.step_scheduler.specs.near.Figures.{AreAllFigures};
-ghost use Rattle.step_scheduler.specs.near.Parts.{ArePartsFrom, IsPart, figures_of_nothing};
+ghost use Rattle.step_scheduler.specs.near.Parts.{ArePartsFrom, CanBeLoaded, HasLine, IsPart, figures_of_part};
 
-use crate::blank::Blank;
 use crate::watches::{Walk, Watch};
 use inter_credit::credit::credit;
 use inter_credit::option_value::net_value;
@@ -160,9 +156,18 @@ pub(crate) fn parts_of<W: Watch>(
     Ok(parts)
 }
 
+// Loads the net delta and the price risk of a commodity.
+#[inline(always)]
+fn load_part(lines: &mut InterState, part: &Part)
+    requires { CanBeLoaded lines.old part.now }
+    ensures { lines.new ≡ slice_set lines.old part.now.commodity (unspread_line part.now.net (part.now.scan).price2) }
+{
+    lines.load(part.commodity, part.net, part.scan.price2);
+}
+
 // The commodities before any spread between them.
 #[inline(always)]
-fn loaded<W: Watch>(
+pub(crate) fn loaded<W: Watch>(
     alloc: Global,
     tables: &Tables,
     portfolio: &Portfolio,
@@ -184,7 +189,7 @@ fn loaded<W: Watch>(
     let mut next = 0;
     for part in parts {
         walk.pass_many(part.commodity + 1 - next);
-        lines.load(part.commodity, part.net, part.scan.price2);
+        load_part(&mut lines, part);
         next = part.commodity + 1;
     }
     walk.pass_many(count - next);
@@ -193,7 +198,7 @@ fn loaded<W: Watch>(
 
 // Forms the spreads between commodities in their order.
 #[inline(always)]
-fn form_inters<W: Watch>(lines: &mut InterState, inters: &[Inter], walk: &mut Walk<'_, W>)
+pub(crate) fn form_inters<W: Watch>(lines: &mut InterState, inters: &[Inter], walk: &mut Walk<'_, W>)
     requires { All (IsInter (length lines.old)) inters.now }
     ensures { lines.new ≡ fold inter_both_ways lines.old inters.now }
 {
@@ -203,44 +208,13 @@ fn form_inters<W: Watch>(lines: &mut InterState, inters: &[Inter], walk: &mut Wa
     }
 }
 
-// The commodities after all spreads between them.
-#[inline(always)]
-pub(crate) fn lines_of<W: Watch>(
-    alloc: Global,
-    tables: &Tables,
-    portfolio: &Portfolio,
-    parts: &[Part],
-    blank: &InterState,
-    walk: &mut Walk<'_, W>,
-) -> Result<InterState, AllocError>
-    requires blank { blank.now ≡ replicate (length tables.now.commodities) (unspread_line (pos 0) 0) }
-    requires fits { fits (length tables.now.contracts) portfolio.now.holdings ≡ true }
-    requires parts { ArePartsFrom tables.now portfolio.now.holdings 0 parts.now }
-    ensures { IfOk result (λ lines. lines ≡ inter_lines tables.now portfolio.now.holdings) }
-{
-    let mut lines = loaded(alloc, tables, portfolio, parts, blank, walk)?;
-    form_inters(&mut lines, tables.inters(), walk);
-    Ok(lines)
-}
-
-// The figures of a commodity, from its part and its credit.
-fn figures_with(part: &Part, credit: Money) -> Figures
-    requires risk { nat_abs (part.now.scan).risk ≤ MAX_PART }
-    requires charge { part.now.charge ≤ MAX_RATE * MAX_UNITS }
-    requires delivery { nat_abs part.now.delivery ≤ MAX_PART }
-    requires credit { nat_abs credit ≤ MAX_PART }
-    requires minimum { nat_abs part.now.minimum ≤ MAX_PART }
-    ensures { let intra = pos (intra_charge part.now.charge) in result ≡ record {
-      scan = (part.now.scan).risk;
-      active = (part.now.scan).active;
-      intra = intra;
-      delivery = part.now.delivery;
-      credit = credit;
-      minimum = part.now.minimum;
-      requirement = requirement_of (part.now.scan).risk intra part.now.delivery credit part.now.minimum;
-    } }
+// The figures of a held commodity, from its part and the commodities after all spreads between them.
+fn figures_with(part: &Part, lines: &InterState) -> Figures
+    requires { HasLine lines.now part.now }
+    ensures { result ≡ figures_of_part part.now (pos (credit_at lines.now part.now.commodity)) }
 {
     let intra = rounded_charge(part.charge);
+    let credit = credit(lines, part.commodity);
     Figures {
         scan: part.scan.risk,
         active: part.scan.active,
@@ -264,45 +238,42 @@ fn pass_figures<W: Watch>(set: &CompiledSet, from: usize, to: usize, walk: &Walk
     }
 }
 
-// Writes figures over those at a place.
+// Writes figures over those of a commodity.
 #[inline(always)]
-fn write_at(figures: &mut Vec<Figures>, place: usize, written: Figures)
-    requires { place < length figures.old.items }
-    ensures { figures.new.items ≡ slice_set figures.old.items place written }
+fn write_at(figures: &mut Vec<Figures>, commodity: usize, written: Figures)
+    requires { commodity < length figures.old.items }
+    ensures { figures.new.items ≡ slice_set figures.old.items commodity written }
 {
-    figures[place] = written;
+    figures[commodity] = written;
 }
 
-// The figures of all commodities, those of the held ones written over those of nothing held.
+// Writes the figures of the held commodities over those of nothing held.
 #[inline(always)]
-pub(crate) fn figures_of_all<W: Watch>(
-    alloc: Global,
+pub(crate) fn write_figures<W: Watch>(
+    figures: &mut Vec<Figures>,
     set: &CompiledSet,
     portfolio: &Portfolio,
     parts: &[Part],
     lines: &InterState,
-    blank: &[Figures],
     walk: &Walk<'_, W>,
-) -> Result<Vec<Figures>, AllocError>
+)
     requires fits { fits (length set.now.tables.contracts) portfolio.now.holdings ≡ true }
     requires parts { ArePartsFrom set.now.tables portfolio.now.holdings 0 parts.now }
     requires lines { lines.now ≡ inter_lines set.now.tables portfolio.now.holdings }
-    requires blank { blank.now ≡ replicate (length set.now.tables.commodities) figures_of_nothing }
-    ensures { IfOk result (λ figures. AreAllFigures set.now.tables portfolio.now.holdings figures.items) }
+    requires blank { figures.old.items ≡ replicate (length set.now.tables.commodities) no_figures }
+    ensures { AreAllFigures set.now.tables portfolio.now.holdings figures.new.items }
 {
     let count = set.tables().commodities().len();
     // Called for its clause: the holdings are those of a portfolio.
     let _kept = portfolio.holdings();
-    let mut figures = Vec::from_slice(alloc, blank)?;
     let mut next = 0;
     for part in parts {
         pass_figures(set, next, part.commodity + 1, walk);
-        let written = figures_with(part, credit(lines, part.commodity));
-        write_at(&mut figures, part.commodity, written);
+        let written = figures_with(part, lines);
+        write_at(figures, part.commodity, written);
         next = part.commodity + 1;
     }
     pass_figures(set, next, count, walk);
-    Ok(figures)
 }
 
 // The sum of two amounts of money.

@@ -5,11 +5,11 @@ ghost use Rattle.step_scheduler.specs.near.Steps.{was_taken, is_done, events_of,
 /// How far a step is.
 #[derive(Clone, Copy, PartialEq, Eq, Debug)]
 pub enum Progress {
-    /// It was not handed out.
+    /// The step was not handed out.
     Waiting,
-    /// It was handed out, and has no value.
+    /// The step was handed out, and has no value.
     Taken,
-    /// It has had its value.
+    /// The step has had its value.
     Done,
 }
 

@@ -38,7 +38,7 @@ impl<'a, W: Watch> Walk<'a, W> {
         self.skip();
     }
 
-    // Passes it for so many steps.
+    // Passes the watch for so many steps.
     #[inline(always)]
     pub(crate) fn pass_many(&mut self, count: usize) {
         for _ in 0..count {
@@ -46,7 +46,7 @@ impl<'a, W: Watch> Walk<'a, W> {
         }
     }
 
-    // Passes it for all steps in front of this one, and goes past this one, whose turn comes later.
+    // Passes the watch for all steps in front of one whose turn comes later, and goes past that one.
     #[inline(always)]
     pub(crate) fn pass_up_to(&mut self, later: usize) {
         for step in self.next..later {
@@ -56,7 +56,7 @@ impl<'a, W: Watch> Walk<'a, W> {
         self.skip();
     }
 
-    // Passes it for a step that the walk went past.
+    // Passes the watch for a step that the walk went past.
     #[inline(always)]
     pub(crate) fn pass_late(&self, step: usize) {
         self.watch.pass(step);

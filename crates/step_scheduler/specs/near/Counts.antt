@@ -29,3 +29,19 @@ pub record IsCounted (plan : List StepView) (steps : List Progress) (missing rea
 -- how often a user is listed when it was counted down to what is missing now
 abbrev pub freed_times : ℕ → ℕ → ℕ
 freed_times users missing = if users == 0 then 0 else (if missing == 0 then 1 else 0)
+
+-- users can be counted down: each is a step that misses something, none stands twice, and the list has room for all
+pub record CanBeReleased (users missing ready : List ℕ) (capacity : ℕ) : Type 0 where
+  pub in_range : All (λ u. u < length missing) users
+  pub once : (k : ℕ) → times k users ≤ 1
+  pub positive : (k : ℕ) → 0 < times k users → 0 < slice_index missing k
+  pub room : length ready + length users ≤ capacity
+
+-- after these users are counted down
+pub record Released (users missing missing' ready ready' : List ℕ) (capacity capacity' : ℕ) : Type 0 where
+  pub long : length missing' ≡ length missing
+  pub left : (k : ℕ) → slice_index missing' k + times k users ≡ slice_index missing k
+  pub freed : (k : ℕ) → times k ready' ≡ times k ready + freed_times (times k users) (slice_index missing' k)
+  pub in_range : (n : ℕ) → n ≡ length missing → All (λ u. u < n) ready → All (λ u. u < n) ready'
+  pub room : length ready' ≤ length ready + length users
+  pub same_room : capacity' ≡ capacity

@@ -1,8 +1,14 @@
--- What contracts see of a board, whichever way it goes through its plan.
-use Rattle.step_scheduler.specs.Boards.{BoardView}
+-- What a board has, whichever way it goes through its plan.
+use Rattle.std.specs.Prelude.{ℕ, List, vec_capacity}
+use Rattle.step_scheduler.specs.Jobs.{JobView}
 use Rattle.step_scheduler.specs.declared.boards.Form.{Form}
 use Rattle.step_scheduler.specs.declared.boards.Form.TheVariants as form
+use Rattle.step_scheduler.specs.declared.events.Event.{Event}
+use Rattle.step_scheduler.specs.near.Stored.{IsStepped}
+use Rattle.step_scheduler.specs.near.Whole.{IsWhole}
 
-abbrev pub view_of : Form → BoardView
-view_of (form.Stepped b) = b
-view_of (form.Whole b) = b
+-- what a board of the job has after the history
+abbrev pub IsBoard : JobView → List Event → ℕ → Form → Type 0
+IsBoard job history capacity (form.Stepped s) =
+    IsStepped job s.steps.items s.slots.items history capacity s.missing.items s.ready.items (vec_capacity s.ready)
+IsBoard job history capacity (form.Whole w) = IsWhole job history w

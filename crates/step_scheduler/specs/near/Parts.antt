@@ -1,12 +1,17 @@
 -- What a whole run has of the commodities that are held, and what it gives.
-use Rattle.std.specs.Prelude.{◌≡◌, ℕ, ◌+◌, ◌<◌, ◌≤◌, true, List, [], ◌∷◌, length, slice_index_or, pos, replicate}
+use Rattle.std.specs.Prelude.{◌≡◌, ℕ, ◌+◌, ◌*◌, ◌<◌, ◌≤◌, true, List, [], ◌∷◌, length, slice_index_or, nat_abs, pos, replicate, ℤ}
 use Rattle.span_tables.specs.Tables.{AcceptedTables, has_option_value}
 use Rattle.span_tables.specs.declared.held.CommodityHeld.{CommodityHeld}
+use Rattle.span_tables.specs.declared.limits.TheConstants.{MAX_PRICE2, MAX_RATE, MAX_UNITS}
 use Rattle.span_tables.specs.declared.portfolios.Holding.{Holding}
 use Rattle.spread_stage.specs.Deltas.{net_delta}
-use Rattle.plan_ir.specs.Figures.{delivery_at, deltas_at, figures_of, held_at, minimum_at, net_value_at, scan_at, tiers_at}
-use Rattle.plan_ir.specs.declared.figures.Figures.{Figures}
 use Rattle.inter_credit.specs.Credits.{unspread_line}
+use Rattle.inter_credit.specs.States.{IsNotLoaded, IsUnspread}
+use Rattle.inter_credit.specs.declared.requirement.TheConstants.{MAX_PART}
+use Rattle.inter_credit.specs.declared.state.InterLine.{InterLine}
+use Rattle.plan_ir.specs.Figures.{delivery_at, deltas_at, figures_from, figures_of, held_at, minimum_at, net_value_at, scan_at, tiers_at}
+use Rattle.plan_ir.specs.Values.{no_figures}
+use Rattle.plan_ir.specs.declared.figures.Figures.{Figures}
 use Rattle.step_scheduler.specs.declared.blank.Blank.{Blank}
 use Rattle.step_scheduler.specs.declared.parts.Part.{Part}
 
@@ -46,25 +51,37 @@ ArePartsFrom t holdings from [] = IsEnd t holdings from
 ArePartsFrom t holdings from (p ∷ ps) =
     IsNext t holdings from p.commodity × IsPart t holdings p × ArePartsFrom t holdings (p.commodity + 1) ps
 
--- its figures, where nothing is held
-abbrev pub figures_of_nothing : Figures
-figures_of_nothing = record {
-  scan = pos 0;
-  active = 1;
-  intra = pos 0;
-  delivery = pos 0;
-  credit = pos 0;
-  minimum = pos 0;
-  requirement = pos 0;
-}
+-- what the part has is within its limits
+pub record IsSmall (p : Part) : Type 0 where
+  pub risk : nat_abs (p.scan).risk ≤ MAX_PART
+  pub charge : p.charge ≤ MAX_RATE * MAX_UNITS
+  pub delivery : nat_abs p.delivery ≤ MAX_PART
+  pub minimum : nat_abs p.minimum ≤ MAX_PART
+  pub net : nat_abs p.net ≤ MAX_UNITS
+  pub price2 : (p.scan).price2 ≤ MAX_PRICE2
+
+-- the part is within its limits, and its commodity has a line
+pub record HasLine (lines : List InterLine) (p : Part) : Type 0 where
+  pub known : p.commodity < length lines
+  pub small : IsSmall p
+
+-- nothing was loaded of the part's commodity, and no spread was formed
+pub record CanBeLoaded (lines : List InterLine) (p : Part) : Type 0 where
+  pub line : HasLine lines p
+  pub not_loaded : IsNotLoaded lines p.commodity
+  pub unspread : IsUnspread lines
+
+-- the figures of a part whose commodity has this credit
+abbrev pub figures_of_part : Part → ℤ → Figures
+figures_of_part p credit = figures_from p.scan (record { rests = []; charge = p.charge }) p.delivery credit p.minimum
 
 -- what an account has of n commodities that holds nothing
 pub record IsBlank (n : ℕ) (blank : Blank) : Type 0 where
   pub lines : blank.lines ≡ replicate n (unspread_line (pos 0) 0)
-  pub figures : blank.figures.items ≡ replicate n figures_of_nothing
+  pub figures : blank.figures.items ≡ replicate n no_figures
 
 -- the figures of the first commodities stand in front of those of nothing held
 pub record AreWritten (t : AcceptedTables) (holdings : List Holding) (n : ℕ) (figures : List Figures) : Type 0 where
   pub many : length figures ≡ length t.commodities
   pub done : (k : ℕ) → k < n → (d : Figures) → slice_index_or figures k d ≡ figures_of t holdings k
-  pub left : (k : ℕ) → n ≤ k → k < length figures → (d : Figures) → slice_index_or figures k d ≡ figures_of_nothing
+  pub left : (k : ℕ) → n ≤ k → k < length figures → (d : Figures) → slice_index_or figures k d ≡ no_figures

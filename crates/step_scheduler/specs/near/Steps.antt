@@ -26,7 +26,7 @@ events_of Done = 2
 abbrev pub progress_at : List Progress → ℕ → Progress
 progress_at steps k = slice_index_or steps k Waiting
 
--- these steps have had their values
+-- each of the inputs has had its value
 abbrev pub AreDone : List Progress → List ℕ → Type 0
 AreDone steps inputs = All (λ i. is_done (progress_at steps i) ≡ true) inputs
 

@@ -1,5 +1,5 @@
-use Rattle.std.proofs.Common.{◌≡◌, ℕ, ◌<◌, ◌∙◌, length, get_or, arith}
-use Rattle.std.proofs.lemmas.List.{get_or_default, length_push}
+use Rattle.std.proofs.Common.{ℕ, length, arith}
+use Rattle.std.proofs.lemmas.List.{length_push}
 use Rattle.std.proofs.lemmas.Iterator.Adapters.{YieldsList-from_rev_slice}
 use Rattle.std.proofs.lemmas.Iterator.Consumers.{YieldsList-turn, YieldsList-end}
 use Rattle.step_scheduler.proofs.Counting.{all_released, next_user, at_u, released_and_freed, released_and_kept}
@@ -10,12 +10,9 @@ overflow_sub-left c =
     let u : ℕ = c.in-Some.user.now in
     let back = YieldsList-from_rev_slice {s = c.into_iter-user-iterator.result} c.args.users.now cc in
     let turn = YieldsList-turn back c.loop-user.yielded _ c.loop-user.yielded_by _ _ c.in-Some.user c.in-Some.is c.next.ensures.steps in
-    let next = next_user c.args.users.now (length c.loop-user.yielded) u c.requires.once turn.0 turn.1 in
-    let h : u < length c.args.missing.now.items = next.among _ c.requires.in_range in
-    let some = c.requires.positive u next.listed in
-    let at = at_u _ _ _ _ _ _ _ u c.loop-user.invariant next.fresh h some in
-    let read : c.index.result.now ≡ get_or c.loop-user.missing.items u 0 =
-    c.index.ensures ∙ get_or_default c.loop-user.missing.items u _ 0 (let l = c.loop-user.invariant.long in omega arith) in
+    let next = next_user _ _ _ _ (length c.loop-user.yielded) u c.requires turn.0 turn.1 in
+    let at = at_u _ _ _ _ _ _ _ u c.loop-user.invariant next.fresh next.in_range next.positive _ _ c.index.ensures in
+    let positive = next.positive in
     omega arith
 
 pub loop-user-preserved-then-left-eq0 : goal.loop-user-preserved-then-left-eq0
@@ -23,43 +20,23 @@ loop-user-preserved-then-left-eq0 c =
     let u : ℕ = c.in-Some.user.now in
     let back = YieldsList-from_rev_slice {s = c.into_iter-user-iterator.result} c.args.users.now cc in
     let turn = YieldsList-turn back c.loop-user.yielded _ c.loop-user.yielded_by _ _ c.in-Some.user c.in-Some.is c.next.ensures.steps in
-    let next = next_user c.args.users.now (length c.loop-user.yielded) u c.requires.once turn.0 turn.1 in
-    let h : u < length c.args.missing.now.items = next.among _ c.requires.in_range in
-    let some = c.requires.positive u next.listed in
-    let read : c.index.result.now ≡ get_or c.loop-user.missing.items u 0 =
-    c.index.ensures ∙ get_or_default c.loop-user.missing.items u _ 0 (let l = c.loop-user.invariant.long in omega arith) in
-    rw (
-      length_push c.loop-user.yielded c.in-Some.user,
-      next.more,
-      read,
-      c.push_reserved.ensures.items,
-      c.push_reserved.ensures.capacity,
-    )
-    (released_and_freed _ _ _ _ _ _ _ u c.loop-user.invariant next.fresh h some (rw read at c.if-left-eq0.true))
+    let next = next_user _ _ _ _ (length c.loop-user.yielded) u c.requires turn.0 turn.1 in
+    rw (length_push c.loop-user.yielded c.in-Some.user, next.more, c.push_reserved.ensures.items, c.push_reserved.ensures.capacity)
+    (released_and_freed _ _ _ _ _ _ _ u c.loop-user.invariant next.fresh next.in_range next.positive _ _ c.index.ensures
+    c.if-left-eq0.true)
 
 pub loop-user-preserved : goal.loop-user-preserved
 loop-user-preserved c =
     let u : ℕ = c.in-Some.user.now in
     let back = YieldsList-from_rev_slice {s = c.into_iter-user-iterator.result} c.args.users.now cc in
     let turn = YieldsList-turn back c.loop-user.yielded _ c.loop-user.yielded_by _ _ c.in-Some.user c.in-Some.is c.next.ensures.steps in
-    let next = next_user c.args.users.now (length c.loop-user.yielded) u c.requires.once turn.0 turn.1 in
-    let h : u < length c.args.missing.now.items = next.among _ c.requires.in_range in
-    let some = c.requires.positive u next.listed in
-    let read : c.index.result.now ≡ get_or c.loop-user.missing.items u 0 =
-    c.index.ensures ∙ get_or_default c.loop-user.missing.items u _ 0 (let l = c.loop-user.invariant.long in omega arith) in
-    rw (length_push c.loop-user.yielded c.in-Some.user, next.more, read)
-    (released_and_kept _ _ _ _ _ _ _ u c.loop-user.invariant next.fresh h some (rw read at c.if-left-eq0.false))
+    let next = next_user _ _ _ _ (length c.loop-user.yielded) u c.requires turn.0 turn.1 in
+    rw (length_push c.loop-user.yielded c.in-Some.user, next.more)
+    (released_and_kept _ _ _ _ _ _ _ u c.loop-user.invariant next.fresh next.in_range next.positive _ _ c.index.ensures
+    c.if-left-eq0.false)
 
 pub returns : goal.returns
 returns c =
     let back = YieldsList-from_rev_slice {s = c.into_iter-user-iterator.result} c.args.users.now cc in
     let end = YieldsList-end back c.loop-user.yielded _ c.loop-user.yielded_by _ _ c.in-None.is c.next.ensures.steps in
-    let done = all_released c.args.users.now _ _ _ _ _ _ _ end.1 c.loop-user.invariant in
-    record {
-      long = done.long;
-      missing = done.left;
-      ready = done.freed;
-      ready_in_range = done.in_range;
-      few = done.room;
-      capacity = done.same_room;
-    }
+    all_released c.args.users.now _ _ _ _ _ _ _ end.1 c.loop-user.invariant

@@ -1,5 +1,5 @@
 use Rattle.std.proofs.Common.{length, reverse, take, vec_capacity}
-use Rattle.step_scheduler.proofs.Counting.{Released}
+use Rattle.step_scheduler.specs.near.Counts.{Released}
 use Rattle.step_scheduler.proofs.counters.release.Given as goal
 
 abbrev pub invariant-loop-user : goal.invariant-loop-user

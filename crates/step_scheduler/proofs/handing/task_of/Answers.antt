@@ -1,7 +1,7 @@
 use Rattle.std.proofs.Common.{◌≡◌, ◌∙◌}
 use Rattle.std.specs.Arc.{arc_value}
 use Rattle.plan_ir.specs.Plans.{inputs_at}
-use Rattle.step_scheduler.proofs.Places.{found_means, given_inputs}
+use Rattle.step_scheduler.proofs.Slots.{found_means, given_inputs}
 use Rattle.step_scheduler.proofs.handing.task_of.Goals as goal
 
 pub new-requires : goal.new-requires
@@ -12,7 +12,7 @@ new-requires c =
     (record {
       is_task = record {
         in_range = c.requires.in_range;
-        fed = rw inputs at c.in_ok-inputs.ensures ∙ given_inputs _ c.args.places.now c.args.step c.requires;
+        fed = rw inputs at c.in_ok-inputs.ensures ∙ given_inputs _ c.args.slots.now c.args.step c.requires;
       };
-      right = found_means _ c.args.places.now c.args.step c.requires _ c.index-places-step.is _ c.in_ok-found.ensures;
+      right = found_means _ c.args.slots.now c.args.step c.requires _ c.index-slots-step.is _ c.in_ok-found.ensures;
     })

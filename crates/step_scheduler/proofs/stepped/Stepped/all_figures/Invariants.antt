@@ -5,5 +5,5 @@ use Rattle.step_scheduler.proofs.stepped.Stepped.all_figures.Given as goal
 abbrev pub invariant-loop-commodity : goal.invariant-loop-commodity
 invariant-loop-commodity l = record {
   many : length l.figures.items ≡ l.commodity;
-  each : AreFirstFigures (l.self).job.set.tables (l.self).job.portfolio.holdings l.figures.items;
+  each : AreFirstFigures (l.job).set.tables (l.job).portfolio.holdings l.figures.items;
 }

@@ -1,9 +1,6 @@
-use Rattle.std.proofs.Common.{refl}
-use Rattle.step_scheduler.proofs.Counted.{kept_when_complete}
 use Rattle.step_scheduler.proofs.stepped.Stepped.figures.Goals as goal
 
-pub kept-value-requires-clause-kept : goal.kept-value-requires-clause-kept
-kept-value-requires-clause-kept c =
-    let complete = rw (← c.self.view_is) at (c.if-not-is_complete.ensures.complete.0 refl) in
-    let range = rw (c.deref-2.ensures, c.set-set.ensures.set, c.deref.ensures) at c.final_step-step.ensures.in_range in
-    rw c.as_slice.ensures.value (kept_when_complete _ _ _ _ _ _ _ _ _ c.self.invariant complete.finished range)
+pub stored_value-value-requires-clause-stored : goal.stored_value-value-requires-clause-stored
+stored_value-value-requires-clause-stored c =
+    let range = rw (c.deref-2.ensures, c.set-set.ensures.set) at c.final_step-step.ensures.in_range in
+    rw c.as_slice.ensures.value (c.requires.values.every _ range)

@@ -1,4 +1,4 @@
--- What a board keeps.
+-- What a board has that hands its steps out one by one.
 use Rattle.std.specs.Prelude.{◌≡◌, ℕ, ◌*◌, ◌≤◌, List, length, sum_by}
 use Rattle.plan_compiler.specs.Compiled.{Fits, IsCompiled}
 use Rattle.step_scheduler.specs.Jobs.{JobView}
@@ -7,7 +7,7 @@ use Rattle.step_scheduler.specs.declared.events.Event.{Event}
 use Rattle.step_scheduler.specs.declared.progress.Progress.{Progress}
 use Rattle.step_scheduler.specs.near.Steps.{was_taken, is_done, events_of, progress_at}
 use Rattle.step_scheduler.specs.near.Counts.{IsCounted}
-use Rattle.step_scheduler.specs.near.Keeping.{IsKept, Place}
+use Rattle.step_scheduler.specs.near.Storing.{AreRight, Slot}
 
 -- the steps are those of the history; there is room for the events to come
 pub record IsRunBoard (job : JobView) (steps : List Progress) (history : List Event) (capacity : ℕ) : Type 0 where
@@ -20,9 +20,9 @@ pub record IsRunBoard (job : JobView) (steps : List Progress) (history : List Ev
   pub count : sum_by events_of steps ≡ length history
   pub room : 2 * length steps ≤ capacity
 
--- the same, with the values that are kept, counters of missing inputs and a list of ready steps
-pub record IsBoard (job : JobView) (steps : List Progress) (places : List Place) (history : List Event)
+-- a board with its stored values, its counters of missing inputs and its list of ready steps
+pub record IsStepped (job : JobView) (steps : List Progress) (slots : List Slot) (history : List Event)
     (capacity : ℕ) (missing ready : List ℕ) (ready_capacity : ℕ) : Type 0 where
   pub board : IsRunBoard job steps history capacity
-  pub kept : IsKept job steps places
+  pub values : AreRight job steps slots
   pub counted : IsCounted job.set.plan steps missing ready ready_capacity

@@ -1,6 +1,6 @@
 use Rattle.std.proofs.Common.{drop}
 use Rattle.step_scheduler.specs.near.Parts.{ArePartsFrom, AreWritten}
-use Rattle.step_scheduler.proofs.parts.figures_of_all.Given as goal
+use Rattle.step_scheduler.proofs.parts.write_figures.Given as goal
 
 abbrev pub invariant-loop-part : goal.invariant-loop-part
 invariant-loop-part g l = record {
