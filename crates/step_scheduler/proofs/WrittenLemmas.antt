@@ -23,7 +23,7 @@ figures_are : (t : AcceptedTables) (holdings : List Holding) (p : Part) (lines :
 unfolding figures_of
 figures_are t holdings p lines is l =
     λ k. figures_from (is.scan k) (record { rests = []; charge = is.charge k }) (is.delivery k) (pos (credit_at (l k) p.commodity))
-        (is.minimum k)
+    (is.minimum k)
 
 -- nothing is written yet
 pub none_written : (t : AcceptedTables) (holdings : List Holding) (figures : List Figures)

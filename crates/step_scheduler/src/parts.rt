@@ -198,7 +198,11 @@ pub(crate) fn loaded<W: Watch>(
 
 // Forms the spreads between commodities in their order.
 #[inline(always)]
-pub(crate) fn form_inters<W: Watch>(lines: &mut InterState, inters: &[Inter], walk: &mut Walk<'_, W>)
+pub(crate) fn form_inters<W: Watch>(
+    lines: &mut InterState,
+    inters: &[Inter],
+    walk: &mut Walk<'_, W>,
+)
     requires { All (IsInter (length lines.old)) inters.now }
     ensures { lines.new ≡ fold inter_both_ways lines.old inters.now }
 {
