@@ -14,7 +14,7 @@ use Rattle.step_scheduler.specs.declared.progress.Progress.TheVariants.{Waiting,
 use Rattle.step_scheduler.specs.Runs.{takes, finishes, is_taken, is_finished, IsReady}
 use Rattle.step_scheduler.specs.near.Steps.{was_taken, is_done, events_of, progress_at, CanStart}
 use Rattle.step_scheduler.specs.Boards.{IsComplete}
-use Rattle.step_scheduler.specs.near.Stored.{IsRunBoard}
+use Rattle.step_scheduler.specs.near.Stepped.{IsRunBoard}
 use Rattle.step_scheduler.proofs.Histories.{is_taken-push, is_finished-push, run_push}
 
 pub true_or_false : (b : Bool) → (b ≡ true) ⊎ (b ≡ false)

@@ -21,11 +21,11 @@ use Rattle.std.specs.Arc.{arc_value}
 use Rattle.plan_compiler.specs.Compiled.{Fits, IsCompiled}
 use Rattle.step_scheduler.specs.Jobs.{JobView, meaning_at}
 use Rattle.step_scheduler.specs.Runs.{IsReady, AllFinished, is_finished, unfinished}
-use Rattle.step_scheduler.specs.near.Stored.{IsStepped}
+use Rattle.step_scheduler.specs.near.Stepped.{IsStepped}
 use Rattle.step_scheduler.specs.declared.events.Event.{Event}
 use Rattle.step_scheduler.specs.declared.events.Event.TheVariants.{Take, Finish}
 use Rattle.step_scheduler.proofs.BoardLemmas.{board_takes, board_finishes, waiting_not_done}
-use Rattle.step_scheduler.specs.near.Storing.{Slot, slot_at, StoresMeanings}
+use Rattle.step_scheduler.specs.near.Slots.{Slot, slot_at, StoresMeanings}
 use Rattle.step_scheduler.proofs.Slots.{right_after_take, right_after_finish, right_at_first}
 use Rattle.plan_compiler.proofs.CounterLemmas.{times_push_same, times_push_other}
 use Rattle.step_scheduler.proofs.UserLemmas.{HasUsers, has_users}

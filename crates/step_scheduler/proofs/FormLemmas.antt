@@ -8,7 +8,7 @@ use Rattle.step_scheduler.specs.declared.boards.Form.TheVariants as form
 use Rattle.step_scheduler.specs.declared.events.Event.{Event}
 use Rattle.step_scheduler.specs.declared.stepped.Stepped.{Stepped}
 use Rattle.step_scheduler.specs.near.Forms.{IsBoard}
-use Rattle.step_scheduler.specs.near.Storing.{HasAllValues}
+use Rattle.step_scheduler.specs.near.Slots.{HasAllValues}
 use Rattle.step_scheduler.proofs.Counted.{stored_when_complete}
 
 -- a run of a job's plan

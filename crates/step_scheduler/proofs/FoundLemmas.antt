@@ -16,7 +16,7 @@ use Rattle.plan_ir.specs.declared.values.Value.{Value}
 use Rattle.plan_ir.specs.declared.values.Value.TheVariants as value
 use Rattle.plan_compiler.specs.Meaning.{meaning}
 use Rattle.step_scheduler.specs.Jobs.{JobView, meaning_at}
-use Rattle.step_scheduler.specs.near.Storing.{StoresMeanings, Slot}
+use Rattle.step_scheduler.specs.near.Slots.{StoresMeanings, Slot}
 use Rattle.step_scheduler.proofs.Slots.{stores_more}
 
 -- the contracts that are held of each commodity

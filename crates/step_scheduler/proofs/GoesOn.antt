@@ -10,7 +10,7 @@ use Rattle.step_scheduler.specs.declared.events.Event.{Event}
 use Rattle.step_scheduler.specs.declared.progress.Progress.{Progress}
 use Rattle.step_scheduler.specs.Runs.{AllFinished, CanGoOn, is_finished, is_taken}
 use Rattle.step_scheduler.specs.near.Steps.{is_done, progress_at}
-use Rattle.step_scheduler.specs.near.Stored.{IsRunBoard}
+use Rattle.step_scheduler.specs.near.Stepped.{IsRunBoard}
 use Rattle.step_scheduler.proofs.BoardLemmas.{true_or_false}
 
 -- either all numbers pass the test, or one of them fails it

@@ -13,7 +13,7 @@ use Rattle.step_scheduler.specs.declared.progress.Progress.{Progress}
 use Rattle.step_scheduler.specs.declared.progress.Progress.TheVariants.{Waiting, Taken, Done}
 use Rattle.step_scheduler.specs.Jobs.{JobView, inputs_for, meaning_at}
 use Rattle.step_scheduler.specs.near.Steps.{is_done, progress_at, CanStart}
-use Rattle.step_scheduler.specs.near.Storing.{Slot, value_in, slot_at, value_at, StoresMeanings, AreRight, CanBeGiven}
+use Rattle.step_scheduler.specs.near.Slots.{Slot, value_in, slot_at, value_at, StoresMeanings, AreRight, CanBeGiven}
 use Rattle.step_scheduler.proofs.BoardLemmas.{map_same}
 
 -- the value of another step stays

@@ -5,17 +5,13 @@ use Rattle.std.proofs.lemmas.List.Elements.{All-head, All-tail}
 use Rattle.plan_ir.specs.Plans.{inputs_at}
 use Rattle.plan_compiler.specs.Compiled.{IsCompiled, SetView}
 use Rattle.step_scheduler.specs.declared.events.Event.{Event}
-use Rattle.step_scheduler.specs.Runs.{IsReady, IsUnderWay, unfinished}
+use Rattle.step_scheduler.specs.Runs.{IsReady, unfinished}
 use Rattle.step_scheduler.specs.near.Whole.{IsCourse}
 use Rattle.step_scheduler.proofs.RunOrder.{finished_was_taken}
 
 pub none_ready : (set : SetView) (history : List Event) → IsCourse set history → (k : ℕ) → IsReady set.plan history k → ⊥
 none_ready set history course k ready =
     false≢true (sym ready.fresh ∙ finished_was_taken set.plan history course.run k (course.all k ready.in_range))
-
-pub none_under_way : (set : SetView) (history : List Event) → IsCourse set history → (k : ℕ) → k < length set.plan
-    → IsUnderWay history k → ⊥
-none_under_way set history course k lt way = false≢true (sym way.unfinished ∙ course.all k lt)
 
 all_done : (set : SetView) (history : List Event) → IsCourse set history → (is : List ℕ) → All (λ i. i < length set.plan) is
     → unfinished history is ≡ 0

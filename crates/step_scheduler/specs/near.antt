@@ -2,8 +2,8 @@
 pub mod Counts
 pub mod Figures
 pub mod Forms
-pub mod Storing
-pub mod Stored
+pub mod Slots
+pub mod Stepped
 pub mod Parts
 pub mod Steps
 pub mod Tasks

@@ -8,7 +8,7 @@ ghost use Rattle.plan_ir.specs.Plans.{inputs_at};
 ghost use Rattle.step_scheduler.specs.Boards.{IfHanded, IsComplete};
 ghost use Rattle.step_scheduler.specs.near.Figures.{AreAllFigures};
 ghost use Rattle.step_scheduler.specs.Jobs.{inputs_for, meaning_at};
-ghost use Rattle.step_scheduler.specs.Runs.{AllFinished, CanGoOn, IsOnce, IsReady, IsRun, IsUnderWay, is_finished};
+ghost use Rattle.step_scheduler.specs.Runs.{CanGoOn, IsOnce, IsReady, IsRun, IsUnderWay, is_finished};
 ghost use Rattle.step_scheduler.specs.Runs.{run_values, unfinished};
 ghost use Rattle.step_scheduler.specs.declared.events.Event.TheVariants.{Take, Finish};
 

@@ -27,8 +27,7 @@ pub fn evaluate(alloc: Global, task: Task) -> Finished
     Finished { job, value, step }
 }
 
-// The value of a step, from what its task is given: a further hold on one that is there already, or a new one. `Err` is want
-// of memory.
+// The value of a step, from what its task is given: a further hold on one that is there already, or a new one.
 fn value_of(
     alloc: Global,
     job: &Arc<Job>,

@@ -1,8 +1,8 @@
 //! Tasks, made of the values that a board stores.
-ghost use Rattle.std.specs.Prelude.{◌≡◌, IfOk, IfSome, IsSome, MatchOption, None, length, map};
+ghost use Rattle.std.specs.Prelude.{◌≡◌, IfOk, IfSome, IsSome, None, map};
 ghost use Rattle.std.specs.Arc.{arc_value};
 ghost use Rattle.step_scheduler.specs.Jobs.{inputs_for, meaning_at};
-ghost use Rattle.step_scheduler.specs.near.Storing.{AreStored, CanBeGiven, StoresMeanings, value_at, slot_at, value_in};
+ghost use Rattle.step_scheduler.specs.near.Slots.{AreStored, CanBeGiven, StoresMeanings, value_at, slot_at, value_in};
 
 use crate::jobs::Job;
 use crate::tasks::{Given, Task};

@@ -2,7 +2,7 @@
 ghost use Rattle.std.specs.Prelude.{◌≡◌, IfOk, None, length, replicate};
 ghost use Rattle.std.specs.Arc.{arc_value};
 ghost use Rattle.plan_ir.specs.declared.values.Value.TheVariants as value;
-ghost use Rattle.step_scheduler.specs.near.Storing.{StoresMeanings};
+ghost use Rattle.step_scheduler.specs.near.Slots.{StoresMeanings};
 
 use crate::jobs::Job;
 use plan_compiler::set::CompiledSet;

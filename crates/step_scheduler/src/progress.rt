@@ -13,29 +13,13 @@ pub enum Progress {
     Done,
 }
 
-impl Progress {
-    // Whether the step was taken and has had no value.
-    pub(crate) fn is_under_way(&self) -> bool
-        ensures { IsTrue result ↔ ((was_taken self.now ≡ true) × (is_done self.now ≡ false)) }
-    {
-        matches!(self, Progress::Taken)
-    }
-
-    // Whether the step has had its value.
-    pub(crate) fn is_done(&self) -> bool
-        ensures { result ≡ is_done self.now }
-    {
-        matches!(self, Progress::Done)
-    }
-}
-
 // Whether the step of a number was taken and has had no value.
 pub(crate) fn is_under_way(steps: &[Progress], step: usize) -> bool
     requires { step < length steps.now }
     ensures { IsTrue result ↔ ((was_taken (progress_at steps.now step) ≡ true)
         × (is_done (progress_at steps.now step) ≡ false)) }
 {
-    steps[step].is_under_way()
+    matches!(steps[step], Progress::Taken)
 }
 
 // Whether all steps have had their values, of which so many events are known: each step has two in all.

@@ -2,7 +2,7 @@
 ghost use Rattle.std.specs.Prelude.{◌≡◌, ◌<◌, IfOk, length};
 ghost use Rattle.plan_ir.specs.Figures.{figures_of, option_value_of, total_to};
 ghost use Rattle.step_scheduler.specs.near.Figures.{AreAllFigures};
-ghost use Rattle.step_scheduler.specs.near.Storing.{HasAllValues};
+ghost use Rattle.step_scheduler.specs.near.Slots.{HasAllValues};
 
 use crate::handing::stored_value;
 use crate::jobs::Job;

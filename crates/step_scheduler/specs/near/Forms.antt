@@ -4,7 +4,7 @@ use Rattle.step_scheduler.specs.Jobs.{JobView}
 use Rattle.step_scheduler.specs.declared.boards.Form.{Form}
 use Rattle.step_scheduler.specs.declared.boards.Form.TheVariants as form
 use Rattle.step_scheduler.specs.declared.events.Event.{Event}
-use Rattle.step_scheduler.specs.near.Stored.{IsStepped}
+use Rattle.step_scheduler.specs.near.Stepped.{IsStepped}
 use Rattle.step_scheduler.specs.near.Whole.{IsWhole}
 
 -- what a board of the job has after the history

@@ -1,6 +1,6 @@
 use Rattle.std.proofs.Common.{◌≡◌, map, take}
 use Rattle.std.specs.Arc.{arc_value}
-use Rattle.step_scheduler.specs.near.Storing.{value_at}
+use Rattle.step_scheduler.specs.near.Slots.{value_at}
 use Rattle.step_scheduler.proofs.handing.holds_on.Given as goal
 
 abbrev pub invariant-loop-step : goal.invariant-loop-step

@@ -7,7 +7,7 @@ use Rattle.step_scheduler.specs.declared.events.Event.{Event}
 use Rattle.step_scheduler.specs.declared.progress.Progress.{Progress}
 use Rattle.step_scheduler.specs.near.Steps.{was_taken, is_done, events_of, progress_at}
 use Rattle.step_scheduler.specs.near.Counts.{IsCounted}
-use Rattle.step_scheduler.specs.near.Storing.{AreRight, Slot}
+use Rattle.step_scheduler.specs.near.Slots.{AreRight, Slot}
 
 -- the steps are those of the history; there is room for the events to come
 pub record IsRunBoard (job : JobView) (steps : List Progress) (history : List Event) (capacity : ℕ) : Type 0 where
