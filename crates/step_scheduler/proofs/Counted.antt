@@ -26,7 +26,7 @@ use Rattle.step_scheduler.specs.declared.events.Event.{Event}
 use Rattle.step_scheduler.specs.declared.events.Event.TheVariants.{Take, Finish}
 use Rattle.step_scheduler.proofs.BoardLemmas.{board_takes, board_finishes, waiting_not_done}
 use Rattle.step_scheduler.specs.near.Slots.{Slot, slot_at, StoresMeanings}
-use Rattle.step_scheduler.proofs.Slots.{right_after_take, right_after_finish, right_at_first}
+use Rattle.step_scheduler.proofs.Slots.{right_after_take, right_after_finish, right_at_first, waiting_at}
 use Rattle.plan_compiler.proofs.CounterLemmas.{times_push_same, times_push_other}
 use Rattle.step_scheduler.proofs.UserLemmas.{HasUsers, has_users}
 
@@ -332,14 +332,10 @@ module _ (job : JobView) (steps : List Progress) (slots : List Slot) (history : 
   }
 
 nothing_done : (n i : ℕ) → is_done (progress_at (replicate n Waiting) i) ≡ false
-nothing_done zero i = refl
-nothing_done (suc n) zero = refl
-nothing_done (suc n) (suc i) = nothing_done n i
+nothing_done n i = ap is_done (waiting_at n i)
 
 nothing_taken : (n i : ℕ) → was_taken (progress_at (replicate n Waiting) i) ≡ false
-nothing_taken zero i = refl
-nothing_taken (suc n) zero = refl
-nothing_taken (suc n) (suc i) = nothing_taken n i
+nothing_taken n i = ap was_taken (waiting_at n i)
 
 no_events : (n : ℕ) → sum_by events_of (replicate n Waiting) ≡ 0
 no_events zero = refl

@@ -1,15 +1,15 @@
 -- The commodities are loaded by their numbers; those of which nothing is held change nothing.
 use Rattle.std.proofs.Common.{◌≡◌, ℕ, zero, suc, ◌+◌, ◌-◌, ◌<◌, ◌≤◌, List, [], ◌∷◌, ◌++◌, length, map}
 use Rattle.std.proofs.Common.{sym, ap, ◌∙◌, append_assoc, slice_set, zero-add, arith}
-use Rattle.std.specs.Prelude.{◌+ℤ◌, pos, replicate}
+use Rattle.std.specs.Prelude.{◌+ℤ◌, ℤ, pos, replicate, true}
 use Rattle.std.specs.List.{range_with_len}
 use Rattle.std.proofs.Math.IntN.{+ℤ_idr}
 use Rattle.std.proofs.lemmas.List.FromFn.{map-range_with_len_more}
-use Rattle.span_tables.specs.Tables.{AcceptedTables}
+use Rattle.span_tables.specs.Tables.{AcceptedTables, has_option_value}
 use Rattle.span_tables.specs.declared.portfolios.Holding.{Holding}
 use Rattle.inter_credit.specs.Credits.{unspread_line}
 use Rattle.inter_credit.specs.declared.state.InterLine.{InterLine}
-use Rattle.plan_ir.specs.Figures.{held_at, line_of, value_to}
+use Rattle.plan_ir.specs.Figures.{held_at, line_of, net_value_at, value_to}
 use Rattle.plan_compiler.specs.Meaning.{lines_loaded}
 use Rattle.plan_compiler.proofs.Meanings.{load_more, value_more}
 use Rattle.step_scheduler.specs.declared.parts.Part.{Part}
@@ -62,3 +62,10 @@ module _ (t : AcceptedTables) (holdings : List Holding) where
   -- commodities of which nothing is held add nothing to the option value
   pub values_over : (from to : ℕ) → from ≤ to → NoneHeld t holdings from to → value_to t holdings from ≡ value_to t holdings to
   values_over from to le none = steady_up_to (value_to t holdings) from to le (λ c a b. value_over c (none c a b))
+
+  -- the option value up to the next that is held, with that of the next
+  pub value_with : (p : Part) (from : ℕ) (value : ℤ) → IsNext t holdings from p.commodity → IsPart t holdings p
+      → has_option_value t ≡ true → value ≡ value_to t holdings from
+      → value +ℤ p.worth ≡ value_to t holdings p.commodity +ℤ net_value_at t holdings p.commodity
+  value_with p from value next is has e =
+      λ k. (e ∙ values_over from p.commodity next.behind next.none) k +ℤ is.worth has k

@@ -96,7 +96,7 @@ found_means job slots k can slot read (Some v) h =
 
 -- a new board
 
-waiting_at : (n k : ℕ) → progress_at (replicate n Waiting) k ≡ Waiting
+pub waiting_at : (n k : ℕ) → progress_at (replicate n Waiting) k ≡ Waiting
 waiting_at zero k = refl
 waiting_at (suc n) zero = refl
 waiting_at (suc n) (suc k) = waiting_at n k

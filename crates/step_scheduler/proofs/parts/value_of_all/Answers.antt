@@ -1,10 +1,9 @@
 use Rattle.std.proofs.Common.{length, sym, ◌∙◌}
-use Rattle.std.specs.Prelude.{◌+ℤ◌}
 use Rattle.plan_ir.specs.Figures.{value_to}
 use Rattle.plan_ir.proofs.BoundLaws.{next_value_is_money}
 use Rattle.plan_compiler.proofs.Meanings.{value_more}
 use Rattle.step_scheduler.proofs.HeldLemmas.{next_part, no_part}
-use Rattle.step_scheduler.proofs.PassedOver.{values_over}
+use Rattle.step_scheduler.proofs.PassedOver.{value_with, values_over}
 use Rattle.step_scheduler.proofs.parts.value_of_all.Goals as goal
 
 pub loop-part-init : goal.loop-part-init
@@ -15,18 +14,16 @@ pub sum-value-requires : goal.sum-value-requires
 sum-value-requires g c =
     let here = next_part _ _ c.args.parts.now c.loop-part.part-index c.loop-part.next c.part-item.result c.loop-part-test.true
     c.part-item.is c.loop-part.invariant.left in
-    let value = c.loop-part.invariant.value ∙ values_over _ _ _ _ here.0.behind here.0.none in
-    let worth = here.1.worth (sym c.has_option_value.ensures ∙ c.if-not-has_option_value.false) in
-    rw (value, worth) (next_value_is_money _ _ _ c.commodities-count.ensures.limits c.holdings-kept.ensures.kept c.requires.fits
-    here.0.known)
+    rw (value_with _ _ _ _ _ here.0 here.1 (sym c.has_option_value.ensures ∙ c.if-not-has_option_value.false) c.loop-part.invariant.value)
+    (next_value_is_money _ _ _ c.commodities-count.ensures.limits c.holdings-kept.ensures.kept c.requires.fits here.0.known)
 
 pub loop-part-preserved : goal.loop-part-preserved
 loop-part-preserved g c =
     let here = next_part _ _ c.args.parts.now c.loop-part.part-index c.loop-part.next c.part-item.result c.loop-part-test.true
     c.part-item.is c.loop-part.invariant.left in
-    let value = c.loop-part.invariant.value ∙ values_over _ _ _ _ here.0.behind here.0.none in
-    let worth = here.1.worth (sym c.has_option_value.ensures ∙ c.if-not-has_option_value.false) in
-    record { left = here.2; value = c.sum-value.ensures ∙ (λ k. value k +ℤ worth k) ∙ value_more _ _ _ }
+    let value =
+    value_with _ _ _ _ _ here.0 here.1 (sym c.has_option_value.ensures ∙ c.if-not-has_option_value.false) c.loop-part.invariant.value in
+    record { left = here.2; value = c.sum-value.ensures ∙ value ∙ value_more _ _ _ }
 
 pub returns : goal.returns
 returns g c =
