@@ -1,8 +1,8 @@
 //! Tasks, made of the values that a board stores.
-ghost use Rattle.std.specs.Prelude.{◌≡◌, IfOk, IfSome, IsSome, None, map};
+ghost use Rattle.std.specs.Prelude.{◌≡◌, ◌<◌, IfOk, IfSome, IsSome, None, length, map};
 ghost use Rattle.std.specs.Arc.{arc_value};
 ghost use Rattle.step_scheduler.specs.Jobs.{inputs_for, meaning_at};
-ghost use Rattle.step_scheduler.specs.near.Slots.{AreStored, CanBeGiven, StoresMeanings, value_at, slot_at, value_in};
+ghost use Rattle.step_scheduler.specs.near.Slots.{AreStored, CanBeGiven, HasAllValues, slot_at, value_at, value_in};
 
 use crate::jobs::Job;
 use crate::tasks::{Given, Task};
@@ -64,11 +64,11 @@ fn stored(slots: &[Option<Arc<Value>>], step: usize) -> &Arc<Value>
     }
 }
 
-// The value of a step, which is stored.
-pub(crate) fn stored_value<'a>(job: &Job, slots: &'a [Option<Arc<Value>>], step: usize) -> &'a Value
-    requires stored { IsSome (slot_at slots.now step) }
-    requires means { StoresMeanings job.now slots.now }
+// The value of a step, where the values of all steps are stored.
+pub(crate) fn stored_value<'a>(job: &Job, slots: &'a [Option<Arc<Value>>], step: u32) -> &'a Value
+    requires values { HasAllValues job.now slots.now }
+    requires in_range { step < length job.now.set.plan }
     ensures { result.now ≡ meaning_at job.now step }
 {
-    stored(slots, step)
+    stored(slots, step as usize)
 }

@@ -33,7 +33,7 @@ impl Stepped {
         // Called for its clause: the tables are within their limits.
         let _limits = set.tables().commodities();
         let step = set.final_step(commodity as u32);
-        let value = stored_value(job, self.slots.as_slice(), step as usize);
+        let value = stored_value(job, self.slots.as_slice(), step);
         *value.figures()
     }
 
@@ -43,7 +43,7 @@ impl Stepped {
         ensures { result ≡ total_to job.now.set.tables job.now.portfolio.holdings (length job.now.set.tables.commodities) }
     {
         let step = job.set().total_step();
-        let value = stored_value(job, self.slots.as_slice(), step as usize);
+        let value = stored_value(job, self.slots.as_slice(), step);
         value.total()
     }
 
@@ -55,7 +55,7 @@ impl Stepped {
         let Some(step) = job.set().value_step() else {
             return Money::new(0);
         };
-        let value = stored_value(job, self.slots.as_slice(), step as usize);
+        let value = stored_value(job, self.slots.as_slice(), step);
         value.premium()
     }
 
