@@ -14,7 +14,7 @@ use Rattle.plan_shelf.proofs.BeginningLemmas.{IsPrefix-whole}
 abbrev pub shown : List SetView → List SetView
 shown sets = []
 
--- and ask for nothing
+-- clients ask for nothing of a history
 abbrev pub moved : List SetView → List SetView → ℕ → Type 0
 moved before after answer = Unit {0}
 
@@ -22,11 +22,11 @@ moved before after answer = Unit {0}
 abbrev pub exchanged : ℕ → ℕ → ℕ
 exchanged count n = either (n == count) (count + 1) n
 
--- what the publisher has that saw these sets: no pen, and nothing to trade
+-- what a publisher that saw these sets has: no pen, and nothing to trade
 abbrev pub at_hand : List SetView → View SetView ℕ
 at_hand seen = (seen, (no_nib, None))
 
--- the exchange that adds a set to so many can be done at these words and sets
+-- the exchange that adds a set after a number of sets can be done at these words and sets
 abbrev pub AddGoes : List SetView → SetView → ℕ → List Cell → List SetView → Type 0
 AddGoes seen set count =
     Goes IsCounted shown moved 0 (at_hand seen) (exchanged count) (Adds (step 0 count (count + 1) set) (at_hand seen))
@@ -60,7 +60,7 @@ adds-goes sets seen set count len begins false is =
       rw is (ap length all),
     )
 
--- whatever the history is
+-- the exchange that adds a set can be done whatever the history is
 pub adds-moves : (seen : List SetView) (set : SetView) (count : ℕ) → length seen ≡ count
     → Moves IsCounted shown moved 0 (at_hand seen) (exchanged count) (Adds (step 0 count (count + 1) set) (at_hand seen))
 adds-moves seen set count len words sets counted begins away =

@@ -1,5 +1,5 @@
-//! The history of a shelf: its publications, in order. It only grows, and it exists in the proofs alone; what threads share
-//! of it is one word, the number of publications.
+//! The history of a shelf: its publications, in order. A history only grows, and exists in the proofs alone; threads share
+//! one word of it, the number of publications.
 ghost use Rattle.plan_shelf.specs.near.History.{IsLonger, counter_of};
 ghost use Rattle.std.specs.Prelude.{◌≡◌, ◌<◌, ◌-◌, ◌^◌, ◌⊎◌, ◌↔◌, [], ◌∷◌, ◌++◌};
 ghost use Rattle.std.specs.Prelude.{IsTrue, MatchBool, length};
@@ -67,7 +67,7 @@ impl Plain<CompiledSet, CompiledSet, u64> for Add {
     ghost state = { λ set. None };
 }
 
-/// The history of a shelf to be: it has no publication, and no shelf has it yet. Contracts see its book.
+/// The history of a shelf that is to be made: a history without publications that no shelf has yet. Contracts see its book.
 #[derive(Drop)]
 pub struct History {
     count: Word<CompiledSet, u64, Counted>,
@@ -87,7 +87,7 @@ impl Model for History {
 }
 
 impl History {
-    /// A history of its own.
+    /// A new history, with a book of its own.
     pub fn new() -> History {
         let (seen, mut first, _second) = Seen::open(Start::alone(), 0, 0);
         History {
@@ -96,8 +96,8 @@ impl History {
         }
     }
 
-    /// Its counter and its empty beginning, as those of a shelf of this name.
-    pub(crate) fn named<S: ShelfName>(self) -> (Counter<S>, Beginning<S>)
+    /// The history's counter and its empty beginning, as those of a shelf of this name.
+    pub(crate) fn for_shelf<S: ShelfName>(self) -> (Counter<S>, Beginning<S>)
         requires { self ≡ S.book }
         ensures { result.1 ≡ [] }
     {
@@ -120,7 +120,7 @@ impl History {
 pub(crate) struct Counter<S: ShelfName> {
     count: Word<CompiledSet, u64, Counted>,
     of: PhantomData<S>,
-    ghost is: { count ≡ counter_of S.book },
+    ghost of_shelf: { count ≡ counter_of S.book },
 }
 
 /// The publications of a shelf up to one of them. Contracts see their sets, in order.
@@ -143,21 +143,21 @@ impl<S: ShelfName> Model for Beginning<S> {
 }
 
 impl<S: ShelfName> Beginning<S> {
-    /// How many publications it has.
+    /// How many publications the beginning has.
     pub(crate) fn len(&self) -> u64
         ensures { result ≡ length self.now }
     {
         self.count
     }
 
-    /// Whether its last publication has the last number there is.
+    /// Whether the last publication has the last number there is.
     pub(crate) fn is_full(&self) -> bool
         ensures { IsTrue result ↔ (length self.now ≡ 2 ^ 64 - 1) }
     {
         self.count == u64::MAX
     }
 
-    /// A copy.
+    /// A copy of the beginning.
     pub(crate) fn copied(&self) -> Beginning<S>
         ensures { result ≡ self.now }
     {
@@ -168,7 +168,7 @@ impl<S: ShelfName> Beginning<S> {
         }
     }
 
-    /// The longer of two beginnings. Both begin it.
+    /// The longer of two beginnings. Both begin the longer one.
     pub(crate) fn longer(&self, other: &Beginning<S>) -> Beginning<S>
         ensures one { (result ≡ self.now) ⊎ (result ≡ other.now) }
         ensures this { IsPrefix self.now result }
@@ -183,8 +183,8 @@ impl<S: ShelfName> Beginning<S> {
         }
     }
 
-    /// Adds a set to the history, where that is no longer than this beginning, and says whether it did. Else the beginning
-    /// becomes the history.
+    /// Adds a set to the history where the history is no longer than this beginning, and says whether the set was added.
+    /// Where it was not, the beginning becomes the history.
     pub(crate) fn add(&mut self, counter: &Counter<S>, set: &CompiledSet) -> bool
         requires { length self.old < 2 ^ 64 - 1 }
         ensures { MatchBool result (self.new ≡ self.old ++ set.now ∷ []) (IsLonger self.old self.new) }

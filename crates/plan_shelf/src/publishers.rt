@@ -6,7 +6,7 @@ ghost use Rattle.std.specs.Prelude.{IfErr, IfOk, IsErrAnd, length};
 
 use crate::faults::{NotPublished, ShelfFault};
 use crate::history::{Beginning, Counter, ShelfName};
-use crate::slots::{Place, Publication, Published, Slot};
+use crate::slots::{Publication, Published, Slot, Window};
 use left_right::{Absorb, WriteHandle};
 use plan_compiler::set::CompiledSet;
 use std::alloc::{AllocError, Global};
@@ -29,7 +29,7 @@ impl<S: ShelfName> Model for Told<S> {
 }
 
 impl<S: ShelfName> Told<S> {
-    /// The publication's number. They are numbered from 1.
+    /// The publication's number. Publications are numbered from 1.
     pub fn number(&self) -> u64
         ensures { result ≡ length self.now }
     {
@@ -39,21 +39,21 @@ impl<S: ShelfName> Told<S> {
 
 /// The publisher of a shelf. Contracts see the sets that were published, in order.
 ///
-/// Readers find nothing any more once it is dropped.
+/// Readers find nothing any more once the publisher is dropped.
 #[derive(Drop)]
 pub struct Publisher<S: ShelfName, R: Wait + Drop>
 where
-    Slot<S>: Absorb<Publication<S>, State = ()>,
+    Window<S>: Absorb<Publication<S>, State = ()>,
 {
     pub(crate) alloc: Global,
-    pub(crate) slots: WriteHandle<Slot<S>, Publication<S>, R>,
+    pub(crate) windows: WriteHandle<Window<S>, Publication<S>, R>,
     pub(crate) counter: Counter<S>,
     pub(crate) beginning: Beginning<S>,
 }
 
 impl<S: ShelfName, R: Wait + Drop> Model for Publisher<S, R>
 where
-    Slot<S>: Absorb<Publication<S>, State = ()>,
+    Window<S>: Absorb<Publication<S>, State = ()>,
 {
     ghost use Rattle.plan_compiler.specs.Compiled.{SetView};
     ghost use Rattle.std.specs.Prelude.{List};
@@ -65,11 +65,12 @@ where
 
 impl<S: ShelfName, R: Wait + Drop> Publisher<S, R>
 where
-    Slot<S>: Absorb<Publication<S>, State = ()>,
+    Window<S>: Absorb<Publication<S>, State = ()>,
 {
     /// Publishes a set, and tells its publication.
     ///
-    /// Refused is a publication past number 2^64 - 1, and want of memory. The set then comes back, and nothing was published.
+    /// A publication past number 2^64 - 1 is refused. The set then comes back, and nothing was published; so it is for want of
+    /// memory.
     pub fn publish(&mut self, set: Arc<CompiledSet>) -> Result<Told<S>, NotPublished>
         ensures ok { IfOk result (λ told. (self.new ≡ self.old ++ arc_value set ∷ []) × (told ≡ self.new)) }
         ensures err { IfErr result (λ refused. (self.new ≡ self.old) × (refused.set ≡ set)) }
@@ -80,38 +81,38 @@ where
             let cause = ShelfFault::Last;
             return Err(NotPublished { cause, set });
         }
-        let Ok(place) = self.new_place() else {
+        let Ok(slot) = self.new_slot() else {
             let cause = ShelfFault::OutOfMemory;
             return Err(NotPublished { cause, set });
         };
         let mut beginning = self.beginning.copied();
         if !beginning.add(&self.counter, &set) {
-            // This never comes: nobody else has the counter.
+            // The set is always added: nobody else has the counter.
             let cause = ShelfFault::OutOfMemory;
             return Err(NotPublished { cause, set });
         }
         let told = Told {
             beginning: beginning.copied(),
         };
-        let _ = place.try_set(Published {
+        let _ = slot.try_set(Published {
             set,
             beginning: beginning.copied(),
         });
         self.beginning = beginning;
-        let _ = self.slots.publish();
+        let _ = self.windows.publish();
         Ok(told)
     }
 
-    // The place of a publication, which both slots are to be told of. All of its growths are here. `Err` is want of memory.
-    fn new_place(&mut self) -> Result<Place<S>, AllocError>
+    // The slot of a publication, which both windows are to be told of. A publication takes no other memory.
+    fn new_slot(&mut self) -> Result<Slot<S>, AllocError>
         ensures { self.new ≡ self.old }
     {
-        let place = Arc::new(self.alloc, OnceLock::new())?;
+        let slot = Arc::new(self.alloc, OnceLock::new())?;
         let publication = Publication {
-            place: Arc::try_clone(&place)?,
+            slot: Arc::try_clone(&slot)?,
         };
-        match self.slots.append(publication) {
-            Ok(()) => Ok(place),
+        match self.windows.append(publication) {
+            Ok(()) => Ok(slot),
             Err(_) => Err(AllocError),
         }
     }

@@ -7,7 +7,7 @@ ghost use mathlib.Core.List.{IsPrefix};
 
 use crate::history::{Beginning, ShelfName};
 use crate::publishers::Told;
-use crate::slots::Slot;
+use crate::slots::Window;
 use left_right::ReadHandle;
 use plan_compiler::set::CompiledSet;
 use std::alloc::AllocError;
@@ -19,7 +19,7 @@ use std::thread;
 /// the shelf.
 #[derive(Drop)]
 pub struct Reader<S: ShelfName> {
-    slots: ReadHandle<Slot<S>>,
+    windows: ReadHandle<Window<S>>,
     beginning: Beginning<S>,
 }
 
@@ -44,10 +44,10 @@ pub(crate) enum Look {
 
 impl<S: ShelfName> Reader<S> {
     /// A reader that knows of these publications.
-    pub(crate) fn new(slots: ReadHandle<Slot<S>>, beginning: Beginning<S>) -> Reader<S>
+    pub(crate) fn new(windows: ReadHandle<Window<S>>, beginning: Beginning<S>) -> Reader<S>
         ensures { result ≡ beginning }
     {
-        Reader { slots, beginning }
+        Reader { windows, beginning }
     }
 
     /// Learns what a publication told: from now on the reader finds that publication or a later one.
@@ -58,9 +58,9 @@ impl<S: ShelfName> Reader<S> {
         self.beginning = self.beginning.longer(&told.beginning);
     }
 
-    /// The current set, with the number of its publication. It is none before one that the reader found or learned of.
+    /// The current set, with the number of its publication. No set before one that the reader found or learned of is given.
     ///
-    /// `None` is given where nothing is published, and where the publisher was dropped. `Err` is want of memory.
+    /// `None` where nothing is published, and where the publisher was dropped.
     pub fn current<R: Wait>(
         &mut self,
         rt: &R,
@@ -80,18 +80,18 @@ impl<S: ShelfName> Reader<S> {
         unreachable!()
     }
 
-    // Looks once. `Err` is want of memory.
+    // Looks once.
     fn look(&mut self) -> Result<Look, AllocError>
         ensures old { IsPrefix self.old self.new }
         ensures found { IfOk result (Finds self.old self.new) }
     {
-        let Some(slot) = self.slots.enter() else {
+        let Some(window) = self.windows.enter() else {
             return Ok(Look::Nothing);
         };
-        let Some(place) = &slot.last else {
+        let Some(slot) = &window.last else {
             return Ok(Look::Nothing);
         };
-        let Some(published) = place.get() else {
+        let Some(published) = slot.get() else {
             return Ok(Look::Older);
         };
         if published.beginning.len() < self.beginning.len() {

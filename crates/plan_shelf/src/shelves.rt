@@ -7,7 +7,7 @@ use crate::faults::ShelfFault;
 use crate::history::{History, ShelfName};
 use crate::publishers::Publisher;
 use crate::readers::Reader;
-use crate::slots::Slot;
+use crate::slots::Window;
 use left_right::WriteHandle;
 use std::alloc::{AllocError, Global};
 use std::sync::Wait;
@@ -17,9 +17,9 @@ pub const MAX_READERS: usize = 16;
 
 /// A shelf on which nothing is published: its publisher, and so many readers.
 ///
-/// Refused is, first, a number of readers that is 0 or over 16, and then want of memory.
+/// A number of readers that is 0 or over 16 is refused before anything is made.
 ///
-/// The history is a new one, and the type `S` names its book. A function whose signature has no such type calls this
+/// The history is a new one, and the type `S` names its book. A function whose signature has no such type calls `shelf`
 /// at `Brand`, by a function over all `S` that takes `History::new()`.
 pub fn shelf<S: ShelfName, R: Wait + Drop>(
     rt: R,
@@ -35,10 +35,10 @@ pub fn shelf<S: ShelfName, R: Wait + Drop>(
     if readers == 0 || readers > MAX_READERS {
         return Err(ShelfFault::Readers);
     }
-    Ok(empty_shelf(rt, alloc, history, readers)?)
+    empty_shelf(rt, alloc, history, readers).map_err(|_| ShelfFault::OutOfMemory)
 }
 
-// The same, of a number of readers that can be. `Err` is want of memory.
+// A shelf of a number of readers that a shelf can have.
 fn empty_shelf<S: ShelfName, R: Wait + Drop>(
     rt: R,
     alloc: Global,
@@ -49,15 +49,21 @@ fn empty_shelf<S: ShelfName, R: Wait + Drop>(
     requires readers { (0 < readers) × (readers ≤ MAX_READERS) }
     ensures { IfOk result (λ made. (made.0 ≡ []) × (vec_len made.1 ≡ readers) × All (λ reader. reader ≡ []) made.1.items) }
 {
-    let (counter, beginning) = history.named::<S>();
-    let slots = WriteHandle::new(alloc, rt, Slot { last: None }, Slot { last: None }, readers)?;
+    let (counter, beginning) = history.for_shelf::<S>();
+    let windows = WriteHandle::new(
+        alloc,
+        rt,
+        Window { last: None },
+        Window { last: None },
+        readers,
+    )?;
     let mut all = Vec::with_capacity(alloc, readers)?;
     for _ in 0..readers {
-        all.push(Reader::new(slots.handle()?, beginning.copied()))?;
+        all.push(Reader::new(windows.handle()?, beginning.copied()))?;
     }
     let publisher = Publisher {
         alloc,
-        slots,
+        windows,
         counter,
         beginning,
     };

@@ -6,7 +6,7 @@ use std::alloc::AllocError;
 use std::marker::Model;
 use std::sync::{Arc, OnceLock};
 
-/// A published set, with the publications up to it. Contracts see those.
+/// A published set, with the publications up to it. Contracts see the sets of these publications.
 #[derive(Drop)]
 pub struct Published<S: ShelfName> {
     pub(crate) set: Arc<CompiledSet>,
@@ -26,23 +26,23 @@ impl<S: ShelfName> Model for Published<S> {
     ghost invariant = { λ p. IsLast p.beginning (arc_value p.set) };
 }
 
-/// A place for a published set. It is made, and told to both slots, before anything is published in it.
-pub type Place<S> = Arc<OnceLock<Published<S>>>;
+/// A slot for a published set. A slot is made, and told to both windows, before a set is published in it.
+pub type Slot<S> = Arc<OnceLock<Published<S>>>;
 
-/// What readers look at: the place of the last publication. There are two, of which readers look at one.
+/// What readers look at: the slot of the last publication. There are two windows, and readers look at one of them.
 #[derive(Drop)]
-pub struct Slot<S: ShelfName> {
-    pub(crate) last: Option<Place<S>>,
+pub struct Window<S: ShelfName> {
+    pub(crate) last: Option<Slot<S>>,
 }
 
-/// A publication on its way to both slots.
+/// A publication on its way to both windows.
 #[derive(Drop)]
 pub struct Publication<S: ShelfName> {
-    pub(crate) place: Place<S>,
+    pub(crate) slot: Slot<S>,
 }
 
-// It always succeeds. A slot keeps its old place only where 2^64 - 1 others hold the new one.
-impl<S: ShelfName> Absorb<Publication<S>> for Slot<S> {
+// Telling a window of a publication always succeeds. The window keeps its old slot only where 2^64 - 1 others hold the new one.
+impl<S: ShelfName> Absorb<Publication<S>> for Window<S> {
     type State = ();
 
     ghost state = { λ _. tt };
@@ -54,10 +54,10 @@ impl<S: ShelfName> Absorb<Publication<S>> for Slot<S> {
     fn absorb_first(
         &mut self,
         publication: &Publication<S>,
-        _other: &Slot<S>,
+        _other: &Window<S>,
     ) -> Result<(), AllocError> {
-        if let Ok(place) = Arc::try_clone(&publication.place) {
-            self.last = Some(place);
+        if let Ok(slot) = Arc::try_clone(&publication.slot) {
+            self.last = Some(slot);
         }
         Ok(())
     }

@@ -12,7 +12,7 @@ pub record IsCounted (words : List Cell) (sets : List SetView) : Type 0 where
 abbrev pub counter_of : Book → Named
 counter_of book = record { tracked = true; key = 0; book = book }
 
--- the set was added to all that had been seen; or the history was longer, and then all of it was seen
+-- the set was added to all that had been seen; or the history was longer, and then the whole history was seen
 abbrev pub Adds : Step SetView → View SetView ℕ → ℕ → View SetView ℕ → Type 0
 Adds s old found new = MatchBool (found == s.old) (new.0 ≡ old.0 ++ s.ask ∷ []) (length new.0 ≡ found)
 

@@ -4,7 +4,7 @@ use Rattle.plan_shelf.proofs.history.Beginning.add.Goals as goal
 
 pub compare_exchange-found-requires : goal.compare_exchange-found-requires
 compare_exchange-found-requires g c =
-    let counter = c.args.counter.now.is in
+    let counter = c.args.counter.now.of_shelf in
     let offer = c.plain-offer.ensures in
     let pen = c.no_pen-pen.ensures in
     let book = c.self.invariant.1 ∙ sym (ap (λ w. w.book) counter) in (
