@@ -4,6 +4,8 @@ ghost use Rattle.std.specs.Arc.{arc_value};
 ghost use Rattle.plan_ir.specs.Figures.{figures_of, is_held, option_value_of, total_to};
 ghost use Rattle.step_scheduler.specs.Boards.{IsComplete};
 ghost use Rattle.step_scheduler.specs.near.Figures.{AreAllFigures};
+ghost use Rattle.result_book.specs.Rows.{row_of};
+ghost use Rattle.result_book.specs.near.Kept.{AreTotals};
 
 use plan_compiler::set::CompiledSet;
 use plan_ir::figures::Figures;
@@ -27,73 +29,65 @@ pub struct Row {
     job: Arc<Job>,
     figures: Vec<Figures>,
     held: [bool; MAX_COMMODITIES],
-    total: Money,
-    value: Money,
+    totals: Totals,
 }
 
 impl Model for Row {
     ghost use Rattle.std.specs.Arc.{arc_value};
-    ghost use Rattle.result_book.specs.Rows.{RowView};
+    ghost use Rattle.result_book.specs.Rows.{RowView, row_of};
     ghost use Rattle.result_book.specs.near.Kept.{IsRow};
 
     ghost Value = { RowView };
 
-    ghost view = { λ r. record { set = (arc_value r.job).set; portfolio = (arc_value r.job).portfolio } };
+    ghost view = { λ r. row_of (arc_value r.job) };
 
-    ghost invariant = { λ r. IsRow
-        (record { set = (arc_value r.job).set; portfolio = (arc_value r.job).portfolio }) r.figures.items r.held r.total r.value };
+    ghost invariant = { λ r. IsRow (arc_value r.job) r.figures.items r.held r.totals };
 }
 
 impl Row {
-    /// The row of a complete board. `Err` is want of memory.
+    /// The row of a complete board.
     pub fn of(alloc: Global, board: &Board) -> Result<Arc<Row>, AllocError>
         requires { IsComplete board.now }
-        ensures { IfOk result (λ row. arc_value row
-            ≡ record { set = board.now.job.set; portfolio = board.now.job.portfolio }) }
+        ensures { IfOk result (λ row. arc_value row ≡ row_of board.now.job) }
     {
         let job = Arc::try_clone(board.job())?;
         let figures = figures_of_all(alloc, board)?;
-        let tables = job.set().tables();
-        // Called for its clause: the tables are within their limits.
-        let _limits = tables.commodities();
-        let held = held_commodities(tables, job.portfolio());
-        let total = total_of(board);
-        let value = value_of(board);
-        Ok(Arc::new(
-            alloc,
-            Row {
-                job,
-                figures,
-                held,
-                total,
-                value,
-            },
-        )?)
+        Row::of_job(alloc, job, figures, Totals::of(board))
     }
 
-    /// The same of a board that is used up: its figures are handed over.
+    /// The row of a complete board that is used up: its figures are handed over.
     pub fn from_board(alloc: Global, board: Board) -> Result<Arc<Row>, AllocError>
         requires { IsComplete board }
-        ensures { IfOk result (λ row. arc_value row ≡ record { set = board.job.set; portfolio = board.job.portfolio }) }
+        ensures { IfOk result (λ row. arc_value row ≡ row_of board.job) }
     {
         let job = Arc::try_clone(board.job())?;
+        let totals = Totals::of(&board);
+        let figures = board.into_figures(alloc)?;
+        Row::of_job(alloc, job, figures, totals)
+    }
+
+    // The row of a job with these figures and totals.
+    fn of_job(
+        alloc: Global,
+        job: Arc<Job>,
+        figures: Vec<Figures>,
+        totals: Totals,
+    ) -> Result<Arc<Row>, AllocError>
+        requires figures { AreAllFigures (arc_value job).set.tables (arc_value job).portfolio.holdings figures.items }
+        requires totals { AreTotals (arc_value job).set.tables (arc_value job).portfolio.holdings totals }
+        ensures { IfOk result (λ row. arc_value row ≡ row_of (arc_value job)) }
+    {
         let tables = job.set().tables();
         // Called for its clause: the tables are within their limits.
         let _limits = tables.commodities();
         let held = held_commodities(tables, job.portfolio());
-        let total = total_of(&board);
-        let value = value_of(&board);
-        let figures = board.into_figures(alloc)?;
-        Ok(Arc::new(
-            alloc,
-            Row {
-                job,
-                figures,
-                held,
-                total,
-                value,
-            },
-        )?)
+        let row = Row {
+            job,
+            figures,
+            held,
+            totals,
+        };
+        Ok(Arc::new(alloc, row)?)
     }
 
     /// The set under which the account was margined.
@@ -151,26 +145,37 @@ impl Row {
     pub fn total(&self) -> Money
         ensures { result ≡ total_to self.now.set.tables self.now.portfolio.holdings (length self.now.set.tables.commodities) }
     {
-        self.total
+        self.totals.total
     }
 
     /// The account's option value, in minor units: 0 under a profile in which options have none.
     pub fn value(&self) -> Money
         ensures { result ≡ option_value_of self.now.set.tables self.now.portfolio.holdings }
     {
-        self.value
+        self.totals.option_value
     }
 }
 
-// The figures of a commodity of a complete board.
-fn figures_at(board: &Board, commodity: usize) -> Figures
-    requires complete { IsComplete board.now }
-    requires in_range { commodity < length board.now.job.set.tables.commodities }
-    ensures { result ≡ figures_of board.now.job.set.tables board.now.job.portfolio.holdings commodity }
-{
-    match board.figures(commodity) {
-        Some(figures) => figures,
-        None => unreachable!(),
+// The total and the option value of an account, in minor units.
+#[derive(Clone, Copy)]
+struct Totals {
+    total: Money,
+    option_value: Money,
+}
+
+impl Totals {
+    // The totals of a complete board.
+    fn of(board: &Board) -> Totals
+        requires { IsComplete board.now }
+        ensures { AreTotals board.now.job.set.tables board.now.job.portfolio.holdings result }
+    {
+        match (board.total(), board.value()) {
+            (Some(total), Some(option_value)) => Totals {
+                total,
+                option_value,
+            },
+            _ => unreachable!(),
+        }
     }
 }
 
@@ -180,32 +185,12 @@ fn figures_of_all(alloc: Global, board: &Board) -> Result<Vec<Figures>, AllocErr
     ensures { IfOk result (λ figures. AreAllFigures board.now.job.set.tables board.now.job.portfolio.holdings figures.items) }
 {
     let commodities = board.job().set().tables().commodities().len();
-    let mut figures = Vec::with_capacity(alloc, commodities)?;
+    let mut all = Vec::with_capacity(alloc, commodities)?;
     for commodity in 0..commodities {
-        figures.push(figures_at(board, commodity))?;
+        match board.figures(commodity) {
+            Some(figures) => all.push(figures)?,
+            None => unreachable!(),
+        }
     }
-    Ok(figures)
-}
-
-// The total of a complete board.
-fn total_of(board: &Board) -> Money
-    requires { IsComplete board.now }
-    ensures { result ≡ total_to board.now.job.set.tables board.now.job.portfolio.holdings
-        (length board.now.job.set.tables.commodities) }
-{
-    match board.total() {
-        Some(total) => total,
-        None => unreachable!(),
-    }
-}
-
-// The option value of a complete board.
-fn value_of(board: &Board) -> Money
-    requires { IsComplete board.now }
-    ensures { result ≡ option_value_of board.now.job.set.tables board.now.job.portfolio.holdings }
-{
-    match board.value() {
-        Some(value) => value,
-        None => unreachable!(),
-    }
+    Ok(all)
 }

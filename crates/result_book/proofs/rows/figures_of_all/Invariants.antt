@@ -4,5 +4,5 @@ use Rattle.result_book.proofs.rows.figures_of_all.Given as goal
 
 abbrev pub invariant-loop-commodity : goal.invariant-loop-commodity
 invariant-loop-commodity l =
-    (length l.figures.items ≡ l.commodity)
-    × AreFirstFigures l.board.job.set.tables l.board.job.portfolio.holdings l.figures.items
+    (length l.all.items ≡ l.commodity)
+    × AreFirstFigures l.board.job.set.tables l.board.job.portfolio.holdings l.all.items
