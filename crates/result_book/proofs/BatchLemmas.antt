@@ -35,13 +35,13 @@ module _ {Kept : Type 0} (row_of : Kept → RowView) where
       → row_for (kept_rows row_of es) account ≡ None → lookup (bytes_eq account) es ≡ None
   absent-kept es under account no_row = none (lookup (bytes_eq account) es) (row_for-kept es under account ∙ no_row)
 
-  -- a further row is last
+  -- the rows of entries and one entry more are the rows of the entries, and last that entry's row
   pub kept-push : (es : List (List ℕ × Kept)) (e : List ℕ × Kept)
       → kept_rows row_of (es ++ e ∷ []) ≡ kept_rows row_of es ++ row_of e.1 ∷ []
   kept-push [] e = refl
   kept-push (x ∷ es) e = ap (λ rows. row_of x.1 ∷ rows) (kept-push es e)
 
-  -- and keeps all under their accounts, where it comes under its own
+  -- one row more that is kept under its own account leaves all rows under their accounts
   pub under-push : (es : List (List ℕ × Kept)) (e : List ℕ × Kept) → AreUnderAccounts row_of es → e.0 ≡ account_of (row_of e.1)
       → AreUnderAccounts row_of (es ++ e ∷ [])
   under-push [] e under own = (own, tt)

@@ -30,7 +30,7 @@ impl Model for BatchRows {
 }
 
 impl BatchRows {
-    /// No row.
+    /// A batch without rows.
     pub(crate) fn new(alloc: Global) -> BatchRows
         ensures { result ≡ [] }
     {
@@ -39,7 +39,7 @@ impl BatchRows {
         }
     }
 
-    /// Puts a row last, of an account that has none. `Err` is want of memory: the row comes back, and nothing was put.
+    /// Puts a row of an account that has none last. Where memory is wanting the row comes back, and nothing was put.
     pub(crate) fn put(&mut self, row: Arc<Row>) -> Result<(), Arc<Row>>
         requires { row_for self.old (account_of (arc_value row)) ≡ None }
         ensures put { OnOk result (self.new ≡ self.old ++ arc_value row ∷ []) }
@@ -63,7 +63,7 @@ impl BatchRows {
         }
     }
 
-    /// A further hold on each row, in order. `Err` is want of memory.
+    /// A further hold on each row, in the order in which they were put.
     pub(crate) fn rows(&self, alloc: Global) -> Result<Vec<Arc<Row>>, AllocError>
         ensures { IfOk result (λ rows. map arc_value rows.items ≡ self.now) }
     {

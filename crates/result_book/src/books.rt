@@ -75,7 +75,7 @@ impl ResultBook {
 
     /// Opens a batch, which has no rows, and gives its number. It takes no memory.
     ///
-    /// `NoMoreBatches` where 2^64 - 1 were opened, and the book is then as it was.
+    /// `NoMoreBatches` where 2^64 - 1 were opened: the book then stays as it was.
     pub fn open_batch(&mut self) -> Result<u64, BookFault>
         ensures number { IfOk result (λ number. number ≡ self.old.opened + 1) }
         ensures opened { OnOk result (self.new ≡ record self.old { opened = self.old.opened + 1 }) }
@@ -92,8 +92,8 @@ impl ResultBook {
 
     /// Puts a row last in a batch.
     ///
-    /// Refused is, first, a number of which no batch was opened, then an account of which the batch has a row, and last want of
-    /// memory. The book is then as it was, and the row comes back.
+    /// The book first refuses a number of which no batch was opened, then an account of which the batch has a row, and last
+    /// answers want of memory. In each case it stays as it was, and the row comes back.
     pub fn put(&mut self, batch: u64, row: Arc<Row>) -> Result<(), PutRefused>
         ensures accepted { OnOk result (put_fault self.old batch (account_of (arc_value row)) ≡ None) }
         ensures put { OnOk result (rows_of self.new batch ≡ rows_of self.old batch ++ arc_value row ∷ []) }
@@ -126,7 +126,7 @@ impl ResultBook {
         }
     }
 
-    /// The rows of a batch, in the order in which they were put: none where the batch was not opened. `Err` is want of memory.
+    /// The rows of a batch, in the order in which they were put: none where the batch was not opened.
     pub fn rows(&self, batch: u64) -> Result<Vec<Arc<Row>>, AllocError>
         ensures rows { IfOk result (λ rows. map arc_value rows.items ≡ rows_of self.now batch) }
         ensures lawful { IsBook self.now }
@@ -151,7 +151,8 @@ impl ResultBook {
     }
 }
 
-// Puts a row last in a batch that has none of its account. `Err` is want of memory: the row comes back, and nothing was put.
+// Puts a row last in a batch that has none of the row's account. Where memory is wanting the row comes back, and nothing was
+// put.
 fn put_row(
     alloc: Global,
     batches: &mut IndexMap<u64, BatchRows>,
