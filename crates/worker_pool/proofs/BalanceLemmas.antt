@@ -1,15 +1,16 @@
--- Each step keeps the rule.
-use Rattle.std.proofs.Common.{◌≡◌, ◌≢◌, ℕ, zero, suc, ◌+◌, ◌-◌, ◌<◌, All, List, [], ◌∷◌}
+-- Each step of a deque or of the result queue keeps the balance rule.
+use Rattle.std.proofs.Common.{◌≡◌, ◌≢◌, ℕ, zero, suc, ◌+◌, ◌<◌, All, List, [], ◌∷◌}
 use Rattle.std.proofs.Common.{◌++◌, length, set, sym, refl, ap, subst, ⊎_elim, arith}
 use mathlib.Core.Option.{some, some-ne-none, some-injective}
 use lib.ListN.{get_elem?}
 use lib.Seq.{take-append_seam, drop-append_seam}
-use Rattle.std.proofs.lemmas.List.Elements.{All-append, All-take, All-drop}
+use Rattle.std.proofs.lemmas.List.Elements.{All-append, All-drop, All-nil, All-push, All-take}
 use Rattle.crossbeam_deque.specs.Tasks.{Pushes, Takes, Pops, Forks, Merges, Learns, Finds}
 use Rattle.crossbeam_deque.proofs.Lists.{at_set, at_snoc}
 use Rattle.step_scheduler.specs.Jobs.{JobView}
 use Rattle.worker_pool.specs.declared.passes.PassView.{PassView}
-use Rattle.worker_pool.specs.Balance.{AsOften, IsBalanced, IsPassIn, knows, total, weigh}
+use Rattle.worker_pool.specs.Balance.{AreTaken, IsBalanced, IsPassIn, KnowsAll, KnowsLeft, knows, merged, nothing, one_part, total}
+use Rattle.worker_pool.specs.Balance.{weigh, with_pushed, with_taken, without_part}
 
 module _ {T : Type 0} where
   pub weigh-append : (h : T → ℕ) (xs ys : List T) → weigh h (xs ++ ys) ≡ weigh h xs + weigh h ys
@@ -32,7 +33,7 @@ module _ {T : Type 0} where
   part_of f (x ∷ xs) zero v at = let e = ap f (some-injective x v at) in omega arith
   part_of f (x ∷ xs) (suc j) v at = omega (arith, part_of f xs j v at)
 
-  -- f is 0 of each view with no part
+  -- a number of views is 0 of each view with no part
   abbrev IsIdle : (PassView T → ℕ) → List (PassView T) → Type 0
   IsIdle f views = (port : ℕ) (v : PassView T) → get_elem? views port ≡ some v → v.parts ≡ 0 → f v ≡ 0
 
@@ -66,6 +67,25 @@ module _ {T : Type 0} (IsOf : List JobView → T → Type 0) where
       (λ (t : (j ≢ port) × (get_elem? views j ≡ some u)). others j u t.1)
       (at_set views port j w u at)
 
+  -- a pass with a part, and with items of its batch
+  with_part : (batch : List JobView) (v : PassView T) → 0 < v.parts → v.batch ≡ batch → All (IsOf batch) v.pushed
+      → All (IsOf batch) v.taken → IsPassIn IsOf batch v
+  with_part batch v some_part of pushed taken = record {
+    idle = λ no_part. absurd (omega arith);
+    named = λ _. of;
+    pushed = pushed;
+    taken = taken;
+  }
+
+  -- a pass without items
+  without_items : (batch own : List JobView) (parts : ℕ) → (0 < parts → own ≡ batch) → IsPassIn IsOf batch (knows own parts [] [])
+  without_items batch own parts named = record {
+    idle = λ _. (refl, refl);
+    named = named;
+    pushed = All-nil (IsOf batch);
+    taken = All-nil (IsOf batch);
+  }
+
   -- a step of one pass, which keeps its parts
   step : (items left : List T) (views : List (PassView T)) (port : ℕ) (v w : PassView T) (k : IsBalanced IsOf items views)
       → get_elem? views port ≡ some v → w.parts ≡ v.parts
@@ -84,120 +104,71 @@ module _ {T : Type 0} (IsOf : List JobView → T → Type 0) where
     passes = passes_set k.batch views port w pass k.passes;
   }
 
-  fresh : (batch : List JobView) (parts : ℕ) → IsPassIn IsOf batch (knows batch parts [] [])
-  fresh batch parts = record {
-    idle = λ _. (refl, refl);
-    named = λ _. refl;
-    pushed = λ k d h. absurd (omega arith);
-    taken = λ k d h. absurd (omega arith);
-  }
-
-  spent : (batch : List JobView) → IsPassIn IsOf batch (knows [] 0 [] [])
-  spent batch = record {
-    idle = λ _. (refl, refl);
-    named = λ h. absurd (omega arith);
-    pushed = λ k d h. absurd (omega arith);
-    taken = λ k d h. absurd (omega arith);
-  }
-
-  alone : (batch : List JobView) (port : ℕ) (v : PassView T) → get_elem? (knows batch 1024 [] [] ∷ []) port ≡ some v
+  first : (batch : List JobView) (port : ℕ) (v : PassView T) → get_elem? (knows batch 1024 [] [] ∷ []) port ≡ some v
       → IsPassIn IsOf batch v
-  alone batch zero v at = subst (IsPassIn IsOf batch) (some-injective (knows batch 1024 [] []) v at) (fresh batch 1024)
-  alone batch (suc j) v at = absurd (some-ne-none v (sym at))
+  first batch zero v at =
+      subst (IsPassIn IsOf batch) (some-injective (knows batch 1024 [] []) v at) (without_items batch batch 1024 (λ _. refl))
+  first batch (suc j) v at = absurd (some-ne-none v (sym at))
 
   pub begins : (batch : List JobView) → IsBalanced IsOf [] (knows batch 1024 [] [] ∷ [])
   begins batch = record {
     batch = batch;
     parts = refl;
     balanced = λ h. refl;
-    inside = λ k d h. absurd (omega arith);
-    passes = alone batch;
+    inside = All-nil (IsOf batch);
+    passes = first batch;
   }
 
-  -- a list of one
-  single : (P : T → Type 0) (x : T) → P x → All P (x ∷ [])
-  single P x p zero d h = p
-  single P x p (suc k) d h = absurd (omega arith)
-
   pub pushes : (port : ℕ) (v : PassView T) (x : T) → 0 < v.parts → IsOf v.batch x
-      → Pushes (IsBalanced IsOf) port v (x ∷ []) (λ w. w ≡ knows v.batch v.parts (v.pushed ++ x ∷ []) v.taken)
+      → Pushes (IsBalanced IsOf) port v (x ∷ []) (λ w. w ≡ with_pushed v (x ∷ []))
   pushes port v x some_part of items views k at =
-      let w : PassView T = knows v.batch v.parts (v.pushed ++ x ∷ []) v.taken in
+      let w : PassView T = with_pushed v (x ∷ []) in
       let f : IsPassIn IsOf k.batch v = k.passes port v at in
       let b : v.batch ≡ k.batch = f.named some_part in
-      let new : All (IsOf k.batch) (x ∷ []) = single (IsOf k.batch) x (subst (λ (l : List JobView). IsOf l x) b of) in (
+      let new : IsOf k.batch x = subst (λ (l : List JobView). IsOf l x) b of in (
         w,
         step items (items ++ x ∷ []) views port v w k at refl
             (λ h. omega (arith, weigh-append h v.pushed (x ∷ []), weigh-append h items (x ∷ [])))
-            (All-append (IsOf k.batch) items (x ∷ []) k.inside new)
-            (record {
-              idle = λ no_part. absurd (omega arith);
-              named = λ _. b;
-              pushed =
-                  All-append (IsOf k.batch) v.pushed (x ∷ []) f.pushed new;
-              taken = f.taken;
-            }),
+            (All-push (IsOf k.batch) items x k.inside new)
+            (with_part k.batch w some_part b (All-push (IsOf k.batch) v.pushed x f.pushed new) f.taken),
         refl,
       )
 
-  pub takes : (port : ℕ) (v : PassView T) (most : ℕ) → 0 < v.parts
-      → Takes (IsBalanced IsOf) port v most (λ xs w. (w ≡ knows v.batch v.parts v.pushed (v.taken ++ xs)) × All (IsOf v.batch) xs)
-  takes port v most some_part xs items views _ _ k at =
-      let w : PassView T = knows v.batch v.parts v.pushed (v.taken ++ xs) in
+  -- items that were inside are taken, and the others are left
+  taken_out : (all xs left : List T) (views : List (PassView T)) (port : ℕ) (v : PassView T) → 0 < v.parts
+      → (k : IsBalanced IsOf all views) → get_elem? views port ≡ some v
+      → ((h : T → ℕ) → weigh h all ≡ weigh h xs + weigh h left) → All (IsOf k.batch) xs → All (IsOf k.batch) left
+      → (w : PassView T) × IsBalanced IsOf left (set views port w) × AreTaken IsOf v xs w
+  taken_out all xs left views port v some_part k at even gone rest =
+      let w : PassView T = with_taken v xs in
       let f : IsPassIn IsOf k.batch v = k.passes port v at in
-      let b : v.batch ≡ k.batch = f.named some_part in
-      let gone : All (IsOf k.batch) xs = front (IsOf k.batch) xs items k.inside in (
+      let b : v.batch ≡ k.batch = f.named some_part in (
         w,
-        step (xs ++ items) items views port v w k at refl (λ h. omega (arith, weigh-append h v.taken xs, weigh-append h xs items))
-            (back (IsOf k.batch) xs items k.inside)
-            (record {
-              idle = λ no_part. absurd (omega arith);
-              named = λ _. b;
-              pushed = f.pushed;
-              taken =
-                  All-append (IsOf k.batch) v.taken xs f.taken gone;
-            }),
+        step all left views port v w k at refl (λ h. omega (arith, weigh-append h v.taken xs, even h)) rest
+            (with_part k.batch w some_part b f.pushed (All-append (IsOf k.batch) v.taken xs f.taken gone)),
         (refl, subst (λ (l : List JobView). All (IsOf l) xs) (sym b) gone),
       )
 
-  pub pops : (port : ℕ) (v : PassView T) → 0 < v.parts
-      → Pops (IsBalanced IsOf) port v (λ xs w. (w ≡ knows v.batch v.parts v.pushed (v.taken ++ xs)) × All (IsOf v.batch) xs)
-  pops port v some_part x items views k at =
-      let w : PassView T = knows v.batch v.parts v.pushed (v.taken ++ x ∷ []) in
-      let f : IsPassIn IsOf k.batch v = k.passes port v at in
-      let b : v.batch ≡ k.batch = f.named some_part in
-      let gone : All (IsOf k.batch) (x ∷ []) = back (IsOf k.batch) items (x ∷ []) k.inside in (
-        w,
-        step (items ++ x ∷ []) items views port v w k at refl
-            (λ h. omega (arith, weigh-append h v.taken (x ∷ []), weigh-append h items (x ∷ [])))
-            (front (IsOf k.batch) items (x ∷ []) k.inside)
-            (record {
-              idle = λ no_part. absurd (omega arith);
-              named = λ _. b;
-              pushed = f.pushed;
-              taken =
-                  All-append (IsOf k.batch) v.taken (x ∷ []) f.taken gone;
-            }),
-        (refl, subst (λ (l : List JobView). All (IsOf l) (x ∷ [])) (sym b) gone),
-      )
+  pub takes : (port : ℕ) (v : PassView T) (most : ℕ) → 0 < v.parts → Takes (IsBalanced IsOf) port v most (AreTaken IsOf v)
+  takes port v most some_part xs items views _ _ k at =
+      taken_out (xs ++ items) xs items views port v some_part k at (λ h. weigh-append h xs items)
+      (front (IsOf k.batch) xs items k.inside) (back (IsOf k.batch) xs items k.inside)
 
-  pub forks : (port : ℕ) (v : PassView T) → 1 < v.parts
-      → Forks (IsBalanced IsOf) port v (knows v.batch (v.parts - 1) v.pushed v.taken) (knows v.batch 1 [] [])
+  pub pops : (port : ℕ) (v : PassView T) → 0 < v.parts → Pops (IsBalanced IsOf) port v (AreTaken IsOf v)
+  pops port v some_part x items views k at =
+      taken_out (items ++ x ∷ []) (x ∷ []) items views port v some_part k at
+      (λ h. omega (arith, weigh-append h items (x ∷ [])))
+      (back (IsOf k.batch) items (x ∷ []) k.inside) (front (IsOf k.batch) items (x ∷ []) k.inside)
+
+  pub forks : (port : ℕ) (v : PassView T) → 1 < v.parts → Forks (IsBalanced IsOf) port v (without_part v) (one_part v)
   forks port v parts items views k at =
-      let l : PassView T = knows v.batch (v.parts - 1) v.pushed v.taken in
-      let r : PassView T = knows v.batch 1 [] [] in
+      let l : PassView T = without_part v in
+      let r : PassView T = one_part v in
       let f : IsPassIn IsOf k.batch v = k.passes port v at in
       let b : v.batch ≡ k.batch = f.named (omega arith) in
       let vs : List (PassView T) = set views port l in
-      let left : IsPassIn IsOf k.batch l = record {
-        idle = λ no_part. absurd (omega arith);
-        named = λ _. b;
-        pushed = f.pushed;
-        taken =
-            f.taken;
-      } in
-      let right : IsPassIn IsOf k.batch r = subst (λ (z : List JobView). IsPassIn IsOf k.batch (knows z 1 [] [])) (sym b)
-      (fresh k.batch 1) in
+      let left : IsPassIn IsOf k.batch l = with_part k.batch l (omega arith) b f.pushed f.taken in
+      let right : IsPassIn IsOf k.batch r = without_items k.batch v.batch 1 (λ _. b) in
       record {
         batch = k.batch;
         parts = (let s = total_set (λ u. u.parts) views port v l at in let n = total_snoc (λ u. u.parts) vs r in let p = k.parts in
@@ -215,41 +186,34 @@ module _ {T : Type 0} (IsOf : List JobView → T → Type 0) where
       }
 
   pub merges : (port : ℕ) (v : PassView T) (other : ℕ) (w : PassView T) → 0 < v.parts
-      → Merges (IsBalanced IsOf) port v other w (knows v.batch (v.parts + w.parts) (v.pushed ++ w.pushed) (v.taken ++ w.taken))
-      (knows [] 0 [] [])
+      → Merges (IsBalanced IsOf) port v other w (merged v w) nothing
   merges port v other w some_part items views k at apart there =
-      let both : PassView T = knows v.batch (v.parts + w.parts) (v.pushed ++ w.pushed) (v.taken ++ w.taken) in
-      let gone : PassView T = knows [] 0 [] [] in
+      let both : PassView T = merged v w in
       let vs : List (PassView T) = set views port both in
       let was : get_elem? views other ≡ some w = ⊎_elim (λ (t : (other ≡ port) × (both ≡ w)). absurd (apart t.0))
       (λ (t : (other ≢ port) × (get_elem? views other ≡ some w)). t.1) (at_set views port other both w there) in
       let f : IsPassIn IsOf k.batch v = k.passes port v at in
       let g : IsPassIn IsOf k.batch w = k.passes other w was in
-      let b : v.batch ≡ k.batch = f.named some_part in
-      let mine : IsPassIn IsOf k.batch both = record {
-        idle = λ no_part. absurd (omega arith);
-        named = λ _. b;
-        pushed = All-append (IsOf k.batch) v.pushed w.pushed f.pushed g.pushed;
-        taken = All-append (IsOf k.batch) v.taken w.taken f.taken g.taken;
-      } in
+      let mine : IsPassIn IsOf k.batch both = with_part k.batch both (omega arith) (f.named some_part)
+      (All-append (IsOf k.batch) v.pushed w.pushed f.pushed g.pushed)
+      (All-append (IsOf k.batch) v.taken w.taken f.taken g.taken) in
+      let spent : IsPassIn IsOf k.batch nothing = without_items k.batch [] 0 (λ h. absurd (omega arith)) in
       record {
         batch = k.batch;
-        parts = (let s = total_set (λ u. u.parts) views port v both at in let t = total_set (λ u. u.parts) vs other w gone there in
+        parts = (let s = total_set (λ u. u.parts) views port v both at in let t = total_set (λ u. u.parts) vs other w nothing there in
             let p = k.parts in omega arith);
         balanced = λ h.
             let s = total_set (λ u. weigh h u.pushed) views port v both at in
-            let t = total_set (λ u. weigh h u.pushed) vs other w gone there in
+            let t = total_set (λ u. weigh h u.pushed) vs other w nothing there in
             let m = total_set (λ u. weigh h u.taken) views port v both at in
-            let n = total_set (λ u. weigh h u.taken) vs other w gone there in
+            let n = total_set (λ u. weigh h u.taken) vs other w nothing there in
             let e = k.balanced h in
             omega (arith, weigh-append h v.pushed w.pushed, weigh-append h v.taken w.taken);
         inside = k.inside;
-        passes = passes_set k.batch vs other gone (spent k.batch) (passes_set k.batch views port both mine k.passes);
+        passes = passes_set k.batch vs other nothing spent (passes_set k.batch views port both mine k.passes);
       }
 
-  pub learns : (port : ℕ) (v : PassView T) → v.parts ≡ 1024
-      → Learns (IsBalanced IsOf) port v (λ items. AsOften v.pushed v.taken items × All (IsOf v.batch) items
-      × All (IsOf v.batch) v.pushed × All (IsOf v.batch) v.taken)
+  pub learns : (port : ℕ) (v : PassView T) → v.parts ≡ 1024 → Learns (IsBalanced IsOf) port v (KnowsAll IsOf v)
   learns port v all items views k at =
       let f : IsPassIn IsOf k.batch v = k.passes port v at in
       let b : k.batch ≡ v.batch = sym (f.named (omega arith)) in
@@ -264,11 +228,10 @@ module _ {T : Type 0} (IsOf : List JobView → T → Type 0) where
         subst (λ (l : List JobView). All (IsOf l) v.taken) b f.taken,
       )
 
-  -- with all parts, what was pushed was taken or is inside
-  pub counted : (port : ℕ) (v : PassView T)
-      → Learns (IsBalanced IsOf) port v (λ items. v.parts ≡ 1024 → AsOften v.pushed v.taken items)
+  -- a pass with all parts knows what is inside
+  pub counted : (port : ℕ) (v : PassView T) → Learns (IsBalanced IsOf) port v (KnowsLeft v)
   counted port v items views k at all = (learns port v all items views k at).0
 
-  -- with all parts, and nothing inside, all that was pushed was taken
-  pub finds : (port : ℕ) (v : PassView T) → Finds (IsBalanced IsOf) port v (v.parts ≡ 1024 → AsOften v.pushed v.taken [])
-  finds port v views k at all = (learns port v all [] views k at).0
+  -- a pass with all parts knows where nothing is inside
+  pub finds : (port : ℕ) (v : PassView T) → Finds (IsBalanced IsOf) port v (KnowsLeft v [])
+  finds port v views k at = counted port v [] views k at

@@ -1,5 +1,5 @@
 -- The balance rule of a deque or of the result queue: every item is of the batch, and comes out as often as it went in.
-use Rattle.std.specs.Prelude.{◌≡◌, ℕ, ◌+◌, ◌<◌, List, [], ◌∷◌, All}
+use Rattle.std.specs.Prelude.{◌≡◌, ℕ, ◌+◌, ◌-◌, ◌<◌, List, [], ◌∷◌, ◌++◌, All}
 use mathlib.Core.Option.{some}
 use lib.ListN.{get_elem?}
 use Rattle.step_scheduler.specs.Jobs.{JobView}
@@ -28,7 +28,43 @@ module _ {T : Type 0} where
   abbrev pub AsOften : List T → List T → List T → Type 0
   AsOften pushed taken left = (h : T → ℕ) → weigh h pushed ≡ weigh h taken + weigh h left
 
+  -- what a pass knows once more items were pushed with it
+  abbrev pub with_pushed : PassView T → List T → PassView T
+  with_pushed v items = knows v.batch v.parts (v.pushed ++ items) v.taken
+
+  -- what a pass knows once more items were taken with it
+  abbrev pub with_taken : PassView T → List T → PassView T
+  with_taken v items = knows v.batch v.parts v.pushed (v.taken ++ items)
+
+  -- what a pass knows once a new pass was split off it
+  abbrev pub without_part : PassView T → PassView T
+  without_part v = knows v.batch (v.parts - 1) v.pushed v.taken
+
+  -- what the new pass knows that was split off a pass
+  abbrev pub one_part : PassView T → PassView T
+  one_part v = knows v.batch 1 [] []
+
+  -- what a pass knows once another was merged into it
+  abbrev pub merged : PassView T → PassView T → PassView T
+  merged v other = knows v.batch (v.parts + other.parts) (v.pushed ++ other.pushed) (v.taken ++ other.taken)
+
+  -- what a pass without parts knows
+  abbrev pub nothing : PassView T
+  nothing = knows [] 0 [] []
+
+  -- a pass with all parts knows what is left
+  abbrev pub KnowsLeft : PassView T → List T → Type 0
+  KnowsLeft v left = v.parts ≡ ALL_PARTS → AsOften v.pushed v.taken left
+
 module _ {T : Type 0} (IsOf : List JobView → T → Type 0) where
+  -- the pass knows, after these items of its batch were taken with it, what it knew and them
+  abbrev pub AreTaken : PassView T → List T → PassView T → Type 0
+  AreTaken old items new = (new ≡ with_taken old items) × All (IsOf old.batch) items
+
+  -- the pass knows what is left, and that all of it and all that was pushed or taken is of its batch
+  abbrev pub KnowsAll : PassView T → List T → Type 0
+  KnowsAll v left = AsOften v.pushed v.taken left × All (IsOf v.batch) left × All (IsOf v.batch) v.pushed × All (IsOf v.batch) v.taken
+
   -- a pass without parts has empty lists; one with parts names the batch; all items of its lists are of the batch
   pub record IsPassIn (batch : List JobView) (v : PassView T) : Type 0 where
     pub idle : v.parts ≡ 0 → (v.pushed ≡ []) × (v.taken ≡ [])
@@ -36,7 +72,7 @@ module _ {T : Type 0} (IsOf : List JobView → T → Type 0) where
     pub pushed : All (IsOf batch) v.pushed
     pub taken : All (IsOf batch) v.taken
 
-  -- The rule, over what is inside and what all passes know.
+  -- the balance rule, over what is inside and what all passes know
   pub record IsBalanced (items : List T) (views : List (PassView T)) : Type 0 where
     pub batch : List JobView
     pub parts : total (λ v. v.parts) views ≡ ALL_PARTS

@@ -7,10 +7,11 @@ ghost use Rattle.crossbeam_deque.specs.Handles.{view, worker_capacity, worker_fl
 ghost use Rattle.std.specs.Int.{IsNextPowerOfTwo};
 ghost use Rattle.crossbeam_deque.specs.Steals.{MatchSteal};
 ghost use Rattle.crossbeam_queue.specs.Passes.{IsPassOf as IsQueuePassOf, IsSamePass, ruled_capacity, view as queue_view};
-ghost use Rattle.std.specs.Prelude.{◌≡◌, ◌+◌, ◌-◌, ◌<◌, ◌≤◌, [], ◌∷◌, ◌++◌, All, List, length};
+ghost use Rattle.std.specs.Prelude.{◌≡◌, ◌+◌, ◌<◌, ◌≤◌, [], ◌∷◌, ◌++◌, List, length};
 ghost use Rattle.std.specs.Prelude.{IfErr, IfOk, MatchOption, OnErr, OnOk};
 ghost use Rattle.step_scheduler.specs.Jobs.{FinishedView, TaskView};
-ghost use Rattle.worker_pool.specs.Balance.{ALL_PARTS, AsOften, IsBalanced, knows};
+ghost use Rattle.worker_pool.specs.Balance.{ALL_PARTS, AreTaken, KnowsAll, KnowsLeft, knows, merged, nothing, one_part};
+ghost use Rattle.worker_pool.specs.Balance.{with_pushed, with_taken, without_part};
 ghost use Rattle.worker_pool.specs.Batches.{IsResultOf, IsTaskOf};
 
 use crate::passes::PassView;
@@ -47,14 +48,14 @@ pub struct OfBatch<B> {
 
 impl<B: Batch> Protocol<Task, PassView<Task>> for OfBatch<B> {
     ghost use Rattle.std.specs.Prelude.{[]};
-    ghost use Rattle.worker_pool.specs.Balance.{ALL_PARTS, IsBalanced, knows};
+    ghost use Rattle.worker_pool.specs.Balance.{ALL_PARTS, IsBalanced, knows, nothing};
     ghost use Rattle.worker_pool.specs.Batches.{IsTaskOf};
 
     ghost holds = { IsBalanced IsTaskOf };
 
     ghost first = { knows B.jobs ALL_PARTS [] [] };
 
-    ghost guest = { knows [] 0 [] [] };
+    ghost guest = { nothing };
 }
 
 impl<B: Batch> queue::Protocol<Finished, PassView<Finished>> for OfBatch<B> {
@@ -71,84 +72,82 @@ impl<B: Batch> queue::Protocol<Finished, PassView<Finished>> for OfBatch<B> {
 struct Pushed;
 
 impl Outcome<Task, PassView<Task>> for Pushed {
-    ghost then = { λ v xs w. w ≡ knows v.batch v.parts (v.pushed ++ xs) v.taken };
+    ghost then = { λ v tasks w. w ≡ with_pushed v tasks };
 }
 
 impl queue::Outcome<Finished, PassView<Finished>> for Pushed {
-    ghost then = { λ v x w. w ≡ knows v.batch v.parts (v.pushed ++ x ∷ []) v.taken };
+    ghost then = { λ v finished w. w ≡ with_pushed v (finished ∷ []) };
 }
 
-// Where a push is refused the queue was full: with all parts, what was pushed was taken or is in it.
+// A push on the queue is refused where the queue is full: what is left fills it.
 impl queue::Lesson<Finished, PassView<Finished>> for Pushed {
-    ghost fact = { λ v items. v.parts ≡ ALL_PARTS → AsOften v.pushed v.taken items };
+    ghost fact = { KnowsLeft };
 }
 
-// A pop or a steal adds the item to what was taken, and the item is of the batch.
+// A pop of the queue or a steal adds the item to what was taken, and the item is of the batch.
 struct Taken;
 
 impl Outcome<Task, PassView<Task>> for Taken {
-    ghost then = { λ v xs w. (w ≡ knows v.batch v.parts v.pushed (v.taken ++ xs)) × All (IsTaskOf v.batch) xs };
-}
-
-// So does a pop of a deque; where that finds nothing, with all parts, all that was pushed was taken.
-struct Popped;
-
-impl Outcome<Task, PassView<Task>> for Popped {
-    ghost then = { λ v xs w. (w ≡ knows v.batch v.parts v.pushed (v.taken ++ xs)) × All (IsTaskOf v.batch) xs };
-
-    ghost empty = { λ v. v.parts ≡ ALL_PARTS → AsOften v.pushed v.taken [] };
+    ghost then = { AreTaken IsTaskOf };
 }
 
 impl queue::Outcome<Finished, PassView<Finished>> for Taken {
-    ghost then = { λ v x w. (w ≡ knows v.batch v.parts v.pushed (v.taken ++ x ∷ [])) × IsResultOf v.batch x };
+    ghost then = { λ v finished w. (w ≡ with_taken v (finished ∷ [])) × IsResultOf v.batch finished };
 }
 
-// Where a pop finds nothing: with all parts, all that was pushed was taken.
+// A pop of the queue finds nothing where nothing is left.
 impl queue::Lesson<Finished, PassView<Finished>> for Taken {
-    ghost fact = { λ v items. v.parts ≡ ALL_PARTS → AsOften v.pushed v.taken items };
+    ghost fact = { KnowsLeft };
+}
+
+// A pop of a deque adds the task to what was taken, and finds nothing where nothing is left.
+struct Popped;
+
+impl Outcome<Task, PassView<Task>> for Popped {
+    ghost then = { AreTaken IsTaskOf };
+
+    ghost empty = { λ v. KnowsLeft v [] };
 }
 
 // One part goes to a new pass.
 struct OnePart;
 
 impl Split<PassView<Task>> for OnePart {
-    ghost left = { λ v. knows v.batch (v.parts - 1) v.pushed v.taken };
+    ghost left = { without_part };
 
-    ghost right = { λ v. knows v.batch 1 [] [] };
+    ghost right = { one_part };
 }
 
 impl queue::Split<PassView<Finished>> for OnePart {
-    ghost left = { λ v. knows v.batch (v.parts - 1) v.pushed v.taken };
+    ghost left = { without_part };
 
-    ghost right = { λ v. knows v.batch 1 [] [] };
+    ghost right = { one_part };
 }
 
 // The first pass has what both had, and the second nothing.
 struct Merged;
 
 impl Join<PassView<Task>> for Merged {
-    ghost both = { λ v w. knows v.batch (v.parts + w.parts) (v.pushed ++ w.pushed) (v.taken ++ w.taken) };
+    ghost both = { merged };
 
-    ghost spent = { knows [] 0 [] [] };
+    ghost spent = { nothing };
 }
 
 impl queue::Join<PassView<Finished>> for Merged {
-    ghost both = { λ v w. knows v.batch (v.parts + w.parts) (v.pushed ++ w.pushed) (v.taken ++ w.taken) };
+    ghost both = { merged };
 
-    ghost spent = { knows [] 0 [] [] };
+    ghost spent = { nothing };
 }
 
 // What the pass with all parts learns.
 struct Settled;
 
 impl Lesson<Task, PassView<Task>> for Settled {
-    ghost fact = { λ v items. AsOften v.pushed v.taken items × All (IsTaskOf v.batch) items
-        × All (IsTaskOf v.batch) v.pushed × All (IsTaskOf v.batch) v.taken };
+    ghost fact = { KnowsAll IsTaskOf };
 }
 
 impl queue::Lesson<Finished, PassView<Finished>> for Settled {
-    ghost fact = { λ v items. AsOften v.pushed v.taken items × All (IsResultOf v.batch) items
-        × All (IsResultOf v.batch) v.pushed × All (IsResultOf v.batch) v.taken };
+    ghost fact = { KnowsAll IsResultOf };
 }
 
 /// The owner's end of a deque of a batch: tasks come out in the order in which they were pushed.
@@ -167,7 +166,6 @@ pub type Results<B> = RuledArrayQueue<Finished, PassView<Finished>, OfBatch<B>>;
 pub type ResultPass = crossbeam_queue::Pass<Finished, PassView<Finished>>;
 
 /// An empty deque, out of which tasks come in the order in which they went in (its flavor is 0). Its pass has all parts.
-/// `Err` is want of memory.
 pub fn new_deque<B: Batch>(alloc: Global, capacity: usize) -> Result<Deque<B>, AllocError>
     ensures view { IfOk result (λ w. worker_view w ≡ knows B.jobs ALL_PARTS [] []) }
     ensures in_order { IfOk result (λ w. worker_flavor w ≡ 0) }
@@ -180,20 +178,18 @@ pub fn new_deque<B: Batch>(alloc: Global, capacity: usize) -> Result<Deque<B>, A
 pub fn split_deque_pass<B: Batch>(owner: &mut Deque<B>) -> DequePass
     requires { 1 < (worker_view owner.old).parts }
     ensures same { SameWorker owner.old owner.new × IsPassOf (worker_deque owner.old) result }
-    ensures old { worker_view owner.new ≡ knows (worker_view owner.old).batch ((worker_view owner.old).parts - 1)
-        (worker_view owner.old).pushed (worker_view owner.old).taken }
-    ensures new { view result ≡ knows (worker_view owner.old).batch 1 [] [] }
+    ensures old { worker_view owner.new ≡ without_part (worker_view owner.old) }
+    ensures new { view result ≡ one_part (worker_view owner.old) }
 {
     owner.another::<OnePart>()
 }
 
-/// Adds a task of the batch at the back. A refused one comes back, and nothing changes.
+/// Adds a task of the batch at the back. A refused task comes back, and nothing changes.
 pub fn push_task<B: Batch>(owner: &mut Deque<B>, task: Task) -> Result<(), Task>
     requires part { 0 < (worker_view owner.old).parts }
     requires batch { IsTaskOf (worker_view owner.old).batch task }
     ensures same { SameWorker owner.old owner.new }
-    ensures ok { OnOk result (worker_view owner.new ≡ knows (worker_view owner.old).batch (worker_view owner.old).parts
-        ((worker_view owner.old).pushed ++ task ∷ []) (worker_view owner.old).taken) }
+    ensures ok { OnOk result (worker_view owner.new ≡ with_pushed (worker_view owner.old) (task ∷ [])) }
     ensures err { IfErr result (λ back. (back ≡ task) × (worker_view owner.new ≡ worker_view owner.old)) }
     ensures next { OnOk result (worker_index owner.new ≡ worker_index owner.old + 1) }
     ensures refused { OnErr result (worker_capacity owner.old ≤ worker_index owner.old) }
@@ -201,29 +197,25 @@ pub fn push_task<B: Batch>(owner: &mut Deque<B>, task: Task) -> Result<(), Task>
     owner.push_as::<Pushed>(task)
 }
 
-/// Takes the task at the front, for the owner. It is of the batch. Nothing changes where nothing is found.
+/// Takes the task at the front, for the owner. The task is of the batch. Nothing changes where nothing is found.
 pub fn pop_task<B: Batch>(owner: &mut Deque<B>) -> Option<Task>
     requires { 0 < (worker_view owner.old).parts }
     ensures same { SameWorker owner.old owner.new }
-    ensures none { MatchOption result ((worker_view owner.old).parts ≡ ALL_PARTS
-        → AsOften (worker_view owner.old).pushed (worker_view owner.old).taken []) (λ _. Unit {0}) }
+    ensures none { MatchOption result (KnowsLeft (worker_view owner.old) []) (λ _. Unit {0}) }
     ensures task { MatchOption result (worker_view owner.new ≡ worker_view owner.old) (λ task.
-        (worker_view owner.new ≡ knows (worker_view owner.old).batch (worker_view owner.old).parts
-        (worker_view owner.old).pushed ((worker_view owner.old).taken ++ task ∷ []))
+        (worker_view owner.new ≡ with_taken (worker_view owner.old) (task ∷ []))
         × IsTaskOf (worker_view owner.old).batch task) }
 {
     owner.pop_as::<Popped>()
 }
 
-/// Takes the task at the front, for a thief. It is of the batch. Nothing changes where nothing is found.
+/// Takes the task at the front, for a thief. The task is of the batch. Nothing changes where nothing is found.
 pub fn steal_task<B: Batch>(thief: &Thief<B>, pass: &mut DequePass) -> Steal<Task>
     requires deque { IsPassOf (stealer_deque thief.now) pass.old }
     requires part { 0 < (view pass.old).parts }
     ensures same { SamePass pass.old pass.new }
     ensures task { MatchSteal result (view pass.new ≡ view pass.old) (view pass.new ≡ view pass.old) (λ task.
-        (view pass.new ≡ knows (view pass.old).batch (view pass.old).parts
-        (view pass.old).pushed ((view pass.old).taken ++ task ∷ []))
-        × IsTaskOf (view pass.old).batch task) }
+        (view pass.new ≡ with_taken (view pass.old) (task ∷ [])) × IsTaskOf (view pass.old).batch task) }
 {
     thief.steal_as::<Taken>(pass)
 }
@@ -238,10 +230,7 @@ pub fn settle_deque<B: Batch>(owner: Deque<B>, pass: DequePass) -> Deque<B>
     ensures same { worker_deque result ≡ worker_deque owner }
     ensures merged { worker_view result ≡ knows (worker_view owner).batch ALL_PARTS
         ((worker_view owner).pushed ++ (view pass).pushed) ((worker_view owner).taken ++ (view pass).taken) }
-    ensures settled { (left : List TaskView) × AsOften (worker_view result).pushed (worker_view result).taken left
-        × All (IsTaskOf (worker_view result).batch) left
-        × All (IsTaskOf (worker_view result).batch) (worker_view result).pushed
-        × All (IsTaskOf (worker_view result).batch) (worker_view result).taken }
+    ensures settled { (left : List TaskView) × KnowsAll IsTaskOf (worker_view result) left }
 {
     let mut owner = owner;
     owner.absorb::<Merged>(pass);
@@ -249,7 +238,7 @@ pub fn settle_deque<B: Batch>(owner: Deque<B>, pass: DequePass) -> Deque<B>
     owner
 }
 
-/// An empty result queue of 256 places, with the pass that has all parts. `Err` is want of memory.
+/// An empty result queue of 256 places, with the pass that has all parts.
 pub fn new_queue<B: Batch>(alloc: Global) -> Result<(Results<B>, ResultPass), AllocError>
     ensures queue { IfOk result (λ r. IsQueuePassOf r.0 r.1 × (ruled_capacity r.0 ≡ 256)) }
     ensures view { IfOk result (λ r. queue_view r.1 ≡ knows B.jobs ALL_PARTS [] []) }
@@ -262,14 +251,13 @@ pub fn split_queue_pass<B: Batch>(queue: &Results<B>, pass: &mut ResultPass) -> 
     requires queue { IsQueuePassOf queue.now pass.old }
     requires parts { 1 < (queue_view pass.old).parts }
     ensures same { IsSamePass pass.old pass.new × IsQueuePassOf queue.now result }
-    ensures old { queue_view pass.new ≡ knows (queue_view pass.old).batch ((queue_view pass.old).parts - 1)
-        (queue_view pass.old).pushed (queue_view pass.old).taken }
-    ensures new { queue_view result ≡ knows (queue_view pass.old).batch 1 [] [] }
+    ensures old { queue_view pass.new ≡ without_part (queue_view pass.old) }
+    ensures new { queue_view result ≡ one_part (queue_view pass.old) }
 {
     queue.another::<OnePart>(pass)
 }
 
-/// Adds a result of the batch at the back. One comes back only where the queue was full, and then nothing changes.
+/// Adds a result of the batch at the back. A result comes back only where the queue was full, and then nothing changes.
 pub fn push_result<B: Batch, R: Wait>(
     rt: &R,
     queue: &Results<B>,
@@ -280,17 +268,15 @@ pub fn push_result<B: Batch, R: Wait>(
     requires part { 0 < (queue_view pass.old).parts }
     requires batch { IsResultOf (queue_view pass.old).batch finished }
     ensures same { IsSamePass pass.old pass.new }
-    ensures ok { OnOk result (queue_view pass.new ≡ knows (queue_view pass.old).batch (queue_view pass.old).parts
-        ((queue_view pass.old).pushed ++ finished ∷ []) (queue_view pass.old).taken) }
+    ensures ok { OnOk result (queue_view pass.new ≡ with_pushed (queue_view pass.old) (finished ∷ [])) }
     ensures err { IfErr result (λ back. (back ≡ finished) × (queue_view pass.new ≡ queue_view pass.old)) }
-    ensures full { OnErr result ((inside : List FinishedView) × (length inside ≡ ruled_capacity queue.now)
-        × ((queue_view pass.old).parts ≡ ALL_PARTS
-        → AsOften (queue_view pass.old).pushed (queue_view pass.old).taken inside)) }
+    ensures full { OnErr result ((left : List FinishedView) × (length left ≡ ruled_capacity queue.now)
+        × KnowsLeft (queue_view pass.old) left) }
 {
     queue.push_as::<Pushed, R>(rt, pass, finished)
 }
 
-/// Takes the result at the front. It is of the batch. Nothing changes where nothing is found.
+/// Takes the result at the front. The result is of the batch. Nothing changes where nothing is found.
 pub fn pop_result<B: Batch, R: Wait>(
     rt: &R,
     queue: &Results<B>,
@@ -299,12 +285,10 @@ pub fn pop_result<B: Batch, R: Wait>(
     requires queue { IsQueuePassOf queue.now pass.old }
     requires part { 0 < (queue_view pass.old).parts }
     ensures same { IsSamePass pass.old pass.new }
-    ensures none { MatchOption result ((inside : List FinishedView) × (length inside ≡ 0)
-        × ((queue_view pass.old).parts ≡ ALL_PARTS
-        → AsOften (queue_view pass.old).pushed (queue_view pass.old).taken inside)) (λ _. Unit {0}) }
+    ensures none { MatchOption result ((left : List FinishedView) × (length left ≡ 0)
+        × KnowsLeft (queue_view pass.old) left) (λ _. Unit {0}) }
     ensures finished { MatchOption result (queue_view pass.new ≡ queue_view pass.old) (λ finished.
-        (queue_view pass.new ≡ knows (queue_view pass.old).batch (queue_view pass.old).parts
-        (queue_view pass.old).pushed ((queue_view pass.old).taken ++ finished ∷ []))
+        (queue_view pass.new ≡ with_taken (queue_view pass.old) (finished ∷ []))
         × IsResultOf (queue_view pass.old).batch finished) }
 {
     queue.pop_as::<Taken, R>(rt, pass)
@@ -324,10 +308,7 @@ pub fn settle_queue<B: Batch>(
     ensures same { (result.0 ≡ queue) × IsQueuePassOf result.0 result.1 }
     ensures merged { queue_view result.1 ≡ knows (queue_view pass).batch ALL_PARTS
         ((queue_view pass).pushed ++ (queue_view other).pushed) ((queue_view pass).taken ++ (queue_view other).taken) }
-    ensures settled { (left : List FinishedView) × AsOften (queue_view result.1).pushed (queue_view result.1).taken left
-        × All (IsResultOf (queue_view result.1).batch) left
-        × All (IsResultOf (queue_view result.1).batch) (queue_view result.1).pushed
-        × All (IsResultOf (queue_view result.1).batch) (queue_view result.1).taken }
+    ensures settled { (left : List FinishedView) × KnowsAll IsResultOf (queue_view result.1) left }
 {
     queue.absorb::<Merged>(&mut pass, other);
     queue.learn_as::<Settled>(&mut pass);
