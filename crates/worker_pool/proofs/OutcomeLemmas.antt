@@ -1,15 +1,14 @@
--- Outcomes of one account more.
+-- Outcomes of lists of accounts, one behind the other.
 use Rattle.std.proofs.Common.{List, [], ◌∷◌, ◌++◌}
 use Rattle.span_tables.specs.Net.{AccountHoldings}
 use Rattle.plan_compiler.specs.Compiled.{SetView}
-use Rattle.worker_pool.specs.Outcomes.{AreOutcomes, IsOutcome}
+use Rattle.worker_pool.specs.Outcomes.{AreOutcomes}
 use Rattle.worker_pool.specs.declared.outcomes.Outcome.{Outcome}
 
-pub AreOutcomes-push : (set : SetView) (portfolios : List AccountHoldings) (outcomes : List Outcome) (p : AccountHoldings)
-    (outcome : Outcome)
-    → AreOutcomes set portfolios outcomes → IsOutcome set p outcome
-    → AreOutcomes set (portfolios ++ p ∷ []) (outcomes ++ outcome ∷ [])
-AreOutcomes-push set [] [] p outcome are is = (is, tt)
-AreOutcomes-push set [] (o ∷ os) p outcome are is = absurd are
-AreOutcomes-push set (q ∷ qs) [] p outcome are is = absurd are
-AreOutcomes-push set (q ∷ qs) (o ∷ os) p outcome are is = (are.0, AreOutcomes-push set qs os p outcome are.1 is)
+pub outcomes_joined : (set : SetView) (ps qs : List AccountHoldings) (outcomes others : List Outcome)
+    → AreOutcomes set ps outcomes → AreOutcomes set qs others → AreOutcomes set (ps ++ qs) (outcomes ++ others)
+outcomes_joined set [] qs [] others is are = are
+outcomes_joined set [] qs (o ∷ outcomes) others is are = absurd is
+outcomes_joined set (p ∷ ps) qs [] others is are = absurd is
+outcomes_joined set (p ∷ ps) qs (o ∷ outcomes) others is are =
+    (is.0, outcomes_joined set ps qs outcomes others is.1 are)

@@ -1,18 +1,19 @@
 -- Jobs and outcomes by their places.
 use Rattle.std.proofs.Common.{◌≡◌, ℕ, zero, suc, ◌+◌, List, [], ◌∷◌, length, map, drop, Some}
 use Rattle.std.proofs.Common.{slice_get, slice_set}
-use Rattle.std.proofs.Common.{All, refl, ap, ◌∙◌, subst, arith}
+use Rattle.std.proofs.Common.{◌<◌, ◌^◌, refl, ap, ◌∙◌, subst, arith}
 use Rattle.std.proofs.lemmas.List.{drop-drop}
+use Rattle.std.proofs.lemmas.List.Elements.{All-rest}
 use Rattle.span_tables.specs.Net.{AccountHoldings}
 use Rattle.plan_compiler.specs.Compiled.{SetView}
 use Rattle.step_scheduler.specs.Jobs.{JobView}
-use Rattle.worker_pool.specs.Batches.{job_at, jobs_from}
+use Rattle.worker_pool.specs.Batches.{AllFit, FitsSet, job_at, jobs_from}
 use Rattle.worker_pool.specs.Outcomes.{AreOutcomes, IsOutcome}
 use Rattle.worker_pool.specs.declared.outcomes.Outcome.{Outcome}
 use Rattle.worker_pool.specs.declared.outcomes.Outcome.TheVariants.{NoMemory}
 use Rattle.worker_pool.specs.near.Places.{AreOutcomesOf}
 
--- want of memory for each account is an outcome for each
+-- `NoMemory` for each account is an outcome for each
 pub no_memory_of : (set : SetView) (place : ℕ) (ps : List AccountHoldings)
     → AreOutcomesOf (jobs_from set place ps) (map (λ p. NoMemory p.account) ps)
 no_memory_of set place [] = tt
@@ -33,7 +34,7 @@ length_of [] (o ∷ os) are = absurd are
 length_of (j ∷ js) [] are = absurd are
 length_of (j ∷ js) (o ∷ os) are = ap suc (length_of js os are.1)
 
--- another outcome of the job of its place
+-- an outcome of a job, set at the job's place, leaves all outcomes those of their jobs
 pub set_at : (jobs : List JobView) (os : List Outcome) (k : ℕ) (job : JobView) (o : Outcome)
     → AreOutcomesOf jobs os → slice_get jobs k ≡ Some job → IsOutcome job.set job.portfolio o
     → AreOutcomesOf jobs (slice_set os k o)
@@ -44,7 +45,7 @@ set_at (j ∷ js) (x ∷ xs) zero job o are at is =
     (subst (λ (q : JobView). IsOutcome q.set q.portfolio o) e is, are.1)
 set_at (j ∷ js) (x ∷ xs) (suc k) job o are at is = (are.0, set_at js xs k job o are.1 at is)
 
--- where a list goes on from a place with x, it has x there
+-- a list that goes on from a place with x has x at that place
 get_here : (xs : List JobView) (k : ℕ) (x : JobView) (ys : List JobView) → x ∷ ys ≡ drop k xs → slice_get xs k ≡ Some x
 get_here [] zero x ys e = absurd (cc)
 get_here [] (suc k) x ys e = absurd (cc)
@@ -63,9 +64,11 @@ opened set ps rest jobs next p e h =
     subst (λ (l : List AccountHoldings). jobs_from set next l ≡ drop next jobs) e h in
     (get_here jobs next _ _ d, drop_next jobs next _ _ d)
 
--- what is true of all portfolios is true of the first and of the rest
-pub all_rest : (P : AccountHoldings → Type 0) (ps rest : List AccountHoldings) (p : AccountHoldings)
-    → ps ≡ p ∷ rest → All P ps → (P p) × All P rest
-all_rest P ps rest p e h =
-    let a : All P (p ∷ rest) = subst (All P) e h in
-    (a 0 p (omega arith), λ k d below. a (suc k) d (omega arith))
+-- without the first account, what waits fits the set and goes on from the next place
+pub without_first : (set : SetView) (ps rest : List AccountHoldings) (jobs : List JobView) (next : ℕ) (p : AccountHoldings)
+    → ps ≡ p ∷ rest → (jobs_from set next ps ≡ drop next jobs) × AllFit set ps × (next + length ps < 2 ^ 64)
+    → (jobs_from set (next + 1) rest ≡ drop (next + 1) jobs) × AllFit set rest × (next + 1 + length rest < 2 ^ 64)
+without_first set ps rest jobs next p e waits =
+    let l = ap length e in
+    let room = waits.2 in
+    ((opened set ps rest jobs next p e waits.0).1, All-rest (FitsSet set) p rest ps e waits.1, omega arith)

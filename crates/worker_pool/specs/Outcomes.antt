@@ -1,6 +1,7 @@
 -- What a batch gives for its accounts.
-use Rattle.std.specs.Prelude.{◌≡◌, ⊤, List, [], ◌∷◌}
+use Rattle.std.specs.Prelude.{◌≡◌, List}
 use Rattle.std.specs.Arc.{arc_value}
+use Rattle.std.specs.List.{AllZip}
 use Rattle.span_tables.specs.Net.{AccountHoldings}
 use Rattle.plan_compiler.specs.Compiled.{SetView}
 use Rattle.worker_pool.specs.declared.outcomes.Outcome.{Outcome}
@@ -13,8 +14,4 @@ IsOutcome set portfolio (NoMemory account) = account ≡ portfolio.account
 
 -- as many outcomes as portfolios, each that of the portfolio at its place
 abbrev pub AreOutcomes : SetView → List AccountHoldings → List Outcome → Type 0
-AreOutcomes set [] [] = ⊤
-AreOutcomes set [] (outcome ∷ outcomes) = ⊥
-AreOutcomes set (portfolio ∷ portfolios) [] = ⊥
-AreOutcomes set (portfolio ∷ portfolios) (outcome ∷ outcomes) =
-    IsOutcome set portfolio outcome × AreOutcomes set portfolios outcomes
+AreOutcomes set portfolios outcomes = AllZip (IsOutcome set) portfolios outcomes

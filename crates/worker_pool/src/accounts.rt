@@ -1,8 +1,7 @@
 //! The accounts of a batch: those that have no board yet, and what has come of each.
-ghost use Rattle.span_tables.specs.Holdings.{fits};
 ghost use Rattle.std.specs.Arc.{arc_value};
-ghost use Rattle.std.specs.Prelude.{◌≡◌, All, IfOk, IfSome, Some, length, map, slice_get, true};
-ghost use Rattle.worker_pool.specs.Batches.{job_at, jobs_of};
+ghost use Rattle.std.specs.Prelude.{◌≡◌, IfOk, IfSome, Some, map, slice_get};
+ghost use Rattle.worker_pool.specs.Batches.{AllFit, job_at, jobs_of};
 ghost use Rattle.worker_pool.specs.declared.outcomes.Outcome.TheVariants.{NoMemory};
 ghost use Rattle.worker_pool.specs.near.Places.{AreOutcomesOf};
 
@@ -22,69 +21,60 @@ use step_scheduler::jobs::Job;
 pub(crate) struct Waiting<B: Batch> {
     set: Arc<CompiledSet>,
     portfolios: VecDeque<Portfolio>,
-    next: usize,
+    // The place of the next account.
+    next_place: usize,
     batch: PhantomData<B>,
 }
 
 impl<B: Batch> Model for Waiting<B> {
-    ghost use Rattle.span_tables.specs.Holdings.{fits};
     ghost use Rattle.std.specs.Arc.{arc_value};
-    ghost use Rattle.std.specs.Prelude.{◌≡◌, ◌+◌, ◌<◌, ◌^◌, All, drop, length, true};
-    ghost use Rattle.worker_pool.specs.Batches.{jobs_from};
+    ghost use Rattle.std.specs.Prelude.{◌≡◌, ◌+◌, ◌<◌, ◌^◌, drop, length};
+    ghost use Rattle.worker_pool.specs.Batches.{AllFit, jobs_from};
 
     ghost Value = { Unit {0} };
 
     ghost view = { λ _. tt };
 
-    ghost invariant = { λ w. (jobs_from (arc_value w.set) w.next w.portfolios.items ≡ drop w.next B.jobs)
-        × All (λ p. fits (length (arc_value w.set).tables.contracts) p.holdings ≡ true) w.portfolios.items
-        × (w.next + length w.portfolios.items < 2 ^ 64) };
+    ghost invariant = { λ w. (jobs_from (arc_value w.set) w.next_place w.portfolios.items ≡ drop w.next_place B.jobs)
+        × AllFit (arc_value w.set) w.portfolios.items
+        × (w.next_place + length w.portfolios.items < 2 ^ 64) };
 }
 
 impl<B: Batch> Waiting<B> {
     pub(crate) fn new(set: Arc<CompiledSet>, portfolios: Vec<Portfolio>) -> Waiting<B>
         requires jobs { B.jobs ≡ jobs_of (arc_value set) portfolios.items }
-        requires fits { All (λ p. fits (length (arc_value set).tables.contracts) p.holdings ≡ true) portfolios.items }
+        requires fits { AllFit (arc_value set) portfolios.items }
     {
         Waiting {
             set,
             portfolios: VecDeque::from(portfolios),
-            next: 0,
+            next_place: 0,
             batch: PhantomData,
         }
     }
 
-    /// How many there are.
+    /// How many accounts have no board yet.
     pub(crate) fn len(&self) -> usize {
         self.portfolios.len()
     }
 
-    /// The next account's job, if there is one more. `Err` is want of memory.
-    pub(crate) fn next_job(&mut self, alloc: Global) -> Option<Result<Arc<Job>, AllocError>>
-        ensures { IfSome result (λ r. IfOk r (λ job. slice_get B.jobs (arc_value job).place ≡ Some (arc_value job))) }
+    /// The next account's job, if there is one more.
+    pub(crate) fn next_job(&mut self, alloc: Global) -> Result<Option<Arc<Job>>, AllocError>
+        ensures { IfOk result (λ found. IfSome found (λ job. slice_get B.jobs (arc_value job).place ≡ Some (arc_value job))) }
     {
-        let portfolio = self.portfolios.pop_front()?;
-        let place = self.next;
-        self.next += 1;
-        Some(job_of(alloc, &self.set, portfolio, place))
+        let Some(portfolio) = self.portfolios.pop_front() else {
+            return Ok(None);
+        };
+        let place = self.next_place;
+        self.next_place += 1;
+        let set = Arc::try_clone(&self.set)?;
+        let job = Arc::new(alloc, Job::new(set, portfolio, place))?;
+        Ok(Some(job))
     }
 }
 
-// The job of an account at a place. `Err` is want of memory.
-fn job_of(
-    alloc: Global,
-    set: &Arc<CompiledSet>,
-    portfolio: Portfolio,
-    place: usize,
-) -> Result<Arc<Job>, AllocError>
-    requires { fits (length (arc_value set.now).tables.contracts) portfolio.holdings ≡ true }
-    ensures { IfOk result (λ job. arc_value job ≡ job_at (arc_value set.now) portfolio place) }
-{
-    Ok(Arc::new(alloc, Job::new(Arc::try_clone(set)?, portfolio, place))?)
-}
-
-// Want of memory for each account.
-fn no_memory(alloc: Global, portfolios: &[Portfolio]) -> Result<Vec<Outcome>, AllocError>
+// The outcome `NoMemory` for each account.
+fn all_without_memory(alloc: Global, portfolios: &[Portfolio]) -> Result<Vec<Outcome>, AllocError>
     ensures { IfOk result (λ outcomes. outcomes.items ≡ map (λ p. NoMemory p.account) portfolios.now) }
 {
     portfolios
@@ -93,7 +83,7 @@ fn no_memory(alloc: Global, portfolios: &[Portfolio]) -> Result<Vec<Outcome>, Al
         .collect(alloc)
 }
 
-/// What has come of each account, in their order. At first that is want of memory.
+/// What has come of each account, in the order of the accounts: `NoMemory` at first.
 #[derive(Drop)]
 pub(crate) struct Outcomes<B: Batch> {
     list: Vec<Outcome>,
@@ -121,7 +111,7 @@ impl<B: Batch> Outcomes<B> {
         requires { B.jobs ≡ jobs_of (arc_value set.now) portfolios.now }
     {
         Ok(Outcomes {
-            list: no_memory(alloc, portfolios)?,
+            list: all_without_memory(alloc, portfolios)?,
             left: portfolios.len(),
             batch: PhantomData,
         })

@@ -1,9 +1,7 @@
 //! Batches on many workers, which steal steps from one another.
-ghost use Rattle.crossbeam_queue.specs.Passes.{IsPassOf, view};
-ghost use Rattle.span_tables.specs.Holdings.{fits};
 ghost use Rattle.std.specs.Arc.{arc_value};
-ghost use Rattle.std.specs.Prelude.{◌≡◌, ◌<◌, ◌≤◌, ◌⊎◌, ◌↔◌, All, Err, IfOk, length, true};
-ghost use Rattle.worker_pool.specs.Batches.{jobs_of};
+ghost use Rattle.std.specs.Prelude.{◌≡◌, ◌<◌, ◌≤◌, ◌⊎◌, ◌↔◌, Err, IfOk};
+ghost use Rattle.worker_pool.specs.Batches.{AllFit, jobs_of};
 ghost use Rattle.worker_pool.specs.Outcomes.{AreOutcomes};
 ghost use Rattle.worker_pool.specs.declared.batch.PoolFault.TheVariants as fault;
 ghost use Rattle.worker_pool.specs.declared.batch.TheConstants.{MAX_WORKERS};
@@ -11,12 +9,12 @@ ghost use Rattle.worker_pool.specs.near.Places.{AreOutcomesOf};
 
 use crate::accounts::{Outcomes, Waiting};
 use crate::coordinator::Coordinator;
-use crate::ends::{ThiefEnd, open_deque};
+use crate::ends::ThiefEnd;
 use crate::gates::Gate;
-use crate::helpers::Helper;
 use crate::laws::{Batch, new_queue};
+use crate::lent::Lent;
 use crate::outcomes::Outcome;
-use crate::plain::{COORDINATOR, run_alone};
+use crate::plain::{COORDINATOR, run_on_one};
 use crate::queue_ends::{ResultEnd, open_results};
 use crate::workers::Worker;
 use plan_compiler::set::CompiledSet;
@@ -34,9 +32,6 @@ use thiserror::Error;
 /// The most workers that a batch can have.
 pub const MAX_WORKERS: usize = 16;
 
-/// The places of a deque at first. It grows.
-const DEQUE_PLACES: usize = 256;
-
 /// Why a batch is not run.
 #[derive(Clone, Copy, Debug, Drop, PartialEq, Eq, Error)]
 pub enum PoolFault {
@@ -48,39 +43,22 @@ pub enum PoolFault {
     OutOfMemory,
 }
 
-impl From<AllocError> for PoolFault {
-    ghost from_gives = { λ _ answer. answer ≡ fault.OutOfMemory };
-
-    fn from(_error: AllocError) -> PoolFault {
-        PoolFault::OutOfMemory
-    }
-}
-
-// The helpers of a batch, numbered from 1, each with a deque of its own. The thieves' ends of these deques go onto `left`,
-// those of one after another's. `Err` is want of memory.
-fn helpers_of<'a, B: Batch, G: Gate>(
+// The helpers of a batch, numbered from 1. The thieves' ends of each helper's deque go onto `left`, in the order of the helpers.
+fn open_helpers<'a, B: Batch, G: Gate>(
     alloc: Global,
     gate: &'a G,
     helpers: usize,
     results: Vec<ResultEnd<'a, B>>,
     left: &mut Vec<Vec<ThiefEnd<B>>>,
-) -> Result<Vec<Helper<'a, B, G>>, AllocError>
+) -> Result<Vec<Worker<'a, B, G>>, AllocError>
     requires { helpers < MAX_WORKERS }
 {
     let mut all = Vec::with_capacity(alloc, helpers)?;
-    let mut number = 0usize;
     for results in results {
-        let (own, thieves) = open_deque::<B>(alloc, DEQUE_PLACES, helpers)?;
+        let number = all.len().saturating_add(1);
+        let (helper, thieves) = Worker::open(alloc, gate, number, results, helpers)?;
         left.push(thieves)?;
-        number = number.saturating_add(1);
-        let worker = Worker {
-            alloc,
-            gate,
-            number,
-            own,
-            thieves: Vec::new(alloc),
-        };
-        all.push(Helper { worker, results })?;
+        all.push(helper)?;
     }
     Ok(all)
 }
@@ -89,68 +67,59 @@ fn helpers_of<'a, B: Batch, G: Gate>(
 fn share_out<B: Batch, G: Gate>(
     thieves: Vec<ThiefEnd<B>>,
     owner: usize,
-    helpers: &mut Vec<Helper<B, G>>,
+    helpers: &mut Vec<Worker<B, G>>,
 ) -> Result<(), AllocError> {
     let mut thieves = thieves;
     for helper in helpers.iter_mut() {
-        if helper.worker.number != owner {
+        if helper.number != owner {
             if let Some(thief) = thieves.pop() {
-                helper.worker.thieves.push(thief)?;
+                helper.thieves.push(thief)?;
             }
         }
     }
     Ok(())
 }
 
-// Shares out the thieves' ends that are left of the helpers' deques: those of each go to the coordinator, whose list comes
-// back, and to each other helper. `Err` is want of memory.
+// Shares out the thieves' ends of the helpers' deques: of each deque one goes to the coordinator, and one to each other helper.
 fn share_out_all<B: Batch, G: Gate>(
-    alloc: Global,
     left: Vec<Vec<ThiefEnd<B>>>,
-    helpers: &mut Vec<Helper<B, G>>,
-) -> Result<Vec<ThiefEnd<B>>, AllocError> {
-    let mut share = Vec::with_capacity(alloc, left.len())?;
+    coordinator: &mut Worker<B, G>,
+    helpers: &mut Vec<Worker<B, G>>,
+) -> Result<(), AllocError> {
     let mut owner = COORDINATOR;
     for mut thieves in left {
         owner = owner.saturating_add(1);
         if let Some(thief) = thieves.pop() {
-            share.push(thief)?;
+            coordinator.thieves.push(thief)?;
         }
         share_out(thieves, owner, helpers)?;
     }
-    Ok(share)
+    Ok(())
 }
 
-// The coordinator's worker, and the helpers with their ends of the queue: each with a deque, and with thieves' ends of all
-// others'. `Err` is want of memory.
-fn open_deques<'a, B: Batch, G: Gate>(
+// The coordinator's worker and the helpers, from their ends of the queue. Each has a thief's end of each other worker's deque.
+fn open_workers<'a, B: Batch, G: Gate>(
     alloc: Global,
     gate: &'a G,
     helpers: usize,
-    results: Vec<ResultEnd<'a, B>>,
-) -> Result<(Worker<'a, B, G>, Vec<Helper<'a, B, G>>), AllocError>
+    results: ResultEnd<'a, B>,
+    results_of_helpers: Vec<ResultEnd<'a, B>>,
+) -> Result<(Worker<'a, B, G>, Vec<Worker<'a, B, G>>), AllocError>
     requires { helpers < MAX_WORKERS }
 {
     let mut left = Vec::new(alloc);
-    let mut crew = helpers_of(alloc, gate, helpers, results, &mut left)?;
-    let (own, thieves) = open_deque::<B>(alloc, DEQUE_PLACES, helpers)?;
+    let mut crew = open_helpers(alloc, gate, helpers, results_of_helpers, &mut left)?;
+    let (mut coordinator, thieves) = Worker::open(alloc, gate, COORDINATOR, results, helpers)?;
     share_out(thieves, COORDINATOR, &mut crew)?;
-    let thieves = share_out_all(alloc, left, &mut crew)?;
-    let worker = Worker {
-        alloc,
-        gate,
-        number: COORDINATOR,
-        own,
-        thieves,
-    };
-    Ok((worker, crew))
+    share_out_all(left, &mut coordinator, &mut crew)?;
+    Ok((coordinator, crew))
 }
 
 // Runs the coordinator here and each helper in a thread of its own. A helper whose thread is not started is done without.
 fn run_all<'a, B: Batch + Send + Sync, R: Threads + Wait + Clock + Sync, G: Gate>(
     rt: &R,
     coordinator: Coordinator<'a, B, G>,
-    helpers: Vec<Helper<'a, B, G>>,
+    helpers: Vec<Worker<'a, B, G>>,
 ) -> Vec<Outcome>
     ensures { AreOutcomesOf B.jobs result.items }
 {
@@ -164,7 +133,7 @@ fn run_all<'a, B: Batch + Send + Sync, R: Threads + Wait + Clock + Sync, G: Gate
         {
             let mut coordinator = coordinator;
             for helper in helpers {
-                let _ = scope.spawn(move || helper.run(rt, stop));
+                let _ = scope.spawn(move || helper.help(rt, stop));
             }
             coordinator.run(rt);
             stop.store(true, SeqCst);
@@ -173,48 +142,31 @@ fn run_all<'a, B: Batch + Send + Sync, R: Threads + Wait + Clock + Sync, G: Gate
     )
 }
 
-// Runs the accounts that wait, with so many helpers. `Err` is want of memory.
-fn run_waiting<B: Batch + Send + Sync, R: Threads + Wait + Clock + Sync, G: Gate>(
-    rt: &R,
-    alloc: Global,
-    gate: &G,
-    waiting: Waiting<B>,
-    outcomes: Outcomes<B>,
-    helpers: usize,
-) -> Result<Vec<Outcome>, AllocError>
-    requires { helpers < MAX_WORKERS }
-    ensures { IfOk result (λ outcomes. AreOutcomesOf B.jobs outcomes.items) }
-{
-    let (queue, pass) = new_queue::<B>(alloc)?;
-    let (results, theirs) = open_results(alloc, &queue, pass, helpers)?;
-    let (worker, crew) = open_deques(alloc, gate, helpers, theirs)?;
-    let coordinator = Coordinator::new(worker, waiting, results, outcomes)?;
-    Ok(run_all(rt, coordinator, crew))
-}
-
 // The batch on more than one worker. Its type names the jobs, and no type of the signature does.
-fn run_named<B: Batch + Send + Sync, R: Threads + Wait + Clock + Sync, G: Gate>(
-    rt: &R,
-    alloc: Global,
-    set: &Arc<CompiledSet>,
+fn run_on_many<B: Batch + Send + Sync, R: Threads + Wait + Clock + Sync, G: Gate>(
+    lent: &Lent<R, G>,
     portfolios: Vec<Portfolio>,
     workers: usize,
-    gate: &G,
 ) -> Result<Vec<Outcome>, AllocError>
-    requires jobs { B.jobs ≡ jobs_of (arc_value set.now) portfolios.items }
+    requires jobs { B.jobs ≡ jobs_of (arc_value lent.now.set.now) portfolios.items }
     requires workers { (0 < workers) × (workers ≤ MAX_WORKERS) }
-    requires fits { All (λ p. fits (length (arc_value set.now).tables.contracts) p.holdings ≡ true) portfolios.items }
-    ensures { IfOk result (λ outcomes. AreOutcomes (arc_value set.now) portfolios.items outcomes.items) }
+    requires fits { AllFit (arc_value lent.now.set.now) portfolios.items }
+    ensures { IfOk result (λ outcomes. AreOutcomes (arc_value lent.now.set.now) portfolios.items outcomes.items) }
 {
-    let outcomes = Outcomes::<B>::new(alloc, set, portfolios.as_slice())?;
-    let waiting = Waiting::<B>::new(Arc::try_clone(set)?, portfolios);
-    run_waiting(rt, alloc, gate, waiting, outcomes, workers - 1)
+    let helpers = workers - 1;
+    let outcomes = Outcomes::<B>::new(lent.alloc, lent.set, portfolios.as_slice())?;
+    let waiting = Waiting::<B>::new(Arc::try_clone(lent.set)?, portfolios);
+    let (queue, pass) = new_queue::<B>(lent.alloc)?;
+    let (results, theirs) = open_results(lent.alloc, &queue, pass, helpers)?;
+    let (worker, crew) = open_workers(lent.alloc, lent.gate, helpers, results, theirs)?;
+    let coordinator = Coordinator::new(worker, waiting, outcomes)?;
+    Ok(run_all(lent.rt, coordinator, crew))
 }
 
 /// The outcomes of accounts under a set, in their order, on 1 to 16 workers. The portfolios fit the set's tables.
 ///
-/// Refused is, first, a number of workers that is 0 or over 16, and then want of memory for the deques, the queue, their
-/// passes or the lists of the batch. An account has `NoMemory` where its job, its board, a step or its row has no memory.
+/// A number of workers that is 0 or over 16 is refused before anything is made. `OutOfMemory` is for the deques, the queue,
+/// their passes and the lists of the batch. An account has `NoMemory` where its job, its board, a step or its row has no memory.
 /// With one worker no thread is started: all goes as in [`run_plain`](crate::plain::run_plain), past the gate.
 pub fn run_batch<R: Threads + Wait + Clock + Sync, G: Gate>(
     rt: &R,
@@ -224,7 +176,7 @@ pub fn run_batch<R: Threads + Wait + Clock + Sync, G: Gate>(
     workers: usize,
     gate: &G,
 ) -> Result<Vec<Outcome>, PoolFault>
-    requires { All (λ p. fits (length (arc_value set.now).tables.contracts) p.holdings ≡ true) portfolios.items }
+    requires { AllFit (arc_value set.now) portfolios.items }
     ensures workers { (result ≡ Err fault.Workers) ↔ ((workers ≡ 0) ⊎ (16 < workers)) }
     ensures outcomes { IfOk result (λ outcomes. AreOutcomes (arc_value set.now) portfolios.items outcomes.items) }
 {
@@ -232,9 +184,15 @@ pub fn run_batch<R: Threads + Wait + Clock + Sync, G: Gate>(
         return Err(PoolFault::Workers);
     }
     let outcomes = if workers == 1 {
-        run_alone(alloc, set, portfolios, gate)
+        run_on_one(alloc, set, portfolios, gate)
     } else {
-        run_named::<Brand, R, G>(rt, alloc, set, portfolios, workers, gate)
+        let lent = Lent {
+            rt,
+            alloc,
+            set,
+            gate,
+        };
+        run_on_many::<Brand, R, G>(&lent, portfolios, workers)
     };
-    Ok(outcomes?)
+    outcomes.map_err(|_| PoolFault::OutOfMemory)
 }

@@ -10,7 +10,6 @@ use crate::idle::Patience;
 use crate::laws::Batch;
 use crate::open_boards::OpenBoard;
 use crate::outcomes::Outcome;
-use crate::queue_ends::ResultEnd;
 use crate::workers::Worker;
 use std::alloc::AllocError;
 use std::sync::{Arc, Wait};
@@ -26,16 +25,14 @@ pub(crate) struct Coordinator<'a, B: Batch, G: Gate> {
     worker: Worker<'a, B, G>,
     waiting: Waiting<B>,
     boards: Vec<OpenBoard<B>>,
-    results: ResultEnd<'a, B>,
     outcomes: Outcomes<B>,
 }
 
 impl<'a, B: Batch, G: Gate> Coordinator<'a, B, G> {
-    /// A coordinator of these accounts, with no open board. `Err` is want of memory.
+    /// A coordinator of these accounts, with no open board.
     pub(crate) fn new(
         worker: Worker<'a, B, G>,
         waiting: Waiting<B>,
-        results: ResultEnd<'a, B>,
         outcomes: Outcomes<B>,
     ) -> Result<Coordinator<'a, B, G>, AllocError> {
         let boards = Vec::with_capacity(worker.alloc, MOST_OPEN)?;
@@ -43,7 +40,6 @@ impl<'a, B: Batch, G: Gate> Coordinator<'a, B, G> {
             worker,
             waiting,
             boards,
-            results,
             outcomes,
         })
     }
@@ -74,13 +70,13 @@ impl<'a, B: Batch, G: Gate> Coordinator<'a, B, G> {
         outcomes.into_vec()
     }
 
-    // A result that waits in the queue. Where there is none, that of a task which the coordinator pops or steals, and
+    // A result that waits in the queue. Where none waits, the result of a task that the coordinator pops or steals, and
     // evaluates itself.
     fn find_result<R: Wait>(&mut self, rt: &R) -> Option<FinishedOf<B>> {
-        if let Some(done) = self.results.pop(rt) {
+        if let Some(done) = self.worker.results.pop(rt) {
             return Some(done);
         }
-        let task = match self.worker.pop() {
+        let task = match self.worker.own.pop() {
             Some(task) => task,
             None => self.worker.steal()?,
         };
@@ -94,9 +90,9 @@ impl<'a, B: Batch, G: Gate> Coordinator<'a, B, G> {
                 return;
             }
             match self.waiting.next_job(self.worker.alloc) {
-                Some(Ok(job)) => self.open_board(job),
-                Some(Err(_)) => self.outcomes.count_ended(),
-                None => return,
+                Ok(Some(job)) => self.open_board(job),
+                Ok(None) => return,
+                Err(_) => self.outcomes.count_ended(),
             }
         }
     }
@@ -111,9 +107,9 @@ impl<'a, B: Batch, G: Gate> Coordinator<'a, B, G> {
         };
         board.hand_out(&mut self.worker);
         if board.has_ended() {
-            self.close(board);
+            self.end_account(board);
         } else if let Err(refused) = self.boards.push(board) {
-            self.close(refused.value);
+            self.end_account(refused.value);
         }
     }
 
@@ -127,12 +123,12 @@ impl<'a, B: Batch, G: Gate> Coordinator<'a, B, G> {
         self.boards[at].hand_out(&mut self.worker);
         if self.boards[at].has_ended() {
             let ended = self.boards.swap_remove(at);
-            self.close(ended);
+            self.end_account(ended);
         }
     }
 
     // Ends the account of a board, with its row where it has one.
-    fn close(&mut self, board: OpenBoard<B>) {
+    fn end_account(&mut self, board: OpenBoard<B>) {
         if let Some(row) = board.row(self.worker.alloc) {
             self.outcomes.set(board.place(), row);
         }

@@ -1,5 +1,5 @@
-//! What a worker holds of the deques of a batch. The types keep that all of it is of the batch, so that the code above
-//! needs no clause.
+//! What a worker holds of the deques of a batch. The types keep that all tasks and results are of the batch, so that the code
+//! above needs no clause.
 ghost use Rattle.crossbeam_deque.specs.Handles.{IsPassOf, stealer_deque, view, worker_deque, worker_view};
 ghost use Rattle.std.specs.Prelude.{◌≡◌, ◌<◌, IfErr};
 ghost use Rattle.worker_pool.specs.Batches.{IsResultOf, IsTaskOf};
@@ -20,16 +20,16 @@ use step_scheduler::tasks::Task;
 #[derive(Drop)]
 pub(crate) struct TaskOf<B: Batch> {
     pub(crate) task: Task,
-    of: PhantomData<B>,
-    pub(crate) ghost is: { IsTaskOf B.jobs task },
+    batch: PhantomData<B>,
+    pub(crate) ghost of_batch: { IsTaskOf B.jobs task },
 }
 
 /// A result of the batch.
 #[derive(Drop)]
 pub(crate) struct FinishedOf<B: Batch> {
     pub(crate) finished: Finished,
-    of: PhantomData<B>,
-    pub(crate) ghost is: { IsResultOf B.jobs finished },
+    batch: PhantomData<B>,
+    pub(crate) ghost of_batch: { IsResultOf B.jobs finished },
 }
 
 impl<B: Batch> TaskOf<B> {
@@ -39,11 +39,11 @@ impl<B: Batch> TaskOf<B> {
     {
         TaskOf {
             task,
-            of: PhantomData,
+            batch: PhantomData,
         }
     }
 
-    /// Its result, once the worker of a number has passed the gate with it.
+    /// The task's result, once the worker of a number has passed the gate with the task.
     pub(crate) fn evaluate<G: Gate>(self, alloc: Global, gate: &G, worker: usize) -> FinishedOf<B>
         ensures { result.finished.job ≡ self.task.job }
     {
@@ -60,11 +60,11 @@ impl<B: Batch> FinishedOf<B> {
     {
         FinishedOf {
             finished,
-            of: PhantomData,
+            batch: PhantomData,
         }
     }
 
-    /// The place of its account.
+    /// The place of the result's account.
     pub(crate) fn place(&self) -> usize
         ensures { result ≡ self.now.finished.job.place }
     {
@@ -117,7 +117,7 @@ impl<B: Batch> Model for ThiefEnd<B> {
         × (0 < (pass_view e.pass).parts) };
 }
 
-/// A deque of so many places at first, with its ends for so many thieves. `Err` is want of memory.
+/// A deque of so many places at first, with its ends for so many thieves.
 pub(crate) fn open_deque<B: Batch>(
     alloc: Global,
     places: usize,
@@ -136,7 +136,7 @@ pub(crate) fn open_deque<B: Batch>(
 }
 
 impl<B: Batch> OwnEnd<B> {
-    /// Adds a task at the back. A refused one comes back.
+    /// Adds a task at the back. A refused task comes back.
     pub(crate) fn push(&mut self, task: TaskOf<B>) -> Result<(), TaskOf<B>>
         ensures { IfErr result (λ back. back.task ≡ task.task) }
     {

@@ -3,12 +3,13 @@ use std::thread;
 use std::time::{Clock, Duration};
 
 /// How often in a row a coordinator that finds nothing only yields, and for how many microseconds it then sleeps at first.
-/// What it waits for is under way.
+/// What a coordinator waits for is under way.
 const YIELDS_OF_COORDINATOR: u32 = 16;
 
 const SLEEP_OF_COORDINATOR: u64 = 100;
 
-/// The same of a helper. What it looks for may not come for long, and each look takes time from those that work.
+/// How often a helper only yields, and how long it then sleeps at first. What a helper looks for may not come for long, and
+/// each look takes time from those that work.
 const YIELDS_OF_HELPER: u32 = 1;
 
 const SLEEP_OF_HELPER: u64 = 500;
@@ -26,12 +27,12 @@ pub(crate) struct Patience {
 }
 
 impl Patience {
-    /// That of a coordinator that has just found something.
+    /// The patience of a coordinator that has just found something.
     pub(crate) fn of_coordinator() -> Patience {
         Patience::new(YIELDS_OF_COORDINATOR, SLEEP_OF_COORDINATOR)
     }
 
-    /// That of a helper that has just found something.
+    /// The patience of a helper that has just found something.
     pub(crate) fn of_helper() -> Patience {
         Patience::new(YIELDS_OF_HELPER, SLEEP_OF_HELPER)
     }

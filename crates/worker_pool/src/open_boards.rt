@@ -21,11 +21,11 @@ pub(crate) struct OpenBoard<B: Batch> {
     // Whether the board has failed, or was refused memory for a task.
     lacks_memory: bool,
     batch: PhantomData<B>,
-    ghost is: { slice_get B.jobs board.job.place ≡ Some board.job },
+    ghost of_batch: { slice_get B.jobs board.job.place ≡ Some board.job },
 }
 
 impl<B: Batch> OpenBoard<B> {
-    /// The board of a job. `Err` is want of memory.
+    /// The board of a job.
     pub(crate) fn new(alloc: Global, job: Arc<Job>) -> Result<OpenBoard<B>, AllocError>
         requires { slice_get B.jobs (arc_value job).place ≡ Some (arc_value job) }
     {
@@ -37,14 +37,14 @@ impl<B: Batch> OpenBoard<B> {
         })
     }
 
-    /// The place of its account.
+    /// The place of the board's account.
     pub(crate) fn place(&self) -> usize
         ensures { result ≡ self.now.board.job.place }
     {
         self.board.job().place()
     }
 
-    /// Whether it is complete, has failed or was refused memory.
+    /// Whether the board is complete, has failed or was refused memory.
     pub(crate) fn has_ended(&self) -> bool {
         self.lacks_memory || self.board.is_complete()
     }
@@ -63,7 +63,7 @@ impl<B: Batch> OpenBoard<B> {
         }
     }
 
-    /// Keeps the result of a step. It is of this board's job, since both are of the batch and of one place.
+    /// Keeps the result of a step. The result is of this board's job, since both are of the batch and of one place.
     ///
     /// A board refuses only results that it has no use for.
     pub(crate) fn finish(&mut self, done: FinishedOf<B>)
@@ -77,7 +77,7 @@ impl<B: Batch> OpenBoard<B> {
         let _ = self.board.finish(finished);
     }
 
-    /// The row of its account, if it is complete and memory allows.
+    /// The row of the board's account, if the board is complete and memory allows.
     pub(crate) fn row(&self, alloc: Global) -> Option<Arc<Row>>
         ensures { IfSome result (λ row. slice_get B.jobs self.now.board.job.place
             ≡ Some (job_at (arc_value row).set (arc_value row).portfolio self.now.board.job.place)) }

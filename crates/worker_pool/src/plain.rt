@@ -1,7 +1,7 @@
 //! Batches on one thread: one whole board after another.
-ghost use Rattle.std.specs.Prelude.{◌≡◌, All, IfOk, length, true};
+ghost use Rattle.std.specs.Prelude.{◌≡◌, IfOk};
 ghost use Rattle.std.specs.Arc.{arc_value};
-ghost use Rattle.span_tables.specs.Holdings.{fits};
+ghost use Rattle.worker_pool.specs.Batches.{AllFit, FitsSet};
 ghost use Rattle.worker_pool.specs.Outcomes.{AreOutcomes, IsOutcome};
 
 use crate::gates::{Gate, OpenGate};
@@ -33,76 +33,85 @@ impl<G: Gate> Watch for StepsOf<'_, G> {
     }
 }
 
-// The row of an account under a set whose course this is. `Err` is want of memory.
-fn margined<G: Gate>(
+// What the runs of a batch on one thread share: the set with its course, and the gate.
+#[derive(Drop)]
+struct Runs<'a, G: Gate> {
     alloc: Global,
-    set: &Arc<CompiledSet>,
-    course: &Course,
-    portfolio: Portfolio,
-    place: usize,
-    gate: &G,
-) -> Result<Arc<Row>, AllocError>
-    requires fits { fits (length (arc_value set.now).tables.contracts) portfolio.holdings ≡ true }
-    requires course { course.now.set ≡ arc_value set.now }
-    ensures { IfOk result (λ row. arc_value row ≡ record { set = arc_value set.now; portfolio = portfolio }) }
-{
-    let job = Arc::new(alloc, Job::new(Arc::try_clone(set)?, portfolio, place))?;
-    let steps = StepsOf {
-        gate,
-        account: job.portfolio().account(),
-    };
-    let board = Board::whole(alloc, Arc::try_clone(&job)?, course, &steps)?;
-    Row::from_board(alloc, board)
+    set: &'a Arc<CompiledSet>,
+    course: Course,
+    gate: &'a G,
+    ghost of_set: { course.set ≡ arc_value set.now },
 }
 
-/// The row of an account under a set, on one thread. The portfolio fits the set's tables. `Err` is want of memory.
+impl<'a, G: Gate> Runs<'a, G> {
+    fn new(alloc: Global, set: &'a Arc<CompiledSet>, gate: &'a G) -> Result<Runs<'a, G>, AllocError>
+        ensures { IfOk result (λ runs. runs.set.now ≡ set.now) }
+    {
+        let course = Course::of(alloc, set)?;
+        Ok(Runs {
+            alloc,
+            set,
+            course,
+            gate,
+        })
+    }
+
+    // The row of an account.
+    fn row(&self, portfolio: Portfolio, place: usize) -> Result<Arc<Row>, AllocError>
+        requires { FitsSet (arc_value self.now.set.now) portfolio }
+        ensures { IfOk result (λ row. arc_value row ≡ record { set = arc_value self.now.set.now; portfolio = portfolio }) }
+    {
+        let set = Arc::try_clone(self.set)?;
+        let job = Arc::new(self.alloc, Job::new(set, portfolio, place))?;
+        let steps = StepsOf {
+            gate: self.gate,
+            account: job.portfolio().account(),
+        };
+        let board = Board::whole(self.alloc, Arc::try_clone(&job)?, &self.course, &steps)?;
+        Row::from_board(self.alloc, board)
+    }
+
+    // The outcome of an account.
+    fn outcome(&self, portfolio: Portfolio, place: usize) -> Outcome
+        requires { FitsSet (arc_value self.now.set.now) portfolio }
+        ensures { IsOutcome (arc_value self.now.set.now) portfolio result }
+    {
+        let account = portfolio.account().copied();
+        match self.row(portfolio, place) {
+            Ok(row) => Outcome::Margined(row),
+            Err(_) => Outcome::NoMemory(account),
+        }
+    }
+}
+
+/// The row of an account under a set, on one thread. The portfolio fits the set's tables.
 pub fn run_account(
     alloc: Global,
     set: &Arc<CompiledSet>,
     portfolio: Portfolio,
 ) -> Result<Arc<Row>, AllocError>
-    requires { fits (length (arc_value set.now).tables.contracts) portfolio.holdings ≡ true }
+    requires { FitsSet (arc_value set.now) portfolio }
     ensures { IfOk result (λ row. arc_value row ≡ record { set = arc_value set.now; portfolio = portfolio }) }
 {
-    let course = Course::of(alloc, set)?;
-    margined(alloc, set, &course, portfolio, 0, &OpenGate)
+    Runs::new(alloc, set, &OpenGate)?.row(portfolio, 0)
 }
 
-// The outcome of an account under a set.
-fn outcome_of<G: Gate>(
-    alloc: Global,
-    set: &Arc<CompiledSet>,
-    course: &Course,
-    portfolio: Portfolio,
-    place: usize,
-    gate: &G,
-) -> Outcome
-    requires fits { fits (length (arc_value set.now).tables.contracts) portfolio.holdings ≡ true }
-    requires course { course.now.set ≡ arc_value set.now }
-    ensures { IsOutcome (arc_value set.now) portfolio result }
-{
-    let account = portfolio.account().copied();
-    match margined(alloc, set, course, portfolio, place, gate) {
-        Ok(row) => Outcome::Margined(row),
-        Err(_) => Outcome::NoMemory(account),
-    }
-}
-
-/// The outcomes of accounts under a set, on one worker, which passes a gate before each evaluation. Else as [`run_plain`].
-pub(crate) fn run_alone<G: Gate>(
+/// The outcomes of accounts under a set, on one worker, which passes a gate before each evaluation. All else is as in
+/// [`run_plain`].
+pub(crate) fn run_on_one<G: Gate>(
     alloc: Global,
     set: &Arc<CompiledSet>,
     portfolios: Vec<Portfolio>,
     gate: &G,
 ) -> Result<Vec<Outcome>, AllocError>
-    requires { All (λ p. fits (length (arc_value set.now).tables.contracts) p.holdings ≡ true) portfolios.items }
+    requires { AllFit (arc_value set.now) portfolios.items }
     ensures { IfOk result (λ outcomes. AreOutcomes (arc_value set.now) portfolios.items outcomes.items) }
 {
-    let course = Course::of(alloc, set)?;
+    let runs = Runs::new(alloc, set, gate)?;
     let mut outcomes = Vec::with_capacity(alloc, portfolios.len())?;
     for portfolio in portfolios {
         let place = outcomes.len();
-        outcomes.push(outcome_of(alloc, set, &course, portfolio, place, gate))?;
+        outcomes.push(runs.outcome(portfolio, place))?;
     }
     Ok(outcomes)
 }
@@ -110,15 +119,15 @@ pub(crate) fn run_alone<G: Gate>(
 /// The outcomes of accounts under a set, in their order. The portfolios fit the set's tables.
 ///
 /// One account runs after another, all steps of it in one call. An account has `NoMemory` where its job, its board or its
-/// row has no memory. `Err` is want of memory for what is made once for all accounts: the set's course and the list of
-/// outcomes.
+/// row has no memory. The set's course and the list of outcomes are made once for all accounts, and the call fails where they
+/// have no memory.
 pub fn run_plain(
     alloc: Global,
     set: &Arc<CompiledSet>,
     portfolios: Vec<Portfolio>,
 ) -> Result<Vec<Outcome>, AllocError>
-    requires { All (λ p. fits (length (arc_value set.now).tables.contracts) p.holdings ≡ true) portfolios.items }
+    requires { AllFit (arc_value set.now) portfolios.items }
     ensures { IfOk result (λ outcomes. AreOutcomes (arc_value set.now) portfolios.items outcomes.items) }
 {
-    run_alone(alloc, set, portfolios, &OpenGate)
+    run_on_one(alloc, set, portfolios, &OpenGate)
 }

@@ -28,7 +28,7 @@ impl<'a, B: Batch> Model for ResultEnd<'a, B> {
     ghost invariant = { λ e. IsPassOf e.queue.now e.pass × ((pass_view e.pass).batch ≡ B.jobs) × (0 < (pass_view e.pass).parts) };
 }
 
-/// The coordinator's end, and one for each helper. `Err` is want of memory.
+/// The coordinator's end, and one for each helper.
 pub(crate) fn open_results<'a, B: Batch>(
     alloc: Global,
     queue: &'a Results<B>,
@@ -49,7 +49,7 @@ pub(crate) fn open_results<'a, B: Batch>(
 }
 
 impl<B: Batch> ResultEnd<'_, B> {
-    /// Adds a result at the back. It comes back only where the queue was full.
+    /// Adds a result at the back. A result comes back only where the queue was full.
     pub(crate) fn push<R: Wait>(
         &mut self,
         rt: &R,

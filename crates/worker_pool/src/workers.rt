@@ -1,22 +1,59 @@
-//! What each worker of a batch works with, the coordinator among them.
-ghost use Rattle.std.specs.Prelude.{◌≡◌, IfSome};
+//! What each worker of a batch works with, the coordinator among them, and how a helper helps it.
+ghost use Rattle.std.specs.Prelude.{◌≡◌, ◌<◌, IfSome};
+ghost use Rattle.worker_pool.specs.declared.batch.TheConstants.{MAX_WORKERS};
 
-use crate::ends::{FinishedOf, OwnEnd, TaskOf, ThiefEnd};
+use crate::ends::{FinishedOf, OwnEnd, TaskOf, ThiefEnd, open_deque};
 use crate::gates::Gate;
+use crate::idle::Patience;
 use crate::laws::Batch;
-use std::alloc::Global;
+use crate::queue_ends::ResultEnd;
+use std::alloc::{AllocError, Global};
+use std::sync::Wait;
+use std::sync::atomic::AtomicBool;
+use std::sync::atomic::Ordering::SeqCst;
+use std::time::Clock;
 
-/// A worker: its number, a deque of its own, and a thief's end of each other worker's.
+/// The places of a deque at first. A deque grows.
+const DEQUE_PLACES: usize = 256;
+
+/// How many tasks a helper steals at once, at most.
+const MOST_STOLEN: usize = 4;
+
+/// A worker: its number, its end of the result queue, a deque of its own, and a thief's end of each other worker's deque. The
+/// numbers of helpers begin with 1.
 #[derive(Drop)]
 pub(crate) struct Worker<'a, B: Batch, G: Gate> {
     pub(crate) alloc: Global,
     pub(crate) gate: &'a G,
     pub(crate) number: usize,
+    pub(crate) results: ResultEnd<'a, B>,
     pub(crate) own: OwnEnd<B>,
     pub(crate) thieves: Vec<ThiefEnd<B>>,
 }
 
-impl<B: Batch, G: Gate> Worker<'_, B, G> {
+impl<'a, B: Batch, G: Gate> Worker<'a, B, G> {
+    /// A worker that has no thief's end yet, and the thieves' ends of its deque, one for each other worker.
+    pub(crate) fn open(
+        alloc: Global,
+        gate: &'a G,
+        number: usize,
+        results: ResultEnd<'a, B>,
+        others: usize,
+    ) -> Result<(Worker<'a, B, G>, Vec<ThiefEnd<B>>), AllocError>
+        requires { others < MAX_WORKERS }
+    {
+        let (own, thieves) = open_deque::<B>(alloc, DEQUE_PLACES, others)?;
+        let worker = Worker {
+            alloc,
+            gate,
+            number,
+            results,
+            own,
+            thieves: Vec::new(alloc),
+        };
+        Ok((worker, thieves))
+    }
+
     /// The result of a task, evaluated here.
     pub(crate) fn evaluate(&self, task: TaskOf<B>) -> FinishedOf<B>
         ensures { result.finished.job ≡ task.task.job }
@@ -24,7 +61,7 @@ impl<B: Batch, G: Gate> Worker<'_, B, G> {
         task.evaluate(self.alloc, self.gate, self.number)
     }
 
-    /// Pushes a task on the worker's own deque. One whose push is refused is evaluated here, and its result comes back.
+    /// Pushes a task on the worker's own deque. A task whose push is refused is evaluated here, and its result comes back.
     pub(crate) fn push(&mut self, task: TaskOf<B>) -> Option<FinishedOf<B>>
         ensures { IfSome result (λ done. done.finished.job ≡ task.task.job) }
     {
@@ -32,11 +69,6 @@ impl<B: Batch, G: Gate> Worker<'_, B, G> {
             Ok(()) => None,
             Err(task) => Some(self.evaluate(task)),
         }
-    }
-
-    /// The next task of the worker's own deque.
-    pub(crate) fn pop(&mut self) -> Option<TaskOf<B>> {
-        self.own.pop()
     }
 
     /// A task of another worker's deque, the first that has one to give.
@@ -47,5 +79,57 @@ impl<B: Batch, G: Gate> Worker<'_, B, G> {
             }
         }
         None
+    }
+
+    /// Helps the coordinator until the stop word is set.
+    pub(crate) fn help<R: Wait + Clock>(mut self, rt: &R, stop: &AtomicBool) {
+        let mut patience = Patience::of_helper();
+        for _ in rt.forever() {
+            if stop.load(SeqCst) {
+                return;
+            }
+            match self.find_task(rt, stop) {
+                Some(task) => {
+                    patience.renew();
+                    let done = self.evaluate(task);
+                    self.hand_in(rt, stop, done);
+                }
+                None => patience.wait(rt),
+            }
+        }
+    }
+
+    // A task of a helper's own deque. Where there is none, up to four are stolen one by one, and all but the first are pushed on
+    // its own deque. The result of a task whose push is refused is handed in at once.
+    fn find_task<R: Wait + Clock>(&mut self, rt: &R, stop: &AtomicBool) -> Option<TaskOf<B>> {
+        if let Some(task) = self.own.pop() {
+            return Some(task);
+        }
+        let first = self.steal()?;
+        for _ in 1..MOST_STOLEN {
+            let Some(task) = self.steal() else {
+                break;
+            };
+            if let Some(done) = self.push(task) {
+                self.hand_in(rt, stop, done);
+            }
+        }
+        Some(first)
+    }
+
+    // Hands a result in, trying again while the queue is full and the stop word is not set.
+    fn hand_in<R: Wait + Clock>(&mut self, rt: &R, stop: &AtomicBool, done: FinishedOf<B>) {
+        let mut patience = Patience::of_helper();
+        let mut left = done;
+        for _ in rt.forever() {
+            match self.results.push(rt, left) {
+                Ok(()) => return,
+                Err(back) => left = back,
+            }
+            if stop.load(SeqCst) {
+                return;
+            }
+            patience.wait(rt);
+        }
     }
 }

@@ -3,5 +3,5 @@ use Rattle.worker_pool.specs.Batches.{jobs_of}
 use Rattle.worker_pool.proofs.batch.run_batch.Given as goal
 
 -- the batch is the jobs of the portfolios
-abbrev pub ghosts-run_named : goal.ghosts-run_named
-ghosts-run_named g a = record { jobs = jobs_of (arc_value a.set.now) a.portfolios.items }
+abbrev pub ghosts-run_on_many : goal.ghosts-run_on_many
+ghosts-run_on_many g a = record { jobs = jobs_of (arc_value a.lent.now.set.now) a.portfolios.items }

@@ -1,6 +1,6 @@
 use Rattle.std.specs.Arc.{arc_value}
 use Rattle.worker_pool.specs.Outcomes.{AreOutcomes}
-use Rattle.worker_pool.proofs.plain.run_alone.Given as goal
+use Rattle.worker_pool.proofs.plain.run_on_one.Given as goal
 
 abbrev pub invariant-loop-portfolio : goal.invariant-loop-portfolio
 invariant-loop-portfolio g l = AreOutcomes (arc_value l.set) l.yielded l.outcomes.items
