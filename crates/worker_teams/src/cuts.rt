@@ -19,7 +19,8 @@ fn weight_of_all(steps: usize, portfolios: &[Portfolio]) -> u64 {
     })
 }
 
-/// The place from which on accounts cost about one part in `teams` of all. Each of the other teams has an account before it.
+/// The place from which on accounts cost about one part in `teams` of all. Each of the other teams has an account before that
+/// place.
 pub(crate) fn last_slice(steps: usize, portfolios: &[Portfolio], teams: usize) -> usize
     requires some { 0 < teams }
     requires enough { teams ≤ length portfolios.now }

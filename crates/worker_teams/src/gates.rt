@@ -2,7 +2,7 @@
 use span_tables::name::Name;
 use worker_pool::gates::Gate;
 
-/// A gate, passed by a team whose workers have numbers from this one on.
+/// A gate that a team passes. The numbers of the team's workers begin with `first`.
 #[derive(Drop)]
 pub(crate) struct TeamGate<'a, G: Gate> {
     pub(crate) gate: &'a G,
