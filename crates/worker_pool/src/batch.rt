@@ -12,7 +12,6 @@ use crate::coordinator::Coordinator;
 use crate::ends::ThiefEnd;
 use crate::gates::Gate;
 use crate::laws::{Batch, new_queue};
-use crate::lent::Lent;
 use crate::outcomes::Outcome;
 use crate::plain::{COORDINATOR, run_on_one};
 use crate::queue_ends::{ResultEnd, open_results};
@@ -144,23 +143,26 @@ fn run_all<'a, B: Batch + Send + Sync, R: Threads + Wait + Clock + Sync, G: Gate
 
 // The batch on more than one worker. Its type names the jobs, and no type of the signature does.
 fn run_on_many<B: Batch + Send + Sync, R: Threads + Wait + Clock + Sync, G: Gate>(
-    lent: &Lent<R, G>,
+    rt: &R,
+    alloc: Global,
+    set: &Arc<CompiledSet>,
     portfolios: Vec<Portfolio>,
     workers: usize,
+    gate: &G,
 ) -> Result<Vec<Outcome>, AllocError>
-    requires jobs { B.jobs ≡ jobs_of (arc_value lent.now.set.now) portfolios.items }
+    requires jobs { B.jobs ≡ jobs_of (arc_value set.now) portfolios.items }
     requires workers { (0 < workers) × (workers ≤ MAX_WORKERS) }
-    requires fits { AllFit (arc_value lent.now.set.now) portfolios.items }
-    ensures { IfOk result (λ outcomes. AreOutcomes (arc_value lent.now.set.now) portfolios.items outcomes.items) }
+    requires fits { AllFit (arc_value set.now) portfolios.items }
+    ensures { IfOk result (λ outcomes. AreOutcomes (arc_value set.now) portfolios.items outcomes.items) }
 {
     let helpers = workers - 1;
-    let outcomes = Outcomes::<B>::new(lent.alloc, lent.set, portfolios.as_slice())?;
-    let waiting = Waiting::<B>::new(Arc::try_clone(lent.set)?, portfolios);
-    let (queue, pass) = new_queue::<B>(lent.alloc)?;
-    let (results, theirs) = open_results(lent.alloc, &queue, pass, helpers)?;
-    let (worker, crew) = open_workers(lent.alloc, lent.gate, helpers, results, theirs)?;
+    let outcomes = Outcomes::<B>::new(alloc, set, portfolios.as_slice())?;
+    let waiting = Waiting::<B>::new(Arc::try_clone(set)?, portfolios);
+    let (queue, pass) = new_queue::<B>(alloc)?;
+    let (results, theirs) = open_results(alloc, &queue, pass, helpers)?;
+    let (worker, crew) = open_workers(alloc, gate, helpers, results, theirs)?;
     let coordinator = Coordinator::new(worker, waiting, outcomes)?;
-    Ok(run_all(lent.rt, coordinator, crew))
+    Ok(run_all(rt, coordinator, crew))
 }
 
 /// The outcomes of accounts under a set, in their order, on 1 to 16 workers. The portfolios fit the set's tables.
@@ -186,13 +188,7 @@ pub fn run_batch<R: Threads + Wait + Clock + Sync, G: Gate>(
     let outcomes = if workers == 1 {
         run_on_one(alloc, set, portfolios, gate)
     } else {
-        let lent = Lent {
-            rt,
-            alloc,
-            set,
-            gate,
-        };
-        run_on_many::<Brand, R, G>(&lent, portfolios, workers)
+        run_on_many::<Brand, R, G>(rt, alloc, set, portfolios, workers, gate)
     };
     outcomes.map_err(|_| PoolFault::OutOfMemory)
 }

@@ -8,7 +8,6 @@ mod ends;
 pub mod gates;
 mod idle;
 pub mod laws;
-pub mod lent;
 mod open_boards;
 pub mod outcomes;
 pub mod passes;

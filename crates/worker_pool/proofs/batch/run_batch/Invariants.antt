@@ -4,4 +4,4 @@ use Rattle.worker_pool.proofs.batch.run_batch.Given as goal
 
 -- the batch is the jobs of the portfolios
 abbrev pub ghosts-run_on_many : goal.ghosts-run_on_many
-ghosts-run_on_many g a = record { jobs = jobs_of (arc_value a.lent.now.set.now) a.portfolios.items }
+ghosts-run_on_many g a = record { jobs = jobs_of (arc_value a.set.now) a.portfolios.items }
