@@ -6,4 +6,3 @@ pub mod numbers;
 pub mod refusals;
 pub mod rolls;
 pub mod statements;
-pub mod statuses;

@@ -4,12 +4,13 @@
 ghost use Rattle.param_check.specs.declared.faults.CheckFault.TheVariants as check;
 ghost use Rattle.span_csv.specs.declared.faults.ParamFault.TheVariants as params;
 ghost use Rattle.statement.specs.Counts.{counts_of};
+ghost use Rattle.statement.specs.near.Samples.{commodity, fa, one_commodity, set_d1};
 ghost use Rattle.statement.specs.declared.faults.SpanFault.TheVariants as span_fault;
 ghost use Rattle.std.specs.Prelude.{◌++◌, ◌≡◌, Err, Ok, codes};
 
 // A set alone.
 fn nothing_but_a_set()
-    ensures { counts_of (codes "SET,D1,1,USD\n") ≡ Ok (codes "OK,D1,0,0,0,0,0,0\n") }
+    ensures { counts_of set_d1 ≡ Ok (codes "OK,D1,0,0,0,0,0,0\n") }
 {}
 
 // Each kind of record, a different number of times: commodities, contracts, tiers, intracommodity spreads, spot months
@@ -17,9 +18,7 @@ fn nothing_but_a_set()
 fn each_kind()
     ensures { counts_of (
         codes "SET,D_1,1,USD\n"
-        ++ codes "COMMODITY,AA,0,SUM\n"
-        ++ codes "COMMODITY,BB,0,SUM\n"
-        ++ codes "CONTRACT,FA,AA,F,202503,1,1,0,0,-400,-400,400,400,-800,-800,800,800,-1200,-1200,1200,1200,-1188,1188\n"
+        ++ commodity (codes "AA") ++ commodity (codes "BB") ++ fa
         ++ codes "TIER,AA,1,202501,202503\n"
         ++ codes "TIER,AA,2,202504,202506\n"
         ++ codes "TIER,AA,3,202507,202509\n"
@@ -43,7 +42,7 @@ fn each_kind()
 
 // No set, and a commodity twice.
 fn refused_files()
-    ensures no_set { counts_of (codes "COMMODITY,AA,0,SUM\n") ≡ Err (span_fault.Params (params.NoSet 1)) }
-    ensures commodity_twice { counts_of (codes "SET,D1,1,USD\nCOMMODITY,AA,0,SUM\nCOMMODITY,AA,0,SUM\n")
+    ensures no_set { counts_of (commodity (codes "AA")) ≡ Err (span_fault.Params (params.NoSet 1)) }
+    ensures commodity_twice { counts_of (one_commodity ++ commodity (codes "AA"))
         ≡ Err (span_fault.Check (check.DuplicateCommodity 3)) }
 {}

@@ -1,16 +1,27 @@
-//! The line of each fault, and the lines of a row, computed by the definitions.
+//! The line and the exit status of each fault, and the lines of a row, computed by the definitions.
 #![tactic(auto, unfolding(crate::specs::near::OnLiterals::on_literals))]
 
+ghost use Rattle.param_check.specs.Binding as bind_fault;
+ghost use Rattle.param_check.specs.CheckFaults as check_fault;
+ghost use Rattle.param_check.specs.declared.faults.BindFault.{BindFault};
 ghost use Rattle.param_check.specs.declared.faults.BindFault.TheVariants as bind;
+ghost use Rattle.param_check.specs.declared.faults.CheckFault.{CheckFault};
 ghost use Rattle.param_check.specs.declared.faults.CheckFault.TheVariants as check;
+ghost use Rattle.result_book.specs.BookFaults as book_fault;
+ghost use Rattle.result_book.specs.declared.books.BookFault.{BookFault};
 ghost use Rattle.result_book.specs.declared.books.BookFault.TheVariants as book;
+ghost use Rattle.span_csv.specs.ParamFaults as param_fault;
+ghost use Rattle.span_csv.specs.PositionFaults as position_fault;
+ghost use Rattle.span_csv.specs.declared.faults.ParamFault.{ParamFault};
 ghost use Rattle.span_csv.specs.declared.faults.ParamFault.TheVariants as params;
+ghost use Rattle.span_csv.specs.declared.faults.PositionFault.{PositionFault};
 ghost use Rattle.span_csv.specs.declared.faults.PositionFault.TheVariants as positions;
 ghost use Rattle.span_money.specs.LineFields.{line};
-ghost use Rattle.statement.specs.FaultLines.{fault_line};
+ghost use Rattle.statement.specs.FaultLines.{fault_line, fault_status};
 ghost use Rattle.statement.specs.Statement.{figures_line, total_line};
 ghost use Rattle.statement.specs.declared.faults.SpanFault.TheVariants as span_fault;
-ghost use Rattle.std.specs.Prelude.{◌≡◌, ◌∷◌, [], codes, neg_ℤ, pos};
+ghost use Rattle.statement.specs.declared.statuses.TheConstants.{DONE, FILE_FAILED};
+ghost use Rattle.std.specs.Prelude.{◌≡◌, ◌++◌, ◌∷◌, [], codes, false, neg_ℤ, pos};
 
 // Parameters that are not read.
 fn lines_of_parameters()
@@ -62,48 +73,22 @@ fn lines_of_unknown_accounts()
         ≡ codes "positions: E1 UnknownAccount account ACCOUNT-1234567_\n" }
 {}
 
-// Parameters of the next set that are not read.
-fn lines_of_next_parameters()
+// A fault under the next set has the line and the status of that fault under today's, with `next` in front of its file.
+fn faults_of_the_next_set()
+    ensures parameters { (e : ParamFault) → param_fault.is_memory e ≡ false
+        → fault_line (span_fault.NextParams e) ≡ codes "next " ++ fault_line (span_fault.Params e) }
+    ensures rules { (e : CheckFault) → check_fault.is_memory e ≡ false
+        → fault_line (span_fault.NextCheck e) ≡ codes "next " ++ fault_line (span_fault.Check e) }
+    ensures binding { (e : BindFault) → bind_fault.is_memory e ≡ false
+        → fault_line (span_fault.NextBind e) ≡ codes "next " ++ fault_line (span_fault.Bind e) }
     ensures p1 { fault_line (span_fault.NextParams (params.NoSet 0)) ≡ codes "next parameters: P1 NoSet at record 0\n" }
-    ensures p2 { fault_line (span_fault.NextParams (params.SecondSet 3)) ≡ codes "next parameters: P2 SecondSet at record 3\n" }
-    ensures p3 { fault_line (span_fault.NextParams (params.UnknownKind 3)) ≡ codes "next parameters: P3 UnknownKind at record 3\n" }
-    ensures p4 { fault_line (span_fault.NextParams (params.FieldCount 3)) ≡ codes "next parameters: P4 FieldCount at record 3\n" }
-    ensures p5 { fault_line (span_fault.NextParams (params.BadName 3)) ≡ codes "next parameters: P5 BadName at record 3\n" }
-    ensures p6 { fault_line (span_fault.NextParams (params.BadNumber 3)) ≡ codes "next parameters: P6 BadNumber at record 3\n" }
-    ensures p7 { fault_line (span_fault.NextParams (params.OutOfRange 3)) ≡ codes "next parameters: P7 OutOfRange at record 3\n" }
-    ensures p8 { fault_line (span_fault.NextParams (params.TooMany 1234567)) ≡ codes "next parameters: P8 TooMany at record 1234567\n" }
-    ensures memory { fault_line (span_fault.NextParams params.OutOfMemory) ≡ codes "memory\n" }
-{}
-
-// Parameters of the next set that break a rule.
-fn lines_of_next_rules()
-    ensures c1 { fault_line (span_fault.NextCheck (check.DuplicateCommodity 12))
-        ≡ codes "next parameters: C1 DuplicateCommodity at record 12\n" }
     ensures c2 { fault_line (span_fault.NextCheck (check.UnknownCommodity 12))
         ≡ codes "next parameters: C2 UnknownCommodity at record 12\n" }
-    ensures c3 { fault_line (span_fault.NextCheck (check.DuplicateContract 12))
-        ≡ codes "next parameters: C3 DuplicateContract at record 12\n" }
-    ensures c4 { fault_line (span_fault.NextCheck (check.DuplicateTier 12)) ≡ codes "next parameters: C4 DuplicateTier at record 12\n" }
-    ensures c5 { fault_line (span_fault.NextCheck (check.TierBackwards 12)) ≡ codes "next parameters: C5 TierBackwards at record 12\n" }
-    ensures c6 { fault_line (span_fault.NextCheck (check.TierOverlap 12)) ≡ codes "next parameters: C6 TierOverlap at record 12\n" }
-    ensures c7 { fault_line (span_fault.NextCheck (check.UnknownTier 12)) ≡ codes "next parameters: C7 UnknownTier at record 12\n" }
-    ensures c8 { fault_line (span_fault.NextCheck (check.RepeatedLeg 12)) ≡ codes "next parameters: C8 RepeatedLeg at record 12\n" }
-    ensures c9 { fault_line (span_fault.NextCheck (check.OneSided 12)) ≡ codes "next parameters: C9 OneSided at record 12\n" }
-    ensures c10 { fault_line (span_fault.NextCheck (check.DuplicatePriority 12))
-        ≡ codes "next parameters: C10 DuplicatePriority at record 12\n" }
-    ensures c11 { fault_line (span_fault.NextCheck (check.DuplicateSpot 12)) ≡ codes "next parameters: C11 DuplicateSpot at record 12\n" }
-    ensures memory { fault_line (span_fault.NextCheck check.OutOfMemory) ≡ codes "memory\n" }
-{}
-
-// Positions that do not fit the tables of the next set.
-fn lines_of_next_positions()
-    ensures b1 { fault_line (span_fault.NextBind (bind.UnknownContract 2 (codes "X")))
-        ≡ codes "next positions: B1 UnknownContract at record 2 account X\n" }
-    ensures b2 { fault_line (span_fault.NextBind (bind.NetOutOfRange 3 (codes "ACC-1")))
-        ≡ codes "next positions: B2 NetOutOfRange at record 3 account ACC-1\n" }
     ensures b3 { fault_line (span_fault.NextBind (bind.TooManyHeld 4 (codes "A_B")))
         ≡ codes "next positions: B3 TooManyHeld at record 4 account A_B\n" }
-    ensures memory { fault_line (span_fault.NextBind bind.OutOfMemory) ≡ codes "memory\n" }
+    ensures status_of_parameters { (e : ParamFault) → fault_status (span_fault.NextParams e) ≡ fault_status (span_fault.Params e) }
+    ensures status_of_rules { (e : CheckFault) → fault_status (span_fault.NextCheck e) ≡ fault_status (span_fault.Check e) }
+    ensures status_of_binding { (e : BindFault) → fault_status (span_fault.NextBind e) ≡ fault_status (span_fault.Bind e) }
 {}
 
 // What a book refused.
@@ -123,6 +108,37 @@ fn lines_of_the_rest()
     ensures memory_of_rules { fault_line (span_fault.Check check.OutOfMemory) ≡ codes "memory\n" }
     ensures memory_of_positions { fault_line (span_fault.Positions positions.OutOfMemory) ≡ codes "memory\n" }
     ensures memory_of_binding { fault_line (span_fault.Bind bind.OutOfMemory) ≡ codes "memory\n" }
+    ensures memory_of_next_parameters { fault_line (span_fault.NextParams params.OutOfMemory) ≡ codes "memory\n" }
+    ensures memory_of_next_rules { fault_line (span_fault.NextCheck check.OutOfMemory) ≡ codes "memory\n" }
+    ensures memory_of_next_binding { fault_line (span_fault.NextBind bind.OutOfMemory) ≡ codes "memory\n" }
+{}
+
+// The status of each kind of fault.
+fn statuses_of_faults()
+    ensures parameters { (e : ParamFault) → param_fault.is_memory e ≡ false → fault_status (span_fault.Params e) ≡ 3 }
+    ensures rules { (e : CheckFault) → check_fault.is_memory e ≡ false → fault_status (span_fault.Check e) ≡ 3 }
+    ensures positions { (e : PositionFault) → position_fault.is_memory e ≡ false → fault_status (span_fault.Positions e) ≡ 4 }
+    ensures binding { (e : BindFault) → bind_fault.is_memory e ≡ false → fault_status (span_fault.Bind e) ≡ 4 }
+    ensures book { (e : BookFault) → book_fault.is_memory e ≡ false → fault_status (span_fault.Book e) ≡ 7 }
+    ensures e1 { fault_status (span_fault.UnknownAccount (codes "X")) ≡ 4 }
+    ensures workers { fault_status span_fault.Workers ≡ 2 }
+    ensures shelf { fault_status span_fault.Shelf ≡ 7 }
+{}
+
+// The status of want of memory, also of a stage or a book.
+fn statuses_of_want_of_memory()
+    ensures memory { fault_status span_fault.Memory ≡ 5 }
+    ensures parameters { fault_status (span_fault.Params params.OutOfMemory) ≡ 5 }
+    ensures rules { fault_status (span_fault.Check check.OutOfMemory) ≡ 5 }
+    ensures positions { fault_status (span_fault.Positions positions.OutOfMemory) ≡ 5 }
+    ensures binding { fault_status (span_fault.Bind bind.OutOfMemory) ≡ 5 }
+    ensures book { fault_status (span_fault.Book book.OutOfMemory) ≡ 5 }
+{}
+
+// The statuses that no fault has.
+fn statuses_without_a_fault()
+    ensures done { DONE ≡ 0 }
+    ensures file { FILE_FAILED ≡ 6 }
 {}
 
 // The line of a commodity and that of a total.

@@ -7,14 +7,13 @@ ghost use Rattle.param_check.specs.declared.faults.CheckFault.TheVariants as che
 ghost use Rattle.span_csv.specs.declared.faults.ParamFault.TheVariants as params;
 ghost use Rattle.span_csv.specs.declared.faults.PositionFault.TheVariants as positions;
 ghost use Rattle.statement.specs.Rolls.{roll_of};
-ghost use Rattle.statement.specs.near.Samples.{one_future, spread_and_spot};
+ghost use Rattle.statement.specs.near.Samples.{commodity, one_future, spread_and_spot};
 ghost use Rattle.statement.specs.declared.faults.SpanFault.TheVariants as span_fault;
 
 // A short future, which loses more under the next set.
 fn two_statements()
     ensures { roll_of 1 one_future (
-        codes "SET,D2,1,USD\n"
-        ++ codes "COMMODITY,AA,0,SUM\n"
+        codes "SET,D2,1,USD\n" ++ commodity (codes "AA")
         ++ codes "CONTRACT,FA,AA,F,202503,1,1,0,0,-500,-500,500,500,-1000,-1000,1000,1000,-1500,-1500,1500,1500,-1485,1485\n")
         (codes "X,FA,-1\n")
         ≡ Ok (codes "R,X,D1,AA,1200,11,0,0,0,0,1200\nT,X,D1,1200\nR,X,D2,AA,1500,11,0,0,0,0,1500\nT,X,D2,1500\n") }
@@ -23,8 +22,7 @@ fn two_statements()
 // A future under a set without option values and then under one with them: each line is of its own set.
 fn into_option_values()
     ensures { roll_of 1 one_future (
-        codes "SET,D2,2,USD\n"
-        ++ codes "COMMODITY,AA,0,SUM\n"
+        codes "SET,D2,2,USD\n" ++ commodity (codes "AA")
         ++ codes "CONTRACT,FA,AA,F,202503,1,1,0,0,-400,-400,400,400,-800,-800,800,800,-1200,-1200,1200,1200,-1188,1188,0\n")
         (codes "X,FA,1\n")
         ≡ Ok (codes "R,X,D1,AA,1200,13,0,0,0,0,1200\nT,X,D1,1200\n"
@@ -45,7 +43,8 @@ fn empty_next_parameters()
 
 // A spread in two tiers with a spot month, at a higher rate under the next set.
 fn higher_rate()
-    ensures { roll_of 1 (spread_and_spot (codes "D1") (codes "250")) (spread_and_spot (codes "D2") (codes "300"))
+    ensures { roll_of 1
+        (spread_and_spot (codes "D1") (codes "250,1,A,1,2,B,1")) (spread_and_spot (codes "D2") (codes "300,1,A,1,2,B,1"))
         (codes "X,FA,3\nX,FA2,-2\n")
         ≡ Ok (codes "R,X,D1,AA,1200,13,500,40,0,0,1740\nT,X,D1,1740\n"
         ++ codes "R,X,D2,AA,1200,13,600,40,0,0,1840\nT,X,D2,1840\n") }
@@ -58,10 +57,6 @@ fn positions_before_the_next_set()
 
 // Next parameters that break a rule.
 fn next_set_breaks_a_rule()
-    ensures { roll_of 1 one_future (
-        codes "SET,D2,1,USD\n"
-        ++ codes "COMMODITY,AA,0,SUM\n"
-        ++ codes "COMMODITY,AA,0,SUM\n")
-        (codes "X,FA,-1\n")
+    ensures { roll_of 1 one_future (codes "SET,D2,1,USD\n" ++ commodity (codes "AA") ++ commodity (codes "AA")) (codes "X,FA,-1\n")
         ≡ Err (span_fault.NextCheck (check.DuplicateCommodity 3)) }
 {}
