@@ -3,4 +3,3 @@ pub mod FitLemmas
 pub mod OutcomeLemmas
 pub mod RollLemmas
 pub mod FaultLemmas
-pub mod SayLemmas

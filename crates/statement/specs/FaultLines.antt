@@ -33,16 +33,16 @@ abbrev pub workers_line : List ℕ
 workers_line = codes "workers: L1 Workers\n"
 
 -- a fault of a record of a file: what file, the fault's number and name, and the record's number
-abbrev pub record_line : List ℕ → List ℕ → ℕ → List ℕ
-record_line file code at = file ++ (codes ": " ++ (code ++ (codes " at record " ++ (decimal at ++ codes "\n"))))
-
--- the line of positions that do not fit the tables, up to the account
 abbrev pub place_text : List ℕ → List ℕ → ℕ → List ℕ
-place_text file code at = file ++ (codes ": " ++ (code ++ (codes " at record " ++ (decimal at ++ codes " account "))))
+place_text file code at = file ++ (codes ": " ++ (code ++ (codes " at record " ++ decimal at)))
 
--- that line, with the record's account
+-- the line of such a fault
+abbrev pub record_line : List ℕ → List ℕ → ℕ → List ℕ
+record_line file code at = place_text file code at ++ codes "\n"
+
+-- the line of positions that do not fit the tables, with the record's account
 abbrev pub account_line : List ℕ → List ℕ → ℕ → List ℕ → List ℕ
-account_line file code at account = place_text file code at ++ (account ++ codes "\n")
+account_line file code at account = place_text file code at ++ (codes " account " ++ (account ++ codes "\n"))
 
 -- the line of a parameter file's fault
 abbrev pub param_line : List ℕ → ParamFault → List ℕ

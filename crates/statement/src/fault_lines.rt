@@ -1,10 +1,10 @@
 //! The lines that say why there is no statement (docs/FORMATS.md, Fault lines and statuses).
 ghost use Rattle.statement.specs.FaultLines.{account_line, bind_line, book_line, check_line, fault_line, param_line};
-ghost use Rattle.statement.specs.FaultLines.{place_text, position_line, record_line};
+ghost use Rattle.statement.specs.FaultLines.{position_line, record_line};
 ghost use Rattle.statement.specs.near.LineParts.{text_of};
 ghost use Rattle.statement.specs.Streams.{Says};
 ghost use Rattle.std.specs.Io.KnownBytes.{Appends};
-ghost use Rattle.std.specs.Prelude.{◌++◌, ◌≡◌, OnOk, codes};
+ghost use Rattle.std.specs.Prelude.{◌≡◌, OnOk, codes};
 
 use crate::faults::SpanFault;
 use crate::marked_writer::MarkedWriter;
@@ -12,24 +12,40 @@ use param_check::faults::{BindFault, CheckFault};
 use result_book::books::BookFault;
 use span_csv::faults::{ParamFault, PositionFault};
 use span_tables::name::Name;
-use std::io;
+use std::fmt::Display;
 use std::io::Write;
+use std::{fmt, io};
+
+// Where a fault is: the file that it is told of, the fault's number and name, and the record's number.
+#[derive(Clone, Copy)]
+struct RecordPlace {
+    file: &'static str,
+    code: &'static str,
+    at: usize,
+}
+
+impl Display for RecordPlace {
+    ghost use Rattle.statement.specs.near.LineParts.{place_of};
+    ghost use Rattle.std.specs.Prelude.{Some};
+
+    ghost output = { λ place. Some (place_of place) };
+
+    fn fmt<W: fmt::Write>(&self, f: &mut fmt::Formatter<W>) -> fmt::Result {
+        let RecordPlace { file, code, at } = *self;
+        write!(f, "{file}: {code} at record {at}")
+    }
+}
 
 // What the line of a fault says.
 #[derive(Clone, Copy)]
 enum Line<'a> {
-    // A fault of a record: the file that it stands in, the fault's number and name, and the record's number.
+    // A fault of a record.
     Record {
-        file: &'static str,
-        code: &'static str,
-        at: usize,
+        place: RecordPlace,
     },
-    // Positions that do not fit the tables: the file that they are named after, the fault's number and name, the record's
-    // number and its account.
+    // Positions that do not fit the tables: the record and its account.
     Account {
-        file: &'static str,
-        code: &'static str,
-        at: usize,
+        place: RecordPlace,
         account: &'a Name,
     },
     // An account that the positions do not have.
@@ -48,11 +64,33 @@ enum Line<'a> {
     Memory,
 }
 
+impl<'a> Display for Line<'a> {
+    ghost use Rattle.statement.specs.near.LineParts.{text_of};
+    ghost use Rattle.std.specs.Prelude.{Some};
+
+    ghost output = { λ line. Some (text_of line) };
+
+    fn fmt<W: fmt::Write>(&self, f: &mut fmt::Formatter<W>) -> fmt::Result {
+        match self {
+            Line::Record { place } => writeln!(f, "{place}"),
+            Line::Account { place, account } => writeln!(f, "{place} account {account}"),
+            Line::UnknownAccount { account } => {
+                writeln!(f, "positions: E1 UnknownAccount account {account}")
+            }
+            Line::Workers => writeln!(f, "workers: L1 Workers"),
+            Line::Book { code } => writeln!(f, "book: {code}"),
+            Line::Shelf => writeln!(f, "shelf"),
+            Line::Memory => writeln!(f, "memory"),
+        }
+    }
+}
+
 // A fault of a record of a file.
 fn in_file(file: &'static str, code: &'static str, at: usize) -> Line<'static>
     ensures { text_of result ≡ record_line file.entry.now code.entry.now at }
 {
-    Line::Record { file, code, at }
+    let place = RecordPlace { file, code, at };
+    Line::Record { place }
 }
 
 // A fault of a record of the positions.
@@ -66,12 +104,8 @@ fn in_positions(code: &'static str, at: usize) -> Line<'static>
 fn of_account<'a>(file: &'static str, code: &'static str, at: usize, account: &'a Name) -> Line<'a>
     ensures { text_of result ≡ account_line file.entry.now code.entry.now at account.entry.now }
 {
-    Line::Account {
-        file,
-        code,
-        at,
-        account,
-    }
+    let place = RecordPlace { file, code, at };
+    Line::Account { place, account }
 }
 
 fn param_line(file: &'static str, fault: &ParamFault) -> Line<'static>
@@ -180,124 +214,12 @@ fn line_of(fault: &SpanFault) -> Line<'_>
     }
 }
 
-// Writes the line of positions that do not fit, up to the account.
-fn write_start<W: Write>(file: &str, code: &str, at: usize, out: &mut W) -> io::Result<()>
-    ensures { OnOk result (Appends (W.contents out.old) (W.contents out.new) (place_text file.now code.now at)) }
-{
-    write!(out, "{file}: {code} at record {at} account ")
-}
-
-// Writes the rest of it.
-fn write_account<W: Write>(account: &Name, out: &mut W) -> io::Result<()>
-    ensures { OnOk result (Appends (W.contents out.old) (W.contents out.new) (account.now ++ codes "\n")) }
-{
-    out.write_all(account.as_bytes())?;
-    out.write_all(b"\n")
-}
-
-// Writes that line.
-fn write_place<W: Write>(
-    file: &str,
-    code: &str,
-    at: usize,
-    account: &Name,
-    out: &mut W,
-) -> io::Result<()>
-    ensures { OnOk result (Appends (W.contents out.old) (W.contents out.new) (account_line file.now code.now at account.now)) }
-{
-    write_start(file, code, at, out)?;
-    write_account(account, out)
-}
-
-// Writes a line.
-fn write_line<W: Write>(line: &Line<'_>, out: &mut W) -> io::Result<()>
-    ensures { OnOk result (Appends (W.contents out.old) (W.contents out.new) (text_of line.now)) }
-{
-    match line {
-        Line::Record { file, code, at } => writeln!(out, "{file}: {code} at record {at}"),
-        Line::Account {
-            file,
-            code,
-            at,
-            account,
-        } => write_place(file, code, *at, account, out),
-        Line::UnknownAccount { account } => {
-            writeln!(out, "positions: E1 UnknownAccount account {account}")
-        }
-        Line::Workers => writeln!(out, "workers: L1 Workers"),
-        Line::Book { code } => writeln!(out, "book: {code}"),
-        Line::Shelf => writeln!(out, "shelf"),
-        Line::Memory => writeln!(out, "memory"),
-    }
-}
-
 /// Writes the line of a fault.
 pub fn write_fault<W: Write>(fault: &SpanFault, out: &mut W) -> io::Result<()>
     ensures { OnOk result (Appends (W.contents out.old) (W.contents out.new) (fault_line fault.now)) }
 {
     let line = line_of(fault);
-    write_line(&line, out)
-}
-
-// Tells the line of positions that do not fit, up to the account.
-fn tell_start<W: Write>(file: &str, code: &str, at: usize, out: &mut MarkedWriter<W>)
-    ensures { Says out.old out.new (place_text file.now code.now at) }
-{
-    let _ = write!(out, "{file}: {code} at record {at} account ");
-}
-
-// Tells the rest of it.
-fn tell_account<W: Write>(account: &Name, out: &mut MarkedWriter<W>)
-    ensures { Says out.old out.new (account.now ++ codes "\n") }
-{
-    let _ = out.write_all(account.as_bytes());
-    let _ = out.write_all(b"\n");
-}
-
-// Tells that line.
-fn tell_place<W: Write>(
-    file: &str,
-    code: &str,
-    at: usize,
-    account: &Name,
-    out: &mut MarkedWriter<W>,
-)
-    ensures { Says out.old out.new (account_line file.now code.now at account.now) }
-{
-    tell_start(file, code, at, out);
-    tell_account(account, out);
-}
-
-// Tells a line.
-fn tell_line<W: Write>(line: &Line<'_>, out: &mut MarkedWriter<W>)
-    ensures { Says out.old out.new (text_of line.now) }
-{
-    match line {
-        Line::Record { file, code, at } => {
-            let _ = writeln!(out, "{file}: {code} at record {at}");
-        }
-        Line::Account {
-            file,
-            code,
-            at,
-            account,
-        } => tell_place(file, code, *at, account, out),
-        Line::UnknownAccount { account } => {
-            let _ = writeln!(out, "positions: E1 UnknownAccount account {account}");
-        }
-        Line::Workers => {
-            let _ = writeln!(out, "workers: L1 Workers");
-        }
-        Line::Book { code } => {
-            let _ = writeln!(out, "book: {code}");
-        }
-        Line::Shelf => {
-            let _ = writeln!(out, "shelf");
-        }
-        Line::Memory => {
-            let _ = writeln!(out, "memory");
-        }
-    }
+    write!(out, "{line}")
 }
 
 /// Writes the line of a fault to a writer that remembers a failed write.
@@ -305,5 +227,5 @@ pub fn tell_fault<W: Write>(fault: &SpanFault, out: &mut MarkedWriter<W>)
     ensures { Says out.old out.new (fault_line fault.now) }
 {
     let line = line_of(fault);
-    tell_line(&line, out);
+    let _ = write!(out, "{line}");
 }
