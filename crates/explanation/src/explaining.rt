@@ -3,7 +3,7 @@ ghost use Rattle.std.specs.Arc.{arc_value};
 ghost use Rattle.std.specs.Prelude.{◌≡◌, ◌++◌, All, IfOk, IfSome, OnOk, bytes_eq, find, flat_map, length, true};
 ghost use Rattle.std.specs.Option.{option_copied};
 ghost use Rattle.span_tables.specs.Holdings.{fits};
-ghost use Rattle.statement.specs.Answers.{Gives};
+ghost use Rattle.statement.specs.Gives.{Gives};
 ghost use Rattle.statement.specs.declared.faults.SpanFault.TheVariants as fault;
 ghost use Rattle.explanation.specs.Explanation.{account_text, explained, explanation_of};
 

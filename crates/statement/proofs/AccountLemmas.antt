@@ -84,7 +84,7 @@ accounts_of_rows : (set : SetView) (portfolios : List AccountHoldings)
 accounts_of_rows set [] = refl
 accounts_of_rows set (p ∷ portfolios) = ap (λ others. p.account ∷ others) (accounts_of_rows set portfolios)
 
--- none has two of the rows
+-- no account has two of the rows of portfolios
 pub rows_once : (set : SetView) (portfolios : List AccountHoldings) (rows : List RowView) → rows ≡ rows_under set portfolios
     → AreOnce portfolios → HasNoAccountTwice rows
 rows_once set portfolios rows is once =

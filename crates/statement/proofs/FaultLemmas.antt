@@ -6,7 +6,11 @@ use Rattle.span_tables.specs.Tables.{AcceptedTables}
 use Rattle.span_tables.specs.declared.records.PositionRecord.{PositionRecord}
 use Rattle.param_check.specs.CheckFaults.{checked}
 use Rattle.param_check.specs.Binding.{bindings_of}
-use Rattle.statement.specs.Answers.{Gives}
+use Rattle.param_check.specs.declared.faults.BindFault.{BindFault}
+use Rattle.param_check.specs.declared.faults.CheckFault.{CheckFault}
+use Rattle.span_csv.specs.declared.faults.ParamFault.{ParamFault}
+use Rattle.span_csv.specs.declared.faults.PositionFault.{PositionFault}
+use Rattle.statement.specs.Gives.{Gives}
 use Rattle.statement.specs.Statement.{accepted_of, and_then, portfolios_under, same, statement_bound, statement_of, statement_under}
 use Rattle.statement.specs.declared.faults.SpanFault.{SpanFault}
 use Rattle.statement.specs.declared.faults.SpanFault.TheVariants as fault
@@ -18,6 +22,23 @@ is_of_files (fault.Check e) = true
 is_of_files (fault.Positions e) = true
 is_of_files (fault.Bind e) = true
 is_of_files e = false
+
+-- what holds of each fault of reading, checking and binding holds of each fault of two files
+pub each_of_files : (P : SpanFault → Type 0) → ((f : ParamFault) → P (fault.Params f)) → ((f : CheckFault) → P (fault.Check f))
+    → ((f : PositionFault) → P (fault.Positions f)) → ((f : BindFault) → P (fault.Bind f))
+    → (e : SpanFault) → is_of_files e ≡ true → P e
+each_of_files P params check positions bind (fault.Params f) is = params f
+each_of_files P params check positions bind (fault.Check f) is = check f
+each_of_files P params check positions bind (fault.Positions f) is = positions f
+each_of_files P params check positions bind (fault.Bind f) is = bind f
+each_of_files P params check positions bind (fault.NextParams f) is = absurd (true≢false (sym is))
+each_of_files P params check positions bind (fault.NextCheck f) is = absurd (true≢false (sym is))
+each_of_files P params check positions bind (fault.NextBind f) is = absurd (true≢false (sym is))
+each_of_files P params check positions bind (fault.UnknownAccount account) is = absurd (true≢false (sym is))
+each_of_files P params check positions bind fault.Workers is = absurd (true≢false (sym is))
+each_of_files P params check positions bind (fault.Book f) is = absurd (true≢false (sym is))
+each_of_files P params check positions bind fault.Shelf is = absurd (true≢false (sym is))
+each_of_files P params check positions bind fault.Memory is = absurd (true≢false (sym is))
 
 -- what follows an outcome has such faults alone, where its fault and what follows it have
 and_then_of_files : {A B F : Type 0} (named : F → SpanFault) (r : Result A F) (next : A → Result B SpanFault) (e : SpanFault)
@@ -52,7 +73,7 @@ statement_of_files params positions e is =
     and_then_of_files fault.Positions (positions_of positions) _ e (λ f h. refl) (λ records.
     bound_of_files tables records e)) is
 
--- so a call that gives its text never says that there are too many workers
+-- a call that gives the statement of two files never says that there are too many workers
 pub never_workers : {Y : Type 0} (text : Y → List ℕ) (r : Result Y SpanFault) (params positions : List ℕ)
     → Gives text r (statement_of params positions) → r ≡ Err fault.Workers → ⊥
 never_workers text (Ok y) params positions gives e = cc

@@ -1,8 +1,7 @@
 -- What a roll gives, from what its halves give.
 use Rattle.std.proofs.Common.{◌≡◌, ◌∙◌, ◌⊎◌, ◌<◌, ℕ, List, [], ◌∷◌, Bool, true, false, ◌++◌}
-use Rattle.std.proofs.Common.{Ok, Err, Result, length}
-use Rattle.std.proofs.Common.{refl, sym, ap, subst, inl, inr, arith, true≢false}
-use Rattle.std.specs.Prelude.{IfErr, IfOk, if◌then◌else◌, ◌==◌, ◌||◌, nat_lt}
+use Rattle.std.proofs.Common.{Ok, Err, Result, refl, ap, subst, inl, inr, arith}
+use Rattle.std.specs.Prelude.{IfErr, IfOk, if◌then◌else◌, ◌==◌, ◌&&◌, ◌||◌, nat_lt}
 use Rattle.std.proofs.lemmas.Bool.Decides.{nat_tests}
 use Rattle.worker_pool.specs.declared.batch.TheConstants.{MAX_WORKERS}
 use Rattle.span_csv.specs.PositionFaults.{positions_of}
@@ -10,21 +9,59 @@ use Rattle.plan_compiler.specs.Compiled.{SetView}
 use Rattle.plan_shelf.specs.Publications.{IsLast}
 use Rattle.span_tables.specs.Tables.{AcceptedTables}
 use Rattle.span_tables.specs.declared.records.PositionRecord.{PositionRecord}
-use Rattle.statement.specs.Answers.{is_memory}
+use Rattle.statement.specs.Gives.{is_memory}
 use Rattle.result_book.specs.declared.books.BookFault.{BookFault}
 use Rattle.result_book.specs.declared.books.BookFault.TheVariants as book
 use Rattle.span_tables.specs.Net.{AccountHoldings}
 use Rattle.statement.specs.Rolls.{GivesRoll, Refuses, RefusesRoll, is_ok, roll_of}
 use Rattle.statement.specs.near.SpanFaults.{of_book}
-use Rattle.statement.specs.Rolls.{of_next}
+use Rattle.statement.specs.Rolls.{of_next_set}
 use Rattle.statement.specs.Statement.{accepted_of, and_then, margin_of, portfolios_under, same}
 use Rattle.statement.specs.Statement.{statement_bound, statement_of, statement_text, statement_under}
 use Rattle.statement.specs.near.Seconds.{IsPublished, RefusesNext, RefusesSecond, RefusesUnder, Rolls, RollsUnder}
 use Rattle.statement.specs.near.Seconds.{second_of}
 use Rattle.statement.specs.declared.faults.SpanFault.{SpanFault}
 use Rattle.statement.specs.declared.faults.SpanFault.TheVariants as fault
-use Rattle.statement.proofs.FaultLemmas.{accepted_of_files, bound_of_files, is_of_files, portfolios_of_files}
+use Rattle.statement.proofs.FaultLemmas.{accepted_of_files, bound_of_files, each_of_files, is_of_files, portfolios_of_files}
 use Rattle.statement.proofs.FaultLemmas.{statement_of_files}
+
+-- ---- what refuses
+
+-- what refuses an answer refuses each other that has its faults, where as much may be kept and published
+refused_too : {A B : Type 0} (answer : Result A SpanFault) (other : Result B SpanFault)
+    (may_keep may_publish other_keeps other_publishes : Bool) (e : SpanFault)
+    → ((x : SpanFault) → answer ≡ Err x → other ≡ Err x)
+    → (may_keep ≡ true → other_keeps ≡ true) → (may_publish ≡ true → other_publishes ≡ true)
+    → Refuses answer may_keep may_publish e → Refuses other other_keeps other_publishes e
+refused_too answer other k p ok op fault.Memory faults keeps publishes h = tt
+refused_too answer other k p ok op (fault.Book f) faults keeps publishes h = (h.0, keeps h.1)
+refused_too answer other k p ok op fault.Shelf faults keeps publishes h = publishes h
+refused_too answer other k p ok op fault.Workers faults keeps publishes h = (h.0, faults _ h.1)
+refused_too answer other k p ok op (fault.Params f) faults keeps publishes h = (h.0, faults _ h.1)
+refused_too answer other k p ok op (fault.Check f) faults keeps publishes h = (h.0, faults _ h.1)
+refused_too answer other k p ok op (fault.Positions f) faults keeps publishes h = (h.0, faults _ h.1)
+refused_too answer other k p ok op (fault.Bind f) faults keeps publishes h = (h.0, faults _ h.1)
+refused_too answer other k p ok op (fault.NextParams f) faults keeps publishes h = (h.0, faults _ h.1)
+refused_too answer other k p ok op (fault.NextCheck f) faults keeps publishes h = (h.0, faults _ h.1)
+refused_too answer other k p ok op (fault.NextBind f) faults keeps publishes h = (h.0, faults _ h.1)
+refused_too answer other k p ok op (fault.UnknownAccount account) faults keeps publishes h = (h.0, faults _ h.1)
+
+-- a fault of two files refuses the answer that has it
+refused_by_own : {A : Type 0} (answer : Result A SpanFault) (may_keep may_publish : Bool) (e : SpanFault)
+    → is_of_files e ≡ true → is_memory e ≡ false → answer ≡ Err e → Refuses answer may_keep may_publish e
+refused_by_own answer k p e files =
+    each_of_files (λ x. is_memory x ≡ false → answer ≡ Err x → Refuses answer k p x)
+    (λ f named is. (named, is)) (λ f named is. (named, is)) (λ f named is. (named, is)) (λ f named is. (named, is)) e files
+
+-- a fault of two files, under the name that it has in the next set, refuses the answer that has it
+refused_by_next : {A : Type 0} (answer : Result A SpanFault) (may_keep may_publish : Bool) (e : SpanFault)
+    → is_of_files e ≡ true → is_memory e ≡ false → answer ≡ Err (of_next_set e)
+    → Refuses answer may_keep may_publish (of_next_set e)
+refused_by_next answer k p e files =
+    each_of_files (λ x. is_memory x ≡ false → answer ≡ Err (of_next_set x) → Refuses answer k p (of_next_set x))
+    (λ f named is. (named, is)) (λ f named is. (named, is)) (λ f named is. (named, is)) (λ f named is. (named, is)) e files
+
+-- ---- the first half
 
 -- positions that were read are bound to the tables
 under_read : (tables : AcceptedTables) (positions : List ℕ) (records : List PositionRecord) → positions_of positions ≡ Ok records
@@ -35,18 +72,18 @@ under_read tables positions records read = rw (read) refl
 -- the second statement, by the records of the positions
 second_read : (next positions : List ℕ) (records : List PositionRecord) (f : List ℕ → List ℕ)
     → positions_of positions ≡ Ok records
-    → and_then of_next (statement_of next positions) (λ text. Ok (f text))
+    → and_then of_next_set (statement_of next positions) (λ text. Ok (f text))
     ≡ and_then same (second_of next records) (λ text. Ok (f text))
 unfolding statement_of second_of
 second_read next positions records f read = by_tables (accepted_of next) where
-  by_text : (r : Result (List ℕ) SpanFault) → and_then of_next r (λ text. Ok (f text))
-      ≡ and_then same (and_then of_next r (λ text. Ok text)) (λ text. Ok (f text))
+  by_text : (r : Result (List ℕ) SpanFault) → and_then of_next_set r (λ text. Ok (f text))
+      ≡ and_then same (and_then of_next_set r (λ text. Ok text)) (λ text. Ok (f text))
   by_text (Ok text) = refl
   by_text (Err e) = refl
 
   by_tables : (r : Result AcceptedTables SpanFault)
-      → and_then of_next (and_then same r (λ tables. statement_under tables positions)) (λ text. Ok (f text))
-      ≡ and_then same (and_then of_next r (λ tables. and_then of_next (statement_bound tables records) (λ text. Ok text)))
+      → and_then of_next_set (and_then same r (λ tables. statement_under tables positions)) (λ text. Ok (f text))
+      ≡ and_then same (and_then of_next_set r (λ tables. and_then of_next_set (statement_bound tables records) (λ text. Ok text)))
       (λ text. Ok (f text))
   by_tables (Ok tables) = rw (under_read tables positions records read) (by_text (statement_bound tables records))
   by_tables (Err e) = refl
@@ -63,31 +100,12 @@ roll_is workers params next positions first records stands read =
 pub refused_second : (workers : ℕ) (params next positions first : List ℕ) (records : List PositionRecord) (e : SpanFault)
     → margin_of workers params positions ≡ Ok first → positions_of positions ≡ Ok records
     → RefusesSecond next records e → RefusesRoll workers params next positions e
-refused_second workers params next positions first records e stands read refused = by_fault e refused where
-  is : is_ok (margin_of workers params positions) ≡ true
-  is = rw (stands) refl
-
-  of_second : (x : SpanFault) → (is_memory x ≡ false) × (second_of next records ≡ Err x)
-      → (is_memory x ≡ false) × (roll_of workers params next positions ≡ Err x)
-  of_second x h = (
-    h.0,
-    roll_is workers params next positions first records stands read
-        ∙ ap (λ r. and_then same r (λ second. Ok (first ++ second))) h.1,
-  )
-
-  by_fault : (x : SpanFault) → RefusesSecond next records x → RefusesRoll workers params next positions x
-  by_fault fault.Memory h = tt
-  by_fault (fault.Book f) h = (h.0, is)
-  by_fault fault.Shelf h = rw (is) h
-  by_fault fault.Workers h = of_second fault.Workers h
-  by_fault (fault.Params f) h = of_second (fault.Params f) h
-  by_fault (fault.Check f) h = of_second (fault.Check f) h
-  by_fault (fault.Positions f) h = of_second (fault.Positions f) h
-  by_fault (fault.Bind f) h = of_second (fault.Bind f) h
-  by_fault (fault.NextParams f) h = of_second (fault.NextParams f) h
-  by_fault (fault.NextCheck f) h = of_second (fault.NextCheck f) h
-  by_fault (fault.NextBind f) h = of_second (fault.NextBind f) h
-  by_fault (fault.UnknownAccount account) h = of_second (fault.UnknownAccount account) h
+refused_second workers params next positions first records e stands read =
+    refused_too (second_of next records) (roll_of workers params next positions) true (is_ok (accepted_of next))
+    (is_ok (margin_of workers params positions)) (is_ok (margin_of workers params positions) && is_ok (accepted_of next)) e
+    (λ x h. roll_is workers params next positions first records stands read
+    ∙ ap (λ r. and_then same r (λ second. Ok (first ++ second))) h)
+    (λ may. rw (stands) refl) (λ may. rw (stands) may)
 
 -- a roll is refused for what refuses its first statement
 pub refused_first : (workers : ℕ) (params next positions : List ℕ) (e : SpanFault)
@@ -97,47 +115,24 @@ pub refused_first : (workers : ℕ) (params next positions : List ℕ) (e : Span
 unfolding roll_of
 refused_first workers params next positions e same_text (inl memory) = rw (memory) tt
 refused_first workers params next positions e same_text (inr named) =
-    by_fault e named.0 named.1 (statement_of_files params positions e named.1) where
-      by_fault : (x : SpanFault) → is_memory x ≡ false → statement_of params positions ≡ Err x → is_of_files x ≡ true
-          → RefusesRoll workers params next positions x
-      by_fault (fault.Params f) m h of_files = (m, rw (same_text, h) refl)
-      by_fault (fault.Check f) m h of_files = (m, rw (same_text, h) refl)
-      by_fault (fault.Positions f) m h of_files = (m, rw (same_text, h) refl)
-      by_fault (fault.Bind f) m h of_files = (m, rw (same_text, h) refl)
-      by_fault (fault.NextParams f) m h of_files = cc
-      by_fault (fault.NextCheck f) m h of_files = cc
-      by_fault (fault.NextBind f) m h of_files = cc
-      by_fault (fault.UnknownAccount account) m h of_files = cc
-      by_fault fault.Workers m h of_files = cc
-      by_fault (fault.Book f) m h of_files = cc
-      by_fault fault.Shelf m h of_files = cc
-      by_fault fault.Memory m h of_files = cc
+    refused_by_own (roll_of workers params next positions) _ _ e (statement_of_files params positions e named.1) named.0
+    (rw (same_text, named.1) refl)
 
 -- the second half is never refused for the number of workers
 pub second_never_workers : (next : List ℕ) (records : List PositionRecord) → RefusesSecond next records fault.Workers → ⊥
 unfolding second_of
 second_never_workers next records h = by_tables (accepted_of next) (λ e is. accepted_of_files next e is) h.1 where
-  renamed : (e : SpanFault) → is_of_files e ≡ true → of_next e ≡ fault.Workers → ⊥
-  renamed (fault.Params f) of_files is = cc
-  renamed (fault.Check f) of_files is = cc
-  renamed (fault.Positions f) of_files is = cc
-  renamed (fault.Bind f) of_files is = cc
-  renamed (fault.NextParams f) of_files is = cc
-  renamed (fault.NextCheck f) of_files is = cc
-  renamed (fault.NextBind f) of_files is = cc
-  renamed (fault.UnknownAccount account) of_files is = cc
-  renamed fault.Workers of_files is = cc
-  renamed (fault.Book f) of_files is = cc
-  renamed fault.Shelf of_files is = cc
-  renamed fault.Memory of_files is = cc
+  renamed : (e : SpanFault) → is_of_files e ≡ true → of_next_set e ≡ fault.Workers → ⊥
+  renamed e files =
+      each_of_files (λ x. of_next_set x ≡ fault.Workers → ⊥) (λ f is. cc) (λ f is. cc) (λ f is. cc) (λ f is. cc) e files
 
   by_text : (tables : AcceptedTables) (r : Result (List ℕ) SpanFault) → statement_bound tables records ≡ r
-      → and_then of_next r (λ text. Ok text) ≡ Err fault.Workers → ⊥
+      → and_then of_next_set r (λ text. Ok text) ≡ Err fault.Workers → ⊥
   by_text tables (Ok text) bound is = cc
   by_text tables (Err e) bound is = renamed e (bound_of_files tables records e bound) (cc)
 
   by_tables : (r : Result AcceptedTables SpanFault) → ((e : SpanFault) → r ≡ Err e → is_of_files e ≡ true)
-      → and_then of_next r (λ tables. and_then of_next (statement_bound tables records) (λ text. Ok text)) ≡ Err fault.Workers → ⊥
+      → and_then of_next_set r (λ tables. and_then of_next_set (statement_bound tables records) (λ text. Ok text)) ≡ Err fault.Workers → ⊥
   by_tables (Ok tables) files is = by_text tables (statement_bound tables records) refl is
   by_tables (Err e) files is = renamed e (files e refl) (cc)
 
@@ -145,111 +140,54 @@ second_never_workers next records h = by_tables (accepted_of next) (λ e is. acc
 
 -- the next set is refused, under the name that its fault has there
 pub refused_set : (next : List ℕ) (e : SpanFault)
-    → (e ≡ fault.Memory) ⊎ ((is_memory e ≡ false) × (accepted_of next ≡ Err e)) → RefusesNext next (of_next e)
+    → (e ≡ fault.Memory) ⊎ ((is_memory e ≡ false) × (accepted_of next ≡ Err e)) → RefusesNext next (of_next_set e)
 refused_set next e (inl memory) = rw (memory) tt
-refused_set next e (inr named) = by_fault e named.0 named.1 (accepted_of_files next e named.1) where
-  by_fault : (x : SpanFault) → is_memory x ≡ false → accepted_of next ≡ Err x → is_of_files x ≡ true
-      → RefusesNext next (of_next x)
-  by_fault (fault.Params f) m h of_files = (m, rw (h) refl)
-  by_fault (fault.Check f) m h of_files = (m, rw (h) refl)
-  by_fault (fault.Positions f) m h of_files = (m, rw (h) refl)
-  by_fault (fault.Bind f) m h of_files = (m, rw (h) refl)
-  by_fault (fault.NextParams f) m h of_files = cc
-  by_fault (fault.NextCheck f) m h of_files = cc
-  by_fault (fault.NextBind f) m h of_files = cc
-  by_fault (fault.UnknownAccount account) m h of_files = cc
-  by_fault fault.Workers m h of_files = cc
-  by_fault (fault.Book f) m h of_files = cc
-  by_fault fault.Shelf m h of_files = cc
-  by_fault fault.Memory m h of_files = cc
+refused_set next e (inr named) =
+    refused_by_next (and_then of_next_set (accepted_of next) (λ tables. Ok tables)) false _ e
+    (accepted_of_files next e named.1) named.0 (rw (named.1) refl)
 
 -- the positions are refused under the next set
 pub refused_bound : (tables : AcceptedTables) (records : List PositionRecord) (e : SpanFault)
     → (e ≡ fault.Memory) ⊎ ((is_memory e ≡ false) × (portfolios_under tables records ≡ Err e))
-    → RefusesUnder tables records (of_next e)
+    → RefusesUnder tables records (of_next_set e)
 unfolding statement_bound
 refused_bound tables records e (inl memory) = rw (memory) tt
 refused_bound tables records e (inr named) =
-    by_fault e named.0 named.1 (portfolios_of_files tables records e named.1) where
-      by_fault : (x : SpanFault) → is_memory x ≡ false → portfolios_under tables records ≡ Err x → is_of_files x ≡ true
-          → RefusesUnder tables records (of_next x)
-      by_fault (fault.Params f) m h of_files = (m, rw (h) refl)
-      by_fault (fault.Check f) m h of_files = (m, rw (h) refl)
-      by_fault (fault.Positions f) m h of_files = (m, rw (h) refl)
-      by_fault (fault.Bind f) m h of_files = (m, rw (h) refl)
-      by_fault (fault.NextParams f) m h of_files = cc
-      by_fault (fault.NextCheck f) m h of_files = cc
-      by_fault (fault.NextBind f) m h of_files = cc
-      by_fault (fault.UnknownAccount account) m h of_files = cc
-      by_fault fault.Workers m h of_files = cc
-      by_fault (fault.Book f) m h of_files = cc
-      by_fault fault.Shelf m h of_files = cc
-      by_fault fault.Memory m h of_files = cc
+    refused_by_next (and_then of_next_set (statement_bound tables records) (λ text. Ok text)) true false e
+    (portfolios_of_files tables records e named.1) named.0 (rw (named.1) refl)
 
 -- what refuses the next set refuses the second statement
 pub next_refuses : (next : List ℕ) (records : List PositionRecord) (e : SpanFault) → RefusesNext next e
     → RefusesSecond next records e
 unfolding second_of
-next_refuses next records e refused = by_fault e refused where
-  go_on : (r : Result AcceptedTables SpanFault) (x : SpanFault) → and_then of_next r (λ tables. Ok tables) ≡ Err x
-      → and_then of_next r (λ tables. and_then of_next (statement_bound tables records) (λ text. Ok text)) ≡ Err x
-  go_on (Ok tables) x h = cc
-  go_on (Err f) x h = cc
+next_refuses next records e =
+    refused_too (and_then of_next_set (accepted_of next) (λ tables. Ok tables)) (second_of next records) false
+    (is_ok (accepted_of next)) true (is_ok (accepted_of next)) e (go_on (accepted_of next)) (λ may. refl) (λ may. may) where
+      go_on : (r : Result AcceptedTables SpanFault) (x : SpanFault) → and_then of_next_set r (λ tables. Ok tables) ≡ Err x
+          → and_then of_next_set r (λ tables. and_then of_next_set (statement_bound tables records) (λ text. Ok text)) ≡ Err x
+      go_on (Ok tables) x h = cc
+      go_on (Err f) x h = cc
 
-  named : (x : SpanFault) → (is_memory x ≡ false) × (and_then of_next (accepted_of next) (λ tables. Ok tables) ≡ Err x)
-      → (is_memory x ≡ false) × (second_of next records ≡ Err x)
-  named x h = (h.0, go_on (accepted_of next) x h.1)
-
-  by_fault : (x : SpanFault) → RefusesNext next x → RefusesSecond next records x
-  by_fault fault.Memory h = tt
-  by_fault (fault.Book f) h = absurd (true≢false (sym h.1))
-  by_fault fault.Shelf h = h
-  by_fault fault.Workers h = named fault.Workers h
-  by_fault (fault.Params f) h = named (fault.Params f) h
-  by_fault (fault.Check f) h = named (fault.Check f) h
-  by_fault (fault.Positions f) h = named (fault.Positions f) h
-  by_fault (fault.Bind f) h = named (fault.Bind f) h
-  by_fault (fault.NextParams f) h = named (fault.NextParams f) h
-  by_fault (fault.NextCheck f) h = named (fault.NextCheck f) h
-  by_fault (fault.NextBind f) h = named (fault.NextBind f) h
-  by_fault (fault.UnknownAccount account) h = named (fault.UnknownAccount account) h
-
--- and so does what refuses the statement under its tables
+-- what refuses the statement under the next set's tables refuses the second statement
 pub under_refuses : (next : List ℕ) (records : List PositionRecord) (tables : AcceptedTables) (e : SpanFault)
     → accepted_of next ≡ Ok tables → RefusesUnder tables records e → RefusesSecond next records e
 unfolding second_of
-under_refuses next records tables e accepted refused = by_fault e refused where
-  named : (x : SpanFault)
-      → (is_memory x ≡ false) × (and_then of_next (statement_bound tables records) (λ text. Ok text) ≡ Err x)
-      → (is_memory x ≡ false) × (second_of next records ≡ Err x)
-  named x h = (h.0, rw (accepted) h.1)
+under_refuses next records tables e accepted =
+    refused_too (and_then of_next_set (statement_bound tables records) (λ text. Ok text)) (second_of next records) true false true
+    (is_ok (accepted_of next)) e (λ x h. rw (accepted) h) (λ may. may) (λ may. rw (accepted) refl)
 
-  by_fault : (x : SpanFault) → RefusesUnder tables records x → RefusesSecond next records x
-  by_fault fault.Memory h = tt
-  by_fault (fault.Book f) h = h
-  by_fault fault.Shelf h = rw (accepted) refl
-  by_fault fault.Workers h = named fault.Workers h
-  by_fault (fault.Params f) h = named (fault.Params f) h
-  by_fault (fault.Check f) h = named (fault.Check f) h
-  by_fault (fault.Positions f) h = named (fault.Positions f) h
-  by_fault (fault.Bind f) h = named (fault.Bind f) h
-  by_fault (fault.NextParams f) h = named (fault.NextParams f) h
-  by_fault (fault.NextCheck f) h = named (fault.NextCheck f) h
-  by_fault (fault.NextBind f) h = named (fault.NextBind f) h
-  by_fault (fault.UnknownAccount account) h = named (fault.UnknownAccount account) h
-
--- the statement under its tables is the second
+-- the statement under the next set's tables is the second
 pub under_stands : (next : List ℕ) (records : List PositionRecord) (tables : AcceptedTables) (first text : List ℕ)
     → accepted_of next ≡ Ok tables → RollsUnder tables records first text → Rolls next records first text
 unfolding second_of
 under_stands next records tables first text accepted stands =
     rw (accepted) (by_text (statement_bound tables records) ∙ stands) where
-      by_text : (r : Result (List ℕ) SpanFault) → and_then same (and_then of_next r (λ second. Ok second))
-          (λ second. Ok (first ++ second)) ≡ and_then of_next r (λ second. Ok (first ++ second))
+      by_text : (r : Result (List ℕ) SpanFault) → and_then same (and_then of_next_set r (λ second. Ok second))
+          (λ second. Ok (first ++ second)) ≡ and_then of_next_set r (λ second. Ok (first ++ second))
       by_text (Ok second) = refl
       by_text (Err e) = refl
 
--- it is that of the portfolios
+-- the statement under the next set's tables is that of the portfolios
 pub under_portfolios : (tables : AcceptedTables) (records : List PositionRecord) (portfolios : List AccountHoldings)
     (first : List ℕ) → portfolios_under tables records ≡ Ok portfolios
     → RollsUnder tables records first (first ++ statement_text tables portfolios)
@@ -262,7 +200,7 @@ pub refused_rows : {A X Y : Type 0} (answer : Result A SpanFault) (may_publish :
 refused_rows answer may_publish e (inl full) = rw (full.0) (refl, refl)
 refused_rows answer may_publish e (inr memory) = rw (memory.0) tt
 
--- such a refusal, as a fault of the whole
+-- what a book refuses rows for, as a fault of the whole
 pub unkept_rows : {X Y : Type 0} (e : BookFault) → ((e ≡ book.NoMoreBatches) × X) ⊎ ((e ≡ book.OutOfMemory) × Y)
     → (of_book e ≡ fault.Memory) ⊎ (of_book e ≡ fault.Book book.NoMoreBatches)
 unkept_rows e (inl full) = rw (full.0) (inr refl)
@@ -282,10 +220,6 @@ next_is_last next first set told published last =
     let same_set : published.set ≡ set = cc in
     rw (← same_set) published.accepted
 
--- there are two
-pub two_published : (next : List ℕ) (first : SetView) (told : List SetView) → IsPublished next (first ∷ []) told → length told ≡ 2
-two_published next first told published = rw (published.added) refl
-
 -- ---- the whole
 
 -- a number of workers that is refused
@@ -298,12 +232,12 @@ workers_refused workers params next positions (inr many) =
     by_tests (workers == 0) (nat_lt MAX_WORKERS workers) test where
       by_tests : (none many : Bool) → many ≡ true
           → and_then same (if none || many then Err fault.Workers else statement_of params positions) (λ first.
-          and_then of_next (statement_of next positions) (λ second. Ok (first ++ second))) ≡ Err fault.Workers
+          and_then of_next_set (statement_of next positions) (λ second. Ok (first ++ second))) ≡ Err fault.Workers
       by_tests true many h = refl
       by_tests false true h = refl
       by_tests false false h = cc
 
--- one that is not
+-- a number of workers that is not refused
 pub workers_allowed : (workers : ℕ) (params positions : List ℕ) → 0 < workers → workers < 17
     → margin_of workers params positions ≡ statement_of params positions
 unfolding margin_of

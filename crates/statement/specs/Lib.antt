@@ -1,4 +1,4 @@
-pub mod Answers
+pub mod Gives
 pub mod Counts
 pub mod Listing
 pub mod FaultLines

@@ -1,24 +1,24 @@
 -- What a roll answers: two statements for the same positions, under a set and under the next.
 use Rattle.std.specs.Prelude.{◌≡◌, ⊤, ℕ, List, ◌++◌, ◌&&◌, Bool, true, false, Result, Ok, Err}
 use Rattle.result_book.specs.declared.books.BookFault.TheVariants as book
-use Rattle.statement.specs.Answers.{is_memory}
+use Rattle.statement.specs.Gives.{is_memory}
 use Rattle.statement.specs.Statement.{accepted_of, and_then, margin_of, same, statement_of}
 use Rattle.statement.specs.declared.faults.SpanFault.{SpanFault}
 use Rattle.statement.specs.declared.faults.SpanFault.TheVariants as fault
 
 -- a fault that arises under the next set has a name of its own
-abbrev pub of_next : SpanFault → SpanFault
-of_next (fault.Params e) = fault.NextParams e
-of_next (fault.Check e) = fault.NextCheck e
-of_next (fault.Bind e) = fault.NextBind e
-of_next e = e
+abbrev pub of_next_set : SpanFault → SpanFault
+of_next_set (fault.Params e) = fault.NextParams e
+of_next_set (fault.Check e) = fault.NextCheck e
+of_next_set (fault.Bind e) = fault.NextBind e
+of_next_set e = e
 
 -- The statement of the positions under the parameters, and after it that under the next ones; or the first fault, in the
 -- number of workers, in the parameters, in the positions, in the next parameters, in the positions under them.
 unfoldable pub roll_of : ℕ → List ℕ → List ℕ → List ℕ → Result (List ℕ) SpanFault
 roll_of workers params next positions =
     and_then same (margin_of workers params positions) (λ first.
-    and_then of_next (statement_of next positions) (λ second. Ok (first ++ second)))
+    and_then of_next_set (statement_of next positions) (λ second. Ok (first ++ second)))
 
 -- there is no fault
 abbrev pub is_ok : {A : Type 0} → Result A SpanFault → Bool

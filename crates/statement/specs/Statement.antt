@@ -42,7 +42,7 @@ commodity_text t p c =
 abbrev pub total_of : AcceptedTables → AccountHoldings → ℤ
 total_of t p = total_to t p.holdings (length t.commodities)
 
--- The numbers of its last line: the total; and where options have a value, the account's option value, what it has to bring
+-- The numbers of an account's last line: the total; and where options have a value, the account's option value, what it has to bring
 -- after it, and what that value is over the total.
 abbrev pub total_numbers : AcceptedTables → ℤ → ℤ → List ℤ
 total_numbers t total value =

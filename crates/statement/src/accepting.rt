@@ -1,16 +1,15 @@
 //! What two files say, or their first fault: accepted tables, a compiled set, and the portfolios of positions under it.
 ghost use Rattle.plan_compiler.specs.Compiled.{SetView};
-ghost use Rattle.span_csv.specs.PositionFaults.{positions_of};
-ghost use Rattle.span_tables.specs.Holdings.{fits};
 ghost use Rattle.span_tables.specs.Net.{AccountHoldings};
 ghost use Rattle.span_tables.specs.Tables.{AcceptedTables};
-ghost use Rattle.statement.specs.Answers.{Gives};
+ghost use Rattle.statement.specs.Gives.{Gives};
 ghost use Rattle.statement.specs.Statement.{accepted_of, portfolios_under, statement_bound, statement_of};
 ghost use Rattle.statement.specs.Statement.{statement_text};
+ghost use Rattle.statement.specs.near.Accepting.{AllFit, IsAccepted, IsBound};
 ghost use Rattle.statement.specs.near.Batches.{AreOnce};
 ghost use Rattle.statement.specs.declared.accepting.Accepted.{Accepted};
 ghost use Rattle.std.specs.Arc.{arc_value};
-ghost use Rattle.std.specs.Prelude.{◌≡◌, All, IfOk, List, Ok, length, true};
+ghost use Rattle.std.specs.Prelude.{◌≡◌, IfOk, List};
 ghost use Rattle.std.specs.declared.alloc.Global.{Global};
 ghost use Rattle.std.specs.declared.sync.Arc.{Arc};
 
@@ -64,15 +63,14 @@ pub(crate) fn portfolios_of(
 ) -> Result<Portfolios, SpanFault>
     ensures portfolios { Gives (λ (portfolios : List AccountHoldings). portfolios)
         result (portfolios_under (arc_value set.now).tables positions.now) }
-    ensures fits { IfOk result (λ portfolios.
-        All (λ p. fits (length (arc_value set.now).tables.contracts) p.holdings ≡ true) portfolios) }
-    ensures once { IfOk result (λ portfolios. AreOnce portfolios) }
+    ensures fits { IfOk result (AllFit (arc_value set.now)) }
+    ensures once { IfOk result AreOnce }
 {
     let portfolios = bind(alloc, set.tables(), positions)?;
     Ok(portfolios)
 }
 
-/// What two accepted files say: a compiled set, the positions, and the portfolios that these are under it.
+/// What two accepted files say: a compiled set, the positions, and their portfolios under that set.
 #[derive(Drop)]
 pub struct Accepted {
     /// The tables of the parameters, with their plan.
@@ -83,7 +81,7 @@ pub struct Accepted {
     pub portfolios: Portfolios,
 }
 
-// What an accepted set and the positions of a file say, or the fault in binding these.
+// What an accepted set and the positions of a file say, or the fault in binding the positions.
 #[tactic(auto, unfolding(crate::specs::Statement::statement_bound))]
 fn accept_positions(
     alloc: Global,
@@ -94,10 +92,7 @@ fn accept_positions(
         result (statement_bound (arc_value set).tables positions) }
     ensures tables { IfOk result (λ a. (arc_value a.set).tables ≡ (arc_value set).tables) }
     ensures positions { IfOk result (λ a. a.positions ≡ positions) }
-    ensures portfolios { IfOk result (λ a. portfolios_under (arc_value a.set).tables a.positions ≡ Ok a.portfolios) }
-    ensures fits { IfOk result (λ a.
-        All (λ p. fits (length (arc_value a.set).tables.contracts) p.holdings ≡ true) a.portfolios) }
-    ensures once { IfOk result (λ a. AreOnce a.portfolios) }
+    ensures bound { IfOk result IsBound }
 {
     let portfolios = portfolios_of(alloc, &set, &positions)?;
     Ok(Accepted {
@@ -113,20 +108,16 @@ fn accept_positions(
 pub fn accept(alloc: Global, params: &[u8], positions: &[u8]) -> Result<Accepted, SpanFault>
     ensures text { Gives (λ (a : Accepted). statement_text (arc_value a.set).tables a.portfolios)
         result (statement_of params.now positions.now) }
-    ensures tables { IfOk result (λ a. accepted_of params.now ≡ Ok (arc_value a.set).tables) }
-    ensures positions { IfOk result (λ a. positions_of positions.now ≡ Ok a.positions) }
-    ensures portfolios { IfOk result (λ a. portfolios_under (arc_value a.set).tables a.positions ≡ Ok a.portfolios) }
-    ensures fits { IfOk result (λ a.
-        All (λ p. fits (length (arc_value a.set).tables.contracts) p.holdings ≡ true) a.portfolios) }
-    ensures once { IfOk result (λ a. AreOnce a.portfolios) }
+    ensures accepted { IfOk result (IsAccepted params.now positions.now) }
 {
     let set = set_of(alloc, params)?;
     let positions = read_positions(alloc, positions)?;
     accept_positions(alloc, set, positions)
 }
 
-/// As [`accept`]. With two workers or more a thread of its own reads, checks and compiles the parameters beside reading the
-/// positions; where no thread is started, it is done after that. The order of the faults is the same.
+/// What two files say, or the first fault, as [`accept`] has it. With two workers or more a thread of its own reads, checks and
+/// compiles the parameters beside reading the positions; where no thread is started, the two are done one after the other.
+/// The order of the faults is the same.
 #[tactic(auto, unfolding(crate::specs::Statement::statement_of, crate::specs::Statement::statement_under))]
 pub(crate) fn accept_together<R: Threads>(
     rt: &R,
@@ -137,12 +128,7 @@ pub(crate) fn accept_together<R: Threads>(
 ) -> Result<Accepted, SpanFault>
     ensures text { Gives (λ (a : Accepted). statement_text (arc_value a.set).tables a.portfolios)
         result (statement_of params.now positions.now) }
-    ensures tables { IfOk result (λ a. accepted_of params.now ≡ Ok (arc_value a.set).tables) }
-    ensures positions { IfOk result (λ a. positions_of positions.now ≡ Ok a.positions) }
-    ensures portfolios { IfOk result (λ a. portfolios_under (arc_value a.set).tables a.positions ≡ Ok a.portfolios) }
-    ensures fits { IfOk result (λ a.
-        All (λ p. fits (length (arc_value a.set).tables.contracts) p.holdings ≡ true) a.portfolios) }
-    ensures once { IfOk result (λ a. AreOnce a.portfolios) }
+    ensures accepted { IfOk result (IsAccepted params.now positions.now) }
 {
     if workers < 2 {
         return accept(alloc, params, positions);

@@ -1,12 +1,12 @@
 //! Batches of accounts under a compiled set: their rows, and the statement of these.
 ghost use Rattle.plan_compiler.specs.Compiled.{SetView};
-ghost use Rattle.span_tables.specs.Holdings.{fits};
 ghost use Rattle.span_tables.specs.Net.{AccountHoldings};
+ghost use Rattle.statement.specs.near.Accepting.{AllFit};
 ghost use Rattle.statement.specs.near.Batches.{rows_under};
 ghost use Rattle.statement.specs.Statement.{statement_text};
 ghost use Rattle.statement.specs.near.Rows.{AreRows};
 ghost use Rattle.std.specs.Arc.{arc_value};
-ghost use Rattle.std.specs.Prelude.{◌≡◌, ◌++◌, All, IfOk, List, OnOk, length, map, true};
+ghost use Rattle.std.specs.Prelude.{◌≡◌, ◌++◌, IfOk, List, OnOk, map};
 ghost use Rattle.worker_pool.specs.Outcomes.{AreOutcomes};
 
 use crate::lines::{push_rows, write};
@@ -36,7 +36,7 @@ fn all_rows(alloc: Global, outcomes: Vec<Outcome>) -> Result<Vec<Arc<Row>>, Allo
     Ok(rows)
 }
 
-// The rows of the outcomes of a batch. `Err` is want of memory, here or for an account.
+// The rows of the outcomes of a batch; want of memory, where an account has none.
 fn rows_of(alloc: Global, outcomes: Vec<Outcome>) -> Result<Vec<Arc<Row>>, AllocError>
     ensures { (set : SetView) (portfolios : List AccountHoldings) → AreOutcomes set portfolios outcomes.items
         → IfOk result (λ rows. map arc_value rows.items ≡ rows_under set portfolios) }
@@ -45,21 +45,22 @@ fn rows_of(alloc: Global, outcomes: Vec<Outcome>) -> Result<Vec<Arc<Row>>, Alloc
     Ok(rows)
 }
 
-/// The rows of portfolios under a compiled set, in their order, computed on one thread. `Err` is want of memory, also for an
-/// account alone.
+/// The rows of portfolios under a compiled set, in their order, computed on one thread. Want of memory for one account
+/// refuses all.
 pub fn rows_alone(
     alloc: Global,
     set: &Arc<CompiledSet>,
     portfolios: Portfolios,
 ) -> Result<Vec<Arc<Row>>, AllocError>
-    requires { All (λ p. fits (length (arc_value set.now).tables.contracts) p.holdings ≡ true) portfolios }
+    requires { AllFit (arc_value set.now) portfolios }
     ensures { IfOk result (λ rows. map arc_value rows.items ≡ rows_under (arc_value set.now) portfolios) }
 {
     let outcomes = run_plain(alloc, set, portfolios.into_vec())?;
     rows_of(alloc, outcomes)
 }
 
-/// The same on 1 to 16 workers, in teams.
+/// The rows of portfolios under a compiled set, in their order, computed on 1 to 16 workers, in teams. Want of memory for one
+/// account refuses all.
 pub(crate) fn rows_together<R: Threads + Wait + Clock + Sync, G: Gate>(
     rt: &R,
     alloc: Global,
@@ -68,7 +69,7 @@ pub(crate) fn rows_together<R: Threads + Wait + Clock + Sync, G: Gate>(
     workers: usize,
     gate: &G,
 ) -> Result<Vec<Arc<Row>>, AllocError>
-    requires { All (λ p. fits (length (arc_value set.now).tables.contracts) p.holdings ≡ true) portfolios }
+    requires { AllFit (arc_value set.now) portfolios }
     ensures { IfOk result (λ rows. map arc_value rows.items ≡ rows_under (arc_value set.now) portfolios) }
 {
     match run_in_teams(rt, alloc, set, portfolios.into_vec(), workers, gate) {
@@ -77,7 +78,7 @@ pub(crate) fn rows_together<R: Threads + Wait + Clock + Sync, G: Gate>(
     }
 }
 
-/// The statement of the rows of a batch. `Err` is want of memory.
+/// The statement of the rows of a batch.
 pub(crate) fn text_of(alloc: Global, rows: &[Arc<Row>]) -> Result<Vec<u8>, AllocError>
     ensures { (set : SetView) (portfolios : List AccountHoldings) → map arc_value rows.now ≡ rows_under set portfolios
         → IfOk result (λ text. text.items ≡ statement_text set.tables portfolios) }
@@ -85,7 +86,7 @@ pub(crate) fn text_of(alloc: Global, rows: &[Arc<Row>]) -> Result<Vec<u8>, Alloc
     write(alloc, rows)
 }
 
-/// Appends the statement of the rows of a batch. `Err` is want of memory.
+/// Appends the statement of the rows of a batch.
 pub(crate) fn append_text(out: &mut Vec<u8>, rows: &[Arc<Row>]) -> Result<(), AllocError>
     ensures { (set : SetView) (portfolios : List AccountHoldings) → map arc_value rows.now ≡ rows_under set portfolios
         → OnOk result (out.new.items ≡ out.old.items ++ statement_text set.tables portfolios) }

@@ -1,6 +1,6 @@
 //! What is said of a parameter file by itself.
 ghost use Rattle.span_money.specs.LineFields.{line};
-ghost use Rattle.statement.specs.Answers.{Gives};
+ghost use Rattle.statement.specs.Gives.{Gives};
 ghost use Rattle.statement.specs.Counts.{counts_line, counts_of};
 ghost use Rattle.std.specs.Prelude.{◌≡◌, IfOk};
 

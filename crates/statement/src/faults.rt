@@ -1,8 +1,11 @@
 //! Why there is no statement, and the exit status that says so (docs/FORMATS.md, Fault lines and statuses).
 ghost use Rattle.statement.specs.FaultLines.{fault_status};
-ghost use Rattle.statement.specs.near.SpanFaults.{of_bind, of_book, of_check, of_params, of_positions};
-ghost use Rattle.statement.specs.Rolls.{of_next};
-ghost use Rattle.statement.specs.near.SpanFaults.{of_shelf};
+ghost use Rattle.param_check.specs.Binding as bind;
+ghost use Rattle.param_check.specs.CheckFaults as check;
+ghost use Rattle.span_csv.specs.ParamFaults as params;
+ghost use Rattle.span_csv.specs.PositionFaults as positions;
+ghost use Rattle.statement.specs.Rolls.{of_next_set};
+ghost use Rattle.statement.specs.near.SpanFaults.{of_book, of_shelf, of_stage};
 ghost use Rattle.statement.specs.declared.faults.SpanFault.TheVariants as fault;
 ghost use Rattle.std.specs.Prelude.{◌≡◌};
 
@@ -33,7 +36,7 @@ pub enum SpanFault {
     /// The parameter file of the next set is not read.
     #[error("next parameters: {0}")]
     NextParams(ParamFault),
-    /// The records of that file break a rule.
+    /// The records of the next set's file break a rule.
     #[error("next parameters: {0}")]
     NextCheck(CheckFault),
     /// The positions do not fit the next set's tables.
@@ -57,7 +60,7 @@ pub enum SpanFault {
 }
 
 impl From<ParamFault> for SpanFault {
-    ghost from_gives = { λ e answer. answer ≡ of_params e };
+    ghost from_gives = { λ e answer. answer ≡ of_stage params.is_memory fault.Params e };
 
     fn from(error: ParamFault) -> SpanFault {
         match error {
@@ -68,7 +71,7 @@ impl From<ParamFault> for SpanFault {
 }
 
 impl From<CheckFault> for SpanFault {
-    ghost from_gives = { λ e answer. answer ≡ of_check e };
+    ghost from_gives = { λ e answer. answer ≡ of_stage check.is_memory fault.Check e };
 
     fn from(error: CheckFault) -> SpanFault {
         match error {
@@ -79,7 +82,7 @@ impl From<CheckFault> for SpanFault {
 }
 
 impl From<PositionFault> for SpanFault {
-    ghost from_gives = { λ e answer. answer ≡ of_positions e };
+    ghost from_gives = { λ e answer. answer ≡ of_stage positions.is_memory fault.Positions e };
 
     fn from(error: PositionFault) -> SpanFault {
         match error {
@@ -90,7 +93,7 @@ impl From<PositionFault> for SpanFault {
 }
 
 impl From<BindFault> for SpanFault {
-    ghost from_gives = { λ e answer. answer ≡ of_bind e };
+    ghost from_gives = { λ e answer. answer ≡ of_stage bind.is_memory fault.Bind e };
 
     fn from(error: BindFault) -> SpanFault {
         match error {
@@ -139,9 +142,9 @@ impl From<AllocError> for SpanFault {
 }
 
 impl SpanFault {
-    /// The fault under the name that it has where it arises under the next set.
-    pub(crate) fn of_next(self) -> SpanFault
-        ensures { result ≡ of_next self }
+    /// A fault of reading, checking or binding, under the name that it has where it arises under the next set.
+    pub(crate) fn of_next_set(self) -> SpanFault
+        ensures { result ≡ of_next_set self }
     {
         match self {
             SpanFault::Params(fault) => SpanFault::NextParams(fault),

@@ -15,10 +15,10 @@ ghost use Rattle.span_tables.specs.Net.{AccountHoldings};
 ghost use Rattle.span_tables.specs.Tables.{AcceptedTables};
 ghost use Rattle.span_tables.specs.declared.records.PositionRecord.{PositionRecord};
 ghost use Rattle.span_tables.specs.declared.records.Record.{Record};
-ghost use Rattle.statement.specs.Answers.{is_memory};
+ghost use Rattle.statement.specs.Gives.{is_memory};
 ghost use Rattle.statement.specs.FaultLines.{fault_line, fault_status, memory_line};
 ghost use Rattle.statement.specs.Rolls.{roll_of};
-ghost use Rattle.statement.specs.Rolls.{of_next};
+ghost use Rattle.statement.specs.Rolls.{of_next_set};
 ghost use Rattle.statement.specs.Statement.{commodity_text, margin_of, row_text, statement_of, statement_text};
 ghost use Rattle.statement.specs.Statement.{statement_under, total_line, total_numbers, total_of};
 ghost use Rattle.statement.specs.declared.faults.SpanFault.{SpanFault};
@@ -86,7 +86,7 @@ pub fn a_roll_is_two_statements()
         → margin_of workers params positions ≡ Err e → roll_of workers params next positions ≡ Err e }
     ensures second { (workers : ℕ) (params next positions first : List ℕ) (e : SpanFault)
         → margin_of workers params positions ≡ Ok first → statement_of next positions ≡ Err e
-        → roll_of workers params next positions ≡ Err (of_next e) }
+        → roll_of workers params next positions ≡ Err (of_next_set e) }
     ensures both { (workers : ℕ) (params next positions first second : List ℕ)
         → margin_of workers params positions ≡ Ok first → statement_of next positions ≡ Ok second
         → roll_of workers params next positions ≡ Ok (first ++ second) }

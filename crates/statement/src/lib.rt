@@ -6,7 +6,7 @@ pub mod batches;
 pub mod counts;
 pub mod fault_lines;
 pub mod faults;
-mod kept;
+mod in_book;
 pub mod laws;
 pub mod lines;
 pub mod margin;

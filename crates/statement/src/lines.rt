@@ -43,7 +43,7 @@ fn push_commodity(
 }
 
 /// Appends the line of an account for the commodity of a number, where it holds a contract of it, and else nothing
-/// (docs/FORMATS.md, Statement: the R line). `Err` is want of memory.
+/// (docs/FORMATS.md, Statement: the R line).
 pub fn push_commodity_of(out: &mut Vec<u8>, row: &Row, number: usize) -> Result<(), AllocError>
     requires { number < length row.now.set.tables.commodities }
     ensures { OnOk result (out.new.items
@@ -94,8 +94,8 @@ fn excess(total: Money, value: Money) -> i128
     due(value, total)
 }
 
-/// Appends the last line of an account (docs/FORMATS.md, Statement: the T line). Where options have a value it has that of the
-/// account, too, and what follows from it. `Err` is want of memory.
+/// Appends the last line of an account (docs/FORMATS.md, Statement: the T line). Where options have a value the line has the
+/// account's option value, too, and what follows from that.
 pub fn push_total_of(out: &mut Vec<u8>, row: &Row) -> Result<(), AllocError>
     ensures { OnOk result (out.new.items ≡ out.old.items ++ line (total_line row.now.portfolio.account row.now.set.tables.set_id
         (total_numbers row.now.set.tables (total_of row.now.set.tables row.now.portfolio)
@@ -127,7 +127,7 @@ pub fn push_row(out: &mut Vec<u8>, row: &Row) -> Result<(), AllocError>
     push_total_of(out, row)
 }
 
-/// Appends the lines of these rows, in their order. `Err` is want of memory.
+/// Appends the lines of some rows, in their order.
 pub(crate) fn push_rows(out: &mut Vec<u8>, rows: &[Arc<Row>]) -> Result<(), AllocError>
     ensures { OnOk result (out.new.items
         ≡ out.old.items ++ flat_map (λ r. row_text r.set.tables r.portfolio) (map arc_value rows.now)) }
@@ -138,7 +138,7 @@ pub(crate) fn push_rows(out: &mut Vec<u8>, rows: &[Arc<Row>]) -> Result<(), Allo
     Ok(())
 }
 
-/// The statement of these rows, in their order. `Err` is want of memory.
+/// The statement of some rows, in their order.
 pub fn write(alloc: Global, rows: &[Arc<Row>]) -> Result<Vec<u8>, AllocError>
     ensures { IfOk result (λ text. text.items ≡ flat_map (λ r. row_text r.set.tables r.portfolio) (map arc_value rows.now)) }
 {

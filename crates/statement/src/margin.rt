@@ -1,5 +1,5 @@
 //! From the bytes of both files to the bytes of a statement.
-ghost use Rattle.statement.specs.Answers.{Gives};
+ghost use Rattle.statement.specs.Gives.{Gives};
 ghost use Rattle.statement.specs.Statement.{margin_of, statement_of};
 ghost use Rattle.std.specs.Prelude.{◌≡◌, ◌<◌, ◌⊎◌, ◌↔◌, Err};
 ghost use Rattle.statement.specs.declared.faults.SpanFault.TheVariants as fault;

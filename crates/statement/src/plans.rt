@@ -1,5 +1,5 @@
 //! The compiled plan of a parameter file, as text (docs/FORMATS.md, "Plan listing").
-ghost use Rattle.statement.specs.Answers.{Gives};
+ghost use Rattle.statement.specs.Gives.{Gives};
 ghost use Rattle.statement.specs.Listing.{listing_of};
 
 use crate::accepting::tables_of;

@@ -3,8 +3,8 @@ ghost use Rattle.plan_compiler.specs.Compiled.{SetView};
 ghost use Rattle.plan_shelf.specs.Publications.{IsLast};
 ghost use Rattle.result_book.specs.Books.{HasNoAccountTwice};
 ghost use Rattle.result_book.specs.declared.books.BookFault.TheVariants as book_fault;
-ghost use Rattle.span_tables.specs.Holdings.{fits};
 ghost use Rattle.span_tables.specs.Net.{AccountHoldings};
+ghost use Rattle.statement.specs.near.Accepting.{AllFit, IsBound};
 ghost use Rattle.statement.specs.near.Batches.{AreOnce, rows_under};
 ghost use Rattle.statement.specs.Rolls.{GivesRoll};
 ghost use Rattle.statement.specs.Statement.{accepted_of, portfolios_under, statement_text};
@@ -12,13 +12,13 @@ ghost use Rattle.statement.specs.declared.faults.SpanFault.TheVariants as fault;
 ghost use Rattle.statement.specs.near.Seconds.{IsPublished, RefusesNext, RefusesSecond, RefusesUnder, Rolls};
 ghost use Rattle.statement.specs.near.Seconds.{RollsUnder};
 ghost use Rattle.std.specs.Arc.{arc_value};
-ghost use Rattle.std.specs.Prelude.{◌≡◌, ◌<◌, ◌∷◌, ◌⊎◌, ◌↔◌, [], All, Err, IfErr, IfOk, List, Ok};
-ghost use Rattle.std.specs.Prelude.{OnOk, length, map, true};
+ghost use Rattle.std.specs.Prelude.{◌≡◌, ◌<◌, ◌∷◌, ◌⊎◌, ◌↔◌, [], Err, IfErr, IfOk, List, Ok};
+ghost use Rattle.std.specs.Prelude.{OnOk, length, map};
 
 use crate::accepting::{Accepted, accept_together, portfolios_of, set_of};
 use crate::batches::rows_together;
 use crate::faults::SpanFault;
-use crate::kept::keep_rows;
+use crate::in_book::put_in_book;
 use plan_compiler::set::CompiledSet;
 use plan_shelf::history::{History, ShelfName};
 use plan_shelf::publishers::{Publisher, Told};
@@ -37,6 +37,19 @@ use std::time::Clock;
 use worker_pool::batch::MAX_WORKERS;
 use worker_pool::gates::Gate;
 
+// What a roll is lent: a runtime, an allocator, so many workers, the gate that they pass, and the book for the rows.
+#[derive(Drop)]
+struct Lent<'a, R, G: Gate> {
+    rt: &'a R,
+    alloc: Global,
+    workers: usize,
+    gate: &'a G,
+    book: &'a Mutex<ResultBook>,
+}
+
+// The number of the next set's publication on the shelf of a roll. That of the first set is 1.
+const NEXT_SET: u64 = 2;
+
 // The compiled set of the next parameters, or their first fault under the name that it has there.
 fn next_set(alloc: Global, next: &[u8]) -> Result<Arc<CompiledSet>, SpanFault>
     ensures set { IfOk result (λ set. accepted_of next.now ≡ Ok (arc_value set).tables) }
@@ -44,7 +57,7 @@ fn next_set(alloc: Global, next: &[u8]) -> Result<Arc<CompiledSet>, SpanFault>
 {
     match set_of(alloc, next) {
         Ok(set) => Ok(set),
-        Err(fault) => Err(fault.of_next()),
+        Err(fault) => Err(fault.of_next_set()),
     }
 }
 
@@ -67,28 +80,32 @@ fn publish_next<S: ShelfName, R: Wait, G: Gate>(
 // The rows of the first batch, computed here, and beside it the next set in a thread. Where no thread is started the two are
 // done one after the other.
 fn first_rows_and_next_set<S: ShelfName + Send + Sync, R: Threads + Wait + Clock + Sync, G: Gate>(
-    rt: &R,
-    alloc: Global,
+    lent: &Lent<'_, R, G>,
     publisher: &mut Publisher<S, &R>,
     set: &Arc<CompiledSet>,
     portfolios: Portfolios,
     next: &[u8],
-    workers: usize,
-    gate: &G,
 ) -> (
     Result<Vec<Arc<Row>>, AllocError>,
     Result<Told<S>, SpanFault>,
 )
-    requires { All (λ p. fits (length (arc_value set.now).tables.contracts) p.holdings ≡ true) portfolios }
+    requires { AllFit (arc_value set.now) portfolios }
     ensures rows { IfOk result.0 (λ rows. map arc_value rows.items ≡ rows_under (arc_value set.now) portfolios) }
     ensures told { IfOk result.1 (λ told. IsPublished next.now publisher.old told) }
     ensures fault { IfErr result.1 (λ e. RefusesNext next.now e) }
 {
+    let Lent {
+        rt,
+        alloc,
+        workers,
+        gate,
+        ..
+    } = *lent;
     let (told, rows) = thread::join(
         rt,
         move || publish_next(alloc, publisher, next, gate),
         move || -> Result<Vec<Arc<Row>>, AllocError>
-            requires { All (λ p. fits (length (arc_value set.now).tables.contracts) p.holdings ≡ true) portfolios }
+            requires { AllFit (arc_value set.now) portfolios }
             ensures { IfOk result (λ rows. map arc_value rows.items ≡ rows_under (arc_value set.entry.now) portfolios) }
         { rows_together(rt, alloc, set, portfolios, workers, gate) },
     );
@@ -108,7 +125,7 @@ fn second_set<S: ShelfName, R: Wait>(
     let mut reader = reader;
     reader.learn(told);
     match reader.current(rt)? {
-        Some((2, set)) => Ok(set),
+        Some((NEXT_SET, set)) => Ok(set),
         _ => Err(SpanFault::Shelf),
     }
 }
@@ -121,35 +138,37 @@ fn portfolios_of_next(
 ) -> Result<Portfolios, SpanFault>
     ensures portfolios { IfOk result (λ portfolios.
         portfolios_under (arc_value set.now).tables positions.now ≡ Ok portfolios) }
-    ensures fits { IfOk result (λ portfolios.
-        All (λ p. fits (length (arc_value set.now).tables.contracts) p.holdings ≡ true) portfolios) }
-    ensures once { IfOk result (λ portfolios. AreOnce portfolios) }
+    ensures fits { IfOk result (AllFit (arc_value set.now)) }
+    ensures once { IfOk result AreOnce }
     ensures fault { IfErr result (λ e. RefusesUnder (arc_value set.now).tables positions.now e) }
 {
     match portfolios_of(alloc, set, positions) {
         Ok(portfolios) => Ok(portfolios),
-        Err(fault) => Err(fault.of_next()),
+        Err(fault) => Err(fault.of_next_set()),
     }
 }
 
-// Margins the positions under the next set, keeps the rows in a book and appends their statement.
+// Margins the positions under the next set, puts the rows in the book and appends their statement.
 fn second_statement<R: Threads + Wait + Clock + Sync, G: Gate>(
-    rt: &R,
-    alloc: Global,
+    lent: &Lent<'_, R, G>,
     set: &Arc<CompiledSet>,
     positions: &RawPositions,
-    workers: usize,
-    gate: &G,
-    book: &Mutex<ResultBook>,
     out: &mut Vec<u8>,
 ) -> Result<(), SpanFault>
     ensures text { OnOk result (RollsUnder (arc_value set.now).tables positions.now out.old.items out.new.items) }
     ensures fault { IfErr result (λ e. RefusesUnder (arc_value set.now).tables positions.now e) }
 {
-    let portfolios = portfolios_of_next(alloc, set, positions)?;
-    let rows = rows_together(rt, alloc, set, portfolios, workers, gate)?;
-    let kept = keep_rows(&mut book.lock(rt), rows)?;
-    kept.append_to(out)?;
+    let portfolios = portfolios_of_next(lent.alloc, set, positions)?;
+    let rows = rows_together(
+        lent.rt,
+        lent.alloc,
+        set,
+        portfolios,
+        lent.workers,
+        lent.gate,
+    )?;
+    let second = put_in_book(&mut lent.book.lock(lent.rt), rows)?;
+    second.append_to(out)?;
     Ok(())
 }
 
@@ -183,7 +202,7 @@ fn shelf_with<S: ShelfName, R: Wait + Drop>(
     Ok((publisher, reader))
 }
 
-// Keeps the rows of the first batch in a book, and gives their statement.
+// Puts the rows of the first batch in the book, and gives their statement.
 fn first_statement<R: Wait>(
     rt: &R,
     alloc: Global,
@@ -195,57 +214,21 @@ fn first_statement<R: Wait>(
         → IfOk result (λ text. text.items ≡ statement_text set.tables portfolios) }
     ensures fault { IfErr result (λ e. (e ≡ fault.Memory) ⊎ (e ≡ fault.Book book_fault.NoMoreBatches)) }
 {
-    let first = keep_rows(&mut book.lock(rt), rows)?;
+    let first = put_in_book(&mut book.lock(rt), rows)?;
     let text = first.text(alloc)?;
     Ok(text)
 }
 
 // The roll on a shelf whose only publication is the set of the first statement.
 fn roll_on_shelf<S: ShelfName + Send + Sync, R: Threads + Wait + Clock + Sync, G: Gate>(
-    rt: &R,
-    alloc: Global,
+    lent: &Lent<'_, R, G>,
     publisher: &mut Publisher<S, &R>,
     reader: Reader<S>,
-    set: &Arc<CompiledSet>,
-    positions: &RawPositions,
-    portfolios: Portfolios,
-    next: &[u8],
-    workers: usize,
-    gate: &G,
-    book: &Mutex<ResultBook>,
-) -> Result<Vec<u8>, SpanFault>
-    requires first { publisher.old ≡ arc_value set.now ∷ [] }
-    requires fits { All (λ p. fits (length (arc_value set.now).tables.contracts) p.holdings ≡ true) portfolios }
-    requires once { AreOnce portfolios }
-    ensures text { IfOk result (λ text. Rolls next.now positions.now
-        (statement_text (arc_value set.now).tables portfolios) text.items) }
-    ensures fault { IfErr result (λ e. RefusesSecond next.now positions.now e) }
-{
-    let (rows, told) = first_rows_and_next_set(
-        rt, alloc, publisher, set, portfolios, next, workers, gate,
-    );
-    let mut text = first_statement(rt, alloc, rows?, book)?;
-    let second = second_set(rt, reader, told?)?;
-    second_statement(
-        rt, alloc, &second, positions, workers, gate, book, &mut text,
-    )?;
-    Ok(text)
-}
-
-// The roll on a shelf of its own. Its type names the shelf, and no type of the signature does.
-fn roll_named<S: ShelfName + Send + Sync, R: Threads + Wait + Clock + Sync, G: Gate>(
-    rt: &R,
-    alloc: Global,
-    history: History,
     today: Accepted,
     next: &[u8],
-    workers: usize,
-    gate: &G,
-    book: &Mutex<ResultBook>,
 ) -> Result<Vec<u8>, SpanFault>
-    requires history { history ≡ S.book }
-    requires fits { All (λ p. fits (length (arc_value today.set).tables.contracts) p.holdings ≡ true) today.portfolios }
-    requires once { AreOnce today.portfolios }
+    requires first { publisher.old ≡ arc_value today.set ∷ [] }
+    requires bound { IsBound today }
     ensures text { IfOk result (λ text. Rolls next.now today.positions
         (statement_text (arc_value today.set).tables today.portfolios) text.items) }
     ensures fault { IfErr result (λ e. RefusesSecond next.now today.positions e) }
@@ -255,20 +238,28 @@ fn roll_named<S: ShelfName + Send + Sync, R: Threads + Wait + Clock + Sync, G: G
         positions,
         portfolios,
     } = today;
-    let (mut publisher, reader) = shelf_with::<S, &R>(rt, alloc, history, &set)?;
-    roll_on_shelf(
-        rt,
-        alloc,
-        &mut publisher,
-        reader,
-        &set,
-        &positions,
-        portfolios,
-        next,
-        workers,
-        gate,
-        book,
-    )
+    let (rows, told) = first_rows_and_next_set(lent, publisher, &set, portfolios, next);
+    let mut text = first_statement(lent.rt, lent.alloc, rows?, lent.book)?;
+    let second = second_set(lent.rt, reader, told?)?;
+    second_statement(lent, &second, &positions, &mut text)?;
+    Ok(text)
+}
+
+// The roll on a shelf of its own, which the type `S` names. No type in the signature of `roll` does.
+fn roll_named<S: ShelfName + Send + Sync, R: Threads + Wait + Clock + Sync, G: Gate>(
+    lent: &Lent<'_, R, G>,
+    history: History,
+    today: Accepted,
+    next: &[u8],
+) -> Result<Vec<u8>, SpanFault>
+    requires history { history ≡ S.book }
+    requires bound { IsBound today }
+    ensures text { IfOk result (λ text. Rolls next.now today.positions
+        (statement_text (arc_value today.set).tables today.portfolios) text.items) }
+    ensures fault { IfErr result (λ e. RefusesSecond next.now today.positions e) }
+{
+    let (mut publisher, reader) = shelf_with::<S, &R>(lent.rt, lent.alloc, history, &today.set)?;
+    roll_on_shelf(lent, &mut publisher, reader, today, next)
 }
 
 /// The statement of the positions under a set, and after it that under the next; or the first fault in the number of
@@ -298,5 +289,12 @@ pub fn roll<R: Threads + Wait + Clock + Sync, G: Gate>(
         return Err(SpanFault::Workers);
     }
     let today = accept_together(rt, alloc, params, positions, workers)?;
-    roll_named::<Brand, R, G>(rt, alloc, History::new(), today, next, workers, gate, book)
+    let lent = Lent {
+        rt,
+        alloc,
+        workers,
+        gate,
+        book,
+    };
+    roll_named::<Brand, R, G>(&lent, History::new(), today, next)
 }

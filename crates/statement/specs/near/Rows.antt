@@ -15,7 +15,7 @@ AreRows (Margined row ∷ outcomes) (r ∷ rows) = (arc_value row ≡ r) × AreR
 AreRows (NoMemory account ∷ outcomes) rows = ⊥
 
 -- one batch more is open, and it has the first of the rows, in their order
-pub record IsPartlyKept (before after : BookView) (rows : List RowView) : Type 0 where
+pub record ArePartlyInBook (before after : BookView) (rows : List RowView) : Type 0 where
   pub opened : after.opened ≡ before.opened + 1
   pub count : ℕ
   pub first_rows : rows_of after (before.opened + 1) ≡ take count rows

@@ -4,15 +4,15 @@ use Rattle.span_tables.specs.Tables.{AcceptedTables}
 use Rattle.span_tables.specs.declared.records.PositionRecord.{PositionRecord}
 use Rattle.plan_compiler.specs.Compiled.{SetView}
 use Rattle.statement.specs.Rolls.{Refuses, is_ok}
-use Rattle.statement.specs.Rolls.{of_next}
+use Rattle.statement.specs.Rolls.{of_next_set}
 use Rattle.statement.specs.Statement.{accepted_of, and_then, same, statement_bound}
 use Rattle.statement.specs.declared.faults.SpanFault.{SpanFault}
 
 -- the statement of position records under the next parameters, or the first fault, under the name that it has there
 unfoldable pub second_of : List ℕ → List PositionRecord → Result (List ℕ) SpanFault
 second_of next records =
-    and_then of_next (accepted_of next) (λ tables.
-    and_then of_next (statement_bound tables records) (λ text. Ok text))
+    and_then of_next_set (accepted_of next) (λ tables.
+    and_then of_next_set (statement_bound tables records) (λ text. Ok text))
 
 -- why there is no second statement
 abbrev pub RefusesSecond : List ℕ → List PositionRecord → SpanFault → Type 0
@@ -21,21 +21,21 @@ RefusesSecond next records e = Refuses (second_of next records) true (is_ok (acc
 -- why there is no next set
 abbrev pub RefusesNext : List ℕ → SpanFault → Type 0
 RefusesNext next e =
-    Refuses (and_then of_next (accepted_of next) (λ tables. Ok tables)) false (is_ok (accepted_of next)) e
+    Refuses (and_then of_next_set (accepted_of next) (λ tables. Ok tables)) false (is_ok (accepted_of next)) e
 
 -- why there is no statement under the tables of the next set
 abbrev pub RefusesUnder : AcceptedTables → List PositionRecord → SpanFault → Type 0
 RefusesUnder tables records e =
-    Refuses (and_then of_next (statement_bound tables records) (λ text. Ok text)) true false e
+    Refuses (and_then of_next_set (statement_bound tables records) (λ text. Ok text)) true false e
 
 -- the second statement comes after what was there
 abbrev pub Rolls : List ℕ → List PositionRecord → List ℕ → List ℕ → Type 0
 Rolls next records first text = and_then same (second_of next records) (λ second. Ok (first ++ second)) ≡ Ok text
 
--- the same of the tables of the next set
+-- the second statement, under the tables of the next set, comes after what was there
 abbrev pub RollsUnder : AcceptedTables → List PositionRecord → List ℕ → List ℕ → Type 0
 RollsUnder tables records first text =
-    and_then of_next (statement_bound tables records) (λ second. Ok (first ++ second)) ≡ Ok text
+    and_then of_next_set (statement_bound tables records) (λ second. Ok (first ++ second)) ≡ Ok text
 
 -- the next set was published after others
 pub record IsPublished (next : List ℕ) (before after : List SetView) : Type 0 where

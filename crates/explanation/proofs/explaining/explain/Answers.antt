@@ -1,7 +1,7 @@
 use Rattle.std.proofs.Common.{◌≡◌, ℕ, Err, Global, Vec, inl, inr, rules, sym, subst}
 use Rattle.std.specs.Arc.{arc_value}
 use Rattle.std.specs.Option.{option_copied}
-use Rattle.statement.specs.Answers.{Gives}
+use Rattle.statement.specs.Gives.{Gives}
 use Rattle.explanation.proofs.FileLemmas.{accepted_explained, faults_explained}
 use Rattle.explanation.proofs.explaining.explain.Goals as goal
 
@@ -23,5 +23,5 @@ returns c =
     let accepted = c.in_ok-set.field-0 in
     subst (λ answer. Gives (λ (text : Vec ℕ Global). text.items) c.explained.result answer)
     (sym (accepted_explained c.args.params.now c.args.positions.now (option_copied c.args.account)
-    (arc_value accepted.set).tables accepted.positions accepted.portfolios c.in_ok-set.ensures.tables
-    c.in_ok-set.ensures.positions c.in_ok-set.ensures.portfolios)) c.explained.ensures
+    (arc_value accepted.set).tables accepted.positions accepted.portfolios c.in_ok-set.ensures.accepted.tables
+    c.in_ok-set.ensures.accepted.records c.in_ok-set.ensures.accepted.bound.portfolios)) c.explained.ensures

@@ -29,4 +29,4 @@ returns-clause-text g c =
     roll_gives (λ text. text.items) c.args.workers c.args.params.now c.args.next.now c.args.positions.now _ _
     c.roll_named.result
     (workers_allowed c.args.workers _ _ (omega arith) (omega arith) ∙ c.in_ok-today.ensures.text)
-    c.in_ok-today.ensures.positions c.roll_named.ensures.text c.roll_named.ensures.fault
+    c.in_ok-today.ensures.accepted.records c.roll_named.ensures.text c.roll_named.ensures.fault

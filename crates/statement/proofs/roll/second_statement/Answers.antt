@@ -5,18 +5,18 @@ use Rattle.statement.proofs.RollLemmas.{refused_rows, under_portfolios}
 use Rattle.statement.specs.near.SpanFaults.{of_book}
 use Rattle.statement.proofs.roll.second_statement.Goals as goal
 
-pub keep_rows-requires : goal.keep_rows-requires
-keep_rows-requires g c =
+pub put_in_book-requires : goal.put_in_book-requires
+put_in_book-requires g c =
     rows_once (arc_value c.args.set.now) c.in_ok-portfolios.portfolios _ c.in_ok-rows.ensures c.in_ok-portfolios.ensures.once
 
-pub returns-in_err-kept-clause-fault : goal.returns-in_err-kept-clause-fault
-returns-in_err-kept-clause-fault g c =
-    let is : c.from_residual-in_err-kept.result ≡ Err (of_book c.in_err-kept.field-0.0) = search rules in
-    rw (is) (refused_rows _ _ c.in_err-kept.field-0.0 c.in_err-kept.ensures.refused)
+pub returns-in_err-second-clause-fault : goal.returns-in_err-second-clause-fault
+returns-in_err-second-clause-fault g c =
+    let is : c.from_residual-in_err-second.result ≡ Err (of_book c.in_err-second.field-0.0) = search rules in
+    rw (is) (refused_rows _ _ c.in_err-second.field-0.0 c.in_err-second.ensures.refused)
 
 pub returns-clause-text : goal.returns-clause-text
 returns-clause-text g c =
     let text = c.in_ok-append_to.ensures (arc_value c.args.set.now) c.in_ok-portfolios.portfolios
-    (c.in_ok-kept.ensures.kept ∙ c.in_ok-rows.ensures) in
+    (c.in_ok-second.ensures.in_book ∙ c.in_ok-rows.ensures) in
     rw (text) (under_portfolios (arc_value c.args.set.now).tables c.args.positions.now c.in_ok-portfolios.portfolios _
     c.in_ok-portfolios.ensures.portfolios)

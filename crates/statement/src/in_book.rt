@@ -1,11 +1,11 @@
-//! Rows that a book has: a roll writes its statements from these alone.
+//! Rows that a book has. A roll writes its statements from such rows alone.
 ghost use Rattle.plan_compiler.specs.Compiled.{SetView};
 ghost use Rattle.result_book.specs.Books.{HasNoAccountTwice, rows_of};
 ghost use Rattle.result_book.specs.declared.books.BookFault.TheVariants as fault;
 ghost use Rattle.span_tables.specs.Net.{AccountHoldings};
 ghost use Rattle.statement.specs.near.Batches.{rows_under};
 ghost use Rattle.statement.specs.Statement.{statement_text};
-ghost use Rattle.statement.specs.near.Rows.{IsPartlyKept};
+ghost use Rattle.statement.specs.near.Rows.{ArePartlyInBook};
 ghost use Rattle.std.specs.Arc.{arc_value};
 ghost use Rattle.std.specs.Prelude.{◌≡◌, ◌≢◌, ◌+◌, ◌-◌, ◌^◌, ◌++◌, ◌⊎◌, ◌↔◌};
 ghost use Rattle.std.specs.Prelude.{Err, IfErr, IfOk, List, OnOk, map, ℕ};
@@ -17,24 +17,24 @@ use std::alloc::{AllocError, Global};
 use std::marker::Model;
 use std::sync::Arc;
 
-/// The rows of a batch, which a book has. Only [`keep_rows`] makes them.
+/// The rows of a batch, which a book has. Only [`put_in_book`] makes them.
 #[derive(Drop)]
-pub(crate) struct KeptRows {
+pub(crate) struct RowsInBook {
     rows: Vec<Arc<Row>>,
 }
 
-impl Model for KeptRows {
+impl Model for RowsInBook {
     ghost use Rattle.result_book.specs.Rows.{RowView};
     ghost use Rattle.std.specs.Arc.{arc_value};
     ghost use Rattle.std.specs.Prelude.{List, map};
 
     ghost Value = { List RowView };
 
-    ghost view = { λ kept. map arc_value kept.rows.items };
+    ghost view = { λ put. map arc_value put.rows.items };
 }
 
-impl KeptRows {
-    /// The statement of the rows. `Err` is want of memory.
+impl RowsInBook {
+    /// The statement of the rows.
     pub(crate) fn text(&self, alloc: Global) -> Result<Vec<u8>, AllocError>
         ensures { (set : SetView) (portfolios : List AccountHoldings) → self.now ≡ rows_under set portfolios
             → IfOk result (λ text. text.items ≡ statement_text set.tables portfolios) }
@@ -42,7 +42,7 @@ impl KeptRows {
         text_of(alloc, &self.rows)
     }
 
-    /// Appends the statement of the rows. `Err` is want of memory.
+    /// Appends the statement of the rows.
     pub(crate) fn append_to(&self, out: &mut Vec<u8>) -> Result<(), AllocError>
         ensures { (set : SetView) (portfolios : List AccountHoldings) → self.now ≡ rows_under set portfolios
             → OnOk result (out.new.items ≡ out.old.items ++ statement_text set.tables portfolios) }
@@ -53,18 +53,21 @@ impl KeptRows {
 
 /// Opens a batch of a book and puts the rows there, in their order.
 ///
-/// `NoMoreBatches` where the book gave each number to a batch, and it is then as it was. Else only want of memory refuses:
-/// then one batch more is open, and has the rows that were put before.
-pub(crate) fn keep_rows(book: &mut ResultBook, rows: Vec<Arc<Row>>) -> Result<KeptRows, BookFault>
+/// `NoMoreBatches` where the book gave each number to a batch. The book is then as it was. Nothing else but want of memory
+/// refuses: one batch more is then open, and has the rows that were put before.
+pub(crate) fn put_in_book(
+    book: &mut ResultBook,
+    rows: Vec<Arc<Row>>,
+) -> Result<RowsInBook, BookFault>
     requires { HasNoAccountTwice (map arc_value rows.items) }
-    ensures kept { IfOk result (λ kept. kept ≡ map arc_value rows.items) }
+    ensures in_book { IfOk result (λ put. put ≡ map arc_value rows.items) }
     ensures opened { OnOk result (book.new.opened ≡ book.old.opened + 1) }
     ensures rows { OnOk result (rows_of book.new (book.old.opened + 1) ≡ map arc_value rows.items) }
     ensures others { (n : ℕ) → n ≢ book.old.opened + 1 → rows_of book.new n ≡ rows_of book.old n }
     ensures full { (result ≡ Err fault.NoMoreBatches) ↔ (book.old.opened ≡ 2 ^ 64 - 1) }
     ensures refused { IfErr result (λ e.
         ((e ≡ fault.NoMoreBatches) × (book.new ≡ book.old))
-        ⊎ ((e ≡ fault.OutOfMemory) × IsPartlyKept book.old book.new (map arc_value rows.items))) }
+        ⊎ ((e ≡ fault.OutOfMemory) × ArePartlyInBook book.old book.new (map arc_value rows.items))) }
 {
     let batch = book.open_batch()?;
     for row in &rows {
@@ -73,5 +76,5 @@ pub(crate) fn keep_rows(book: &mut ResultBook, rows: Vec<Arc<Row>>) -> Result<Ke
             return Err(refused.fault);
         }
     }
-    Ok(KeptRows { rows })
+    Ok(RowsInBook { rows })
 }

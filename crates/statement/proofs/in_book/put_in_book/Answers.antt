@@ -7,26 +7,26 @@ use Rattle.result_book.specs.Books.{BookView, put_fault, row_for}
 use Rattle.result_book.specs.Rows.{RowView}
 use Rattle.result_book.specs.declared.books.BookFault.TheVariants as fault
 use Rattle.statement.proofs.AccountLemmas.{none_before}
-use Rattle.statement.proofs.kept.keep_rows.Invariants.{IsKept}
-use Rattle.statement.specs.near.Rows.{IsPartlyKept}
-use Rattle.statement.proofs.kept.keep_rows.Goals as goal
+use Rattle.statement.proofs.in_book.put_in_book.Invariants.{AreInBook}
+use Rattle.statement.specs.near.Rows.{ArePartlyInBook}
+use Rattle.statement.proofs.in_book.put_in_book.Goals as goal
 
--- a book with the first of the rows has kept a part of them
+-- a book with the first of the rows has a part of them
 partly : (before now : BookView) (batch i : ℕ) (rows first_rows : List RowView) → first_rows ≡ take i rows
-    → IsKept before now batch first_rows → IsPartlyKept before now rows
-partly before now batch i rows first_rows are kept = record {
-  opened = kept.opened;
+    → AreInBook before now batch first_rows → ArePartlyInBook before now rows
+partly before now batch i rows first_rows are state = record {
+  opened = state.opened;
   count = i;
-  first_rows = rw (← kept.batch_is) (kept.kept ∙ are);
+  first_rows = rw (← state.batch_is) (state.in_book ∙ are);
 }
 
--- such a book refuses no row that comes next
-not_refused : (before now : BookView) (batch : ℕ) (rows : List RowView) (account : List ℕ) → IsKept before now batch rows
+-- a book with the first of the rows refuses no row that comes next
+not_refused : (before now : BookView) (batch : ℕ) (rows : List RowView) (account : List ℕ) → AreInBook before now batch rows
     → row_for rows account ≡ None → put_fault now batch account ≡ None
-not_refused before now batch rows account kept new =
-    let some : nat_lt 0 batch ≡ true = grind (arith, nat_tests, kept.batch_is) in
-    let few : nat_le batch now.opened ≡ true = grind (arith, nat_tests, kept.batch_is, kept.opened) in
-    rw (some, few, kept.kept, new) refl
+not_refused before now batch rows account state new =
+    let some : nat_lt 0 batch ≡ true = grind (arith, nat_tests, state.batch_is) in
+    let few : nat_le batch now.opened ≡ true = grind (arith, nat_tests, state.batch_is, state.opened) in
+    rw (some, few, state.in_book, new) refl
 
 pub returns-in_err-row-clause-refused : goal.returns-in_err-row-clause-refused
 returns-in_err-row-clause-refused c =

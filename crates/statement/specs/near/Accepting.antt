@@ -1,0 +1,26 @@
+-- What two accepted files say.
+use Rattle.std.specs.Prelude.{◌≡◌, ℕ, List, All, Ok, length, true}
+use Rattle.std.specs.Arc.{arc_value}
+use Rattle.plan_compiler.specs.Compiled.{SetView}
+use Rattle.span_csv.specs.PositionFaults.{positions_of}
+use Rattle.span_tables.specs.Holdings.{fits}
+use Rattle.span_tables.specs.Net.{AccountHoldings}
+use Rattle.statement.specs.Statement.{accepted_of, portfolios_under}
+use Rattle.statement.specs.near.Batches.{AreOnce}
+use Rattle.statement.specs.declared.accepting.Accepted.{Accepted}
+
+-- the portfolios fit the set: what each account holds are contracts of its tables
+abbrev pub AllFit : SetView → List AccountHoldings → Type 0
+AllFit set portfolios = All (λ p. fits (length set.tables.contracts) p.holdings ≡ true) portfolios
+
+-- the portfolios are those of the positions under the set
+pub record IsBound (accepted : Accepted) : Type 0 where
+  pub portfolios : portfolios_under (arc_value accepted.set).tables accepted.positions ≡ Ok accepted.portfolios
+  pub fits : AllFit (arc_value accepted.set) accepted.portfolios
+  pub once : AreOnce accepted.portfolios
+
+-- the set and the positions are those of two files, and the portfolios are bound to them
+pub record IsAccepted (params positions : List ℕ) (accepted : Accepted) : Type 0 where
+  pub tables : accepted_of params ≡ Ok (arc_value accepted.set).tables
+  pub records : positions_of positions ≡ Ok accepted.positions
+  pub bound : IsBound accepted
