@@ -20,7 +20,7 @@ pub misnames_read : (words : List Text) (o : Option (Text × List Row)) → subc
     → misnames words ≡ option_map_or (λ p. misnames_in p.0 p.1) o false
 misnames_read words o is = ap (λ (x : Option (Text × List Row)). option_map_or (λ p. misnames_in p.0 p.1) x false) is
 
--- words with such an account are not taken
+-- words with an account that is no name are not taken
 pub misnamed_not_taken : (words : List Text) → misnames words ≡ true → is_taken words ≡ true → ⊥
 unfolding is_taken
 misnamed_not_taken words misnamed taken =
@@ -39,14 +39,14 @@ unfolding kinds_of
 form_mistake words e (inl memory) = inl memory
 form_mistake words e (inr among) = inr (more_kinds (form_kinds words) _ (kind_of e) among)
 
--- words without a mistake in the form, with such an account
+-- words without a mistake in the form, with an account that is no name
 pub misnamed_mistake : (words : List Text) (e : Error) → form_kinds words ≡ [] → misnames words ≡ true
     → (kind_of e ≡ kind.OutOfMemory) ⊎ (kind_of e ≡ kind.ValueValidation) → HasKind (kinds_of words) e
 unfolding kinds_of
 misnamed_mistake words e well misnamed (inl memory) = inl memory
 misnamed_mistake words e well misnamed (inr is) = inr (rw (well, misnamed) (inl is))
 
--- and without one
+-- words without a mistake in the form have no kind of mistake, where no account is misnamed
 pub no_mistake : (words : List Text) → form_kinds words ≡ [] → misnames words ≡ false → kinds_of words ≡ []
 unfolding kinds_of
 no_mistake words well named = rw (well, named) refl

@@ -14,7 +14,7 @@ pub taken_fails : {T : Type 0} (a : App) (words : List Text) (r : Result T Error
 unfolding has_form
 taken_fails a words r same h = subst (λ (x : App). IfErr r (λ e. takes x words ≡ true → kind_of e ≡ OutOfMemory)) same h
 
--- and others for a mistake that they have
+-- words that have not the form are refused for a mistake that they have
 pub mistaken_fails : {T : Type 0} (a : App) (words : List Text) (r : Result T Error) → a ≡ span_app
     → (is_simple_and_free a ≡ true → FailsBy (fault_of a words) r) → FailsBy (form_kinds words) r
 unfolding form_kinds

@@ -117,13 +117,13 @@ with_commands app [] = app
 with_commands app (command ∷ others) = with_commands (with_subcommand app command.top) others
 
 -- the program, which has a version, without its commands, of which one has to be given
-abbrev pub bare_app : App
-bare_app =
+abbrev pub app_without_commands : App
+app_without_commands =
     let a = new_app (codes "span") in record a { top = record a.top { subcommand_required = true; has_version = true } }
 
 -- the program
 abbrev pub span_app : App
-span_app = with_commands bare_app (map command_app commands)
+span_app = with_commands app_without_commands (map command_app commands)
 
 -- the names of files that are given, in their order; nothing where one that has to be given is not
 abbrev pub given_before : Option Text → Bool → Option (List Text) → Option (List Text)

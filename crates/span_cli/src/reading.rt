@@ -143,7 +143,7 @@ pub fn read_within<R: Read>(
     ensures read { OnOk result (reader.new.failed ≡ false) }
 
     ensures too_long { result ≡ Err ReadFault.TooLong → IfSome reader.old.bytes (λ all. cap < length all) }
-    // Want of memory, and a turn that was interrupted, are no failure.
+    // Want of memory is no failure, and neither is a turn that was interrupted.
     ensures failed { result ≡ Err ReadFault.Failed → (reader.new.failed ≡ true) ⊎ (reader.new.turns ≡ 0) }
 {
     match zeros(alloc, PIECE) {

@@ -58,7 +58,7 @@ pub enum Request<'a> {
     },
 }
 
-// These names, of which there are at most three.
+// Names, of which there are at most three.
 fn listed<'a>(names: &[&'a str]) -> ArrayVec<&'a str, 3>
     requires { length names.now ≤ 3 }
     ensures { result.items ≡ names.now }
@@ -145,45 +145,51 @@ fn load_all<'a, S: Sources>(
     Ok(files)
 }
 
+// What a request is lent: a runtime, an allocator, and the gate that workers pass.
+#[derive(Drop)]
+pub(crate) struct Lent<'a, R, G: Gate> {
+    pub(crate) rt: &'a R,
+    pub(crate) alloc: Global,
+    pub(crate) gate: &'a G,
+}
+
 // What a roll of these bytes gives. The book of its two batches is a new one, which nobody reads.
 fn rolled<R: Threads + Wait + Clock + Sync, G: Gate>(
-    rt: &R,
-    alloc: Global,
+    lent: &Lent<'_, R, G>,
     params: &[u8],
     next: &[u8],
     positions: &[u8],
     workers: usize,
-    gate: &G,
 ) -> Result<Vec<u8>, SpanFault>
     ensures { MayGive (λ text. text.items) result (IsOfRoll workers params.now next.now positions.now) }
 {
-    let book = Mutex::new(ResultBook::new(alloc));
-    roll(rt, alloc, params, next, positions, workers, gate, &book)
+    let book = Mutex::new(ResultBook::new(lent.alloc));
+    roll(
+        lent.rt, lent.alloc, params, next, positions, workers, lent.gate, &book,
+    )
 }
 
 // What a request gives of the bytes of its files.
 fn answer<R: Threads + Wait + Clock + Sync, G: Gate>(
-    rt: &R,
-    alloc: Global,
+    lent: &Lent<'_, R, G>,
     request: &Request<'_>,
     files: &[Vec<u8>],
-    gate: &G,
 ) -> Result<Vec<u8>, SpanFault>
     requires { length files.now ≡ length (asked_by request.now).1 }
     ensures { MayGive (λ text. text.items) result
         (answered (asked_by request.now).0 (map (λ file. file.items) files.now)) }
 {
     match (request, files) {
-        (Request::Check { .. }, [params]) => check_plain(alloc, params),
-        (Request::Plan { .. }, [params]) => plan_plain(alloc, params),
+        (Request::Check { .. }, [params]) => check_plain(lent.alloc, params),
+        (Request::Plan { .. }, [params]) => plan_plain(lent.alloc, params),
         (Request::Margin { workers, .. }, [params, positions]) => {
-            margin(rt, alloc, params, positions, *workers, gate)
+            margin(lent.rt, lent.alloc, params, positions, *workers, lent.gate)
         }
         (Request::Explain { account, .. }, [params, positions]) => {
-            explain(alloc, params, positions, account.as_ref())
+            explain(lent.alloc, params, positions, account.as_ref())
         }
         (Request::Roll { workers, .. }, [params, next, positions]) => {
-            rolled(rt, alloc, params, next, positions, *workers, gate)
+            rolled(lent, params, next, positions, *workers)
         }
         _ => unreachable!(),
     }
@@ -191,16 +197,14 @@ fn answer<R: Threads + Wait + Clock + Sync, G: Gate>(
 
 // What a request gives.
 fn run<'a, S: Sources, R: Threads + Wait + Clock + Sync, G: Gate>(
-    rt: &R,
-    alloc: Global,
+    lent: &Lent<'_, R, G>,
     request: &Request<'a>,
     sources: &mut S,
-    gate: &G,
 ) -> Result<Vec<u8>, Refusal<'a>>
     ensures { Runs (λ text. text.items) result (IsAnswer (S.file sources.old) (asked_by request.now)) }
 {
-    let files = load_all(alloc, sources, &request.files())?;
-    let text = answer(rt, alloc, request, &files, gate)?;
+    let files = load_all(lent.alloc, sources, &request.files())?;
+    let text = answer(lent, request, &files)?;
     Ok(text)
 }
 
@@ -270,7 +274,8 @@ pub fn serve<S: Sources, W: Write, E: Write, R: Threads + Wait + Clock + Sync, G
     requires { out.old.failed ≡ false }
     ensures { Serves (S.file sources.old) (asked_by request.entry) result out.old out.new err.old err.new }
 {
-    match run(rt, alloc, &request, sources, gate) {
+    let lent = Lent { rt, alloc, gate };
+    match run(&lent, &request, sources) {
         Ok(text) => give(text, out, err),
         Err(refusal) => refuse(refusal, err),
     }

@@ -4,7 +4,7 @@ ghost use Rattle.clap.specs.Words.{subcommand_of, subcommand_rows_of, with_rule,
 ghost use Rattle.clap.specs.declared.builder.command.Command.TheViews.{out-Command as fields_of};
 ghost use Rattle.span_cli.specs.Serving.{asked_by, memory};
 ghost use Rattle.span_cli.specs.Telling.{AnswersWords, IsMistake, IsShown, Refuses, Serves, Tells, no_text_line};
-ghost use Rattle.span_cli.specs.Words.{account_in, account_rule, asked_among, asked_in, bare_app, commands, form_kinds};
+ghost use Rattle.span_cli.specs.Words.{account_in, account_rule, app_without_commands, asked_among, asked_in, commands, form_kinds};
 ghost use Rattle.span_cli.specs.Words.{has_form, is_taken, joined_words, kinds_of, misnames_in, number_in, span_app};
 ghost use Rattle.span_cli.specs.Words.{with_commands, with_rules, workers_in, workers_rule};
 ghost use Rattle.span_cli.specs.near.Rows.{file_rule_of, option_rule, row_app};
@@ -15,7 +15,7 @@ ghost use Rattle.std.specs.declared.io.ErrorKind.TheVariants as kind;
 ghost use Rattle.std.specs.Prelude.{◌≡◌, ◌≢◌, ◌⊎◌, IfErr, IfOk, IfSome, codes, false, map, option_map, true};
 
 use crate::joining::join_words;
-use crate::serving::{Request, serve};
+use crate::serving::{Lent, Request, serve};
 use crate::sources::Sources;
 use clap::builder::ValueParser;
 use clap::error::ErrorKind;
@@ -263,8 +263,8 @@ fn command<'a>(alloc: Global, row: &CommandRow) -> Result<Command<'a>, AllocErro
 }
 
 // The program without its commands.
-fn bare<'a>(alloc: Global) -> Command<'a>
-    ensures { app_of result ≡ bare_app }
+fn without_commands<'a>(alloc: Global) -> Command<'a>
+    ensures { app_of result ≡ app_without_commands }
 {
     Command::new(alloc, "span")
         .about("Margins futures and options accounts by the SPAN method")
@@ -291,7 +291,7 @@ fn with_rows<'a>(
 fn span<'a>(alloc: Global) -> Result<Command<'a>, AllocError>
     ensures shape { IfOk result (λ c. app_of c ≡ span_app) }
 {
-    with_rows(alloc, bare(alloc), &COMMANDS)
+    with_rows(alloc, without_commands(alloc), &COMMANDS)
 }
 
 fn text<'a>(matches: &ArgMatches<'a>, id: &str) -> Option<&'a str>
@@ -362,7 +362,7 @@ fn misnames(name: &str, matches: &ArgMatches<'_>) -> bool
     name == "explain" && account_asked(matches).is_none()
 }
 
-// What is said of such an account, with the usage of `explain`.
+// What is said of an account that is no name, with the usage of `explain`.
 fn misnamed(alloc: Global) -> Result<Error, AllocError>
     ensures { IfOk result (λ e. kind_of e ≡ ErrorKind.ValueValidation) }
 {
@@ -370,7 +370,7 @@ fn misnamed(alloc: Global) -> Result<Error, AllocError>
     command.error(ErrorKind::ValueValidation, BAD_ACCOUNT)
 }
 
-// The same, or want of memory.
+// What is said of an account that is no name, or want of memory.
 fn refuse_account(alloc: Global) -> Error
     ensures { (kind_of result ≡ ErrorKind.OutOfMemory) ⊎ (kind_of result ≡ ErrorKind.ValueValidation) }
 {
@@ -476,11 +476,9 @@ fn answer_words<
     R: Threads + Wait + Clock + Sync,
     G: Gate,
 >(
-    rt: &R,
-    alloc: Global,
+    lent: &Lent<'_, R, G>,
     words: &[T],
     sources: &mut S,
-    gate: &G,
     out: &mut MarkedWriter<W>,
     err: &mut MarkedWriter<E>,
 ) -> u8
@@ -491,8 +489,8 @@ fn answer_words<
         Serves (S.file sources.old) asked result out.old out.new err.old err.new))
         result out.old out.new err.old err.new }
 {
-    match request(alloc, words) {
-        Ok(Some(request)) => serve(rt, alloc, request, sources, gate, out, err),
+    match request(lent.alloc, words) {
+        Ok(Some(request)) => serve(lent.rt, lent.alloc, request, sources, lent.gate, out, err),
         Ok(None) => say_nothing_asked(err),
         Err(error) => refuse(error, out, err),
     }
@@ -526,8 +524,9 @@ pub fn run_words<
         Serves (S.file sources.old) asked result out.old out.new err.old err.new))
         result out.old out.new err.old err.new }
 {
+    let lent = Lent { rt, alloc, gate };
     match join_words(alloc, words) {
-        Ok(joined) => answer_words(rt, alloc, &joined, sources, gate, out, err),
+        Ok(joined) => answer_words(&lent, &joined, sources, out, err),
         Err(error) => refuse(Error::from(error), out, err),
     }
 }

@@ -14,22 +14,18 @@ returns-in_err-matches-clause-kinds g c =
     let is : c.from_residual.result ≡ Err c.in_err-matches.field-0.0 = search rules in
     rw (is) (form_mistake _ c.in_err-matches.field-0.0 c.in_err-matches.ensures.kinds)
 
-pub returns-then-misnames-clause-err : goal.returns-then-misnames-clause-err
-returns-then-misnames-clause-err g c = λ taken.
+pub returns-then-misnames : goal.returns-then-misnames
+returns-then-misnames g c =
     let words = map g.S.AsStr.text c.args.words.now in
     let found : subcommand_of span_app words
     ≡ Some (c.in-Some.name.now, rows_of (found_of c.in-Some.found.now)) = search rules in
     let misnamed : misnames_in c.in-Some.name.now (rows_of (found_of c.in-Some.found.now)) ≡ true = search rules in
-    absurd (misnamed_not_taken words (misnames_read words _ found ∙ misnamed) taken)
-
-pub returns-then-misnames-clause-kinds : goal.returns-then-misnames-clause-kinds
-returns-then-misnames-clause-kinds g c =
-    let words = map g.S.AsStr.text c.args.words.now in
-    let found : subcommand_of span_app words
-    ≡ Some (c.in-Some.name.now, rows_of (found_of c.in-Some.found.now)) = search rules in
-    let misnamed : misnames_in c.in-Some.name.now (rows_of (found_of c.in-Some.found.now)) ≡ true = search rules in
-    misnamed_mistake words c.refuse_account.result c.in_ok-matches.ensures.kinds (misnames_read words _ found ∙ misnamed)
-    c.refuse_account.ensures
+    let is = misnames_read words _ found ∙ misnamed in
+    record {
+      ok = tt;
+      err = λ taken. absurd (misnamed_not_taken words is taken);
+      kinds = misnamed_mistake words c.refuse_account.result c.in_ok-matches.ensures.kinds is c.refuse_account.ensures;
+    }
 
 pub returns-in-Some-clause-kinds : goal.returns-in-Some-clause-kinds
 returns-in-Some-clause-kinds g c =

@@ -2,11 +2,11 @@
 use Rattle.std.specs.Prelude.{List, ◌∷◌, codes}
 use Rattle.clap.specs.Words.{Text}
 use Rattle.span_cli.specs.Words.{joined, joined_words}
-use Rattle.span_cli.specs.declared.joining.Place.{Place}
-use Rattle.span_cli.specs.declared.joining.Place.TheVariants.{Program, Any, Value, Plain}
+use Rattle.span_cli.specs.declared.joining.NextWord.{NextWord}
+use Rattle.span_cli.specs.declared.joining.NextWord.TheVariants.{Program, Any, Value, Plain}
 
--- what is made of the words at a place
-abbrev pub rest_of : Place → List Text → List Text
+-- what is made of the words, of which the first may be this
+abbrev pub rest_of : NextWord → List Text → List Text
 rest_of Program words = joined_words words
 rest_of Any words = joined words
 rest_of Value words = joined (codes "--account" ∷ words)
