@@ -13,10 +13,10 @@ use Rattle.span_tables.specs.Net.{AccountHoldings}
 use Rattle.span_tables.specs.Tables.{AcceptedTables}
 use Rattle.span_tables.specs.declared.portfolios.Holding.{Holding}
 use Rattle.span_tables.specs.declared.records.PositionRecord.{PositionRecord}
-use Rattle.plan_ir.specs.Figures.{commodity_at, figures_of, held_at, is_held, option_value_of}
+use Rattle.plan_ir.specs.Figures.{commodity_at, figures_of, held_at, is_commodity_held, option_value_of}
 use Rattle.reasons.specs.Reasons.{credit_reasons, held_reason, held_reasons, inter_reason, inters_shown_at, intra_reason}
 use Rattle.reasons.specs.Reasons.{intras_shown_at, month_reason, month_reasons, months_shown_at, reasons_of, scan_reasons}
-use Rattle.reasons.specs.Reasons.{credit_reason, line_after_all, short_reason, spot_reason, spots_shown_at}
+use Rattle.reasons.specs.Reasons.{credit_reason, state_after_all, short_reason, spot_reason, spots_shown_at}
 use Rattle.statement.specs.Statement.{accepted_of, and_then, commodity_text, figures_line, portfolios_under}
 use Rattle.statement.specs.Statement.{row_text, same, statement_bound, statement_of, statement_text, statement_under, total_line}
 use Rattle.statement.specs.Statement.{total_numbers, total_of}
@@ -72,7 +72,7 @@ module _ (account set_id commodity : List ℕ) where
       → of_statement (lines_of (credit_reasons t holdings c)) ≡ []
   none_of_credit t holdings c =
       let inters = inters_shown_at t holdings c in
-      none-append (map inter_reason inters) (credit_reason (line_after_all t holdings c) ∷ [])
+      none-append (map inter_reason inters) (credit_reason (state_after_all t holdings c) ∷ [])
       (none-map inter_reason (λ s. refl) inters) refl
 
   none_of_reasons : (t : AcceptedTables) (holdings : List Holding) (c : ℕ)
@@ -108,7 +108,7 @@ module _ (t : AcceptedTables) (p : AccountHoldings) where
   commodity_if false c = refl
 
   commodity_contained : (c : ℕ) → flat_map line (of_statement (commodity_lines t p c)) ≡ commodity_text t p c
-  commodity_contained c = commodity_if (is_held t p.holdings c) c
+  commodity_contained c = commodity_if (is_commodity_held t p.holdings c) c
 
 of_statement-flat_map : {A : Type 0} (f : A → List Line) (xs : List A)
     → flat_map line (of_statement (flat_map f xs)) ≡ flat_map (λ x. flat_map line (of_statement (f x))) xs

@@ -6,7 +6,7 @@ use Rattle.span_money.specs.LineFields.{Line, line}
 use Rattle.span_csv.specs.PositionFaults.{positions_of}
 use Rattle.span_tables.specs.Net.{AccountHoldings}
 use Rattle.span_tables.specs.Tables.{AcceptedTables}
-use Rattle.plan_ir.specs.Figures.{commodity_at, figures_of, is_held, option_value_of}
+use Rattle.plan_ir.specs.Figures.{commodity_at, figures_of, is_commodity_held, option_value_of}
 use Rattle.statement.specs.Statement.{accepted_of, and_then, figures_line, portfolios_under, same, total_line, total_numbers}
 use Rattle.statement.specs.Statement.{total_of}
 use Rattle.statement.specs.declared.faults.SpanFault.{SpanFault}
@@ -22,7 +22,7 @@ reason_line account set_id commodity r = record { word = r.word; fields = accoun
 -- the lines of an account for the commodity of a number, where it holds a contract of it: the reasons, and then the figures
 abbrev pub commodity_lines : AcceptedTables → AccountHoldings → ℕ → List Line
 commodity_lines t p c =
-    if is_held t p.holdings c
+    if is_commodity_held t p.holdings c
     then map (reason_line p.account t.set_id (commodity_at t c).id) (reasons_of t p.holdings c)
     ++ figures_line p.account t.set_id (commodity_at t c).id (figures_of t p.holdings c) ∷ []
     else []

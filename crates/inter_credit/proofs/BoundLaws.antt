@@ -1,4 +1,4 @@
--- The sizes of minimums, of credits and of requirements, and that lines stay within their ranges.
+-- The sizes of minimums, of credits and of requirements, and that states stay within their ranges.
 use Rattle.std.proofs.Common.{◌≡◌, ◌≢◌, ℕ, zero, suc, ◌+◌, ◌-◌, ◌*◌, ◌^◌, ◌<◌, ◌≤◌, ◌==◌, Bool, true, false, cond, List, [], ◌∷◌}
 use Rattle.std.proofs.Common.{length, filter, fold, nat_abs, ℤ, pos, negsuc, ◌+ℤ◌, ◌-ℤ◌, refl, ap, ◌∙◌, arith}
 use Rattle.std.specs.Prelude.{All}
@@ -16,14 +16,14 @@ use Rattle.span_tables.specs.declared.records.MinimumMethod.{MinimumMethod}
 use Rattle.span_tables.specs.declared.records.MinimumMethod.TheVariants as method
 use Rattle.span_tables.specs.declared.records.ProductKind.{ProductKind}
 use Rattle.span_tables.specs.declared.records.ProductKind.TheVariants as product
-use Rattle.inter_credit.specs.Credits.{after_inter_spreads, credit_at, credit_of, inter_both_ways, line_at}
+use Rattle.inter_credit.specs.Credits.{after_inter_spreads, credit_at, credit_of, inter_both_ways, state_at}
 use Rattle.inter_credit.specs.Requirement.{is_call, is_put, minimum_of, requirement_of, short_count, short_options}
-use Rattle.inter_credit.specs.States.{UsesLine}
-use Rattle.inter_credit.specs.near.Lines.{IsLine}
-use Rattle.inter_credit.specs.declared.state.InterLine.{InterLine}
+use Rattle.inter_credit.specs.States.{UsesState}
+use Rattle.inter_credit.specs.near.CommodityStates.{IsCommodityState}
+use Rattle.inter_credit.specs.declared.state.CommodityState.{CommodityState}
 use Rattle.inter_credit.proofs.CreditLaws.{credit_greatest, credit_zero}
 use Rattle.inter_credit.proofs.MinimumLaws.{by_test}
-use Rattle.inter_credit.proofs.OpenLemmas.{loaded_line}
+use Rattle.inter_credit.proofs.OpenLemmas.{loaded_state}
 use Rattle.inter_credit.proofs.RestLaws.{both_ways_use, length-inter_both_ways}
 use Rattle.inter_credit.proofs.Sizes.{size-int_max, size-parts}
 
@@ -77,7 +77,7 @@ requirement_small scan intra delivery credit minimum =
     let larger = size-int_max (((scan +ℤ intra) +ℤ delivery) -ℤ credit) minimum in
     omega (arith, size-parts scan intra delivery credit, larger)
 
--- ---- lines
+-- ---- states
 
 parts_size : (z : ℤ) → nat_abs z ≡ positive_part z + negative_part z
 parts_size (pos n) = omega arith
@@ -102,10 +102,10 @@ weight_stays bp whole before after weight weight_after most le less same small =
     let t = split bp (whole - bp) after in
     omega (arith, was, is, fewer, s, t, same, small)
 
--- a line of which units were used is one
-line_stays : (basis_points : ℕ) (before after : InterLine) → basis_points ≤ MAX_BASIS_POINTS → UsesLine basis_points before after
-    → IsLine before → IsLine after
-line_stays bp before after small uses is = record {
+-- a state of which units were used is one
+state_stays : (basis_points : ℕ) (before after : CommodityState) → basis_points ≤ MAX_BASIS_POINTS → UsesState basis_points before after
+    → IsCommodityState before → IsCommodityState after
+state_stays bp before after small uses is = record {
   net = rw uses.net is.net;
   price2 = rw uses.price2 is.price2;
   rest = record {
@@ -116,46 +116,46 @@ line_stays bp before after small uses is = record {
       (MAX_BASIS_POINTS * nat_abs before.net) small (left_size before.rest after.rest uses.rest) uses.weight is.weight);
 }
 
--- each commodity's line is one, also of a number that no commodity has
-each_line : (lines : List InterLine) → All IsLine lines → (k : ℕ) → IsLine (line_at lines k)
-each_line [] all k = loaded_line (pos 0) 0 (omega arith) (omega arith)
-each_line (line ∷ lines) all zero = All-head IsLine line lines all
-each_line (line ∷ lines) all (suc k) = each_line lines (All-tail IsLine line lines all) k
+-- each commodity's state is one, also of a number that no commodity has
+each_state : (states : List CommodityState) → All IsCommodityState states → (k : ℕ) → IsCommodityState (state_at states k)
+each_state [] all k = loaded_state (pos 0) 0 (omega arith) (omega arith)
+each_state (state ∷ states) all zero = All-head IsCommodityState state states all
+each_state (state ∷ states) all (suc k) = each_state states (All-tail IsCommodityState state states all) k
 
-all_lines : (lines : List InterLine) → ((k : ℕ) → IsLine (line_at lines k)) → All IsLine lines
-all_lines [] each k d lt = absurd (omega (arith, lt))
-all_lines (line ∷ lines) each zero d lt = each zero
-all_lines (line ∷ lines) each (suc k) d lt = all_lines lines (λ i. each (suc i)) k d (omega (arith, lt))
+states_after_all_spreads : (states : List CommodityState) → ((k : ℕ) → IsCommodityState (state_at states k)) → All IsCommodityState states
+states_after_all_spreads [] each k d lt = absurd (omega (arith, lt))
+states_after_all_spreads (state ∷ states) each zero d lt = each zero
+states_after_all_spreads (state ∷ states) each (suc k) d lt = states_after_all_spreads states (λ i. each (suc i)) k d (omega (arith, lt))
 
 -- after a spread in both directions
-pub both_ways_lines : (s : Inter) (lines : List InterLine) → All IsLine lines → IsInter (length lines) s
-    → All IsLine (inter_both_ways lines s)
-both_ways_lines s lines all is =
-    all_lines (inter_both_ways lines s)
-    (λ k. line_stays s.basis_points (line_at lines k) (line_at (inter_both_ways lines s) k) is.basis_points
-    (both_ways_use lines s is k) (each_line lines all k))
+pub both_ways_states : (s : Inter) (states : List CommodityState) → All IsCommodityState states → IsInter (length states) s
+    → All IsCommodityState (inter_both_ways states s)
+both_ways_states s states all is =
+    states_after_all_spreads (inter_both_ways states s)
+    (λ k. state_stays s.basis_points (state_at states k) (state_at (inter_both_ways states s) k) is.basis_points
+    (both_ways_use states s is k) (each_state states all k))
 
-fold_stays : (spreads : List Inter) (n : ℕ) (lines : List InterLine) → length lines ≡ n → All IsLine lines
-    → All (IsInter n) spreads → All IsLine (fold inter_both_ways lines spreads)
-fold_stays [] n lines long all are = all
-fold_stays (s ∷ spreads) n lines long all are =
+fold_stays : (spreads : List Inter) (n : ℕ) (states : List CommodityState) → length states ≡ n → All IsCommodityState states
+    → All (IsInter n) spreads → All IsCommodityState (fold inter_both_ways states spreads)
+fold_stays [] n states long all are = all
+fold_stays (s ∷ spreads) n states long all are =
     let is : IsInter n s = All-head (IsInter n) s spreads are in
-    fold_stays spreads n (inter_both_ways lines s) (length-inter_both_ways lines s ∙ long)
-    (both_ways_lines s lines all (rw long is)) (All-tail (IsInter n) s spreads are)
+    fold_stays spreads n (inter_both_ways states s) (length-inter_both_ways states s ∙ long)
+    (both_ways_states s states all (rw long is)) (All-tail (IsInter n) s spreads are)
 
 -- after all spreads
-pub lines_stay : (spreads : List Inter) (lines : List InterLine) → All IsLine lines → All (IsInter (length lines)) spreads
-    → All IsLine (after_inter_spreads spreads lines)
+pub states_stay : (spreads : List Inter) (states : List CommodityState) → All IsCommodityState states → All (IsInter (length states)) spreads
+    → All IsCommodityState (after_inter_spreads spreads states)
 unfolding after_inter_spreads
-lines_stay spreads lines all are = fold_stays spreads (length lines) lines refl all are
+states_stay spreads states all are = fold_stays spreads (length states) states refl all are
 
 -- spreads keep the number of commodities
-pub length-after_inter_spreads : (spreads : List Inter) (lines : List InterLine)
-    → length (after_inter_spreads spreads lines) ≡ length lines
+pub length-after_inter_spreads : (spreads : List Inter) (states : List CommodityState)
+    → length (after_inter_spreads spreads states) ≡ length states
 unfolding after_inter_spreads
-length-after_inter_spreads [] lines = refl
-length-after_inter_spreads (s ∷ spreads) lines =
-    length-after_inter_spreads spreads (inter_both_ways lines s) ∙ length-inter_both_ways lines s
+length-after_inter_spreads [] states = refl
+length-after_inter_spreads (s ∷ spreads) states =
+    length-after_inter_spreads spreads (inter_both_ways states s) ∙ length-inter_both_ways states s
 
 -- ---- the credit
 
@@ -171,19 +171,19 @@ half g n price2 weight some below small =
     let less : 2 * g < price2 + 1 = lt_of_mul-lt-mul_right unit lt in
     omega (arith, less)
 
-credit_if : (b : Bool) (line : InterLine) → (nat_abs line.net == 0) ≡ b → IsLine line → 2 * credit_of line ≤ line.price2
-credit_if true line e is =
-    let none = credit_zero line (grind (arith, nat_tests, e)) in
+credit_if : (b : Bool) (state : CommodityState) → (nat_abs state.net == 0) ≡ b → IsCommodityState state → 2 * credit_of state ≤ state.price2
+credit_if true state e is =
+    let none = credit_zero state (grind (arith, nat_tests, e)) in
     omega (arith, none)
-credit_if false line e is =
-    let some : nat_abs line.net ≢ 0 = grind (arith, nat_tests, e) in
-    let weight : line.weight ≤ 10 ^ 4 * nat_abs line.net = omega (arith, is.weight) in
-    half (credit_of line) (nat_abs line.net) line.price2 line.weight some (credit_greatest line some).0 weight
+credit_if false state e is =
+    let some : nat_abs state.net ≢ 0 = grind (arith, nat_tests, e) in
+    let weight : state.weight ≤ 10 ^ 4 * nat_abs state.net = omega (arith, is.weight) in
+    half (credit_of state) (nat_abs state.net) state.price2 state.weight some (credit_greatest state some).0 weight
 
 -- the credit of a commodity
-pub credit_small : (lines : List InterLine) (c : ℕ) → All IsLine lines → 2 * credit_at lines c ≤ MAX_PRICE2
+pub credit_small : (states : List CommodityState) (c : ℕ) → All IsCommodityState states → 2 * credit_at states c ≤ MAX_PRICE2
 credit_small [] c all = omega arith
-credit_small (line ∷ lines) zero all =
-    let is : IsLine line = All-head IsLine line lines all in
-    omega (arith, credit_if (nat_abs line.net == 0) line refl is, is.price2)
-credit_small (line ∷ lines) (suc c) all = credit_small lines c (All-tail IsLine line lines all)
+credit_small (state ∷ states) zero all =
+    let is : IsCommodityState state = All-head IsCommodityState state states all in
+    omega (arith, credit_if (nat_abs state.net == 0) state refl is, is.price2)
+credit_small (state ∷ states) (suc c) all = credit_small states c (All-tail IsCommodityState state states all)

@@ -9,9 +9,9 @@ use Rattle.span_tables.specs.declared.records.Inter.{Inter}
 use Rattle.span_tables.specs.declared.records.Side.{Side}
 use Rattle.span_tables.specs.declared.records.Side.TheVariants as side
 use Rattle.span_tables.specs.declared.sides.Direction.TheVariants.{ALong, AShort}
-use Rattle.inter_credit.specs.Credits.{commodity_rooms, formed_both, formed_in, inter_one_way, rest_at}
-use Rattle.inter_credit.specs.declared.state.InterLine.{InterLine}
-use Rattle.inter_credit.proofs.LineLemmas.{rest_of_line}
+use Rattle.inter_credit.specs.Credits.{commodity_rooms, inter_formed_both, inter_formed_in, inter_one_way, rest_at}
+use Rattle.inter_credit.specs.declared.state.CommodityState.{CommodityState}
+use Rattle.inter_credit.proofs.StateLemmas.{rest_of_state}
 use Rattle.inter_credit.proofs.OpenLemmas.{some_of_some}
 use Rattle.inter_credit.proofs.RestLaws.{one_way_uses}
 
@@ -23,7 +23,7 @@ other_side side.A (negsuc n) after left some = absurd (omega (arith, some))
 other_side side.B (pos n) after left some = absurd (omega (arith, some))
 other_side side.B (negsuc n) after left some = let h = left.long in omega (arith, h)
 
-module _ (before after : List InterLine) (left : (k : ℕ) → IsLeftOf (rest_at before k) (rest_at after k)) where
+module _ (before after : List CommodityState) (left : (k : ℕ) → IsLeftOf (rest_at before k) (rest_at after k)) where
   none_of : (leg : CommodityLeg) → 0 < part_on (market_side ALong leg.side) (rest_at before leg.commodity) / leg.ratio
       → part_on (market_side AShort leg.side) (rest_at after leg.commodity) / leg.ratio ≡ 0
   none_of leg some =
@@ -36,14 +36,14 @@ module _ (before after : List InterLine) (left : (k : ℕ) → IsLeftOf (rest_at
   none_with_a_short (leg ∷ []) some = none_of leg some
   none_with_a_short (leg ∷ next ∷ legs) some = let none = none_of leg (omega (arith, some)) in omega (arith, none)
 
-pub one_direction : (lines : List InterLine) (s : Inter) → IsInter (length lines) s
-    → ((formed_both lines s).a_long ≡ 0) ⊎ ((formed_both lines s).a_short ≡ 0)
-one_direction lines s inter = by_count (formed_in s ALong lines) refl where
-  left : (k : ℕ) → IsLeftOf (rest_at lines k) (rest_at (inter_one_way s ALong lines) k)
+pub one_direction : (states : List CommodityState) (s : Inter) → IsInter (length states) s
+    → ((inter_formed_both states s).a_long ≡ 0) ⊎ ((inter_formed_both states s).a_short ≡ 0)
+one_direction states s inter = by_count (inter_formed_in s ALong states) refl where
+  left : (k : ℕ) → IsLeftOf (rest_at states k) (rest_at (inter_one_way s ALong states) k)
   left k =
-      let uses = one_way_uses s ALong lines inter k in
-      rw (rest_of_line lines k, rest_of_line (inter_one_way s ALong lines) k) uses.rest
+      let uses = one_way_uses s ALong states inter k in
+      rw (rest_of_state states k, rest_of_state (inter_one_way s ALong states) k) uses.rest
 
-  by_count : (n : ℕ) → formed_in s ALong lines ≡ n → ((formed_both lines s).a_long ≡ 0) ⊎ ((formed_both lines s).a_short ≡ 0)
+  by_count : (n : ℕ) → inter_formed_in s ALong states ≡ n → ((inter_formed_both states s).a_long ≡ 0) ⊎ ((inter_formed_both states s).a_short ≡ 0)
   by_count zero e = inl e
-  by_count (suc n) e = inr (none_with_a_short lines (inter_one_way s ALong lines) left s.legs (omega (arith, e)))
+  by_count (suc n) e = inr (none_with_a_short states (inter_one_way s ALong states) left s.legs (omega (arith, e)))

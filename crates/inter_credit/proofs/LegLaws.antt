@@ -12,11 +12,11 @@ use Rattle.span_tables.specs.declared.sides.MarketSide.{MarketSide}
 use Rattle.span_tables.specs.declared.sides.MarketSide.TheVariants.{Long, Short}
 use Rattle.span_tables.specs.declared.records.CommodityLeg.{CommodityLeg}
 use Rattle.span_tables.specs.declared.records.Inter.{Inter}
-use Rattle.inter_credit.specs.Credits.{change_at, commodity_rooms, inter_one_way, leg_side, line_after, line_at}
-use Rattle.inter_credit.specs.Credits.{lines_after, rest_at}
+use Rattle.inter_credit.specs.Credits.{change_at, commodity_rooms, inter_one_way, leg_side, state_after, state_at}
+use Rattle.inter_credit.specs.Credits.{states_after, rest_at}
 use Rattle.inter_credit.specs.near.Rooms.{HaveRoom}
-use Rattle.inter_credit.specs.declared.state.InterLine.{InterLine}
-use Rattle.inter_credit.proofs.LineLemmas.{HaveRoom-rest, line_at-change_at, not_equal, or_left, or_right, rest_at-change_at}
+use Rattle.inter_credit.specs.declared.state.CommodityState.{CommodityState}
+use Rattle.inter_credit.proofs.StateLemmas.{HaveRoom-rest, state_at-change_at, not_equal, or_left, or_right, rest_at-change_at}
 use Rattle.inter_credit.proofs.SpreadLemmas.{formed_have_room}
 
 part_of_neg : (n : ℕ) → negative_part (neg_ℤ (pos n)) ≡ n
@@ -33,12 +33,12 @@ used_part Short (negsuc n) used le =
     rw e (rw (part_of_neg (suc n - used)) (omega arith))
 
 -- the side of a commodity falls by what was used of it
-side_falls : (on : MarketSide) (used basis_points i : ℕ) (lines : List InterLine) → i < length lines
-    → used ≤ part_on on (rest_at lines i)
-    → part_on on (rest_at (change_at (line_after on used basis_points) i lines) i) + used ≡ part_on on (rest_at lines i)
+side_falls : (on : MarketSide) (used basis_points i : ℕ) (states : List CommodityState) → i < length states
+    → used ≤ part_on on (rest_at states i)
+    → part_on on (rest_at (change_at (state_after on used basis_points) i states) i) + used ≡ part_on on (rest_at states i)
 side_falls on used bp i [] lt le = absurd (omega arith)
-side_falls on used bp zero (line ∷ lines) lt le = used_part on line.rest used le
-side_falls on used bp (suc i) (line ∷ lines) lt le = side_falls on used bp i lines (omega arith) le
+side_falls on used bp zero (state ∷ states) lt le = used_part on state.rest used le
+side_falls on used bp (suc i) (state ∷ states) lt le = side_falls on used bp i states (omega arith) le
 
 -- no other leg is of a leg's commodity
 each_apart : (leg : CommodityLeg) (legs : List CommodityLeg) → list_any (λ b. leg.commodity == b.commodity) legs ≡ false
@@ -51,59 +51,59 @@ each_apart leg (other ∷ legs) e =
     )
 
 module _ (d : Direction) (n basis_points : ℕ) where
-  abbrev after : CommodityLeg → List InterLine → List InterLine
-  after leg lines = change_at (line_after (market_side d leg.side) (n * leg.ratio) basis_points) leg.commodity lines
+  abbrev after : CommodityLeg → List CommodityState → List CommodityState
+  after leg states = change_at (state_after (market_side d leg.side) (n * leg.ratio) basis_points) leg.commodity states
 
-  others_kept : (k : ℕ) (legs : List CommodityLeg) (lines : List InterLine) → AllByRecursion (λ leg. leg.commodity ≢ k) legs
-      → line_at (lines_after d n basis_points legs lines) k ≡ line_at lines k
-  others_kept k [] lines apart = refl
-  others_kept k (leg ∷ legs) lines apart =
-      others_kept k legs (after leg lines) apart.1
-      ∙ line_at-change_at (line_after (market_side d leg.side) (n * leg.ratio) basis_points) leg.commodity k lines apart.0
+  others_kept : (k : ℕ) (legs : List CommodityLeg) (states : List CommodityState) → AllByRecursion (λ leg. leg.commodity ≢ k) legs
+      → state_at (states_after d n basis_points legs states) k ≡ state_at states k
+  others_kept k [] states apart = refl
+  others_kept k (leg ∷ legs) states apart =
+      others_kept k legs (after leg states) apart.1
+      ∙ state_at-change_at (state_after (market_side d leg.side) (n * leg.ratio) basis_points) leg.commodity k states apart.0
 
-  rest_kept : (k : ℕ) (legs : List CommodityLeg) (lines : List InterLine) → AllByRecursion (λ leg. k ≢ leg.commodity) legs
-      → rest_at (lines_after d n basis_points legs lines) k ≡ rest_at lines k
-  rest_kept k [] lines apart = refl
-  rest_kept k (leg ∷ legs) lines apart =
-      rest_kept k legs (after leg lines) apart.1
-      ∙ rest_at-change_at (line_after (market_side d leg.side) (n * leg.ratio) basis_points) leg.commodity k lines
+  rest_kept : (k : ℕ) (legs : List CommodityLeg) (states : List CommodityState) → AllByRecursion (λ leg. k ≢ leg.commodity) legs
+      → rest_at (states_after d n basis_points legs states) k ≡ rest_at states k
+  rest_kept k [] states apart = refl
+  rest_kept k (leg ∷ legs) states apart =
+      rest_kept k legs (after leg states) apart.1
+      ∙ rest_at-change_at (state_after (market_side d leg.side) (n * leg.ratio) basis_points) leg.commodity k states
       (λ e. apart.0 (sym e))
 
-  from_first : (leg : CommodityLeg) (legs : List CommodityLeg) (end lines : List InterLine)
+  from_first : (leg : CommodityLeg) (legs : List CommodityLeg) (end states : List CommodityState)
       → AllByRecursion (λ other. leg.commodity ≢ other.commodity) legs
-      → AllByRecursion (λ other. leg_side d other end + n * other.ratio ≡ leg_side d other (after leg lines)) legs
-      → AllByRecursion (λ other. leg_side d other end + n * other.ratio ≡ leg_side d other lines) legs
-  from_first leg [] end lines apart fall = fall
-  from_first leg (other ∷ legs) end lines apart fall = (
+      → AllByRecursion (λ other. leg_side d other end + n * other.ratio ≡ leg_side d other (after leg states)) legs
+      → AllByRecursion (λ other. leg_side d other end + n * other.ratio ≡ leg_side d other states) legs
+  from_first leg [] end states apart fall = fall
+  from_first leg (other ∷ legs) end states apart fall = (
     fall.0 ∙ ap (part_on (market_side d other.side))
-        (rest_at-change_at (line_after (market_side d leg.side) (n * leg.ratio) basis_points) leg.commodity other.commodity lines apart.0),
-    from_first leg legs end lines apart.1 fall.1,
+        (rest_at-change_at (state_after (market_side d leg.side) (n * leg.ratio) basis_points) leg.commodity other.commodity states apart.0),
+    from_first leg legs end states apart.1 fall.1,
   )
 
   -- the side of each leg's commodity falls by just what the leg needs
-  legs_fall : (legs : List CommodityLeg) (lines : List InterLine) → HaveRoom d n legs lines
-      → AllByRecursion (λ leg. leg_side d leg (lines_after d n basis_points legs lines) + n * leg.ratio ≡ leg_side d leg lines) legs
-  legs_fall [] lines room = tt
-  legs_fall (leg ∷ legs) lines room =
-      let f : InterLine → InterLine = line_after (market_side d leg.side) (n * leg.ratio) basis_points in
+  legs_fall : (legs : List CommodityLeg) (states : List CommodityState) → HaveRoom d n legs states
+      → AllByRecursion (λ leg. leg_side d leg (states_after d n basis_points legs states) + n * leg.ratio ≡ leg_side d leg states) legs
+  legs_fall [] states room = tt
+  legs_fall (leg ∷ legs) states room =
+      let f : CommodityState → CommodityState = state_after (market_side d leg.side) (n * leg.ratio) basis_points in
       let apart = each_apart leg legs
       (or_left (list_any (λ b. leg.commodity == b.commodity) legs) (has_repeat (λ a b. a.commodity == b.commodity) legs) room.apart) in
-      let kept = rest_kept leg.commodity legs (after leg lines) apart in
-      let first = side_falls (market_side d leg.side) (n * leg.ratio) basis_points leg.commodity lines
+      let kept = rest_kept leg.commodity legs (after leg states) apart in
+      let first = side_falls (market_side d leg.side) (n * leg.ratio) basis_points leg.commodity states
       (room.known 0 leg (omega arith)) (room.room 0 leg (omega arith)) in
-      let others = legs_fall legs (after leg lines) (HaveRoom-rest d n leg legs lines f room) in (
+      let others = legs_fall legs (after leg states) (HaveRoom-rest d n leg legs states f room) in (
         ap (λ z. part_on (market_side d leg.side) z + n * leg.ratio) kept ∙ first,
-        from_first leg legs (lines_after d n basis_points legs (after leg lines)) lines apart others,
+        from_first leg legs (states_after d n basis_points legs (after leg states)) states apart others,
       )
 
 -- the side of each leg falls by what the spreads formed need
-pub formed_fall : (d : Direction) (s : Inter) (lines : List InterLine) → IsInter (length lines) s
-    → AllByRecursion (λ leg. leg_side d leg (inter_one_way s d lines)
-    + spreads_formed (commodity_rooms d s.legs lines) * leg.ratio ≡ leg_side d leg lines) s.legs
-formed_fall d s lines inter =
-    let n : ℕ = spreads_formed (commodity_rooms d s.legs lines) in
-    legs_fall d n s.basis_points s.legs lines (formed_have_room (length lines) d s lines s.legs n inter refl refl refl)
+pub formed_fall : (d : Direction) (s : Inter) (states : List CommodityState) → IsInter (length states) s
+    → AllByRecursion (λ leg. leg_side d leg (inter_one_way s d states)
+    + spreads_formed (commodity_rooms d s.legs states) * leg.ratio ≡ leg_side d leg states) s.legs
+formed_fall d s states inter =
+    let n : ℕ = spreads_formed (commodity_rooms d s.legs states) in
+    legs_fall d n s.basis_points s.legs states (formed_have_room (length states) d s states s.legs n inter refl refl refl)
 
-pub others_stay : (d : Direction) (s : Inter) (lines : List InterLine) (k : ℕ) → AllByRecursion (λ leg. leg.commodity ≢ k) s.legs
-    → line_at (inter_one_way s d lines) k ≡ line_at lines k
-others_stay d s lines k apart = others_kept d (spreads_formed (commodity_rooms d s.legs lines)) s.basis_points k s.legs lines apart
+pub others_stay : (d : Direction) (s : Inter) (states : List CommodityState) (k : ℕ) → AllByRecursion (λ leg. leg.commodity ≢ k) s.legs
+    → state_at (inter_one_way s d states) k ≡ state_at states k
+others_stay d s states k apart = others_kept d (spreads_formed (commodity_rooms d s.legs states)) s.basis_points k s.legs states apart

@@ -7,7 +7,7 @@ pub mod RestLaws
 pub mod WeightLaws
 pub mod Sizes
 pub mod SpreadLemmas
-pub mod LineLemmas
+pub mod StateLemmas
 mod NothingFormed
 pub mod OpenLemmas
 pub mod DirectionLaws

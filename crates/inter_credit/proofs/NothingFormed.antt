@@ -8,8 +8,8 @@ use Rattle.span_tables.specs.declared.sides.MarketSide.{MarketSide}
 use Rattle.span_tables.specs.declared.sides.MarketSide.TheVariants.{Long, Short}
 use Rattle.span_tables.specs.declared.records.CommodityLeg.{CommodityLeg}
 use Rattle.span_tables.specs.declared.records.Inter.{Inter}
-use Rattle.inter_credit.specs.Credits.{change_at, commodity_rooms, inter_one_way, line_after, lines_after}
-use Rattle.inter_credit.specs.declared.state.InterLine.{InterLine}
+use Rattle.inter_credit.specs.Credits.{change_at, commodity_rooms, inter_one_way, state_after, states_after}
+use Rattle.inter_credit.specs.declared.state.CommodityState.{CommodityState}
 
 none_used : (on : MarketSide) (z : ℤ) → less_used on z 0 ≡ z
 none_used Long z = let e : z -ℤ pos 0 ≡ z = omega (arith, ints) in e
@@ -18,24 +18,24 @@ none_used Short z = let e : z +ℤ pos 0 ≡ z = omega (arith, ints) in e
 no_weight : (w b : ℕ) → w + 0 * b ≡ w
 no_weight w b = omega arith
 
-same_line : (on : MarketSide) (b : ℕ) (line : InterLine) → line_after on 0 b line ≡ line
-same_line on b line = rw (none_used on line.rest, no_weight line.weight b) refl
+same_state : (on : MarketSide) (b : ℕ) (state : CommodityState) → state_after on 0 b state ≡ state
+same_state on b state = rw (none_used on state.rest, no_weight state.weight b) refl
 
-same_lines : (f : InterLine → InterLine) → ((line : InterLine) → f line ≡ line) → (place : ℕ) (lines : List InterLine)
-    → change_at f place lines ≡ lines
-same_lines f same place [] = refl
-same_lines f same zero (line ∷ lines) = ap (λ l. l ∷ lines) (same line)
-same_lines f same (suc place) (line ∷ lines) = ap (λ ls. line ∷ ls) (same_lines f same place lines)
+same_states : (f : CommodityState → CommodityState) → ((state : CommodityState) → f state ≡ state) → (place : ℕ) (states : List CommodityState)
+    → change_at f place states ≡ states
+same_states f same place [] = refl
+same_states f same zero (state ∷ states) = ap (λ l. l ∷ states) (same state)
+same_states f same (suc place) (state ∷ states) = ap (λ ls. state ∷ ls) (same_states f same place states)
 
-none_formed : (d : Direction) (b : ℕ) (legs : List CommodityLeg) (lines : List InterLine) → lines_after d 0 b legs lines ≡ lines
-none_formed d b [] lines = refl
-none_formed d b (leg ∷ legs) lines =
+none_formed : (d : Direction) (b : ℕ) (legs : List CommodityLeg) (states : List CommodityState) → states_after d 0 b legs states ≡ states
+none_formed d b [] states = refl
+none_formed d b (leg ∷ legs) states =
     let none : 0 * leg.ratio ≡ 0 = omega arith in
-    let step : change_at (line_after (market_side d leg.side) (0 * leg.ratio) b) leg.commodity lines ≡ lines =
-    rw none (same_lines (line_after (market_side d leg.side) 0 b) (same_line (market_side d leg.side) b) leg.commodity lines) in
-    ap (λ ls. lines_after d 0 b legs ls) step ∙ none_formed d b legs lines
+    let step : change_at (state_after (market_side d leg.side) (0 * leg.ratio) b) leg.commodity states ≡ states =
+    rw none (same_states (state_after (market_side d leg.side) 0 b) (same_state (market_side d leg.side) b) leg.commodity states) in
+    ap (λ ls. states_after d 0 b legs ls) step ∙ none_formed d b legs states
 
 -- a spread of which none is formed
-pub nothing_formed : (spread : Inter) (d : Direction) (lines : List InterLine)
-    → spreads_formed (commodity_rooms d spread.legs lines) ≡ 0 → inter_one_way spread d lines ≡ lines
-nothing_formed spread d lines none = rw none (none_formed d spread.basis_points spread.legs lines)
+pub nothing_formed : (spread : Inter) (d : Direction) (states : List CommodityState)
+    → spreads_formed (commodity_rooms d spread.legs states) ≡ 0 → inter_one_way spread d states ≡ states
+nothing_formed spread d states none = rw none (none_formed d spread.basis_points spread.legs states)

@@ -12,13 +12,13 @@ use Rattle.span_tables.specs.declared.records.Inter.{Inter}
 use Rattle.span_tables.specs.declared.sides.Direction.{Direction}
 use Rattle.span_tables.specs.declared.sides.MarketSide.TheVariants.{Long, Short}
 use Rattle.span_tables.specs.declared.slots.OpenSides.{OpenSides}
-use Rattle.inter_credit.specs.Credits.{commodity_rooms, inter_one_way, line_at, rest_at, unspread_line}
-use Rattle.inter_credit.specs.States.{IsNotLoaded, IsUnspread, IsUnspreadLine}
-use Rattle.inter_credit.specs.near.Lines.{IsLine}
-use Rattle.inter_credit.specs.declared.state.InterLine.{InterLine}
+use Rattle.inter_credit.specs.Credits.{commodity_rooms, inter_one_way, state_at, rest_at, unspread_state}
+use Rattle.inter_credit.specs.States.{IsNotLoaded, IsUnspread, IsUnspreadState}
+use Rattle.inter_credit.specs.near.CommodityStates.{IsCommodityState}
+use Rattle.inter_credit.specs.declared.state.CommodityState.{CommodityState}
 use Rattle.inter_credit.specs.near.Open.{AreOpen}
 use Rattle.span_tables.specs.declared.limits.TheConstants.{MAX_PRICE2, MAX_UNITS}
-use Rattle.inter_credit.proofs.LineLemmas.{rest_of_line}
+use Rattle.inter_credit.proofs.StateLemmas.{rest_of_state}
 use Rattle.inter_credit.proofs.NothingFormed.{nothing_formed}
 use Rattle.inter_credit.proofs.RestLaws.{one_way_uses}
 
@@ -28,38 +28,38 @@ some_of_some zero d some = absurd (omega (arith, some, zero-div d))
 some_of_some (suc x) d some = omega arith
 
 -- where spreads are formed, each leg's commodity is marked
-legs_marked : (d : Direction) (sides : OpenSides) (lines : List InterLine) → AreOpen sides lines → (legs : List CommodityLeg)
-    → 0 < spreads_formed (commodity_rooms d legs lines)
+legs_marked : (d : Direction) (sides : OpenSides) (states : List CommodityState) → AreOpen sides states → (legs : List CommodityLeg)
+    → 0 < spreads_formed (commodity_rooms d legs states)
     → AllByRecursion (λ leg. IsMarked (numbers_on (market_side d leg.side) sides) leg.commodity) legs
-legs_marked d sides lines open_sides [] some = tt
-legs_marked d sides lines open_sides (leg ∷ []) some =
+legs_marked d sides states open_sides [] some = tt
+legs_marked d sides states open_sides (leg ∷ []) some =
     (open_sides leg.commodity (market_side d leg.side) (some_of_some _ leg.ratio some), tt)
-legs_marked d sides lines open_sides (leg ∷ next ∷ legs) some =
-    let n : ℕ = spreads_formed (commodity_rooms d (next ∷ legs) lines) in
-    let fit : ℕ = part_on (market_side d leg.side) (rest_at lines leg.commodity) / leg.ratio in
+legs_marked d sides states open_sides (leg ∷ next ∷ legs) some =
+    let n : ℕ = spreads_formed (commodity_rooms d (next ∷ legs) states) in
+    let fit : ℕ = part_on (market_side d leg.side) (rest_at states leg.commodity) / leg.ratio in
     let here : 0 < fit = omega (arith, some) in
     let others : 0 < n = omega (arith, some) in (
       open_sides leg.commodity (market_side d leg.side) (some_of_some _ leg.ratio here),
-      legs_marked d sides lines open_sides (next ∷ legs) others,
+      legs_marked d sides states open_sides (next ∷ legs) others,
     )
 
-closed_by : (n : ℕ) (spread : Inter) (d : Direction) (sides : OpenSides) (lines : List InterLine) (marked : Bool)
-    → spreads_formed (commodity_rooms d spread.legs lines) ≡ n
+closed_by : (n : ℕ) (spread : Inter) (d : Direction) (sides : OpenSides) (states : List CommodityState) (marked : Bool)
+    → spreads_formed (commodity_rooms d spread.legs states) ≡ n
     → (All (λ leg. IsMarked (numbers_on (market_side d leg.side) sides) leg.commodity) spread.legs → marked ≡ true)
-    → AreOpen sides lines → marked ≡ false → inter_one_way spread d lines ≡ lines
-closed_by zero spread d sides lines marked formed tells open_sides not = nothing_formed spread d lines formed
-closed_by (suc n) spread d sides lines marked formed tells open_sides not =
+    → AreOpen sides states → marked ≡ false → inter_one_way spread d states ≡ states
+closed_by zero spread d sides states marked formed tells open_sides not = nothing_formed spread d states formed
+closed_by (suc n) spread d sides states marked formed tells open_sides not =
     let is : marked ≡ true =
     tells (All-from_recursion (λ leg. IsMarked (numbers_on (market_side d leg.side) sides) leg.commodity) spread.legs
-    (legs_marked d sides lines open_sides spread.legs (omega (arith, formed)))) in
+    (legs_marked d sides states open_sides spread.legs (omega (arith, formed)))) in
     absurd cc
 
 -- where some leg's commodity is not marked, nothing is formed
-pub closed_way : (spread : Inter) (d : Direction) (sides : OpenSides) (lines : List InterLine) (marked : Bool)
+pub closed_way : (spread : Inter) (d : Direction) (sides : OpenSides) (states : List CommodityState) (marked : Bool)
     → (All (λ leg. IsMarked (numbers_on (market_side d leg.side) sides) leg.commodity) spread.legs → marked ≡ true)
-    → AreOpen sides lines → marked ≡ false → inter_one_way spread d lines ≡ lines
-closed_way spread d sides lines marked tells open_sides not =
-    closed_by (spreads_formed (commodity_rooms d spread.legs lines)) spread d sides lines marked refl tells open_sides not
+    → AreOpen sides states → marked ≡ false → inter_one_way spread d states ≡ states
+closed_way spread d sides states marked tells open_sides not =
+    closed_by (spreads_formed (commodity_rooms d spread.legs states)) spread d sides states marked refl tells open_sides not
 
 open_left : (sides : OpenSides) (k : ℕ) (before after : ℤ) → IsLeftOf before after → IsOpenAt sides k before
     → IsOpenAt sides k after
@@ -67,45 +67,45 @@ open_left sides k before after left at Long some = at Long (omega (arith, some, 
 open_left sides k before after left at Short some = at Short (omega (arith, some, left.short))
 
 -- what a spread leaves lies on the same sides
-pub open_after : (spread : Inter) (d : Direction) (sides : OpenSides) (lines : List InterLine) → IsInter (length lines) spread
-    → AreOpen sides lines → AreOpen sides (inter_one_way spread d lines)
-open_after spread d sides lines inter open_sides k =
-    let uses = one_way_uses spread d lines inter k in
-    rw rest_of_line (open_left sides k (line_at lines k).rest (line_at (inter_one_way spread d lines) k).rest uses.rest
-    (rw rest_of_line at (open_sides k)))
+pub open_after : (spread : Inter) (d : Direction) (sides : OpenSides) (states : List CommodityState) → IsInter (length states) spread
+    → AreOpen sides states → AreOpen sides (inter_one_way spread d states)
+open_after spread d sides states inter open_sides k =
+    let uses = one_way_uses spread d states inter k in
+    rw rest_of_state (open_left sides k (state_at states k).rest (state_at (inter_one_way spread d states) k).rest uses.rest
+    (rw rest_of_state at (open_sides k)))
 
 no_rest : (sides : OpenSides) (k : ℕ) → IsOpenAt sides k (pos 0)
 no_rest sides k Long some = absurd (omega (arith, some))
 no_rest sides k Short some = absurd (omega (arith, some))
 
-no_rest_at : (n k : ℕ) → rest_at (replicate n (unspread_line (pos 0) 0)) k ≡ pos 0
+no_rest_at : (n k : ℕ) → rest_at (replicate n (unspread_state (pos 0) 0)) k ≡ pos 0
 no_rest_at zero k = refl
 no_rest_at (suc n) zero = refl
 no_rest_at (suc n) (suc k) = no_rest_at n k
 
 -- commodities without a net delta open no side
-pub none_open : (sides : OpenSides) (n : ℕ) → AreOpen sides (replicate n (unspread_line (pos 0) 0))
+pub none_open : (sides : OpenSides) (n : ℕ) → AreOpen sides (replicate n (unspread_state (pos 0) 0))
 none_open sides n k = rw (no_rest_at n k) (no_rest sides k)
 
 -- a commodity that is loaded opens its side
-set_open : (P : ℕ → ℤ → Type 0) (lines : List InterLine) (i : ℕ) (line : InterLine) → ((k : ℕ) → P k (rest_at lines k))
-    → P i line.rest
-    → (k : ℕ) → P k (rest_at (set lines i line) k)
-set_open P [] i line each new k = each k
-set_open P (x ∷ xs) zero line each new zero = new
-set_open P (x ∷ xs) zero line each new (suc k) = each (suc k)
-set_open P (x ∷ xs) (suc i) line each new zero = each 0
-set_open P (x ∷ xs) (suc i) line each new (suc k) = set_open (λ j. P (suc j)) xs i line (λ j. each (suc j)) new k
+set_open : (P : ℕ → ℤ → Type 0) (states : List CommodityState) (i : ℕ) (state : CommodityState) → ((k : ℕ) → P k (rest_at states k))
+    → P i state.rest
+    → (k : ℕ) → P k (rest_at (set states i state) k)
+set_open P [] i state each new k = each k
+set_open P (x ∷ xs) zero state each new zero = new
+set_open P (x ∷ xs) zero state each new (suc k) = each (suc k)
+set_open P (x ∷ xs) (suc i) state each new zero = each 0
+set_open P (x ∷ xs) (suc i) state each new (suc k) = set_open (λ j. P (suc j)) xs i state (λ j. each (suc j)) new k
 
-pub load_open : (before after : OpenSides) (lines : List InterLine) (i : ℕ) (line : InterLine)
-    → ((other : ℕ) (z : ℤ) → IsOpenAt before other z → IsOpenAt after other z) → IsOpenAt after i line.rest
-    → AreOpen before lines → AreOpen after (set lines i line)
-load_open before after lines i line kept new open_sides =
-    set_open (IsOpenAt after) lines i line (λ k. kept k (rest_at lines k) (open_sides k)) new
+pub load_open : (before after : OpenSides) (states : List CommodityState) (i : ℕ) (state : CommodityState)
+    → ((other : ℕ) (z : ℤ) → IsOpenAt before other z → IsOpenAt after other z) → IsOpenAt after i state.rest
+    → AreOpen before states → AreOpen after (set states i state)
+load_open before after states i state kept new open_sides =
+    set_open (IsOpenAt after) states i state (λ k. kept k (rest_at states k) (open_sides k)) new
 
-same_line : (line : InterLine) (net : ℤ) (price2 : ℕ) → net ≡ pos 0 → price2 ≡ 0 → line.net ≡ pos 0 → line.price2 ≡ 0
-    → IsUnspreadLine line → line ≡ unspread_line net price2
-same_line line net price2 no_net no_risk none nothing unspread = λ k. record {
+same_state : (state : CommodityState) (net : ℤ) (price2 : ℕ) → net ≡ pos 0 → price2 ≡ 0 → state.net ≡ pos 0 → state.price2 ≡ 0
+    → IsUnspreadState state → state ≡ unspread_state net price2
+same_state state net price2 no_net no_risk none nothing unspread = λ k. record {
   net = (none ∙ sym no_net) k;
   rest = (unspread.rest ∙ none ∙ sym no_net) k;
   price2 = (nothing ∙ sym no_risk) k;
@@ -113,18 +113,18 @@ same_line line net price2 no_net no_risk none nothing unspread = λ k. record {
 }
 
 -- to load nothing where nothing is loaded changes nothing
-pub nothing_loaded : (lines : List InterLine) (i : ℕ) (net : ℤ) (price2 : ℕ) → net ≡ pos 0 → price2 ≡ 0
-    → IsNotLoaded lines i → IsUnspread lines
-    → lines ≡ set lines i (unspread_line net price2)
+pub nothing_loaded : (states : List CommodityState) (i : ℕ) (net : ℤ) (price2 : ℕ) → net ≡ pos 0 → price2 ≡ 0
+    → IsNotLoaded states i → IsUnspread states
+    → states ≡ set states i (unspread_state net price2)
 nothing_loaded [] i net price2 no_net no_risk none unspread = refl
 nothing_loaded (x ∷ xs) zero net price2 no_net no_risk none unspread =
-    ap (λ y. y ∷ xs) (same_line x net price2 no_net no_risk none.0 none.1 (unspread 0 x (omega arith)))
+    ap (λ y. y ∷ xs) (same_state x net price2 no_net no_risk none.0 none.1 (unspread 0 x (omega arith)))
 nothing_loaded (x ∷ xs) (suc i) net price2 no_net no_risk none unspread =
     ap (λ ys. x ∷ ys) (nothing_loaded xs i net price2 no_net no_risk none (λ k d lt. unspread (suc k) d (omega arith)))
 
--- a net delta and a price risk in their ranges make a line
-pub loaded_line : (net : ℤ) (price2 : ℕ) → nat_abs net ≤ MAX_UNITS → price2 ≤ MAX_PRICE2 → IsLine (unspread_line net price2)
-loaded_line net price2 small few = record {
+-- a net delta and a price risk in their ranges make a state
+pub loaded_state : (net : ℤ) (price2 : ℕ) → nat_abs net ≤ MAX_UNITS → price2 ≤ MAX_PRICE2 → IsCommodityState (unspread_state net price2)
+loaded_state net price2 small few = record {
   net = small;
   price2 = few;
   rest = record { long = omega arith; short = omega arith };

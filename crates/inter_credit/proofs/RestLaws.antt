@@ -10,12 +10,12 @@ use Rattle.span_tables.specs.declared.sides.MarketSide.{MarketSide}
 use Rattle.span_tables.specs.declared.sides.MarketSide.TheVariants.{Long, Short}
 use Rattle.span_tables.specs.declared.records.CommodityLeg.{CommodityLeg}
 use Rattle.span_tables.specs.declared.records.Inter.{Inter}
-use Rattle.inter_credit.specs.Credits.{change_at, commodity_rooms, inter_both_ways, inter_one_way, line_after, lines_after}
-use Rattle.inter_credit.specs.Credits.{rest_at, line_at}
+use Rattle.inter_credit.specs.Credits.{change_at, commodity_rooms, inter_both_ways, inter_one_way, state_after, states_after}
+use Rattle.inter_credit.specs.Credits.{rest_at, state_at}
 use Rattle.inter_credit.specs.near.Rooms.{HaveRoom}
-use Rattle.inter_credit.specs.States.{UsesLine}
-use Rattle.inter_credit.specs.declared.state.InterLine.{InterLine}
-use Rattle.inter_credit.proofs.LineLemmas.{HaveRoom-rest, length-change_at}
+use Rattle.inter_credit.specs.States.{UsesState}
+use Rattle.inter_credit.specs.declared.state.CommodityState.{CommodityState}
+use Rattle.inter_credit.proofs.StateLemmas.{HaveRoom-rest, length-change_at}
 use Rattle.inter_credit.proofs.SpreadLemmas.{formed_have_room}
 
 same_left : (z : ℤ) → IsLeftOf z z
@@ -56,12 +56,12 @@ used_size Short (negsuc n) used le =
     let e : less_used Short (negsuc n) used ≡ neg_ℤ (pos (suc n - used)) = omega (arith, ints, le) in
     rw e (size_of_neg (suc n) (suc n - used) used (omega arith))
 
-same_line : (basis_points : ℕ) (line : InterLine) → UsesLine basis_points line line
-same_line bp line = record { net = refl; price2 = refl; rest = same_left line.rest; weight = refl }
+same_state : (basis_points : ℕ) (state : CommodityState) → UsesState basis_points state state
+same_state bp state = record { net = refl; price2 = refl; rest = same_left state.rest; weight = refl }
 
-then_line : (basis_points : ℕ) (a b c : InterLine) → UsesLine basis_points a b → UsesLine basis_points b c
-    → UsesLine basis_points a c
-then_line bp a b c p q = record {
+then_state : (basis_points : ℕ) (a b c : CommodityState) → UsesState basis_points a b → UsesState basis_points b c
+    → UsesState basis_points a c
+then_state bp a b c p q = record {
   net = q.net ∙ p.net;
   price2 = q.price2 ∙ p.price2;
   rest = left_of_left a.rest b.rest c.rest p.rest q.rest;
@@ -71,61 +71,61 @@ then_line bp a b c p q = record {
 weight_after : (w u bp z z' : ℕ) → z' + u ≡ z → w + u * bp + bp * z' ≡ w + bp * z
 weight_after w u bp z z' e = rw (← e) (omega arith)
 
-used_line : (on : MarketSide) (used basis_points : ℕ) (line : InterLine) → used ≤ part_on on line.rest
-    → UsesLine basis_points line (line_after on used basis_points line)
-used_line on used bp line le = record {
+used_state : (on : MarketSide) (used basis_points : ℕ) (state : CommodityState) → used ≤ part_on on state.rest
+    → UsesState basis_points state (state_after on used basis_points state)
+used_state on used bp state le = record {
   net = refl;
   price2 = refl;
-  rest = used_left on line.rest used le;
-  weight = weight_after line.weight used bp (nat_abs line.rest) (nat_abs (less_used on line.rest used)) (used_size on line.rest used le);
+  rest = used_left on state.rest used le;
+  weight = weight_after state.weight used bp (nat_abs state.rest) (nat_abs (less_used on state.rest used)) (used_size on state.rest used le);
 }
 
--- a change at a place uses each line, where it does so there
-change_uses : (on : MarketSide) (used basis_points i : ℕ) (lines : List InterLine) → used ≤ part_on on (rest_at lines i)
-    → (k : ℕ) → UsesLine basis_points (line_at lines k) (line_at (change_at (line_after on used basis_points) i lines) k)
-change_uses on used bp i [] le k = same_line bp (line_at [] k)
-change_uses on used bp zero (line ∷ lines) le zero = used_line on used bp line le
-change_uses on used bp zero (line ∷ lines) le (suc k) = same_line bp (line_at lines k)
-change_uses on used bp (suc i) (line ∷ lines) le zero = same_line bp line
-change_uses on used bp (suc i) (line ∷ lines) le (suc k) = change_uses on used bp i lines le k
+-- a change at a place uses each state, where it does so there
+change_uses : (on : MarketSide) (used basis_points i : ℕ) (states : List CommodityState) → used ≤ part_on on (rest_at states i)
+    → (k : ℕ) → UsesState basis_points (state_at states k) (state_at (change_at (state_after on used basis_points) i states) k)
+change_uses on used bp i [] le k = same_state bp (state_at [] k)
+change_uses on used bp zero (state ∷ states) le zero = used_state on used bp state le
+change_uses on used bp zero (state ∷ states) le (suc k) = same_state bp (state_at states k)
+change_uses on used bp (suc i) (state ∷ states) le zero = same_state bp state
+change_uses on used bp (suc i) (state ∷ states) le (suc k) = change_uses on used bp i states le k
 
--- spreads keep how many lines there are
-pub length-lines_after : (d : Direction) (n basis_points : ℕ) (legs : List CommodityLeg) (lines : List InterLine)
-    → length (lines_after d n basis_points legs lines) ≡ length lines
-length-lines_after d n bp [] lines = refl
-length-lines_after d n bp (leg ∷ legs) lines =
-    length-lines_after d n bp legs (change_at (line_after (market_side d leg.side) (n * leg.ratio) bp) leg.commodity lines)
-    ∙ length-change_at (line_after (market_side d leg.side) (n * leg.ratio) bp) leg.commodity lines
+-- spreads keep how many states there are
+pub length-states_after : (d : Direction) (n basis_points : ℕ) (legs : List CommodityLeg) (states : List CommodityState)
+    → length (states_after d n basis_points legs states) ≡ length states
+length-states_after d n bp [] states = refl
+length-states_after d n bp (leg ∷ legs) states =
+    length-states_after d n bp legs (change_at (state_after (market_side d leg.side) (n * leg.ratio) bp) leg.commodity states)
+    ∙ length-change_at (state_after (market_side d leg.side) (n * leg.ratio) bp) leg.commodity states
 
-legs_use : (d : Direction) (n basis_points : ℕ) (legs : List CommodityLeg) (lines : List InterLine) → HaveRoom d n legs lines
-    → (k : ℕ) → UsesLine basis_points (line_at lines k) (line_at (lines_after d n basis_points legs lines) k)
-legs_use d n bp [] lines room k = same_line bp (line_at lines k)
-legs_use d n bp (leg ∷ legs) lines room k =
-    let f : InterLine → InterLine = line_after (market_side d leg.side) (n * leg.ratio) bp in
-    then_line bp (line_at lines k) (line_at (change_at f leg.commodity lines) k) (line_at (lines_after d n bp (leg ∷ legs) lines) k)
-    (change_uses (market_side d leg.side) (n * leg.ratio) bp leg.commodity lines (room.room 0 leg (omega arith)) k)
-    (legs_use d n bp legs (change_at f leg.commodity lines) (HaveRoom-rest d n leg legs lines f room) k)
+legs_use : (d : Direction) (n basis_points : ℕ) (legs : List CommodityLeg) (states : List CommodityState) → HaveRoom d n legs states
+    → (k : ℕ) → UsesState basis_points (state_at states k) (state_at (states_after d n basis_points legs states) k)
+legs_use d n bp [] states room k = same_state bp (state_at states k)
+legs_use d n bp (leg ∷ legs) states room k =
+    let f : CommodityState → CommodityState = state_after (market_side d leg.side) (n * leg.ratio) bp in
+    then_state bp (state_at states k) (state_at (change_at f leg.commodity states) k) (state_at (states_after d n bp (leg ∷ legs) states) k)
+    (change_uses (market_side d leg.side) (n * leg.ratio) bp leg.commodity states (room.room 0 leg (omega arith)) k)
+    (legs_use d n bp legs (change_at f leg.commodity states) (HaveRoom-rest d n leg legs states f room) k)
 
-pub one_way_uses : (s : Inter) (d : Direction) (lines : List InterLine) → IsInter (length lines) s
-    → (k : ℕ) → UsesLine s.basis_points (line_at lines k) (line_at (inter_one_way s d lines) k)
-one_way_uses s d lines inter k =
-    let n : ℕ = spreads_formed (commodity_rooms d s.legs lines) in
-    legs_use d n s.basis_points s.legs lines (formed_have_room (length lines) d s lines s.legs n inter refl refl refl) k
+pub one_way_uses : (s : Inter) (d : Direction) (states : List CommodityState) → IsInter (length states) s
+    → (k : ℕ) → UsesState s.basis_points (state_at states k) (state_at (inter_one_way s d states) k)
+one_way_uses s d states inter k =
+    let n : ℕ = spreads_formed (commodity_rooms d s.legs states) in
+    legs_use d n s.basis_points s.legs states (formed_have_room (length states) d s states s.legs n inter refl refl refl) k
 
 -- a spread in both directions
-pub both_ways_use : (lines : List InterLine) (s : Inter) → IsInter (length lines) s
-    → (k : ℕ) → UsesLine s.basis_points (line_at lines k) (line_at (inter_both_ways lines s) k)
+pub both_ways_use : (states : List CommodityState) (s : Inter) → IsInter (length states) s
+    → (k : ℕ) → UsesState s.basis_points (state_at states k) (state_at (inter_both_ways states s) k)
 unfolding inter_both_ways
-both_ways_use lines s inter k =
-    let first = inter_one_way s ALong lines in
-    let long = length-lines_after ALong (spreads_formed (commodity_rooms ALong s.legs lines)) s.basis_points s.legs lines in
-    then_line s.basis_points (line_at lines k) (line_at first k) (line_at (inter_one_way s AShort first) k)
-    (one_way_uses s ALong lines inter k) (one_way_uses s AShort first (rw long inter) k)
+both_ways_use states s inter k =
+    let first = inter_one_way s ALong states in
+    let long = length-states_after ALong (spreads_formed (commodity_rooms ALong s.legs states)) s.basis_points s.legs states in
+    then_state s.basis_points (state_at states k) (state_at first k) (state_at (inter_one_way s AShort first) k)
+    (one_way_uses s ALong states inter k) (one_way_uses s AShort first (rw long inter) k)
 
 -- a spread keeps the number of commodities
-pub length-inter_both_ways : (lines : List InterLine) (s : Inter) → length (inter_both_ways lines s) ≡ length lines
+pub length-inter_both_ways : (states : List CommodityState) (s : Inter) → length (inter_both_ways states s) ≡ length states
 unfolding inter_both_ways
-length-inter_both_ways lines s =
-    let first = inter_one_way s ALong lines in
-    length-lines_after AShort (spreads_formed (commodity_rooms AShort s.legs first)) s.basis_points s.legs first
-    ∙ length-lines_after ALong (spreads_formed (commodity_rooms ALong s.legs lines)) s.basis_points s.legs lines
+length-inter_both_ways states s =
+    let first = inter_one_way s ALong states in
+    length-states_after AShort (spreads_formed (commodity_rooms AShort s.legs first)) s.basis_points s.legs first
+    ∙ length-states_after ALong (spreads_formed (commodity_rooms ALong s.legs states)) s.basis_points s.legs states

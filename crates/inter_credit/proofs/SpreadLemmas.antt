@@ -10,10 +10,10 @@ use Rattle.span_tables.specs.declared.records.CommodityLeg.{CommodityLeg}
 use Rattle.span_tables.specs.declared.records.Inter.{Inter}
 use Rattle.inter_credit.specs.Credits.{commodity_rooms, rest_at}
 use Rattle.inter_credit.specs.near.Rooms.{HaveRoom}
-use Rattle.inter_credit.specs.declared.state.InterLine.{InterLine}
+use Rattle.inter_credit.specs.declared.state.CommodityState.{CommodityState}
 
-room_of : Direction → List InterLine → CommodityLeg → Room
-room_of d lines leg = record { side = part_on (market_side d leg.side) (rest_at lines leg.commodity); ratio = leg.ratio }
+room_of : Direction → List CommodityState → CommodityLeg → Room
+room_of d states leg = record { side = part_on (market_side d leg.side) (rest_at states leg.commodity); ratio = leg.ratio }
 
 -- n spreads need no more of each leg than it has
 abbrev Fit : (CommodityLeg → Room) → ℕ → List CommodityLeg → Type 0
@@ -37,18 +37,18 @@ formed_fit f (leg ∷ next ∷ legs) =
     )
 
 -- the spreads formed fit each leg
-pub formed_have_room : (commodities : ℕ) (d : Direction) (spread : Inter) (lines : List InterLine) (legs : List CommodityLeg) (n : ℕ)
-    → IsInter commodities spread → length lines ≡ commodities → legs ≡ spread.legs
-    → n ≡ spreads_formed (commodity_rooms d legs lines)
-    → HaveRoom d n legs lines
+pub formed_have_room : (commodities : ℕ) (d : Direction) (spread : Inter) (states : List CommodityState) (legs : List CommodityLeg) (n : ℕ)
+    → IsInter commodities spread → length states ≡ commodities → legs ≡ spread.legs
+    → n ≡ spreads_formed (commodity_rooms d legs states)
+    → HaveRoom d n legs states
 unfolding room_of
-formed_have_room commodities d spread lines legs n inter long same formed =
+formed_have_room commodities d spread states legs n inter long same formed =
     let known : All (λ leg. leg.commodity < commodities) legs =
     All-same (λ leg. leg.commodity < commodities) legs spread.legs same inter.known in
     record {
       known = rw long known;
       room = rw formed (All-from_recursion
-          (λ leg. spreads_formed (commodity_rooms d legs lines) * leg.ratio
-          ≤ part_on (market_side d leg.side) (rest_at lines leg.commodity)) legs (formed_fit (room_of d lines) legs));
+          (λ leg. spreads_formed (commodity_rooms d legs states) * leg.ratio
+          ≤ part_on (market_side d leg.side) (rest_at states leg.commodity)) legs (formed_fit (room_of d states) legs));
       apart = rw same inter.apart;
     }

@@ -1,10 +1,10 @@
 //! The credit of a commodity (docs/METHOD.md, Intercommodity spreads).
 ghost use Rattle.std.specs.Prelude.{◌≡◌, ◌<◌, ◌≤◌, ◌*◌, length, pos, nat_abs};
 ghost use Rattle.inter_credit.specs.Credits.{credit_of, credit_at};
-ghost use Rattle.inter_credit.specs.near.Lines.{IsLine};
+ghost use Rattle.inter_credit.specs.near.CommodityStates.{IsCommodityState};
 ghost use Rattle.span_tables.specs.declared.limits.TheConstants.{MAX_PRICE2};
 
-use crate::state::{InterLine, InterState};
+use crate::state::{CommodityState, InterState};
 use span_money::amounts::Money;
 use span_money::division::floor_div;
 
@@ -14,25 +14,25 @@ const WHOLE: u128 = 10_000;
 const DOUBLED_WHOLE: u128 = 2 * WHOLE;
 
 // Price risk doubled times the weight, in minor units times 10^-8 deltas times basis points.
-fn product(line: &InterLine) -> u128
-    requires { IsLine line.now }
-    ensures { result ≡ line.now.price2 * line.now.weight }
+fn product(state: &CommodityState) -> u128
+    requires { IsCommodityState state.now }
+    ensures { result ≡ state.now.price2 * state.now.weight }
 {
-    u128::from(line.price2) * line.weight
+    u128::from(state.price2) * state.weight
 }
 
-// The credit of a line, in minor units, rounded down once.
+// The credit of a state, in minor units, rounded down once.
 #[tactic(auto, unfolding(crate::specs::Credits::credit_of))]
-fn credit_of(line: &InterLine) -> u128
-    requires { IsLine line.now }
-    ensures value { result ≡ credit_of line.now }
+fn credit_of(state: &CommodityState) -> u128
+    requires { IsCommodityState state.now }
+    ensures value { result ≡ credit_of state.now }
     ensures bound { 2 * result ≤ MAX_PRICE2 }
 {
-    let net = line.net.get().unsigned_abs();
+    let net = state.net.get().unsigned_abs();
     if net == 0 {
         return 0;
     }
-    floor_div(product(line), DOUBLED_WHOLE * u128::from(net))
+    floor_div(product(state), DOUBLED_WHOLE * u128::from(net))
 }
 
 /// The intercommodity credit of the commodity of a number, in minor units, rounded down once; 0 where its net delta is 0.
@@ -41,5 +41,5 @@ pub fn credit(state: &InterState, commodity: usize) -> Money
     ensures value { result ≡ pos (credit_at state.now commodity) }
     ensures bound { 2 * nat_abs result ≤ MAX_PRICE2 }
 {
-    Money::new(credit_of(&state.lines()[commodity]) as i128)
+    Money::new(credit_of(&state.states()[commodity]) as i128)
 }

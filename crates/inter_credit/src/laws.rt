@@ -8,13 +8,13 @@ ghost use Rattle.span_tables.specs.declared.records.Inter.{Inter};
 ghost use Rattle.span_tables.specs.declared.records.MinimumMethod.TheVariants as method;
 ghost use Rattle.span_tables.specs.declared.records.ProductKind.{ProductKind};
 ghost use Rattle.span_tables.specs.declared.sides.Direction.{Direction};
-ghost use Rattle.inter_credit.specs.Credits.{after_inter_spreads, credit_of, formed_both, formed_in, inter_both_ways};
-ghost use Rattle.inter_credit.specs.Credits.{inter_one_way, leg_side, credit_at, line_at};
+ghost use Rattle.inter_credit.specs.Credits.{after_inter_spreads, credit_of, inter_formed_both, inter_formed_in, inter_both_ways};
+ghost use Rattle.inter_credit.specs.Credits.{inter_one_way, leg_side, credit_at, state_at};
 ghost use Rattle.inter_credit.specs.OptionValue.{due_of, excess_of};
 ghost use Rattle.inter_credit.specs.Requirement.{is_call, is_put, minimum_of, requirement_of, short_count};
-ghost use Rattle.inter_credit.specs.States.{IsUnspread, UsesLine};
+ghost use Rattle.inter_credit.specs.States.{IsUnspread, UsesState};
 ghost use Rattle.inter_credit.specs.declared.requirement.TheConstants.{MAX_PART};
-ghost use Rattle.inter_credit.specs.declared.state.InterLine.{InterLine};
+ghost use Rattle.inter_credit.specs.declared.state.CommodityState.{CommodityState};
 
 /// Each part of a requirement is at most 10^26 minor units either way.
 pub fn part_has_these_digits()
@@ -23,51 +23,51 @@ pub fn part_has_these_digits()
 
 /// The credit is 0 without a net delta, and else the greatest number whose product stays within price risk times weight.
 pub fn credit_is_greatest()
-    ensures zero { (line : InterLine) → nat_abs line.net ≡ 0 → credit_of line ≡ 0 }
-    ensures greatest { (line : InterLine) → nat_abs line.net ≢ 0
-        → (credit_of line * (2 * 10 ^ 4 * nat_abs line.net) ≤ line.price2 * line.weight)
-        × ((g : ℕ) → g * (2 * 10 ^ 4 * nat_abs line.net) ≤ line.price2 * line.weight
-        → g ≤ credit_of line) }
+    ensures zero { (state : CommodityState) → nat_abs state.net ≡ 0 → credit_of state ≡ 0 }
+    ensures greatest { (state : CommodityState) → nat_abs state.net ≢ 0
+        → (credit_of state * (2 * 10 ^ 4 * nat_abs state.net) ≤ state.price2 * state.weight)
+        × ((g : ℕ) → g * (2 * 10 ^ 4 * nat_abs state.net) ≤ state.price2 * state.weight
+        → g ≤ credit_of state) }
 {}
 
 /// Without intercommodity spreads there is no credit.
 pub fn no_spread_no_credit()
-    ensures { (lines : List InterLine) (commodity : ℕ) → IsUnspread lines
-        → credit_at (after_inter_spreads [] lines) commodity ≡ 0 }
+    ensures { (states : List CommodityState) (commodity : ℕ) → IsUnspread states
+        → credit_at (after_inter_spreads [] states) commodity ≡ 0 }
 {}
 
 /// A spread only uses rests: net deltas and price risks stay, no rest is larger than before or of the other sign, and a
 /// weight grows by the units used times the basis points.
 pub fn spread_uses_rests()
-    ensures length { (lines : List InterLine) (spread : Inter) → length (inter_both_ways lines spread) ≡ length lines }
-    ensures lines { (lines : List InterLine) (spread : Inter) → IsInter (length lines) spread
-        → (k : ℕ) → UsesLine spread.basis_points (line_at lines k) (line_at (inter_both_ways lines spread) k) }
+    ensures length { (states : List CommodityState) (spread : Inter) → length (inter_both_ways states spread) ≡ length states }
+    ensures states { (states : List CommodityState) (spread : Inter) → IsInter (length states) spread
+        → (k : ℕ) → UsesState spread.basis_points (state_at states k) (state_at (inter_both_ways states spread) k) }
 {}
 
-/// In a direction each leg takes of its commodity's rest just the number of spreads formed times its ratio, and the lines
+/// In a direction each leg takes of its commodity's rest just the number of spreads formed times its ratio, and the states
 /// of commodities that are no leg's stay.
 pub fn each_leg_uses_its_part()
-    ensures legs { (d : Direction) (spread : Inter) (lines : List InterLine) → IsInter (length lines) spread
-        → AllByRecursion (λ leg. leg_side d leg (inter_one_way spread d lines)
-        + formed_in spread d lines * leg.ratio ≡ leg_side d leg lines) spread.legs }
-    ensures others { (d : Direction) (spread : Inter) (lines : List InterLine) (k : ℕ)
+    ensures legs { (d : Direction) (spread : Inter) (states : List CommodityState) → IsInter (length states) spread
+        → AllByRecursion (λ leg. leg_side d leg (inter_one_way spread d states)
+        + inter_formed_in spread d states * leg.ratio ≡ leg_side d leg states) spread.legs }
+    ensures others { (d : Direction) (spread : Inter) (states : List CommodityState) (k : ℕ)
         → AllByRecursion (λ leg. leg.commodity ≢ k) spread.legs
-        → line_at (inter_one_way spread d lines) k ≡ line_at lines k }
+        → state_at (inter_one_way spread d states) k ≡ state_at states k }
 {}
 
 /// A commodity's weight grows, for each leg of the commodity, by the spreads formed in both directions times the leg's ratio
 /// times the basis points.
 pub fn spreads_formed_add_weight()
-    ensures { (lines : List InterLine) (spread : Inter) (k : ℕ) → k < length lines
-        → (line_at (inter_both_ways lines spread) k).weight ≡ (line_at lines k).weight
-        + sum_by (λ leg. ((formed_both lines spread).a_long + (formed_both lines spread).a_short) * leg.ratio * spread.basis_points)
+    ensures { (states : List CommodityState) (spread : Inter) (k : ℕ) → k < length states
+        → (state_at (inter_both_ways states spread) k).weight ≡ (state_at states k).weight
+        + sum_by (λ leg. ((inter_formed_both states spread).a_long + (inter_formed_both states spread).a_short) * leg.ratio * spread.basis_points)
         (filter (λ leg. leg.commodity == k) spread.legs) }
 {}
 
 /// Between commodities a spread forms in one direction at most: a commodity's rest lies on one side of the market.
 pub fn spreads_form_in_one_direction()
-    ensures { (lines : List InterLine) (spread : Inter) → IsInter (length lines) spread
-        → ((formed_both lines spread).a_long ≡ 0) ⊎ ((formed_both lines spread).a_short ≡ 0) }
+    ensures { (states : List CommodityState) (spread : Inter) → IsInter (length states) spread
+        → ((inter_formed_both states spread).a_long ≡ 0) ⊎ ((inter_formed_both states spread).a_short ≡ 0) }
 {}
 
 /// What is counted of a kind are the sizes of the negative nets; the minimum is the rate times the count of calls and

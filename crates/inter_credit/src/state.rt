@@ -1,10 +1,10 @@
 //! For each commodity its net delta, what spreads have left of it, its price risk, and what earns its credit
 //! (docs/METHOD.md, Intercommodity spreads).
 ghost use Rattle.std.specs.Prelude.{◌≡◌, ◌<◌, ◌≤◌, ◌==◌, false, length, replicate, slice_set, All, IfOk, pos, nat_abs};
-ghost use Rattle.inter_credit.specs.Credits.{formed_both, inter_both_ways, unspread_line};
+ghost use Rattle.inter_credit.specs.Credits.{inter_formed_both, inter_both_ways, unspread_state};
 ghost use Rattle.span_tables.specs.Accepted.{IsInter};
 ghost use Rattle.inter_credit.specs.States.{IsNotLoaded, IsUnspread};
-ghost use Rattle.inter_credit.specs.near.Lines.{IsLine};
+ghost use Rattle.inter_credit.specs.near.CommodityStates.{IsCommodityState};
 ghost use Rattle.span_tables.specs.declared.limits.TheConstants.{MAX_PRICE2, MAX_UNITS};
 
 use crate::spreads::{count_both_ways, may_form_either, spread_both_ways};
@@ -20,31 +20,31 @@ use std::marker::Model;
 /// `net` is its net delta (in 10^-8 deltas, at most `MAX_UNITS` either way) and `rest` what spreads have left of it, `price2`
 /// is price risk doubled (in minor units, at most `MAX_PRICE2`), and `weight` is the sum of units used times basis points.
 #[derive(Clone, Copy, Debug, PartialEq, Eq)]
-pub struct InterLine {
+pub struct CommodityState {
     pub weight: u128,
     pub net: Units,
     pub rest: Units,
     pub price2: u64,
 }
 
-/// The commodities of a set, by their numbers. Contracts see the list of their lines.
+/// The commodities of a set, by their numbers. Contracts see the list of their states.
 #[derive(Drop)]
 pub struct InterState {
-    lines: Vec<InterLine>,
+    commodities: Vec<CommodityState>,
     // The sides of the market on which commodities had a rest when they were loaded.
     sides: OpenSides,
 }
 
 impl Model for InterState {
     ghost use Rattle.std.specs.Prelude.{List, All};
-    ghost use Rattle.inter_credit.specs.near.Open.{AreLines};
-    ghost use Rattle.inter_credit.specs.declared.state.InterLine.{InterLine};
+    ghost use Rattle.inter_credit.specs.near.Open.{AreStates};
+    ghost use Rattle.inter_credit.specs.declared.state.CommodityState.{CommodityState};
 
-    ghost Value = { List InterLine };
+    ghost Value = { List CommodityState };
 
-    ghost view = { λ state. state.lines.items };
+    ghost view = { λ state. state.commodities.items };
 
-    ghost invariant = { λ state. AreLines state.lines.items state.sides };
+    ghost invariant = { λ state. AreStates state.commodities.items state.sides };
 }
 
 impl InterState {
@@ -52,31 +52,31 @@ impl InterState {
     pub fn len(&self) -> usize
         ensures { result ≡ length self.now }
     {
-        self.lines.len()
+        self.commodities.len()
     }
 
     /// Whether there is no commodity.
     pub fn is_empty(&self) -> bool
         ensures { result ≡ (length self.now == 0) }
     {
-        self.lines.is_empty()
+        self.commodities.is_empty()
     }
 
-    /// The commodities' lines by their numbers.
-    pub fn lines(&self) -> &[InterLine]
+    /// The commodities' states by their numbers.
+    pub fn states(&self) -> &[CommodityState]
         ensures value { result.now ≡ self.now }
-        ensures kept { All IsLine self.now }
+        ensures kept { All IsCommodityState self.now }
     {
-        &self.lines
+        &self.commodities
     }
 
     /// A copy of the state.
     pub fn copied(&self, alloc: Global) -> Result<InterState, AllocError>
         ensures { IfOk result (λ state. state ≡ self.now) }
     {
-        let lines = Vec::from_slice(alloc, &self.lines)?;
+        let commodities = Vec::from_slice(alloc, &self.commodities)?;
         let sides = self.sides;
-        Ok(InterState { lines, sides })
+        Ok(InterState { commodities, sides })
     }
 
     /// Gives a commodity its net delta, and its price risk doubled in minor units; its rest is its full net delta.
@@ -88,14 +88,14 @@ impl InterState {
         requires price2 { price2 ≤ MAX_PRICE2 }
         requires not_loaded { IsNotLoaded self.old commodity }
         requires unspread { IsUnspread self.old }
-        ensures value { self.new ≡ slice_set self.old commodity (unspread_line net price2) }
+        ensures value { self.new ≡ slice_set self.old commodity (unspread_state net price2) }
         ensures unspread { IsUnspread self.new }
     {
         if net.get() == 0 && price2 == 0 {
             return;
         }
         self.sides = self.sides.with(commodity, net);
-        self.lines[commodity] = unspread_line(net, price2);
+        self.commodities[commodity] = unspread_state(net, price2);
     }
 
     /// Forms a spread in both directions, with A long first: in each, as many as every leg has room for.
@@ -104,17 +104,17 @@ impl InterState {
         ensures value { self.new ≡ inter_both_ways self.old spread.now }
         ensures length { length self.new ≡ length self.old }
     {
-        spread_both_ways(&mut self.lines, &self.sides, spread);
+        spread_both_ways(&mut self.commodities, &self.sides, spread);
     }
 
     /// Forms a spread as `spread` does, and tells how many spreads it forms in each direction, in 10^-4 spreads.
     pub fn spread_counted(&mut self, spread: &Inter) -> SpreadsFormed
         requires { IsInter (length self.old) spread.now }
         ensures value { self.new ≡ inter_both_ways self.old spread.now }
-        ensures formed { result ≡ formed_both self.old spread.now }
+        ensures formed { result ≡ inter_formed_both self.old spread.now }
         ensures length { length self.new ≡ length self.old }
     {
-        count_both_ways(&mut self.lines, &self.sides, spread)
+        count_both_ways(&mut self.commodities, &self.sides, spread)
     }
 
     /// Whether a spread may be formed. `false` says that none is, and that the state stays as it is; `true` says nothing, since
@@ -127,10 +127,10 @@ impl InterState {
 }
 
 // A commodity before any spread.
-fn unspread_line(net: Units, price2: u64) -> InterLine
-    ensures { result ≡ unspread_line net price2 }
+fn unspread_state(net: Units, price2: u64) -> CommodityState
+    ensures { result ≡ unspread_state net price2 }
 {
-    InterLine {
+    CommodityState {
         net,
         rest: net,
         price2,
@@ -140,12 +140,12 @@ fn unspread_line(net: Units, price2: u64) -> InterLine
 
 /// Commodities of which nothing is known yet: net deltas and price risks of 0.
 pub fn empty(alloc: Global, commodities: usize) -> Result<InterState, AllocError>
-    ensures value { IfOk result (λ state. state ≡ replicate commodities (unspread_line (pos 0) 0)) }
+    ensures value { IfOk result (λ state. state ≡ replicate commodities (unspread_state (pos 0) 0)) }
     ensures unspread { IfOk result IsUnspread }
 {
-    let lines = vec![in alloc; unspread_line(Units::new(0), 0); commodities]?;
+    let commodities = vec![in alloc; unspread_state(Units::new(0), 0); commodities]?;
     let sides = OpenSides::none();
-    Ok(InterState { lines, sides })
+    Ok(InterState { commodities, sides })
 }
 
 /// The state with the net delta of one more commodity, and its price risk doubled in minor units; its rest is its full
@@ -164,7 +164,7 @@ pub fn load(
     requires price2 { price2 ≤ MAX_PRICE2 }
     requires not_loaded { IsNotLoaded state.now commodity }
     requires unspread { IsUnspread state.now }
-    ensures value { IfOk result (λ next. next ≡ slice_set state.now commodity (unspread_line net price2)) }
+    ensures value { IfOk result (λ next. next ≡ slice_set state.now commodity (unspread_state net price2)) }
     ensures unspread { IfOk result IsUnspread }
 {
     let mut state = state.copied(alloc)?;

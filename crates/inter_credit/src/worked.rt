@@ -7,54 +7,54 @@ ghost use Rattle.span_tables.specs.declared.limits.TheConstants.{MAX_BASIS_POINT
 ghost use Rattle.span_tables.specs.declared.limits.TheConstants.{MAX_OPTION_VALUE, MAX_PRICE2, MAX_SUM, MAX_UNITS};
 ghost use Rattle.span_tables.specs.declared.records.MinimumMethod.TheVariants as method;
 ghost use Rattle.span_tables.specs.declared.records.ProductKind.TheVariants as kind;
-ghost use Rattle.inter_credit.specs.Credits.{after_inter_spreads, credit_of, formed_both, unspread_line};
+ghost use Rattle.inter_credit.specs.Credits.{after_inter_spreads, credit_of, inter_formed_both, unspread_state};
 ghost use Rattle.inter_credit.specs.OptionValue.{due_of, excess_of, net_value_of};
 ghost use Rattle.inter_credit.specs.Requirement.{minimum_of, requirement_of};
 ghost use Rattle.inter_credit.specs.declared.option_value.TheConstants.{MAX_NET_VALUE};
-ghost use Rattle.inter_credit.specs.near.Samples.{credited, held_of_kind, held_with_value, line_with, short};
-ghost use Rattle.inter_credit.specs.near.Samples.{short_calls_and_puts, spread_of, two_lines};
+ghost use Rattle.inter_credit.specs.near.Samples.{credited, held_of_kind, held_with_value, state_with, short};
+ghost use Rattle.inter_credit.specs.near.Samples.{short_calls_and_puts, spread_of, two_states};
 
 // The credits that one spread earns: of one long delta against two short ones at 5000 basis points, credits of 399.96 and 299.97
 // rounded down, a ratio of 2 against 3, a net delta of 0 that forms no spread, and side A short with B long.
 fn credits_of_one_spread()
-    ensures long { credited (spread_of 5000 0 10000 1 10000 ∷ []) (two_lines (pos 100000000) (short 200000000))
-        ≡ (line_with (pos 100000000) (pos 0) 2400 500000000000, 600)
-        ∷ (line_with (short 200000000) (short 100000000) 3600 500000000000, 450) ∷ [] }
-    ensures rounded_down { credited (spread_of 3333 0 10000 1 10000 ∷ []) (two_lines (pos 100000000) (short 200000000))
-        ≡ (line_with (pos 100000000) (pos 0) 2400 333300000000, 399)
-        ∷ (line_with (short 200000000) (short 100000000) 3600 333300000000, 299) ∷ [] }
-    ensures unequal_ratios { credited (spread_of 5000 0 20000 1 30000 ∷ []) (two_lines (pos 100000000) (short 200000000))
-        ≡ (line_with (pos 100000000) (pos 0) 2400 500000000000, 600)
-        ∷ (line_with (short 200000000) (short 50000000) 3600 750000000000, 675) ∷ [] }
-    ensures no_net_delta { credited (spread_of 5000 0 10000 1 10000 ∷ []) (two_lines (pos 0) (short 200000000))
-        ≡ (line_with (pos 0) (pos 0) 2400 0, 0) ∷ (line_with (short 200000000) (short 200000000) 3600 0, 0) ∷ [] }
-    ensures second_direction { credited (spread_of 5000 0 10000 1 10000 ∷ []) (two_lines (short 100000000) (pos 200000000))
-        ≡ (line_with (short 100000000) (pos 0) 2400 500000000000, 600)
-        ∷ (line_with (pos 200000000) (pos 100000000) 3600 500000000000, 450) ∷ [] }
+    ensures long { credited (spread_of 5000 0 10000 1 10000 ∷ []) (two_states (pos 100000000) (short 200000000))
+        ≡ (state_with (pos 100000000) (pos 0) 2400 500000000000, 600)
+        ∷ (state_with (short 200000000) (short 100000000) 3600 500000000000, 450) ∷ [] }
+    ensures rounded_down { credited (spread_of 3333 0 10000 1 10000 ∷ []) (two_states (pos 100000000) (short 200000000))
+        ≡ (state_with (pos 100000000) (pos 0) 2400 333300000000, 399)
+        ∷ (state_with (short 200000000) (short 100000000) 3600 333300000000, 299) ∷ [] }
+    ensures unequal_ratios { credited (spread_of 5000 0 20000 1 30000 ∷ []) (two_states (pos 100000000) (short 200000000))
+        ≡ (state_with (pos 100000000) (pos 0) 2400 500000000000, 600)
+        ∷ (state_with (short 200000000) (short 50000000) 3600 750000000000, 675) ∷ [] }
+    ensures no_net_delta { credited (spread_of 5000 0 10000 1 10000 ∷ []) (two_states (pos 0) (short 200000000))
+        ≡ (state_with (pos 0) (pos 0) 2400 0, 0) ∷ (state_with (short 200000000) (short 200000000) 3600 0, 0) ∷ [] }
+    ensures second_direction { credited (spread_of 5000 0 10000 1 10000 ∷ []) (two_states (short 100000000) (pos 200000000))
+        ≡ (state_with (short 100000000) (pos 0) 2400 500000000000, 600)
+        ∷ (state_with (pos 200000000) (pos 100000000) 3600 500000000000, 450) ∷ [] }
 {}
 
 // Two spreads that share a commodity.
 fn two_spreads()
     ensures { credited (spread_of 5000 0 10000 1 10000 ∷ spread_of 2000 0 10000 2 10000 ∷ [])
-        (unspread_line (pos 300000000) 7200 ∷ unspread_line (short 100000000) 1800
-        ∷ unspread_line (short 100000000) 600 ∷ [])
-        ≡ (line_with (pos 300000000) (pos 100000000) 7200 700000000000, 840)
-        ∷ (line_with (short 100000000) (pos 0) 1800 500000000000, 450)
-        ∷ (line_with (short 100000000) (pos 0) 600 200000000000, 60) ∷ [] }
+        (unspread_state (pos 300000000) 7200 ∷ unspread_state (short 100000000) 1800
+        ∷ unspread_state (short 100000000) 600 ∷ [])
+        ≡ (state_with (pos 300000000) (pos 100000000) 7200 700000000000, 840)
+        ∷ (state_with (short 100000000) (pos 0) 1800 500000000000, 450)
+        ∷ (state_with (short 100000000) (pos 0) 600 200000000000, 60) ∷ [] }
 {}
 
 // The largest credits of an account: half of the contracts that may be held of one commodity, against as many of another.
 fn largest_credits_of_an_account()
     ensures { map credit_of (after_inter_spreads (spread_of MAX_BASIS_POINTS 0 10000 1 10000 ∷ [])
-        (unspread_line (pos (MAX_UNITS / 2)) (MAX_PRICE2 / 2) ∷ unspread_line (short (MAX_UNITS / 2)) (MAX_PRICE2 / 2) ∷ []))
+        (unspread_state (pos (MAX_UNITS / 2)) (MAX_PRICE2 / 2) ∷ unspread_state (short (MAX_UNITS / 2)) (MAX_PRICE2 / 2) ∷ []))
         ≡ MAX_PRICE2 / 4 ∷ MAX_PRICE2 / 4 ∷ [] }
 {}
 
 // Spreads with A long, of which the first commodity has room for a half, and with A short.
 fn spreads_formed_each_way()
-    ensures a_long { formed_both (two_lines (pos 100000000) (short 200000000)) (spread_of 5000 0 20000 1 30000)
+    ensures a_long { inter_formed_both (two_states (pos 100000000) (short 200000000)) (spread_of 5000 0 20000 1 30000)
         ≡ record { a_long = 5000; a_short = 0 } }
-    ensures a_short { formed_both (two_lines (short 100000000) (pos 200000000)) (spread_of 5000 0 10000 1 10000)
+    ensures a_short { inter_formed_both (two_states (short 100000000) (pos 200000000)) (spread_of 5000 0 10000 1 10000)
         ≡ record { a_long = 0; a_short = 10000 } }
 {}
 

@@ -13,7 +13,7 @@ use Rattle.std.proofs.lemmas.List.FromFn.{get_or-map-range_with_len, length-map-
 use Rattle.std.proofs.lemmas.Nat.Bits.{bit_at-zero, bit_at_set_same, bit_at_set_other}
 use Rattle.std.proofs.lemmas.Nat.Bits.{bit_at_clear_same, bit_at_clear_other, bit_at-trailing_zeros}
 use Rattle.span_tables.specs.Net.{is_held}
-use Rattle.param_check.specs.near.Nets.{holding_at, holdings_in, held_part}
+use Rattle.param_check.specs.near.Nets.{holding_at, holdings_from, held_part}
 use Rattle.param_check.specs.near.Sums.{is_marked, sum_at, sums_of, AreMarks, held_below, kept_holding}
 use Rattle.span_tables.specs.declared.portfolios.Holding.{Holding}
 use Rattle.param_check.proofs.NetLaws.{is_held-eq}
@@ -144,15 +144,15 @@ marks_more marks c w n lt word is are = record {
 
 -- sums of 0 hold nothing
 pub holdings_skip : (sums : List ℤ) (a d : ℕ) → ((k : ℕ) → a ≤ k → k < a + d → get_or sums k (pos 0) ≡ pos 0)
-    → holdings_in sums (a + d) ≡ holdings_in sums a
-holdings_skip sums a zero h = let same : a + 0 ≡ a = omega arith in ap (holdings_in sums) same
+    → holdings_from sums (a + d) ≡ holdings_from sums a
+holdings_skip sums a zero h = let same : a + 0 ≡ a = omega arith in ap (holdings_from sums) same
 holdings_skip sums a (suc d) h =
     let here : is_held (holding_at sums (a + d)) ≡ false = is_held-eq (holding_at sums (a + d)) (h (a + d) (omega arith) (omega arith)) in
     let next : a + suc d ≡ a + d + 1 = omega arith in
-    ap (holdings_in sums) next
+    ap (holdings_from sums) next
     ∙ filter_of_map_range_with_len_more is_held (holding_at sums) 0 (a + d) (a + d) (omega arith)
-    ∙ ap (λ b. holdings_in sums (a + d) ++ cond b (holding_at sums (a + d) ∷ []) []) here
-    ∙ append-nil (holdings_in sums (a + d))
+    ∙ ap (λ b. holdings_from sums (a + d) ++ cond b (holding_at sums (a + d) ∷ []) []) here
+    ∙ append-nil (holdings_from sums (a + d))
     ∙ holdings_skip sums a d (λ k x y. h k x (omega (arith, y)))
 
 -- ---- the numbers of a word, from its lowest mark on
@@ -247,10 +247,10 @@ module _ (marks : List ℕ) (places : List ℤ) where
 
   -- places of a word without a mark hold nothing
   skip : (w a u : ℕ) → a ≤ u → u ≤ 64 → ((i : ℕ) → a ≤ i → i < u → bit_at (get_or marks w 0) i ≡ 0)
-      → holdings_in (sums_of marks places) (64 * w + u) ≡ holdings_in (sums_of marks places) (64 * w + a)
+      → holdings_from (sums_of marks places) (64 * w + u) ≡ holdings_from (sums_of marks places) (64 * w + a)
   skip w a u le short none =
       let up : 64 * w + u ≡ 64 * w + a + (u - a) = omega (arith, le) in
-      ap (holdings_in (sums_of marks places)) up
+      ap (holdings_from (sums_of marks places)) up
       ∙ holdings_skip (sums_of marks places) (64 * w + a) (u - a)
       (λ k x y. zero_at k (k - 64 * w) (omega (arith, x)) (omega (arith, x)) (omega (arith, x, y, le)))
     where
@@ -264,7 +264,7 @@ module _ (marks : List ℕ) (places : List ℤ) where
       → held_below marks places (64 * w + u) ≡ held_below marks places (64 * w)
   word_begun w u short none =
       let same : 64 * w + 0 ≡ 64 * w = omega arith in
-      ap (map kept_holding) (skip w 0 u (omega arith) short (λ i x y. none i y) ∙ ap (holdings_in (sums_of marks places)) same)
+      ap (map kept_holding) (skip w 0 u (omega arith) short (λ i x y. none i y) ∙ ap (holdings_from (sums_of marks places)) same)
 
   -- from a mark to the next
   pub word_step : (w t u : ℕ) → t < u → u ≤ 64 → AreMarks marks (length places) → bit_at (get_or marks w 0) t ≡ 1
@@ -279,10 +279,10 @@ module _ (marks : List ℕ) (places : List ℤ) where
       marked (64 * w + t) within (mark_at w t h ∙ ap (λ b. b == 1) is) in
       ap (map kept_holding)
       (skip w (t + 1) u (omega (arith, lt)) short (λ i x y. none i (omega (arith, x)) y)
-      ∙ ap (holdings_in (sums_of marks places)) up
+      ∙ ap (holdings_from (sums_of marks places)) up
       ∙ filter_of_map_range_with_len_more is_held (holding_at (sums_of marks places)) 0 (64 * w + t) (64 * w + t) (omega arith)
-      ∙ ap (λ z. holdings_in (sums_of marks places) (64 * w + t) ++ held_part (64 * w + t) z) net)
-      ∙ map-append kept_holding (holdings_in (sums_of marks places) (64 * w + t))
+      ∙ ap (λ z. holdings_from (sums_of marks places) (64 * w + t) ++ held_part (64 * w + t) z) net)
+      ∙ map-append kept_holding (holdings_from (sums_of marks places) (64 * w + t))
       (held_part (64 * w + t) (get_or places (64 * w + t) (pos 0)))
 
   module _ (w n : ℕ) (are : AreMarks marks (length places)) (fits : n < 2 ^ 64) (some : 0 < n)
@@ -342,10 +342,10 @@ module _ (marks : List ℕ) (places : List ℤ) where
 
   -- all numbers
   pub all_below : (n : ℕ) → length places ≤ n
-      → held_below marks places n ≡ map kept_holding (holdings_in (sums_of marks places) (length (sums_of marks places)))
+      → held_below marks places n ≡ map kept_holding (holdings_from (sums_of marks places) (length (sums_of marks places)))
   all_below n h =
       let long = sums_long marks places in
       let up : n ≡ length (sums_of marks places) + (n - length (sums_of marks places)) = omega (arith, h, long) in
-      ap (λ m. map kept_holding (holdings_in (sums_of marks places) m)) up
+      ap (λ m. map kept_holding (holdings_from (sums_of marks places) m)) up
       ∙ ap (map kept_holding) (holdings_skip (sums_of marks places) (length (sums_of marks places)) (n - length (sums_of marks places))
       (λ k x y. get_or_past (sums_of marks places) k (pos 0) x))

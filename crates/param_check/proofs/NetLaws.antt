@@ -15,7 +15,7 @@ use Rattle.span_money.specs.Numbers.{int_sum_by}
 use Rattle.span_tables.specs.Net.{is_held}
 use Rattle.span_tables.specs.declared.limits.TheConstants.{MAX_QUANTITY}
 use Rattle.span_tables.specs.declared.portfolios.Holding.{Holding}
-use Rattle.param_check.specs.near.Nets.{entry_net, entry_holdings, holding_at, holdings_in}
+use Rattle.param_check.specs.near.Nets.{entry_net, entry_holdings, holding_at, holdings_from}
 use Rattle.param_check.specs.declared.binding.nets.Entry.{Entry}
 
 -- a sum of what passes, with one more element
@@ -142,13 +142,13 @@ same_on_range f g a (suc n) h =
     λ i. here i ∷ rest i
 
 pub holdings_in_table : (n : ℕ) (entries : List Entry) (nets : List ℤ) → nets ≡ map (entry_net entries) (range_with_len 0 n)
-    → holdings_in nets (length nets) ≡ entry_holdings n entries
+    → holdings_from nets (length nets) ≡ entry_holdings n entries
 unfolding entry_holdings
 holdings_in_table n entries nets e =
     let size : length nets ≡ n = ap length e ∙ length-map-range_with_len (entry_net entries) 0 n in
     let at : (k : ℕ) → k < n → get_or nets k (pos 0) ≡ entry_net entries k = λ k h. ap (λ xs. get_or xs k (pos 0)) e
     ∙ get_or-map-range_with_len (entry_net entries) 0 n k k (pos 0) h (omega arith) in
-    ap (λ m. holdings_in nets m) size
+    ap (λ m. holdings_from nets m) size
     ∙ ap (filter is_held) (same_on_range (holding_at nets) (λ c. record { contract = c; net = entry_net entries c }) 0 n
     (λ k x y. let h : k < n = omega (arith, y) in ap (holding_with k) (at k h)))
   where
@@ -166,5 +166,5 @@ module _ (n : ℕ) (entries ledger : List Entry) (zeros nets : List ℤ) (cleare
   pub table_long : length nets ≡ n
   table_long = ap length table_is ∙ length-map-range_with_len (entry_net ledger) 0 n
 
-  pub table_holds : holdings_in nets (length nets) ≡ entry_holdings n ledger
+  pub table_holds : holdings_from nets (length nets) ≡ entry_holdings n ledger
   table_holds = holdings_in_table n ledger nets table_is

@@ -9,7 +9,7 @@ use Rattle.span_tables.specs.Rules.{is_and, as_tier, share_month, overlaps_tier}
 use Rattle.span_tables.specs.declared.records.Record.{Record}
 use Rattle.span_tables.specs.declared.records.Record.TheVariants as record_of
 use Rattle.span_tables.proofs.NameLemmas.{same_name}
-use Rattle.param_check.specs.near.Overlaps.{meet, meets_earlier, months_of, months_under}
+use Rattle.param_check.specs.near.Overlaps.{meet, meets_earlier, tier_months, months_under}
 use Rattle.param_check.specs.declared.check.overlaps.Months.{Months}
 use Rattle.param_check.proofs.FilterMaps.{list_any-filter_map, list_any-same}
 
@@ -25,22 +25,22 @@ under true m test = refl
 under false m test = refl
 
 alike : (commodity : List ℕ) (m : Months) (r : Record) → is_and (months_under commodity r) (meet m)
-    ≡ is_and (as_tier r) (λ u. bytes_eq u.commodity commodity && meet m (months_of u))
-alike commodity m (record_of.Tier x) = under (bytes_eq x.commodity commodity) (months_of x) (meet m)
+    ≡ is_and (as_tier r) (λ u. bytes_eq u.commodity commodity && meet m (tier_months u))
+alike commodity m (record_of.Tier x) = under (bytes_eq x.commodity commodity) (tier_months x) (meet m)
 alike commodity m _ = refl
 
 -- a tier overlaps the earlier ones just where it meets those of its commodity
 pub overlaps_tier-meets : (earlier : List Record) (r : Record)
     → meets_earlier (λ commodity. filter_map (months_under commodity) earlier) r ≡ overlaps_tier earlier r
 overlaps_tier-meets earlier (record_of.Tier x) =
-    list_any-filter_map (months_under x.commodity) (meet (months_of x)) earlier
-    ∙ list_any-same _ _ (alike x.commodity (months_of x)) earlier
+    list_any-filter_map (months_under x.commodity) (meet (tier_months x)) earlier
+    ∙ list_any-same _ _ (alike x.commodity (tier_months x)) earlier
     ∙ sym (list_any-filter_map as_tier (λ u. bytes_eq u.commodity x.commodity && share_month x u) earlier)
 overlaps_tier-meets earlier _ = refl
 
 meets_earlier-same : (these those : List ℕ → List Months) → ((c : List ℕ) → these c ≡ those c) → (r : Record)
     → meets_earlier these r ≡ meets_earlier those r
-meets_earlier-same these those same (record_of.Tier x) = ap (list_any (meet (months_of x))) (same x.commodity)
+meets_earlier-same these those same (record_of.Tier x) = ap (list_any (meet (tier_months x))) (same x.commodity)
 meets_earlier-same these those same _ = refl
 
 -- groups of the earlier tiers by their commodity give the answer

@@ -6,7 +6,7 @@ use Rattle.span_tables.specs.Rules.{is_and, first_breaking, as_commodity, as_tie
 use Rattle.span_tables.specs.Rules.{commodities_in, has_tier, names_no_commodity, names_no_tier}
 use Rattle.span_tables.specs.declared.records.Record.{Record}
 use Rattle.span_tables.specs.declared.records.Record.TheVariants as record_of
-use Rattle.param_check.specs.near.Keys.{name_key, key_of, is_same, is_among, has_key, is_unknown}
+use Rattle.param_check.specs.near.Keys.{name_key, key_of, is_same, is_key_among, has_key, is_key_unknown}
 use Rattle.param_check.specs.near.Keys.{names_unknown, names_unknown_tier}
 use Rattle.param_check.specs.declared.check.keys.Key.{Key}
 use Rattle.param_check.specs.declared.check.keys.Identity.TheVariants as identity
@@ -24,11 +24,11 @@ has_commodity : (all : List Record) (id : List ℕ)
     → has_key identity.Commodity all (name_key id 0) ≡ list_any (λ c. bytes_eq c.id id) (commodities_in all)
 has_commodity all id = list_any-same _ _ (commodity_alike id) all ∙ sym (list_any-filter_map as_commodity (λ c. bytes_eq c.id id) all)
 
-module _ (keys : List Key) (all : List Record) (are : (key : Key) → is_among keys (Some key) ≡ has_key identity.Commodity all key) where
-  unknown : (id : List ℕ) → is_unknown keys id 0 ≡ not (list_any (λ c. bytes_eq c.id id) (commodities_in all))
+module _ (keys : List Key) (all : List Record) (are : (key : Key) → is_key_among keys (Some key) ≡ has_key identity.Commodity all key) where
+  unknown : (id : List ℕ) → is_key_unknown keys id 0 ≡ not (list_any (λ c. bytes_eq c.id id) (commodities_in all))
   unknown id = ap not (are (name_key id 0) ∙ has_commodity all id)
 
-  alone : (id : List ℕ) → is_unknown keys id 0
+  alone : (id : List ℕ) → is_key_unknown keys id 0
       ≡ list_any (λ name. not (list_any (λ c. bytes_eq c.id name) (commodities_in all))) (id ∷ [])
   alone id = unknown id ∙ sym (or-false _)
 
@@ -58,8 +58,8 @@ has_tier-key : (all : List Record) (c : List ℕ) (n : ℕ) → has_key identity
 has_tier-key all c n =
     list_any-same _ _ (tier_alike c n) all ∙ sym (list_any-filter_map as_tier (λ t. bytes_eq t.commodity c && eqb t.number n) all)
 
-module _ (keys : List Key) (all : List Record) (are : (key : Key) → is_among keys (Some key) ≡ has_key identity.Tier all key) where
-  unknown_tier : (c : List ℕ) (n : ℕ) → is_unknown keys c n ≡ not (has_tier all c n)
+module _ (keys : List Key) (all : List Record) (are : (key : Key) → is_key_among keys (Some key) ≡ has_key identity.Tier all key) where
+  unknown_tier : (c : List ℕ) (n : ℕ) → is_key_unknown keys c n ≡ not (has_tier all c n)
   unknown_tier c n = ap not (are (name_key c n) ∙ has_tier-key all c n)
 
   names_unknown_tier-alike : (earlier : List Record) (r : Record) → names_unknown_tier keys r ≡ names_no_tier all r

@@ -5,8 +5,8 @@ ghost use Rattle.std.specs.List.{repeat};
 ghost use Rattle.std.specs.Prelude.{◌≡◌, ◌+◌, [], ◌∷◌, None, Some, codes, neg_ℤ, pos};
 ghost use Rattle.param_check.specs.Binding.{bind_fault};
 ghost use Rattle.param_check.specs.CheckFaults.{check_fault};
-ghost use Rattle.param_check.specs.near.Samples.{contract_of, inter_record, intra_record};
-ghost use Rattle.param_check.specs.near.Samples.{position_of, tier_record};
+ghost use Rattle.param_check.specs.near.Samples.{contract_of, inter_sample, intra_sample};
+ghost use Rattle.param_check.specs.near.Samples.{position_of, tier_sample};
 ghost use Rattle.param_check.specs.declared.faults.BindFault.TheVariants as bind;
 ghost use Rattle.param_check.specs.declared.faults.CheckFault.TheVariants as check;
 ghost use Rattle.span_tables.specs.near.Samples.{commodity};
@@ -61,36 +61,36 @@ fn one_contract_too_many()
 // C2 of a leg.
 fn leg_of_an_unknown_commodity()
     ensures { check_fault (commodity (codes "AA")
-        ∷ inter_record 1 (codes "AA", side.A) (codes "BB", side.B) ∷ [])
+        ∷ inter_sample 1 (codes "AA", side.A) (codes "BB", side.B) ∷ [])
         ≡ Some (check.UnknownCommodity 2) }
 {}
 
 // C8: two legs of one commodity, though on two sides.
 fn legs_of_one_commodity()
     ensures { check_fault (commodity (codes "AA")
-        ∷ inter_record 1 (codes "AA", side.A) (codes "AA", side.B) ∷ [])
+        ∷ inter_sample 1 (codes "AA", side.A) (codes "AA", side.B) ∷ [])
         ≡ Some (check.RepeatedLeg 2) }
 {}
 
 // C9: no leg on B.
 fn legs_on_one_side()
     ensures { check_fault (commodity (codes "AA") ∷ commodity (codes "BB")
-        ∷ inter_record 1 (codes "AA", side.A) (codes "BB", side.A) ∷ [])
+        ∷ inter_sample 1 (codes "AA", side.A) (codes "BB", side.A) ∷ [])
         ≡ Some (check.OneSided 3) }
 {}
 
 // C10 of two intercommodity spreads.
 fn priority_of_an_earlier_spread()
     ensures { check_fault (commodity (codes "AA") ∷ commodity (codes "BB")
-        ∷ inter_record 7 (codes "AA", side.A) (codes "BB", side.B)
-        ∷ inter_record 7 (codes "BB", side.A) (codes "AA", side.B) ∷ [])
+        ∷ inter_sample 7 (codes "AA", side.A) (codes "BB", side.B)
+        ∷ inter_sample 7 (codes "BB", side.A) (codes "AA", side.B) ∷ [])
         ≡ Some (check.DuplicatePriority 4) }
 {}
 
 // A priority within a commodity and the same priority between commodities are two priorities.
 fn priority_of_both_kinds()
     ensures { check_fault (commodity (codes "AA") ∷ commodity (codes "BB")
-        ∷ tier_record (codes "AA") 1 202501 ∷ tier_record (codes "AA") 2 202504
-        ∷ intra_record (codes "AA") 7 ∷ inter_record 7 (codes "AA", side.A) (codes "BB", side.B) ∷ [])
+        ∷ tier_sample (codes "AA") 1 202501 ∷ tier_sample (codes "AA") 2 202504
+        ∷ intra_sample (codes "AA") 7 ∷ inter_sample 7 (codes "AA", side.A) (codes "BB", side.B) ∷ [])
         ≡ None }
 {}

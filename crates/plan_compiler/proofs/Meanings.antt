@@ -12,15 +12,15 @@ use Rattle.span_money.specs.Numbers.{int_sum_by}
 use Rattle.span_tables.specs.Tables.{AcceptedTables, inters_of}
 use Rattle.span_tables.specs.declared.portfolios.Holding.{Holding}
 use Rattle.spread_stage.specs.Spreads.{after_spreads, spread_both_ways, unspread}
-use Rattle.inter_credit.specs.Credits.{after_inter_spreads, inter_both_ways, unspread_line}
+use Rattle.inter_credit.specs.Credits.{after_inter_spreads, inter_both_ways, unspread_state}
 use Rattle.plan_ir.specs.Apply.{IsOp, inter_at, intra_at, no_inter, no_intra, value_on}
-use Rattle.plan_ir.specs.Figures.{deltas_at, figures_of, inter_lines, intras_at, line_of, loaded_lines, net_value_at, tiers_at}
+use Rattle.plan_ir.specs.Figures.{deltas_at, figures_of, inter_states, intras_at, state_of, loaded_states, net_value_at, tiers_at}
 use Rattle.plan_ir.specs.Figures.{total_to, value_to}
 use Rattle.plan_ir.specs.declared.ops.Op.{Op}
 use Rattle.plan_ir.specs.declared.ops.Op.TheVariants as op
 use Rattle.plan_ir.specs.declared.values.Value.TheVariants as value
 use Rattle.plan_compiler.specs.Meaning.{before_inter, before_load, before_spread, before_total, before_value, last_inter, last_tiers}
-use Rattle.plan_compiler.specs.Meaning.{lines_after_first, lines_loaded, meaning, tiers_after, wanted}
+use Rattle.plan_compiler.specs.Meaning.{states_after_first, states_loaded, meaning, tiers_after, wanted}
 use Rattle.plan_compiler.proofs.StageLemmas.{loaded_whole}
 
 module _ (t : AcceptedTables) (holdings : List Holding) where
@@ -31,15 +31,15 @@ module _ (t : AcceptedTables) (holdings : List Holding) where
   meaning-before_spread c zero = refl
   meaning-before_spread c (suc j) = rw add-one refl
 
-  pub meaning-before_load : (c : ℕ) → meaning t holdings (before_load c) ≡ value.Inter (lines_loaded t holdings c)
+  pub meaning-before_load : (c : ℕ) → meaning t holdings (before_load c) ≡ value.Inter (states_loaded t holdings c)
   meaning-before_load zero = refl
   meaning-before_load (suc c) = rw add-one refl
 
-  pub loaded_all : lines_loaded t holdings (length t.commodities) ≡ lines_after_first t holdings 0
+  pub loaded_all : states_loaded t holdings (length t.commodities) ≡ states_after_first t holdings 0
   unfolding after_inter_spreads
   loaded_all = loaded_whole t holdings
 
-  pub meaning-before_inter : (j : ℕ) → meaning t holdings (before_inter t j) ≡ value.Inter (lines_after_first t holdings j)
+  pub meaning-before_inter : (j : ℕ) → meaning t holdings (before_inter t j) ≡ value.Inter (states_after_first t holdings j)
   meaning-before_inter zero = meaning-before_load (length t.commodities) ∙ ap value.Inter loaded_all
   meaning-before_inter (suc j) = rw add-one refl
 
@@ -61,24 +61,24 @@ module _ (t : AcceptedTables) (holdings : List Holding) where
   spread_more c j lt = sym (fold_more spread_both_ways (unspread (deltas_at t holdings c)) (intras_at t c) j no_intra lt)
 
   inter_more : (j : ℕ) → j < length (inters_of t)
-      → inter_both_ways (lines_after_first t holdings j) (inter_at t j) ≡ lines_after_first t holdings (j + 1)
+      → inter_both_ways (states_after_first t holdings j) (inter_at t j) ≡ states_after_first t holdings (j + 1)
   unfolding after_inter_spreads
-  inter_more j lt = sym (fold_more inter_both_ways (loaded_lines t holdings) (inters_of t) j no_inter lt)
+  inter_more j lt = sym (fold_more inter_both_ways (loaded_states t holdings) (inters_of t) j no_inter lt)
 
   pub load_more : (c : ℕ) → c < length t.commodities
-      → slice_set (lines_loaded t holdings c) c (line_of t holdings c) ≡ lines_loaded t holdings (c + 1)
+      → slice_set (states_loaded t holdings c) c (state_of t holdings c) ≡ states_loaded t holdings (c + 1)
   load_more c lt =
-      let front = map (line_of t holdings) (range_with_len 0 c) in
-      let none = unspread_line (pos 0) 0 in
+      let front = map (state_of t holdings) (range_with_len 0 c) in
+      let none = unspread_state (pos 0) 0 in
       let rest = replicate (length t.commodities - (c + 1)) none in
       let one_more : length t.commodities - c ≡ suc (length t.commodities - (c + 1)) = omega arith in
-      let long : length front ≡ c = length-map-range_with_len (line_of t holdings) 0 c in
+      let long : length front ≡ c = length-map-range_with_len (state_of t holdings) 0 c in
       let zero_more : 0 + c ≡ c = omega arith in
-      ap (λ n. slice_set (front ++ replicate n none) c (line_of t holdings c)) one_more
-      ∙ ap (λ n. slice_set (front ++ none ∷ rest) n (line_of t holdings c)) (sym long)
-      ∙ set-append_seam front none rest (line_of t holdings c)
-      ∙ sym (append_assoc front (line_of t holdings c ∷ []) rest)
-      ∙ ap (λ xs. xs ++ rest) (sym (map-range_with_len_more (line_of t holdings) 0 c c zero_more))
+      ap (λ n. slice_set (front ++ replicate n none) c (state_of t holdings c)) one_more
+      ∙ ap (λ n. slice_set (front ++ none ∷ rest) n (state_of t holdings c)) (sym long)
+      ∙ set-append_seam front none rest (state_of t holdings c)
+      ∙ sym (append_assoc front (state_of t holdings c ∷ []) rest)
+      ∙ ap (λ xs. xs ++ rest) (sym (map-range_with_len_more (state_of t holdings) 0 c c zero_more))
 
   -- a sum over the first numbers, with the next one
   sum_more : (f : ℕ → ℤ) (c : ℕ) → int_sum_by f (range_with_len 0 c) +ℤ f c ≡ int_sum_by f (range_with_len 0 (c + 1))
@@ -102,17 +102,17 @@ module _ (t : AcceptedTables) (holdings : List Holding) where
       ap (λ spreads. after_spreads spreads (deltas_at t holdings c))
       (take_all (length (intras_at t c)) (intras_at t c) (omega arith))
 
-  pub all_lines : lines_after_first t holdings (length (inters_of t)) ≡ inter_lines t holdings
-  unfolding inter_lines
-  all_lines =
-      ap (λ spreads. after_inter_spreads spreads (loaded_lines t holdings))
+  pub states_after_all_spreads : states_after_first t holdings (length (inters_of t)) ≡ inter_states t holdings
+  unfolding inter_states
+  states_after_all_spreads =
+      ap (λ spreads. after_inter_spreads spreads (loaded_states t holdings))
       (take_all (length (inters_of t)) (inters_of t) (omega arith))
 
   pub meaning-last_tiers : (c : ℕ) → meaning t holdings (last_tiers t c) ≡ value.Tiers (tiers_at t holdings c)
   meaning-last_tiers c = meaning-before_spread c (length (intras_at t c)) ∙ ap value.Tiers (all_tiers c)
 
-  pub meaning-last_inter : meaning t holdings (last_inter t) ≡ value.Inter (inter_lines t holdings)
-  meaning-last_inter = meaning-before_inter (length (inters_of t)) ∙ ap value.Inter all_lines
+  pub meaning-last_inter : meaning t holdings (last_inter t) ≡ value.Inter (inter_states t holdings)
+  meaning-last_inter = meaning-before_inter (length (inters_of t)) ∙ ap value.Inter states_after_all_spreads
 
   -- ---- each operation
 

@@ -13,11 +13,11 @@ use Rattle.span_tables.specs.declared.records.Intra.{Intra}
 use Rattle.span_tables.specs.declared.sides.MarketSide.{MarketSide}
 use Rattle.spread_stage.specs.Spreads.{TierRests, after_spreads, spread_both_ways, unspread}
 use Rattle.spread_stage.specs.declared.months.MonthUnits.{MonthUnits}
-use Rattle.inter_credit.specs.Credits.{after_inter_spreads, inter_both_ways, line_after, unspread_line, line_at}
-use Rattle.inter_credit.specs.declared.state.InterLine.{InterLine}
+use Rattle.inter_credit.specs.Credits.{after_inter_spreads, inter_both_ways, state_after, unspread_state, state_at}
+use Rattle.inter_credit.specs.declared.state.CommodityState.{CommodityState}
 use Rattle.inter_credit.proofs.KeptLemmas.{kept}
-use Rattle.plan_ir.specs.Figures.{deltas_at, held_at, inter_lines, intras_at, line_of, loaded_lines, no_commodity, tiers_at}
-use Rattle.plan_compiler.specs.Meaning.{lines_loaded}
+use Rattle.plan_ir.specs.Figures.{deltas_at, held_at, inter_states, intras_at, state_of, loaded_states, no_commodity, tiers_at}
+use Rattle.plan_compiler.specs.Meaning.{states_loaded}
 
 module _ (t : AcceptedTables) (holdings : List Holding) where
   -- the held contracts of each commodity stand at its number
@@ -36,28 +36,28 @@ module _ (t : AcceptedTables) (holdings : List Holding) where
   tiers_are c months begun tiers spreads m b after s = after ∙ (λ k. fold spread_both_ways ((b ∙ ap unspread m) k) (s k))
 
   -- all commodities are loaded
-  pub loaded_whole : lines_loaded t holdings (length t.commodities) ≡ loaded_lines t holdings
+  pub loaded_whole : states_loaded t holdings (length t.commodities) ≡ loaded_states t holdings
   loaded_whole =
       let gone : length t.commodities - length t.commodities ≡ 0 = omega arith in
-      rw gone (append-nil (loaded_lines t holdings))
+      rw gone (append-nil (loaded_states t holdings))
 
-  -- the line that was loaded for a commodity
-  pub loaded_at : (c : ℕ) → c < length t.commodities → line_at (loaded_lines t holdings) c ≡ line_of t holdings c
+  -- the state that was loaded for a commodity
+  pub loaded_at : (c : ℕ) → c < length t.commodities → state_at (loaded_states t holdings) c ≡ state_of t holdings c
   loaded_at c lt =
-      let none = unspread_line (pos 0) 0 in
-      unwrap_or-slice_get (loaded_lines t holdings) c none
-      ∙ get_or-map-range_with_len (line_of t holdings) 0 (length t.commodities) c c none lt (zero-add c)
+      let none = unspread_state (pos 0) 0 in
+      unwrap_or-slice_get (loaded_states t holdings) c none
+      ∙ get_or-map-range_with_len (state_of t holdings) 0 (length t.commodities) c c none lt (zero-add c)
 
   -- the commodities after the spreads of the set
-  pub lines_are : (lines state : List InterLine) (spreads : List Inter) → lines ≡ fold inter_both_ways state spreads
-      → state ≡ loaded_lines t holdings → spreads ≡ inters_of t → lines ≡ inter_lines t holdings
-  unfolding inter_lines after_inter_spreads
-  lines_are lines state spreads after before all =
-      after ∙ ap (λ s. fold inter_both_ways s spreads) before ∙ ap (fold inter_both_ways (loaded_lines t holdings)) all
+  pub states_are : (states state : List CommodityState) (spreads : List Inter) → states ≡ fold inter_both_ways state spreads
+      → state ≡ loaded_states t holdings → spreads ≡ inters_of t → states ≡ inter_states t holdings
+  unfolding inter_states after_inter_spreads
+  states_are states state spreads after before all =
+      after ∙ ap (λ s. fold inter_both_ways s spreads) before ∙ ap (fold inter_both_ways (loaded_states t holdings)) all
 
-  -- what using a part of a line's rest keeps, the spreads of the set keep
-  pub kept_at : {A : Type 0} (of : InterLine → A)
-      → ((on : MarketSide) (used bp : ℕ) (line : InterLine) → of (line_after on used bp line) ≡ of line)
-      → (c : ℕ) → c < length t.commodities → of (line_at (inter_lines t holdings) c) ≡ of (line_of t holdings c)
-  unfolding inter_lines after_inter_spreads
-  kept_at of keeps c lt = kept of keeps (inters_of t) (loaded_lines t holdings) c ∙ ap of (loaded_at c lt)
+  -- what using a part of a state's rest keeps, the spreads of the set keep
+  pub kept_at : {A : Type 0} (of : CommodityState → A)
+      → ((on : MarketSide) (used bp : ℕ) (state : CommodityState) → of (state_after on used bp state) ≡ of state)
+      → (c : ℕ) → c < length t.commodities → of (state_at (inter_states t holdings) c) ≡ of (state_of t holdings c)
+  unfolding inter_states after_inter_spreads
+  kept_at of keeps c lt = kept of keeps (inters_of t) (loaded_states t holdings) c ∙ ap of (loaded_at c lt)

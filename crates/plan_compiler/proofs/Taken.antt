@@ -12,19 +12,19 @@ use Rattle.scan_risk.specs.Scenarios.{scenario_sums}
 use Rattle.spread_stage.proofs.FallLemmas.{spreads_shrink}
 use Rattle.inter_credit.proofs.BoundLaws.{length-after_inter_spreads}
 use Rattle.scan_risk.proofs.BoundLaws as scan
-use Rattle.plan_ir.proofs.BoundLaws.{delivery_at_small, held_at_are, length-inter_lines, length-loaded_lines}
+use Rattle.plan_ir.proofs.BoundLaws.{delivery_at_small, held_at_are, length-inter_states, length-loaded_states}
 use Rattle.plan_ir.proofs.BoundLaws.{minimum_at_small, next_total_is_money, next_value_is_money, price2_at_small, risk_at_small}
-use Rattle.inter_credit.specs.Credits.{unspread_line}
+use Rattle.inter_credit.specs.Credits.{unspread_state}
 use Rattle.std.proofs.lemmas.List.{length-append, length-replicate}
 use Rattle.std.proofs.lemmas.List.Elements.{All-append, All-map, All-replicate}
 use Rattle.std.proofs.lemmas.List.FromFn.{length-map-range_with_len}
-use Rattle.inter_credit.specs.States.{IsNotLoaded, IsUnspread, IsUnspreadLine}
+use Rattle.inter_credit.specs.States.{IsNotLoaded, IsUnspread, IsUnspreadState}
 use Rattle.inter_credit.specs.declared.requirement.TheConstants.{MAX_PART}
 use Rattle.plan_ir.specs.Apply.{IsOp, Takes, inter_at, no_inter}
-use Rattle.plan_ir.specs.Figures.{deltas_at, delivery_at, held_at, intras_at, line_of, loaded_lines, minimum_at, scan_at}
+use Rattle.plan_ir.specs.Figures.{deltas_at, delivery_at, held_at, intras_at, state_of, loaded_states, minimum_at, scan_at}
 use Rattle.plan_ir.specs.declared.ops.Op.{Op}
 use Rattle.plan_ir.specs.declared.ops.Op.TheVariants as op
-use Rattle.plan_compiler.specs.Meaning.{lines_after_first, lines_loaded, meaning, wanted}
+use Rattle.plan_compiler.specs.Meaning.{states_after_first, states_loaded, meaning, wanted}
 use Rattle.plan_compiler.proofs.Meanings.{meaning-before_inter, meaning-before_load, meaning-before_spread, meaning-before_total}
 use Rattle.plan_compiler.proofs.Meanings.{meaning-before_value, meaning-last_inter, meaning-last_tiers}
 
@@ -49,46 +49,46 @@ module _ (t : AcceptedTables) (holdings : List Holding) (limits : IsWithinLimits
 
   -- ---- the commodities
 
-  length_lines : (j : ℕ) → length (lines_after_first t holdings j) ≡ length t.commodities
-  length_lines j =
-      length-after_inter_spreads (take j (inters_of t)) (loaded_lines t holdings)
-      ∙ length-loaded_lines t holdings limits portfolio known
+  length_states : (j : ℕ) → length (states_after_first t holdings j) ≡ length t.commodities
+  length_states j =
+      length-after_inter_spreads (take j (inters_of t)) (loaded_states t holdings)
+      ∙ length-loaded_states t holdings limits portfolio known
 
-  pub length_partly : (c : ℕ) → c ≤ length t.commodities → length (lines_loaded t holdings c) ≡ length t.commodities
+  pub length_partly : (c : ℕ) → c ≤ length t.commodities → length (states_loaded t holdings c) ≡ length t.commodities
   length_partly c le =
-      let front = map (line_of t holdings) (range_with_len 0 c) in
-      let rest = replicate (length t.commodities - c) (unspread_line (pos 0) 0) in
+      let front = map (state_of t holdings) (range_with_len 0 c) in
+      let rest = replicate (length t.commodities - c) (unspread_state (pos 0) 0) in
       omega (
         arith,
         le,
         length-append front rest,
-        length-map-range_with_len (line_of t holdings) 0 c,
-        length-replicate (length t.commodities - c) (unspread_line (pos 0) 0),
+        length-map-range_with_len (state_of t holdings) 0 c,
+        length-replicate (length t.commodities - c) (unspread_state (pos 0) 0),
       )
 
   legs_among : (j : ℕ) → j < length (inters_of t)
-      → All (λ leg. leg.commodity < length (lines_after_first t holdings j)) (inter_at t j).legs
+      → All (λ leg. leg.commodity < length (states_after_first t holdings j)) (inter_at t j).legs
   legs_among j lt =
       let known = (limits.inters_in_range j no_inter lt).known in
-      λ i d in_range. let among = known i d in_range in omega (arith, among, length_lines j)
+      λ i d in_range. let among = known i d in_range in omega (arith, among, length_states j)
 
-  pub not_loaded : (c : ℕ) → c < length t.commodities → IsNotLoaded (lines_loaded t holdings c) c
+  pub not_loaded : (c : ℕ) → c < length t.commodities → IsNotLoaded (states_loaded t holdings c) c
   not_loaded c lt =
-      let front = map (line_of t holdings) (range_with_len 0 c) in
-      let none = unspread_line (pos 0) 0 in
+      let front = map (state_of t holdings) (range_with_len 0 c) in
+      let none = unspread_state (pos 0) 0 in
       let one_more : length t.commodities - c ≡ suc (length t.commodities - (c + 1)) = omega arith in
-      let long : length front ≡ c = length-map-range_with_len (line_of t holdings) 0 c in
-      let here : slice_get (lines_loaded t holdings c) c ≡ Some none =
+      let long : length front ≡ c = length-map-range_with_len (state_of t holdings) 0 c in
+      let here : slice_get (states_loaded t holdings c) c ≡ Some none =
       ap (λ n. slice_get (front ++ replicate n none) c) one_more
       ∙ ap (slice_get (front ++ none ∷ replicate (length t.commodities - (c + 1)) none)) (sym long)
       ∙ at_seam front none (replicate (length t.commodities - (c + 1)) none) in
       rw here (refl, refl)
 
-  pub unspread : (c : ℕ) → IsUnspread (lines_loaded t holdings c)
+  pub unspread : (c : ℕ) → IsUnspread (states_loaded t holdings c)
   unspread c =
-      All-append IsUnspreadLine (map (line_of t holdings) (range_with_len 0 c)) _
-      (All-map IsUnspreadLine (line_of t holdings) (range_with_len 0 c) (λ i d lt. record { rest = refl; weight = refl }))
-      (All-replicate IsUnspreadLine (length t.commodities - c) (unspread_line (pos 0) 0) (record { rest = refl; weight = refl }))
+      All-append IsUnspreadState (map (state_of t holdings) (range_with_len 0 c)) _
+      (All-map IsUnspreadState (state_of t holdings) (range_with_len 0 c) (λ i d lt. record { rest = refl; weight = refl }))
+      (All-replicate IsUnspreadState (length t.commodities - c) (unspread_state (pos 0) 0) (record { rest = refl; weight = refl }))
 
   -- ---- each operation
 
@@ -115,11 +115,11 @@ module _ (t : AcceptedTables) (holdings : List Holding) (limits : IsWithinLimits
       tiers = tt;
       delivery = tt;
       minimum = tt;
-      lines = tt;
+      states = tt;
       risk_small = risk_small c;
       delivery_small = delivery_small c;
       minimum_small = minimum_small c is;
-      among = let long = length-inter_lines t holdings limits portfolio known in omega (arith, is, long);
+      among = let long = length-inter_states t holdings limits portfolio known in omega (arith, is, long);
     };
   })
   takes_meanings op.InterStart is = record { known = tt; taken = record { count = refl } }
@@ -127,7 +127,7 @@ module _ (t : AcceptedTables) (holdings : List Holding) (limits : IsWithinLimits
     known = is;
     taken = record {
       count = refl;
-      lines = tt;
+      states = tt;
       months = tt;
       scan = tt;
       among = let long = length_partly c (omega (arith, is)) in omega (arith, long, is);
@@ -138,7 +138,7 @@ module _ (t : AcceptedTables) (holdings : List Holding) (limits : IsWithinLimits
   })
   takes_meanings (op.InterSpread j) is = rw (meaning-before_inter t holdings j) (record {
     known = is;
-    taken = record { count = refl; lines = tt; among = legs_among j is };
+    taken = record { count = refl; states = tt; among = legs_among j is };
   })
   takes_meanings op.TotalStart is = record { known = tt; taken = record { count = refl } }
   takes_meanings (op.TotalAdd c) is = rw (meaning-before_total t holdings c) (record {

@@ -6,9 +6,9 @@ use Rattle.span_tables.specs.declared.limits.TheConstants.{MAX_INTRA_SPREADS}
 use Rattle.span_tables.specs.declared.portfolios.Holding.{Holding}
 use Rattle.scan_risk.specs.Scenarios.{scenario_sums}
 use Rattle.spread_stage.specs.Spreads.{TierRests, after_spreads, unspread}
-use Rattle.inter_credit.specs.Credits.{after_inter_spreads, unspread_line}
-use Rattle.inter_credit.specs.declared.state.InterLine.{InterLine}
-use Rattle.plan_ir.specs.Figures.{deltas_at, delivery_at, figures_of, held_at, intras_at, line_of, loaded_lines, minimum_at}
+use Rattle.inter_credit.specs.Credits.{after_inter_spreads, unspread_state}
+use Rattle.inter_credit.specs.declared.state.CommodityState.{CommodityState}
+use Rattle.plan_ir.specs.Figures.{deltas_at, delivery_at, figures_of, held_at, intras_at, state_of, loaded_states, minimum_at}
 use Rattle.plan_ir.specs.Figures.{net_value_at, scan_at, total_to, value_to}
 use Rattle.plan_ir.specs.declared.ops.Op.{Op}
 use Rattle.plan_ir.specs.declared.ops.Op.TheVariants as op
@@ -20,13 +20,13 @@ abbrev pub tiers_after : AcceptedTables → List Holding → ℕ → ℕ → Tie
 tiers_after t holdings c spreads = after_spreads (take spreads (intras_at t c)) (deltas_at t holdings c)
 
 -- all commodities, of which the first are loaded
-abbrev pub lines_loaded : AcceptedTables → List Holding → ℕ → List InterLine
-lines_loaded t holdings n =
-    map (line_of t holdings) (range_with_len 0 n) ++ replicate (length t.commodities - n) (unspread_line (pos 0) 0)
+abbrev pub states_loaded : AcceptedTables → List Holding → ℕ → List CommodityState
+states_loaded t holdings n =
+    map (state_of t holdings) (range_with_len 0 n) ++ replicate (length t.commodities - n) (unspread_state (pos 0) 0)
 
 -- all commodities after the first intercommodity spreads
-abbrev pub lines_after_first : AcceptedTables → List Holding → ℕ → List InterLine
-lines_after_first t holdings spreads = after_inter_spreads (take spreads (inters_of t)) (loaded_lines t holdings)
+abbrev pub states_after_first : AcceptedTables → List Holding → ℕ → List CommodityState
+states_after_first t holdings spreads = after_inter_spreads (take spreads (inters_of t)) (loaded_states t holdings)
 
 -- what an operation means at its place, for an account with these holdings
 abbrev pub meaning : AcceptedTables → List Holding → Op → Value
@@ -39,9 +39,9 @@ meaning t holdings (op.Spread c j) = value.Tiers (tiers_after t holdings c (j + 
 meaning t holdings (op.Delivery c) = value.Amount (pos (delivery_at t holdings c))
 meaning t holdings (op.Minimum c) = value.Amount (pos (minimum_at t holdings c))
 meaning t holdings (op.Final c) = value.Figures (figures_of t holdings c)
-meaning t holdings op.InterStart = value.Inter (lines_loaded t holdings 0)
-meaning t holdings (op.InterLoad c) = value.Inter (lines_loaded t holdings (c + 1))
-meaning t holdings (op.InterSpread j) = value.Inter (lines_after_first t holdings (j + 1))
+meaning t holdings op.InterStart = value.Inter (states_loaded t holdings 0)
+meaning t holdings (op.InterLoad c) = value.Inter (states_loaded t holdings (c + 1))
+meaning t holdings (op.InterSpread j) = value.Inter (states_after_first t holdings (j + 1))
 meaning t holdings op.TotalStart = value.Total (pos 0)
 meaning t holdings (op.TotalAdd c) = value.Total (total_to t holdings (c + 1))
 meaning t holdings (op.NetValue c) = value.Amount (net_value_at t holdings c)

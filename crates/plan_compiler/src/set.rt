@@ -97,7 +97,7 @@ impl CompiledSet {
 
     /// Another set of the same tables and plan, which it shares, with values of nothing held of its own: threads that take
     /// and drop holds on these would else wait for one another.
-    pub fn another(&self, alloc: Global) -> Result<CompiledSet, AllocError>
+    pub fn with_own_constants(&self, alloc: Global) -> Result<CompiledSet, AllocError>
         ensures { IfOk result (λ set. set ≡ self.now) }
     {
         let shared = Arc::try_clone(&self.shared)?;

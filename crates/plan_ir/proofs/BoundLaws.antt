@@ -19,15 +19,15 @@ use Rattle.spread_stage.specs.Months.{AreMonths, AreTierRests}
 use Rattle.spread_stage.specs.declared.charges.TheConstants.{MAX_DELIVERY_CHARGE}
 use Rattle.spread_stage.proofs.BoundLaws.{delivery_small, intra_small, months_are, net_small, tiers_are}
 use Rattle.spread_stage.proofs.FallLemmas.{spreads_shrink}
-use Rattle.inter_credit.specs.near.Lines.{IsLine}
+use Rattle.inter_credit.specs.near.CommodityStates.{IsCommodityState}
 use Rattle.inter_credit.specs.Credits.{credit_at}
-use Rattle.inter_credit.proofs.BoundLaws.{credit_small, length-after_inter_spreads, lines_stay, minimum_small, requirement_small}
+use Rattle.inter_credit.proofs.BoundLaws.{credit_small, length-after_inter_spreads, states_stay, minimum_small, requirement_small}
 use Rattle.inter_credit.proofs.OpenLemmas.{loaded_line}
 use Rattle.inter_credit.proofs.Sizes.{size-add}
 use Rattle.inter_credit.proofs.ValueLemmas.{net_value_small}
 use Rattle.inter_credit.specs.declared.option_value.TheConstants.{MAX_NET_VALUE}
-use Rattle.plan_ir.specs.Figures.{commodity_at, delivery_at, deltas_at, figures_of, held_at, inter_lines, intras_at, line_of}
-use Rattle.plan_ir.specs.Figures.{loaded_lines, minimum_at, net_value_at, scan_at, spots_at, tiers_at, total_to, value_to}
+use Rattle.plan_ir.specs.Figures.{commodity_at, delivery_at, deltas_at, figures_of, held_at, inter_states, intras_at, state_of}
+use Rattle.plan_ir.specs.Figures.{loaded_states, minimum_at, net_value_at, scan_at, spots_at, tiers_at, total_to, value_to}
 use Rattle.plan_ir.specs.declared.figures.TheConstants.{MAX_REQUIREMENT}
 
 -- an account with holdings, under tables within their limits
@@ -66,33 +66,33 @@ module _ (t : AcceptedTables) (holdings : List Holding) (limits : IsWithinLimits
       minimum_small (commodity_at t c).minimum_rate (commodity_at t c).method (held_at t holdings c)
       (limits.minimum_rates c _ lt) (held_at_are c)
 
-  -- the line of a commodity before any intercommodity spread
-  pub line_of_is : (c : ℕ) → IsLine (line_of t holdings c)
-  line_of_is c = loaded_line _ _ (net_small (deltas_at t holdings c) (deltas_at_are c)) (price2_at_small c)
+  -- the state of a commodity before any intercommodity spread
+  pub state_of_is : (c : ℕ) → IsCommodityState (state_of t holdings c)
+  state_of_is c = loaded_line _ _ (net_small (deltas_at t holdings c) (deltas_at_are c)) (price2_at_small c)
 
   -- ---- all commodities
 
-  pub loaded_are : All IsLine (loaded_lines t holdings)
+  pub loaded_are : All IsCommodityState (loaded_states t holdings)
   loaded_are =
-      All-map IsLine (line_of t holdings) (range_with_len 0 (length t.commodities))
-      (λ k d lt. line_of_is (get_or (range_with_len 0 (length t.commodities)) k d))
+      All-map IsCommodityState (state_of t holdings) (range_with_len 0 (length t.commodities))
+      (λ k d lt. state_of_is (get_or (range_with_len 0 (length t.commodities)) k d))
 
-  pub length-loaded_lines : length (loaded_lines t holdings) ≡ length t.commodities
-  length-loaded_lines = length-map-range_with_len (line_of t holdings) 0 (length t.commodities)
+  pub length-loaded_states : length (loaded_states t holdings) ≡ length t.commodities
+  length-loaded_states = length-map-range_with_len (state_of t holdings) 0 (length t.commodities)
 
-  pub lines_are : All IsLine (inter_lines t holdings)
-  unfolding inter_lines
-  lines_are =
-      lines_stay (inters_of t) (loaded_lines t holdings) loaded_are
-      (subst (λ n. All (IsInter n) (inters_of t)) (sym length-loaded_lines) limits.inters_in_range)
+  pub states_are : All IsCommodityState (inter_states t holdings)
+  unfolding inter_states
+  states_are =
+      states_stay (inters_of t) (loaded_states t holdings) loaded_are
+      (subst (λ n. All (IsInter n) (inters_of t)) (sym length-loaded_states) limits.inters_in_range)
 
-  pub length-inter_lines : length (inter_lines t holdings) ≡ length t.commodities
-  unfolding inter_lines
-  length-inter_lines = length-after_inter_spreads (inters_of t) (loaded_lines t holdings) ∙ length-loaded_lines
+  pub length-inter_states : length (inter_states t holdings) ≡ length t.commodities
+  unfolding inter_states
+  length-inter_states = length-after_inter_spreads (inters_of t) (loaded_states t holdings) ∙ length-loaded_states
 
   -- the credit of a commodity
-  pub credit_at_small : (c : ℕ) → 2 * credit_at (inter_lines t holdings) c ≤ MAX_PRICE2
-  credit_at_small c = credit_small (inter_lines t holdings) c lines_are
+  pub credit_at_small : (c : ℕ) → 2 * credit_at (inter_states t holdings) c ≤ MAX_PRICE2
+  credit_at_small c = credit_small (inter_states t holdings) c states_are
 
   -- the requirement of a commodity
   requirement_at_small : (c : ℕ) → c < length t.commodities → nat_abs (figures_of t holdings c).requirement ≤ MAX_REQUIREMENT
@@ -100,7 +100,7 @@ module _ (t : AcceptedTables) (holdings : List Holding) (limits : IsWithinLimits
   requirement_at_small c lt =
       let intra = intra_small (tiers_at t holdings c) (tiers_at_are c) in
       let parts = requirement_small (scan_at t holdings c).risk (pos (intra_charge (tiers_at t holdings c).charge))
-      (pos (delivery_at t holdings c)) (pos (credit_at (inter_lines t holdings) c)) (pos (minimum_at t holdings c)) in
+      (pos (delivery_at t holdings c)) (pos (credit_at (inter_states t holdings) c)) (pos (minimum_at t holdings c)) in
       omega (arith, parts, intra, risk_at_small c, delivery_at_small c, credit_at_small c, minimum_at_small c lt)
 
   -- the sum of the requirements of the first commodities

@@ -4,7 +4,7 @@ use Rattle.std.proofs.Common.{◌∷◌, length, slice_index_or, refl, ap, ◌�
 use Rattle.std.specs.Prelude.{◌==◌, All}
 use Rattle.std.specs.List.Sorted.{IsStrictlyIncreasing}
 use Rattle.std.proofs.lemmas.Bool.{eq-eqb, ne_eqb}
-use Rattle.plan_ir.specs.Plans.{StepView, inputs_at, inputs_in, is_among, places_from, users_of}
+use Rattle.plan_ir.specs.Plans.{StepView, inputs_at, inputs_in, is_step_among, places_from, users_of}
 
 -- no place stands before the first, nor behind the last
 abbrev AreFrom : ℕ → ℕ → List ℕ → Type 0
@@ -13,7 +13,7 @@ AreFrom first end places =
 
 are_from : (k first : ℕ) (lists : List (List ℕ)) → AreFrom first (first + length lists) (places_from first k lists)
 are_from k first [] = λ i d lt. elim lt [ ]
-are_from k first (x ∷ lists) = by (is_among k x) (are_from k (first + 1) lists) where
+are_from k first (x ∷ lists) = by (is_step_among k x) (are_from k (first + 1) lists) where
   rest : List ℕ
   rest = places_from (first + 1) k lists
 
@@ -24,42 +24,42 @@ are_from k first (x ∷ lists) = by (is_among k x) (are_from k (first + 1) lists
   by false later i d lt = let at = later i d lt in (omega (arith, at), omega (arith, at))
 
 -- a number before the first is not among them
-not_before : (k first : ℕ) (lists : List (List ℕ)) (n : ℕ) → n < first → is_among n (places_from first k lists) ≡ false
+not_before : (k first : ℕ) (lists : List (List ℕ)) (n : ℕ) → n < first → is_step_among n (places_from first k lists) ≡ false
 not_before k first [] n lt = refl
-not_before k first (x ∷ lists) n lt = by (is_among k x) (not_before k (first + 1) lists n (omega (arith, lt))) where
+not_before k first (x ∷ lists) n lt = by (is_step_among k x) (not_before k (first + 1) lists n (omega (arith, lt))) where
   rest : List ℕ
   rest = places_from (first + 1) k lists
 
   other : (n == first) ≡ false
   other = ne_eqb n first (λ e. omega (arith, e, lt))
 
-  by : (b : Bool) → is_among n rest ≡ false → is_among n (cond b (first ∷ rest) rest) ≡ false
+  by : (b : Bool) → is_step_among n rest ≡ false → is_step_among n (cond b (first ∷ rest) rest) ≡ false
   by true later = rw (other, later) refl
   by false later = later
 
 -- a place is among them just where its list has k
 among_at : (k first : ℕ) (lists : List (List ℕ)) (i n : ℕ) → n ≡ first + i
-    → is_among n (places_from first k lists) ≡ is_among k (slice_index_or lists i [])
+    → is_step_among n (places_from first k lists) ≡ is_step_among k (slice_index_or lists i [])
 among_at k first [] i n e = refl
-among_at k first (x ∷ lists) zero n e = by (is_among k x) where
+among_at k first (x ∷ lists) zero n e = by (is_step_among k x) where
   rest : List ℕ
   rest = places_from (first + 1) k lists
 
   same : (n == first) ≡ true
   same = eq-eqb n first (omega (arith, e))
 
-  by : (b : Bool) → is_among n (cond b (first ∷ rest) rest) ≡ b
+  by : (b : Bool) → is_step_among n (cond b (first ∷ rest) rest) ≡ b
   by true = rw same refl
   by false = not_before k (first + 1) lists n (omega (arith, e))
-among_at k first (x ∷ lists) (suc i) n e = by (is_among k x) (among_at k (first + 1) lists i n (omega (arith, e))) where
+among_at k first (x ∷ lists) (suc i) n e = by (is_step_among k x) (among_at k (first + 1) lists i n (omega (arith, e))) where
   rest : List ℕ
   rest = places_from (first + 1) k lists
 
   other : (n == first) ≡ false
   other = ne_eqb n first (λ same. omega (arith, e, same))
 
-  by : (b : Bool) → is_among n rest ≡ is_among k (slice_index_or lists i [])
-      → is_among n (cond b (first ∷ rest) rest) ≡ is_among k (slice_index_or lists i [])
+  by : (b : Bool) → is_step_among n rest ≡ is_step_among k (slice_index_or lists i [])
+      → is_step_among n (cond b (first ∷ rest) rest) ≡ is_step_among k (slice_index_or lists i [])
   by true later = rw other later
   by false later = later
 
@@ -69,7 +69,7 @@ Rise places = (i d : ℕ) → suc i < length places → slice_index_or places i 
 
 rise : (k first : ℕ) (lists : List (List ℕ)) → Rise (places_from first k lists)
 rise k first [] = λ i d lt. elim lt [ ]
-rise k first (x ∷ lists) = by (is_among k x) (rise k (first + 1) lists) where
+rise k first (x ∷ lists) = by (is_step_among k x) (rise k (first + 1) lists) where
   rest : List ℕ
   rest = places_from (first + 1) k lists
 
@@ -89,8 +89,8 @@ inputs_of_all [] = refl
 inputs_of_all (s ∷ plan) = ap suc (inputs_of_all plan)
 
 -- a step is a user just where it has k among its inputs
-pub users_just : (plan : List StepView) (k user : ℕ) → is_among user (users_of plan k) ≡ is_among k (inputs_at plan user)
-users_just plan k user = among_at k 0 (inputs_in plan) user user (omega arith) ∙ ap (is_among k) (inputs_read plan user)
+pub users_just : (plan : List StepView) (k user : ℕ) → is_step_among user (users_of plan k) ≡ is_step_among k (inputs_at plan user)
+users_just plan k user = among_at k 0 (inputs_in plan) user user (omega arith) ∙ ap (is_step_among k) (inputs_read plan user)
 
 -- users are steps of the plan
 pub users_are_steps : (plan : List StepView) (k : ℕ) → All (λ user. user < length plan) (users_of plan k)

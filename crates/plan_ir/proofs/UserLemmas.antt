@@ -9,7 +9,7 @@ use Rattle.std.proofs.lemmas.List.FromFn.{get_or-map-range_with_len, length-rang
 use Rattle.std.proofs.lemmas.List.Elements.{All-tail}
 use Rattle.std.proofs.lemmas.Bool.{cases_eq, eq-eqb, ne_eqb, or_parts}
 use Rattle.span_tables.specs.Names.{has_repeat}
-use Rattle.plan_ir.specs.Plans.{is_among, places_from, steps_with, inputs_in, op_at, inputs_at, ops_in}
+use Rattle.plan_ir.specs.Plans.{is_step_among, places_from, steps_with, inputs_in, op_at, inputs_at, ops_in}
 use Rattle.plan_ir.specs.declared.ops.Op.{Op}
 use Rattle.plan_ir.specs.near.Noting.{noted, places_of_all}
 
@@ -49,20 +49,20 @@ as_many_steps (o ∷ ops) (x ∷ lists) e = ap suc (as_many_steps ops lists (ome
 
 -- the last list decides whether its place is appended
 pub places_push : (first k : ℕ) (lists : List (List ℕ)) (x : List ℕ)
-    → places_from first k (lists ++ x ∷ []) ≡ places_from first k lists ++ cond (is_among k x) ((first + length lists) ∷ []) []
+    → places_from first k (lists ++ x ∷ []) ≡ places_from first k lists ++ cond (is_step_among k x) ((first + length lists) ∷ []) []
 places_push first k [] x =
     let here : first ≡ first + 0 = omega arith in
-    ap (λ n. cond (is_among k x) (n ∷ []) []) here
+    ap (λ n. cond (is_step_among k x) (n ∷ []) []) here
 places_push first k (y ∷ lists) x =
     let next : first + 1 + length lists ≡ first + suc (length lists) = omega arith in
-    by (is_among k y)
-    (places_push (first + 1) k lists x ∙ ap (λ n. places_from (first + 1) k lists ++ cond (is_among k x) (n ∷ []) []) next) where
+    by (is_step_among k y)
+    (places_push (first + 1) k lists x ∙ ap (λ n. places_from (first + 1) k lists ++ cond (is_step_among k x) (n ∷ []) []) next) where
       by : (b : Bool)
           → places_from (first + 1) k (lists ++ x ∷ [])
-          ≡ places_from (first + 1) k lists ++ cond (is_among k x) ((first + suc (length lists)) ∷ []) []
+          ≡ places_from (first + 1) k lists ++ cond (is_step_among k x) ((first + suc (length lists)) ∷ []) []
           → cond b (first ∷ places_from (first + 1) k (lists ++ x ∷ [])) (places_from (first + 1) k (lists ++ x ∷ []))
           ≡ cond b (first ∷ places_from (first + 1) k lists) (places_from (first + 1) k lists)
-          ++ cond (is_among k x) ((first + suc (length lists)) ∷ []) []
+          ++ cond (is_step_among k x) ((first + suc (length lists)) ∷ []) []
       by true more = ap (λ xs. first ∷ xs) more
       by false more = more
 
@@ -77,24 +77,24 @@ no_more number false xs e = append-nil xs
 no_more number true xs e = cc
 
 at_noted_step : (number p : ℕ) (places : List ℕ) (lists : List (List ℕ)) (k : ℕ)
-    → is_among p places ≡ false → k < length lists
+    → is_step_among p places ≡ false → k < length lists
     → slice_index_or (noted number (p ∷ places) lists) k []
-    ≡ slice_index_or (slice_set lists p (slice_index_or lists p [] ++ number ∷ [])) k [] ++ cond (is_among k places) (number ∷ []) []
+    ≡ slice_index_or (slice_set lists p (slice_index_or lists p [] ++ number ∷ [])) k [] ++ cond (is_step_among k places) (number ∷ []) []
     → slice_index_or (noted number (p ∷ places) lists) k []
-    ≡ slice_index_or lists k [] ++ cond (is_among k (p ∷ places)) (number ∷ []) []
+    ≡ slice_index_or lists k [] ++ cond (is_step_among k (p ∷ places)) (number ∷ []) []
 at_noted_step number p places lists k out lt rest = by (cases_eq k p) where
   after : List (List ℕ)
   after = slice_set lists p (slice_index_or lists p [] ++ number ∷ [])
 
   by : (k ≡ p) ⊎ (k ≡ p → ⊥)
       → slice_index_or (noted number (p ∷ places) lists) k []
-      ≡ slice_index_or lists k [] ++ cond (is_among k (p ∷ places)) (number ∷ []) []
+      ≡ slice_index_or lists k [] ++ cond (is_step_among k (p ∷ places)) (number ∷ []) []
   by (inl e) =
       let same : (k == p) ≡ true = eq-eqb k p e in
-      let gone : is_among k places ≡ false = rw e out in
+      let gone : is_step_among k places ≡ false = rw e out in
       let here : slice_index_or after k [] ≡ slice_index_or lists k [] ++ number ∷ [] =
       rw e (get_or-set_same lists p _ [] (rw (← e) lt)) in
-      rest ∙ no_more number (is_among k places) (slice_index_or after k []) gone ∙ here ∙ rw same refl
+      rest ∙ no_more number (is_step_among k places) (slice_index_or after k []) gone ∙ here ∙ rw same refl
   by (inr ne) =
       let other : (k == p) ≡ false = ne_eqb k p ne in
       rest ∙ rw (other, get_or-set_other lists p k (slice_index_or lists p [] ++ number ∷ []) [] ne) refl
@@ -102,7 +102,7 @@ at_noted_step number p places lists k out lt rest = by (cases_eq k p) where
 -- a list has the number appended where its place is one of the places
 pub at_noted : (number : ℕ) (places : List ℕ) (lists : List (List ℕ)) (k : ℕ)
     → has_repeat (λ a b. a == b) places ≡ false → All (λ p. p < length lists) places → k < length lists
-    → slice_index_or (noted number places lists) k [] ≡ slice_index_or lists k [] ++ cond (is_among k places) (number ∷ []) []
+    → slice_index_or (noted number places lists) k [] ≡ slice_index_or lists k [] ++ cond (is_step_among k places) (number ∷ []) []
 at_noted number [] lists k apart inside lt = sym (append-nil (slice_index_or lists k []))
 at_noted number (p ∷ places) lists k apart inside lt =
     let parts = or_parts (list_any (λ b. p == b) places) (has_repeat (λ a b. a == b) places) apart in
@@ -146,8 +146,8 @@ next_places n i lists lt apart inside =
     (λ k below.
     let inside_n : k < n = omega (arith, below, noted_long, long) in
     at_noted i x before k apart (λ j d h. rw long (inside j d h)) (omega (arith, inside_n, long))
-    ∙ ap (λ front. front ++ cond (is_among k x) (i ∷ []) []) (places_at n (take i lists) k inside_n)
-    ∙ ap (λ m. places_from 0 k (take i lists) ++ cond (is_among k x) (m ∷ []) []) first
+    ∙ ap (λ front. front ++ cond (is_step_among k x) (i ∷ []) []) (places_at n (take i lists) k inside_n)
+    ∙ ap (λ m. places_from 0 k (take i lists) ++ cond (is_step_among k x) (m ∷ []) []) first
     ∙ sym (places_push 0 k (take i lists) x)
     ∙ ap (places_from 0 k) (sym more)
     ∙ sym (places_at n (take (i + 1) lists) k inside_n))

@@ -9,18 +9,18 @@ use Rattle.spread_stage.specs.Charges.{delivery_charge}
 use Rattle.spread_stage.specs.Deltas.{month_deltas, net_delta}
 use Rattle.spread_stage.specs.Months.{Shrinks}
 use Rattle.spread_stage.specs.Spreads.{spread_both_ways, unspread}
-use Rattle.inter_credit.specs.Credits.{inter_both_ways, unspread_line, credit_at}
+use Rattle.inter_credit.specs.Credits.{inter_both_ways, unspread_state, credit_at}
 use Rattle.inter_credit.specs.OptionValue.{net_value_of}
 use Rattle.inter_credit.specs.Requirement.{minimum_of}
 use Rattle.inter_credit.specs.States.{IsNotLoaded, IsUnspread}
 use Rattle.inter_credit.specs.declared.requirement.TheConstants.{MAX_PART}
-use Rattle.inter_credit.specs.declared.state.InterLine.{InterLine}
+use Rattle.inter_credit.specs.declared.state.CommodityState.{CommodityState}
 use Rattle.span_tables.specs.declared.portfolios.Holding.{Holding}
 use Rattle.span_tables.specs.declared.records.Inter.{Inter}
 use Rattle.span_tables.specs.declared.records.Intra.{Intra}
 use Rattle.plan_ir.specs.Figures.{commodity_at, figures_from, held_at, intras_at, spots_at}
-use Rattle.plan_ir.specs.Values.{IsHeld, IsSums, IsScan, IsMonths, IsTiers, IsAmount, IsFigures, IsInter, IsTotal}
-use Rattle.plan_ir.specs.Values.{held_in, sums_in, scan_in, months_in, tiers_in, amount_in, figures_in, lines_in}
+use Rattle.plan_ir.specs.Values.{IsHeld, IsSums, IsScan, IsMonths, IsTiers, IsAmount, IsFigures, IsInterState, IsTotal}
+use Rattle.plan_ir.specs.Values.{held_in, sums_in, scan_in, months_in, tier_state_in, amount_in, figures_in, states_in}
 use Rattle.plan_ir.specs.Values.{total_in, IsPremium, premium_in}
 use Rattle.plan_ir.specs.declared.figures.Figures.{Figures}
 use Rattle.plan_ir.specs.declared.ops.Op.{Op}
@@ -99,7 +99,7 @@ pub record TakesDelivery (inputs : List Value) : Type 0 where
   pub count : length inputs ≡ 2
   pub months : IsMonths (input inputs 0)
   pub tiers : IsTiers (input inputs 1)
-  pub shrinks : Shrinks (months_in (input inputs 0)) (tiers_in (input inputs 1)).rests
+  pub shrinks : Shrinks (months_in (input inputs 0)) (tier_state_in (input inputs 1)).rests
 
 -- a scan, months after spreads, the delivery charge, the minimum, and commodities with this one; each part of a
 -- requirement is within its limit
@@ -109,28 +109,28 @@ pub record TakesFinal (c : ℕ) (inputs : List Value) : Type 0 where
   pub tiers : IsTiers (input inputs 1)
   pub delivery : IsAmount (input inputs 2)
   pub minimum : IsAmount (input inputs 3)
-  pub lines : IsInter (input inputs 4)
+  pub states : IsInterState (input inputs 4)
   pub risk_small : nat_abs (scan_in (input inputs 0)).risk ≤ MAX_PART
   pub delivery_small : nat_abs (amount_in (input inputs 2)) ≤ MAX_PART
   pub minimum_small : nat_abs (amount_in (input inputs 3)) ≤ MAX_PART
-  pub among : c < length (lines_in (input inputs 4))
+  pub among : c < length (states_in (input inputs 4))
 
 -- commodities with this one, which was not loaded, and of which none was spread; its months, and its scan
 pub record TakesLoad (c : ℕ) (inputs : List Value) : Type 0 where
   pub count : length inputs ≡ 3
-  pub lines : IsInter (input inputs 0)
+  pub states : IsInterState (input inputs 0)
   pub months : IsMonths (input inputs 1)
   pub scan : IsScan (input inputs 2)
-  pub among : c < length (lines_in (input inputs 0))
-  pub not_loaded : IsNotLoaded (lines_in (input inputs 0)) c
-  pub unspread : IsUnspread (lines_in (input inputs 0))
+  pub among : c < length (states_in (input inputs 0))
+  pub not_loaded : IsNotLoaded (states_in (input inputs 0)) c
+  pub unspread : IsUnspread (states_in (input inputs 0))
   pub price2_small : (scan_in (input inputs 2)).price2 ≤ MAX_PRICE2
 
 -- commodities with those of the legs of a spread
 pub record TakesLegs (spread : Inter) (inputs : List Value) : Type 0 where
   pub count : length inputs ≡ 1
-  pub lines : IsInter (input inputs 0)
-  pub among : All (λ leg. leg.commodity < length (lines_in (input inputs 0))) spread.legs
+  pub states : IsInterState (input inputs 0)
+  pub among : All (λ leg. leg.commodity < length (states_in (input inputs 0))) spread.legs
 
 -- a total, and the figures of a commodity with whose requirement the sum is an amount of money
 pub record TakesTotal (inputs : List Value) : Type 0 where
@@ -176,14 +176,14 @@ pub record Takes (t : AcceptedTables) (operation : Op) (inputs : List Value) : T
 -- the figures of a commodity from a scan, months after spreads, the delivery charge, the minimum and the commodities
 abbrev pub final_figures : ℕ → List Value → Figures
 final_figures c inputs =
-    figures_from (scan_in (input inputs 0)) (tiers_in (input inputs 1)) (amount_in (input inputs 2))
-    (pos (credit_at (lines_in (input inputs 4)) c)) (amount_in (input inputs 3))
+    figures_from (scan_in (input inputs 0)) (tier_state_in (input inputs 1)) (amount_in (input inputs 2))
+    (pos (credit_at (states_in (input inputs 4)) c)) (amount_in (input inputs 3))
 
 -- the commodities with one more of them loaded, from its months and its scan
-abbrev pub lines_with : ℕ → List Value → List InterLine
-lines_with c inputs =
-    slice_set (lines_in (input inputs 0)) c
-    (unspread_line (net_delta (months_in (input inputs 1))) (scan_in (input inputs 2)).price2)
+abbrev pub states_with : ℕ → List Value → List CommodityState
+states_with c inputs =
+    slice_set (states_in (input inputs 0)) c
+    (unspread_state (net_delta (months_in (input inputs 1))) (scan_in (input inputs 2)).price2)
 
 -- the value of an operation on inputs, for an account with these holdings
 abbrev pub value_on : AcceptedTables → List Holding → Op → List Value → Value
@@ -192,15 +192,15 @@ value_on t holdings (op.Sums c) inputs = value.Sums (scenario_sums (held_in (inp
 value_on t holdings (op.ScanMax c) inputs = value.Scan (scan_of (sums_in (input inputs 0)))
 value_on t holdings (op.Months c) inputs = value.Months (month_deltas (held_in (input inputs 0)))
 value_on t holdings (op.TierStart c) inputs = value.Tiers (unspread (months_in (input inputs 0)))
-value_on t holdings (op.Spread c j) inputs = value.Tiers (spread_both_ways (tiers_in (input inputs 0)) (intra_at t c j))
+value_on t holdings (op.Spread c j) inputs = value.Tiers (spread_both_ways (tier_state_in (input inputs 0)) (intra_at t c j))
 value_on t holdings (op.Delivery c) inputs =
-    value.Amount (pos (delivery_charge (months_in (input inputs 0)) (tiers_in (input inputs 1)).rests (spots_at t c)))
+    value.Amount (pos (delivery_charge (months_in (input inputs 0)) (tier_state_in (input inputs 1)).rests (spots_at t c)))
 value_on t holdings (op.Minimum c) inputs =
     value.Amount (pos (minimum_of (commodity_at t c).minimum_rate (commodity_at t c).method (held_in (input inputs 0))))
 value_on t holdings (op.Final c) inputs = value.Figures (final_figures c inputs)
-value_on t holdings op.InterStart inputs = value.Inter (replicate (length t.commodities) (unspread_line (pos 0) 0))
-value_on t holdings (op.InterLoad c) inputs = value.Inter (lines_with c inputs)
-value_on t holdings (op.InterSpread j) inputs = value.Inter (inter_both_ways (lines_in (input inputs 0)) (inter_at t j))
+value_on t holdings op.InterStart inputs = value.Inter (replicate (length t.commodities) (unspread_state (pos 0) 0))
+value_on t holdings (op.InterLoad c) inputs = value.Inter (states_with c inputs)
+value_on t holdings (op.InterSpread j) inputs = value.Inter (inter_both_ways (states_in (input inputs 0)) (inter_at t j))
 value_on t holdings op.TotalStart inputs = value.Total (pos 0)
 value_on t holdings (op.TotalAdd c) inputs =
     value.Total (total_in (input inputs 0) +ℤ (figures_in (input inputs 1)).requirement)

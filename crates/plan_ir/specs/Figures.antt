@@ -8,7 +8,7 @@ use Rattle.scan_risk.specs.Scenarios.{scenario_sums, scan_of}
 use Rattle.spread_stage.specs.Charges.{intra_charge, delivery_charge}
 use Rattle.spread_stage.specs.Deltas.{month_deltas, net_delta}
 use Rattle.spread_stage.specs.Spreads.{TierRests, after_spreads}
-use Rattle.inter_credit.specs.Credits.{unspread_line, after_inter_spreads, credit_at}
+use Rattle.inter_credit.specs.Credits.{unspread_state, after_inter_spreads, credit_at}
 use Rattle.inter_credit.specs.OptionValue.{net_value_of}
 use Rattle.inter_credit.specs.Requirement.{minimum_of, requirement_of}
 use Rattle.span_tables.specs.declared.records.Commodity.{Commodity}
@@ -18,7 +18,7 @@ use Rattle.span_tables.specs.declared.records.Spot.{Spot}
 use Rattle.span_tables.specs.declared.portfolios.Holding.{Holding}
 use Rattle.scan_risk.specs.declared.Scan.{Scan}
 use Rattle.spread_stage.specs.declared.months.MonthUnits.{MonthUnits}
-use Rattle.inter_credit.specs.declared.state.InterLine.{InterLine}
+use Rattle.inter_credit.specs.declared.state.CommodityState.{CommodityState}
 use Rattle.plan_ir.specs.declared.figures.Figures.{Figures}
 
 -- ---- what the tables have for the commodity of a number
@@ -46,8 +46,8 @@ abbrev pub held_at : AcceptedTables → List Holding → ℕ → List HeldContra
 held_at t holdings c = held_of t.contracts holdings (commodity_id t c)
 
 -- the account holds a contract of the commodity
-abbrev pub is_held : AcceptedTables → List Holding → ℕ → Bool
-is_held t holdings c = not (length (held_at t holdings c) == 0)
+abbrev pub is_commodity_held : AcceptedTables → List Holding → ℕ → Bool
+is_commodity_held t holdings c = not (length (held_at t holdings c) == 0)
 
 -- the scan of the scenario sums
 abbrev pub scan_at : AcceptedTables → List Holding → ℕ → Scan
@@ -74,19 +74,19 @@ minimum_at t holdings c =
 abbrev pub net_value_at : AcceptedTables → List Holding → ℕ → ℤ
 net_value_at t holdings c = net_value_of (held_at t holdings c)
 
--- the line before any intercommodity spread
-abbrev pub line_of : AcceptedTables → List Holding → ℕ → InterLine
-line_of t holdings c = unspread_line (net_delta (deltas_at t holdings c)) (scan_at t holdings c).price2
+-- the state before any intercommodity spread
+abbrev pub state_of : AcceptedTables → List Holding → ℕ → CommodityState
+state_of t holdings c = unspread_state (net_delta (deltas_at t holdings c)) (scan_at t holdings c).price2
 
 -- ---- what an account has of all commodities
 
 -- the commodities before any intercommodity spread
-abbrev pub loaded_lines : AcceptedTables → List Holding → List InterLine
-loaded_lines t holdings = map (line_of t holdings) (range_with_len 0 (length t.commodities))
+abbrev pub loaded_states : AcceptedTables → List Holding → List CommodityState
+loaded_states t holdings = map (state_of t holdings) (range_with_len 0 (length t.commodities))
 
 -- the commodities after all intercommodity spreads
-unfoldable pub inter_lines : AcceptedTables → List Holding → List InterLine
-inter_lines t holdings = after_inter_spreads (inters_of t) (loaded_lines t holdings)
+unfoldable pub inter_states : AcceptedTables → List Holding → List CommodityState
+inter_states t holdings = after_inter_spreads (inters_of t) (loaded_states t holdings)
 
 -- figures from their numbers, in the order in which a statement prints them
 abbrev pub figures_with : ℤ → ℕ → ℤ → ℤ → ℤ → ℤ → ℤ → Figures
@@ -107,7 +107,7 @@ numbers_of f = f.scan ∷ pos f.active ∷ f.intra ∷ f.delivery ∷ f.credit �
 unfoldable pub figures_of : AcceptedTables → List Holding → ℕ → Figures
 figures_of t holdings c =
     figures_from (scan_at t holdings c) (tiers_at t holdings c)
-    (pos (delivery_at t holdings c)) (pos (credit_at (inter_lines t holdings) c)) (pos (minimum_at t holdings c))
+    (pos (delivery_at t holdings c)) (pos (credit_at (inter_states t holdings) c)) (pos (minimum_at t holdings c))
 
 -- the sum of the requirements of the first commodities
 unfoldable pub total_to : AcceptedTables → List Holding → ℕ → ℤ

@@ -37,14 +37,14 @@ abbrev pub inputs_in : List StepView → List (List ℕ)
 inputs_in plan = map (λ s. s.inputs) plan
 
 -- a number is one of a list
-abbrev pub is_among : ℕ → List ℕ → Bool
-is_among k numbers = list_any (λ n. k == n) numbers
+abbrev pub is_step_among : ℕ → List ℕ → Bool
+is_step_among k numbers = list_any (λ n. k == n) numbers
 
 -- the places, counted from a number on, of the lists that have k in them, rising
 abbrev pub places_from : ℕ → ℕ → List (List ℕ) → List ℕ
 places_from first k [] = []
 places_from first k (numbers ∷ lists) =
-    if is_among k numbers then first ∷ places_from (first + 1) k lists else places_from (first + 1) k lists
+    if is_step_among k numbers then first ∷ places_from (first + 1) k lists else places_from (first + 1) k lists
 
 -- the users of step k: the steps that have k among their inputs, rising
 abbrev pub users_of : List StepView → ℕ → List ℕ

@@ -4,7 +4,7 @@ use Rattle.span_tables.specs.Net.{HeldContract}
 use Rattle.scan_risk.specs.declared.Scan.{Scan}
 use Rattle.spread_stage.specs.Spreads.{TierRests, unspread}
 use Rattle.spread_stage.specs.declared.months.MonthUnits.{MonthUnits}
-use Rattle.inter_credit.specs.declared.state.InterLine.{InterLine}
+use Rattle.inter_credit.specs.declared.state.CommodityState.{CommodityState}
 use Rattle.plan_ir.specs.Figures.{figures_with}
 use Rattle.plan_ir.specs.declared.figures.Figures.{Figures}
 use Rattle.plan_ir.specs.declared.values.Value.{Value}
@@ -38,9 +38,9 @@ abbrev pub IsFigures : Value → Type 0
 IsFigures (value.Figures x) = ⊤
 IsFigures v = ⊥
 
-abbrev pub IsInter : Value → Type 0
-IsInter (value.Inter x) = ⊤
-IsInter v = ⊥
+abbrev pub IsInterState : Value → Type 0
+IsInterState (value.Inter x) = ⊤
+IsInterState v = ⊥
 
 abbrev pub IsTotal : Value → Type 0
 IsTotal (value.Total x) = ⊤
@@ -76,9 +76,9 @@ abbrev pub months_in : Value → List MonthUnits
 months_in (value.Months x) = x
 months_in v = []
 
-abbrev pub tiers_in : Value → TierRests
-tiers_in (value.Tiers x) = x
-tiers_in v = unspread []
+abbrev pub tier_state_in : Value → TierRests
+tier_state_in (value.Tiers x) = x
+tier_state_in v = unspread []
 
 abbrev pub amount_in : Value → ℤ
 amount_in (value.Amount x) = x
@@ -88,9 +88,9 @@ abbrev pub figures_in : Value → Figures
 figures_in (value.Figures x) = x
 figures_in v = no_figures
 
-abbrev pub lines_in : Value → List InterLine
-lines_in (value.Inter x) = x
-lines_in v = []
+abbrev pub states_in : Value → List CommodityState
+states_in (value.Inter x) = x
+states_in v = []
 
 abbrev pub total_in : Value → ℤ
 total_in (value.Total x) = x

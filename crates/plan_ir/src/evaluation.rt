@@ -10,10 +10,10 @@ ghost use Rattle.span_tables.specs.Holdings.{fits};
 ghost use Rattle.span_tables.specs.Tables.{inters_of};
 ghost use Rattle.span_tables.specs.declared.portfolios.Holding.{Holding};
 ghost use Rattle.spread_stage.specs.Deltas.{net_delta};
-ghost use Rattle.inter_credit.specs.Credits.{unspread_line};
+ghost use Rattle.inter_credit.specs.Credits.{unspread_state};
 ghost use Rattle.inter_credit.specs.Requirement.{minimum_of};
 ghost use Rattle.inter_credit.specs.States.{IsNotLoaded, IsUnspread};
-ghost use Rattle.inter_credit.specs.declared.state.InterLine.{InterLine};
+ghost use Rattle.inter_credit.specs.declared.state.CommodityState.{CommodityState};
 ghost use Rattle.plan_ir.specs.Apply.{Takes, TakesFinal, final_figures, inter_at, intra_at, value_on};
 ghost use Rattle.plan_ir.specs.Figures.{commodity_at, intras_at};
 ghost use Rattle.plan_ir.specs.near.Copying.{IsChangeable, IsInPlace};
@@ -95,8 +95,8 @@ fn sum(one: Money, other: Money) -> Money
 
 // Whether a load of these changes nothing where nothing was loaded: a price risk and a net delta of 0.
 fn loads_nothing(months: &Months, scan: &Scan) -> bool
-    ensures { IsTrue result → (lines : List InterLine) (c : ℕ) → IsNotLoaded lines c → IsUnspread lines
-        → slice_set lines c (unspread_line (net_delta months.now) (scan.now).price2) ≡ lines }
+    ensures { IsTrue result → (states : List CommodityState) (c : ℕ) → IsNotLoaded states c → IsUnspread states
+        → slice_set states c (unspread_state (net_delta months.now) (scan.now).price2) ≡ states }
 {
     scan.price2 == 0 && months.net().get() == 0
 }
@@ -128,10 +128,10 @@ fn apply_in_place(tables: &Tables, op: Op, first: &mut Value, rest: &[Arc<Value>
 {
     match (op, first) {
         (Op::Spread(c, j), Value::Tiers(tiers)) => tiers.spread(intra_at(tables, c, j)),
-        (Op::InterLoad(c), Value::Inter(lines)) => {
-            lines.load(c as usize, rest[0].months().net(), rest[1].scan().price2)
+        (Op::InterLoad(c), Value::Inter(states)) => {
+            states.load(c as usize, rest[0].months().net(), rest[1].scan().price2)
         }
-        (Op::InterSpread(j), Value::Inter(lines)) => lines.spread(inter_at(tables, j)),
+        (Op::InterSpread(j), Value::Inter(states)) => states.spread(inter_at(tables, j)),
         (Op::TotalAdd(_), Value::Total(total)) => {
             *total = sum(*total, rest[0].figures().requirement)
         }
@@ -147,7 +147,7 @@ fn copied(alloc: Global, first: &Value) -> Result<Value, AllocError>
 {
     match first {
         Value::Tiers(tiers) => Ok(Value::Tiers(tiers.copied(alloc)?)),
-        Value::Inter(lines) => Ok(Value::Inter(lines.copied(alloc)?)),
+        Value::Inter(states) => Ok(Value::Inter(states.copied(alloc)?)),
         Value::Total(total) => Ok(Value::Total(*total)),
         Value::Premium(premium) => Ok(Value::Premium(*premium)),
         _ => unreachable!(),

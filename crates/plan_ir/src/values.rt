@@ -1,8 +1,8 @@
 //! The values of a plan's steps.
 ghost use Rattle.std.specs.Prelude.{◌≡◌};
-ghost use Rattle.plan_ir.specs.Values.{IsHeld, IsSums, IsScan, IsMonths, IsTiers, IsAmount, IsFigures, IsInter, IsTotal};
+ghost use Rattle.plan_ir.specs.Values.{IsHeld, IsSums, IsScan, IsMonths, IsTiers, IsAmount, IsFigures, IsInterState, IsTotal};
 ghost use Rattle.plan_ir.specs.Values.{IsPremium, premium_in};
-ghost use Rattle.plan_ir.specs.Values.{held_in, sums_in, scan_in, months_in, tiers_in, amount_in, figures_in, lines_in, total_in};
+ghost use Rattle.plan_ir.specs.Values.{held_in, sums_in, scan_in, months_in, tier_state_in, amount_in, figures_in, states_in, total_in};
 
 use crate::figures::Figures;
 use inter_credit::state::InterState;
@@ -85,7 +85,7 @@ impl Value {
     /// The months after spreads. The value is of that kind.
     pub fn tiers(&self) -> &TierState
         requires { IsTiers self.now }
-        ensures { result.now ≡ tiers_in self.now }
+        ensures { result.now ≡ tier_state_in self.now }
     {
         match self {
             Value::Tiers(tiers) => tiers,
@@ -117,8 +117,8 @@ impl Value {
 
     /// The commodities in the intercommodity stage. The value is of that kind.
     pub fn inter(&self) -> &InterState
-        requires { IsInter self.now }
-        ensures { result.now ≡ lines_in self.now }
+        requires { IsInterState self.now }
+        ensures { result.now ≡ states_in self.now }
     {
         match self {
             Value::Inter(inter) => inter,

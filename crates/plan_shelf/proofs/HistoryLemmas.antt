@@ -7,7 +7,7 @@ use mathlib.Core.List.{IsPrefix}
 use prog.Atomic.{either}
 use Rattle.logbook.specs.Pages.{Cell, View, cell, keeps, no_nib, step, Moves, Goes}
 use Rattle.plan_compiler.specs.Compiled.{SetView}
-use Rattle.plan_shelf.specs.near.History.{IsCounted, Adds}
+use Rattle.plan_shelf.specs.near.History.{CountsPublications, AddsPublication}
 use Rattle.plan_shelf.proofs.BeginningLemmas.{IsPrefix-whole}
 
 -- clients see nothing of a history
@@ -29,7 +29,7 @@ at_hand seen = (seen, (no_nib, None))
 -- the exchange that adds a set after a number of sets can be done at these words and sets
 abbrev pub AddGoes : List SetView → SetView → ℕ → List Cell → List SetView → Type 0
 AddGoes seen set count =
-    Goes IsCounted shown moved 0 (at_hand seen) (exchanged count) (Adds (step 0 count (count + 1) set) (at_hand seen))
+    Goes CountsPublications shown moved 0 (at_hand seen) (exchanged count) (AddsPublication (step 0 count (count + 1) set) (at_hand seen))
 
 -- at a history of these sets: the set is added where all of them had been seen, and else nothing is
 pub adds-goes : (sets seen : List SetView) (set : SetView) (count : ℕ) → length seen ≡ count → IsPrefix seen sets
@@ -62,7 +62,7 @@ adds-goes sets seen set count len begins false is =
 
 -- the exchange that adds a set can be done whatever the history is
 pub adds-moves : (seen : List SetView) (set : SetView) (count : ℕ) → length seen ≡ count
-    → Moves IsCounted shown moved 0 (at_hand seen) (exchanged count) (Adds (step 0 count (count + 1) set) (at_hand seen))
+    → Moves CountsPublications shown moved 0 (at_hand seen) (exchanged count) (AddsPublication (step 0 count (count + 1) set) (at_hand seen))
 adds-moves seen set count len words sets counted begins away =
     let Fits : List Cell → Type 0 = λ w. (0 < length w) × ((cell w 0).1 ≡ true) × AddGoes seen set count w sets in
     subst Fits (sym counted.are) (omega arith, refl, adds-goes sets seen set count len begins (length sets == count) refl)

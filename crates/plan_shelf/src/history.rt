@@ -24,11 +24,11 @@ impl ShelfName for Brand {
 struct Counted;
 
 impl Rule<CompiledSet, u64> for Counted {
-    ghost use Rattle.plan_shelf.specs.near.History.{IsCounted};
+    ghost use Rattle.plan_shelf.specs.near.History.{CountsPublications};
     ghost use Rattle.std.specs.Prelude.{[]};
     ghost use base.Fml.{ftrue};
 
-    ghost holds = { λ words sets. IsCounted words sets };
+    ghost holds = { λ words sets. CountsPublications words sets };
 
     ghost first = { [] };
 
@@ -54,9 +54,9 @@ impl Gain<CompiledSet, u64> for Nothing {
 struct Add;
 
 impl Play<CompiledSet, u64> for Add {
-    ghost use Rattle.plan_shelf.specs.near.History.{Adds};
+    ghost use Rattle.plan_shelf.specs.near.History.{AddsPublication};
 
-    ghost then = { Adds };
+    ghost then = { AddsPublication };
 }
 
 impl Plain<CompiledSet, CompiledSet, u64> for Add {
@@ -183,7 +183,7 @@ impl<S: ShelfName> Beginning<S> {
         }
     }
 
-    /// Adds a set to the history where the history is no longer than this beginning, and says whether the set was added.
+    /// AddsPublication a set to the history where the history is no longer than this beginning, and says whether the set was added.
     /// Where it was not, the beginning becomes the history.
     pub(crate) fn add(&mut self, counter: &Counter<S>, set: &CompiledSet) -> bool
         requires { length self.old < 2 ^ 64 - 1 }

@@ -56,7 +56,7 @@ fn plan_listed(rt: &impl Abort, alloc: Global) {
 fn set_compiled(rt: &impl Abort, alloc: Global) -> Arc<CompiledSet> {
     let set = compile(alloc, tables_of(alloc, PARAMS).expect(rt, "tables")).expect(rt, "a set");
     assert!(rt; set.plan().len() == 12);
-    let another = set.another(alloc).expect(rt, "another");
+    let another = set.with_own_constants(alloc).expect(rt, "another");
     assert!(rt; another.plan().len() == 12);
     Arc::new(alloc, another).ok().expect(rt, "a shared set")
 }

@@ -24,26 +24,26 @@ use Rattle.spread_stage.proofs.SizeLemmas.{left_le}
 use Rattle.spread_stage.proofs.SpreadLemmas.{charge-spread_both_ways}
 use Rattle.plan_ir.specs.Figures.{deltas_at, figures_of, intras_at, spots_at, tiers_at}
 use Rattle.reasons.specs.Reasons.{intras_shown_at, spots_shown_at}
-use Rattle.reasons.specs.Shown.{intra_charge, intra_in, intra_ways, intras_shown, spot_charge, spots_shown}
+use Rattle.reasons.specs.Shown.{shown_intra_charge, intra_in, intra_ways, intras_shown, shown_spot_charge, spots_shown}
 use Rattle.reasons.specs.declared.shown.ShownIntra.{ShownIntra}
 use Rattle.reasons.specs.declared.shown.ShownSpot.{ShownSpot}
 
 -- ---- spreads between months
 
-shown_if : (b : Bool) (n rate : ℕ) (s : ShownIntra) → (n == 0) ≡ b → intra_charge s ≡ n * rate
-    → sum_by intra_charge (cond b [] (s ∷ [])) ≡ n * rate
+shown_if : (b : Bool) (n rate : ℕ) (s : ShownIntra) → (n == 0) ≡ b → shown_intra_charge s ≡ n * rate
+    → sum_by shown_intra_charge (cond b [] (s ∷ [])) ≡ n * rate
 shown_if true n rate s e is =
     let none : n ≡ 0 = grind (arith, nat_tests, e) in sym (ap (λ k. k * rate) none ∙ zero-mul rate)
-shown_if false n rate s e is = let all = sum_by-cons intra_charge s [] in omega (arith, all, is)
+shown_if false n rate s e is = let all = sum_by-cons shown_intra_charge s [] in omega (arith, all, is)
 
 -- what is shown of a spread in a direction is charged in full
-charge_in : (s : Intra) (d : Direction) (n : ℕ) → sum_by intra_charge (intra_in s d n) ≡ n * s.rate
+charge_in : (s : Intra) (d : Direction) (n : ℕ) → sum_by shown_intra_charge (intra_in s d n) ≡ n * s.rate
 charge_in s d n =
     shown_if (n == 0) n s.rate (record { priority = s.priority; direction = d; formed = n; rate = s.rate }) refl refl
 
-charge_ways : (s : Intra) (f : SpreadsFormed) → sum_by intra_charge (intra_ways s f) ≡ (f.a_long + f.a_short) * s.rate
+charge_ways : (s : Intra) (f : SpreadsFormed) → sum_by shown_intra_charge (intra_ways s f) ≡ (f.a_long + f.a_short) * s.rate
 charge_ways s f =
-    let all = sum_by-append intra_charge (intra_in s ALong f.a_long) (intra_in s AShort f.a_short) in
+    let all = sum_by-append shown_intra_charge (intra_in s ALong f.a_long) (intra_in s AShort f.a_short) in
     let long = charge_in s ALong f.a_long in
     let short = charge_in s AShort f.a_short in
     let both = add-mul f.a_long f.a_short s.rate in
@@ -51,21 +51,21 @@ charge_ways s f =
 
 -- the charge after some spreads is what was charged before, more by what is shown of them
 charges_shown : (spreads : List Intra) (t : TierRests)
-    → (fold spread_both_ways t spreads).charge ≡ t.charge + sum_by intra_charge (intras_shown spreads t)
+    → (fold spread_both_ways t spreads).charge ≡ t.charge + sum_by shown_intra_charge (intras_shown spreads t)
 charges_shown [] t = omega arith
 charges_shown (s ∷ spreads) t =
     let next = spread_both_ways t s in
     let rest = charges_shown spreads next in
     let first = charge-spread_both_ways t s in
     let here = charge_ways s (formed_both t s) in
-    let all = sum_by-append intra_charge (intra_ways s (formed_both t s)) (intras_shown spreads next) in
+    let all = sum_by-append shown_intra_charge (intra_ways s (formed_both t s)) (intras_shown spreads next) in
     omega (arith, rest, first, here, all)
 
 pub intra_shown : (t : AcceptedTables) (holdings : List Holding) (c : ℕ)
-    → (figures_of t holdings c).intra ≡ pos (div_ceil (sum_by intra_charge (intras_shown_at t holdings c)) (10 ^ 4))
+    → (figures_of t holdings c).intra ≡ pos (div_ceil (sum_by shown_intra_charge (intras_shown_at t holdings c)) (10 ^ 4))
 unfolding figures_of after_spreads stage.intra_charge
 intra_shown t holdings c =
-    let all : (tiers_at t holdings c).charge ≡ sum_by intra_charge (intras_shown_at t holdings c) =
+    let all : (tiers_at t holdings c).charge ≡ sum_by shown_intra_charge (intras_shown_at t holdings c) =
     let e = charges_shown (intras_at t c) (unspread (deltas_at t holdings c)) in
     omega (arith, e) in
     ap (λ n. pos (div_ceil n (10 ^ 4))) all
@@ -86,8 +86,8 @@ module _ (deltas rests : List MonthUnits) (shrinks : Shrinks deltas rests) where
   is_shown s = not (nat_abs (units_at deltas s.month) == 0)
 
   spot_if : (b : Bool) (s : Spot) (spots : List Spot) → (nat_abs (units_at deltas s.month) == 0) ≡ b
-      → sum_by spot_charge (map shown (cond (not b) (s ∷ spots) spots))
-      ≡ stage.spot_charge deltas rests s + sum_by spot_charge (map shown spots)
+      → sum_by shown_spot_charge (map shown (cond (not b) (s ∷ spots) spots))
+      ≡ stage.spot_charge deltas rests s + sum_by shown_spot_charge (map shown spots)
   spot_if true s spots e =
       let none : nat_abs (units_at deltas s.month) ≡ 0 = grind (arith, nat_tests, e) in
       let within = left_le deltas rests s.month shrinks in
@@ -96,11 +96,11 @@ module _ (deltas rests : List MonthUnits) (shrinks : Shrinks deltas rests) where
       let a = ap (λ n. n * s.spread_rate) used ∙ zero-mul s.spread_rate in
       let b = ap (λ n. n * s.outright_rate) left ∙ zero-mul s.outright_rate in
       omega (arith, a, b)
-  spot_if false s spots e = sum_by-cons spot_charge (shown s) (map shown spots)
+  spot_if false s spots e = sum_by-cons shown_spot_charge (shown s) (map shown spots)
 
   -- what is charged of all spot months is charged of those that are shown
   spots_charged : (spots : List Spot) → sum_by (stage.spot_charge deltas rests) spots
-      ≡ sum_by spot_charge (spots_shown deltas rests spots)
+      ≡ sum_by shown_spot_charge (spots_shown deltas rests spots)
   spots_charged [] = refl
   spots_charged (s ∷ spots) =
       let all = sum_by-cons (stage.spot_charge deltas rests) s spots in
@@ -109,7 +109,7 @@ module _ (deltas rests : List MonthUnits) (shrinks : Shrinks deltas rests) where
       omega (arith, all, here, rest)
 
 pub delivery_shown : (t : AcceptedTables) (holdings : List Holding) (c : ℕ)
-    → (figures_of t holdings c).delivery ≡ pos (div_ceil (sum_by spot_charge (spots_shown_at t holdings c)) (10 ^ 8))
+    → (figures_of t holdings c).delivery ≡ pos (div_ceil (sum_by shown_spot_charge (spots_shown_at t holdings c)) (10 ^ 8))
 unfolding figures_of delivery_charge
 delivery_shown t holdings c =
     let shrinks = spreads_shrink (intras_at t c) (deltas_at t holdings c) in

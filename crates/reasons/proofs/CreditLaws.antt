@@ -21,30 +21,30 @@ use Rattle.span_tables.specs.declared.sides.Direction.TheVariants.{ALong, AShort
 use Rattle.span_tables.specs.declared.sides.SpreadsFormed.{SpreadsFormed}
 use Rattle.spread_stage.specs.Deltas.{units_at}
 use Rattle.spread_stage.specs.declared.months.MonthUnits.{MonthUnits}
-use Rattle.inter_credit.specs.Credits.{after_inter_spreads, formed_both, inter_both_ways}
-use Rattle.inter_credit.specs.Credits.{line_at}
-use Rattle.inter_credit.specs.declared.state.InterLine.{InterLine}
-use Rattle.inter_credit.proofs.LineLemmas.{or_left, or_right}
+use Rattle.inter_credit.specs.Credits.{after_inter_spreads, inter_formed_both, inter_both_ways}
+use Rattle.inter_credit.specs.Credits.{state_at}
+use Rattle.inter_credit.specs.declared.state.CommodityState.{CommodityState}
+use Rattle.inter_credit.proofs.StateLemmas.{or_left, or_right}
 use Rattle.inter_credit.proofs.RestLaws.{length-inter_both_ways}
 use Rattle.inter_credit.proofs.WeightLaws.{weight-inter_both_ways}
-use Rattle.plan_ir.specs.Figures.{deltas_at, inter_lines, line_of, loaded_lines, scan_at, tiers_at}
+use Rattle.plan_ir.specs.Figures.{deltas_at, inter_states, state_of, loaded_states, scan_at, tiers_at}
 use Rattle.plan_compiler.proofs.StageLemmas.{kept_at, loaded_at}
-use Rattle.reasons.specs.Reasons.{inters_shown_at, line_after_all, months_shown_at}
+use Rattle.reasons.specs.Reasons.{inters_shown_at, state_after_all, months_shown_at}
 use Rattle.reasons.specs.Shown.{inter_in, inter_ways, inters_shown, ratio_in, weight_of}
 use Rattle.reasons.specs.declared.shown.ShownInter.{ShownInter}
 use Rattle.reasons.specs.declared.shown.ShownMonth.{ShownMonth}
 
 pub net_shown : (t : AcceptedTables) (holdings : List Holding) (c : ℕ) → c < length t.commodities
-    → (line_after_all t holdings c).net ≡ int_sum_by (λ m. m.delta) (months_shown_at t holdings c)
+    → (state_after_all t holdings c).net ≡ int_sum_by (λ m. m.delta) (months_shown_at t holdings c)
 net_shown t holdings c lt =
     let rests = (tiers_at t holdings c).rests in
     let shown : MonthUnits → ShownMonth = λ m. record { month = m.month; delta = m.units; left = units_at rests m.month } in
-    kept_at t holdings (λ line. line.net) (λ on used bp line. refl) c lt
+    kept_at t holdings (λ state. state.net) (λ on used bp state. refl) c lt
     ∙ sym (fold-map (λ (z : ℤ) (m : ShownMonth). z +ℤ m.delta) shown (pos 0) (deltas_at t holdings c))
 
 pub price2_shown : (t : AcceptedTables) (holdings : List Holding) (c : ℕ) → c < length t.commodities
-    → (line_after_all t holdings c).price2 ≡ (scan_at t holdings c).price2
-price2_shown t holdings c lt = kept_at t holdings (λ line. line.price2) (λ on used bp line. refl) c lt
+    → (state_after_all t holdings c).price2 ≡ (scan_at t holdings c).price2
+price2_shown t holdings c lt = kept_at t holdings (λ state. state.price2) (λ on used bp state. refl) c lt
 
 -- ---- the weight
 
@@ -123,28 +123,28 @@ module _ (s : Inter) (f : SpreadsFormed) (c : ℕ) where
       (weight_legs legs (or_right (list_any alike legs) others apart))
 
 -- the weight after some spreads is what it was before, more by what is shown of them
-weights_shown : (n c : ℕ) (spreads : List Inter) (lines : List InterLine) → c < length lines → All (IsInter n) spreads
-    → (line_at (fold inter_both_ways lines spreads) c).weight
-    ≡ (line_at lines c).weight + sum_by weight_of (inters_shown c spreads lines)
-weights_shown n c [] lines lt inters = omega arith
-weights_shown n c (s ∷ spreads) lines lt inters =
-    let next = inter_both_ways lines s in
-    let f = formed_both lines s in
-    let inside : c < length next = subst (λ k. c < k) (sym (length-inter_both_ways lines s)) lt in
+weights_shown : (n c : ℕ) (spreads : List Inter) (states : List CommodityState) → c < length states → All (IsInter n) spreads
+    → (state_at (fold inter_both_ways states spreads) c).weight
+    ≡ (state_at states c).weight + sum_by weight_of (inters_shown c spreads states)
+weights_shown n c [] states lt inters = omega arith
+weights_shown n c (s ∷ spreads) states lt inters =
+    let next = inter_both_ways states s in
+    let f = inter_formed_both states s in
+    let inside : c < length next = subst (λ k. c < k) (sym (length-inter_both_ways states s)) lt in
     let rest = weights_shown n c spreads next inside (All-tail (IsInter n) s spreads inters) in
-    let first = weight-inter_both_ways lines s c lt in
+    let first = weight-inter_both_ways states s c lt in
     let is_inter : IsInter n s = All-head (IsInter n) s spreads inters in
     let here = weight_legs s f c s.legs is_inter.apart in
     let all = sum_by-append weight_of (inter_ways s f (ratio_in c s.legs)) (inters_shown c spreads next) in
     omega (arith, rest, first, here, all)
 
 pub weight_shown : (t : AcceptedTables) (holdings : List Holding) (c : ℕ) → IsWithinLimits t → c < length t.commodities
-    → (line_after_all t holdings c).weight ≡ sum_by weight_of (inters_shown_at t holdings c)
-unfolding inter_lines after_inter_spreads
+    → (state_after_all t holdings c).weight ≡ sum_by weight_of (inters_shown_at t holdings c)
+unfolding inter_states after_inter_spreads
 weight_shown t holdings c limits lt =
-    let loaded = loaded_lines t holdings in
-    let long : length loaded ≡ length t.commodities = length-map-range_with_len (line_of t holdings) 0 (length t.commodities) in
+    let loaded = loaded_states t holdings in
+    let long : length loaded ≡ length t.commodities = length-map-range_with_len (state_of t holdings) 0 (length t.commodities) in
     let inside : c < length loaded = subst (λ k. c < k) (sym long) lt in
     let all = weights_shown (length t.commodities) c (inters_of t) loaded inside limits.inters_in_range in
-    let begun : (line_at loaded c).weight ≡ 0 = ap (λ (line : InterLine). line.weight) (loaded_at t holdings c lt) in
+    let begun : (state_at loaded c).weight ≡ 0 = ap (λ (state : CommodityState). state.weight) (loaded_at t holdings c lt) in
     omega (arith, all, begun)

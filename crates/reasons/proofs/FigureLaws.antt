@@ -7,20 +7,20 @@ use Rattle.span_tables.specs.declared.records.MinimumMethod.{MinimumMethod}
 use Rattle.span_tables.specs.declared.records.MinimumMethod.TheVariants as method
 use Rattle.scan_risk.specs.Scenarios.{active_scenario, scan_of, scan_risk, scenario_sums}
 use Rattle.span_tables.specs.Net.{HeldContract}
-use Rattle.inter_credit.specs.Credits.{credit_of, unspread_line}
+use Rattle.inter_credit.specs.Credits.{credit_of, unspread_state}
 use Rattle.inter_credit.specs.Requirement.{is_call, is_put, minimum_of, requirement_of, short_count, short_options}
-use Rattle.inter_credit.specs.Credits.{credit_at, line_at}
-use Rattle.inter_credit.specs.declared.state.InterLine.{InterLine}
-use Rattle.plan_ir.specs.Figures.{commodity_at, figures_of, held_at, inter_lines}
+use Rattle.inter_credit.specs.Credits.{credit_at, state_at}
+use Rattle.inter_credit.specs.declared.state.CommodityState.{CommodityState}
+use Rattle.plan_ir.specs.Figures.{commodity_at, figures_of, held_at, inter_states}
 use Rattle.reasons.specs.Laws.{counted}
-use Rattle.reasons.specs.Reasons.{line_after_all}
+use Rattle.reasons.specs.Reasons.{state_after_all}
 
 -- the credit of a commodity is that of its line
-credit_at-line : (lines : List InterLine) (c : ℕ) → credit_at lines c ≡ credit_of (line_at lines c)
+credit_at-state : (states : List CommodityState) (c : ℕ) → credit_at states c ≡ credit_of (state_at states c)
 unfolding credit_of
-credit_at-line lines c =
-    elim (slice_get lines c) as (λ o. unwrap_or (option_map credit_of o) 0 ≡ credit_of (unwrap_or o (unspread_line (pos 0) 0))) [
-      | Some line ↦ refl
+credit_at-state states c =
+    elim (slice_get states c) as (λ o. unwrap_or (option_map credit_of o) 0 ≡ credit_of (unwrap_or o (unspread_state (pos 0) 0))) [
+      | Some state ↦ refl
       | None ↦ refl
     ]
 
@@ -39,9 +39,9 @@ module _ (t : AcceptedTables) (holdings : List Holding) (c : ℕ) where
   unfolding figures_of scan_of
   active_shown = refl
 
-  pub credit_shown : (figures_of t holdings c).credit ≡ pos (credit_of (line_after_all t holdings c))
+  pub credit_shown : (figures_of t holdings c).credit ≡ pos (credit_of (state_after_all t holdings c))
   unfolding figures_of
-  credit_shown = ap pos (credit_at-line (inter_lines t holdings) c)
+  credit_shown = ap pos (credit_at-state (inter_states t holdings) c)
 
   pub minimum_shown : (figures_of t holdings c).minimum
       ≡ pos ((commodity_at t c).minimum_rate

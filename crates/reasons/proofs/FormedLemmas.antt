@@ -13,7 +13,7 @@ use Rattle.spread_stage.specs.Spreads.{TierRests, spread_both_ways}
 use Rattle.spread_stage.specs.Spreads as months
 use Rattle.inter_credit.specs.Credits.{inter_both_ways}
 use Rattle.inter_credit.specs.Credits as commodities
-use Rattle.inter_credit.specs.declared.state.InterLine.{InterLine}
+use Rattle.inter_credit.specs.declared.state.CommodityState.{CommodityState}
 use Rattle.reasons.specs.Shown.{inter_ways, inters_shown, intra_ways, intras_shown, ratio_in}
 use Rattle.reasons.specs.near.Stages.{inters_formed}
 use Rattle.reasons.specs.declared.shown.ShownInter.{ShownInter}
@@ -45,34 +45,34 @@ intras_shown_more spreads i s t lt at =
     ∙ ap (λ x. intras_shown (take i spreads ++ x ∷ []) t) at
     ∙ ap (λ xs. intras_shown xs t) (sym (take_more spreads i s lt))
 
-inters_formed-push : (spreads : List Inter) (s : Inter) (lines : List InterLine)
-    → inters_formed (spreads ++ s ∷ []) lines
-    ≡ inters_formed spreads lines ++ commodities.formed_both (fold inter_both_ways lines spreads) s ∷ []
-inters_formed-push [] s lines = refl
-inters_formed-push (x ∷ spreads) s lines =
-    ap (λ fs. commodities.formed_both lines x ∷ fs) (inters_formed-push spreads s (inter_both_ways lines x))
+inters_formed-push : (spreads : List Inter) (s : Inter) (states : List CommodityState)
+    → inters_formed (spreads ++ s ∷ []) states
+    ≡ inters_formed spreads states ++ commodities.inter_formed_both (fold inter_both_ways states spreads) s ∷ []
+inters_formed-push [] s states = refl
+inters_formed-push (x ∷ spreads) s states =
+    ap (λ fs. commodities.inter_formed_both states x ∷ fs) (inters_formed-push spreads s (inter_both_ways states x))
 
 -- how many the first spreads of a list form, and the next
-pub inters_formed_more : (spreads : List Inter) (i : ℕ) (s : Inter) (lines : List InterLine) → i < length spreads
+pub inters_formed_more : (spreads : List Inter) (i : ℕ) (s : Inter) (states : List CommodityState) → i < length spreads
     → s ≡ get_or spreads i s
-    → inters_formed (take i spreads) lines ++ commodities.formed_both (fold inter_both_ways lines (take i spreads)) s ∷ []
-    ≡ inters_formed (take (i + 1) spreads) lines
-inters_formed_more spreads i s lines lt at =
-    sym (inters_formed-push (take i spreads) s lines)
-    ∙ ap (λ x. inters_formed (take i spreads ++ x ∷ []) lines) at
-    ∙ ap (λ xs. inters_formed xs lines) (sym (take_more spreads i s lt))
+    → inters_formed (take i spreads) states ++ commodities.inter_formed_both (fold inter_both_ways states (take i spreads)) s ∷ []
+    ≡ inters_formed (take (i + 1) spreads) states
+inters_formed_more spreads i s states lt at =
+    sym (inters_formed-push (take i spreads) s states)
+    ∙ ap (λ x. inters_formed (take i spreads ++ x ∷ []) states) at
+    ∙ ap (λ xs. inters_formed xs states) (sym (take_more spreads i s lt))
 
 -- the lines of a spread that formed so many, in the commodity of a number
 abbrev pub ways_in : ℕ → Inter × SpreadsFormed → List ShownInter
 ways_in c p = inter_ways p.0 p.1 (ratio_in c (p.0).legs)
 
 -- what is shown of the spreads is that of each beside what it formed
-pub inters_shown-zip : (c : ℕ) (spreads : List Inter) (lines : List InterLine)
-    → flat_map (ways_in c) (zip spreads (inters_formed spreads lines)) ≡ inters_shown c spreads lines
-inters_shown-zip c [] lines = refl
-inters_shown-zip c (s ∷ spreads) lines =
-    ap (λ others. inter_ways s (commodities.formed_both lines s) (ratio_in c s.legs) ++ others)
-    (inters_shown-zip c spreads (inter_both_ways lines s))
+pub inters_shown-zip : (c : ℕ) (spreads : List Inter) (states : List CommodityState)
+    → flat_map (ways_in c) (zip spreads (inters_formed spreads states)) ≡ inters_shown c spreads states
+inters_shown-zip c [] states = refl
+inters_shown-zip c (s ∷ spreads) states =
+    ap (λ others. inter_ways s (commodities.inter_formed_both states s) (ratio_in c s.legs) ++ others)
+    (inters_shown-zip c spreads (inter_both_ways states s))
 
 -- the lines of the next spread, beside what it formed
 pub ways_more : (c : ℕ) (spreads : List Inter) (formed : List SpreadsFormed) (i : ℕ) (s : Inter) (f : SpreadsFormed)

@@ -7,7 +7,7 @@ use Rattle.spread_stage.specs.Spreads.{TierRests, spread_both_ways}
 use Rattle.spread_stage.specs.Spreads as months
 use Rattle.inter_credit.specs.Credits.{inter_both_ways}
 use Rattle.inter_credit.specs.Credits as commodities
-use Rattle.inter_credit.specs.declared.state.InterLine.{InterLine}
+use Rattle.inter_credit.specs.declared.state.CommodityState.{CommodityState}
 use Rattle.reasons.specs.Laws.{StandsIn}
 use Rattle.reasons.specs.Shown.{inter_ways, inters_shown, intra_ways, intras_shown, ratio_in}
 
@@ -30,18 +30,18 @@ intra_stands (s ∷ spreads) t (suc k) spread found =
     (intra_ways spread (months.formed_both (fold spread_both_ways next (take k spreads)) spread))
     (intras_shown spreads next) (intra_stands spreads next k spread found)
 
-pub inter_stands : (c : ℕ) (spreads : List Inter) (lines : List InterLine) (k : ℕ) (spread : Inter)
+pub inter_stands : (c : ℕ) (spreads : List Inter) (states : List CommodityState) (k : ℕ) (spread : Inter)
     → slice_get spreads k ≡ Some spread
-    → StandsIn (inter_ways spread (commodities.formed_both (fold inter_both_ways lines (take k spreads)) spread)
-    (ratio_in c spread.legs)) (inters_shown c spreads lines)
-inter_stands c [] lines k spread found = cc
-inter_stands c (s ∷ spreads) lines zero spread found =
+    → StandsIn (inter_ways spread (commodities.inter_formed_both (fold inter_both_ways states (take k spreads)) spread)
+    (ratio_in c spread.legs)) (inters_shown c spreads states)
+inter_stands c [] states k spread found = cc
+inter_stands c (s ∷ spreads) states zero spread found =
     let same : s ≡ spread = cc in
-    let others = inters_shown c spreads (inter_both_ways lines s) in
-    ([], (others, ap (λ x. inter_ways x (commodities.formed_both lines x) (ratio_in c x.legs) ++ others) same))
-inter_stands c (s ∷ spreads) lines (suc k) spread found =
-    let next = inter_both_ways lines s in
-    let formed = commodities.formed_both (fold inter_both_ways next (take k spreads)) spread in
-    stands_behind (inter_ways s (commodities.formed_both lines s) (ratio_in c s.legs))
+    let others = inters_shown c spreads (inter_both_ways states s) in
+    ([], (others, ap (λ x. inter_ways x (commodities.inter_formed_both states x) (ratio_in c x.legs) ++ others) same))
+inter_stands c (s ∷ spreads) states (suc k) spread found =
+    let next = inter_both_ways states s in
+    let formed = commodities.inter_formed_both (fold inter_both_ways next (take k spreads)) spread in
+    stands_behind (inter_ways s (commodities.inter_formed_both states s) (ratio_in c s.legs))
     (inter_ways spread formed (ratio_in c spread.legs)) (inters_shown c spreads next)
     (inter_stands c spreads next k spread found)

@@ -14,14 +14,14 @@ use Rattle.span_tables.specs.declared.records.Spot.{Spot}
 use Rattle.scan_risk.specs.Scenarios.{scan_of, scenario_sums}
 use Rattle.spread_stage.specs.Spreads.{TierRests, spread_both_ways, unspread}
 use Rattle.spread_stage.specs.declared.months.MonthUnits.{MonthUnits}
-use Rattle.inter_credit.specs.Credits.{unspread_line}
-use Rattle.inter_credit.specs.Credits.{line_at}
-use Rattle.inter_credit.specs.declared.state.InterLine.{InterLine}
-use Rattle.plan_ir.specs.Figures.{commodity_at, deltas_at, held_at, intras_at, loaded_lines, spots_at}
+use Rattle.inter_credit.specs.Credits.{unspread_state}
+use Rattle.inter_credit.specs.Credits.{state_at}
+use Rattle.inter_credit.specs.declared.state.CommodityState.{CommodityState}
+use Rattle.plan_ir.specs.Figures.{commodity_at, deltas_at, held_at, intras_at, loaded_states, spots_at}
 use Rattle.plan_ir.specs.Figures.{tiers_at}
 use Rattle.plan_compiler.proofs.StageLemmas.{tiers_are}
 use Rattle.reasons.specs.Reasons.{credit_reason, held_reason, held_reasons, inter_reason, inters_shown_at, intra_reason}
-use Rattle.reasons.specs.Reasons.{line_after_all, month_reason, month_reasons, reasons_of, scan_reason, scan_reasons}
+use Rattle.reasons.specs.Reasons.{state_after_all, month_reason, month_reasons, reasons_of, scan_reason, scan_reasons}
 use Rattle.reasons.specs.Reasons.{short_reason, spot_reason, sums_reason}
 use Rattle.reasons.specs.Shown.{inters_shown, intras_shown, months_shown, spots_shown}
 use Rattle.reasons.specs.declared.shown.ShownIntra.{ShownIntra}
@@ -57,32 +57,32 @@ month_reasons_are t holdings c ids o o1 o2 o3 months begun tiers spreads shown s
 
 -- all lines of a commodity, from those of its parts
 pub reasons_are : (t : AcceptedTables) (holdings : List Holding) (c : ℕ) (ids : List Field) (o o1 o2 o3 o4 o5 o6 : List ℕ)
-    (held : List HeldContract) (spreads : List Inter) (line : InterLine) (commodity : Commodity)
-    → held ≡ held_at t holdings c → spreads ≡ inters_of t → line ≡ line_after_all t holdings c
+    (held : List HeldContract) (spreads : List Inter) (state : CommodityState) (commodity : Commodity)
+    → held ≡ held_at t holdings c → spreads ≡ inters_of t → state ≡ state_after_all t holdings c
     → commodity ≡ commodity_at t c
     → o1 ≡ o ++ reasons_text ids (map (held_reason t) held)
     → o2 ≡ o1 ++ reasons_text ids (sums_reason (scenario_sums held) ∷ scan_reason (scan_of (scenario_sums held)) ∷ [])
     → o3 ≡ o2 ++ reasons_text ids (month_reasons t holdings c)
-    → o4 ≡ o3 ++ reasons_text ids (map inter_reason (inters_shown c spreads (loaded_lines t holdings)))
-    → o5 ≡ o4 ++ reason_text ids (credit_reason line) → o6 ≡ o5 ++ reason_text ids (short_reason commodity held)
+    → o4 ≡ o3 ++ reasons_text ids (map inter_reason (inters_shown c spreads (loaded_states t holdings)))
+    → o5 ≡ o4 ++ reason_text ids (credit_reason state) → o6 ≡ o5 ++ reason_text ids (short_reason commodity held)
     → o6 ≡ o ++ reasons_text ids (reasons_of t holdings c)
 unfolding reasons_of
-reasons_are t holdings c ids o o1 o2 o3 o4 o5 o6 held spreads line commodity h s l cm e1 e2 e3 e4 e5 e6 =
+reasons_are t holdings c ids o o1 o2 o3 o4 o5 o6 held spreads state commodity h s l cm e1 e2 e3 e4 e5 e6 =
     let one = held_reasons t holdings c in
     let two = scan_reasons t holdings c in
     let three = month_reasons t holdings c in
     let four = map inter_reason (inters_shown_at t holdings c) in
-    let five = credit_reason (line_after_all t holdings c) ∷ [] in
+    let five = credit_reason (state_after_all t holdings c) ∷ [] in
     let six = short_reason (commodity_at t c) (held_at t holdings c) ∷ [] in
     let text = reasons_text ids in
     let d1 : o1 ≡ o ++ text one = e1 ∙ ap (λ x. o ++ text (map (held_reason t) x)) h in
     let d2 : o2 ≡ o1 ++ text two =
     e2 ∙ ap (λ x. o1 ++ text (sums_reason (scenario_sums x) ∷ scan_reason (scan_of (scenario_sums x)) ∷ [])) h in
     let d4 : o4 ≡ o3 ++ text four =
-    e4 ∙ ap (λ xs. o3 ++ text (map inter_reason (inters_shown c xs (loaded_lines t holdings)))) s in
+    e4 ∙ ap (λ xs. o3 ++ text (map inter_reason (inters_shown c xs (loaded_states t holdings)))) s in
     let d5 : o5 ≡ o4 ++ text five =
     e5 ∙ ap (λ x. o4 ++ reason_text ids (credit_reason x)) l
-    ∙ one_line ids o4 (credit_reason (line_after_all t holdings c)) in
+    ∙ one_line ids o4 (credit_reason (state_after_all t holdings c)) in
     let d6 : o6 ≡ o5 ++ text six =
     e6 ∙ (λ k. o5 ++ reason_text ids (short_reason (cm k) (h k)))
     ∙ one_line ids o5 (short_reason (commodity_at t c) (held_at t holdings c)) in
@@ -99,8 +99,8 @@ reasons_are t holdings c ids o o1 o2 o3 o4 o5 o6 held spreads line commodity h s
     u6 ∙ ap (λ rs. o ++ text rs) (regrouped one two three four five six)
 
 -- a line that is read is the one at its place
-pub line_read : (lines : List InterLine) (i : ℕ) (line : InterLine) → i < length lines → line ≡ get_or lines i line
-    → line ≡ line_at lines i
-line_read lines i line lt at =
-    let there : slice_get lines i ≡ Some line = slice_get-get_or lines i line lt ∙ ap Some (sym at) in
-    sym (ap (λ o. unwrap_or o (unspread_line (pos 0) 0)) there)
+pub state_read : (states : List CommodityState) (i : ℕ) (state : CommodityState) → i < length states → state ≡ get_or states i state
+    → state ≡ state_at states i
+state_read states i state lt at =
+    let there : slice_get states i ≡ Some state = slice_get-get_or states i state lt ∙ ap Some (sym at) in
+    sym (ap (λ o. unwrap_or o (unspread_state (pos 0) 0)) there)

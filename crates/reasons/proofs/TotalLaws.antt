@@ -23,11 +23,11 @@ use Rattle.spread_stage.proofs.FallLemmas.{spreads_shrink}
 use Rattle.inter_credit.specs.OptionValue.{net_value_of, position_value}
 use Rattle.inter_credit.specs.Requirement.{minimum_of, requirement_of}
 use Rattle.inter_credit.proofs.CreditLaws.{credit_zero}
-use Rattle.plan_ir.specs.Figures.{commodity_at, deltas_at, figures_of, held_at, intras_at, is_held, option_value_of, spots_at}
+use Rattle.plan_ir.specs.Figures.{commodity_at, deltas_at, figures_of, held_at, intras_at, is_commodity_held, option_value_of, spots_at}
 use Rattle.plan_ir.specs.Figures.{tiers_at, total_to, value_to}
 use Rattle.plan_ir.proofs.NothingLemmas.{delivery_of_no_months, minimum_of_nothing, month_deltas_of_nothing, sums_of_nothing}
 use Rattle.reasons.specs.Laws.{numbers_shown, values_shown_at}
-use Rattle.reasons.specs.Reasons.{line_after_all}
+use Rattle.reasons.specs.Reasons.{state_after_all}
 use Rattle.reasons.specs.Shown.{months_shown}
 use Rattle.reasons.proofs.CreditLaws.{net_shown}
 use Rattle.reasons.proofs.FigureLaws.{credit_shown, requirement_shown, risk_shown}
@@ -98,10 +98,10 @@ module _ (t : AcceptedTables) (holdings : List Holding) (c : ℕ) (none : held_a
 
   no_credit : c < length t.commodities → (figures_of t holdings c).credit ≡ pos 0
   no_credit lt =
-      let net : (line_after_all t holdings c).net ≡ pos 0 =
+      let net : (state_after_all t holdings c).net ≡ pos 0 =
       net_shown t holdings c lt
       ∙ ap (λ ms. int_sum_by (λ m. m.delta) (months_shown ms (tiers_at t holdings c).rests)) no_months in
-      credit_shown t holdings c ∙ ap pos (credit_zero (line_after_all t holdings c) (ap nat_abs net))
+      credit_shown t holdings c ∙ ap pos (credit_zero (state_after_all t holdings c) (ap nat_abs net))
 
   -- nothing is required for it
   no_requirement : c < length t.commodities → (figures_of t holdings c).requirement ≡ pos 0
@@ -121,13 +121,13 @@ module _ (t : AcceptedTables) (holdings : List Holding) where
       ≡ int_sum_by (λ c. (figures_of t holdings c).requirement) (numbers_shown t holdings)
   unfolding total_to
   total_shown =
-      sum_of_passing (is_held t holdings) (λ c. (figures_of t holdings c).requirement) (length t.commodities)
+      sum_of_passing (is_commodity_held t holdings) (λ c. (figures_of t holdings c).requirement) (length t.commodities)
       (λ c lt e. no_requirement t holdings c (none_held (held_at t holdings c) e) lt) 0 (length t.commodities) (omega arith)
 
   values_shown : value_to t holdings (length t.commodities) ≡ int_sum_by (values_shown_at t holdings) (numbers_shown t holdings)
   unfolding value_to net_value_of
   values_shown =
-      sum_of_passing (is_held t holdings) (values_shown_at t holdings) (length t.commodities)
+      sum_of_passing (is_commodity_held t holdings) (values_shown_at t holdings) (length t.commodities)
       (λ c lt e. no_value t holdings c (none_held (held_at t holdings c) e)) 0 (length t.commodities) (omega arith)
 
   pub value_shown : has_option_value t ≡ true

@@ -7,7 +7,7 @@ use Rattle.span_tables.specs.declared.portfolios.Holding.{Holding}
 use Rattle.span_tables.specs.declared.records.MinimumMethod.{MinimumMethod}
 use Rattle.span_tables.specs.declared.records.MinimumMethod.TheVariants as method
 use Rattle.inter_credit.specs.OptionValue.{position_value}
-use Rattle.plan_ir.specs.Figures.{held_at, is_held}
+use Rattle.plan_ir.specs.Figures.{held_at, is_commodity_held}
 
 -- short calls and short puts as a method counts them: both together, or the larger of the two
 abbrev pub counted : MinimumMethod → ℕ → ℕ → ℕ
@@ -16,7 +16,7 @@ counted method.Max calls puts = max calls puts
 
 -- the numbers of the commodities that have lines: those of which an account with these holdings holds a contract
 abbrev pub numbers_shown : AcceptedTables → List Holding → List ℕ
-numbers_shown t holdings = filter (is_held t holdings) (range_with_len 0 (length t.commodities))
+numbers_shown t holdings = filter (is_commodity_held t holdings) (range_with_len 0 (length t.commodities))
 
 -- the sum of the values of the positions in the commodity of a number
 abbrev pub values_shown_at : AcceptedTables → List Holding → ℕ → ℤ

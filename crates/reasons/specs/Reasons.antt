@@ -18,11 +18,11 @@ use Rattle.scan_risk.specs.declared.Scan.{Scan}
 use Rattle.spread_stage.specs.Spreads.{unspread}
 use Rattle.inter_credit.specs.OptionValue.{position_value}
 use Rattle.inter_credit.specs.Requirement.{is_call, is_put, short_count}
-use Rattle.inter_credit.specs.Credits.{line_at}
-use Rattle.inter_credit.specs.declared.state.InterLine.{InterLine}
-use Rattle.plan_ir.specs.Figures.{commodity_at, deltas_at, held_at, inter_lines, intras_at, loaded_lines, spots_at}
+use Rattle.inter_credit.specs.Credits.{state_at}
+use Rattle.inter_credit.specs.declared.state.CommodityState.{CommodityState}
+use Rattle.plan_ir.specs.Figures.{commodity_at, deltas_at, held_at, inter_states, intras_at, loaded_states, spots_at}
 use Rattle.plan_ir.specs.Figures.{tiers_at}
-use Rattle.reasons.specs.Shown.{inters_shown, intra_charge, intras_shown, months_shown, spot_charge, spots_shown}
+use Rattle.reasons.specs.Shown.{inters_shown, shown_intra_charge, intras_shown, months_shown, shown_spot_charge, spots_shown}
 use Rattle.reasons.specs.declared.shown.ShownInter.{ShownInter}
 use Rattle.reasons.specs.declared.shown.ShownIntra.{ShownIntra}
 use Rattle.reasons.specs.declared.shown.ShownMonth.{ShownMonth}
@@ -91,7 +91,7 @@ abbrev pub intra_reason : ShownIntra → Line
 intra_reason s = record {
   word = codes "INTRA";
   fields = decimal s.priority ∷ long_side s.direction ∷ in_spreads s.formed ∷ decimal s.rate
-      ∷ exact_decimal 4 (pos (intra_charge s)) ∷ [];
+      ∷ exact_decimal 4 (pos (shown_intra_charge s)) ∷ [];
 }
 
 -- a spot month: used, spread rate, left, outright rate and charge
@@ -99,7 +99,7 @@ abbrev pub spot_reason : ShownSpot → Line
 spot_reason s = record {
   word = codes "SPOT";
   fields = decimal s.month ∷ in_deltas (pos s.used) ∷ decimal s.spread_rate ∷ in_deltas (pos s.left)
-      ∷ decimal s.outright_rate ∷ exact_decimal 8 (pos (spot_charge s)) ∷ [];
+      ∷ decimal s.outright_rate ∷ exact_decimal 8 (pos (shown_spot_charge s)) ∷ [];
 }
 
 -- an intercommodity spread in a direction: its priority, the side that is long, spreads formed, what it uses of the
@@ -112,10 +112,10 @@ inter_reason s = record {
 }
 
 -- what the credit is of: price risk, net delta and weight
-abbrev pub credit_reason : InterLine → Line
-credit_reason line = record {
+abbrev pub credit_reason : CommodityState → Line
+credit_reason state = record {
   word = codes "CREDIT";
-  fields = half line.price2 ∷ in_deltas line.net ∷ in_deltas (pos line.weight) ∷ [];
+  fields = half state.price2 ∷ in_deltas state.net ∷ in_deltas (pos state.weight) ∷ [];
 }
 
 -- what the minimum is of: short calls, short puts, how they are counted, and the rate
@@ -142,11 +142,11 @@ spots_shown_at t holdings c = spots_shown (deltas_at t holdings c) (tiers_at t h
 
 -- the spreads between commodities that have a leg in the commodity, as they form
 abbrev pub inters_shown_at : AcceptedTables → List Holding → ℕ → List ShownInter
-inters_shown_at t holdings c = inters_shown c (inters_of t) (loaded_lines t holdings)
+inters_shown_at t holdings c = inters_shown c (inters_of t) (loaded_states t holdings)
 
 -- the commodity after all spreads
-abbrev pub line_after_all : AcceptedTables → List Holding → ℕ → InterLine
-line_after_all t holdings c = line_at (inter_lines t holdings) c
+abbrev pub state_after_all : AcceptedTables → List Holding → ℕ → CommodityState
+state_after_all t holdings c = state_at (inter_states t holdings) c
 
 -- the lines of the held contracts of the commodity
 abbrev pub held_reasons : AcceptedTables → List Holding → ℕ → List Line
@@ -167,7 +167,7 @@ month_reasons t holdings c =
 -- the lines of the spreads between the commodity and others, and of its credit
 abbrev pub credit_reasons : AcceptedTables → List Holding → ℕ → List Line
 credit_reasons t holdings c =
-    map inter_reason (inters_shown_at t holdings c) ++ credit_reason (line_after_all t holdings c) ∷ []
+    map inter_reason (inters_shown_at t holdings c) ++ credit_reason (state_after_all t holdings c) ∷ []
 
 -- all lines of the commodity but that of its figures
 unfoldable pub reasons_of : AcceptedTables → List Holding → ℕ → List Line

@@ -16,7 +16,7 @@ use Rattle.spread_stage.specs.Spreads as months
 use Rattle.spread_stage.specs.declared.months.MonthUnits.{MonthUnits}
 use Rattle.inter_credit.specs.Credits.{inter_both_ways}
 use Rattle.inter_credit.specs.Credits as commodities
-use Rattle.inter_credit.specs.declared.state.InterLine.{InterLine}
+use Rattle.inter_credit.specs.declared.state.CommodityState.{CommodityState}
 use Rattle.reasons.specs.declared.shown.ShownInter.{ShownInter}
 use Rattle.reasons.specs.declared.shown.ShownIntra.{ShownIntra}
 use Rattle.reasons.specs.declared.shown.ShownMonth.{ShownMonth}
@@ -42,8 +42,8 @@ spots_shown deltas rests spots =
     (filter (λ s. not (nat_abs (units_at deltas s.month) == 0)) spots)
 
 -- the charge of a spot month, in 10^-8 minor units
-abbrev pub spot_charge : ShownSpot → ℕ
-spot_charge s = s.used * s.spread_rate + s.left * s.outright_rate
+abbrev pub shown_spot_charge : ShownSpot → ℕ
+shown_spot_charge s = s.used * s.spread_rate + s.left * s.outright_rate
 
 -- ---- spreads between months
 
@@ -62,8 +62,8 @@ intras_shown [] t = []
 intras_shown (s ∷ spreads) t = intra_ways s (months.formed_both t s) ++ intras_shown spreads (spread_both_ways t s)
 
 -- the charge of a spread in a direction, in 10^-4 minor units
-abbrev pub intra_charge : ShownIntra → ℕ
-intra_charge s = s.formed * s.rate
+abbrev pub shown_intra_charge : ShownIntra → ℕ
+shown_intra_charge s = s.formed * s.rate
 
 -- ---- spreads between commodities
 
@@ -91,11 +91,11 @@ inter_ways s f (Some ratio) = inter_in s ratio ALong f.a_long ++ inter_in s rati
 
 -- the spreads of the set that have a leg in the commodity of a number, each as it forms from the rests that all those
 -- before it left
-abbrev pub inters_shown : ℕ → List Inter → List InterLine → List ShownInter
-inters_shown c [] lines = []
-inters_shown c (s ∷ spreads) lines =
-    inter_ways s (commodities.formed_both lines s) (ratio_in c s.legs)
-    ++ inters_shown c spreads (inter_both_ways lines s)
+abbrev pub inters_shown : ℕ → List Inter → List CommodityState → List ShownInter
+inters_shown c [] states = []
+inters_shown c (s ∷ spreads) states =
+    inter_ways s (commodities.inter_formed_both states s) (ratio_in c s.legs)
+    ++ inters_shown c spreads (inter_both_ways states s)
 
 -- what of the weight of a commodity is a spread's in a direction
 abbrev pub weight_of : ShownInter → ℕ

@@ -3,15 +3,15 @@ ghost use Rattle.std.specs.Prelude.{◌≡◌, ◌++◌, ◌*◌, ◌^◌, ◌==
 ghost use Rattle.std.specs.Prelude.{find, fold, length, map, option_copied};
 ghost use Rattle.span_tables.specs.Accepted.{IsInter};
 ghost use Rattle.inter_credit.specs.Credits.{inter_both_ways};
-ghost use Rattle.inter_credit.specs.near.Lines.{IsLine};
-ghost use Rattle.inter_credit.specs.declared.state.InterLine.{InterLine};
+ghost use Rattle.inter_credit.specs.near.CommodityStates.{IsCommodityState};
+ghost use Rattle.inter_credit.specs.declared.state.CommodityState.{CommodityState};
 ghost use Rattle.reasons.specs.Reasons.{credit_reason, inter_reason};
 ghost use Rattle.reasons.specs.Shown.{inter_in, inter_ways, inters_shown, ratio_in};
 ghost use Rattle.reasons.specs.near.Stages.{inters_formed};
 ghost use Rattle.reasons.specs.near.Fields.{reason_text, reasons_text};
 
 use crate::words::long_side;
-use inter_credit::state::{InterLine, InterState};
+use inter_credit::state::{CommodityState, InterState};
 use span_money::line_fields::{Field, push_line};
 use span_tables::records::{CommodityLeg, Inter};
 use span_tables::sides::{Direction, SpreadsFormed};
@@ -24,7 +24,7 @@ pub(crate) fn form_inters(
     inters: &[Inter],
 ) -> Result<Vec<SpreadsFormed>, AllocError>
     requires { All (IsInter (length state.old)) inters.now }
-    ensures lines { IfOk result (λ _. state.new ≡ fold inter_both_ways state.old inters.now) }
+    ensures states { IfOk result (λ _. state.new ≡ fold inter_both_ways state.old inters.now) }
     ensures formed { IfOk result (λ formed. formed.items ≡ inters_formed inters.now state.old) }
 {
     let mut formed = Vec::with_capacity(alloc, inters.len())?;
@@ -101,8 +101,8 @@ pub(crate) fn push_inters(
     inters: &[Inter],
     formed: &[SpreadsFormed],
 ) -> Result<(), AllocError>
-    ensures { (lines : List InterLine) → formed.now ≡ inters_formed inters.now lines → OnOk result (out.new.items
-        ≡ out.old.items ++ reasons_text ids.now (map inter_reason (inters_shown commodity inters.now lines))) }
+    ensures { (states : List CommodityState) → formed.now ≡ inters_formed inters.now states → OnOk result (out.new.items
+        ≡ out.old.items ++ reasons_text ids.now (map inter_reason (inters_shown commodity inters.now states))) }
 {
     for (inter, ways) in inters.iter().zip(formed) {
         push_inter_ways(out, ids, commodity, inter, *ways)?;
@@ -114,15 +114,15 @@ pub(crate) fn push_inters(
 pub(crate) fn push_credit(
     out: &mut Vec<u8>,
     ids: &[Field<'_>],
-    line: &InterLine,
+    state: &CommodityState,
 ) -> Result<(), AllocError>
-    requires { IsLine line.now }
-    ensures { OnOk result (out.new.items ≡ out.old.items ++ reason_text ids.now (credit_reason line.now)) }
+    requires { IsCommodityState state.now }
+    ensures { OnOk result (out.new.items ≡ out.old.items ++ reason_text ids.now (credit_reason state.now)) }
 {
     let fields = [
-        Field::Half(line.price2),
-        Field::EightPlaces(i128::from(line.net.get())),
-        Field::EightPlaces(line.weight as i128),
+        Field::Half(state.price2),
+        Field::EightPlaces(i128::from(state.net.get())),
+        Field::EightPlaces(state.weight as i128),
     ];
     push_line(out, "CREDIT", ids, &fields)
 }

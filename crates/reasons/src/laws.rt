@@ -2,10 +2,10 @@
 ghost use Rattle.inter_credit.specs.Credits as commodities;
 ghost use Rattle.inter_credit.specs.Credits.{credit_of, inter_both_ways};
 ghost use Rattle.inter_credit.specs.Requirement.{is_call, is_put, requirement_of, short_count};
-ghost use Rattle.plan_ir.specs.Figures.{commodity_at, deltas_at, figures_of, held_at, intras_at, loaded_lines, scan_at};
+ghost use Rattle.plan_ir.specs.Figures.{commodity_at, deltas_at, figures_of, held_at, intras_at, loaded_states, scan_at};
 ghost use Rattle.reasons.specs.Laws.{StandsIn, counted};
-ghost use Rattle.reasons.specs.Reasons.{inters_shown_at, intras_shown_at, line_after_all, months_shown_at, spots_shown_at};
-ghost use Rattle.reasons.specs.Shown.{inter_ways, intra_charge, intra_ways, ratio_in, spot_charge, weight_of};
+ghost use Rattle.reasons.specs.Reasons.{inters_shown_at, intras_shown_at, state_after_all, months_shown_at, spots_shown_at};
+ghost use Rattle.reasons.specs.Shown.{inter_ways, shown_intra_charge, intra_ways, ratio_in, shown_spot_charge, weight_of};
 ghost use Rattle.scan_risk.specs.Scenarios.{active_scenario, scan_risk, scenario_sums};
 ghost use Rattle.span_money.specs.Numbers.{int_sum_by};
 ghost use Rattle.span_tables.specs.Accepted.{IsWithinLimits};
@@ -29,7 +29,7 @@ pub fn scan_risk_is_the_largest_sum_shown()
 /// The intracommodity charge is the sum of the charges of the spreads shown, divided by 10^4 and rounded up.
 pub fn intracommodity_charge_is_that_of_the_spreads_shown()
     ensures { (t : AcceptedTables) (holdings : List Holding) (c : ℕ) → (figures_of t holdings c).intra
-        ≡ pos (div_ceil (sum_by intra_charge (intras_shown_at t holdings c)) (10 ^ 4)) }
+        ≡ pos (div_ceil (sum_by shown_intra_charge (intras_shown_at t holdings c)) (10 ^ 4)) }
 {}
 
 /// Each spread between months has its lines, one for each direction in which it forms more than 0, of as many as it forms from
@@ -45,37 +45,37 @@ pub fn each_spread_between_months_has_its_lines()
 /// delta is 0 has none.
 pub fn delivery_charge_is_that_of_the_months_shown()
     ensures { (t : AcceptedTables) (holdings : List Holding) (c : ℕ) → (figures_of t holdings c).delivery
-        ≡ pos (div_ceil (sum_by spot_charge (spots_shown_at t holdings c)) (10 ^ 8)) }
+        ≡ pos (div_ceil (sum_by shown_spot_charge (spots_shown_at t holdings c)) (10 ^ 8)) }
 {}
 
 /// The net delta of the credit is the sum of the deltas of the months shown, and its price risk is that of the scan: spreads
 /// between commodities keep both.
 pub fn net_delta_is_the_sum_of_the_months_shown()
     ensures net { (t : AcceptedTables) (holdings : List Holding) (c : ℕ) → c < length t.commodities
-        → (line_after_all t holdings c).net ≡ int_sum_by (λ m. m.delta) (months_shown_at t holdings c) }
+        → (state_after_all t holdings c).net ≡ int_sum_by (λ m. m.delta) (months_shown_at t holdings c) }
     ensures price_risk { (t : AcceptedTables) (holdings : List Holding) (c : ℕ) → c < length t.commodities
-        → (line_after_all t holdings c).price2 ≡ (scan_at t holdings c).price2 }
+        → (state_after_all t holdings c).price2 ≡ (scan_at t holdings c).price2 }
 {}
 
 /// The weight of the credit is the sum of the weights of the spreads shown, each what it uses times its basis points.
 pub fn weight_is_the_sum_of_the_spreads_shown()
     ensures { (t : AcceptedTables) (holdings : List Holding) (c : ℕ) → IsWithinLimits t → c < length t.commodities
-        → (line_after_all t holdings c).weight ≡ sum_by weight_of (inters_shown_at t holdings c) }
+        → (state_after_all t holdings c).weight ≡ sum_by weight_of (inters_shown_at t holdings c) }
 {}
 
 /// Each spread between commodities has its lines in those in which it has a leg, one for each direction in which it forms more
 /// than 0, of as many as it forms from the rests that the spreads before it left.
 pub fn each_spread_between_commodities_has_its_lines()
     ensures { (t : AcceptedTables) (holdings : List Holding) (c k : ℕ) (spread : Inter)
-        → slice_get (inters_of t) k ≡ Some spread → StandsIn (inter_ways spread (commodities.formed_both
-        (fold inter_both_ways (loaded_lines t holdings) (take k (inters_of t))) spread) (ratio_in c spread.legs))
+        → slice_get (inters_of t) k ≡ Some spread → StandsIn (inter_ways spread (commodities.inter_formed_both
+        (fold inter_both_ways (loaded_states t holdings) (take k (inters_of t))) spread) (ratio_in c spread.legs))
         (inters_shown_at t holdings c) }
 {}
 
 /// The credit is that of the price risk, the net delta and the weight shown.
 pub fn credit_follows_from_what_is_shown()
     ensures { (t : AcceptedTables) (holdings : List Holding) (c : ℕ)
-        → (figures_of t holdings c).credit ≡ pos (credit_of (line_after_all t holdings c)) }
+        → (figures_of t holdings c).credit ≡ pos (credit_of (state_after_all t holdings c)) }
 {}
 
 /// The minimum is the rate times the short calls and short puts shown, as the method counts them.

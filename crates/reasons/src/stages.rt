@@ -2,7 +2,7 @@
 ghost use Rattle.std.specs.Prelude.{◌≡◌, ◌++◌, ◌<◌, IfOk, List, OnOk, length, true};
 ghost use Rattle.span_tables.specs.Holdings.{fits};
 ghost use Rattle.span_tables.specs.declared.portfolios.Holding.{Holding};
-ghost use Rattle.plan_ir.specs.Figures.{held_at, loaded_lines};
+ghost use Rattle.plan_ir.specs.Figures.{held_at, loaded_states};
 ghost use Rattle.reasons.specs.Reasons.{month_reasons, reasons_of};
 ghost use Rattle.reasons.specs.near.Stages.{all_held, stages_of};
 ghost use Rattle.reasons.specs.near.Fields.{reasons_text};
@@ -37,11 +37,11 @@ impl Model for Stages {
 
     ghost Value = { StagesView };
 
-    ghost view = { λ s. record { held = s.held.items; lines = s.state; formed = s.formed.items } };
+    ghost view = { λ s. record { held = s.held.items; states = s.state; formed = s.formed.items } };
 }
 
 // The commodities before any spread between them.
-fn loaded_lines(
+fn loaded_states(
     alloc: Global,
     tables: &Tables,
     portfolio: &Portfolio,
@@ -49,8 +49,8 @@ fn loaded_lines(
 ) -> Result<InterState, AllocError>
     requires fits { fits (length tables.now.contracts) portfolio.now.holdings ≡ true }
     requires held { held.now ≡ all_held tables.now portfolio.now.holdings }
-    ensures value { IfOk result (λ lines. lines ≡ loaded_lines tables.now portfolio.now.holdings) }
-    ensures long { IfOk result (λ lines. length lines ≡ length tables.now.commodities) }
+    ensures value { IfOk result (λ states. states ≡ loaded_states tables.now portfolio.now.holdings) }
+    ensures long { IfOk result (λ states. length states ≡ length tables.now.commodities) }
 {
     let count = tables.commodities().len();
     // Called for its clause: the holdings are those of a portfolio.
@@ -75,7 +75,7 @@ pub fn stages_of(
     ensures { IfOk result (λ stages. stages ≡ stages_of tables.now portfolio.now.holdings) }
 {
     let held = gather_all(alloc, tables, portfolio)?;
-    let mut state = loaded_lines(alloc, tables, portfolio, &held)?;
+    let mut state = loaded_states(alloc, tables, portfolio, &held)?;
     let formed = form_inters(alloc, &mut state, tables.inters())?;
     Ok(Stages {
         held,
@@ -118,7 +118,7 @@ pub fn push_reasons(
 ) -> Result<(), AllocError>
     requires commodity { commodity < length tables.now.commodities }
     requires held { commodity < length stages.now.held }
-    requires lines { commodity < length stages.now.lines }
+    requires states { commodity < length stages.now.states }
     ensures { (holdings : List Holding) → stages.now ≡ stages_of tables.now holdings → OnOk result
         (out.new.items ≡ out.old.items ++ reasons_text ids.now (reasons_of tables.now holdings commodity)) }
 {
@@ -127,7 +127,7 @@ pub fn push_reasons(
     push_scan(out, ids, held)?;
     push_month_reasons(alloc, out, ids, tables, commodity, held)?;
     push_inters(out, ids, commodity, tables.inters(), &stages.formed)?;
-    push_credit(out, ids, &stages.state.lines()[commodity])?;
+    push_credit(out, ids, &stages.state.states()[commodity])?;
     push_short(out, ids, &tables.commodities()[commodity], held)?;
     Ok(())
 }

@@ -7,7 +7,7 @@ use Rattle.std.specs.Map.{keys_of, lookup}
 use Rattle.std.specs.Option.{option_map}
 use Rattle.indexmap.specs.IndexMap.{IndexMap, insert_entry}
 use Rattle.indexmap.proofs.CallerLemmas.{insert_entry-new}
-use Rattle.result_book.specs.Books.{HasNoAccountTwice, account_of, row_for}
+use Rattle.result_book.specs.Books.{HasNoAccountTwice, account_of_row, row_for}
 use Rattle.result_book.specs.Rows.{RowView}
 use Rattle.result_book.specs.near.Batches.{AreUnderAccounts, kept_rows}
 
@@ -42,15 +42,15 @@ module _ {Kept : Type 0} (row_of : Kept → RowView) where
   kept-push (x ∷ es) e = ap (λ rows. row_of x.1 ∷ rows) (kept-push es e)
 
   -- one row more that is kept under its own account leaves all rows under their accounts
-  pub under-push : (es : List (List ℕ × Kept)) (e : List ℕ × Kept) → AreUnderAccounts row_of es → e.0 ≡ account_of (row_of e.1)
+  pub under-push : (es : List (List ℕ × Kept)) (e : List ℕ × Kept) → AreUnderAccounts row_of es → e.0 ≡ account_of_row (row_of e.1)
       → AreUnderAccounts row_of (es ++ e ∷ [])
   under-push [] e under own = (own, tt)
   under-push (x ∷ es) e under own = (under.0, under-push es e under.1 own)
 
-  keys-kept : (es : List (List ℕ × Kept)) → AreUnderAccounts row_of es → keys_of es ≡ map account_of (kept_rows row_of es)
+  keys-kept : (es : List (List ℕ × Kept)) → AreUnderAccounts row_of es → keys_of es ≡ map account_of_row (kept_rows row_of es)
   keys-kept [] under = refl
   keys-kept (e ∷ es) under =
-      ap (λ key. key ∷ keys_of es) under.0 ∙ ap (λ keys. account_of (row_of e.1) ∷ keys) (keys-kept es under.1)
+      ap (λ key. key ∷ keys_of es) under.0 ∙ ap (λ keys. account_of_row (row_of e.1) ∷ keys) (keys-kept es under.1)
 
   -- where no two keys are equal, no account has two rows
   pub once-kept : (es : List (List ℕ × Kept)) → AreUnderAccounts row_of es → IsDistinct bytes_eq (keys_of es)

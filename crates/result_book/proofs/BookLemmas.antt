@@ -5,7 +5,7 @@ use Rattle.std.proofs.lemmas.Map.Views.{list_any-from_Contains, Contains-from_an
 use Rattle.std.proofs.lemmas.Slice.Eq.{bytes_eq-Decides}
 use Rattle.std.specs.Cmp.{decided}
 use Rattle.std.specs.List.{IsDistinct, list_any}
-use Rattle.result_book.specs.Books.{IsBook, account_of, row_for}
+use Rattle.result_book.specs.Books.{IsBook, account_of_row, row_for}
 use Rattle.result_book.specs.Rows.{RowView}
 
 pub book-without_rows : (opened : ℕ) → opened < 2 ^ 64 → IsBook (record { opened = opened; batches = [] })
@@ -21,17 +21,17 @@ chosen true row found = refl
 chosen false row found = refl
 
 row_for-list_any : (rows : List RowView) (account : List ℕ)
-    → is_some (row_for rows account) ≡ list_any (bytes_eq account) (map account_of rows)
+    → is_some (row_for rows account) ≡ list_any (bytes_eq account) (map account_of_row rows)
 row_for-list_any [] account = refl
 row_for-list_any (row ∷ rows) account =
-    chosen (bytes_eq account (account_of row)) row (row_for rows account)
-    ∙ ap (λ any. bytes_eq account (account_of row) || any) (row_for-list_any rows account)
+    chosen (bytes_eq account (account_of_row row)) row (row_for rows account)
+    ∙ ap (λ any. bytes_eq account (account_of_row row) || any) (row_for-list_any rows account)
 
 -- some row is found exactly where the account is one of the rows' accounts
 pub account_there : (rows : List RowView) (account : List ℕ)
-    → (is_some (row_for rows account) ≡ true) ↔ Contains (map account_of rows) account
+    → (is_some (row_for rows account) ≡ true) ↔ Contains (map account_of_row rows) account
 account_there rows account =
-    let accounts = map account_of rows in
+    let accounts = map account_of_row rows in
     let same : is_some (row_for rows account) ≡ list_any (bytes_eq account) accounts = row_for-list_any rows account in (
       λ found. Contains-from_any (λ x y e. (bytes_eq-Decides x y).0 e) account accounts (sym same ∙ found),
       λ there. same ∙ list_any-from_Contains (decided bytes_eq bytes_eq-Decides) account accounts there,

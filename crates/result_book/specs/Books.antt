@@ -26,16 +26,16 @@ abbrev pub is_opened : BookView → ℕ → Bool
 is_opened book number = nat_lt 0 number && nat_le number book.opened
 
 -- the account of a row
-abbrev pub account_of : RowView → List ℕ
-account_of row = row.portfolio.account
+abbrev pub account_of_row : RowView → List ℕ
+account_of_row row = row.portfolio.account
 
 -- the row of an account among rows
 abbrev pub row_for : List RowView → List ℕ → Option RowView
-row_for rows account = find (λ row. bytes_eq account (account_of row)) rows
+row_for rows account = find (λ row. bytes_eq account (account_of_row row)) rows
 
 -- no account has two of the rows
 abbrev pub HasNoAccountTwice : List RowView → Type 0
-HasNoAccountTwice rows = IsDistinct bytes_eq (map account_of rows)
+HasNoAccountTwice rows = IsDistinct bytes_eq (map account_of_row rows)
 
 -- a book: there are no more batches than numbers, no rows under a number that was not opened, and no account twice in a batch
 pub record IsBook (book : BookView) : Type 0 where

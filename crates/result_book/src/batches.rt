@@ -1,7 +1,7 @@
 //! The rows of one batch.
 ghost use Rattle.std.specs.Prelude.{◌≡◌, ◌++◌, ◌∷◌, [], map, None, IfOk, IfErr, OnOk, option_copied};
 ghost use Rattle.std.specs.Arc.{arc_value};
-ghost use Rattle.result_book.specs.Books.{HasNoAccountTwice, account_of, row_for};
+ghost use Rattle.result_book.specs.Books.{HasNoAccountTwice, account_of_row, row_for};
 
 use crate::rows::Row;
 use indexmap::IndexMap;
@@ -41,7 +41,7 @@ impl BatchRows {
 
     /// Puts a row of an account that has none last. Where memory is wanting the row comes back, and nothing was put.
     pub(crate) fn put(&mut self, row: Arc<Row>) -> Result<(), Arc<Row>>
-        requires { row_for self.old (account_of (arc_value row)) ≡ None }
+        requires { row_for self.old (account_of_row (arc_value row)) ≡ None }
         ensures put { OnOk result (self.new ≡ self.old ++ arc_value row ∷ []) }
         ensures once { HasNoAccountTwice self.new }
         ensures refused { IfErr result (λ back. (back ≡ row) × (self.new ≡ self.old)) }

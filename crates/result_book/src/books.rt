@@ -3,7 +3,7 @@ ghost use Rattle.std.specs.Prelude.{◌≡◌, ◌≢◌, ◌↔◌, ◌+◌, �
 ghost use Rattle.std.specs.Prelude.{Err, IfErr, IfOk, OnOk, option_copied};
 ghost use Rattle.std.specs.Option.{unwrap_or};
 ghost use Rattle.std.specs.Arc.{arc_value};
-ghost use Rattle.result_book.specs.Books.{HasNoAccountTwice, IsBook, account_of, put_fault, row_for, rows_of, rows_under};
+ghost use Rattle.result_book.specs.Books.{HasNoAccountTwice, IsBook, account_of_row, put_fault, row_for, rows_of, rows_under};
 
 use crate::batches::BatchRows;
 use crate::rows::Row;
@@ -95,12 +95,12 @@ impl ResultBook {
     /// The book first refuses a number of which no batch was opened, then an account of which the batch has a row, and last
     /// answers want of memory. In each case it stays as it was, and the row comes back.
     pub fn put(&mut self, batch: u64, row: Arc<Row>) -> Result<(), PutRefused>
-        ensures accepted { OnOk result (put_fault self.old batch (account_of (arc_value row)) ≡ None) }
+        ensures accepted { OnOk result (put_fault self.old batch (account_of_row (arc_value row)) ≡ None) }
         ensures put { OnOk result (rows_of self.new batch ≡ rows_of self.old batch ++ arc_value row ∷ []) }
         ensures others { (number : ℕ) → number ≢ batch → rows_of self.new number ≡ rows_of self.old number }
         ensures opened { self.new.opened ≡ self.old.opened }
         ensures fault { IfErr result (λ refused.
-            refused.fault ≡ unwrap_or (put_fault self.old batch (account_of (arc_value row))) BookFault.OutOfMemory) }
+            refused.fault ≡ unwrap_or (put_fault self.old batch (account_of_row (arc_value row))) BookFault.OutOfMemory) }
         ensures unchanged { IfErr result (λ refused. (refused.row ≡ row) × (self.new ≡ self.old)) }
     {
         if let Some(fault) = self.put_fault(batch, row.account()) {
@@ -159,7 +159,7 @@ fn put_row(
     batch: u64,
     row: Arc<Row>,
 ) -> Result<(), Arc<Row>>
-    requires { row_for (rows_under batches.old.entries batch) (account_of (arc_value row)) ≡ None }
+    requires { row_for (rows_under batches.old.entries batch) (account_of_row (arc_value row)) ≡ None }
     ensures put { OnOk result (rows_under batches.new.entries batch
         ≡ rows_under batches.old.entries batch ++ arc_value row ∷ []) }
     ensures others { (number : ℕ) → number ≢ batch

@@ -1,6 +1,6 @@
 //! Laws of books: each is the contract of a function that does nothing.
 ghost use Rattle.std.specs.Prelude.{◌≡◌, ◌<◌, ◌≤◌, ◌↔◌, ◌⊎◌, ℕ, List, None, Some, Contains, map};
-ghost use Rattle.result_book.specs.Books.{BookView, account_of, put_fault, rows_of};
+ghost use Rattle.result_book.specs.Books.{BookView, account_of_row, put_fault, rows_of};
 ghost use Rattle.result_book.specs.declared.books.BookFault.TheVariants as fault;
 
 /// No batch of a number was opened exactly where the number is 0 or greater than the number of opened batches.
@@ -13,5 +13,5 @@ pub fn numbers_from_one_on_are_opened()
 #[tactic(auto, using(crate::proofs::BookLemmas::account_there))]
 pub fn an_account_is_there_once()
     ensures { (book : BookView) (number : ℕ) (account : List ℕ) → (put_fault book number account ≡ Some fault.AlreadyThere)
-        ↔ ((0 < number) × (number ≤ book.opened) × Contains (map account_of (rows_of book number)) account) }
+        ↔ ((0 < number) × (number ≤ book.opened) × Contains (map account_of_row (rows_of book number)) account) }
 {}

@@ -1,7 +1,7 @@
 //! Rows of results (docs/METHOD.md, "Minimum and requirement" and "Option value").
 ghost use Rattle.std.specs.Prelude.{◌≡◌, ◌<◌, IfOk, length};
 ghost use Rattle.std.specs.Arc.{arc_value};
-ghost use Rattle.plan_ir.specs.Figures.{figures_of, is_held, option_value_of, total_to};
+ghost use Rattle.plan_ir.specs.Figures.{figures_of, is_commodity_held, option_value_of, total_to};
 ghost use Rattle.step_scheduler.specs.Boards.{IsComplete};
 ghost use Rattle.step_scheduler.specs.near.Figures.{AreAllFigures};
 ghost use Rattle.result_book.specs.Rows.{row_of};
@@ -136,7 +136,7 @@ impl Row {
     /// Whether the account holds a contract of the commodity of a number.
     pub fn held(&self, commodity: usize) -> bool
         requires { commodity < length self.now.set.tables.commodities }
-        ensures { result ≡ is_held self.now.set.tables self.now.portfolio.holdings commodity }
+        ensures { result ≡ is_commodity_held self.now.set.tables self.now.portfolio.holdings commodity }
     {
         self.held[commodity]
     }

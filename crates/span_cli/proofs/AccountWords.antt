@@ -8,11 +8,11 @@ use Rattle.clap.specs.declared.error.Error.{Error}
 use Rattle.clap.specs.declared.error.kind.ErrorKind.{ErrorKind}
 use Rattle.clap.specs.declared.error.kind.ErrorKind.TheVariants as kind
 use Rattle.span_cli.proofs.WordsLaws.{left, right}
-use Rattle.span_cli.specs.Words.{form_kinds, has_form, is_taken, kinds_of, misnames, misnames_in, span_app}
+use Rattle.span_cli.specs.Words.{form_kinds, has_form, is_request, kinds_of, misnames, misnames_in, span_app}
 
 -- words that are taken have the form
-pub taken_form : (words : List Text) → is_taken words ≡ true → has_form words ≡ true
-unfolding is_taken
+pub taken_form : (words : List Text) → is_request words ≡ true → has_form words ≡ true
+unfolding is_request
 taken_form words taken = left (has_form words) (not (misnames words)) taken
 
 -- what is said of the command and its matches is said of the words
@@ -21,8 +21,8 @@ pub misnames_read : (words : List Text) (o : Option (Text × List Row)) → subc
 misnames_read words o is = ap (λ (x : Option (Text × List Row)). option_map_or (λ p. misnames_in p.0 p.1) x false) is
 
 -- words with an account that is no name are not taken
-pub misnamed_not_taken : (words : List Text) → misnames words ≡ true → is_taken words ≡ true → ⊥
-unfolding is_taken
+pub misnamed_not_taken : (words : List Text) → misnames words ≡ true → is_request words ≡ true → ⊥
+unfolding is_request
 misnamed_not_taken words misnamed taken =
     by_test (misnames words) misnamed (right (has_form words) (not (misnames words)) taken) where
       by_test : (b : Bool) → b ≡ true → not b ≡ true → ⊥

@@ -152,10 +152,10 @@ IfSome-each (Some x) P f = f x
 
 -- words that are refused for one of these kinds of reason, or for want of memory
 refused_by : (kinds : Kinds) (e : Error) (given : ℕ) (old_out new_out old_err new_err : Stream) → HasKind kinds e
-    → telling.Refuses (kind_of e) given old_out new_out old_err new_err → RefusesBy kinds given old_out new_out old_err new_err
+    → telling.RefusesWords (kind_of e) given old_out new_out old_err new_err → RefusesBy kinds given old_out new_out old_err new_err
 refused_by kinds e given old_out new_out old_err new_err (inl wanted) told = of_memory kinds where
   memory_told : Tells memory given old_out new_out old_err new_err
-  memory_told = subst (λ (k : ErrorKind). telling.Refuses k given old_out new_out old_err new_err) wanted told
+  memory_told = subst (λ (k : ErrorKind). telling.RefusesWords k given old_out new_out old_err new_err) wanted told
 
   of_memory : (ks : Kinds) → RefusesBy ks given old_out new_out old_err new_err
   of_memory [] = memory_told
@@ -163,7 +163,7 @@ refused_by kinds e given old_out new_out old_err new_err (inl wanted) told = of_
 refused_by kinds e given old_out new_out old_err new_err (inr among) told = of_kind kinds among where
   of_kind : (ks : Kinds) → IsAmong (kind_of e) ks → RefusesBy ks given old_out new_out old_err new_err
   of_kind [] among = absurd among
-  of_kind (k ∷ ks) (inl is) = inl (subst (λ (x : ErrorKind). telling.Refuses x given old_out new_out old_err new_err) is told)
+  of_kind (k ∷ ks) (inl is) = inl (subst (λ (x : ErrorKind). telling.RefusesWords x given old_out new_out old_err new_err) is told)
   of_kind (k ∷ ks) (inr later) = inr (of_kind ks later)
 
 -- words that nothing refuses
@@ -174,11 +174,11 @@ words_answered (k ∷ ks) answered given old_out new_out old_err new_err none ho
 
 -- words that may be refused, where what is told is want of memory or the kind's
 pub words_refused : (kinds : Kinds) (answered : Type 0) (e : Error) (given : ℕ) (old_out new_out old_err new_err : Stream)
-    → HasKind kinds e → telling.Refuses (kind_of e) given old_out new_out old_err new_err
+    → HasKind kinds e → telling.RefusesWords (kind_of e) given old_out new_out old_err new_err
     → (Tells memory given old_out new_out old_err new_err → answered)
     → AnswersWords kinds answered given old_out new_out old_err new_err
 words_refused [] answered e given old_out new_out old_err new_err (inl wanted) told holds =
-    holds (subst (λ (k : ErrorKind). telling.Refuses k given old_out new_out old_err new_err) wanted told)
+    holds (subst (λ (k : ErrorKind). telling.RefusesWords k given old_out new_out old_err new_err) wanted told)
 words_refused [] answered e given old_out new_out old_err new_err (inr among) told holds = absurd among
 words_refused (k ∷ ks) answered e given old_out new_out old_err new_err h told holds =
     refused_by (k ∷ ks) e given old_out new_out old_err new_err h told

@@ -5,7 +5,7 @@ use Rattle.std.specs.List.{list_all}
 use Rattle.clap.specs.Simple.{argument_words, built, entered, is_simple, names_of, subcommand_of}
 use Rattle.clap.specs.Takes.{default_passes, entered_passes, is_valid, level_passes, settle_passes, walk_passes}
 use Rattle.clap.specs.Walk.{finished, nothing_held, stop_after, walk, walk_from}
-use Rattle.span_cli.specs.Words.{has_form, is_taken, misnames, span_app}
+use Rattle.span_cli.specs.Words.{has_form, is_request, misnames, span_app}
 
 -- what holds of two tests holds of each
 pub left : (x y : Bool) → (x && y) ≡ true → x ≡ true
@@ -37,6 +37,6 @@ form_names words h =
     let is_valid_here : valid ≡ true = right (list_all default_passes top.rules) valid last in
     left has _ is_valid_here
 
-pub taken_names : (words : List (List ℕ)) → is_taken words ≡ true → is_some (subcommand_of span_app words) ≡ true
-unfolding is_taken
+pub taken_names : (words : List (List ℕ)) → is_request words ≡ true → is_some (subcommand_of span_app words) ≡ true
+unfolding is_request
 taken_names words h = form_names words (left (has_form words) (not (misnames words)) h)

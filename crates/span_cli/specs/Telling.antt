@@ -51,23 +51,23 @@ pub record IsShown (given : ℕ) (new_out old_err new_err : Stream) : Type 0 whe
   pub err : Says old_err new_err (told new_out.failed (done [])).err
 
 -- what is told where the words are refused for this kind of reason
-abbrev pub Refuses : ErrorKind → ℕ → Stream → Stream → Stream → Stream → Type 0
-Refuses kind.OutOfMemory given old_out new_out old_err new_err = Tells memory given old_out new_out old_err new_err
-Refuses kind.DisplayHelp given old_out new_out old_err new_err = IsShown given new_out old_err new_err
-Refuses kind.DisplayVersion given old_out new_out old_err new_err = IsShown given new_out old_err new_err
-Refuses other given old_out new_out old_err new_err = IsMistake given old_out new_out
+abbrev pub RefusesWords : ErrorKind → ℕ → Stream → Stream → Stream → Stream → Type 0
+RefusesWords kind.OutOfMemory given old_out new_out old_err new_err = Tells memory given old_out new_out old_err new_err
+RefusesWords kind.DisplayHelp given old_out new_out old_err new_err = IsShown given new_out old_err new_err
+RefusesWords kind.DisplayVersion given old_out new_out old_err new_err = IsShown given new_out old_err new_err
+RefusesWords other given old_out new_out old_err new_err = IsMistake given old_out new_out
 
 -- what is told where the words may be refused for these kinds of reason, or for want of memory
-abbrev pub RefusesBy : Kinds → ℕ → Stream → Stream → Stream → Stream → Type 0
-RefusesBy [] given old_out new_out old_err new_err = Tells memory given old_out new_out old_err new_err
-RefusesBy (k ∷ ks) given old_out new_out old_err new_err =
-    Refuses k given old_out new_out old_err new_err ⊎ RefusesBy ks given old_out new_out old_err new_err
+abbrev pub RefusesWordsBy : Kinds → ℕ → Stream → Stream → Stream → Stream → Type 0
+RefusesWordsBy [] given old_out new_out old_err new_err = Tells memory given old_out new_out old_err new_err
+RefusesWordsBy (k ∷ ks) given old_out new_out old_err new_err =
+    RefusesWords k given old_out new_out old_err new_err ⊎ RefusesWordsBy ks given old_out new_out old_err new_err
 
 -- What is told of words that may be refused for these kinds of reason: where there is none their request is answered.
 abbrev pub AnswersWords : Kinds → Type 0 → ℕ → Stream → Stream → Stream → Stream → Type 0
 AnswersWords [] answered given old_out new_out old_err new_err = answered
 AnswersWords (k ∷ ks) answered given old_out new_out old_err new_err =
-    RefusesBy (k ∷ ks) given old_out new_out old_err new_err
+    RefusesWordsBy (k ∷ ks) given old_out new_out old_err new_err
 
 -- the line for words that are no text
 abbrev pub no_text_line : List ℕ

@@ -65,13 +65,13 @@ abbrev pub workers_in : List Row → Option ℕ
 workers_in rows = option_and_then number_in (first_of (codes "workers") rows)
 
 -- the account of a text, if one is given; and nothing where the text is no name
-abbrev pub account_of : Option Text → Option (Option Text)
-account_of None = Some None
-account_of (Some text) = option_map (λ name. Some name) (name_of text)
+abbrev pub account_option : Option Text → Option (Option Text)
+account_option None = Some None
+account_option (Some text) = option_map (λ name. Some name) (name_of text)
 
 -- the account that is asked for, if one is
 abbrev pub account_in : List Row → Option (Option Text)
-account_in rows = account_of (first_of (codes "account") rows)
+account_in rows = account_option (first_of (codes "account") rows)
 
 -- a command's name, the names of its files in their order, its options, and which command their values ask for
 pub record CommandWords : Type 0 where
@@ -84,8 +84,8 @@ pub record CommandWords : Type 0 where
 abbrev pub with_workers : (ℕ → Command) → List Row → Option Command
 with_workers command rows = option_map command (workers_in rows)
 
-abbrev pub with_account : (Option Text → Command) → List Row → Option Command
-with_account command rows = option_map command (account_in rows)
+abbrev pub with_account_option : (Option Text → Command) → List Row → Option Command
+with_account_option command rows = option_map command (account_in rows)
 
 -- the words of a command
 abbrev pub words_of : Text → List FileWord → List Rule → (List Row → Option Command) → CommandWords
@@ -97,7 +97,7 @@ commands =
     words_of (codes "check") (needed (codes "PARAMS" ∷ [])) [] (λ rows. Some Check)
     ∷ words_of (codes "plan") (needed (codes "PARAMS" ∷ [])) [] (λ rows. Some Plan)
     ∷ words_of (codes "margin") (needed (codes "PARAMS" ∷ codes "POSITIONS" ∷ [])) (workers_rule ∷ []) (with_workers Margin)
-    ∷ words_of (codes "explain") (needed (codes "PARAMS" ∷ codes "POSITIONS" ∷ [])) (account_rule ∷ []) (with_account Explain)
+    ∷ words_of (codes "explain") (needed (codes "PARAMS" ∷ codes "POSITIONS" ∷ [])) (account_rule ∷ []) (with_account_option Explain)
     ∷ words_of (codes "roll") (needed (codes "PARAMS" ∷ codes "NEXT" ∷ codes "POSITIONS" ∷ [])) (workers_rule ∷ [])
     (with_workers Roll)
     ∷ []
@@ -167,8 +167,8 @@ abbrev pub misnames : List Text → Bool
 misnames words = option_map_or (λ p. misnames_in p.0 p.1) (subcommand_of span_app words) false
 
 -- whether the words are a command line of the program
-unfoldable pub is_taken : List Text → Bool
-is_taken words = has_form words && not (misnames words)
+unfoldable pub is_request : List Text → Bool
+is_request words = has_form words && not (misnames words)
 
 -- the kinds of mistake that they may be refused by
 unfoldable pub kinds_of : List Text → Kinds

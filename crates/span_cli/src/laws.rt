@@ -2,7 +2,7 @@
 ghost use Rattle.clap.specs.Words.{subcommand_of};
 ghost use Rattle.span_cli.specs.Serving.{Answer, answer_of, done, file_line, refused};
 ghost use Rattle.span_cli.specs.Telling.{Tells};
-ghost use Rattle.span_cli.specs.Words.{is_taken, span_app};
+ghost use Rattle.span_cli.specs.Words.{is_request, span_app};
 ghost use Rattle.statement.specs.Streams.{Stream};
 ghost use Rattle.statement.specs.FaultLines.{fault_line, fault_status};
 ghost use Rattle.statement.specs.declared.faults.SpanFault.{SpanFault};
@@ -46,5 +46,5 @@ pub fn status_stands()
 
 /// Words that are taken name a command.
 pub fn taken_words_name_a_command()
-    ensures { (words : List (List ℕ)) → is_taken words ≡ true → is_some (subcommand_of span_app words) ≡ true }
+    ensures { (words : List (List ℕ)) → is_request words ≡ true → is_some (subcommand_of span_app words) ≡ true }
 {}

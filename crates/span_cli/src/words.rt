@@ -3,9 +3,9 @@ ghost use Rattle.clap.specs.Words.{FailsBy, app_of, first_of, found_of, kind_of,
 ghost use Rattle.clap.specs.Words.{subcommand_of, subcommand_rows_of, with_rule, with_subcommand};
 ghost use Rattle.clap.specs.declared.builder.command.Command.TheViews.{out-Command as fields_of};
 ghost use Rattle.span_cli.specs.Serving.{asked_by, memory};
-ghost use Rattle.span_cli.specs.Telling.{AnswersWords, IsMistake, IsShown, Refuses, Serves, Tells, no_text_line};
+ghost use Rattle.span_cli.specs.Telling.{AnswersWords, IsMistake, IsShown, RefusesWords, Serves, Tells, no_text_line};
 ghost use Rattle.span_cli.specs.Words.{account_in, account_rule, app_without_commands, asked_among, asked_in, commands, form_kinds};
-ghost use Rattle.span_cli.specs.Words.{has_form, is_taken, joined_words, kinds_of, misnames_in, number_in, span_app};
+ghost use Rattle.span_cli.specs.Words.{has_form, is_request, joined_words, kinds_of, misnames_in, number_in, span_app};
 ghost use Rattle.span_cli.specs.Words.{with_commands, with_rules, workers_in, workers_rule};
 ghost use Rattle.span_cli.specs.near.Rows.{file_rule_of, option_rule, row_app};
 ghost use Rattle.statement.specs.Streams.{Says};
@@ -393,7 +393,7 @@ fn parse<'a, S: AsStr>(alloc: Global, words: &'a [S]) -> Result<ArgMatches<'a>, 
 /// What the words ask for, of which the first is the program's name. An account and its option are one word.
 pub fn request<'a, S: AsStr>(alloc: Global, words: &'a [S]) -> Result<Option<Request<'a>>, Error>
     ensures ok { IfOk result (λ found. option_map asked_by found ≡ asked_in (map S.text words.entry.now)) }
-    ensures err { IfErr result (λ e. is_taken (map S.text words.entry.now) ≡ true → kind_of e ≡ ErrorKind.OutOfMemory) }
+    ensures err { IfErr result (λ e. is_request (map S.text words.entry.now) ≡ true → kind_of e ≡ ErrorKind.OutOfMemory) }
     ensures kinds { FailsBy (kinds_of (map S.text words.entry.now)) result }
 {
     let matches = parse(alloc, words)?;
@@ -458,7 +458,7 @@ fn refuse<W: Write, E: Write>(
     err: &mut MarkedWriter<E>,
 ) -> u8
     requires { out.old.failed ≡ false }
-    ensures { Refuses (kind_of error) result out.old out.new err.old err.new }
+    ensures { RefusesWords (kind_of error) result out.old out.new err.old err.new }
 {
     match error.kind() {
         ErrorKind::OutOfMemory => give_up(err),
@@ -483,7 +483,7 @@ fn answer_words<
     err: &mut MarkedWriter<E>,
 ) -> u8
     requires { out.old.failed ≡ false }
-    ensures taken { is_taken (map T.text words.now) ≡ true → IfSome (asked_in (map T.text words.now)) (λ asked.
+    ensures taken { is_request (map T.text words.now) ≡ true → IfSome (asked_in (map T.text words.now)) (λ asked.
         Serves (S.file sources.old) asked result out.old out.new err.old err.new) }
     ensures words { AnswersWords (kinds_of (map T.text words.now)) (IfSome (asked_in (map T.text words.now)) (λ asked.
         Serves (S.file sources.old) asked result out.old out.new err.old err.new))
@@ -516,7 +516,7 @@ pub fn run_words<
     err: &mut MarkedWriter<E>,
 ) -> u8
     requires { out.old.failed ≡ false }
-    ensures taken { is_taken (joined_words (map T.text words.now)) ≡ true
+    ensures taken { is_request (joined_words (map T.text words.now)) ≡ true
         → IfSome (asked_in (joined_words (map T.text words.now))) (λ asked.
         Serves (S.file sources.old) asked result out.old out.new err.old err.new) }
     ensures words { AnswersWords (kinds_of (joined_words (map T.text words.now)))

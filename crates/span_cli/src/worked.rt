@@ -3,7 +3,7 @@
 
 ghost use Rattle.clap.specs.declared.error.kind.ErrorKind.TheVariants as kind;
 ghost use Rattle.span_cli.specs.Serving.{Check, Explain, IsAnswer, Margin, Plan, Roll, done, refused};
-ghost use Rattle.span_cli.specs.Words.{asked_in, is_taken, joined_words, kinds_of};
+ghost use Rattle.span_cli.specs.Words.{asked_in, is_request, joined_words, kinds_of};
 ghost use Rattle.span_cli.specs.declared.sources.ReadFault.TheVariants as read;
 ghost use Rattle.span_cli.specs.declared.disk.TheConstants.{MAX_TURNS};
 ghost use Rattle.span_cli.specs.declared.sources.TheConstants.{FILE_CAP};
@@ -11,26 +11,26 @@ ghost use Rattle.std.specs.Prelude.{◌≡◌, ◌∷◌, Err, None, Ok, Some, [
 
 // `span check p` is taken, and asks for just that.
 fn check_of_a_file()
-    ensures taken { is_taken (codes "span" ∷ codes "check" ∷ codes "p" ∷ []) ≡ true }
+    ensures taken { is_request (codes "span" ∷ codes "check" ∷ codes "p" ∷ []) ≡ true }
     ensures asked { asked_in (codes "span" ∷ codes "check" ∷ codes "p" ∷ []) ≡ Some (Check, codes "p" ∷ []) }
 {}
 
 // `span plan p` is taken, and asks for just that.
 fn plan_of_a_file()
-    ensures taken { is_taken (codes "span" ∷ codes "plan" ∷ codes "p" ∷ []) ≡ true }
+    ensures taken { is_request (codes "span" ∷ codes "plan" ∷ codes "p" ∷ []) ≡ true }
     ensures asked { asked_in (codes "span" ∷ codes "plan" ∷ codes "p" ∷ []) ≡ Some (Plan, codes "p" ∷ []) }
 {}
 
 // `span margin p q` is taken, and asks for just that, with the files in their order and one worker.
 fn margin_of_two_files()
-    ensures taken { is_taken (codes "span" ∷ codes "margin" ∷ codes "p" ∷ codes "q" ∷ []) ≡ true }
+    ensures taken { is_request (codes "span" ∷ codes "margin" ∷ codes "p" ∷ codes "q" ∷ []) ≡ true }
     ensures asked { asked_in (codes "span" ∷ codes "margin" ∷ codes "p" ∷ codes "q" ∷ [])
         ≡ Some (Margin 1, codes "p" ∷ codes "q" ∷ []) }
 {}
 
 // `span explain p q` is taken, and asks for just that, with the files in their order and no account.
 fn explain_of_two_files()
-    ensures taken { is_taken (codes "span" ∷ codes "explain" ∷ codes "p" ∷ codes "q" ∷ []) ≡ true }
+    ensures taken { is_request (codes "span" ∷ codes "explain" ∷ codes "p" ∷ codes "q" ∷ []) ≡ true }
     ensures asked { asked_in (codes "span" ∷ codes "explain" ∷ codes "p" ∷ codes "q" ∷ [])
         ≡ Some (Explain None, codes "p" ∷ codes "q" ∷ []) }
     ensures no_positions { kinds_of (codes "span" ∷ codes "explain" ∷ codes "p" ∷ []) ≡ kind.MissingRequiredArgument ∷ [] }
@@ -40,7 +40,7 @@ fn explain_of_two_files()
 
 // An account in the option's word, before the files and behind them.
 fn explain_of_an_account()
-    ensures taken { is_taken (codes "span" ∷ codes "explain" ∷ codes "--account=X-1" ∷ codes "p" ∷ codes "q" ∷ []) ≡ true }
+    ensures taken { is_request (codes "span" ∷ codes "explain" ∷ codes "--account=X-1" ∷ codes "p" ∷ codes "q" ∷ []) ≡ true }
     ensures before { asked_in (codes "span" ∷ codes "explain" ∷ codes "--account=X-1" ∷ codes "p" ∷ codes "q" ∷ [])
         ≡ Some (Explain (Some (codes "X-1")), codes "p" ∷ codes "q" ∷ []) }
     ensures minus { asked_in (codes "span" ∷ codes "explain" ∷ codes "p" ∷ codes "q" ∷ codes "--account=-X" ∷ [])
@@ -83,7 +83,7 @@ fn joined_accounts()
 
 // `span roll p n q` is taken, and asks for just that, with the files in their order and one worker; and with three.
 fn roll_of_three_files()
-    ensures taken { is_taken (codes "span" ∷ codes "roll" ∷ codes "p" ∷ codes "n" ∷ codes "q" ∷ []) ≡ true }
+    ensures taken { is_request (codes "span" ∷ codes "roll" ∷ codes "p" ∷ codes "n" ∷ codes "q" ∷ []) ≡ true }
     ensures asked { asked_in (codes "span" ∷ codes "roll" ∷ codes "p" ∷ codes "n" ∷ codes "q" ∷ [])
         ≡ Some (Roll 1, codes "p" ∷ codes "n" ∷ codes "q" ∷ []) }
     ensures workers { asked_in (codes "span" ∷ codes "roll" ∷ codes "p" ∷ codes "n" ∷ codes "--workers=3" ∷ codes "q" ∷ [])
@@ -93,7 +93,7 @@ fn roll_of_three_files()
 
 // A number of workers behind the files, as a word of its own.
 fn workers_behind_the_files()
-    ensures taken { is_taken (codes "span" ∷ codes "margin" ∷ codes "p" ∷ codes "q" ∷ codes "--workers" ∷ codes "16" ∷ [])
+    ensures taken { is_request (codes "span" ∷ codes "margin" ∷ codes "p" ∷ codes "q" ∷ codes "--workers" ∷ codes "16" ∷ [])
         ≡ true }
     ensures asked { asked_in (codes "span" ∷ codes "margin" ∷ codes "p" ∷ codes "q" ∷ codes "--workers" ∷ codes "16" ∷ [])
         ≡ Some (Margin 16, codes "p" ∷ codes "q" ∷ []) }
@@ -101,14 +101,14 @@ fn workers_behind_the_files()
 
 // A number of workers before the files, in the option's word.
 fn workers_before_the_files()
-    ensures taken { is_taken (codes "span" ∷ codes "margin" ∷ codes "--workers=2" ∷ codes "p" ∷ codes "q" ∷ []) ≡ true }
+    ensures taken { is_request (codes "span" ∷ codes "margin" ∷ codes "--workers=2" ∷ codes "p" ∷ codes "q" ∷ []) ≡ true }
     ensures asked { asked_in (codes "span" ∷ codes "margin" ∷ codes "--workers=2" ∷ codes "p" ∷ codes "q" ∷ [])
         ≡ Some (Margin 2, codes "p" ∷ codes "q" ∷ []) }
 {}
 
 // A number of workers with a plus and zeros.
 fn workers_with_a_plus()
-    ensures taken { is_taken (codes "span" ∷ codes "margin" ∷ codes "p" ∷ codes "q" ∷ codes "--workers=+003" ∷ []) ≡ true }
+    ensures taken { is_request (codes "span" ∷ codes "margin" ∷ codes "p" ∷ codes "q" ∷ codes "--workers=+003" ∷ []) ≡ true }
     ensures asked { asked_in (codes "span" ∷ codes "margin" ∷ codes "p" ∷ codes "q" ∷ codes "--workers=+003" ∷ [])
         ≡ Some (Margin 3, codes "p" ∷ codes "q" ∷ []) }
 {}

@@ -21,7 +21,7 @@ use Rattle.span_tables.specs.declared.limits.TheConstants.{MAX_TIER_NUMBER}
 use Rattle.span_tables.specs.declared.records.IntraLeg.{IntraLeg}
 use Rattle.span_tables.specs.declared.records.InterLeg.{InterLeg}
 use Rattle.span_tables.proofs.Ranges.{is_contract}
-use Rattle.span_csv.specs.near.Grammar.{Fits, HasLegs, leg_at}
+use Rattle.span_csv.specs.near.Grammar.{FitsKind, HasLegs, leg_at}
 use Rattle.span_csv.specs.Records.{Fields, all_have, has_word_form, is_in_range, exactly, with_legs, forms_of}
 use Rattle.span_csv.specs.Records.{set_forms, commodity_forms, contract_front, an_array_value, an_option_value}
 use Rattle.span_csv.specs.Records.{tier_forms, intra_front, intra_leg_forms, spot_forms, inter_front, inter_leg_forms}
@@ -80,7 +80,7 @@ exact forms found n e =
 
 -- a record of a kind is in its ranges and fits
 abbrev Keeps : Kind → Fields → Type 0
-Keeps kind r = (in_range (record_of_kind kind r) ≡ true) × Fits kind r
+Keeps kind r = (in_range (record_of_kind kind r) ≡ true) × FitsKind kind r
 
 set_kept : (first : List ℕ) (fields : Fields) → HaveForms set_forms fields → Keeps kind.Set (first ∷ fields)
 set_kept first fields h =
@@ -326,7 +326,7 @@ none_empty _ profile forms e = cc
 -- what the code takes from fields that have the forms of a kind
 pub fields_fit : (kind : Kind) (profile : ℕ) (r : Fields) (forms : List FieldForm)
     → forms_of kind profile (product_at r 3) (length r - 1) ≡ Some forms
-    → all_have has_word_form forms (drop 1 r) ≡ true → all_have is_in_range forms (drop 1 r) ≡ true → Fits kind r
+    → all_have has_word_form forms (drop 1 r) ≡ true → all_have is_in_range forms (drop 1 r) ≡ true → FitsKind kind r
 fields_fit kind profile [] forms e words ranges = absurd (none_empty kind profile forms e)
 fields_fit kind profile (first ∷ fields) forms e words ranges =
     let count : length (first ∷ fields) - 1 ≡ length fields = omega arith in

@@ -7,7 +7,7 @@ use Rattle.std.proofs.lemmas.List.Sums.{sum_by_push, count_by-le-length}
 use Rattle.std.proofs.lemmas.Bool.{ne_eqb}
 use Rattle.std.proofs.lemmas.Bool.Decides.{nat_tests}
 use Rattle.span_tables.proofs.NameLemmas.{same_name}
-use Rattle.span_csv.specs.near.Checks.{Adds, Tallies, count_for, count_in, count_word, count_words, limit_of}
+use Rattle.span_csv.specs.near.Checks.{AddsRecord, Tallies, count_for, count_in, count_word, count_words, limit_of}
 use Rattle.span_csv.specs.ParamFaults.{exceeds_limit, is_set, profile_of}
 use Rattle.span_csv.specs.Records.{Fields}
 use Rattle.span_csv.specs.Records.{count_at, kind_of, text_at}
@@ -83,7 +83,7 @@ grown t u rs r first is set tallies g = record {
 same : (a b : ℕ) → a ≡ b → a ≡ b + 0
 same a b e = omega arith
 
-grows : (t u : Tally) (kind : Kind) (r : Fields) → Adds kind r t u → Grows t u (word_of kind) r
+grows : (t u : Tally) (kind : Kind) (r : Fields) → AddsRecord kind r t u → Grows t u (word_of kind) r
 grows t u kind.Set r adds = search rules
 grows t u kind.Commodity r adds = search rules
 grows t u kind.Contract r adds = search rules
@@ -94,7 +94,7 @@ grows t u kind.Inter r adds = search rules
 
 -- a record that is added is counted
 pub tally_more : (t u : Tally) (kind : Kind) (rs : List Fields) (r : Fields) (n : ℕ) → kind_of r ≡ Some kind → length rs ≡ n
-    → is_set r ≡ (n == 0) → Tallies t rs → Adds kind r t u → Tallies u (rs ++ r ∷ [])
+    → is_set r ≡ (n == 0) → Tallies t rs → AddsRecord kind r t u → Tallies u (rs ++ r ∷ [])
 tally_more t u kind rs r n is len set tallies adds =
     grown t u rs r (word_of kind) (kind_word r kind is) (set ∙ ap (λ k. k == 0) (sym len)) tallies (grows t u kind r adds)
 

@@ -2,7 +2,7 @@
 ghost use Rattle.std.specs.Prelude.{◌≡◌, ◌++◌, MatchResult, OnOk, Some};
 ghost use Rattle.csv.specs.Records.{fields_of};
 ghost use Rattle.span_csv.specs.near.Checks.{IsFaultOf, IsFree, field_faults, kind_faults};
-ghost use Rattle.span_csv.specs.near.Grammar.{Fits};
+ghost use Rattle.span_csv.specs.near.Grammar.{FitsKind};
 ghost use Rattle.span_csv.specs.ParamFaults.{is_set};
 ghost use Rattle.span_csv.specs.Records.{kind_of};
 
@@ -39,7 +39,7 @@ fn check_kind(first: bool, at: usize, row: &ByteRecord) -> Result<Kind, ParamFau
 fn check_fields(at: usize, profile: u8, kind: Kind, row: &ByteRecord) -> Result<(), ParamFault>
     requires { kind_of (fields_of row.now) ≡ Some kind }
     ensures { MatchResult result
-        (λ _. Fits kind (fields_of row.now) × IsFree (field_faults profile (fields_of row.now)))
+        (λ _. FitsKind kind (fields_of row.now) × IsFree (field_faults profile (fields_of row.now)))
         (λ e. IsFaultOf (field_faults profile (fields_of row.now)) at e) }
 {
     let Some(layout) = kind.layout(profile, row) else {
@@ -68,7 +68,7 @@ pub(crate) fn check_form(
     row: &ByteRecord,
 ) -> Result<Kind, ParamFault>
     ensures kind { MatchResult result
-        (λ kind. (kind_of (fields_of row.now) ≡ Some kind) × Fits kind (fields_of row.now))
+        (λ kind. (kind_of (fields_of row.now) ≡ Some kind) × FitsKind kind (fields_of row.now))
         (λ e. IsFaultOf (kind_faults first (fields_of row.now) ++ field_faults profile (fields_of row.now)) at e) }
     ensures free { OnOk result (IsFree (kind_faults first (fields_of row.now) ++ field_faults profile (fields_of row.now))) }
 {

@@ -1,7 +1,7 @@
 //! What a record says, whose fields have their forms.
 ghost use Rattle.std.specs.Prelude.{◌≡◌, ◌≤◌, ◌+◌, ◌<◌, ◌^◌, drop, length, map, pos, take, true, unwrap_or};
 ghost use Rattle.csv.specs.Records.{fields_of};
-ghost use Rattle.span_csv.specs.near.Grammar.{Fits, leg_at};
+ghost use Rattle.span_csv.specs.near.Grammar.{FitsKind, leg_at};
 ghost use Rattle.span_csv.specs.Records.{array_place, commodity_record, contract_record, count_at, extras_in, inter_leg};
 ghost use Rattle.span_csv.specs.Records.{inter_record, intra_leg, intra_record, legs_of, ratio_at, record_of_kind, set_record};
 ghost use Rattle.span_csv.specs.Records.{spot_record, text_at, tier_record};
@@ -30,7 +30,7 @@ const FIRST_VALUE: usize = 7;
 const EXTRAS: usize = FIRST_VALUE + SCENARIOS;
 
 fn set_record(row: &ByteRecord) -> SetRecord
-    requires { Fits kind.Set (fields_of row.now) }
+    requires { FitsKind kind.Set (fields_of row.now) }
     ensures { result ≡ set_record (fields_of row.now) }
 {
     SetRecord {
@@ -41,7 +41,7 @@ fn set_record(row: &ByteRecord) -> SetRecord
 }
 
 fn commodity_record(row: &ByteRecord) -> Commodity
-    requires { Fits kind.Commodity (fields_of row.now) }
+    requires { FitsKind kind.Commodity (fields_of row.now) }
     ensures { result ≡ commodity_record (fields_of row.now) }
 {
     Commodity {
@@ -77,7 +77,7 @@ fn extras(row: &ByteRecord) -> ContractExtras
 }
 
 fn contract_record(row: &ByteRecord) -> Contract
-    requires { Fits kind.Contract (fields_of row.now) }
+    requires { FitsKind kind.Contract (fields_of row.now) }
     ensures { result ≡ contract_record (fields_of row.now) }
 {
     Contract {
@@ -93,7 +93,7 @@ fn contract_record(row: &ByteRecord) -> Contract
 }
 
 fn tier_record(row: &ByteRecord) -> Tier
-    requires { Fits kind.Tier (fields_of row.now) }
+    requires { FitsKind kind.Tier (fields_of row.now) }
     ensures { result ≡ tier_record (fields_of row.now) }
 {
     Tier {
@@ -119,7 +119,7 @@ fn intra_leg(row: &ByteRecord, at: usize) -> IntraLeg
 }
 
 fn intra_legs(row: &ByteRecord) -> ArrayVec<IntraLeg, 4>
-    requires { Fits kind.Intra (fields_of row.now) }
+    requires { FitsKind kind.Intra (fields_of row.now) }
     ensures { result.items ≡ map intra_leg (legs_of (drop 4 (fields_of row.now))) }
 {
     let mut legs = ArrayVec::new();
@@ -130,7 +130,7 @@ fn intra_legs(row: &ByteRecord) -> ArrayVec<IntraLeg, 4>
 }
 
 fn intra_record(row: &ByteRecord) -> IntraRecord
-    requires { Fits kind.Intra (fields_of row.now) }
+    requires { FitsKind kind.Intra (fields_of row.now) }
     ensures { result ≡ intra_record (fields_of row.now) }
 {
     IntraRecord {
@@ -142,7 +142,7 @@ fn intra_record(row: &ByteRecord) -> IntraRecord
 }
 
 fn spot_record(row: &ByteRecord) -> Spot
-    requires { Fits kind.Spot (fields_of row.now) }
+    requires { FitsKind kind.Spot (fields_of row.now) }
     ensures { result ≡ spot_record (fields_of row.now) }
 {
     Spot {
@@ -168,7 +168,7 @@ fn inter_leg(row: &ByteRecord, at: usize) -> InterLeg
 }
 
 fn inter_legs(row: &ByteRecord) -> ArrayVec<InterLeg, 4>
-    requires { Fits kind.Inter (fields_of row.now) }
+    requires { FitsKind kind.Inter (fields_of row.now) }
     ensures { result.items ≡ map inter_leg (legs_of (drop 3 (fields_of row.now))) }
 {
     let mut legs = ArrayVec::new();
@@ -179,7 +179,7 @@ fn inter_legs(row: &ByteRecord) -> ArrayVec<InterLeg, 4>
 }
 
 fn inter_record(row: &ByteRecord) -> InterRecord
-    requires { Fits kind.Inter (fields_of row.now) }
+    requires { FitsKind kind.Inter (fields_of row.now) }
     ensures { result ≡ inter_record (fields_of row.now) }
 {
     InterRecord {
@@ -191,7 +191,7 @@ fn inter_record(row: &ByteRecord) -> InterRecord
 
 /// What a record of a kind says.
 pub(crate) fn record_of_kind(kind: Kind, row: &ByteRecord) -> Record
-    requires { Fits kind (fields_of row.now) }
+    requires { FitsKind kind (fields_of row.now) }
     ensures { result ≡ record_of_kind kind (fields_of row.now) }
 {
     match kind {

@@ -2,7 +2,7 @@
 ghost use Rattle.std.specs.Prelude.{◌≡◌, ◌+◌, ◌<◌, ◌^◌, List, OnOk, [], ℕ};
 ghost use Rattle.csv.specs.Records.{fields_of};
 ghost use Rattle.span_csv.specs.near.Checks.{CountsOne, count_in, limit_of};
-ghost use Rattle.span_csv.specs.near.Grammar.{Fits};
+ghost use Rattle.span_csv.specs.near.Grammar.{FitsKind};
 ghost use Rattle.span_csv.specs.Records.{text_at};
 
 use crate::fields::{name_at, profile_at};
@@ -69,7 +69,7 @@ pub(crate) struct Tally {
 }
 
 impl Tally {
-    ghost use Rattle.span_csv.specs.near.Checks.{Adds, Tallies, count_for};
+    ghost use Rattle.span_csv.specs.near.Checks.{AddsRecord, Tallies, count_for};
 
     /// No record.
     pub(crate) fn new(alloc: Global) -> Tally
@@ -95,7 +95,7 @@ impl Tally {
 
     /// How many records the limit of a record's kind counts.
     pub(crate) fn count(&self, kind: Kind, row: &ByteRecord) -> usize
-        requires { Fits kind (fields_of row.now) }
+        requires { FitsKind kind (fields_of row.now) }
         ensures { result ≡ count_for self.now kind (text_at (fields_of row.now) 1) }
     {
         match kind {
@@ -111,9 +111,9 @@ impl Tally {
 
     /// Counts a record, or keeps its profile.
     pub(crate) fn add(&mut self, kind: Kind, row: &ByteRecord) -> Result<(), AllocError>
-        requires forms { Fits kind (fields_of row.now) }
+        requires forms { FitsKind kind (fields_of row.now) }
         requires room { count_for self.old kind (text_at (fields_of row.now) 1) + 1 < 2 ^ 64 }
-        ensures { OnOk result (Adds kind (fields_of row.now) self.old self.new) }
+        ensures { OnOk result (AddsRecord kind (fields_of row.now) self.old self.new) }
     {
         match kind {
             Kind::Set => self.profile = profile_at(row, 2),

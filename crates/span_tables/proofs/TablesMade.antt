@@ -32,13 +32,13 @@ listed key g (c ∷ cs) (suc k) lt = listed key g cs k (omega arith)
 
 module _ (t : AcceptedTables) (accepted : IsAccepted t) where
   intras_at : (intras : List (List Intra)) → intras
-      ≡ map (λ c. map (intra_spread t.tiers) (filter (λ s. bytes_eq s.commodity c.id) t.intras)) t.commodities
+      ≡ map (λ c. map (intra_spread t.tiers) (filter (λ s. bytes_eq s.commodity c.id) t.intra_records)) t.commodities
       → (c : ℕ) → c < length t.commodities → get_or intras c [] ≡ intras_of t (commodity_id t c)
   unfolding intras_of
   intras_at intras is c lt =
       ap (λ (zs : List (List Intra)). get_or zs c []) is
       ∙ listed (λ (d : Commodity). d.id) (λ id. map (intra_spread t.tiers)
-      (filter (λ (s : IntraRecord). bytes_eq s.commodity id) t.intras)) t.commodities c lt
+      (filter (λ (s : IntraRecord). bytes_eq s.commodity id) t.intra_records)) t.commodities c lt
 
   spots_at : (spots : List (List Spot)) → spots ≡ map (λ c. filter (λ s. bytes_eq s.commodity c.id) t.spots) t.commodities
       → (c : ℕ) → c < length t.commodities → get_or spots c [] ≡ spots_of t (commodity_id t c)
@@ -47,15 +47,15 @@ module _ (t : AcceptedTables) (accepted : IsAccepted t) where
       ap (λ (zs : List (List Spot)). get_or zs c []) is
       ∙ listed (λ (d : Commodity). d.id) (λ id. filter (λ (s : Spot). bytes_eq s.commodity id) t.spots) t.commodities c lt
 
-  inters_all : (inters : List Inter) → inters ≡ map (inter_spread t.commodities) t.inters → inters ≡ inters_of t
+  inters_all : (inters : List Inter) → inters ≡ map (inter_spread t.commodities) t.inter_records → inters ≡ inters_of t
   unfolding inters_of
   inters_all inters is = is
 
   pub are_tables : (numbers : List ℕ) (intras : List (List Intra)) (spots : List (List Spot)) (inters : List Inter)
       → numbers ≡ map (λ x. commodity_number t.commodities x.commodity) t.contracts
-      → intras ≡ map (λ c. map (intra_spread t.tiers) (filter (λ s. bytes_eq s.commodity c.id) t.intras)) t.commodities
+      → intras ≡ map (λ c. map (intra_spread t.tiers) (filter (λ s. bytes_eq s.commodity c.id) t.intra_records)) t.commodities
       → spots ≡ map (λ c. filter (λ s. bytes_eq s.commodity c.id) t.spots) t.commodities
-      → inters ≡ map (inter_spread t.commodities) t.inters
+      → inters ≡ map (inter_spread t.commodities) t.inter_records
       → IsTables t numbers intras spots inters
   are_tables numbers intras spots inters n i s x = record {
     accepted = accepted;
@@ -78,9 +78,9 @@ pub same_tables : (rs : List Record) (cs : List Commodity) (xs : List Contract) 
       commodities = cs;
       contracts = xs;
       tiers = ts;
-      intras = js;
+      intra_records = js;
       spots = ss;
-      inters = ms;
+      inter_records = ms;
     } ≡ tables_of rs
 unfolding tables_of
 same_tables rs cs xs ts is js ss ns ms are i n =
@@ -92,9 +92,9 @@ same_tables rs cs xs ts is js ss ns ms are i n =
       commodities = are.commodities_are k;
       contracts = are.contracts_are k;
       tiers = are.tiers_are k;
-      intras = intras_are k;
+      intra_records = intras_are k;
       spots = are.spots_are k;
-      inters = inters_are k;
+      inter_records = inters_are k;
     }
 
 pub named_tables : (rs : List Record) (id : List ℕ) (profile : ℕ) (kinds : Kinds) → id ≡ set_id_in rs → profile ≡ profile_in rs

@@ -149,7 +149,7 @@ unfolding tables_of
 accepted_spots t a = rw a.tables (spots_known (commodities_in a.records) a.records (kept a.records a.kept).named)
 
 pub accepted_intras : (t : AcceptedTables) → IsAccepted t
-    → All (λ x. commodity_number t.commodities x.commodity < length t.commodities) t.intras
+    → All (λ x. commodity_number t.commodities x.commodity < length t.commodities) t.intra_records
 unfolding tables_of
 accepted_intras t a =
     rw a.tables (All-permutation (λ (x : IntraRecord). IsKnown (commodities_in a.records) x.commodity) (intras_in a.records) _

@@ -29,9 +29,9 @@ pub record AcceptedTables : Type 0 where
   pub commodities : List Commodity
   pub contracts : List Contract
   pub tiers : List Tier
-  pub intras : List IntraRecord
+  pub intra_records : List IntraRecord
   pub spots : List Spot
-  pub inters : List InterRecord
+  pub inter_records : List InterRecord
 
 -- x in its place among those of rising key
 abbrev pub placed_by : {A : Type 0} → (A → ℕ) → A → List A → List A
@@ -63,9 +63,9 @@ tables_of rs = record {
   commodities = commodities_in rs;
   contracts = contracts_in rs;
   tiers = tiers_in rs;
-  intras = rising_by (λ s. s.priority) (intras_in rs);
+  intra_records = rising_by (λ s. s.priority) (intras_in rs);
   spots = spots_in rs;
-  inters = rising_by (λ s. s.priority) (inters_in rs);
+  inter_records = rising_by (λ s. s.priority) (inters_in rs);
 }
 
 -- options have a value under the set's profile
@@ -90,7 +90,7 @@ intra_spread tiers s =
 
 -- the intracommodity spreads of a commodity, by rising priority
 unfoldable pub intras_of : AcceptedTables → List ℕ → List Intra
-intras_of tables commodity = map (intra_spread tables.tiers) (filter (λ s. bytes_eq s.commodity commodity) tables.intras)
+intras_of tables commodity = map (intra_spread tables.tiers) (filter (λ s. bytes_eq s.commodity commodity) tables.intra_records)
 
 -- the spot months of a commodity, in file order
 unfoldable pub spots_of : AcceptedTables → List ℕ → List Spot
@@ -111,7 +111,7 @@ inter_spread commodities s =
 
 -- the intercommodity spreads, by rising priority
 unfoldable pub inters_of : AcceptedTables → List Inter
-inters_of tables = map (inter_spread tables.commodities) tables.inters
+inters_of tables = map (inter_spread tables.commodities) tables.inter_records
 
 -- the most that an option value may be: that of a future is 0
 abbrev pub most_option_value : ProductKind → ℕ

@@ -2,7 +2,7 @@
 ghost use Rattle.std.specs.Prelude.{false, true, ◌≡◌, ◌≢◌, ℕ, ◌%◌, ◌≤◌};
 ghost use Rattle.std.specs.Prelude.{List, ◌∷◌, filter, bytes_eq, IsPermutation, ℤ, pos};
 ghost use Rattle.span_money.specs.Numbers.{int_sum_by};
-ghost use Rattle.span_tables.specs.Laws.{Fits, HaveRatios, IsRisingBy};
+ghost use Rattle.span_tables.specs.Laws.{FitsRooms, HaveRatios, IsRisingBy};
 ghost use Rattle.span_tables.specs.Names.{distinct, has_repeat, is_among};
 ghost use Rattle.span_tables.specs.Net.{held_of, holdings_of, net_of};
 ghost use Rattle.span_tables.specs.Sides.{Room, spreads_formed};
@@ -25,8 +25,8 @@ pub fn held_contracts_are_enough()
 
 /// Spreads formed are the greatest number that needs no more than the side of each leg.
 pub fn spreads_formed_are_greatest()
-    ensures fit { (r : Room) (rs : List Room) → Fits (spreads_formed (r ∷ rs)) (r ∷ rs) }
-    ensures greatest { (r : Room) (rs : List Room) → HaveRatios (r ∷ rs) → (m : ℕ) → Fits m (r ∷ rs)
+    ensures fit { (r : Room) (rs : List Room) → FitsRooms (spreads_formed (r ∷ rs)) (r ∷ rs) }
+    ensures greatest { (r : Room) (rs : List Room) → HaveRatios (r ∷ rs) → (m : ℕ) → FitsRooms m (r ∷ rs)
         → m ≤ spreads_formed (r ∷ rs) }
 {}
 

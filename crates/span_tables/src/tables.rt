@@ -65,9 +65,9 @@ impl Model for Tables {
       commodities = t.commodities.items;
       contracts = (arc_value t.contracts).items;
       tiers = t.tiers.items;
-      intras = t.intra_records.items;
+      intra_records = t.intra_records.items;
       spots = t.spots.items;
-      inters = t.inter_records.items;
+      inter_records = t.inter_records.items;
     } };
 
     ghost invariant = { λ t. IsTables
@@ -77,9 +77,9 @@ impl Model for Tables {
           commodities = t.commodities.items;
           contracts = (arc_value t.contracts).items;
           tiers = t.tiers.items;
-          intras = t.intra_records.items;
+          intra_records = t.intra_records.items;
           spots = t.spots.items;
-          inters = t.inter_records.items;
+          inter_records = t.inter_records.items;
         })
         t.commodity_numbers.items (map (λ v. v.items) t.intras.items) (map (λ v. v.items) t.spot_months.items)
         t.inters.items };
@@ -215,7 +215,7 @@ impl Tables {
 
     /// The records of the intracommodity spreads of all commodities, by rising priority.
     pub fn intra_records(&self) -> &[IntraRecord]
-        ensures { result.now ≡ self.now.intras }
+        ensures { result.now ≡ self.now.intra_records }
     {
         &self.intra_records
     }
@@ -229,7 +229,7 @@ impl Tables {
 
     /// The records of the intercommodity spreads, by rising priority.
     pub fn inter_records(&self) -> &[InterRecord]
-        ensures { result.now ≡ self.now.inters }
+        ensures { result.now ≡ self.now.inter_records }
     {
         &self.inter_records
     }
@@ -269,9 +269,9 @@ impl Tables {
           commodities = length self.now.commodities;
           contracts = length self.now.contracts;
           tiers = length self.now.tiers;
-          intra = length self.now.intras;
+          intra = length self.now.intra_records;
           spots = length self.now.spots;
-          inter = length self.now.inters;
+          inter = length self.now.inter_records;
         } }
     {
         Counts {

@@ -8,7 +8,7 @@ use Rattle.span_tables.specs.Sides.{market_side, part_on, less_used, spreads_for
 use Rattle.span_tables.specs.declared.sides.Direction.{Direction}
 use Rattle.span_tables.specs.declared.sides.MarketSide.{MarketSide}
 use Rattle.span_tables.specs.declared.sides.MarketSide.TheVariants.{Long, Short}
-use Rattle.span_tables.specs.Laws.{Fits}
+use Rattle.span_tables.specs.Laws.{FitsRooms}
 use Rattle.span_tables.proofs.SpreadLaws.{formed_fit}
 use Rattle.span_tables.specs.declared.records.Intra.{Intra}
 use Rattle.span_tables.specs.declared.records.MonthLeg.{MonthLeg}
@@ -116,7 +116,7 @@ module _ (d : Direction) (n : ℕ) where
       let more : n * 1 ≤ n * leg.ratio = mul-le-mul (omega arith) one in
       omega (arith, a, b, more)
 
-  fit_all : (legs : List MonthLeg) (rests : List MonthUnits) → Fits n (tier_rooms d legs rests) → total_size rests ≤ MAX_UNITS
+  fit_all : (legs : List MonthLeg) (rests : List MonthUnits) → FitsRooms n (tier_rooms d legs rests) → total_size rests ≤ MAX_UNITS
       → (k : ℕ) (x : MonthLeg) → k < length legs → n * (get_or legs k x).ratio ≤ MAX_UNITS
   fit_all [] rests fits small k x lt = absurd (omega (arith, lt))
   fit_all (leg ∷ legs) rests fits small zero x lt =

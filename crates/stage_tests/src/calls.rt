@@ -155,7 +155,7 @@ fn spreads_of_commodities(rt: &impl Abort, alloc: Global) -> Result<(), Fail> {
     let state = state.copied(alloc)?;
     let state = inter_spread(alloc, &state, inter)?;
     assert_eq!(rt; state.len(), 2);
-    let rests = (state.lines()[0].rest.get(), state.lines()[1].rest.get());
+    let rests = (state.states()[0].rest.get(), state.states()[1].rest.get());
     assert_eq!(rt; rests, (0, -100_000_000));
     assert_eq!(rt;
         (credit(&state, 0).get(), credit(&state, 1).get()),

@@ -13,9 +13,9 @@ use Rattle.span_tables.specs.Net.{AccountHoldings, accounts_of, holdings_of, por
 use Rattle.span_tables.specs.declared.records.Contract.{Contract}
 use Rattle.span_tables.specs.declared.records.PositionRecord.{PositionRecord}
 use Rattle.plan_compiler.specs.Compiled.{SetView}
-use Rattle.result_book.specs.Books.{HasNoAccountTwice, account_of, row_for}
+use Rattle.result_book.specs.Books.{HasNoAccountTwice, account_of_row, row_for}
 use Rattle.result_book.specs.Rows.{RowView}
-use Rattle.statement.specs.near.Batches.{AreOnce, rows_under}
+use Rattle.statement.specs.near.Batches.{AreOnce, rows_of_accounts}
 
 -- the name is none of the others
 IsNew : List ℕ → List (List ℕ) → Type 0
@@ -80,19 +80,19 @@ bound_once contracts positions portfolios e = by_fault (bind_fault contracts pos
       (distinct_apart (map (λ (p : PositionRecord). p.account) positions)))
 
 accounts_of_rows : (set : SetView) (portfolios : List AccountHoldings)
-    → map account_of (rows_under set portfolios) ≡ map (λ p. p.account) portfolios
+    → map account_of_row (rows_of_accounts set portfolios) ≡ map (λ p. p.account) portfolios
 accounts_of_rows set [] = refl
 accounts_of_rows set (p ∷ portfolios) = ap (λ others. p.account ∷ others) (accounts_of_rows set portfolios)
 
 -- no account has two of the rows of portfolios
-pub rows_once : (set : SetView) (portfolios : List AccountHoldings) (rows : List RowView) → rows ≡ rows_under set portfolios
+pub rows_once : (set : SetView) (portfolios : List AccountHoldings) (rows : List RowView) → rows ≡ rows_of_accounts set portfolios
     → AreOnce portfolios → HasNoAccountTwice rows
 rows_once set portfolios rows is once =
     rw (is) (subst (IsDistinct bytes_eq) (sym (accounts_of_rows set portfolios)) once)
 
 module _ {R : Type 0} (row_of : R → RowView) where
-  new_at : (account : List ℕ) (xs : List R) (i : ℕ) (d : R) → IsNew account (map account_of (map row_of xs)) → i < length xs
-      → bytes_eq account (account_of (row_of (get_or xs i d))) ≡ false
+  new_at : (account : List ℕ) (xs : List R) (i : ℕ) (d : R) → IsNew account (map account_of_row (map row_of xs)) → i < length xs
+      → bytes_eq account (account_of_row (row_of (get_or xs i d))) ≡ false
   unfolding IsNew
   new_at account [] i d new lt = absurd (omega (arith, lt))
   new_at account (x ∷ xs) zero d new lt = new.0
@@ -104,14 +104,14 @@ module _ {R : Type 0} (row_of : R → RowView) where
 
   -- none of the rows before one has its account
   pub none_before : (xs : List R) (i : ℕ) (d : R) → HasNoAccountTwice (map row_of xs) → i < length xs
-      → row_for (map row_of (take i xs)) (account_of (row_of (get_or xs i d))) ≡ None
+      → row_for (map row_of (take i xs)) (account_of_row (row_of (get_or xs i d))) ≡ None
   unfolding IsNew
   none_before [] i d once lt = absurd (omega (arith, lt))
   none_before (x ∷ xs) zero d once lt = refl
   none_before (x ∷ xs) (suc i) d once lt =
-      not_first (bytes_eq (account_of (row_of (get_or xs i d))) (account_of (row_of x))) (row_of x) _
-      (bytes_eq-flip (account_of (row_of (get_or xs i d))) (account_of (row_of x))
-      ∙ new_at (account_of (row_of x)) xs i d
-      (IsDistinct-head bytes_eq (account_of (row_of x)) (map account_of (map row_of xs)) once) (omega (arith, lt)))
-      (none_before xs i d (IsDistinct-tail bytes_eq (account_of (row_of x)) (map account_of (map row_of xs)) once)
+      not_first (bytes_eq (account_of_row (row_of (get_or xs i d))) (account_of_row (row_of x))) (row_of x) _
+      (bytes_eq-flip (account_of_row (row_of (get_or xs i d))) (account_of_row (row_of x))
+      ∙ new_at (account_of_row (row_of x)) xs i d
+      (IsDistinct-head bytes_eq (account_of_row (row_of x)) (map account_of_row (map row_of xs)) once) (omega (arith, lt)))
+      (none_before xs i d (IsDistinct-tail bytes_eq (account_of_row (row_of x)) (map account_of_row (map row_of xs)) once)
       (omega (arith, lt)))

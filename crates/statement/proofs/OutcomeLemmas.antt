@@ -10,7 +10,7 @@ use Rattle.result_book.specs.Rows.{RowView}
 use Rattle.worker_pool.specs.Outcomes.{AreOutcomes}
 use Rattle.worker_pool.specs.declared.outcomes.Outcome.{Outcome}
 use Rattle.worker_pool.specs.declared.outcomes.Outcome.TheVariants.{Margined, NoMemory}
-use Rattle.statement.specs.near.Batches.{rows_under}
+use Rattle.statement.specs.near.Batches.{rows_of_accounts}
 use Rattle.statement.specs.Statement.{row_text, statement_text}
 use Rattle.statement.specs.near.Rows.{AreRows}
 
@@ -25,7 +25,7 @@ rows_more (NoMemory account ∷ outcomes) rows row all = absurd all
 
 -- the rows of a batch are those of its portfolios
 pub rows_of_batch : (set : SetView) (portfolios : List AccountHoldings) (outcomes : List Outcome) (rows : List RowView)
-    → AreOutcomes set portfolios outcomes → AreRows outcomes rows → rows ≡ rows_under set portfolios
+    → AreOutcomes set portfolios outcomes → AreRows outcomes rows → rows ≡ rows_of_accounts set portfolios
 rows_of_batch set [] [] [] are all = refl
 rows_of_batch set [] [] (r ∷ rows) are all = absurd all
 rows_of_batch set [] (o ∷ outcomes) rows are all = absurd are
@@ -38,10 +38,10 @@ rows_of_batch set (p ∷ portfolios) (NoMemory account ∷ outcomes) rows are al
 
 -- the text of their rows is the statement
 pub text_of_batch : (set : SetView) (portfolios : List AccountHoldings)
-    → flat_map (λ r. row_text r.set.tables r.portfolio) (rows_under set portfolios) ≡ statement_text set.tables portfolios
+    → flat_map (λ r. row_text r.set.tables r.portfolio) (rows_of_accounts set portfolios) ≡ statement_text set.tables portfolios
 unfolding statement_text
 text_of_batch set [] = refl
 text_of_batch set (p ∷ portfolios) =
-    flat_map-cons (λ (r : RowView). row_text r.set.tables r.portfolio) (record { set = set; portfolio = p }) (rows_under set portfolios)
+    flat_map-cons (λ (r : RowView). row_text r.set.tables r.portfolio) (record { set = set; portfolio = p }) (rows_of_accounts set portfolios)
     ∙ ap (λ t. row_text set.tables p ++ t) (text_of_batch set portfolios)
     ∙ sym (flat_map-cons (row_text set.tables) p portfolios)

@@ -10,7 +10,7 @@ unfoldable pub counts_line : AcceptedTables → Line
 counts_line t = record {
   word = codes "OK";
   fields = t.set_id ∷ decimal (length t.commodities) ∷ decimal (length t.contracts) ∷ decimal (length t.tiers)
-      ∷ decimal (length t.intras) ∷ decimal (length t.spots) ∷ decimal (length t.inters) ∷ [];
+      ∷ decimal (length t.intra_records) ∷ decimal (length t.spots) ∷ decimal (length t.inter_records) ∷ [];
 }
 
 -- the counts of a parameter file, or the first fault: in reading it, in checking it

@@ -12,7 +12,7 @@ use Rattle.span_tables.specs.Net.{AccountHoldings}
 use Rattle.span_tables.specs.declared.records.PositionRecord.{PositionRecord}
 use Rattle.param_check.specs.Binding.{bindings_of}
 use Rattle.inter_credit.specs.OptionValue.{due_of, excess_of}
-use Rattle.plan_ir.specs.Figures.{commodity_at, figures_of, is_held, numbers_of, option_value_of, total_to}
+use Rattle.plan_ir.specs.Figures.{commodity_at, figures_of, is_commodity_held, numbers_of, option_value_of, total_to}
 use Rattle.plan_ir.specs.declared.figures.Figures.{Figures}
 use Rattle.statement.specs.declared.faults.SpanFault.{SpanFault}
 use Rattle.statement.specs.declared.faults.SpanFault.TheVariants as fault
@@ -34,7 +34,7 @@ total_line account set_id numbers = record { word = codes "T"; fields = account 
 -- the line of an account for the commodity of a number, where it holds a contract of it
 abbrev pub commodity_text : AcceptedTables → AccountHoldings → ℕ → List ℕ
 commodity_text t p c =
-    if is_held t p.holdings c
+    if is_commodity_held t p.holdings c
     then line (figures_line p.account t.set_id (commodity_at t c).id (figures_of t p.holdings c))
     else []
 

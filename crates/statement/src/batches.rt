@@ -2,7 +2,7 @@
 ghost use Rattle.plan_compiler.specs.Compiled.{SetView};
 ghost use Rattle.span_tables.specs.Net.{AccountHoldings};
 ghost use Rattle.statement.specs.near.Accepting.{AllFit};
-ghost use Rattle.statement.specs.near.Batches.{rows_under};
+ghost use Rattle.statement.specs.near.Batches.{rows_of_accounts};
 ghost use Rattle.statement.specs.Statement.{statement_text};
 ghost use Rattle.statement.specs.near.Rows.{AreRows};
 ghost use Rattle.std.specs.Arc.{arc_value};
@@ -39,7 +39,7 @@ fn all_rows(alloc: Global, outcomes: Vec<Outcome>) -> Result<Vec<Arc<Row>>, Allo
 // The rows of the outcomes of a batch; want of memory, where an account has none.
 fn rows_of(alloc: Global, outcomes: Vec<Outcome>) -> Result<Vec<Arc<Row>>, AllocError>
     ensures { (set : SetView) (portfolios : List AccountHoldings) → AreOutcomes set portfolios outcomes.items
-        → IfOk result (λ rows. map arc_value rows.items ≡ rows_under set portfolios) }
+        → IfOk result (λ rows. map arc_value rows.items ≡ rows_of_accounts set portfolios) }
 {
     let rows = all_rows(alloc, outcomes)?;
     Ok(rows)
@@ -53,7 +53,7 @@ pub fn rows_alone(
     portfolios: Portfolios,
 ) -> Result<Vec<Arc<Row>>, AllocError>
     requires { AllFit (arc_value set.now) portfolios }
-    ensures { IfOk result (λ rows. map arc_value rows.items ≡ rows_under (arc_value set.now) portfolios) }
+    ensures { IfOk result (λ rows. map arc_value rows.items ≡ rows_of_accounts (arc_value set.now) portfolios) }
 {
     let outcomes = run_plain(alloc, set, portfolios.into_vec())?;
     rows_of(alloc, outcomes)
@@ -70,7 +70,7 @@ pub(crate) fn rows_together<R: Threads + Wait + Clock + Sync, G: Gate>(
     gate: &G,
 ) -> Result<Vec<Arc<Row>>, AllocError>
     requires { AllFit (arc_value set.now) portfolios }
-    ensures { IfOk result (λ rows. map arc_value rows.items ≡ rows_under (arc_value set.now) portfolios) }
+    ensures { IfOk result (λ rows. map arc_value rows.items ≡ rows_of_accounts (arc_value set.now) portfolios) }
 {
     match run_in_teams(rt, alloc, set, portfolios.into_vec(), workers, gate) {
         Ok(outcomes) => rows_of(alloc, outcomes),
@@ -80,7 +80,7 @@ pub(crate) fn rows_together<R: Threads + Wait + Clock + Sync, G: Gate>(
 
 /// The statement of the rows of a batch.
 pub(crate) fn text_of(alloc: Global, rows: &[Arc<Row>]) -> Result<Vec<u8>, AllocError>
-    ensures { (set : SetView) (portfolios : List AccountHoldings) → map arc_value rows.now ≡ rows_under set portfolios
+    ensures { (set : SetView) (portfolios : List AccountHoldings) → map arc_value rows.now ≡ rows_of_accounts set portfolios
         → IfOk result (λ text. text.items ≡ statement_text set.tables portfolios) }
 {
     write(alloc, rows)
@@ -88,7 +88,7 @@ pub(crate) fn text_of(alloc: Global, rows: &[Arc<Row>]) -> Result<Vec<u8>, Alloc
 
 /// Appends the statement of the rows of a batch.
 pub(crate) fn append_text(out: &mut Vec<u8>, rows: &[Arc<Row>]) -> Result<(), AllocError>
-    ensures { (set : SetView) (portfolios : List AccountHoldings) → map arc_value rows.now ≡ rows_under set portfolios
+    ensures { (set : SetView) (portfolios : List AccountHoldings) → map arc_value rows.now ≡ rows_of_accounts set portfolios
         → OnOk result (out.new.items ≡ out.old.items ++ statement_text set.tables portfolios) }
 {
     push_rows(out, rows)

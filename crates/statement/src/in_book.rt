@@ -3,7 +3,7 @@ ghost use Rattle.plan_compiler.specs.Compiled.{SetView};
 ghost use Rattle.result_book.specs.Books.{HasNoAccountTwice, rows_of};
 ghost use Rattle.result_book.specs.declared.books.BookFault.TheVariants as fault;
 ghost use Rattle.span_tables.specs.Net.{AccountHoldings};
-ghost use Rattle.statement.specs.near.Batches.{rows_under};
+ghost use Rattle.statement.specs.near.Batches.{rows_of_accounts};
 ghost use Rattle.statement.specs.Statement.{statement_text};
 ghost use Rattle.statement.specs.near.Rows.{ArePartlyInBook};
 ghost use Rattle.std.specs.Arc.{arc_value};
@@ -36,7 +36,7 @@ impl Model for RowsInBook {
 impl RowsInBook {
     /// The statement of the rows.
     pub(crate) fn text(&self, alloc: Global) -> Result<Vec<u8>, AllocError>
-        ensures { (set : SetView) (portfolios : List AccountHoldings) → self.now ≡ rows_under set portfolios
+        ensures { (set : SetView) (portfolios : List AccountHoldings) → self.now ≡ rows_of_accounts set portfolios
             → IfOk result (λ text. text.items ≡ statement_text set.tables portfolios) }
     {
         text_of(alloc, &self.rows)
@@ -44,7 +44,7 @@ impl RowsInBook {
 
     /// Appends the statement of the rows.
     pub(crate) fn append_to(&self, out: &mut Vec<u8>) -> Result<(), AllocError>
-        ensures { (set : SetView) (portfolios : List AccountHoldings) → self.now ≡ rows_under set portfolios
+        ensures { (set : SetView) (portfolios : List AccountHoldings) → self.now ≡ rows_of_accounts set portfolios
             → OnOk result (out.new.items ≡ out.old.items ++ statement_text set.tables portfolios) }
     {
         append_text(out, &self.rows)

@@ -5,7 +5,7 @@ ghost use Rattle.result_book.specs.Books.{HasNoAccountTwice};
 ghost use Rattle.result_book.specs.declared.books.BookFault.TheVariants as book_fault;
 ghost use Rattle.span_tables.specs.Net.{AccountHoldings};
 ghost use Rattle.statement.specs.near.Accepting.{AllFit, IsBound};
-ghost use Rattle.statement.specs.near.Batches.{AreOnce, rows_under};
+ghost use Rattle.statement.specs.near.Batches.{AreOnce, rows_of_accounts};
 ghost use Rattle.statement.specs.Rolls.{GivesRoll};
 ghost use Rattle.statement.specs.Statement.{accepted_of, portfolios_under, statement_text};
 ghost use Rattle.statement.specs.declared.faults.SpanFault.TheVariants as fault;
@@ -90,7 +90,7 @@ fn first_rows_and_next_set<S: ShelfName + Send + Sync, R: Threads + Wait + Clock
     Result<Told<S>, SpanFault>,
 )
     requires { AllFit (arc_value set.now) portfolios }
-    ensures rows { IfOk result.0 (λ rows. map arc_value rows.items ≡ rows_under (arc_value set.now) portfolios) }
+    ensures rows { IfOk result.0 (λ rows. map arc_value rows.items ≡ rows_of_accounts (arc_value set.now) portfolios) }
     ensures told { IfOk result.1 (λ told. IsPublished next.now publisher.old told) }
     ensures fault { IfErr result.1 (λ e. RefusesNext next.now e) }
 {
@@ -106,7 +106,7 @@ fn first_rows_and_next_set<S: ShelfName + Send + Sync, R: Threads + Wait + Clock
         move || publish_next(alloc, publisher, next, gate),
         move || -> Result<Vec<Arc<Row>>, AllocError>
             requires { AllFit (arc_value set.now) portfolios }
-            ensures { IfOk result (λ rows. map arc_value rows.items ≡ rows_under (arc_value set.entry.now) portfolios) }
+            ensures { IfOk result (λ rows. map arc_value rows.items ≡ rows_of_accounts (arc_value set.entry.now) portfolios) }
         { rows_together(rt, alloc, set, portfolios, workers, gate) },
     );
     (rows, told)
@@ -210,7 +210,7 @@ fn first_statement<R: Wait>(
     book: &Mutex<ResultBook>,
 ) -> Result<Vec<u8>, SpanFault>
     requires { HasNoAccountTwice (map arc_value rows.items) }
-    ensures text { (set : SetView) (portfolios : List AccountHoldings) → map arc_value rows.items ≡ rows_under set portfolios
+    ensures text { (set : SetView) (portfolios : List AccountHoldings) → map arc_value rows.items ≡ rows_of_accounts set portfolios
         → IfOk result (λ text. text.items ≡ statement_text set.tables portfolios) }
     ensures fault { IfErr result (λ e. (e ≡ fault.Memory) ⊎ (e ≡ fault.Book book_fault.NoMoreBatches)) }
 {

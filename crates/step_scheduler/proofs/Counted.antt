@@ -16,7 +16,7 @@ use Rattle.step_scheduler.specs.declared.progress.Progress.{Progress}
 use Rattle.step_scheduler.specs.declared.progress.Progress.TheVariants.{Waiting, Taken, Done}
 use Rattle.step_scheduler.specs.near.Steps.{was_taken, is_done, events_of, progress_at, AreDone, CanStart}
 use Rattle.plan_compiler.specs.near.Beginnings.{times, AreInputCounts, AreWithoutInputs}
-use Rattle.step_scheduler.specs.near.Counts.{open_inputs, ready_times, freed_times, CanBeReleased, IsCounted, Released}
+use Rattle.step_scheduler.specs.near.Counts.{open_inputs, ready_times, freed_times, CanBeReleased, CountsSteps, Released}
 use Rattle.std.specs.Arc.{arc_value}
 use Rattle.plan_compiler.specs.Compiled.{Fits, IsCompiled}
 use Rattle.step_scheduler.specs.Jobs.{JobView, meaning_at}
@@ -149,23 +149,23 @@ listed_after false m m' t e fed =
 
 module _ (plan : List StepView) (steps : List Progress) (missing : List ℕ) (long : length steps ≡ length plan) where
   -- a step in the list can start
-  pub listed_starts : (ready : List ℕ) (capacity k : ℕ) → IsCounted plan steps missing ready capacity → k < length plan
+  pub listed_starts : (ready : List ℕ) (capacity k : ℕ) → CountsSteps plan steps missing ready capacity → k < length plan
       → 0 < times k ready → CanStart plan steps k
   listed_starts ready capacity k c h l =
       let r = ready_of (was_taken (progress_at steps k)) (slice_index missing k) (let e = c.listed k h in omega arith) in
       record { in_range = h; waits = r.0; fed = open_none steps (inputs_at plan k) (sym (c.missing_is k h) ∙ r.1) }
 
   -- where the list is empty, none can start
-  pub empty_none : (capacity : ℕ) → IsCounted plan steps missing [] capacity → (k : ℕ) → CanStart plan steps k → ⊥
+  pub empty_none : (capacity : ℕ) → CountsSteps plan steps missing [] capacity → (k : ℕ) → CanStart plan steps k → ⊥
   empty_none capacity c k s =
       let none = c.missing_is k s.in_range ∙ none_open steps (inputs_at plan k) s.fed in
       let listed = rw (s.waits, none) at (c.listed k s.in_range) in
       absurd (omega arith)
 
   -- the last of the list is handed out
-  pub counted_takes : (rest : List ℕ) (capacity k : ℕ) → IsCounted plan steps missing (rest ++ k ∷ []) capacity
+  pub counted_takes : (rest : List ℕ) (capacity k : ℕ) → CountsSteps plan steps missing (rest ++ k ∷ []) capacity
       → k < length plan → was_taken (progress_at steps k) ≡ false → slice_index missing k ≡ 0
-      → is_done (progress_at steps k) ≡ false → IsCounted plan (slice_set steps k Taken) missing rest capacity
+      → is_done (progress_at steps k) ≡ false → CountsSteps plan (slice_set steps k Taken) missing rest capacity
   counted_takes rest capacity k c h waits none open_k =
       let in_steps : k < length steps = omega arith in
       let same_done : (i : ℕ) → is_done (progress_at (slice_set steps k Taken) i) ≡ is_done (progress_at steps i) =
@@ -197,10 +197,10 @@ module _ (plan : List StepView) (steps : List Progress) (missing : List ℕ) (lo
 
   -- a step gets its value, and its users are counted down
   pub counted_finishes : (ready missing' ready' : List ℕ) (capacity capacity' k : ℕ) → HasUsers plan
-      → IsCounted plan steps missing ready capacity → k < length plan → was_taken (progress_at steps k) ≡ true
+      → CountsSteps plan steps missing ready capacity → k < length plan → was_taken (progress_at steps k) ≡ true
       → is_done (progress_at steps k) ≡ false
       → Released (users_of plan k) missing missing' ready ready' capacity capacity'
-      → IsCounted plan (slice_set steps k Done) missing' ready' capacity'
+      → CountsSteps plan (slice_set steps k Done) missing' ready' capacity'
   counted_finishes ready missing' ready' capacity capacity' k are c h taken_k open_k r =
       let in_steps : k < length steps = omega arith in
       let was : (j : ℕ) → was_taken (progress_at (slice_set steps k Done) j) ≡ was_taken (progress_at steps j) =
@@ -257,7 +257,7 @@ module _ (job : JobView) (steps : List Progress) (slots : List Slot) (history : 
       → IsReady job.set.plan history k → ⊥
   none_starts ready ready_capacity b e k r =
       empty_none job.set.plan steps missing b.board.long ready_capacity
-      (subst (λ (xs : List ℕ). IsCounted job.set.plan steps missing xs ready_capacity) e b.counted) k (record {
+      (subst (λ (xs : List ℕ). CountsSteps job.set.plan steps missing xs ready_capacity) e b.counted) k (record {
         in_range = r.in_range;
         waits = sym (b.board.taken k) ∙ r.fresh;
         fed = λ i d l. sym (b.board.finished _) ∙ r.fed i d l;
@@ -313,7 +313,7 @@ module _ (job : JobView) (steps : List Progress) (slots : List Slot) (history : 
         board = board_takes job steps history capacity k b.board s;
         values = right_after_take job steps slots b.values k (let l = b.board.long in let r = s.in_range in omega arith);
         counted = counted_takes job.set.plan steps missing b.board.long rest ready_capacity k
-            (subst (λ (xs : List ℕ). IsCounted job.set.plan steps missing xs ready_capacity) e b.counted) s.in_range s.waits
+            (subst (λ (xs : List ℕ). CountsSteps job.set.plan steps missing xs ready_capacity) e b.counted) s.in_range s.waits
             (b.counted.missing_is k s.in_range ∙ none_open steps (inputs_at job.set.plan k) s.fed) (waiting_not_done _ s.waits);
       }
 
@@ -345,7 +345,7 @@ no_events (suc n) = rw sum_by-cons (zero-add _ ∙ no_events n)
 pub board_new : (job : JobView) (n : ℕ) (slots : List Slot) (capacity : ℕ) (missing ready : List ℕ) (ready_capacity : ℕ)
     → IsCompiled job.set → Fits job.set.tables (job.portfolio).holdings → n ≡ length job.set.plan → 2 * n ≤ capacity
     → length slots ≡ length job.set.plan → StoresMeanings job slots
-    → IsCounted job.set.plan (replicate (length job.set.plan) Waiting) missing ready ready_capacity
+    → CountsSteps job.set.plan (replicate (length job.set.plan) Waiting) missing ready ready_capacity
     → IsStepped job (replicate n Waiting) slots [] capacity missing ready ready_capacity
 board_new job n slots capacity missing ready ready_capacity compiled fits is_n room long means counted = record {
   board = record {
@@ -385,7 +385,7 @@ open_all n (i ∷ is) = rw (nothing_done n i, open_all n is) (omega arith)
 -- the counters of a whole plan
 pub counters_all : (plan : List StepView) (missing ready : List ℕ) (capacity : ℕ)
     → AreInputCounts plan missing (length plan) → AreWithoutInputs plan ready (length plan) → length plan ≤ capacity
-    → IsCounted plan (replicate (length plan) Waiting) missing ready capacity
+    → CountsSteps plan (replicate (length plan) Waiting) missing ready capacity
 counters_all plan missing ready capacity counts without room = record {
   long = counts.long;
   missing_is = λ k h. counts.counts k h ∙ sym (open_all (length plan) (inputs_at plan k));

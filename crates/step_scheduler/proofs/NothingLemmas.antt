@@ -8,14 +8,14 @@ use Rattle.spread_stage.specs.Charges.{delivery_charge, intra_charge}
 use Rattle.spread_stage.specs.Deltas.{month_deltas, net_delta}
 use Rattle.spread_stage.specs.Spreads.{after_spreads, unspread}
 use Rattle.spread_stage.proofs.ClosedLemmas.{after_spreads_of_nothing, delivery_of_nothing}
-use Rattle.inter_credit.specs.Credits.{credit_of, unspread_line}
+use Rattle.inter_credit.specs.Credits.{credit_of, unspread_state}
 use Rattle.inter_credit.specs.OptionValue.{net_value_of}
 use Rattle.inter_credit.specs.Requirement.{minimum_of, requirement_of}
 use Rattle.inter_credit.specs.Credits.{credit_at}
-use Rattle.inter_credit.specs.declared.state.InterLine.{InterLine}
+use Rattle.inter_credit.specs.declared.state.CommodityState.{CommodityState}
 use Rattle.inter_credit.proofs.CreditLaws.{credit_zero}
-use Rattle.plan_ir.specs.Figures.{commodity_at, deltas_at, delivery_at, figures_from, figures_of, held_at, inter_lines}
-use Rattle.plan_ir.specs.Figures.{intras_at, line_of, minimum_at, net_value_at, scan_at, spots_at, tiers_at}
+use Rattle.plan_ir.specs.Figures.{commodity_at, deltas_at, delivery_at, figures_from, figures_of, held_at, inter_states}
+use Rattle.plan_ir.specs.Figures.{intras_at, state_of, minimum_at, net_value_at, scan_at, spots_at, tiers_at}
 use Rattle.plan_ir.specs.Values.{no_figures, no_scan}
 use Rattle.plan_ir.proofs.NothingLemmas.{minimum_of_nothing, month_deltas_of_nothing, value_of_nothing}
 use Rattle.plan_compiler.proofs.StageLemmas.{kept_at}
@@ -28,11 +28,11 @@ figures_from_nothing : figures_from no_scan (unspread []) (pos 0) (pos 0) (pos 0
 unfolding intra_charge requirement_of
 figures_from_nothing = refl
 
--- a line without a net delta earns nothing
-credit_read : (o : Option InterLine) → (unwrap_or o (unspread_line (pos 0) 0)).net ≡ pos 0
+-- a state without a net delta earns nothing
+credit_read : (o : Option CommodityState) → (unwrap_or o (unspread_state (pos 0) 0)).net ≡ pos 0
     → unwrap_or (option_map credit_of o) 0 ≡ 0
 credit_read None e = refl
-credit_read (Some line) e = credit_zero line (ap nat_abs e)
+credit_read (Some state) e = credit_zero state (ap nat_abs e)
 
 module _ (t : AcceptedTables) (holdings : List Holding) (c : ℕ) (none : held_at t holdings c ≡ []) where
   no_months : deltas_at t holdings c ≡ []
@@ -53,17 +53,17 @@ module _ (t : AcceptedTables) (holdings : List Holding) (c : ℕ) (none : held_a
       ∙ minimum_of_nothing (commodity_at t c).minimum_rate (commodity_at t c).method
 
   -- what is loaded of it is nothing
-  pub no_line : line_of t holdings c ≡ unspread_line (pos 0) 0
-  no_line = λ k. unspread_line (net_delta (no_months k)) (nothing_scanned k).price2
+  pub no_state : state_of t holdings c ≡ unspread_state (pos 0) 0
+  no_state = λ k. unspread_state (net_delta (no_months k)) (nothing_scanned k).price2
 
   -- a commodity of which nothing is held adds nothing to the option value
   pub no_value : net_value_at t holdings c ≡ pos 0
   no_value = ap net_value_of none ∙ value_of_nothing
 
-  no_credit : c < length t.commodities → credit_at (inter_lines t holdings) c ≡ 0
+  no_credit : c < length t.commodities → credit_at (inter_states t holdings) c ≡ 0
   no_credit lt =
-      credit_read (slice_get (inter_lines t holdings) c) (kept_at t holdings (λ line. line.net) (λ on used bp line. refl) c lt
-      ∙ ap (λ (line : InterLine). line.net) no_line)
+      credit_read (slice_get (inter_states t holdings) c) (kept_at t holdings (λ state. state.net) (λ on used bp state. refl) c lt
+      ∙ ap (λ (state : CommodityState). state.net) no_state)
 
   -- the figures are those of nothing held
   pub figures_of_nothing : c < length t.commodities → figures_of t holdings c ≡ no_figures

@@ -6,15 +6,15 @@ use Rattle.span_tables.specs.Tables.{AcceptedTables}
 use Rattle.span_tables.specs.declared.portfolios.Holding.{Holding}
 use Rattle.spread_stage.proofs.BoundLaws.{net_small}
 use Rattle.inter_credit.specs.States.{IsNotLoaded, IsUnspread}
-use Rattle.inter_credit.specs.declared.state.InterLine.{InterLine}
-use Rattle.plan_ir.specs.Figures.{deltas_at, inter_lines}
+use Rattle.inter_credit.specs.declared.state.CommodityState.{CommodityState}
+use Rattle.plan_ir.specs.Figures.{deltas_at, inter_states}
 use Rattle.plan_ir.proofs.BoundLaws.{deltas_at_are, delivery_at_small, minimum_at_small, price2_at_small, risk_at_small, tiers_at_are}
-use Rattle.plan_ir.proofs.BoundLaws.{length-inter_lines}
-use Rattle.plan_compiler.specs.Meaning.{lines_loaded}
+use Rattle.plan_ir.proofs.BoundLaws.{length-inter_states}
+use Rattle.plan_compiler.specs.Meaning.{states_loaded}
 use Rattle.plan_compiler.proofs.Taken.{length_partly, not_loaded, unspread}
 use Rattle.step_scheduler.specs.declared.parts.Part.{Part}
 use Rattle.step_scheduler.specs.near.Parts.{CanBeLoaded, HasLine, IsNext, IsPart, IsSmall}
-use Rattle.step_scheduler.proofs.PassedOver.{lines_over}
+use Rattle.step_scheduler.proofs.PassedOver.{states_over}
 
 -- an account with holdings, under tables within their limits
 module _ (t : AcceptedTables) (holdings : List Holding) (limits : IsWithinLimits t) (portfolio : ArePortfolio holdings)
@@ -35,21 +35,21 @@ module _ (t : AcceptedTables) (holdings : List Holding) (limits : IsWithinLimits
         price2 = rw is.scan (price2_at_small t holdings limits portfolio known p.commodity);
       }
 
-  -- after all spreads the commodity has its line
-  pub has_line : (lines : List InterLine) → p.commodity < length t.commodities → lines ≡ inter_lines t holdings → HasLine lines p
-  has_line lines lt all = record {
-    known = let long = length-inter_lines t holdings limits portfolio known in omega (arith, lt, long, ap length all);
+  -- after all spreads the commodity has its state
+  pub has_line : (states : List CommodityState) → p.commodity < length t.commodities → states ≡ inter_states t holdings → HasLine states p
+  has_line states lt all = record {
+    known = let long = length-inter_states t holdings limits portfolio known in omega (arith, lt, long, ap length all);
     small = small_part lt;
   }
 
   -- the next part can be loaded
-  pub can_be_loaded : (from : ℕ) (lines : List InterLine) → IsNext t holdings from p.commodity
-      → lines ≡ lines_loaded t holdings from → CanBeLoaded lines p
-  can_be_loaded from lines next loaded =
+  pub can_be_loaded : (from : ℕ) (states : List CommodityState) → IsNext t holdings from p.commodity
+      → states ≡ states_loaded t holdings from → CanBeLoaded states p
+  can_be_loaded from states next loaded =
       let le : p.commodity ≤ length t.commodities = omega (arith, next.known) in
-      let here = loaded ∙ lines_over t holdings from p.commodity next.behind le next.none in
+      let here = loaded ∙ states_over t holdings from p.commodity next.behind le next.none in
       record {
-        line = record {
+        state = record {
           known = let long = length_partly t holdings limits portfolio known p.commodity le in
               omega (arith, next.known, long, ap length here);
           small = small_part next.known;

@@ -7,14 +7,14 @@ use Rattle.std.proofs.Math.IntN.{+ℤ_idr}
 use Rattle.std.proofs.lemmas.List.FromFn.{map-range_with_len_more}
 use Rattle.span_tables.specs.Tables.{AcceptedTables, has_option_value}
 use Rattle.span_tables.specs.declared.portfolios.Holding.{Holding}
-use Rattle.inter_credit.specs.Credits.{unspread_line}
-use Rattle.inter_credit.specs.declared.state.InterLine.{InterLine}
-use Rattle.plan_ir.specs.Figures.{held_at, line_of, net_value_at, value_to}
-use Rattle.plan_compiler.specs.Meaning.{lines_loaded}
+use Rattle.inter_credit.specs.Credits.{unspread_state}
+use Rattle.inter_credit.specs.declared.state.CommodityState.{CommodityState}
+use Rattle.plan_ir.specs.Figures.{held_at, state_of, net_value_at, value_to}
+use Rattle.plan_compiler.specs.Meaning.{states_loaded}
 use Rattle.plan_compiler.proofs.Meanings.{load_more, value_more}
 use Rattle.step_scheduler.specs.declared.parts.Part.{Part}
 use Rattle.step_scheduler.specs.near.Parts.{IsNext, IsPart, NoneHeld}
-use Rattle.step_scheduler.proofs.NothingLemmas.{no_line, no_value}
+use Rattle.step_scheduler.proofs.NothingLemmas.{no_state, no_value}
 
 -- what stays the same from each number to the next stays the same
 steady : {A : Type 0} (f : ℕ → A) (from n : ℕ) → ((c : ℕ) → from ≤ c → c < from + n → f c ≡ f (c + 1)) → f from ≡ f (from + n)
@@ -29,30 +29,30 @@ steady_up_to f from to le same =
     steady f from (to - from) (λ c a b. same c a (omega (arith, b, e))) ∙ ap f e
 
 module _ (t : AcceptedTables) (holdings : List Holding) where
-  one_over : (c : ℕ) → c < length t.commodities → held_at t holdings c ≡ [] → lines_loaded t holdings c ≡ lines_loaded t holdings (c + 1)
+  one_over : (c : ℕ) → c < length t.commodities → held_at t holdings c ≡ [] → states_loaded t holdings c ≡ states_loaded t holdings (c + 1)
   one_over c lt none =
-      let nothing : InterLine = unspread_line (pos 0) 0 in
-      let front = map (line_of t holdings) (range_with_len 0 c) in
+      let nothing : CommodityState = unspread_state (pos 0) 0 in
+      let front = map (state_of t holdings) (range_with_len 0 c) in
       let rest = replicate (length t.commodities - (c + 1)) nothing in
       let one_more : length t.commodities - c ≡ suc (length t.commodities - (c + 1)) = omega arith in
       ap (λ n. front ++ replicate n nothing) one_more
-      ∙ ap (λ line. front ++ line ∷ rest) (sym (no_line t holdings c none))
-      ∙ sym (append_assoc front (line_of t holdings c ∷ []) rest)
-      ∙ ap (λ xs. xs ++ rest) (sym (map-range_with_len_more (line_of t holdings) 0 c c (zero-add c)))
+      ∙ ap (λ state. front ++ state ∷ rest) (sym (no_state t holdings c none))
+      ∙ sym (append_assoc front (state_of t holdings c ∷ []) rest)
+      ∙ ap (λ xs. xs ++ rest) (sym (map-range_with_len_more (state_of t holdings) 0 c c (zero-add c)))
 
   -- nothing is loaded of them
-  pub lines_over : (from to : ℕ) → from ≤ to → to ≤ length t.commodities → NoneHeld t holdings from to
-      → lines_loaded t holdings from ≡ lines_loaded t holdings to
-  lines_over from to le few none =
-      steady_up_to (lines_loaded t holdings) from to le (λ c a b. one_over c (omega (arith, b, few)) (none c a b))
+  pub states_over : (from to : ℕ) → from ≤ to → to ≤ length t.commodities → NoneHeld t holdings from to
+      → states_loaded t holdings from ≡ states_loaded t holdings to
+  states_over from to le few none =
+      steady_up_to (states_loaded t holdings) from to le (λ c a b. one_over c (omega (arith, b, few)) (none c a b))
 
   -- the next that is held is loaded
-  pub loaded_more : (p : Part) (from : ℕ) (before after : List InterLine) → IsNext t holdings from p.commodity
-      → IsPart t holdings p → before ≡ lines_loaded t holdings from
-      → after ≡ slice_set before p.commodity (unspread_line p.net (p.scan).price2) → after ≡ lines_loaded t holdings (p.commodity + 1)
+  pub loaded_more : (p : Part) (from : ℕ) (before after : List CommodityState) → IsNext t holdings from p.commodity
+      → IsPart t holdings p → before ≡ states_loaded t holdings from
+      → after ≡ slice_set before p.commodity (unspread_state p.net (p.scan).price2) → after ≡ states_loaded t holdings (p.commodity + 1)
   loaded_more p from before after next is b a =
-      let here = b ∙ lines_over from p.commodity next.behind (omega (arith, next.known)) next.none in
-      a ∙ (λ k. slice_set (here k) p.commodity (unspread_line (is.net k) (is.scan k).price2)) ∙ load_more t holdings p.commodity next.known
+      let here = b ∙ states_over from p.commodity next.behind (omega (arith, next.known)) next.none in
+      a ∙ (λ k. slice_set (here k) p.commodity (unspread_state (is.net k) (is.scan k).price2)) ∙ load_more t holdings p.commodity next.known
 
   value_over : (c : ℕ) → held_at t holdings c ≡ [] → value_to t holdings c ≡ value_to t holdings (c + 1)
   value_over c none =

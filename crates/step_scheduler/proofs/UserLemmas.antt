@@ -6,7 +6,7 @@ use Rattle.std.specs.Prelude.{All, if◌then◌else◌}
 use Rattle.std.specs.List.Sorted.{IsStrictlyIncreasing}
 use Rattle.std.proofs.lemmas.Bool.{cases_eq, ne_eqb, false≢true}
 use Rattle.span_tables.specs.Names.{has_repeat}
-use Rattle.plan_ir.specs.Plans.{StepView, inputs_at, is_among, users_of}
+use Rattle.plan_ir.specs.Plans.{StepView, inputs_at, is_step_among, users_of}
 use Rattle.plan_ir.proofs.UserLaws.{users_are_steps, users_just, users_rise}
 use Rattle.plan_compiler.specs.Compiled.{IsCompiled, SetView}
 use Rattle.plan_compiler.specs.near.Beginnings.{times}
@@ -16,7 +16,7 @@ or_no : (a b : Bool) → (a || b) ≡ false → (a ≡ false) × (b ≡ false)
 or_no true b e = absurd (false≢true (sym e))
 or_no false b e = (refl, e)
 
-among_once : (j : ℕ) (xs : List ℕ) → has_repeat (λ a b. a == b) xs ≡ false → times j xs ≡ cond (is_among j xs) 1 0
+among_once : (j : ℕ) (xs : List ℕ) → has_repeat (λ a b. a == b) xs ≡ false → times j xs ≡ cond (is_step_among j xs) 1 0
 among_once j [] distinct = refl
 among_once j (x ∷ xs) distinct =
     let parts = or_no _ _ distinct in
@@ -24,7 +24,7 @@ among_once j (x ∷ xs) distinct =
       | inl same ↦
           let none = among_once x xs parts.1 in
           let alone : times x xs ≡ 0 = none ∙ ap (λ b. cond b 1 0) parts.0 in
-          subst (λ (y : ℕ). (if x == y then 1 else 0) + times y xs ≡ cond ((y == x) || is_among y xs) 1 0) same
+          subst (λ (y : ℕ). (if x == y then 1 else 0) + times y xs ≡ cond ((y == x) || is_step_among y xs) 1 0) same
           (rw (eq-eqb x x refl, alone) refl)
       | inr other ↦
           rw (ne_eqb x j other, ne_eqb j x (λ e. other (sym e))) (zero-add _ ∙ among_once j xs parts.1)
@@ -36,7 +36,7 @@ rise_on x xs rise k lt =
     let more : suc k + 1 ≡ suc (k + 1) = omega arith in
     subst (λ n. slice_index xs k < slice_index (x ∷ xs) n) more (rise (suc k) (omega (arith, lt)))
 
-not_behind : (x : ℕ) (xs : List ℕ) → IsStrictlyIncreasing (x ∷ xs) → (n : ℕ) → n ≤ x → is_among n xs ≡ false
+not_behind : (x : ℕ) (xs : List ℕ) → IsStrictlyIncreasing (x ∷ xs) → (n : ℕ) → n ≤ x → is_step_among n xs ≡ false
 not_behind x [] rise n le = refl
 not_behind x (y ∷ ys) rise n le =
     let lt : x < y = rise 0 (omega arith) in
@@ -48,7 +48,7 @@ rise_distinct [] rise = refl
 rise_distinct (x ∷ xs) rise = rw (not_behind x xs rise x (omega arith), rise_distinct xs (rise_on x xs rise)) refl
 
 -- step k is a user of j once, where j is among its inputs
-users_count : (plan : List StepView) (j k : ℕ) → times k (users_of plan j) ≡ cond (is_among j (inputs_at plan k)) 1 0
+users_count : (plan : List StepView) (j k : ℕ) → times k (users_of plan j) ≡ cond (is_step_among j (inputs_at plan k)) 1 0
 users_count plan j k =
     among_once k (users_of plan j) (rise_distinct (users_of plan j) (users_rise plan j)) ∙ ap (λ b. cond b 1 0) (users_just plan j k)
 
@@ -66,5 +66,5 @@ pub has_users : (set : SetView) → IsCompiled set → HasUsers set.plan
 has_users set compiled = record {
   in_range = users_are_steps set.plan;
   same = λ j k h. users_count set.plan j k ∙ sym (among_once j (inputs_at set.plan k) (compiled.distinct k h));
-  once = λ j k. rw (users_count set.plan j k) (cond_le (is_among j (inputs_at set.plan k)));
+  once = λ j k. rw (users_count set.plan j k) (cond_le (is_step_among j (inputs_at set.plan k)));
 }

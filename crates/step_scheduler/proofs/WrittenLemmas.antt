@@ -7,8 +7,8 @@ use Rattle.std.proofs.lemmas.List.{get_or-replicate, length-replicate}
 use Rattle.span_tables.specs.Tables.{AcceptedTables}
 use Rattle.span_tables.specs.declared.portfolios.Holding.{Holding}
 use Rattle.inter_credit.specs.Credits.{credit_at}
-use Rattle.inter_credit.specs.declared.state.InterLine.{InterLine}
-use Rattle.plan_ir.specs.Figures.{figures_from, figures_of, inter_lines}
+use Rattle.inter_credit.specs.declared.state.CommodityState.{CommodityState}
+use Rattle.plan_ir.specs.Figures.{figures_from, figures_of, inter_states}
 use Rattle.plan_ir.specs.Values.{no_figures}
 use Rattle.plan_ir.specs.declared.figures.Figures.{Figures}
 use Rattle.step_scheduler.specs.near.Figures.{AreAllFigures}
@@ -17,11 +17,11 @@ use Rattle.step_scheduler.specs.near.Parts.{AreWritten, IsEnd, IsNext, IsPart, N
 use Rattle.step_scheduler.proofs.NothingLemmas.{figures_of_nothing}
 
 -- the figures of a held commodity are those of its part and its credit
-figures_are : (t : AcceptedTables) (holdings : List Holding) (p : Part) (lines : List InterLine) → IsPart t holdings p
-    → lines ≡ inter_lines t holdings
-    → figures_of_part p (pos (credit_at lines p.commodity)) ≡ figures_of t holdings p.commodity
+figures_are : (t : AcceptedTables) (holdings : List Holding) (p : Part) (states : List CommodityState) → IsPart t holdings p
+    → states ≡ inter_states t holdings
+    → figures_of_part p (pos (credit_at states p.commodity)) ≡ figures_of t holdings p.commodity
 unfolding figures_of
-figures_are t holdings p lines is l =
+figures_are t holdings p states is l =
     λ k. figures_from (is.scan k) (record { rests = []; charge = is.charge k }) (is.delivery k) (pos (credit_at (l k) p.commodity))
     (is.minimum k)
 
@@ -64,14 +64,14 @@ module _ (t : AcceptedTables) (holdings : List Holding) (n : ℕ) (figures : Lis
   })
 
 -- the figures of the next part are written
-pub part_written : (t : AcceptedTables) (holdings : List Holding) (p : Part) (lines : List InterLine) (from : ℕ)
+pub part_written : (t : AcceptedTables) (holdings : List Holding) (p : Part) (states : List CommodityState) (from : ℕ)
     (before after : List Figures) (f : Figures) → IsNext t holdings from p.commodity → IsPart t holdings p
-    → lines ≡ inter_lines t holdings → AreWritten t holdings from before
-    → f ≡ figures_of_part p (pos (credit_at lines p.commodity)) → after ≡ slice_set before p.commodity f
+    → states ≡ inter_states t holdings → AreWritten t holdings from before
+    → f ≡ figures_of_part p (pos (credit_at states p.commodity)) → after ≡ slice_set before p.commodity f
     → AreWritten t holdings (p.commodity + 1) after
-part_written t holdings p lines from before after f next is l written e set =
+part_written t holdings p states from before after f next is l written e set =
     let over = figures_over t holdings from before written p.commodity next.behind (omega (arith, next.known)) next.none in
-    one_written t holdings p.commodity before over f after next.known (e ∙ figures_are t holdings p lines is l) set
+    one_written t holdings p.commodity before over f after next.known (e ∙ figures_are t holdings p states is l) set
 
 -- where nothing is left, all are written
 pub all_written : (t : AcceptedTables) (holdings : List Holding) (from : ℕ) (figures : List Figures) → IsEnd t holdings from

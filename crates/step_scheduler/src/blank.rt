@@ -8,10 +8,10 @@ use plan_ir::figures::Figures;
 use span_money::amounts::Money;
 use std::alloc::{AllocError, Global};
 
-// What an account has of so many commodities that holds nothing: lines without spreads, and figures.
+// What an account has of so many commodities that holds nothing: states without spreads, and figures.
 #[derive(Drop)]
 pub(crate) struct Blank {
-    pub(crate) lines: InterState,
+    pub(crate) states: InterState,
     pub(crate) figures: Vec<Figures>,
 }
 
@@ -20,7 +20,7 @@ impl Blank {
         ensures { IfOk result (λ blank. IsBlank commodities blank) }
     {
         Ok(Blank {
-            lines: empty(alloc, commodities)?,
+            states: empty(alloc, commodities)?,
             figures: vec![in alloc; figures_of_nothing(); commodities]?,
         })
     }

@@ -1,7 +1,7 @@
 //! Counters of missing inputs, and the list of ready steps.
 ghost use Rattle.std.specs.Prelude.{◌≡◌, ◌++◌, ◌∷◌, [], ◌-◌, IfOk, MatchOption, length, replicate, take, vec_capacity};
 ghost use Rattle.step_scheduler.specs.declared.progress.Progress.TheVariants.{Waiting};
-ghost use Rattle.step_scheduler.specs.near.Counts.{CanBeReleased, IsCounted, Released};
+ghost use Rattle.step_scheduler.specs.near.Counts.{CanBeReleased, CountsSteps, Released};
 
 use plan_compiler::set::CompiledSet;
 use std::alloc::{AllocError, Global};
@@ -18,7 +18,7 @@ pub(crate) fn last_of(ready: &[u32]) -> Option<u32>
 
 // The counters of a set's plan of which no step has its value, and the steps that miss nothing.
 pub(crate) fn counters(alloc: Global, set: &CompiledSet) -> Result<(Vec<u8>, Vec<u32>), AllocError>
-    ensures { IfOk result (λ r. IsCounted set.now.plan (replicate (length set.now.plan) Waiting)
+    ensures { IfOk result (λ r. CountsSteps set.now.plan (replicate (length set.now.plan) Waiting)
         r.0.items r.1.items (vec_capacity r.1)) }
 {
     let count = set.plan().len();

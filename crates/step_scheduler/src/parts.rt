@@ -12,9 +12,9 @@ ghost use Rattle.span_tables.specs.declared.portfolios.Holding.{Holding};
 ghost use Rattle.spread_stage.specs.Months.{Shrinks};
 ghost use Rattle.spread_stage.specs.Spreads.{spread_both_ways};
 ghost use Rattle.spread_stage.specs.declared.months.MonthUnits.{MonthUnits};
-ghost use Rattle.inter_credit.specs.Credits.{credit_at, inter_both_ways, unspread_line};
+ghost use Rattle.inter_credit.specs.Credits.{credit_at, inter_both_ways, unspread_state};
 ghost use Rattle.inter_credit.specs.OptionValue.{net_value_of};
-ghost use Rattle.plan_ir.specs.Figures.{held_at, inter_lines, loaded_lines, option_value_of, total_to};
+ghost use Rattle.plan_ir.specs.Figures.{held_at, inter_states, loaded_states, option_value_of, total_to};
 ghost use Rattle.plan_ir.specs.Values.{no_figures};
 ghost use Rattle.step_scheduler.specs.near.Figures.{AreAllFigures};
 ghost use Rattle.step_scheduler.specs.near.Parts.{ArePartsFrom, CanBeLoaded, HasLine, IsPart, figures_of_part};
@@ -158,11 +158,11 @@ pub(crate) fn parts_of<W: Watch>(
 
 // Loads the net delta and the price risk of a commodity.
 #[inline(always)]
-fn load_part(lines: &mut InterState, part: &Part)
-    requires { CanBeLoaded lines.old part.now }
-    ensures { lines.new ≡ slice_set lines.old part.now.commodity (unspread_line part.now.net (part.now.scan).price2) }
+fn load_part(states: &mut InterState, part: &Part)
+    requires { CanBeLoaded states.old part.now }
+    ensures { states.new ≡ slice_set states.old part.now.commodity (unspread_state part.now.net (part.now.scan).price2) }
 {
-    lines.load(part.commodity, part.net, part.scan.price2);
+    states.load(part.commodity, part.net, part.scan.price2);
 }
 
 // The commodities before any spread between them.
@@ -175,50 +175,50 @@ pub(crate) fn loaded<W: Watch>(
     blank: &InterState,
     walk: &mut Walk<'_, W>,
 ) -> Result<InterState, AllocError>
-    requires blank { blank.now ≡ replicate (length tables.now.commodities) (unspread_line (pos 0) 0) }
+    requires blank { blank.now ≡ replicate (length tables.now.commodities) (unspread_state (pos 0) 0) }
     requires fits { fits (length tables.now.contracts) portfolio.now.holdings ≡ true }
     requires parts { ArePartsFrom tables.now portfolio.now.holdings 0 parts.now }
-    ensures value { IfOk result (λ lines. lines ≡ loaded_lines tables.now portfolio.now.holdings) }
-    ensures long { IfOk result (λ lines. length lines ≡ length tables.now.commodities) }
+    ensures value { IfOk result (λ states. states ≡ loaded_states tables.now portfolio.now.holdings) }
+    ensures long { IfOk result (λ states. length states ≡ length tables.now.commodities) }
 {
     let count = tables.commodities().len();
     // Called for its clause: the holdings are those of a portfolio.
     let _kept = portfolio.holdings();
     walk.pass();
-    let mut lines = blank.copied(alloc)?;
+    let mut states = blank.copied(alloc)?;
     let mut next = 0;
     for part in parts {
         walk.pass_many(part.commodity + 1 - next);
-        load_part(&mut lines, part);
+        load_part(&mut states, part);
         next = part.commodity + 1;
     }
     walk.pass_many(count - next);
-    Ok(lines)
+    Ok(states)
 }
 
 // Forms the spreads between commodities in their order.
 #[inline(always)]
 pub(crate) fn form_inters<W: Watch>(
-    lines: &mut InterState,
+    states: &mut InterState,
     inters: &[Inter],
     walk: &mut Walk<'_, W>,
 )
-    requires { All (IsInter (length lines.old)) inters.now }
-    ensures { lines.new ≡ fold inter_both_ways lines.old inters.now }
+    requires { All (IsInter (length states.old)) inters.now }
+    ensures { states.new ≡ fold inter_both_ways states.old inters.now }
 {
     for inter in inters {
         walk.pass();
-        lines.spread(inter);
+        states.spread(inter);
     }
 }
 
 // The figures of a held commodity, from its part and the commodities after all spreads between them.
-fn figures_with(part: &Part, lines: &InterState) -> Figures
-    requires { HasLine lines.now part.now }
-    ensures { result ≡ figures_of_part part.now (pos (credit_at lines.now part.now.commodity)) }
+fn figures_with(part: &Part, states: &InterState) -> Figures
+    requires { HasLine states.now part.now }
+    ensures { result ≡ figures_of_part part.now (pos (credit_at states.now part.now.commodity)) }
 {
     let intra = rounded_charge(part.charge);
-    let credit = credit(lines, part.commodity);
+    let credit = credit(states, part.commodity);
     Figures {
         scan: part.scan.risk,
         active: part.scan.active,
@@ -258,12 +258,12 @@ pub(crate) fn write_figures<W: Watch>(
     set: &CompiledSet,
     portfolio: &Portfolio,
     parts: &[Part],
-    lines: &InterState,
+    states: &InterState,
     walk: &Walk<'_, W>,
 )
     requires fits { fits (length set.now.tables.contracts) portfolio.now.holdings ≡ true }
     requires parts { ArePartsFrom set.now.tables portfolio.now.holdings 0 parts.now }
-    requires lines { lines.now ≡ inter_lines set.now.tables portfolio.now.holdings }
+    requires states { states.now ≡ inter_states set.now.tables portfolio.now.holdings }
     requires blank { figures.old.items ≡ replicate (length set.now.tables.commodities) no_figures }
     ensures { AreAllFigures set.now.tables portfolio.now.holdings figures.new.items }
 {
@@ -273,7 +273,7 @@ pub(crate) fn write_figures<W: Watch>(
     let mut next = 0;
     for part in parts {
         pass_figures(set, next, part.commodity + 1, walk);
-        let written = figures_with(part, lines);
+        let written = figures_with(part, states);
         write_at(figures, part.commodity, written);
         next = part.commodity + 1;
     }

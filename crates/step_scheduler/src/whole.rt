@@ -55,10 +55,10 @@ impl Whole {
         let blank = course.blank();
         let mut walk = Walk::new(watch);
         let parts = parts_of(alloc, set, portfolio, &mut walk)?;
-        let mut lines = loaded(alloc, tables, portfolio, &parts, &blank.lines, &mut walk)?;
-        form_inters(&mut lines, tables.inters(), &mut walk);
+        let mut states = loaded(alloc, tables, portfolio, &parts, &blank.states, &mut walk)?;
+        form_inters(&mut states, tables.inters(), &mut walk);
         let mut figures = Vec::from_slice(alloc, &blank.figures)?;
-        write_figures(&mut figures, set, portfolio, &parts, &lines, &walk);
+        write_figures(&mut figures, set, portfolio, &parts, &states, &walk);
         let total = total_of(tables, portfolio, &figures, &mut walk);
         let value = value_of_all(tables, portfolio, &parts, &mut walk);
         Ok(Whole {

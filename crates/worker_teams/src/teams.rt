@@ -38,7 +38,7 @@ fn run_team<R: Threads + Wait + Clock + Sync, G: Gate>(
     requires { AllFit (arc_value set.now) slice.items }
     ensures { IfOk result (λ outcomes. AreOutcomes (arc_value set.now) slice.items outcomes.items) }
 {
-    let own = Arc::new(alloc, set.another(alloc)?)?;
+    let own = Arc::new(alloc, set.with_own_constants(alloc)?)?;
     run_batch(rt, alloc, &own, slice, workers, gate).map_err(|_| AllocError)
 }
 

@@ -1,16 +1,16 @@
--- The sides of the market that a state marks beside its lines.
+-- The sides of the market that a state marks beside its states.
 use Rattle.std.specs.Prelude.{ℕ, List, All}
 use Rattle.span_tables.specs.Slots.{IsOpenAt}
 use Rattle.span_tables.specs.declared.slots.OpenSides.{OpenSides}
 use Rattle.inter_credit.specs.Credits.{rest_at}
-use Rattle.inter_credit.specs.near.Lines.{IsLine}
-use Rattle.inter_credit.specs.declared.state.InterLine.{InterLine}
+use Rattle.inter_credit.specs.near.CommodityStates.{IsCommodityState}
+use Rattle.inter_credit.specs.declared.state.CommodityState.{CommodityState}
 
 -- the rest of each commodity lies on a side of the market that is marked for the commodity
-abbrev pub AreOpen : OpenSides → List InterLine → Type 0
-AreOpen sides lines = (commodity : ℕ) → IsOpenAt sides commodity (rest_at lines commodity)
+abbrev pub AreOpen : OpenSides → List CommodityState → Type 0
+AreOpen sides states = (commodity : ℕ) → IsOpenAt sides commodity (rest_at states commodity)
 
--- lines within their ranges, and the sides of the market that their rests lie on
-pub record AreLines (lines : List InterLine) (sides : OpenSides) : Type 0 where
-  pub in_range : All IsLine lines
-  pub open_sides : AreOpen sides lines
+-- states within their ranges, and the sides of the market that their rests lie on
+pub record AreStates (states : List CommodityState) (sides : OpenSides) : Type 0 where
+  pub in_range : All IsCommodityState states
+  pub open_sides : AreOpen sides states

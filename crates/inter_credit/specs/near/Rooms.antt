@@ -4,10 +4,10 @@ use Rattle.span_tables.specs.Names.{has_repeat}
 use Rattle.span_tables.specs.declared.sides.Direction.{Direction}
 use Rattle.span_tables.specs.declared.records.CommodityLeg.{CommodityLeg}
 use Rattle.inter_credit.specs.Credits.{leg_side}
-use Rattle.inter_credit.specs.declared.state.InterLine.{InterLine}
+use Rattle.inter_credit.specs.declared.state.CommodityState.{CommodityState}
 
 -- the commodity of each leg has room for n spreads in a direction, and no two legs are of one commodity
-pub record HaveRoom (d : Direction) (n : ℕ) (legs : List CommodityLeg) (lines : List InterLine) : Type 0 where
-  pub known : All (λ leg. leg.commodity < length lines) legs
-  pub room : All (λ leg. n * leg.ratio ≤ leg_side d leg lines) legs
+pub record HaveRoom (d : Direction) (n : ℕ) (legs : List CommodityLeg) (states : List CommodityState) : Type 0 where
+  pub known : All (λ leg. leg.commodity < length states) legs
+  pub room : All (λ leg. n * leg.ratio ≤ leg_side d leg states) legs
   pub apart : has_repeat (λ a b. a.commodity == b.commodity) legs ≡ false

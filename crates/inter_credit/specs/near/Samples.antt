@@ -9,8 +9,8 @@ use Rattle.span_tables.specs.declared.records.Inter.{Inter}
 use Rattle.span_tables.specs.declared.records.ProductKind.{ProductKind}
 use Rattle.span_tables.specs.declared.records.ProductKind.TheVariants as product
 use Rattle.span_tables.specs.declared.records.Side.TheVariants as side
-use Rattle.inter_credit.specs.Credits.{after_inter_spreads, credit_of, unspread_line}
-use Rattle.inter_credit.specs.declared.state.InterLine.{InterLine}
+use Rattle.inter_credit.specs.Credits.{after_inter_spreads, credit_of, unspread_state}
+use Rattle.inter_credit.specs.declared.state.CommodityState.{CommodityState}
 
 -- a spread of one commodity against another, with their ratios
 abbrev pub spread_of : ℕ → ℕ → ℕ → ℕ → ℕ → Inter
@@ -26,16 +26,16 @@ abbrev pub short : ℕ → ℤ
 short n = neg_ℤ (pos n)
 
 -- commodities after these spreads, each with its credit
-abbrev pub credited : List Inter → List InterLine → List (InterLine × ℕ)
-credited spreads lines = map (λ line. (line, credit_of line)) (after_inter_spreads spreads lines)
+abbrev pub credited : List Inter → List CommodityState → List (CommodityState × ℕ)
+credited spreads states = map (λ state. (state, credit_of state)) (after_inter_spreads spreads states)
 
 -- two commodities with these net deltas before any spread, and with price risks doubled of 2400 and 3600
-abbrev pub two_lines : ℤ → ℤ → List InterLine
-two_lines first second = unspread_line first 2400 ∷ unspread_line second 3600 ∷ []
+abbrev pub two_states : ℤ → ℤ → List CommodityState
+two_states first second = unspread_state first 2400 ∷ unspread_state second 3600 ∷ []
 
 -- a commodity with this net delta, of which this is left, and with this price risk doubled and this weight
-abbrev pub line_with : ℤ → ℤ → ℕ → ℕ → InterLine
-line_with net rest price2 weight = record { net = net; rest = rest; price2 = price2; weight = weight }
+abbrev pub state_with : ℤ → ℤ → ℕ → ℕ → CommodityState
+state_with net rest price2 weight = record { net = net; rest = rest; price2 = price2; weight = weight }
 
 -- a number of contracts of a kind, with this option value
 abbrev pub held_with_value : ProductKind → ℤ → ℕ → HeldContract

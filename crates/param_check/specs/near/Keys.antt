@@ -34,8 +34,8 @@ abbrev pub is_same_key : Key → Key → Bool
 is_same_key x y = is_same_name x.name y.name && (x.number == y.number)
 
 -- the key, where there is one, is among these
-abbrev pub is_among : List Key → Option Key → Bool
-is_among keys key = is_and key (λ k. list_any (is_same_key k) keys)
+abbrev pub is_key_among : List Key → Option Key → Bool
+is_key_among keys key = is_and key (λ k. list_any (is_same_key k) keys)
 
 -- the key, where there is one, is the same as this
 abbrev pub is_same : Option Key → Key → Bool
@@ -47,7 +47,7 @@ has_key identity all key = list_any (λ r. is_same (key_of identity r) key) all
 
 -- a record with the key of an earlier one
 abbrev pub repeats_key : Identity → List Record → Record → Bool
-repeats_key identity earlier r = is_among (filter_map (key_of identity) earlier) (key_of identity r)
+repeats_key identity earlier r = is_key_among (filter_map (key_of identity) earlier) (key_of identity r)
 
 -- the rule that such a record breaks
 abbrev pub repeats : Identity → List Record → Record → Bool
@@ -58,19 +58,19 @@ repeats identity.Priority = repeats_priority
 repeats identity.SpotMonth = repeats_spot
 
 -- no record has the key of this name and number, where these are the keys of all
-abbrev pub is_unknown : List Key → List ℕ → ℕ → Bool
-is_unknown keys name number = not (is_among keys (Some (name_key name number)))
+abbrev pub is_key_unknown : List Key → List ℕ → ℕ → Bool
+is_key_unknown keys name number = not (is_key_among keys (Some (name_key name number)))
 
 -- the record names a commodity that no COMMODITY record has
 abbrev pub names_unknown : List Key → Record → Bool
-names_unknown commodities (record_of.Contract x) = is_unknown commodities x.commodity 0
-names_unknown commodities (record_of.Tier x) = is_unknown commodities x.commodity 0
-names_unknown commodities (record_of.Intra x) = is_unknown commodities x.commodity 0
-names_unknown commodities (record_of.Spot x) = is_unknown commodities x.commodity 0
-names_unknown commodities (record_of.Inter x) = list_any (λ leg. is_unknown commodities leg.commodity 0) x.legs.items
+names_unknown commodities (record_of.Contract x) = is_key_unknown commodities x.commodity 0
+names_unknown commodities (record_of.Tier x) = is_key_unknown commodities x.commodity 0
+names_unknown commodities (record_of.Intra x) = is_key_unknown commodities x.commodity 0
+names_unknown commodities (record_of.Spot x) = is_key_unknown commodities x.commodity 0
+names_unknown commodities (record_of.Inter x) = list_any (λ leg. is_key_unknown commodities leg.commodity 0) x.legs.items
 names_unknown commodities _ = false
 
 -- the record is an INTRA with a leg whose tier no TIER record of its commodity has
 abbrev pub names_unknown_tier : List Key → Record → Bool
 names_unknown_tier tiers r =
-    is_and (as_intra r) (λ s. list_any (λ leg. is_unknown tiers s.commodity leg.tier) s.legs.items)
+    is_and (as_intra r) (λ s. list_any (λ leg. is_key_unknown tiers s.commodity leg.tier) s.legs.items)

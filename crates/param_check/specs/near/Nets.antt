@@ -27,8 +27,8 @@ held_part c net = filter is_held (record { contract = c; net = net } ∷ [])
 abbrev pub holding_at : List ℤ → ℕ → Holding
 holding_at nets c = record { contract = c; net = slice_index_or nets c (pos 0) }
 
-abbrev pub holdings_in : List ℤ → ℕ → List Holding
-holdings_in nets n = filter is_held (map (holding_at nets) (range_with_len 0 n))
+abbrev pub holdings_from : List ℤ → ℕ → List Holding
+holdings_from nets n = filter is_held (map (holding_at nets) (range_with_len 0 n))
 
 -- what an account of these entries holds, of so many contracts
 unfoldable pub entry_holdings : ℕ → List Entry → List Holding

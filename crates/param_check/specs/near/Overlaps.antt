@@ -7,8 +7,8 @@ use Rattle.span_tables.specs.declared.records.Record.TheVariants as record_of
 use Rattle.param_check.specs.declared.check.overlaps.Months.{Months}
 
 -- the months of a tier
-abbrev pub months_of : Tier → Months
-months_of t = record { first = t.first; last = t.last }
+abbrev pub tier_months : Tier → Months
+tier_months t = record { first = t.first; last = t.last }
 
 -- two tiers with these months share one
 abbrev pub meet : Months → Months → Bool
@@ -16,10 +16,10 @@ meet x y = nat_le (max x.first y.first) (min x.last y.last)
 
 -- the months of a record that is a TIER of this commodity
 abbrev pub months_under : List ℕ → Record → Option Months
-months_under commodity (record_of.Tier t) = if bytes_eq t.commodity commodity then Some (months_of t) else None
+months_under commodity (record_of.Tier t) = if bytes_eq t.commodity commodity then Some (tier_months t) else None
 months_under commodity _ = None
 
 -- the record is a TIER that shares a month with one among those of its commodity
 abbrev pub meets_earlier : (List ℕ → List Months) → Record → Bool
-meets_earlier earlier (record_of.Tier t) = list_any (meet (months_of t)) (earlier t.commodity)
+meets_earlier earlier (record_of.Tier t) = list_any (meet (tier_months t)) (earlier t.commodity)
 meets_earlier earlier _ = false

@@ -20,13 +20,13 @@ abbrev pub position_of : List ℕ → List ℕ → ℤ → PositionRecord
 position_of account contract quantity = record { account = account; contract = contract; quantity = quantity }
 
 -- a tier of one quarter
-abbrev pub tier_record : List ℕ → ℕ → ℕ → Record
-tier_record commodity number first =
+abbrev pub tier_sample : List ℕ → ℕ → ℕ → Record
+tier_sample commodity number first =
     record_of.Tier (record { commodity = commodity; number = number; first = first; last = first + 2 })
 
 -- a spread of tiers 1 and 2
-abbrev pub intra_record : List ℕ → ℕ → Record
-intra_record commodity priority =
+abbrev pub intra_sample : List ℕ → ℕ → Record
+intra_sample commodity priority =
     record_of.Intra (record {
       commodity = commodity;
       priority = priority;
@@ -37,8 +37,8 @@ intra_record commodity priority =
     })
 
 -- a spread of two commodities, each on a side
-abbrev pub inter_record : ℕ → List ℕ × Side → List ℕ × Side → Record
-inter_record priority one other =
+abbrev pub inter_sample : ℕ → List ℕ × Side → List ℕ × Side → Record
+inter_sample priority one other =
     record_of.Inter (record {
       priority = priority;
       basis_points = 5000;

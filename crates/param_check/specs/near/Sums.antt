@@ -5,7 +5,7 @@ use Rattle.std.specs.Int.{bit_at}
 use Rattle.std.specs.List.{range_with_len}
 use Rattle.span_tables.specs.declared.limits.TheConstants.{MAX_NET}
 use Rattle.span_tables.specs.declared.portfolios.Holding.{Holding}
-use Rattle.param_check.specs.near.Nets.{entry_holdings, holdings_in}
+use Rattle.param_check.specs.near.Nets.{entry_holdings, holdings_from}
 use Rattle.param_check.specs.declared.binding.nets.Entry.{Entry}
 use Rattle.param_check.specs.declared.binding.contract_sums.TheConstants.{MARKS}
 
@@ -39,4 +39,4 @@ kept_holdings n entries = map kept_holding (entry_holdings n entries)
 
 -- what is held of the numbers below n, as it is kept
 abbrev pub held_below : List ℕ → List ℤ → ℕ → List Holding
-held_below marks places n = map kept_holding (holdings_in (sums_of marks places) n)
+held_below marks places n = map kept_holding (holdings_from (sums_of marks places) n)

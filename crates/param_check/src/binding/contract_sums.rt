@@ -3,7 +3,7 @@ ghost use Rattle.std.specs.Prelude.{◌≡◌, ◌==◌, ◌<◌, ◌+◌, ◌*�
 ghost use Rattle.std.specs.Prelude.{length, map, nat_abs, replicate, pos, slice_index_or, slice_set, IfOk, OnOk};
 ghost use Rattle.std.specs.Int.{bit_at};
 ghost use Rattle.param_check.specs.declared.binding.contract_sums.TheConstants.{MARKS};
-ghost use Rattle.param_check.specs.near.Nets.{held_part, holdings_in};
+ghost use Rattle.param_check.specs.near.Nets.{held_part, holdings_from};
 ghost use Rattle.param_check.specs.near.Sums.{held_below, kept_holding, kept_net, AreMarks};
 
 use span_tables::limits::MAX_NET;
@@ -152,7 +152,7 @@ impl Sums {
 
     /// The sums that are not 0, as what is held of each number; there is room for so many at first.
     pub(crate) fn holdings(&self, alloc: Global, room: usize) -> Result<Vec<Holding>, AllocError>
-        ensures { IfOk result (λ held. held.items ≡ map kept_holding (holdings_in self.now (length self.now))) }
+        ensures { IfOk result (λ held. held.items ≡ map kept_holding (holdings_from self.now (length self.now))) }
     {
         let mut held = Vec::with_capacity(alloc, room)?;
         for word in 0..self.marks.len() {

@@ -1,7 +1,7 @@
 //! What no two records of a kind may share, as keys of a set.
 ghost use Rattle.std.specs.Prelude.{◌≡◌, ◌++◌, ◌||◌, false, option_to_list, IfOk, OnOk};
 ghost use Rattle.span_tables.specs.Rules.{first_breaking};
-ghost use Rattle.param_check.specs.near.Keys.{has_key, is_among, is_same, key_of, repeats};
+ghost use Rattle.param_check.specs.near.Keys.{has_key, is_key_among, is_same, key_of, repeats};
 
 use indexmap::IndexSet;
 use span_tables::name::Name;
@@ -62,10 +62,10 @@ pub(crate) fn name_key(name: &Name, number: u32) -> Key
 
 // Takes the key of a record among those so far, and says whether it was among them.
 fn repeats_or_joins(keys: &mut IndexSet<Key>, key: Option<Key>) -> Result<bool, AllocError>
-    ensures repeats { IfOk result (λ repeats. repeats ≡ is_among keys.old.keys key) }
+    ensures repeats { IfOk result (λ repeats. repeats ≡ is_key_among keys.old.keys key) }
     ensures taken { IfOk result (λ repeats. repeats ≡ false → keys.new.keys ≡ keys.old.keys ++ option_to_list key) }
     ensures members { OnOk result ((k : Key)
-        → is_among keys.new.keys (Some k) ≡ (is_among keys.old.keys (Some k) || is_same key k)) }
+        → is_key_among keys.new.keys (Some k) ≡ (is_key_among keys.old.keys (Some k) || is_same key k)) }
 {
     let Some(key) = key else {
         return Ok(false);
@@ -97,7 +97,7 @@ pub(crate) fn all_keys(
     identity: Identity,
     records: &[Record],
 ) -> Result<IndexSet<Key>, AllocError>
-    ensures { IfOk result (λ keys. (key : Key) → is_among keys.keys (Some key) ≡ has_key identity records.now key) }
+    ensures { IfOk result (λ keys. (key : Key) → is_key_among keys.keys (Some key) ≡ has_key identity records.now key) }
 {
     let mut keys = IndexSet::new(alloc);
     for item in records {

@@ -4,7 +4,7 @@ ghost use Rattle.std.specs.List.{list_all, list_any};
 ghost use Rattle.span_tables.specs.Names.{has_repeat};
 ghost use Rattle.span_tables.specs.Rules.{are_one_sided, first_breaking, is_backwards, is_one_sided, is_side_a};
 ghost use Rattle.span_tables.specs.Rules.{names_no_commodity, names_no_tier, repeats_leg, same_side};
-ghost use Rattle.param_check.specs.near.Keys.{is_unknown, names_unknown, names_unknown_tier};
+ghost use Rattle.param_check.specs.near.Keys.{is_key_unknown, names_unknown, names_unknown_tier};
 ghost use Rattle.param_check.specs.near.RecordRules.{breaks};
 
 use crate::check::keys::{Identity, Key, all_keys, name_key};
@@ -56,18 +56,18 @@ pub(crate) fn first_that_breaks(rule: &RecordRule, records: &[Record]) -> Option
 // ---- C2
 
 // Whether no record has the key of this name and number.
-fn is_unknown(keys: &IndexSet<Key>, name: &Name, number: u32) -> bool
-    ensures { result ≡ is_unknown keys.now.keys name.now number }
+fn is_key_unknown(keys: &IndexSet<Key>, name: &Name, number: u32) -> bool
+    ensures { result ≡ is_key_unknown keys.now.keys name.now number }
 {
     !keys.contains(&name_key(name, number))
 }
 
 // Whether a leg is of an unknown commodity.
 fn has_unknown_leg(commodities: &IndexSet<Key>, legs: &[InterLeg]) -> bool
-    ensures { result ≡ list_any (λ leg. is_unknown commodities.now.keys leg.commodity 0) legs.now }
+    ensures { result ≡ list_any (λ leg. is_key_unknown commodities.now.keys leg.commodity 0) legs.now }
 {
     legs.iter()
-        .any(|leg| is_unknown(commodities, &leg.commodity, 0))
+        .any(|leg| is_key_unknown(commodities, &leg.commodity, 0))
 }
 
 // Whether a record names an unknown commodity.
@@ -76,10 +76,10 @@ fn names_unknown(commodities: &IndexSet<Key>, item: &Record) -> bool
 {
     match item {
         Record::Set(_) | Record::Commodity(_) => false,
-        Record::Contract(contract) => is_unknown(commodities, &contract.commodity, 0),
-        Record::Tier(tier) => is_unknown(commodities, &tier.commodity, 0),
-        Record::Intra(spread) => is_unknown(commodities, &spread.commodity, 0),
-        Record::Spot(spot) => is_unknown(commodities, &spot.commodity, 0),
+        Record::Contract(contract) => is_key_unknown(commodities, &contract.commodity, 0),
+        Record::Tier(tier) => is_key_unknown(commodities, &tier.commodity, 0),
+        Record::Intra(spread) => is_key_unknown(commodities, &spread.commodity, 0),
+        Record::Spot(spot) => is_key_unknown(commodities, &spot.commodity, 0),
         Record::Inter(spread) => has_unknown_leg(commodities, &spread.legs),
     }
 }
@@ -112,10 +112,10 @@ fn is_backwards(item: &Record) -> bool
 
 // Whether a leg is of an unknown tier.
 fn has_unknown_tier(tiers: &IndexSet<Key>, commodity: &Name, legs: &[IntraLeg]) -> bool
-    ensures { result ≡ list_any (λ leg. is_unknown tiers.now.keys commodity.now leg.tier) legs.now }
+    ensures { result ≡ list_any (λ leg. is_key_unknown tiers.now.keys commodity.now leg.tier) legs.now }
 {
     legs.iter()
-        .any(|leg| is_unknown(tiers, commodity, leg.tier))
+        .any(|leg| is_key_unknown(tiers, commodity, leg.tier))
 }
 
 // Whether a record is an INTRA with a leg of an unknown tier.

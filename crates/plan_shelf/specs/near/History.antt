@@ -5,7 +5,7 @@ use Rattle.logbook.specs.Pages.{Book, Cell, Named, Step, View}
 use Rattle.plan_compiler.specs.Compiled.{SetView}
 
 -- the first word of a book is the number of sets in its history; the second stays 0
-pub record IsCounted (words : List Cell) (sets : List SetView) : Type 0 where
+pub record CountsPublications (words : List Cell) (sets : List SetView) : Type 0 where
   pub are : words ≡ (length sets, true) ∷ (0, true) ∷ []
 
 -- the first word of a book
@@ -13,8 +13,8 @@ abbrev pub counter_of : Book → Named
 counter_of book = record { tracked = true; key = 0; book = book }
 
 -- the set was added to all that had been seen; or the history was longer, and then the whole history was seen
-abbrev pub Adds : Step SetView → View SetView ℕ → ℕ → View SetView ℕ → Type 0
-Adds s old found new = MatchBool (found == s.old) (new.0 ≡ old.0 ++ s.ask ∷ []) (length new.0 ≡ found)
+abbrev pub AddsPublication : Step SetView → View SetView ℕ → ℕ → View SetView ℕ → Type 0
+AddsPublication s old found new = MatchBool (found == s.old) (new.0 ≡ old.0 ++ s.ask ∷ []) (length new.0 ≡ found)
 
 -- the second list goes on where the first ends
 abbrev pub IsLonger : List SetView → List SetView → Type 0

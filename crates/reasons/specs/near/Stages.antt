@@ -5,14 +5,14 @@ use Rattle.span_tables.specs.Tables.{AcceptedTables, inters_of}
 use Rattle.span_tables.specs.declared.portfolios.Holding.{Holding}
 use Rattle.span_tables.specs.declared.records.Inter.{Inter}
 use Rattle.span_tables.specs.declared.sides.SpreadsFormed.{SpreadsFormed}
-use Rattle.inter_credit.specs.Credits.{formed_both, inter_both_ways}
-use Rattle.inter_credit.specs.declared.state.InterLine.{InterLine}
-use Rattle.plan_ir.specs.Figures.{inter_lines, loaded_lines}
+use Rattle.inter_credit.specs.Credits.{inter_formed_both, inter_both_ways}
+use Rattle.inter_credit.specs.declared.state.CommodityState.{CommodityState}
+use Rattle.plan_ir.specs.Figures.{inter_states, loaded_states}
 
 -- the held contracts of each commodity, the commodities after all spreads between them, and how many each spread formed
 pub record StagesView : Type 0 where
   pub held : List (List HeldContract)
-  pub lines : List InterLine
+  pub states : List CommodityState
   pub formed : List SpreadsFormed
 
 -- the held contracts of each commodity
@@ -20,14 +20,14 @@ abbrev pub all_held : AcceptedTables → List Holding → List (List HeldContrac
 all_held t holdings = map (λ c. held_of t.contracts holdings c.id) t.commodities
 
 -- how many each of the spreads forms in each direction, from the rests that those before it left
-abbrev pub inters_formed : List Inter → List InterLine → List SpreadsFormed
-inters_formed [] lines = []
-inters_formed (s ∷ spreads) lines = formed_both lines s ∷ inters_formed spreads (inter_both_ways lines s)
+abbrev pub inters_formed : List Inter → List CommodityState → List SpreadsFormed
+inters_formed [] states = []
+inters_formed (s ∷ spreads) states = inter_formed_both states s ∷ inters_formed spreads (inter_both_ways states s)
 
 -- the stages of an account with these holdings
 abbrev pub stages_of : AcceptedTables → List Holding → StagesView
 stages_of t holdings = record {
   held = all_held t holdings;
-  lines = inter_lines t holdings;
-  formed = inters_formed (inters_of t) (loaded_lines t holdings);
+  states = inter_states t holdings;
+  formed = inters_formed (inters_of t) (loaded_states t holdings);
 }

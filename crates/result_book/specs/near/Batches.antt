@@ -2,7 +2,7 @@
 use Rattle.std.specs.Prelude.{◌≡◌, ℕ, List, map}
 use Rattle.std.specs.List.{AllByRecursion}
 use Rattle.std.specs.Map.{values_of}
-use Rattle.result_book.specs.Books.{account_of}
+use Rattle.result_book.specs.Books.{account_of_row}
 use Rattle.result_book.specs.Rows.{RowView}
 
 module _ {Kept : Type 0} (row_of : Kept → RowView) where
@@ -12,4 +12,4 @@ module _ {Kept : Type 0} (row_of : Kept → RowView) where
 
   -- each row is kept under its account
   abbrev pub AreUnderAccounts : List (List ℕ × Kept) → Type 0
-  AreUnderAccounts entries = AllByRecursion (λ entry. entry.0 ≡ account_of (row_of entry.1)) entries
+  AreUnderAccounts entries = AllByRecursion (λ entry. entry.0 ≡ account_of_row (row_of entry.1)) entries

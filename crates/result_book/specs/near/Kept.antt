@@ -3,7 +3,7 @@ use Rattle.std.specs.Prelude.{◌≡◌, ℕ, ◌<◌, ◌≤◌, Bool, false, L
 use Rattle.span_tables.specs.Tables.{AcceptedTables}
 use Rattle.span_tables.specs.declared.limits.TheConstants.{MAX_COMMODITIES}
 use Rattle.span_tables.specs.declared.portfolios.Holding.{Holding}
-use Rattle.plan_ir.specs.Figures.{is_held, option_value_of, total_to}
+use Rattle.plan_ir.specs.Figures.{is_commodity_held, option_value_of, total_to}
 use Rattle.plan_ir.specs.declared.figures.Figures.{Figures}
 use Rattle.step_scheduler.specs.Jobs.{JobView}
 use Rattle.step_scheduler.specs.near.Figures.{AreAllFigures}
@@ -19,5 +19,5 @@ pub record IsRow (job : JobView) (figures : List Figures) (held : List Bool) (to
   pub few : length job.set.tables.commodities ≤ MAX_COMMODITIES
   pub figures_are : AreAllFigures job.set.tables (job.portfolio).holdings figures
   pub held_are : (c : ℕ) → c < length job.set.tables.commodities
-      → slice_index_or held c false ≡ is_held job.set.tables (job.portfolio).holdings c
+      → slice_index_or held c false ≡ is_commodity_held job.set.tables (job.portfolio).holdings c
   pub totals_are : AreTotals job.set.tables (job.portfolio).holdings totals

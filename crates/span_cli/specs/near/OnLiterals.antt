@@ -9,10 +9,10 @@ use Rattle.plan_ir.specs.Listing.{plan_text}
 use Rattle.plan_compiler.specs.Places.{plan_of}
 use Rattle.statement.specs.Listing.{listing_of}
 use Rattle.statement.specs.near.OnLiterals.{on_literals as statement_on_literals}
-use Rattle.span_cli.specs.Words.{form_kinds, has_form, is_taken, joined, kinds_of}
+use Rattle.span_cli.specs.Words.{form_kinds, has_form, is_request, joined, kinds_of}
 
 -- all words that computing on literals unfolds
 unfoldable pub on_literals : ⊤
 unfolding statement_on_literals defaults_fault flags_fault walk_fault flags_pass walk_passes bundle_met walked chars encode_utf8
-    is_taken kinds_of has_form form_kinds joined plan_text plan_of listing_of
+    is_request kinds_of has_form form_kinds joined plan_text plan_of listing_of
 on_literals = tt

@@ -75,14 +75,14 @@ count_for t kind.Spot cc = count_in t.spots cc
 count_for t kind.Inter cc = t.inters
 
 -- a record of a kind is counted, or its profile kept
-abbrev pub Adds : Kind → Fields → Tally → Tally → Type 0
-Adds kind.Set r old new = new ≡ record old { profile = count_at r 2 }
-Adds kind.Commodity r old new = new ≡ record old { commodities = old.commodities + 1 }
-Adds kind.Contract r old new = new ≡ record old { contracts = old.contracts + 1 }
-Adds kind.Tier r old new = CountsOne old.tiers (text_at r 1) new.tiers × (new ≡ record old { tiers = new.tiers })
-Adds kind.Intra r old new = CountsOne old.intras (text_at r 1) new.intras × (new ≡ record old { intras = new.intras })
-Adds kind.Spot r old new = CountsOne old.spots (text_at r 1) new.spots × (new ≡ record old { spots = new.spots })
-Adds kind.Inter r old new = new ≡ record old { inters = old.inters + 1 }
+abbrev pub AddsRecord : Kind → Fields → Tally → Tally → Type 0
+AddsRecord kind.Set r old new = new ≡ record old { profile = count_at r 2 }
+AddsRecord kind.Commodity r old new = new ≡ record old { commodities = old.commodities + 1 }
+AddsRecord kind.Contract r old new = new ≡ record old { contracts = old.contracts + 1 }
+AddsRecord kind.Tier r old new = CountsOne old.tiers (text_at r 1) new.tiers × (new ≡ record old { tiers = new.tiers })
+AddsRecord kind.Intra r old new = CountsOne old.intras (text_at r 1) new.intras × (new ≡ record old { intras = new.intras })
+AddsRecord kind.Spot r old new = CountsOne old.spots (text_at r 1) new.spots × (new ≡ record old { spots = new.spots })
+AddsRecord kind.Inter r old new = new ≡ record old { inters = old.inters + 1 }
 
 -- these records were counted, and the profile of their file kept
 pub record Tallies (t : Tally) (rs : List Fields) : Type 0 where

@@ -36,13 +36,13 @@ abbrev pub IsWord : Fields → ℕ → Type 0
 IsWord r i = count_at r i < 2 ^ 32
 
 -- the names of a record are names, and its numbers fit their types
-abbrev pub Fits : Kind → Fields → Type 0
-Fits kind.Set r = IsNamed r 1 × (count_at r 2 < 2 ^ 8) × (length (text_at r 3) ≡ 3)
-Fits kind.Commodity r = IsNamed r 1 × IsWord r 2
-Fits kind.Contract r =
+abbrev pub FitsKind : Kind → Fields → Type 0
+FitsKind kind.Set r = IsNamed r 1 × (count_at r 2 < 2 ^ 8) × (length (text_at r 3) ≡ 3)
+FitsKind kind.Commodity r = IsNamed r 1 × IsWord r 2
+FitsKind kind.Contract r =
     IsNamed r 1 × IsNamed r 2 × IsWord r 4 × (nat_abs (decimal_at r 5) < 2 ^ 31) × (ratio_at r 6 < 2 ^ 32) × IsWord r EXTRAS
     × (EXTRAS ≤ length r)
-Fits kind.Tier r = IsNamed r 1 × IsWord r 2 × IsWord r 3 × IsWord r 4
-Fits kind.Intra r = IsNamed r 1 × IsWord r 2 × IsWord r 3 × HasLegs 4 (λ at. IsWord r at × (ratio_at r (at + 2) < 2 ^ 32)) r
-Fits kind.Spot r = IsNamed r 1 × IsWord r 2 × IsWord r 3 × IsWord r 4
-Fits kind.Inter r = IsWord r 1 × IsWord r 2 × HasLegs 3 (λ at. IsNamed r at × (ratio_at r (at + 2) < 2 ^ 32)) r
+FitsKind kind.Tier r = IsNamed r 1 × IsWord r 2 × IsWord r 3 × IsWord r 4
+FitsKind kind.Intra r = IsNamed r 1 × IsWord r 2 × IsWord r 3 × HasLegs 4 (λ at. IsWord r at × (ratio_at r (at + 2) < 2 ^ 32)) r
+FitsKind kind.Spot r = IsNamed r 1 × IsWord r 2 × IsWord r 3 × IsWord r 4
+FitsKind kind.Inter r = IsWord r 1 × IsWord r 2 × HasLegs 3 (λ at. IsNamed r at × (ratio_at r (at + 2) < 2 ^ 32)) r

@@ -18,9 +18,9 @@ tables_from set_id profile kinds = record {
   commodities = kinds.commodities.items;
   contracts = kinds.contracts.items;
   tiers = kinds.tiers.items;
-  intras = kinds.intras.items;
+  intra_records = kinds.intras.items;
   spots = kinds.spots.items;
-  inters = kinds.inters.items;
+  inter_records = kinds.inters.items;
 }
 
 -- the tables are those of records without a fault that keep the rules

@@ -6,8 +6,8 @@ use Rattle.plan_compiler.specs.Compiled.{SetView}
 use Rattle.result_book.specs.Rows.{RowView}
 
 -- the row of each portfolio under a set
-abbrev pub rows_under : SetView → List AccountHoldings → List RowView
-rows_under set portfolios = map (λ p. record { set = set; portfolio = p }) portfolios
+abbrev pub rows_of_accounts : SetView → List AccountHoldings → List RowView
+rows_of_accounts set portfolios = map (λ p. record { set = set; portfolio = p }) portfolios
 
 -- no account has two of the portfolios
 abbrev pub AreOnce : List AccountHoldings → Type 0

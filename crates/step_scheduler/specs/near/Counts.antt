@@ -17,7 +17,7 @@ abbrev pub ready_times : Bool → ℕ → ℕ
 ready_times taken missing = if taken then 0 else (if missing == 0 then 1 else 0)
 
 -- the counters count, and the list has each step that can start once
-pub record IsCounted (plan : List StepView) (steps : List Progress) (missing ready : List ℕ) (capacity : ℕ) : Type 0 where
+pub record CountsSteps (plan : List StepView) (steps : List Progress) (missing ready : List ℕ) (capacity : ℕ) : Type 0 where
   pub long : length missing ≡ length plan
   pub missing_is : (k : ℕ) → k < length plan → slice_index missing k ≡ open_inputs steps (inputs_at plan k)
   pub fed : (k : ℕ) → k < length plan → was_taken (progress_at steps k) ≡ true → slice_index missing k ≡ 0

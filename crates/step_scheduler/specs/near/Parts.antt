@@ -5,10 +5,10 @@ use Rattle.span_tables.specs.declared.held.CommodityHeld.{CommodityHeld}
 use Rattle.span_tables.specs.declared.limits.TheConstants.{MAX_PRICE2, MAX_RATE, MAX_UNITS}
 use Rattle.span_tables.specs.declared.portfolios.Holding.{Holding}
 use Rattle.spread_stage.specs.Deltas.{net_delta}
-use Rattle.inter_credit.specs.Credits.{unspread_line}
+use Rattle.inter_credit.specs.Credits.{unspread_state}
 use Rattle.inter_credit.specs.States.{IsNotLoaded, IsUnspread}
 use Rattle.inter_credit.specs.declared.requirement.TheConstants.{MAX_PART}
-use Rattle.inter_credit.specs.declared.state.InterLine.{InterLine}
+use Rattle.inter_credit.specs.declared.state.CommodityState.{CommodityState}
 use Rattle.plan_ir.specs.Figures.{delivery_at, deltas_at, figures_from, figures_of, held_at, minimum_at, net_value_at, scan_at, tiers_at}
 use Rattle.plan_ir.specs.Values.{no_figures}
 use Rattle.plan_ir.specs.declared.figures.Figures.{Figures}
@@ -60,16 +60,16 @@ pub record IsSmall (p : Part) : Type 0 where
   pub net : nat_abs p.net ≤ MAX_UNITS
   pub price2 : (p.scan).price2 ≤ MAX_PRICE2
 
--- the part is within its limits, and its commodity has a line
-pub record HasLine (lines : List InterLine) (p : Part) : Type 0 where
-  pub known : p.commodity < length lines
+-- the part is within its limits, and its commodity has a state
+pub record HasLine (states : List CommodityState) (p : Part) : Type 0 where
+  pub known : p.commodity < length states
   pub small : IsSmall p
 
 -- nothing was loaded of the part's commodity, and no spread was formed
-pub record CanBeLoaded (lines : List InterLine) (p : Part) : Type 0 where
-  pub line : HasLine lines p
-  pub not_loaded : IsNotLoaded lines p.commodity
-  pub unspread : IsUnspread lines
+pub record CanBeLoaded (states : List CommodityState) (p : Part) : Type 0 where
+  pub state : HasLine states p
+  pub not_loaded : IsNotLoaded states p.commodity
+  pub unspread : IsUnspread states
 
 -- the figures of a part whose commodity has this credit
 abbrev pub figures_of_part : Part → ℤ → Figures
@@ -77,7 +77,7 @@ figures_of_part p credit = figures_from p.scan (record { rests = []; charge = p.
 
 -- what an account has of n commodities that holds nothing
 pub record IsBlank (n : ℕ) (blank : Blank) : Type 0 where
-  pub lines : blank.lines ≡ replicate n (unspread_line (pos 0) 0)
+  pub states : blank.states ≡ replicate n (unspread_state (pos 0) 0)
   pub figures : blank.figures.items ≡ replicate n no_figures
 
 -- the figures of the first commodities stand in front of those of nothing held

@@ -6,7 +6,7 @@ use Rattle.step_scheduler.specs.Runs.{IsRun, is_finished, is_taken}
 use Rattle.step_scheduler.specs.declared.events.Event.{Event}
 use Rattle.step_scheduler.specs.declared.progress.Progress.{Progress}
 use Rattle.step_scheduler.specs.near.Steps.{was_taken, is_done, events_of, progress_at}
-use Rattle.step_scheduler.specs.near.Counts.{IsCounted}
+use Rattle.step_scheduler.specs.near.Counts.{CountsSteps}
 use Rattle.step_scheduler.specs.near.Slots.{AreRight, Slot}
 
 -- the steps are those of the history; there is room for the events to come
@@ -25,4 +25,4 @@ pub record IsStepped (job : JobView) (steps : List Progress) (slots : List Slot)
     (capacity : ℕ) (missing ready : List ℕ) (ready_capacity : ℕ) : Type 0 where
   pub board : IsRunBoard job steps history capacity
   pub values : AreRight job steps slots
-  pub counted : IsCounted job.set.plan steps missing ready ready_capacity
+  pub counted : CountsSteps job.set.plan steps missing ready ready_capacity

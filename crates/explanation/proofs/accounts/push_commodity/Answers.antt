@@ -10,8 +10,8 @@ use Rattle.span_tables.specs.Accepted.{IsWithinLimits}
 use Rattle.span_tables.specs.Holdings.{ArePortfolio}
 use Rattle.span_tables.specs.Net.{AccountHoldings}
 use Rattle.span_tables.specs.Tables.{AcceptedTables}
-use Rattle.plan_ir.specs.Figures.{commodity_at, figures_of, is_held, no_commodity}
-use Rattle.plan_ir.proofs.BoundLaws.{length-inter_lines}
+use Rattle.plan_ir.specs.Figures.{commodity_at, figures_of, is_commodity_held, no_commodity}
+use Rattle.plan_ir.proofs.BoundLaws.{length-inter_states}
 use Rattle.reasons.specs.Reasons.{reasons_of}
 use Rattle.reasons.specs.near.Stages.{stages_of}
 use Rattle.reasons.specs.near.Fields.{reasons_text}
@@ -21,7 +21,7 @@ use Rattle.explanation.proofs.accounts.push_commodity.Goals as goal
 
 -- the lines of a commodity that is held
 commodity_written : (t : AcceptedTables) (p : AccountHoldings) (c : ℕ) (ids : List Field) (o o1 o2 : List ℕ)
-    → is_held t p.holdings c ≡ true → map field_text ids ≡ p.account ∷ t.set_id ∷ (commodity_at t c).id ∷ []
+    → is_commodity_held t p.holdings c ≡ true → map field_text ids ≡ p.account ∷ t.set_id ∷ (commodity_at t c).id ∷ []
     → o1 ≡ o ++ reasons_text ids (reasons_of t p.holdings c) → o2 ≡ o1 ++ commodity_text t p c
     → o2 ≡ o ++ flat_map line (commodity_lines t p c)
 commodity_written t p c ids o o1 o2 held is first second =
@@ -52,8 +52,8 @@ push_reasons-requires-clause-lines c =
     omega (
       arith,
       c.requires.number,
-      ap (λ s. length s.lines) c.requires.stages,
-      length-inter_lines t holdings limits kept c.requires.fits,
+      ap (λ s. length s.states) c.requires.stages,
+      length-inter_states t holdings limits kept c.requires.fits,
     )
 
 pub returns : goal.returns

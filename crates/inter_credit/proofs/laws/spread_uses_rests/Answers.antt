@@ -4,5 +4,5 @@ use Rattle.inter_credit.proofs.laws.spread_uses_rests.Goals as goal
 pub returns-clause-length : goal.returns-clause-length
 returns-clause-length c = length-inter_both_ways
 
-pub returns-clause-lines : goal.returns-clause-lines
-returns-clause-lines c = both_ways_use
+pub returns-clause-states : goal.returns-clause-states
+returns-clause-states c = both_ways_use

@@ -6,7 +6,7 @@ use Rattle.reasons.proofs.commodities.form_inters.Given as goal
 
 abbrev pub invariant-loop-inter : goal.invariant-loop-inter
 invariant-loop-inter l = record {
-  lines : l.state ≡ fold inter_both_ways l.fn.state (take l.inter-index l.inters);
+  states : l.state ≡ fold inter_both_ways l.fn.state (take l.inter-index l.inters);
   formed : l.formed.items ≡ inters_formed (take l.inter-index l.inters) l.fn.state;
   long : length l.state ≡ length l.fn.state;
 }

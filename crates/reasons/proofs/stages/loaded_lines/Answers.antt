@@ -1,13 +1,13 @@
 use Rattle.std.proofs.Common.{◌≡◌, ◌<◌, ◌≤◌, length, get_or, slice_set, ap, ◌∙◌, arith}
 use Rattle.scan_risk.specs.Scenarios.{scan_of, scenario_sums}
 use Rattle.spread_stage.specs.Deltas.{month_deltas, net_delta}
-use Rattle.inter_credit.specs.Credits.{unspread_line}
-use Rattle.plan_ir.specs.Figures.{held_at, line_of}
-use Rattle.plan_compiler.specs.Meaning.{lines_loaded}
+use Rattle.inter_credit.specs.Credits.{unspread_state}
+use Rattle.plan_ir.specs.Figures.{held_at, state_of}
+use Rattle.plan_compiler.specs.Meaning.{states_loaded}
 use Rattle.plan_compiler.proofs.Meanings.{load_more}
 use Rattle.plan_compiler.proofs.Taken.{length_partly, not_loaded, unspread}
 use Rattle.plan_compiler.proofs.StageLemmas.{held_read}
-use Rattle.reasons.proofs.stages.loaded_lines.Goals as goal
+use Rattle.reasons.proofs.stages.loaded_states.Goals as goal
 
 pub load-requires-clause-commodity : goal.load-requires-clause-commodity
 load-requires-clause-commodity c =
@@ -44,12 +44,12 @@ loop-commodity-preserved c =
     let net_is : c.net.result ≡ net_delta (month_deltas held) = c.net.ensures.value ∙ ap net_delta c.in_ok-months.ensures in
     let price_is : c.scan-scan.result.price2 ≡ (scan_of (scenario_sums held)).price2 =
     ap (λ s. s.price2) (c.scan-scan.ensures.value ∙ ap scan_of c.sums.ensures.value) in
-    let line_is : unspread_line c.net.result c.scan-scan.result.price2 ≡ line_of t holdings i =
-    (λ k. unspread_line (net_is k) (price_is k))
-    ∙ ap (λ h. unspread_line (net_delta (month_deltas h)) (scan_of (scenario_sums h)).price2) held_is in
+    let state_is : unspread_state c.net.result c.scan-scan.result.price2 ≡ state_of t holdings i =
+    (λ k. unspread_state (net_is k) (price_is k))
+    ∙ ap (λ h. unspread_state (net_delta (month_deltas h)) (scan_of (scenario_sums h)).price2) held_is in
     c.load.ensures.value
-    ∙ ap (λ ls. slice_set ls i (unspread_line c.net.result c.scan-scan.result.price2)) c.loop-commodity.invariant
-    ∙ ap (slice_set (lines_loaded t holdings i) i) line_is ∙ load_more t holdings i lt
+    ∙ ap (λ ls. slice_set ls i (unspread_state c.net.result c.scan-scan.result.price2)) c.loop-commodity.invariant
+    ∙ ap (slice_set (states_loaded t holdings i) i) state_is ∙ load_more t holdings i lt
 
 pub returns-clause-long : goal.returns-clause-long
 returns-clause-long c =

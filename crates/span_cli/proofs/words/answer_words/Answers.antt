@@ -1,7 +1,7 @@
 use Rattle.std.proofs.Common.{inr, map, subst}
 use Rattle.span_cli.specs.Words.{asked_in, kinds_of}
 use Rattle.clap.specs.declared.error.kind.ErrorKind.{ErrorKind}
-use Rattle.span_cli.specs.Telling.{Refuses, Serves}
+use Rattle.span_cli.specs.Telling.{RefusesWords, Serves}
 use Rattle.span_cli.proofs.ServingLemmas.{IfSome-each, words_refused}
 use Rattle.span_cli.proofs.words.answer_words.Goals as goal
 
@@ -14,7 +14,7 @@ returns-in-Err-clause-words g c = words_refused (kinds_of (map g.T.AsStr.text c.
 
 pub returns-in-Err-clause-taken : goal.returns-in-Err-clause-taken
 returns-in-Err-clause-taken g c = λ taken.
-    let told = subst (λ (k : ErrorKind). Refuses k c.refuse.result c.args.out.now c.refuse.new.out c.args.err.now c.refuse.new.err)
+    let told = subst (λ (k : ErrorKind). RefusesWords k c.refuse.result c.args.out.now c.refuse.new.out c.args.err.now c.refuse.new.err)
     (c.in-Err.ensures.err taken) c.refuse.ensures in
     IfSome-each (asked_in (map g.T.AsStr.text c.args.words.now))
     (λ asked. Serves (g.S.Sources.file c.args.sources.now) asked c.refuse.result c.args.out.now c.refuse.new.out

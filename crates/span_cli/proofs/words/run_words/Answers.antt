@@ -2,7 +2,7 @@ use Rattle.std.proofs.Common.{◌≡◌, inl, inr, map, subst, rules}
 use Rattle.clap.specs.Words.{kind_of}
 use Rattle.clap.specs.declared.error.kind.ErrorKind.{ErrorKind}
 use Rattle.clap.specs.declared.error.kind.ErrorKind.TheVariants.{OutOfMemory}
-use Rattle.span_cli.specs.Telling.{Refuses, Serves}
+use Rattle.span_cli.specs.Telling.{RefusesWords, Serves}
 use Rattle.span_cli.specs.Words.{asked_in, joined_words, kinds_of}
 use Rattle.span_cli.proofs.ServingLemmas.{IfSome-each, words_refused}
 use Rattle.span_cli.proofs.words.run_words.Goals as goal
@@ -25,7 +25,7 @@ returns-in-Err-clause-words g c =
 pub returns-in-Err-clause-taken : goal.returns-in-Err-clause-taken
 returns-in-Err-clause-taken g c = λ taken.
     let wanted : kind_of c.from.result ≡ OutOfMemory = search rules in
-    let told = subst (λ (k : ErrorKind). Refuses k c.refuse.result c.args.out.now c.refuse.new.out c.args.err.now c.refuse.new.err)
+    let told = subst (λ (k : ErrorKind). RefusesWords k c.refuse.result c.args.out.now c.refuse.new.out c.args.err.now c.refuse.new.err)
     wanted c.refuse.ensures in
     IfSome-each (asked_in (joined_words (map g.T.AsStr.text c.args.words.now)))
     (λ asked. Serves (g.S.Sources.file c.args.sources.now) asked c.refuse.result c.args.out.now c.refuse.new.out

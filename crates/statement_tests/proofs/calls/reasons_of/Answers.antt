@@ -9,6 +9,6 @@ push_reasons-requires-clause-lines c =
     omega (
       arith,
       c.requires.commodity,
-      ap (λ s. length s.lines) c.in_ok-stages.ensures,
+      ap (λ s. length s.states) c.in_ok-stages.ensures,
       length-inter_lines t holdings c.commodities-limits.ensures.limits c.holdings-kept.ensures.kept c.requires.fits,
     )

@@ -5,6 +5,6 @@ use Rattle.step_scheduler.proofs.parts.form_inters.Given as goal
 
 abbrev pub invariant-loop-inter : goal.invariant-loop-inter
 invariant-loop-inter g l = record {
-  lines : l.lines ≡ fold inter_both_ways l.fn.lines (take l.inter-index l.inters);
-  long : length l.lines ≡ length l.fn.lines;
+  states : l.states ≡ fold inter_both_ways l.fn.states (take l.inter-index l.inters);
+  long : length l.states ≡ length l.fn.states;
 }

@@ -4,13 +4,13 @@ use Rattle.plan_compiler.proofs.StageLemmas.{loaded_whole}
 use Rattle.plan_compiler.proofs.Taken.{length_partly}
 use Rattle.step_scheduler.proofs.HeldLemmas.{next_part, no_part}
 use Rattle.step_scheduler.proofs.PartBounds.{can_be_loaded}
-use Rattle.step_scheduler.proofs.PassedOver.{lines_over, loaded_more}
+use Rattle.step_scheduler.proofs.PassedOver.{states_over, loaded_more}
 use Rattle.step_scheduler.proofs.parts.loaded.Goals as goal
 
 pub loop-part-init : goal.loop-part-init
 loop-part-init g c = record {
   left = c.requires.parts;
-  lines = rw sub-zero (c.in_ok-lines.ensures ∙ c.requires.blank);
+  states = rw sub-zero (c.in_ok-states.ensures ∙ c.requires.blank);
 }
 
 pub load_part-requires : goal.load_part-requires
@@ -18,7 +18,7 @@ load_part-requires g c =
     let here = next_part _ _ c.args.parts.now c.loop-part.part-index c.loop-part.next c.part-item.result c.loop-part-test.true
     c.part-item.is c.loop-part.invariant.left in
     can_be_loaded _ _ c.commodities-count.ensures.limits c.holdings-kept.ensures.kept c.requires.fits c.part-item.result here.1 _ _
-    here.0 c.loop-part.invariant.lines
+    here.0 c.loop-part.invariant.states
 
 pub loop-part-preserved : goal.loop-part-preserved
 loop-part-preserved g c =
@@ -26,7 +26,7 @@ loop-part-preserved g c =
     c.part-item.is c.loop-part.invariant.left in
     record {
       left = here.2;
-      lines = loaded_more _ _ c.part-item.result _ _ _ here.0 here.1 c.loop-part.invariant.lines c.load_part.ensures;
+      states = loaded_more _ _ c.part-item.result _ _ _ here.0 here.1 c.loop-part.invariant.states c.load_part.ensures;
     }
 
 pub returns-clause-value : goal.returns-clause-value
@@ -35,11 +35,11 @@ returns-clause-value g c =
     let holdings = (c.args.portfolio.now).holdings in
     let end = no_part t holdings c.args.parts.now c.loop-part.part-index c.loop-part.next c.loop-part-test.false
     c.loop-part.invariant.left in
-    c.loop-part.invariant.lines ∙ lines_over t holdings c.loop-part.next (length t.commodities) end.behind (omega arith) end.none
+    c.loop-part.invariant.states ∙ states_over t holdings c.loop-part.next (length t.commodities) end.behind (omega arith) end.none
     ∙ loaded_whole t holdings
 
 pub returns-clause-long : goal.returns-clause-long
 returns-clause-long g c =
     let end = no_part _ _ c.args.parts.now c.loop-part.part-index c.loop-part.next c.loop-part-test.false c.loop-part.invariant.left in
-    ap length c.loop-part.invariant.lines
+    ap length c.loop-part.invariant.states
     ∙ length_partly _ _ c.commodities-count.ensures.limits c.holdings-kept.ensures.kept c.requires.fits _ end.behind

@@ -8,7 +8,7 @@ figures_with-written-requires g c =
     let here = next_part _ _ c.args.parts.now c.loop-part.part-index c.loop-part.next c.part-item.result c.loop-part-test.true
     c.part-item.is c.loop-part.invariant.left in
     let limits = rw c.tables.ensures.tables at c.commodities-count.ensures.limits in
-    has_line _ _ limits c.holdings-kept.ensures.kept c.requires.fits c.part-item.result here.1 _ here.0.known c.requires.lines
+    has_line _ _ limits c.holdings-kept.ensures.kept c.requires.fits c.part-item.result here.1 _ here.0.known c.requires.states
 
 pub loop-part-init : goal.loop-part-init
 loop-part-init g c = record { left = c.requires.parts; written = none_written _ _ _ c.requires.blank }
@@ -19,7 +19,7 @@ loop-part-preserved g c =
     c.part-item.is c.loop-part.invariant.left in
     record {
       left = here.2;
-      written = part_written _ _ c.part-item.result c.args.lines.now _ _ _ _ here.0 here.1 c.requires.lines
+      written = part_written _ _ c.part-item.result c.args.states.now _ _ _ _ here.0 here.1 c.requires.states
           c.loop-part.invariant.written c.figures_with-written.ensures c.write_at.ensures;
     }
 

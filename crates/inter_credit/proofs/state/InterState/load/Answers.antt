@@ -1,16 +1,16 @@
 use Rattle.std.proofs.Common.{◌≡◌, pos, arith}
 use Rattle.std.proofs.lemmas.Int.{ints}
 use Rattle.std.proofs.lemmas.List.Elements.{All-set}
-use Rattle.inter_credit.specs.near.Lines.{IsLine}
-use Rattle.inter_credit.proofs.OpenLemmas.{load_open, loaded_line, nothing_loaded}
+use Rattle.inter_credit.specs.near.CommodityStates.{IsCommodityState}
+use Rattle.inter_credit.proofs.OpenLemmas.{load_open, loaded_state, nothing_loaded}
 use Rattle.inter_credit.proofs.state.InterState.load.Goals as goal
 
 pub invariant_of-self : goal.invariant_of-self
 invariant_of-self c =
-    rw c.unspread_line.ensures (record {
-      in_range = All-set IsLine c.self.inside.lines.items c.args.commodity _
-          (loaded_line c.args.net c.args.price2 c.requires.net c.requires.price2) c.self.invariant.in_range;
-      open_sides = load_open c.self.inside.sides c.with-self-inside.result c.self.inside.lines.items c.args.commodity _
+    rw c.unspread_state.ensures (record {
+      in_range = All-set IsCommodityState c.self.inside.commodities.items c.args.commodity _
+          (loaded_state c.args.net c.args.price2 c.requires.net c.requires.price2) c.self.invariant.in_range;
+      open_sides = load_open c.self.inside.sides c.with-self-inside.result c.self.inside.commodities.items c.args.commodity _
           c.with-self-inside.ensures.kept c.with-self-inside.ensures.added c.self.invariant.open_sides;
     })
 

@@ -1,13 +1,13 @@
 use Rattle.std.proofs.Common.{◌≡◌, ◌++◌, ◌∷◌, ◌∙◌, [], ap, sym, subst}
 use Rattle.std.specs.Arc.{arc_value}
-use Rattle.result_book.specs.Books.{account_of, row_for}
+use Rattle.result_book.specs.Books.{account_of_row, row_for}
 use Rattle.result_book.proofs.BatchLemmas.{inserted_last, kept-push, once-kept, under-push}
 use Rattle.result_book.specs.near.Batches.{AreUnderAccounts, kept_rows}
 use Rattle.result_book.proofs.batches.BatchRows.put.Goals as goal
 
 -- the row went last, under its account
-own : (c : goal.Joined-insert-2) → c.copied-account.result ≡ account_of (arc_value c.args.row)
-own c = c.copied-account.ensures ∙ c.account.ensures ∙ ap account_of c.deref.ensures
+own : (c : goal.Joined-insert-2) → c.copied-account.result ≡ account_of_row (arc_value c.args.row)
+own c = c.copied-account.ensures ∙ c.account.ensures ∙ ap account_of_row c.deref.ensures
 
 last : (c : goal.Joined-insert-2)
     → c.insert.new.self.entries ≡ c.self.inside.by_account.entries ++ (c.copied-account.result, c.args.row) ∷ []

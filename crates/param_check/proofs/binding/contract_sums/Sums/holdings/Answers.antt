@@ -1,5 +1,5 @@
 use Rattle.std.proofs.Common.{◌≤◌, ◌*◌, ◌∙◌, ap, length, map, arith}
-use Rattle.param_check.specs.near.Nets.{holdings_in}
+use Rattle.param_check.specs.near.Nets.{holdings_from}
 use Rattle.param_check.specs.near.Sums.{kept_holding}
 use Rattle.param_check.proofs.MarkLaws.{all_below}
 use Rattle.param_check.proofs.binding.contract_sums.Sums.holdings.Goals as goal
@@ -11,4 +11,4 @@ returns c =
     let all : length places ≤ 64 * c.loop-word.word =
     omega (arith, c.self.invariant.room, c.loop-word-test.false, c.len-word-end.ensures, c.self.inside.marks.ok.0) in
     c.loop-word.invariant ∙ all_below marks places (64 * c.loop-word.word) all
-    ∙ ap (λ ss. map kept_holding (holdings_in ss (length ss))) c.self.view_is
+    ∙ ap (λ ss. map kept_holding (holdings_from ss (length ss))) c.self.view_is

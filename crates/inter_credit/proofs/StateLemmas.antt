@@ -1,4 +1,4 @@
--- A change of one commodity's line, and what it leaves of the others.
+-- A change of one commodity's state, and what it leaves of the others.
 use Rattle.std.proofs.Common.{◌≡◌, ◌≢◌, ◌+◌, ◌*◌, ◌<◌, ◌≤◌, ◌==◌, ◌||◌, ℕ, zero, suc, Bool, true}
 use Rattle.std.proofs.Common.{false, List, [], ◌∷◌, length, get_or, set, drop, refl, sym, ap, ◌∙◌, arith}
 use Rattle.std.specs.List.{list_any}
@@ -8,9 +8,9 @@ use Rattle.span_tables.specs.Names.{has_repeat}
 use Rattle.span_tables.specs.Sides.{market_side, part_on}
 use Rattle.span_tables.specs.declared.sides.Direction.{Direction}
 use Rattle.span_tables.specs.declared.records.CommodityLeg.{CommodityLeg}
-use Rattle.inter_credit.specs.Credits.{change_at, line_at, rest_at}
+use Rattle.inter_credit.specs.Credits.{change_at, state_at, rest_at}
 use Rattle.inter_credit.specs.near.Rooms.{HaveRoom}
-use Rattle.inter_credit.specs.declared.state.InterLine.{InterLine}
+use Rattle.inter_credit.specs.declared.state.CommodityState.{CommodityState}
 
 -- a change at a place is a write
 change_at_set : {A : Type 0} (f : A → A) (i : ℕ) (xs : List A) (d : A) → set xs i (f (get_or xs i d)) ≡ change_at f i xs
@@ -27,27 +27,27 @@ length-change_at f i [] = refl
 length-change_at f zero (x ∷ xs) = refl
 length-change_at f (suc i) (x ∷ xs) = ap suc (length-change_at f i xs)
 
--- the lines of other commodities stay
-pub line_at-change_at : (f : InterLine → InterLine) (i k : ℕ) (lines : List InterLine) → i ≢ k
-    → line_at (change_at f i lines) k ≡ line_at lines k
-line_at-change_at f i k [] ne = refl
-line_at-change_at f zero zero (line ∷ lines) ne = absurd (ne refl)
-line_at-change_at f zero (suc k) (line ∷ lines) ne = refl
-line_at-change_at f (suc i) zero (line ∷ lines) ne = refl
-line_at-change_at f (suc i) (suc k) (line ∷ lines) ne = line_at-change_at f i k lines (λ e. ne (ap suc e))
+-- the states of other commodities stay
+pub state_at-change_at : (f : CommodityState → CommodityState) (i k : ℕ) (states : List CommodityState) → i ≢ k
+    → state_at (change_at f i states) k ≡ state_at states k
+state_at-change_at f i k [] ne = refl
+state_at-change_at f zero zero (state ∷ states) ne = absurd (ne refl)
+state_at-change_at f zero (suc k) (state ∷ states) ne = refl
+state_at-change_at f (suc i) zero (state ∷ states) ne = refl
+state_at-change_at f (suc i) (suc k) (state ∷ states) ne = state_at-change_at f i k states (λ e. ne (ap suc e))
 
--- the rest of a commodity stands in its line
-pub rest_of_line : (lines : List InterLine) (k : ℕ) → rest_at lines k ≡ (line_at lines k).rest
-rest_of_line [] k = refl
-rest_of_line (line ∷ lines) zero = refl
-rest_of_line (line ∷ lines) (suc k) = rest_of_line lines k
+-- the rest of a commodity stands in its state
+pub rest_of_state : (states : List CommodityState) (k : ℕ) → rest_at states k ≡ (state_at states k).rest
+rest_of_state [] k = refl
+rest_of_state (state ∷ states) zero = refl
+rest_of_state (state ∷ states) (suc k) = rest_of_state states k
 
 -- the rests of other commodities stay
-pub rest_at-change_at : (f : InterLine → InterLine) (i k : ℕ) (lines : List InterLine) → i ≢ k
-    → rest_at (change_at f i lines) k ≡ rest_at lines k
-rest_at-change_at f i k lines ne =
-    rest_of_line (change_at f i lines) k ∙ ap (λ (line : InterLine). line.rest) (line_at-change_at f i k lines ne)
-    ∙ sym (rest_of_line lines k)
+pub rest_at-change_at : (f : CommodityState → CommodityState) (i k : ℕ) (states : List CommodityState) → i ≢ k
+    → rest_at (change_at f i states) k ≡ rest_at states k
+rest_at-change_at f i k states ne =
+    rest_of_state (change_at f i states) k ∙ ap (λ (state : CommodityState). state.rest) (state_at-change_at f i k states ne)
+    ∙ sym (rest_of_state states k)
 
 pub or_left : (a b : Bool) → (a || b) ≡ false → a ≡ false
 or_left true b e = e
@@ -68,35 +68,35 @@ pub not_equal : (a b : ℕ) → (a == b) ≡ false → a ≢ b
 not_equal a b e = grind (arith, nat_tests)
 
 -- after one leg's use the others have the room that they had
-pub HaveRoom-rest : (d : Direction) (n : ℕ) (leg : CommodityLeg) (legs : List CommodityLeg) (lines : List InterLine)
-    (f : InterLine → InterLine)
-    → HaveRoom d n (leg ∷ legs) lines → HaveRoom d n legs (change_at f leg.commodity lines)
-HaveRoom-rest d n leg legs lines f h =
+pub HaveRoom-rest : (d : Direction) (n : ℕ) (leg : CommodityLeg) (legs : List CommodityLeg) (states : List CommodityState)
+    (f : CommodityState → CommodityState)
+    → HaveRoom d n (leg ∷ legs) states → HaveRoom d n legs (change_at f leg.commodity states)
+HaveRoom-rest d n leg legs states f h =
     let other : CommodityLeg → Bool = λ b. leg.commodity == b.commodity in
     record {
-      known = λ k e lt. rw (length-change_at f leg.commodity lines) (h.known (suc k) e (omega arith));
+      known = λ k e lt. rw (length-change_at f leg.commodity states) (h.known (suc k) e (omega arith));
       room = λ k e lt.
           let ne : leg.commodity ≢ (get_or legs k e).commodity =
           not_equal leg.commodity (get_or legs k e).commodity
           (none_at other legs
           (or_left (list_any other legs) (has_repeat (λ a b. a.commodity == b.commodity) legs) h.apart) k e lt) in
-          rw (rest_at-change_at f leg.commodity (get_or legs k e).commodity lines ne) (h.room (suc k) e (omega arith));
+          rw (rest_at-change_at f leg.commodity (get_or legs k e).commodity states ne) (h.room (suc k) e (omega arith));
       apart = or_right (list_any other legs) (has_repeat (λ a b. a.commodity == b.commodity) legs) h.apart;
     }
 
-pub HaveRoom-drop : (d : Direction) (n : ℕ) (legs : List CommodityLeg) (i : ℕ) (leg : CommodityLeg) (lines after : List InterLine)
-    (f : InterLine → InterLine)
-    → i < length legs → leg ≡ get_or legs i leg → after ≡ change_at f leg.commodity lines
-    → HaveRoom d n (drop i legs) lines → HaveRoom d n (drop (i + 1) legs) after
-HaveRoom-drop d n legs i leg lines after f lt at e h =
+pub HaveRoom-drop : (d : Direction) (n : ℕ) (legs : List CommodityLeg) (i : ℕ) (leg : CommodityLeg) (states after : List CommodityState)
+    (f : CommodityState → CommodityState)
+    → i < length legs → leg ≡ get_or legs i leg → after ≡ change_at f leg.commodity states
+    → HaveRoom d n (drop i legs) states → HaveRoom d n (drop (i + 1) legs) after
+HaveRoom-drop d n legs i leg states after f lt at e h =
     let split : drop i legs ≡ leg ∷ drop (i + 1) legs = drop_more legs i leg lt ∙ ap (λ x. x ∷ drop (i + 1) legs) (sym at) in
-    rw e (HaveRoom-rest d n leg (drop (i + 1) legs) lines f (rw split at h))
+    rw e (HaveRoom-rest d n leg (drop (i + 1) legs) states f (rw split at h))
 
 -- the room of the leg at a place
-pub HaveRoom-first : (d : Direction) (n : ℕ) (legs : List CommodityLeg) (i : ℕ) (leg : CommodityLeg) (lines : List InterLine)
-    → i < length legs → leg ≡ get_or legs i leg → HaveRoom d n (drop i legs) lines
-    → n * leg.ratio ≤ part_on (market_side d leg.side) (rest_at lines leg.commodity)
-HaveRoom-first d n legs i leg lines lt at h =
+pub HaveRoom-first : (d : Direction) (n : ℕ) (legs : List CommodityLeg) (i : ℕ) (leg : CommodityLeg) (states : List CommodityState)
+    → i < length legs → leg ≡ get_or legs i leg → HaveRoom d n (drop i legs) states
+    → n * leg.ratio ≤ part_on (market_side d leg.side) (rest_at states leg.commodity)
+HaveRoom-first d n legs i leg states lt at h =
     let split : drop i legs ≡ leg ∷ drop (i + 1) legs = drop_more legs i leg lt ∙ ap (λ x. x ∷ drop (i + 1) legs) (sym at) in
     let first = rw split at h in
     first.room 0 leg (omega arith)

@@ -1,0 +1,13 @@
+-- What the state keeps of the state of a commodity.
+use Rattle.std.specs.Prelude.{◌+◌, ◌*◌, ◌≤◌, nat_abs}
+use Rattle.span_tables.specs.declared.limits.TheConstants.{MAX_BASIS_POINTS, MAX_PRICE2, MAX_UNITS}
+use Rattle.span_tables.specs.Sides.{IsLeftOf}
+use Rattle.inter_credit.specs.declared.state.CommodityState.{CommodityState}
+
+-- a commodity's net delta and price risk lie in their ranges, its rest is left of its net delta, and its weight has no
+-- more than all basis points of what was used
+pub record IsCommodityState (state : CommodityState) : Type 0 where
+  pub net : nat_abs state.net ≤ MAX_UNITS
+  pub price2 : state.price2 ≤ MAX_PRICE2
+  pub rest : IsLeftOf state.net state.rest
+  pub weight : state.weight + MAX_BASIS_POINTS * nat_abs state.rest ≤ MAX_BASIS_POINTS * nat_abs state.net
