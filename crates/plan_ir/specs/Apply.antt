@@ -176,7 +176,7 @@ pub record Takes (t : AcceptedTables) (operation : Op) (inputs : List Value) : T
 -- the figures of a commodity from a scan, months after spreads, the delivery charge, the minimum and the commodities
 abbrev pub final_figures : ℕ → List Value → Figures
 final_figures c inputs =
-    figures_from (scan_in (input inputs 0)) (tier_state_in (input inputs 1)) (amount_in (input inputs 2))
+    figures_from (scan_in (input inputs 0)) (tier_state_in (input inputs 1)).charge (amount_in (input inputs 2))
     (pos (credit_at (states_in (input inputs 4)) c)) (amount_in (input inputs 3))
 
 -- the commodities with one more of them loaded, from its months and its scan

@@ -92,10 +92,10 @@ inter_states t holdings = after_inter_spreads (inters_of t) (loaded_states t hol
 abbrev pub figures_with : ℤ → ℕ → ℤ → ℤ → ℤ → ℤ → ℤ → Figures
 figures_with s a i d c m r = record { scan = s; active = a; intra = i; delivery = d; credit = c; minimum = m; requirement = r }
 
--- the figures of a commodity, from its scan, its months after all spreads, and its amounts
-abbrev pub figures_from : Scan → TierRests → ℤ → ℤ → ℤ → Figures
-figures_from scan tiers delivery credit minimum =
-    let intra = pos (intra_charge tiers.charge) in
+-- the figures of a commodity, from its scan, the exact charge of its intracommodity spreads, and its amounts
+abbrev pub figures_from : Scan → ℕ → ℤ → ℤ → ℤ → Figures
+figures_from scan charge delivery credit minimum =
+    let intra = pos (intra_charge charge) in
     figures_with scan.risk scan.active intra delivery credit minimum
     (requirement_of scan.risk intra delivery credit minimum)
 
@@ -106,7 +106,7 @@ numbers_of f = f.scan ∷ pos f.active ∷ f.intra ∷ f.delivery ∷ f.credit �
 -- the seven figures of the commodity of a number
 unfoldable pub figures_of : AcceptedTables → List Holding → ℕ → Figures
 figures_of t holdings c =
-    figures_from (scan_at t holdings c) (tiers_at t holdings c)
+    figures_from (scan_at t holdings c) (tiers_at t holdings c).charge
     (pos (delivery_at t holdings c)) (pos (credit_at (inter_states t holdings) c)) (pos (minimum_at t holdings c))
 
 -- the sum of the requirements of the first commodities

@@ -18,7 +18,7 @@ ghost use Rattle.plan_ir.specs.Apply.{Takes, TakesFinal, final_figures, inter_at
 ghost use Rattle.plan_ir.specs.Figures.{commodity_at, intras_at};
 ghost use Rattle.plan_ir.specs.near.Copying.{IsChangeable, IsInPlace};
 
-use crate::figures::{Figures, figures_from};
+use crate::figures::Figures;
 use crate::ops::Op;
 use crate::values::Value;
 use inter_credit::credit::credit;
@@ -76,9 +76,9 @@ fn final_figures(commodity: u32, first: &Value, rest: &[Arc<Value>]) -> Figures
     ensures { result ≡ final_figures commodity (first.now ∷ map arc_value rest.now) }
 {
     let credit = credit(rest[3].inter(), commodity as usize);
-    figures_from(
+    Figures::of_stages(
         first.scan(),
-        rest[0].tiers(),
+        rest[0].tiers().charge(),
         rest[1].amount(),
         credit,
         rest[2].amount(),

@@ -1,14 +1,15 @@
 //! The seven figures of a commodity (docs/METHOD.md, "Minimum and requirement").
-ghost use Rattle.std.specs.Prelude.{◌≡◌, ◌≤◌, nat_abs};
+ghost use Rattle.std.specs.Prelude.{◌≡◌, ◌*◌, ◌≤◌, nat_abs};
 ghost use Rattle.inter_credit.specs.declared.requirement.TheConstants.{MAX_PART};
 ghost use Rattle.plan_ir.specs.Figures.{figures_from, numbers_of};
+ghost use Rattle.plan_ir.specs.Values.{no_figures};
+ghost use Rattle.span_tables.specs.declared.limits.TheConstants.{MAX_RATE, MAX_UNITS};
 
 use inter_credit::requirement::requirement;
 use scan_risk::Scan;
 use span_money::amounts::Money;
 use span_tables::limits::{MAX_HELD, MAX_NET, MAX_PRICE2, MAX_RATE, MAX_SUM};
-use spread_stage::charges::{MAX_DELIVERY_CHARGE, MAX_INTRA_CHARGE, intra_charge};
-use spread_stage::tiers::TierState;
+use spread_stage::charges::{MAX_DELIVERY_CHARGE, MAX_INTRA_CHARGE, rounded_charge};
 
 /// The size of the requirement of a commodity, at most, in minor units: scan risk, the charges, the credit and the
 /// minimum, each at its largest. (The credit is at most half of price risk doubled.)
@@ -52,30 +53,42 @@ impl Figures {
             self.requirement.get(),
         ]
     }
-}
 
-// The figures of a commodity, from its scan, its months after all spreads, and its amounts.
-pub(crate) fn figures_from(
-    scan: &Scan,
-    tiers: &TierState,
-    delivery: Money,
-    credit: Money,
-    minimum: Money,
-) -> Figures
-    requires risk { nat_abs (scan.now).risk ≤ MAX_PART }
-    requires delivery { nat_abs delivery ≤ MAX_PART }
-    requires credit { nat_abs credit ≤ MAX_PART }
-    requires minimum { nat_abs minimum ≤ MAX_PART }
-    ensures { result ≡ figures_from scan.now tiers.now delivery credit minimum }
-{
-    let intra = intra_charge(tiers);
-    Figures {
-        scan: scan.risk,
-        active: scan.active,
-        intra,
-        delivery,
-        credit,
-        minimum,
-        requirement: requirement(scan.risk, intra, delivery, credit, minimum),
+    /// The figures of a commodity from what its stages have: its scan, the exact charge of its intracommodity spreads (in 10^-8 minor
+    /// units), the delivery charge, the credit and the short option minimum (docs/METHOD.md, "Minimum and requirement").
+    pub fn of_stages(scan: &Scan, charge: u128, delivery: Money, credit: Money, minimum: Money) -> Figures
+        requires risk { nat_abs (scan.now).risk ≤ MAX_PART }
+        requires charge { charge ≤ MAX_RATE * MAX_UNITS }
+        requires delivery { nat_abs delivery ≤ MAX_PART }
+        requires credit { nat_abs credit ≤ MAX_PART }
+        requires minimum { nat_abs minimum ≤ MAX_PART }
+        ensures { result ≡ figures_from scan.now charge delivery credit minimum }
+    {
+        let intra = rounded_charge(charge);
+        Figures {
+            scan: scan.risk,
+            active: scan.active,
+            intra,
+            delivery,
+            credit,
+            minimum,
+            requirement: requirement(scan.risk, intra, delivery, credit, minimum),
+        }
+    }
+
+    /// The figures of a commodity of which nothing is held: amounts of 0, in scenario 1.
+    pub fn of_nothing() -> Figures
+        ensures { result ≡ no_figures }
+    {
+        let none = Money::new(0);
+        Figures {
+            scan: none,
+            active: 1,
+            intra: none,
+            delivery: none,
+            credit: none,
+            minimum: none,
+            requirement: none,
+        }
     }
 }

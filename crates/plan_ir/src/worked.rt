@@ -41,7 +41,7 @@ fn steps_of_a_small_plan()
 
 // A charge of 83.325 rounded up, and the larger of what the stages make and the minimum.
 fn figures_of_a_commodity()
-    ensures stages { figures_from scan tiers (pos 40) (pos 600) (pos 500)
+    ensures stages { figures_from scan tiers.charge (pos 40) (pos 600) (pos 500)
         ≡ figures_with (pos 1200) 13 (pos 84) (pos 40) (pos 600) (pos 500) (pos 724) }
-    ensures minimum { (figures_from scan tiers (pos 40) (pos 600) (pos 2500)).requirement ≡ pos 2500 }
+    ensures minimum { (figures_from scan tiers.charge (pos 40) (pos 600) (pos 2500)).requirement ≡ pos 2500 }
 {}

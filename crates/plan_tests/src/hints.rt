@@ -85,17 +85,8 @@ fn load_of_nothing(rt: HostRuntime) {
 fn total_of_nothing(rt: HostRuntime) {
     let tables = tables_of(rt.alloc(), PARAMS).expect(&rt, "tables");
     assert!(rt; tables.commodities().len() == 1);
-    let none = Figures {
-        scan: Money::new(0),
-        active: 1,
-        intra: Money::new(0),
-        delivery: Money::new(0),
-        credit: Money::new(0),
-        minimum: Money::new(0),
-        requirement: Money::new(0),
-    };
     let mut rest = Vec::new(rt.alloc());
-    add_input(&rt, rt.alloc(), &mut rest, Value::Figures(none));
+    add_input(&rt, rt.alloc(), &mut rest, Value::Figures(Figures::of_nothing()));
     let total = Value::Total(Money::new(500));
     assert!(rt; changes_nothing(&tables, Op::TotalAdd(0), &total, &rest));
 }

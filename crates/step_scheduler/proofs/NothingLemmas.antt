@@ -24,7 +24,7 @@ scan_of_nothing : scan_of (scenario_sums []) ≡ no_scan
 unfolding scan_of scenario_sums
 scan_of_nothing = refl
 
-figures_from_nothing : figures_from no_scan (unspread []) (pos 0) (pos 0) (pos 0) ≡ no_figures
+figures_from_nothing : figures_from no_scan 0 (pos 0) (pos 0) (pos 0) ≡ no_figures
 unfolding intra_charge requirement_of
 figures_from_nothing = refl
 
@@ -69,5 +69,5 @@ module _ (t : AcceptedTables) (holdings : List Holding) (c : ℕ) (none : held_a
   pub figures_of_nothing : c < length t.commodities → figures_of t holdings c ≡ no_figures
   unfolding figures_of
   figures_of_nothing lt =
-      (λ k. figures_from (nothing_scanned k) (no_tiers k) (pos (nothing_delivered k)) (pos (no_credit lt k)) (pos (no_minimum k)))
+      (λ k. figures_from (nothing_scanned k) (no_tiers k).charge (pos (nothing_delivered k)) (pos (no_credit lt k)) (pos (no_minimum k)))
       ∙ figures_from_nothing

@@ -13,7 +13,7 @@ use Rattle.plan_ir.proofs.BoundLaws.{length-inter_states}
 use Rattle.plan_compiler.specs.Meaning.{states_loaded}
 use Rattle.plan_compiler.proofs.Taken.{length_partly, not_loaded, unspread}
 use Rattle.step_scheduler.specs.declared.parts.Part.{Part}
-use Rattle.step_scheduler.specs.near.Parts.{CanBeLoaded, HasLine, IsNext, IsPart, IsSmall}
+use Rattle.step_scheduler.specs.near.Parts.{CanBeLoaded, HasState, IsNext, IsPart, IsSmall}
 use Rattle.step_scheduler.proofs.PassedOver.{states_over}
 
 -- an account with holdings, under tables within their limits
@@ -36,8 +36,8 @@ module _ (t : AcceptedTables) (holdings : List Holding) (limits : IsWithinLimits
       }
 
   -- after all spreads the commodity has its state
-  pub has_line : (states : List CommodityState) → p.commodity < length t.commodities → states ≡ inter_states t holdings → HasLine states p
-  has_line states lt all = record {
+  pub has_state : (states : List CommodityState) → p.commodity < length t.commodities → states ≡ inter_states t holdings → HasState states p
+  has_state states lt all = record {
     known = let long = length-inter_states t holdings limits portfolio known in omega (arith, lt, long, ap length all);
     small = small_part lt;
   }

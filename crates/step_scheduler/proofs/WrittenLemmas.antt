@@ -22,7 +22,7 @@ figures_are : (t : AcceptedTables) (holdings : List Holding) (p : Part) (states 
     → figures_of_part p (pos (credit_at states p.commodity)) ≡ figures_of t holdings p.commodity
 unfolding figures_of
 figures_are t holdings p states is l =
-    λ k. figures_from (is.scan k) (record { rests = []; charge = is.charge k }) (is.delivery k) (pos (credit_at (l k) p.commodity))
+    λ k. figures_from (is.scan k) (is.charge k) (is.delivery k) (pos (credit_at (l k) p.commodity))
     (is.minimum k)
 
 -- nothing is written yet

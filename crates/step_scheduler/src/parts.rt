@@ -17,12 +17,12 @@ ghost use Rattle.inter_credit.specs.OptionValue.{net_value_of};
 ghost use Rattle.plan_ir.specs.Figures.{held_at, inter_states, loaded_states, option_value_of, total_to};
 ghost use Rattle.plan_ir.specs.Values.{no_figures};
 ghost use Rattle.step_scheduler.specs.near.Figures.{AreAllFigures};
-ghost use Rattle.step_scheduler.specs.near.Parts.{ArePartsFrom, CanBeLoaded, HasLine, IsPart, figures_of_part};
+ghost use Rattle.step_scheduler.specs.near.Parts.{ArePartsFrom, CanBeLoaded, HasState, IsPart, figures_of_part};
 
 use crate::watches::{Walk, Watch};
 use inter_credit::credit::credit;
 use inter_credit::option_value::net_value;
-use inter_credit::requirement::{minimum, requirement};
+use inter_credit::requirement::minimum;
 use inter_credit::state::InterState;
 use plan_compiler::set::CompiledSet;
 use plan_ir::figures::Figures;
@@ -34,7 +34,7 @@ use span_tables::held::{Held, gather_held};
 use span_tables::portfolios::Portfolio;
 use span_tables::records::{Inter, Intra};
 use span_tables::tables::Tables;
-use spread_stage::charges::{delivery, rounded_charge};
+use spread_stage::charges::delivery;
 use spread_stage::deltas::month_deltas;
 use spread_stage::tiers::{TierState, start};
 use std::alloc::{AllocError, Global};
@@ -214,20 +214,16 @@ pub(crate) fn form_inters<W: Watch>(
 
 // The figures of a held commodity, from its part and the commodities after all spreads between them.
 fn figures_with(part: &Part, states: &InterState) -> Figures
-    requires { HasLine states.now part.now }
+    requires { HasState states.now part.now }
     ensures { result ≡ figures_of_part part.now (pos (credit_at states.now part.now.commodity)) }
 {
-    let intra = rounded_charge(part.charge);
-    let credit = credit(states, part.commodity);
-    Figures {
-        scan: part.scan.risk,
-        active: part.scan.active,
-        intra,
-        delivery: part.delivery,
-        credit,
-        minimum: part.minimum,
-        requirement: requirement(part.scan.risk, intra, part.delivery, credit, part.minimum),
-    }
+    Figures::of_stages(
+        &part.scan,
+        part.charge,
+        part.delivery,
+        credit(states, part.commodity),
+        part.minimum,
+    )
 }
 
 // Passes the watch for the figures of commodities, from one number up to another.

@@ -61,19 +61,19 @@ pub record IsSmall (p : Part) : Type 0 where
   pub price2 : (p.scan).price2 ≤ MAX_PRICE2
 
 -- the part is within its limits, and its commodity has a state
-pub record HasLine (states : List CommodityState) (p : Part) : Type 0 where
+pub record HasState (states : List CommodityState) (p : Part) : Type 0 where
   pub known : p.commodity < length states
   pub small : IsSmall p
 
 -- nothing was loaded of the part's commodity, and no spread was formed
 pub record CanBeLoaded (states : List CommodityState) (p : Part) : Type 0 where
-  pub state : HasLine states p
+  pub state : HasState states p
   pub not_loaded : IsNotLoaded states p.commodity
   pub unspread : IsUnspread states
 
 -- the figures of a part whose commodity has this credit
 abbrev pub figures_of_part : Part → ℤ → Figures
-figures_of_part p credit = figures_from p.scan (record { rests = []; charge = p.charge }) p.delivery credit p.minimum
+figures_of_part p credit = figures_from p.scan p.charge p.delivery credit p.minimum
 
 -- what an account has of n commodities that holds nothing
 pub record IsBlank (n : ℕ) (blank : Blank) : Type 0 where

@@ -1,5 +1,5 @@
 use Rattle.step_scheduler.proofs.HeldLemmas.{next_part, no_part}
-use Rattle.step_scheduler.proofs.PartBounds.{has_line}
+use Rattle.step_scheduler.proofs.PartBounds.{has_state}
 use Rattle.step_scheduler.proofs.WrittenLemmas.{all_written, none_written, part_written}
 use Rattle.step_scheduler.proofs.parts.write_figures.Goals as goal
 
@@ -8,7 +8,7 @@ figures_with-written-requires g c =
     let here = next_part _ _ c.args.parts.now c.loop-part.part-index c.loop-part.next c.part-item.result c.loop-part-test.true
     c.part-item.is c.loop-part.invariant.left in
     let limits = rw c.tables.ensures.tables at c.commodities-count.ensures.limits in
-    has_line _ _ limits c.holdings-kept.ensures.kept c.requires.fits c.part-item.result here.1 _ here.0.known c.requires.states
+    has_state _ _ limits c.holdings-kept.ensures.kept c.requires.fits c.part-item.result here.1 _ here.0.known c.requires.states
 
 pub loop-part-init : goal.loop-part-init
 loop-part-init g c = record { left = c.requires.parts; written = none_written _ _ _ c.requires.blank }
