@@ -7,7 +7,7 @@ ghost use Rattle.span_tables.specs.Net.{holdings_of};
 ghost use Rattle.span_tables.specs.near.Samples.{commodity, set};
 ghost use Rattle.span_tables.specs.Tables.{tables_of};
 ghost use Rattle.span_tables.specs.declared.records.Record.TheVariants as record_of;
-ghost use Rattle.statement.specs.near.Samples.{one_future};
+ghost use Rattle.statement.specs.near.Samples.{one_future, risk_line};
 ghost use Rattle.statement.specs.Statement.{statement_bound, statement_of};
 ghost use Rattle.std.specs.Prelude.{◌++◌, ◌≡◌, ◌∷◌, [], Ok, codes, neg_ℤ, pos};
 
@@ -16,24 +16,27 @@ fn statements_of_two_accounts()
     ensures first { statement_bound (tables_of (set (codes "D1") ∷ commodity (codes "AA")
         ∷ record_of.Contract (contract_of (codes "FA")) ∷ []))
         (position_of (codes "X") (codes "FA") (pos 1) ∷ [])
-        ≡ Ok (codes "R,X,D1,AA,0,1,0,0,0,0,0\nT,X,D1,0\n") }
+        ≡ Ok (risk_line (codes "X") (codes "D1") (codes "0") (codes "1") ++ codes "T,X,D1,0\n") }
     ensures second { statement_bound (tables_of (set (codes "D1") ∷ commodity (codes "AA")
         ∷ record_of.Contract (contract_of (codes "FA")) ∷ []))
         (position_of (codes "B") (codes "FA") (pos 1) ∷ [])
-        ≡ Ok (codes "R,B,D1,AA,0,1,0,0,0,0,0\nT,B,D1,0\n") }
+        ≡ Ok (risk_line (codes "B") (codes "D1") (codes "0") (codes "1") ++ codes "T,B,D1,0\n") }
     ensures both { statement_bound (tables_of (set (codes "D1") ∷ commodity (codes "AA")
         ∷ record_of.Contract (contract_of (codes "FA")) ∷ []))
         (position_of (codes "X") (codes "FA") (pos 1) ∷ position_of (codes "B") (codes "FA") (pos 1) ∷ [])
-        ≡ Ok (codes "R,X,D1,AA,0,1,0,0,0,0,0\nT,X,D1,0\nR,B,D1,AA,0,1,0,0,0,0,0\nT,B,D1,0\n") }
+        ≡ Ok (risk_line (codes "X") (codes "D1") (codes "0") (codes "1") ++ codes "T,X,D1,0\n"
+        ++ risk_line (codes "B") (codes "D1") (codes "0") (codes "1") ++ codes "T,B,D1,0\n") }
 {}
 
 // A file that is cut behind its first line.
 fn statements_of_a_cut_file()
-    ensures first { statement_of one_future (codes "X,FA,1\n") ≡ Ok (codes "R,X,D1,AA,1200,13,0,0,0,0,1200\nT,X,D1,1200\n") }
-    ensures second { statement_of one_future (codes "B,FA,-1\n") ≡ Ok (codes "R,B,D1,AA,1200,11,0,0,0,0,1200\nT,B,D1,1200\n") }
+    ensures first { statement_of one_future (codes "X,FA,1\n")
+        ≡ Ok (risk_line (codes "X") (codes "D1") (codes "1200") (codes "13") ++ codes "T,X,D1,1200\n") }
+    ensures second { statement_of one_future (codes "B,FA,-1\n")
+        ≡ Ok (risk_line (codes "B") (codes "D1") (codes "1200") (codes "11") ++ codes "T,B,D1,1200\n") }
     ensures whole { statement_of one_future (codes "X,FA,1\n" ++ codes "B,FA,-1\n")
-        ≡ Ok (codes "R,X,D1,AA,1200,13,0,0,0,0,1200\nT,X,D1,1200\n"
-        ++ codes "R,B,D1,AA,1200,11,0,0,0,0,1200\nT,B,D1,1200\n") }
+        ≡ Ok (risk_line (codes "X") (codes "D1") (codes "1200") (codes "13") ++ codes "T,X,D1,1200\n"
+        ++ risk_line (codes "B") (codes "D1") (codes "1200") (codes "11") ++ codes "T,B,D1,1200\n") }
 {}
 
 // A file that is cut behind a line feed inside quotes: it has one record, and its parts have two others.
@@ -53,5 +56,5 @@ fn account_in_both_parts()
         (position_of (codes "X") (codes "FA") (pos 3) ∷ position_of (codes "X") (codes "FA") (neg_ℤ (pos 1)) ∷ []) (codes "X")
         ≡ record { contract = 0; net = pos 2 } ∷ [] }
     ensures statement { statement_of one_future (codes "X,FA,3\nX,FA,-1\n")
-        ≡ Ok (codes "R,X,D1,AA,2400,13,0,0,0,0,2400\nT,X,D1,2400\n") }
+        ≡ Ok (risk_line (codes "X") (codes "D1") (codes "2400") (codes "13") ++ codes "T,X,D1,2400\n") }
 {}

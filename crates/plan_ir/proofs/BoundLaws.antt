@@ -22,7 +22,7 @@ use Rattle.spread_stage.proofs.FallLemmas.{spreads_shrink}
 use Rattle.inter_credit.specs.near.CommodityStates.{IsCommodityState}
 use Rattle.inter_credit.specs.Credits.{credit_at}
 use Rattle.inter_credit.proofs.BoundLaws.{credit_small, length-after_inter_spreads, states_stay, minimum_small, requirement_small}
-use Rattle.inter_credit.proofs.OpenLemmas.{loaded_line}
+use Rattle.inter_credit.proofs.OpenLemmas.{loaded_state}
 use Rattle.inter_credit.proofs.Sizes.{size-add}
 use Rattle.inter_credit.proofs.ValueLemmas.{net_value_small}
 use Rattle.inter_credit.specs.declared.option_value.TheConstants.{MAX_NET_VALUE}
@@ -68,7 +68,7 @@ module _ (t : AcceptedTables) (holdings : List Holding) (limits : IsWithinLimits
 
   -- the state of a commodity before any intercommodity spread
   pub state_of_is : (c : ℕ) → IsCommodityState (state_of t holdings c)
-  state_of_is c = loaded_line _ _ (net_small (deltas_at t holdings c) (deltas_at_are c)) (price2_at_small c)
+  state_of_is c = loaded_state _ _ (net_small (deltas_at t holdings c) (deltas_at_are c)) (price2_at_small c)
 
   -- ---- all commodities
 

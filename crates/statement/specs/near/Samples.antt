@@ -1,4 +1,4 @@
--- Parameter files that many worked values share, and the lines that they are made of.
+-- Parameter files that many worked values share, the lines that they are made of, and lines of statements.
 use Rattle.std.specs.Prelude.{ℕ, List, [], ◌++◌, codes}
 
 -- ---- lines
@@ -47,6 +47,19 @@ pa more = codes "CONTRACT,PA,AA,P,202503,-0.5,1,0,0,0,0,0,0,0,0,0,0,0,0,0,0,0,0"
 -- two tiers of AA
 abbrev pub two_tiers : List ℕ
 two_tiers = codes "TIER,AA,1,202501,202504\n" ++ codes "TIER,AA,2,202505,202512\n"
+
+-- ---- lines of statements
+
+-- the R line of an account's AA whose only figure is this scan risk, in this scenario
+abbrev pub risk_line : List ℕ → List ℕ → List ℕ → List ℕ → List ℕ
+risk_line account set risk active =
+    codes "R," ++ account ++ codes "," ++ set ++ codes ",AA," ++ risk ++ codes "," ++ active
+    ++ codes ",0,0,0,0," ++ risk ++ codes "\n"
+
+-- the R line of an account under a set with a spread and a spot month, where spreads of this charge form
+abbrev pub spread_line : List ℕ → List ℕ → List ℕ → List ℕ
+spread_line set charge requirement =
+    codes "R,X," ++ set ++ codes ",AA,1200,13," ++ charge ++ codes ",40,0,0," ++ requirement ++ codes "\n"
 
 -- ---- files
 

@@ -1,4 +1,4 @@
-//! The line and the exit status of each fault, and the lines of a row, computed by the definitions.
+//! The line and the exit status of each fault, computed by the definitions.
 #![tactic(auto, unfolding(crate::specs::near::OnLiterals::on_literals))]
 
 ghost use Rattle.param_check.specs.Binding as bind_fault;
@@ -16,12 +16,10 @@ ghost use Rattle.span_csv.specs.declared.faults.ParamFault.{ParamFault};
 ghost use Rattle.span_csv.specs.declared.faults.ParamFault.TheVariants as params;
 ghost use Rattle.span_csv.specs.declared.faults.PositionFault.{PositionFault};
 ghost use Rattle.span_csv.specs.declared.faults.PositionFault.TheVariants as positions;
-ghost use Rattle.span_money.specs.LineFields.{line};
 ghost use Rattle.statement.specs.FaultLines.{fault_line, fault_status};
-ghost use Rattle.statement.specs.Statement.{figures_line, total_line};
 ghost use Rattle.statement.specs.declared.faults.SpanFault.TheVariants as span_fault;
 ghost use Rattle.statement.specs.declared.statuses.TheConstants.{DONE, FILE_FAILED};
-ghost use Rattle.std.specs.Prelude.{◌≡◌, ◌++◌, ◌∷◌, [], codes, false, neg_ℤ, pos};
+ghost use Rattle.std.specs.Prelude.{◌≡◌, ◌++◌, codes, false};
 
 // Parameters that are not read.
 fn lines_of_parameters()
@@ -139,22 +137,4 @@ fn statuses_of_want_of_memory()
 fn statuses_without_a_fault()
     ensures done { DONE ≡ 0 }
     ensures file { FILE_FAILED ≡ 6 }
-{}
-
-// The line of a commodity and that of a total.
-fn lines_of_a_row()
-    ensures figures { line (figures_line (codes "X-1") (codes "D_1") (codes "AA") (record {
-      scan = pos 1200;
-      active = 13;
-      intra = pos 500;
-      delivery = pos 40;
-      credit = pos 7;
-      minimum = pos 0;
-      requirement = pos 1733;
-    }))
-        ≡ codes "R,X-1,D_1,AA,1200,13,500,40,7,0,1733\n" }
-    ensures total { line (total_line (codes "X-1") (codes "D_1") (pos 1733 ∷ [])) ≡ codes "T,X-1,D_1,1733\n" }
-    ensures below_zero { line (total_line (codes "Y") (codes "D_1") (neg_ℤ (pos 5) ∷ [])) ≡ codes "T,Y,D_1,-5\n" }
-    ensures with_value { line (total_line (codes "Z") (codes "D_2") (pos 1700 ∷ neg_ℤ (pos 480) ∷ pos 2180 ∷ pos 0 ∷ []))
-        ≡ codes "T,Z,D_2,1700,-480,2180,0\n" }
 {}

@@ -1,11 +1,24 @@
-//! Files and their statements, computed by the definitions.
+//! The lines of a row, and files and their statements, computed by the definitions.
 #![tactic(auto, unfolding(crate::specs::near::OnLiterals::on_literals))]
 
-ghost use Rattle.std.specs.Prelude.{◌++◌, ◌≡◌, [], ◌∷◌, codes};
+ghost use Rattle.std.specs.Prelude.{◌++◌, ◌≡◌, [], ◌∷◌, codes, neg_ℤ, pos};
+ghost use Rattle.plan_ir.specs.Figures.{figures_with};
+ghost use Rattle.span_money.specs.LineFields.{line};
 ghost use Rattle.statement.specs.near.Samples.{ca, commodity, fa, fa1, fa2, fb, future, one_commodity, one_future};
 ghost use Rattle.statement.specs.near.Samples.{one_future_with_crlf, one_tier, pa, set_d1, spread_and_spot, three_commodities};
 ghost use Rattle.statement.specs.near.Samples.{three_tiers, two_commodities, two_options, two_tiers};
-ghost use Rattle.statement.specs.Statement.{statement_of};
+ghost use Rattle.statement.specs.Statement.{figures_line, statement_of, total_line};
+
+// The line of a commodity and that of a total.
+fn lines_of_a_row()
+    ensures figures { line (figures_line (codes "X-1") (codes "D_1") (codes "AA")
+        (figures_with (pos 1200) 13 (pos 500) (pos 40) (pos 7) (pos 0) (pos 1733)))
+        ≡ codes "R,X-1,D_1,AA,1200,13,500,40,7,0,1733\n" }
+    ensures total { line (total_line (codes "X-1") (codes "D_1") (pos 1733 ∷ [])) ≡ codes "T,X-1,D_1,1733\n" }
+    ensures below_zero { line (total_line (codes "Y") (codes "D_1") (neg_ℤ (pos 5) ∷ [])) ≡ codes "T,Y,D_1,-5\n" }
+    ensures with_value { line (total_line (codes "Z") (codes "D_2") (pos 1700 ∷ neg_ℤ (pos 480) ∷ pos 2180 ∷ pos 0 ∷ []))
+        ≡ codes "T,Z,D_2,1700,-480,2180,0\n" }
+{}
 
 // A future that is long, and short; positions that cancel out; and a record over the limit of a net, which is within it.
 fn one_account()
