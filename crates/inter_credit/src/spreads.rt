@@ -52,7 +52,12 @@ fn spreads_formed(states: &[CommodityState], legs: &[CommodityLeg], direction: D
 }
 
 // A commodity of which some units of 10^-8 deltas on a market side were used, at so many basis points.
-fn state_after(state: CommodityState, on: MarketSide, used: u64, basis_points: u32) -> CommodityState
+fn state_after(
+    state: CommodityState,
+    on: MarketSide,
+    used: u64,
+    basis_points: u32,
+) -> CommodityState
     requires state { IsCommodityState state }
     requires used { used ≤ part_on on state.rest }
     requires basis_points { basis_points ≤ MAX_BASIS_POINTS }
@@ -121,7 +126,12 @@ fn form(states: &mut [CommodityState], spread: &Inter, direction: Direction)
 }
 
 // A spread in one direction, which is looked at where rests lie on the sides of the market that it needs.
-fn spread_one_way(states: &mut [CommodityState], sides: &OpenSides, spread: &Inter, direction: Direction)
+fn spread_one_way(
+    states: &mut [CommodityState],
+    sides: &OpenSides,
+    spread: &Inter,
+    direction: Direction,
+)
     requires states { All IsCommodityState states.old }
     requires sides { AreOpen sides.now states.old }
     requires spread { IsInter (length states.old) spread.now }

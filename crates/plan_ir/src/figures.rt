@@ -56,7 +56,13 @@ impl Figures {
 
     /// The figures of a commodity from what its stages have: its scan, the exact charge of its intracommodity spreads (in 10^-8 minor
     /// units), the delivery charge, the credit and the short option minimum (docs/METHOD.md, "Minimum and requirement").
-    pub fn of_stages(scan: &Scan, charge: u128, delivery: Money, credit: Money, minimum: Money) -> Figures
+    pub fn of_stages(
+        scan: &Scan,
+        charge: u128,
+        delivery: Money,
+        credit: Money,
+        minimum: Money,
+    ) -> Figures
         requires risk { nat_abs (scan.now).risk ≤ MAX_PART }
         requires charge { charge ≤ MAX_RATE * MAX_UNITS }
         requires delivery { nat_abs delivery ≤ MAX_PART }

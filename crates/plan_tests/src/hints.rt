@@ -86,7 +86,12 @@ fn total_of_nothing(rt: HostRuntime) {
     let tables = tables_of(rt.alloc(), PARAMS).expect(&rt, "tables");
     assert!(rt; tables.commodities().len() == 1);
     let mut rest = Vec::new(rt.alloc());
-    add_input(&rt, rt.alloc(), &mut rest, Value::Figures(Figures::of_nothing()));
+    add_input(
+        &rt,
+        rt.alloc(),
+        &mut rest,
+        Value::Figures(Figures::of_nothing()),
+    );
     let total = Value::Total(Money::new(500));
     assert!(rt; changes_nothing(&tables, Op::TotalAdd(0), &total, &rest));
 }

@@ -1,4 +1,4 @@
--- What the state keeps of the state of a commodity.
+-- What an intercommodity state keeps of each commodity.
 use Rattle.std.specs.Prelude.{◌+◌, ◌*◌, ◌≤◌, nat_abs}
 use Rattle.span_tables.specs.declared.limits.TheConstants.{MAX_BASIS_POINTS, MAX_PRICE2, MAX_UNITS}
 use Rattle.span_tables.specs.Sides.{IsLeftOf}

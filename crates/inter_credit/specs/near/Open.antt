@@ -1,4 +1,4 @@
--- The sides of the market that a state marks beside its states.
+-- The sides of the market that an intercommodity state marks beside the states of its commodities.
 use Rattle.std.specs.Prelude.{ℕ, List, All}
 use Rattle.span_tables.specs.Slots.{IsOpenAt}
 use Rattle.span_tables.specs.declared.slots.OpenSides.{OpenSides}
