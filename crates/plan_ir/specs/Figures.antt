@@ -90,7 +90,15 @@ inter_states t holdings = after_inter_spreads (inters_of t) (loaded_states t hol
 
 -- figures from their numbers, in the order in which a statement prints them
 abbrev pub figures_with : ℤ → ℕ → ℤ → ℤ → ℤ → ℤ → ℤ → Figures
-figures_with s a i d c m r = record { scan = s; active = a; intra = i; delivery = d; credit = c; minimum = m; requirement = r }
+figures_with scan active intra delivery credit minimum requirement = record {
+  scan = scan;
+  active = active;
+  intra = intra;
+  delivery = delivery;
+  credit = credit;
+  minimum = minimum;
+  requirement = requirement;
+}
 
 -- the figures of a commodity, from its scan, the exact charge of its intracommodity spreads, and its amounts
 abbrev pub figures_from : Scan → ℕ → ℤ → ℤ → ℤ → Figures
