@@ -13,7 +13,7 @@ use Rattle.statement.specs.Gives.{is_memory}
 use Rattle.result_book.specs.declared.books.BookFault.{BookFault}
 use Rattle.result_book.specs.declared.books.BookFault.TheVariants as book
 use Rattle.span_tables.specs.Net.{AccountHoldings}
-use Rattle.statement.specs.Rolls.{GivesRoll, RefusesRoll, RefusesRoll, is_ok, roll_of}
+use Rattle.statement.specs.Rolls.{GivesRoll, Refuses, RefusesRoll, is_ok, roll_of}
 use Rattle.statement.specs.near.SpanFaults.{of_book}
 use Rattle.statement.specs.Rolls.{of_next_set}
 use Rattle.statement.specs.Statement.{accepted_of, and_then, margin_of, portfolios_under, same}
@@ -32,7 +32,7 @@ refused_too : {A B : Type 0} (answer : Result A SpanFault) (other : Result B Spa
     (may_keep may_publish other_keeps other_publishes : Bool) (e : SpanFault)
     → ((x : SpanFault) → answer ≡ Err x → other ≡ Err x)
     → (may_keep ≡ true → other_keeps ≡ true) → (may_publish ≡ true → other_publishes ≡ true)
-    → RefusesRoll answer may_keep may_publish e → RefusesRoll other other_keeps other_publishes e
+    → Refuses answer may_keep may_publish e → Refuses other other_keeps other_publishes e
 refused_too answer other k p ok op fault.Memory faults keeps publishes h = tt
 refused_too answer other k p ok op (fault.Book f) faults keeps publishes h = (h.0, keeps h.1)
 refused_too answer other k p ok op fault.Shelf faults keeps publishes h = publishes h
@@ -48,17 +48,17 @@ refused_too answer other k p ok op (fault.UnknownAccount account) faults keeps p
 
 -- a fault of two files refuses the answer that has it
 refused_by_own : {A : Type 0} (answer : Result A SpanFault) (may_keep may_publish : Bool) (e : SpanFault)
-    → is_of_files e ≡ true → is_memory e ≡ false → answer ≡ Err e → RefusesRoll answer may_keep may_publish e
+    → is_of_files e ≡ true → is_memory e ≡ false → answer ≡ Err e → Refuses answer may_keep may_publish e
 refused_by_own answer k p e files =
-    each_of_files (λ x. is_memory x ≡ false → answer ≡ Err x → RefusesRoll answer k p x)
+    each_of_files (λ x. is_memory x ≡ false → answer ≡ Err x → Refuses answer k p x)
     (λ f named is. (named, is)) (λ f named is. (named, is)) (λ f named is. (named, is)) (λ f named is. (named, is)) e files
 
 -- a fault of two files, under the name that it has in the next set, refuses the answer that has it
 refused_by_next : {A : Type 0} (answer : Result A SpanFault) (may_keep may_publish : Bool) (e : SpanFault)
     → is_of_files e ≡ true → is_memory e ≡ false → answer ≡ Err (of_next_set e)
-    → RefusesRoll answer may_keep may_publish (of_next_set e)
+    → Refuses answer may_keep may_publish (of_next_set e)
 refused_by_next answer k p e files =
-    each_of_files (λ x. is_memory x ≡ false → answer ≡ Err (of_next_set x) → RefusesRoll answer k p (of_next_set x))
+    each_of_files (λ x. is_memory x ≡ false → answer ≡ Err (of_next_set x) → Refuses answer k p (of_next_set x))
     (λ f named is. (named, is)) (λ f named is. (named, is)) (λ f named is. (named, is)) (λ f named is. (named, is)) e files
 
 -- ---- the first half
@@ -196,7 +196,7 @@ under_portfolios tables records portfolios first is = rw (is) refl
 
 -- a book refuses rows where it has no number left, or for want of memory
 pub refused_rows : {A X Y : Type 0} (answer : Result A SpanFault) (may_publish : Bool) (e : BookFault)
-    → ((e ≡ book.NoMoreBatches) × X) ⊎ ((e ≡ book.OutOfMemory) × Y) → RefusesRoll answer true may_publish (of_book e)
+    → ((e ≡ book.NoMoreBatches) × X) ⊎ ((e ≡ book.OutOfMemory) × Y) → Refuses answer true may_publish (of_book e)
 refused_rows answer may_publish e (inl full) = rw (full.0) (refl, refl)
 refused_rows answer may_publish e (inr memory) = rw (memory.0) tt
 
@@ -208,7 +208,7 @@ unkept_rows e (inr memory) = rw (memory.0) (inl refl)
 
 -- what keeps the rows of the first statement from the book refuses the second
 pub kept_refuses : {A : Type 0} (answer : Result A SpanFault) (may_publish : Bool) (e : SpanFault)
-    → (e ≡ fault.Memory) ⊎ (e ≡ fault.Book book.NoMoreBatches) → RefusesRoll answer true may_publish e
+    → (e ≡ fault.Memory) ⊎ (e ≡ fault.Book book.NoMoreBatches) → Refuses answer true may_publish e
 kept_refuses answer may_publish e (inl memory) = rw (memory) tt
 kept_refuses answer may_publish e (inr full) = rw (full) (refl, refl)
 

@@ -28,17 +28,17 @@ is_ok (Err e) = false
 -- Why a call that is to give an answer gives none. Want of memory says nothing of the files. A book that was opened as often
 -- as there are numbers refuses, where a batch may be kept there; a shelf, where a set may be published there. Any other
 -- fault is the answer's own.
-abbrev pub RefusesRoll : {A : Type 0} → Result A SpanFault → Bool → Bool → SpanFault → Type 0
-RefusesRoll answer may_keep may_publish fault.Memory = ⊤
-RefusesRoll answer may_keep may_publish (fault.Book e) = (e ≡ book.NoMoreBatches) × (may_keep ≡ true)
-RefusesRoll answer may_keep may_publish fault.Shelf = may_publish ≡ true
-RefusesRoll answer may_keep may_publish e = (is_memory e ≡ false) × (answer ≡ Err e)
+abbrev pub Refuses : {A : Type 0} → Result A SpanFault → Bool → Bool → SpanFault → Type 0
+Refuses answer may_keep may_publish fault.Memory = ⊤
+Refuses answer may_keep may_publish (fault.Book e) = (e ≡ book.NoMoreBatches) × (may_keep ≡ true)
+Refuses answer may_keep may_publish fault.Shelf = may_publish ≡ true
+Refuses answer may_keep may_publish e = (is_memory e ≡ false) × (answer ≡ Err e)
 
 -- why a roll is refused: a batch is kept where the first statement stands, and a set is published where the next one is
 -- accepted too
 abbrev pub RefusesRoll : ℕ → List ℕ → List ℕ → List ℕ → SpanFault → Type 0
 RefusesRoll workers params next positions e =
-    RefusesRoll (roll_of workers params next positions) (is_ok (margin_of workers params positions))
+    Refuses (roll_of workers params next positions) (is_ok (margin_of workers params positions))
     (is_ok (margin_of workers params positions) && is_ok (accepted_of next)) e
 
 -- the text of both statements, or why it is refused

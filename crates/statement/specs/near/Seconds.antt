@@ -3,7 +3,7 @@ use Rattle.std.specs.Prelude.{◌≡◌, ℕ, List, [], ◌∷◌, ◌++◌, tru
 use Rattle.span_tables.specs.Tables.{AcceptedTables}
 use Rattle.span_tables.specs.declared.records.PositionRecord.{PositionRecord}
 use Rattle.plan_compiler.specs.Compiled.{SetView}
-use Rattle.statement.specs.Rolls.{RefusesRoll, is_ok}
+use Rattle.statement.specs.Rolls.{Refuses, is_ok}
 use Rattle.statement.specs.Rolls.{of_next_set}
 use Rattle.statement.specs.Statement.{accepted_of, and_then, same, statement_bound}
 use Rattle.statement.specs.declared.faults.SpanFault.{SpanFault}
@@ -16,17 +16,17 @@ second_of next records =
 
 -- why there is no second statement
 abbrev pub RefusesSecond : List ℕ → List PositionRecord → SpanFault → Type 0
-RefusesSecond next records e = RefusesRoll (second_of next records) true (is_ok (accepted_of next)) e
+RefusesSecond next records e = Refuses (second_of next records) true (is_ok (accepted_of next)) e
 
 -- why there is no next set
 abbrev pub RefusesNext : List ℕ → SpanFault → Type 0
 RefusesNext next e =
-    RefusesRoll (and_then of_next_set (accepted_of next) (λ tables. Ok tables)) false (is_ok (accepted_of next)) e
+    Refuses (and_then of_next_set (accepted_of next) (λ tables. Ok tables)) false (is_ok (accepted_of next)) e
 
 -- why there is no statement under the tables of the next set
 abbrev pub RefusesUnder : AcceptedTables → List PositionRecord → SpanFault → Type 0
 RefusesUnder tables records e =
-    RefusesRoll (and_then of_next_set (statement_bound tables records) (λ text. Ok text)) true false e
+    Refuses (and_then of_next_set (statement_bound tables records) (λ text. Ok text)) true false e
 
 -- the second statement comes after what was there
 abbrev pub Rolls : List ℕ → List PositionRecord → List ℕ → List ℕ → Type 0
