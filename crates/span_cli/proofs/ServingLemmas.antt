@@ -14,7 +14,7 @@ use Rattle.statement.specs.declared.faults.SpanFault.TheVariants as fault
 use Rattle.span_cli.specs.Serving.{Answer, Asked, Found, IsAnswer, IsAnswered, IsOfRoll, all_read, answer_of, answered, memory}
 use Rattle.span_cli.specs.Serving.{read_before, refused}
 use Rattle.span_cli.specs.Sources.{File}
-use Rattle.span_cli.specs.Telling.{AnswersWords, RefusesBy, Serves, Tells}
+use Rattle.span_cli.specs.Telling.{AnswersWords, RefusesWordsBy, Serves, Tells}
 use Rattle.span_cli.specs.Telling as telling
 use Rattle.span_cli.specs.near.Refusals.{Loads, MayGive, read_then, refusal_answer, refusal_line, refusal_status}
 use Rattle.span_cli.specs.declared.serving.Refusal.{Refusal}
@@ -152,16 +152,16 @@ IfSome-each (Some x) P f = f x
 
 -- words that are refused for one of these kinds of reason, or for want of memory
 refused_by : (kinds : Kinds) (e : Error) (given : ℕ) (old_out new_out old_err new_err : Stream) → HasKind kinds e
-    → telling.RefusesWords (kind_of e) given old_out new_out old_err new_err → RefusesBy kinds given old_out new_out old_err new_err
+    → telling.RefusesWords (kind_of e) given old_out new_out old_err new_err → RefusesWordsBy kinds given old_out new_out old_err new_err
 refused_by kinds e given old_out new_out old_err new_err (inl wanted) told = of_memory kinds where
   memory_told : Tells memory given old_out new_out old_err new_err
   memory_told = subst (λ (k : ErrorKind). telling.RefusesWords k given old_out new_out old_err new_err) wanted told
 
-  of_memory : (ks : Kinds) → RefusesBy ks given old_out new_out old_err new_err
+  of_memory : (ks : Kinds) → RefusesWordsBy ks given old_out new_out old_err new_err
   of_memory [] = memory_told
   of_memory (k ∷ ks) = inr (of_memory ks)
 refused_by kinds e given old_out new_out old_err new_err (inr among) told = of_kind kinds among where
-  of_kind : (ks : Kinds) → IsAmong (kind_of e) ks → RefusesBy ks given old_out new_out old_err new_err
+  of_kind : (ks : Kinds) → IsAmong (kind_of e) ks → RefusesWordsBy ks given old_out new_out old_err new_err
   of_kind [] among = absurd among
   of_kind (k ∷ ks) (inl is) = inl (subst (λ (x : ErrorKind). telling.RefusesWords x given old_out new_out old_err new_err) is told)
   of_kind (k ∷ ks) (inr later) = inr (of_kind ks later)
