@@ -16,7 +16,7 @@ use Rattle.inter_credit.specs.Credits.{inter_both_ways, after_inter_spreads, cre
 use Rattle.inter_credit.specs.Requirement.{minimum_of, requirement_of}
 use Rattle.inter_credit.specs.OptionValue.{net_value_of}
 use Rattle.statement.specs.Counts.{counts_line, counts_of}
-use Rattle.plan_ir.specs.Figures.{inter_lines, figures_of, total_to, value_to}
+use Rattle.plan_ir.specs.Figures.{inter_states, figures_of, total_to, value_to}
 use Rattle.statement.specs.Rolls.{roll_of}
 use Rattle.statement.specs.Statement.{figures_line, total_line, row_text, statement_text, accepted_of, portfolios_under}
 use Rattle.statement.specs.Statement.{statement_bound, statement_under, statement_of, margin_of}
@@ -25,7 +25,7 @@ use Rattle.statement.specs.Statement.{statement_bound, statement_under, statemen
 unfoldable pub on_literals : ⊤
 unfolding digits reading_on_literals keeps_rules is_readable check_fault checked tables_of intras_of spots_of inters_of
     portfolios_of held_of bind_fault bindings_of scenario_sums scan_of month_deltas spread_both_ways after_spreads intra_charge
-    delivery_charge inter_both_ways after_inter_spreads credit_of minimum_of requirement_of net_value_of inter_lines figures_of total_to
+    delivery_charge inter_both_ways after_inter_spreads credit_of minimum_of requirement_of net_value_of inter_states figures_of total_to
     value_to
     figures_line total_line row_text statement_text accepted_of portfolios_under statement_bound statement_under statement_of
     margin_of counts_line counts_of roll_of

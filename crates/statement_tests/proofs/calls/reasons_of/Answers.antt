@@ -1,5 +1,5 @@
 use Rattle.std.proofs.Common.{length, arith, ap}
-use Rattle.plan_ir.proofs.BoundLaws.{length-inter_lines}
+use Rattle.plan_ir.proofs.BoundLaws.{length-inter_states}
 use Rattle.statement_tests.proofs.calls.reasons_of.Goals as goal
 
 pub push_reasons-requires-clause-lines : goal.push_reasons-requires-clause-lines
@@ -10,5 +10,5 @@ push_reasons-requires-clause-lines c =
       arith,
       c.requires.commodity,
       ap (λ s. length s.states) c.in_ok-stages.ensures,
-      length-inter_lines t holdings c.commodities-limits.ensures.limits c.holdings-kept.ensures.kept c.requires.fits,
+      length-inter_states t holdings c.commodities-limits.ensures.limits c.holdings-kept.ensures.kept c.requires.fits,
     )
