@@ -41,8 +41,8 @@ commodity_written t p c ids o o1 o2 held is first second =
     ∙ append_assoc o (flat_map line (map of_ids rs)) (line figures)
     ∙ ap (λ x. o ++ x) one_more ∙ ap (λ ls. o ++ flat_map line ls) (sym all)
 
-pub push_reasons-requires-clause-lines : goal.push_reasons-requires-clause-lines
-push_reasons-requires-clause-lines c =
+pub push_reasons-requires-clause-states : goal.push_reasons-requires-clause-states
+push_reasons-requires-clause-states c =
     let t = c.args.row.now.set.tables in
     let holdings = c.args.row.now.portfolio.holdings in
     let tables = c.tables-tables.ensures.tables ∙ ap (λ s. s.tables) (c.deref.ensures ∙ c.set.ensures) in

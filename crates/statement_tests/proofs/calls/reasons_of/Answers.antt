@@ -2,8 +2,8 @@ use Rattle.std.proofs.Common.{length, arith, ap}
 use Rattle.plan_ir.proofs.BoundLaws.{length-inter_states}
 use Rattle.statement_tests.proofs.calls.reasons_of.Goals as goal
 
-pub push_reasons-requires-clause-lines : goal.push_reasons-requires-clause-lines
-push_reasons-requires-clause-lines c =
+pub push_reasons-requires-clause-states : goal.push_reasons-requires-clause-states
+push_reasons-requires-clause-states c =
     let t = c.args.tables.now in
     let holdings = c.args.portfolio.now.holdings in
     omega (
