@@ -9,7 +9,7 @@ use Rattle.spread_stage.specs.Charges.{delivery_charge}
 use Rattle.spread_stage.specs.Deltas.{month_deltas, net_delta}
 use Rattle.spread_stage.specs.Months.{Shrinks}
 use Rattle.spread_stage.specs.Spreads.{spread_both_ways, unspread}
-use Rattle.inter_credit.specs.Credits.{inter_both_ways, unspread_state, credit_at}
+use Rattle.inter_credit.specs.Credits.{inter_both_ways, unspread_state}
 use Rattle.inter_credit.specs.OptionValue.{net_value_of}
 use Rattle.inter_credit.specs.Requirement.{minimum_of}
 use Rattle.inter_credit.specs.States.{IsNotLoaded, IsUnspread}
@@ -177,7 +177,7 @@ pub record Takes (t : AcceptedTables) (operation : Op) (inputs : List Value) : T
 abbrev pub final_figures : ℕ → List Value → Figures
 final_figures c inputs =
     figures_from (scan_in (input inputs 0)) (tier_state_in (input inputs 1)).charge (amount_in (input inputs 2))
-    (pos (credit_at (states_in (input inputs 4)) c)) (amount_in (input inputs 3))
+    (amount_in (input inputs 3)) (states_in (input inputs 4)) c
 
 -- the commodities with one more of them loaded, from its months and its scan
 abbrev pub states_with : ℕ → List Value → List CommodityState

@@ -1,4 +1,4 @@
--- The seven figures of a commodity, the total and the option value, of accepted tables and what an account holds.
+-- The figures of a commodity, the total and the option value, of accepted tables and what an account holds.
 use Rattle.std.specs.Prelude.{ℕ, Bool, not, ◌==◌, if◌then◌else◌, List, [], ◌∷◌, length, map, slice_index_or, ℤ, pos}
 use Rattle.std.specs.List.{range_with_len}
 use Rattle.span_money.specs.Numbers.{int_sum_by}
@@ -100,10 +100,12 @@ figures_with scan active intra delivery credit minimum requirement = record {
   requirement = requirement;
 }
 
--- the figures of a commodity, from its scan, the exact charge of its intracommodity spreads, and its amounts
-abbrev pub figures_from : Scan → ℕ → ℤ → ℤ → ℤ → Figures
-figures_from scan charge delivery credit minimum =
+-- the figures of the commodity of a number, from its scan, the exact charge of its intracommodity spreads, its delivery charge and its
+-- minimum, and from the commodities after all intercommodity spreads
+abbrev pub figures_from : Scan → ℕ → ℤ → ℤ → List CommodityState → ℕ → Figures
+figures_from scan charge delivery minimum states c =
     let intra = pos (intra_charge charge) in
+    let credit = pos (credit_at states c) in
     figures_with scan.risk scan.active intra delivery credit minimum
     (requirement_of scan.risk intra delivery credit minimum)
 
@@ -111,11 +113,11 @@ figures_from scan charge delivery credit minimum =
 abbrev pub numbers_of : Figures → List ℤ
 numbers_of f = f.scan ∷ pos f.active ∷ f.intra ∷ f.delivery ∷ f.credit ∷ f.minimum ∷ f.requirement ∷ []
 
--- the seven figures of the commodity of a number
+-- the figures of the commodity of a number
 unfoldable pub figures_of : AcceptedTables → List Holding → ℕ → Figures
 figures_of t holdings c =
     figures_from (scan_at t holdings c) (tiers_at t holdings c).charge
-    (pos (delivery_at t holdings c)) (pos (credit_at (inter_states t holdings) c)) (pos (minimum_at t holdings c))
+    (pos (delivery_at t holdings c)) (pos (minimum_at t holdings c)) (inter_states t holdings) c
 
 -- the sum of the requirements of the first commodities
 unfoldable pub total_to : AcceptedTables → List Holding → ℕ → ℤ

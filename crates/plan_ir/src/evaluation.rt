@@ -21,7 +21,6 @@ ghost use Rattle.plan_ir.specs.near.Copying.{IsChangeable, IsInPlace};
 use crate::figures::Figures;
 use crate::ops::Op;
 use crate::values::Value;
-use inter_credit::credit::credit;
 use inter_credit::option_value::net_value;
 use inter_credit::requirement::minimum;
 use inter_credit::state::empty;
@@ -75,13 +74,13 @@ fn final_figures(commodity: u32, first: &Value, rest: &[Arc<Value>]) -> Figures
     requires { TakesFinal commodity (first.now ∷ map arc_value rest.now) }
     ensures { result ≡ final_figures commodity (first.now ∷ map arc_value rest.now) }
 {
-    let credit = credit(rest[3].inter(), commodity as usize);
     Figures::of_stages(
         first.scan(),
         rest[0].tiers().charge(),
         rest[1].amount(),
-        credit,
         rest[2].amount(),
+        rest[3].inter(),
+        commodity as usize,
     )
 }
 

@@ -1,11 +1,13 @@
-//! The seven figures of a commodity (docs/METHOD.md, "Minimum and requirement").
-ghost use Rattle.std.specs.Prelude.{◌≡◌, ◌*◌, ◌≤◌, nat_abs};
+//! The figures of a commodity (docs/METHOD.md, "Minimum and requirement").
+ghost use Rattle.std.specs.Prelude.{◌≡◌, ◌*◌, ◌<◌, ◌≤◌, length, nat_abs};
 ghost use Rattle.inter_credit.specs.declared.requirement.TheConstants.{MAX_PART};
 ghost use Rattle.plan_ir.specs.Figures.{figures_from, numbers_of};
 ghost use Rattle.plan_ir.specs.Values.{no_figures};
 ghost use Rattle.span_tables.specs.declared.limits.TheConstants.{MAX_RATE, MAX_UNITS};
 
+use inter_credit::credit::credit;
 use inter_credit::requirement::requirement;
+use inter_credit::state::InterState;
 use scan_risk::Scan;
 use span_money::amounts::Money;
 use span_tables::limits::{MAX_HELD, MAX_NET, MAX_PRICE2, MAX_RATE, MAX_SUM};
@@ -19,7 +21,7 @@ pub const MAX_REQUIREMENT: u128 = MAX_SUM as u128
     + MAX_PRICE2 as u128
     + MAX_RATE as u128 * MAX_HELD as u128 * MAX_NET as u128;
 
-/// The seven figures of a commodity of an account, the amounts in minor units.
+/// The figures of a commodity of an account, the amounts in minor units.
 #[derive(Clone, Copy, Debug, PartialEq, Eq)]
 pub struct Figures {
     /// Scan risk.
@@ -54,23 +56,26 @@ impl Figures {
         ]
     }
 
-    /// The figures of a commodity from what its stages have: its scan, the exact charge of its intracommodity spreads (in 10^-8 minor
-    /// units), the delivery charge, the credit and the short option minimum (docs/METHOD.md, "Minimum and requirement").
+    /// The figures of the commodity of a number from what its stages have: its scan, the exact charge of its intracommodity spreads (in
+    /// 10^-8 minor units), its delivery charge, its short option minimum, and the commodities after all intercommodity spreads
+    /// (docs/METHOD.md, "Minimum and requirement").
     pub fn of_stages(
         scan: &Scan,
         charge: u128,
         delivery: Money,
-        credit: Money,
         minimum: Money,
+        states: &InterState,
+        commodity: usize,
     ) -> Figures
         requires risk { nat_abs (scan.now).risk ≤ MAX_PART }
         requires charge { charge ≤ MAX_RATE * MAX_UNITS }
         requires delivery { nat_abs delivery ≤ MAX_PART }
-        requires credit { nat_abs credit ≤ MAX_PART }
         requires minimum { nat_abs minimum ≤ MAX_PART }
-        ensures { result ≡ figures_from scan.now charge delivery credit minimum }
+        requires commodity { commodity < length states.now }
+        ensures { result ≡ figures_from scan.now charge delivery minimum states.now commodity }
     {
         let intra = rounded_charge(charge);
+        let credit = credit(states, commodity);
         Figures {
             scan: scan.risk,
             active: scan.active,

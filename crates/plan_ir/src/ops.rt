@@ -19,7 +19,7 @@ pub enum Op {
     Delivery(u32),
     /// The short option minimum of a commodity ("Minimum and requirement").
     Minimum(u32),
-    /// The seven figures of a commodity ("Minimum and requirement").
+    /// The figures of a commodity ("Minimum and requirement").
     Final(u32),
     /// The commodities before any is loaded ("Intercommodity spreads").
     InterStart,

@@ -27,7 +27,7 @@ pub enum Value {
     Tiers(TierState),
     /// The delivery charge, the short option minimum or the option value of a commodity, in minor units.
     Amount(Money),
-    /// The seven figures of a commodity.
+    /// The figures of a commodity.
     Figures(Figures),
     /// The commodities in the intercommodity stage: net deltas and rests, price risks doubled and weights.
     Inter(InterState),

@@ -5,7 +5,7 @@ ghost use Rattle.std.specs.Prelude.{◌≡◌, [], ◌∷◌, codes, pos};
 ghost use Rattle.plan_ir.specs.Figures.{figures_from, figures_with};
 ghost use Rattle.plan_ir.specs.Listing.{op_text, plan_text};
 ghost use Rattle.plan_ir.specs.Plans.{inputs_at, op_at, users_of};
-ghost use Rattle.plan_ir.specs.near.Samples.{scan, small_plan, step, tiers};
+ghost use Rattle.plan_ir.specs.near.Samples.{scan, small_plan, states, step, tiers};
 ghost use Rattle.plan_ir.specs.declared.ops.Op.TheVariants as op;
 
 // Operations with one number, with two, and with none.
@@ -41,7 +41,7 @@ fn steps_of_a_small_plan()
 
 // A charge of 83.325 rounded up, and the larger of what the stages make and the minimum.
 fn figures_of_a_commodity()
-    ensures stages { figures_from scan tiers.charge (pos 40) (pos 600) (pos 500)
+    ensures stages { figures_from scan tiers.charge (pos 40) (pos 500) states 0
         ≡ figures_with (pos 1200) 13 (pos 84) (pos 40) (pos 600) (pos 500) (pos 724) }
-    ensures minimum { (figures_from scan tiers.charge (pos 40) (pos 600) (pos 2500)).requirement ≡ pos 2500 }
+    ensures minimum { (figures_from scan tiers.charge (pos 40) (pos 2500) states 0).requirement ≡ pos 2500 }
 {}

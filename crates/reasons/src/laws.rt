@@ -85,7 +85,7 @@ pub fn minimum_follows_from_the_counts_shown()
         (short_count is_call (held_at t holdings c)) (short_count is_put (held_at t holdings c))) }
 {}
 
-/// The requirement is that of the other five figures.
+/// The requirement is that of the other amounts.
 pub fn requirement_is_of_the_figures_shown()
     ensures { (t : AcceptedTables) (holdings : List Holding) (c : ℕ) → (figures_of t holdings c).requirement
         ≡ requirement_of (figures_of t holdings c).scan (figures_of t holdings c).intra (figures_of t holdings c).delivery

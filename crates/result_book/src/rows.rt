@@ -125,7 +125,7 @@ impl Row {
         self.job.set().tables().profile()
     }
 
-    /// The seven figures of the commodity of a number.
+    /// The figures of the commodity of a number.
     pub fn figures(&self, commodity: usize) -> &Figures
         requires { commodity < length self.now.set.tables.commodities }
         ensures { result.now ≡ figures_of self.now.set.tables self.now.portfolio.holdings commodity }

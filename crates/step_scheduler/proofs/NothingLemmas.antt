@@ -14,7 +14,7 @@ use Rattle.inter_credit.specs.Requirement.{minimum_of, requirement_of}
 use Rattle.inter_credit.specs.Credits.{credit_at}
 use Rattle.inter_credit.specs.declared.state.CommodityState.{CommodityState}
 use Rattle.inter_credit.proofs.CreditLaws.{credit_zero}
-use Rattle.plan_ir.specs.Figures.{commodity_at, deltas_at, delivery_at, figures_from, figures_of, held_at, inter_states}
+use Rattle.plan_ir.specs.Figures.{commodity_at, deltas_at, delivery_at, figures_from, figures_of, figures_with, held_at, inter_states}
 use Rattle.plan_ir.specs.Figures.{intras_at, state_of, minimum_at, net_value_at, scan_at, spots_at, tiers_at}
 use Rattle.plan_ir.specs.Values.{no_figures, no_scan}
 use Rattle.plan_ir.proofs.NothingLemmas.{minimum_of_nothing, month_deltas_of_nothing, value_of_nothing}
@@ -24,9 +24,11 @@ scan_of_nothing : scan_of (scenario_sums []) ≡ no_scan
 unfolding scan_of scenario_sums
 scan_of_nothing = refl
 
-figures_from_nothing : figures_from no_scan 0 (pos 0) (pos 0) (pos 0) ≡ no_figures
+figures_from_nothing : (states : List CommodityState) (c : ℕ) → credit_at states c ≡ 0
+    → figures_from no_scan 0 (pos 0) (pos 0) states c ≡ no_figures
 unfolding intra_charge requirement_of
-figures_from_nothing = refl
+figures_from_nothing states c none =
+    ap (λ credit. figures_with (pos 0) 1 (pos 0) (pos 0) (pos credit) (pos 0) (requirement_of (pos 0) (pos 0) (pos 0) (pos credit) (pos 0))) none
 
 -- a state without a net delta earns nothing
 credit_read : (o : Option CommodityState) → (unwrap_or o (unspread_state (pos 0) 0)).net ≡ pos 0
@@ -69,5 +71,5 @@ module _ (t : AcceptedTables) (holdings : List Holding) (c : ℕ) (none : held_a
   pub figures_of_nothing : c < length t.commodities → figures_of t holdings c ≡ no_figures
   unfolding figures_of
   figures_of_nothing lt =
-      (λ k. figures_from (nothing_scanned k) (no_tiers k).charge (pos (nothing_delivered k)) (pos (no_credit lt k)) (pos (no_minimum k)))
-      ∙ figures_from_nothing
+      (λ k. figures_from (nothing_scanned k) (no_tiers k).charge (pos (nothing_delivered k)) (pos (no_minimum k)) (inter_states t holdings) c)
+      ∙ figures_from_nothing (inter_states t holdings) c (no_credit lt)

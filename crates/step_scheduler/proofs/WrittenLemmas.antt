@@ -6,7 +6,6 @@ use Rattle.std.proofs.lemmas.Bool.{cases_eq, cases_lt}
 use Rattle.std.proofs.lemmas.List.{get_or-replicate, length-replicate}
 use Rattle.span_tables.specs.Tables.{AcceptedTables}
 use Rattle.span_tables.specs.declared.portfolios.Holding.{Holding}
-use Rattle.inter_credit.specs.Credits.{credit_at}
 use Rattle.inter_credit.specs.declared.state.CommodityState.{CommodityState}
 use Rattle.plan_ir.specs.Figures.{figures_from, figures_of, inter_states}
 use Rattle.plan_ir.specs.Values.{no_figures}
@@ -16,14 +15,13 @@ use Rattle.step_scheduler.specs.declared.parts.Part.{Part}
 use Rattle.step_scheduler.specs.near.Parts.{AreWritten, IsEnd, IsNext, IsPart, NoneHeld, figures_of_part}
 use Rattle.step_scheduler.proofs.NothingLemmas.{figures_of_nothing}
 
--- the figures of a held commodity are those of its part and its credit
+-- the figures of a held commodity are those of its part and the commodities after all spreads
 figures_are : (t : AcceptedTables) (holdings : List Holding) (p : Part) (states : List CommodityState) → IsPart t holdings p
     → states ≡ inter_states t holdings
-    → figures_of_part p (pos (credit_at states p.commodity)) ≡ figures_of t holdings p.commodity
+    → figures_of_part p states ≡ figures_of t holdings p.commodity
 unfolding figures_of
 figures_are t holdings p states is l =
-    λ k. figures_from (is.scan k) (is.charge k) (is.delivery k) (pos (credit_at (l k) p.commodity))
-    (is.minimum k)
+    λ k. figures_from (is.scan k) (is.charge k) (is.delivery k) (is.minimum k) (l k) p.commodity
 
 -- nothing is written yet
 pub none_written : (t : AcceptedTables) (holdings : List Holding) (figures : List Figures)
@@ -67,7 +65,7 @@ module _ (t : AcceptedTables) (holdings : List Holding) (n : ℕ) (figures : Lis
 pub part_written : (t : AcceptedTables) (holdings : List Holding) (p : Part) (states : List CommodityState) (from : ℕ)
     (before after : List Figures) (f : Figures) → IsNext t holdings from p.commodity → IsPart t holdings p
     → states ≡ inter_states t holdings → AreWritten t holdings from before
-    → f ≡ figures_of_part p (pos (credit_at states p.commodity)) → after ≡ slice_set before p.commodity f
+    → f ≡ figures_of_part p states → after ≡ slice_set before p.commodity f
     → AreWritten t holdings (p.commodity + 1) after
 part_written t holdings p states from before after f next is l written e set =
     let over = figures_over t holdings from before written p.commodity next.behind (omega (arith, next.known)) next.none in

@@ -12,7 +12,7 @@ ghost use Rattle.span_tables.specs.declared.portfolios.Holding.{Holding};
 ghost use Rattle.spread_stage.specs.Months.{Shrinks};
 ghost use Rattle.spread_stage.specs.Spreads.{spread_both_ways};
 ghost use Rattle.spread_stage.specs.declared.months.MonthUnits.{MonthUnits};
-ghost use Rattle.inter_credit.specs.Credits.{credit_at, inter_both_ways, unspread_state};
+ghost use Rattle.inter_credit.specs.Credits.{inter_both_ways, unspread_state};
 ghost use Rattle.inter_credit.specs.OptionValue.{net_value_of};
 ghost use Rattle.plan_ir.specs.Figures.{held_at, inter_states, loaded_states, option_value_of, total_to};
 ghost use Rattle.plan_ir.specs.Values.{no_figures};
@@ -20,7 +20,6 @@ ghost use Rattle.step_scheduler.specs.near.Figures.{AreAllFigures};
 ghost use Rattle.step_scheduler.specs.near.Parts.{ArePartsFrom, CanBeLoaded, HasState, IsPart, figures_of_part};
 
 use crate::watches::{Walk, Watch};
-use inter_credit::credit::credit;
 use inter_credit::option_value::net_value;
 use inter_credit::requirement::minimum;
 use inter_credit::state::InterState;
@@ -215,14 +214,15 @@ pub(crate) fn form_inters<W: Watch>(
 // The figures of a held commodity, from its part and the commodities after all spreads between them.
 fn figures_with(part: &Part, states: &InterState) -> Figures
     requires { HasState states.now part.now }
-    ensures { result ≡ figures_of_part part.now (pos (credit_at states.now part.now.commodity)) }
+    ensures { result ≡ figures_of_part part.now states.now }
 {
     Figures::of_stages(
         &part.scan,
         part.charge,
         part.delivery,
-        credit(states, part.commodity),
         part.minimum,
+        states,
+        part.commodity,
     )
 }
 

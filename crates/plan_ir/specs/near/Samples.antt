@@ -2,6 +2,7 @@
 use Rattle.std.specs.Prelude.{ℕ, List, [], ◌∷◌, pos}
 use Rattle.scan_risk.specs.declared.Scan.{Scan}
 use Rattle.spread_stage.specs.Spreads.{TierRests}
+use Rattle.inter_credit.specs.declared.state.CommodityState.{CommodityState}
 use Rattle.plan_ir.specs.Plans.{StepView}
 use Rattle.plan_ir.specs.declared.ops.Op.{Op}
 use Rattle.plan_ir.specs.declared.ops.Op.TheVariants as op
@@ -26,3 +27,7 @@ scan = record { risk = pos 1200; active = 13; paired = 14; price2 = 2400 }
 -- an exact charge of 83.325
 abbrev pub tiers : TierRests
 tiers = record { rests = []; charge = 833250 }
+
+-- one commodity that is long a delta, all of it offset at half of its price risk: a credit of 600
+abbrev pub states : List CommodityState
+states = record { net = pos 100000000; rest = pos 0; price2 = 2400; weight = 500000000000 } ∷ []

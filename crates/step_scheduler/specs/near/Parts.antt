@@ -71,9 +71,9 @@ pub record CanBeLoaded (states : List CommodityState) (p : Part) : Type 0 where
   pub not_loaded : IsNotLoaded states p.commodity
   pub unspread : IsUnspread states
 
--- the figures of a part whose commodity has this credit
-abbrev pub figures_of_part : Part → ℤ → Figures
-figures_of_part p credit = figures_from p.scan p.charge p.delivery credit p.minimum
+-- the figures of a part, with the commodities after all spreads between them
+abbrev pub figures_of_part : Part → List CommodityState → Figures
+figures_of_part p states = figures_from p.scan p.charge p.delivery p.minimum states p.commodity
 
 -- what an account has of n commodities that holds nothing
 pub record IsBlank (n : ℕ) (blank : Blank) : Type 0 where
