@@ -118,7 +118,7 @@ impl Row {
         self.job.set().tables().set_id()
     }
 
-    /// The profile of the set: 1 or 2.
+    /// The profile of the set.
     pub fn profile(&self) -> u8
         ensures { result ≡ self.now.set.tables.profile }
     {

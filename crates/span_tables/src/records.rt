@@ -37,7 +37,7 @@ pub enum Side {
 
 /// The set of parameters: its id, its profile and its currency.
 ///
-/// The profile is the version of the SET record: 1, or 2, under which options have a value.
+/// The profile is the version of the SET record.
 #[derive(Drop)]
 pub struct SetRecord {
     pub id: Name,

@@ -147,7 +147,7 @@ impl Tables {
         &self.set_id
     }
 
-    /// The profile of the set: the version of its SET record, 1 or 2.
+    /// The profile of the set: the version of its SET record.
     pub fn profile(&self) -> u8
         ensures { result ≡ self.now.profile }
     {
