@@ -1,7 +1,7 @@
 //! The lines of one account (docs/FORMATS.md, Explanation).
-ghost use Rattle.std.specs.Prelude.{◌≡◌, ◌++◌, ◌<◌, OnOk, flat_map, length, true};
+ghost use Rattle.std.specs.Prelude.{◌≡◌, ◌++◌, ◌<◌, OnOk, flat_map, length};
 ghost use Rattle.span_money.specs.LineFields.{line};
-ghost use Rattle.span_tables.specs.Holdings.{fits};
+ghost use Rattle.worker_pool.specs.Batches.{FitsSet};
 ghost use Rattle.reasons.specs.near.Stages.{stages_of};
 ghost use Rattle.explanation.specs.Explanation.{account_text, commodity_lines};
 
@@ -18,7 +18,7 @@ fn push_commodity(
     stages: &Stages,
     number: usize,
 ) -> Result<(), AllocError>
-    requires fits { fits (length row.now.set.tables.contracts) row.now.portfolio.holdings ≡ true }
+    requires fits { FitsSet row.now.set row.now.portfolio }
     requires number { number < length row.now.set.tables.commodities }
     requires stages { stages.now ≡ stages_of row.now.set.tables row.now.portfolio.holdings }
     ensures { OnOk result (out.new.items
@@ -40,7 +40,7 @@ fn push_commodity(
 /// Appends the lines of an account: for each commodity that it holds the reasons and the figures, and its total.
 #[tactic(auto, unfolding(crate::specs::Explanation::account_text))]
 pub(crate) fn push_account(alloc: Global, out: &mut Vec<u8>, row: &Row) -> Result<(), AllocError>
-    requires { fits (length row.now.set.tables.contracts) row.now.portfolio.holdings ≡ true }
+    requires { FitsSet row.now.set row.now.portfolio }
     ensures { OnOk result (out.new.items ≡ out.old.items ++ account_text row.now.set.tables row.now.portfolio) }
 {
     let tables = row.set().tables();

@@ -1,8 +1,8 @@
 //! From the bytes of both files to the bytes of an explanation (docs/FORMATS.md, Explanation).
 ghost use Rattle.std.specs.Arc.{arc_value};
-ghost use Rattle.std.specs.Prelude.{◌≡◌, ◌++◌, All, IfOk, IfSome, OnOk, bytes_eq, find, flat_map, length, true};
+ghost use Rattle.std.specs.Prelude.{◌≡◌, ◌++◌, IfOk, OnOk, bytes_eq, find, flat_map};
 ghost use Rattle.std.specs.Option.{option_copied};
-ghost use Rattle.span_tables.specs.Holdings.{fits};
+ghost use Rattle.worker_pool.specs.Batches.{AllFit, FitsSet};
 ghost use Rattle.statement.specs.Gives.{Gives};
 ghost use Rattle.statement.specs.declared.faults.SpanFault.TheVariants as fault;
 ghost use Rattle.explanation.specs.Explanation.{account_text, explained, explanation_of};
@@ -24,7 +24,7 @@ fn push_portfolio(
     set: &Arc<CompiledSet>,
     portfolio: Portfolio,
 ) -> Result<(), AllocError>
-    requires { fits (length (arc_value set.now).tables.contracts) portfolio.holdings ≡ true }
+    requires { FitsSet (arc_value set.now) portfolio }
     ensures { OnOk result (out.new.items ≡ out.old.items ++ account_text (arc_value set.now).tables portfolio) }
 {
     let row = run_account(alloc, set, portfolio)?;
@@ -38,7 +38,7 @@ fn all_lines(
     set: &Arc<CompiledSet>,
     portfolios: Vec<Portfolio>,
 ) -> Result<Vec<u8>, AllocError>
-    requires { All (λ p. fits (length (arc_value set.now).tables.contracts) p.holdings ≡ true) portfolios.items }
+    requires { AllFit (arc_value set.now) portfolios.items }
     ensures { IfOk result (λ text. text.items ≡ flat_map (account_text (arc_value set.now).tables) portfolios.items) }
 {
     let mut out = Vec::new(alloc);
@@ -63,7 +63,7 @@ fn lines_of(
     set: &Arc<CompiledSet>,
     portfolio: Portfolio,
 ) -> Result<Vec<u8>, AllocError>
-    requires { fits (length (arc_value set.now).tables.contracts) portfolio.holdings ≡ true }
+    requires { FitsSet (arc_value set.now) portfolio }
     ensures { IfOk result (λ text. text.items ≡ account_text (arc_value set.now).tables portfolio) }
 {
     let mut out = Vec::new(alloc);
@@ -87,7 +87,7 @@ fn explained(
     portfolios: Portfolios,
     account: Option<&Name>,
 ) -> Result<Vec<u8>, SpanFault>
-    requires { All (λ p. fits (length (arc_value set.now).tables.contracts) p.holdings ≡ true) portfolios }
+    requires { AllFit (arc_value set.now) portfolios }
     ensures { Gives (λ text. text.items) result
         (explained (arc_value set.now).tables portfolios (option_copied account.entry)) }
 {

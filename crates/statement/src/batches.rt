@@ -1,7 +1,7 @@
 //! Batches of accounts under a compiled set: their rows, and the statement of these.
 ghost use Rattle.plan_compiler.specs.Compiled.{SetView};
 ghost use Rattle.span_tables.specs.Net.{AccountHoldings};
-ghost use Rattle.statement.specs.near.Accepting.{AllFit};
+ghost use Rattle.worker_pool.specs.Batches.{AllFit};
 ghost use Rattle.statement.specs.near.Batches.{rows_of_accounts};
 ghost use Rattle.statement.specs.Statement.{statement_text};
 ghost use Rattle.statement.specs.near.Rows.{AreRows};

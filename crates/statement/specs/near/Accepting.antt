@@ -1,17 +1,11 @@
 -- What two accepted files say.
-use Rattle.std.specs.Prelude.{◌≡◌, ℕ, List, All, Ok, length, true}
+use Rattle.std.specs.Prelude.{◌≡◌, ℕ, List, Ok}
 use Rattle.std.specs.Arc.{arc_value}
-use Rattle.plan_compiler.specs.Compiled.{SetView}
 use Rattle.span_csv.specs.PositionFaults.{positions_of}
-use Rattle.span_tables.specs.Holdings.{fits}
-use Rattle.span_tables.specs.Net.{AccountHoldings}
+use Rattle.worker_pool.specs.Batches.{AllFit}
 use Rattle.statement.specs.Statement.{accepted_of, portfolios_under}
 use Rattle.statement.specs.near.Batches.{AreOnce}
 use Rattle.statement.specs.declared.accepting.Accepted.{Accepted}
-
--- the portfolios fit the set: what each account holds are contracts of its tables
-abbrev pub AllFit : SetView → List AccountHoldings → Type 0
-AllFit set portfolios = All (λ p. fits (length set.tables.contracts) p.holdings ≡ true) portfolios
 
 -- the portfolios are those of the positions under the set
 pub record IsBound (accepted : Accepted) : Type 0 where
