@@ -7,7 +7,7 @@ ghost use Rattle.span_tables.specs.Net.{holdings_of};
 ghost use Rattle.span_tables.specs.near.Samples.{commodity, set};
 ghost use Rattle.span_tables.specs.Tables.{tables_of};
 ghost use Rattle.span_tables.specs.declared.records.Record.TheVariants as record_of;
-ghost use Rattle.statement.specs.near.Samples.{one_future, risk_line};
+ghost use Rattle.statement.specs.near.Samples.{long_of_x, one_future, short_of_b, two_long_of_x, unmoved_of_b, unmoved_of_x};
 ghost use Rattle.statement.specs.Statement.{statement_bound, statement_of};
 ghost use Rattle.std.specs.Prelude.{◌++◌, ◌≡◌, ◌∷◌, [], Ok, codes, neg_ℤ, pos};
 
@@ -16,27 +16,25 @@ fn statements_of_two_accounts()
     ensures first { statement_bound (tables_of (set (codes "D1") ∷ commodity (codes "AA")
         ∷ record_of.Contract (contract_of (codes "FA")) ∷ []))
         (position_of (codes "X") (codes "FA") (pos 1) ∷ [])
-        ≡ Ok (risk_line (codes "X") (codes "D1") (codes "0") (codes "1") ++ codes "T,X,D1,0\n") }
+        ≡ Ok unmoved_of_x }
     ensures second { statement_bound (tables_of (set (codes "D1") ∷ commodity (codes "AA")
         ∷ record_of.Contract (contract_of (codes "FA")) ∷ []))
         (position_of (codes "B") (codes "FA") (pos 1) ∷ [])
-        ≡ Ok (risk_line (codes "B") (codes "D1") (codes "0") (codes "1") ++ codes "T,B,D1,0\n") }
+        ≡ Ok unmoved_of_b }
     ensures both { statement_bound (tables_of (set (codes "D1") ∷ commodity (codes "AA")
         ∷ record_of.Contract (contract_of (codes "FA")) ∷ []))
         (position_of (codes "X") (codes "FA") (pos 1) ∷ position_of (codes "B") (codes "FA") (pos 1) ∷ [])
-        ≡ Ok (risk_line (codes "X") (codes "D1") (codes "0") (codes "1") ++ codes "T,X,D1,0\n"
-        ++ risk_line (codes "B") (codes "D1") (codes "0") (codes "1") ++ codes "T,B,D1,0\n") }
+        ≡ Ok (unmoved_of_x ++ unmoved_of_b) }
 {}
 
 // A file that is cut behind its first line.
 fn statements_of_a_cut_file()
     ensures first { statement_of one_future (codes "X,FA,1\n")
-        ≡ Ok (risk_line (codes "X") (codes "D1") (codes "1200") (codes "13") ++ codes "T,X,D1,1200\n") }
+        ≡ Ok long_of_x }
     ensures second { statement_of one_future (codes "B,FA,-1\n")
-        ≡ Ok (risk_line (codes "B") (codes "D1") (codes "1200") (codes "11") ++ codes "T,B,D1,1200\n") }
+        ≡ Ok short_of_b }
     ensures whole { statement_of one_future (codes "X,FA,1\n" ++ codes "B,FA,-1\n")
-        ≡ Ok (risk_line (codes "X") (codes "D1") (codes "1200") (codes "13") ++ codes "T,X,D1,1200\n"
-        ++ risk_line (codes "B") (codes "D1") (codes "1200") (codes "11") ++ codes "T,B,D1,1200\n") }
+        ≡ Ok (long_of_x ++ short_of_b) }
 {}
 
 // A file that is cut behind a line feed inside quotes: it has one record, and its parts have two others.
@@ -56,5 +54,5 @@ fn account_in_both_parts()
         (position_of (codes "X") (codes "FA") (pos 3) ∷ position_of (codes "X") (codes "FA") (neg_ℤ (pos 1)) ∷ []) (codes "X")
         ≡ record { contract = 0; net = pos 2 } ∷ [] }
     ensures statement { statement_of one_future (codes "X,FA,3\nX,FA,-1\n")
-        ≡ Ok (risk_line (codes "X") (codes "D1") (codes "2400") (codes "13") ++ codes "T,X,D1,2400\n") }
+        ≡ Ok two_long_of_x }
 {}

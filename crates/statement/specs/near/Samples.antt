@@ -1,4 +1,4 @@
--- Parameter files that many worked values share, the lines that they are made of, and lines of statements.
+-- Parameter files that many worked values share, the lines that they are made of, and statements.
 use Rattle.std.specs.Prelude.{ℕ, List, [], ◌++◌, codes}
 
 -- ---- lines
@@ -48,18 +48,42 @@ pa more = codes "CONTRACT,PA,AA,P,202503,-0.5,1,0,0,0,0,0,0,0,0,0,0,0,0,0,0,0,0"
 abbrev pub two_tiers : List ℕ
 two_tiers = codes "TIER,AA,1,202501,202504\n" ++ codes "TIER,AA,2,202505,202512\n"
 
--- ---- lines of statements
+-- ---- statements
 
--- the R line of an account's AA whose only figure is this scan risk, in this scenario
-abbrev pub risk_line : List ℕ → List ℕ → List ℕ → List ℕ → List ℕ
-risk_line account set risk active =
-    codes "R," ++ account ++ codes "," ++ set ++ codes ",AA," ++ risk ++ codes "," ++ active
-    ++ codes ",0,0,0,0," ++ risk ++ codes "\n"
+-- of X, who is long a future that risks 1200, is short one, and is long two
+abbrev pub long_of_x : List ℕ
+long_of_x = codes "R,X,D1,AA,1200,13,0,0,0,0,1200\nT,X,D1,1200\n"
 
--- the R line of an account under a set with a spread and a spot month, where spreads of this charge form
-abbrev pub spread_line : List ℕ → List ℕ → List ℕ → List ℕ
-spread_line set charge requirement =
-    codes "R,X," ++ set ++ codes ",AA,1200,13," ++ charge ++ codes ",40,0,0," ++ requirement ++ codes "\n"
+abbrev pub short_of_x : List ℕ
+short_of_x = codes "R,X,D1,AA,1200,11,0,0,0,0,1200\nT,X,D1,1200\n"
+
+abbrev pub two_long_of_x : List ℕ
+two_long_of_x = codes "R,X,D1,AA,2400,13,0,0,0,0,2400\nT,X,D1,2400\n"
+
+-- of B, who is short one
+abbrev pub short_of_b : List ℕ
+short_of_b = codes "R,B,D1,AA,1200,11,0,0,0,0,1200\nT,B,D1,1200\n"
+
+-- of X and of B, who have a future that never changes
+abbrev pub unmoved_of_x : List ℕ
+unmoved_of_x = codes "R,X,D1,AA,0,1,0,0,0,0,0\nT,X,D1,0\n"
+
+abbrev pub unmoved_of_b : List ℕ
+unmoved_of_b = codes "R,B,D1,AA,0,1,0,0,0,0,0\nT,B,D1,0\n"
+
+-- of X under next sets: where the future risks 1500, and where options have a value
+abbrev pub short_under_d2 : List ℕ
+short_under_d2 = codes "R,X,D2,AA,1500,11,0,0,0,0,1500\nT,X,D2,1500\n"
+
+abbrev pub long_with_value : List ℕ
+long_with_value = codes "R,X,D2,AA,1200,13,0,0,0,0,1200\nT,X,D2,1200,0,1200,0\n"
+
+-- of X with two spreads and a spot month, where a spread costs 250, and under a next set 300
+abbrev pub spreads_of_x : List ℕ
+spreads_of_x = codes "R,X,D1,AA,1200,13,500,40,0,0,1740\nT,X,D1,1740\n"
+
+abbrev pub spreads_under_d2 : List ℕ
+spreads_under_d2 = codes "R,X,D2,AA,1200,13,600,40,0,0,1840\nT,X,D2,1840\n"
 
 -- ---- files
 

@@ -7,7 +7,8 @@ ghost use Rattle.param_check.specs.declared.faults.CheckFault.TheVariants as che
 ghost use Rattle.span_csv.specs.declared.faults.ParamFault.TheVariants as params;
 ghost use Rattle.span_csv.specs.declared.faults.PositionFault.TheVariants as positions;
 ghost use Rattle.statement.specs.Rolls.{roll_of};
-ghost use Rattle.statement.specs.near.Samples.{commodity, one_future, risk_line, spread_and_spot, spread_line};
+ghost use Rattle.statement.specs.near.Samples.{commodity, long_of_x, long_with_value, one_future, short_of_x};
+ghost use Rattle.statement.specs.near.Samples.{short_under_d2, spread_and_spot, spreads_of_x, spreads_under_d2};
 ghost use Rattle.statement.specs.declared.faults.SpanFault.TheVariants as span_fault;
 
 // A short future, which loses more under the next set.
@@ -16,8 +17,7 @@ fn two_statements()
         codes "SET,D2,1,USD\n" ++ commodity (codes "AA")
         ++ codes "CONTRACT,FA,AA,F,202503,1,1,0,0,-500,-500,500,500,-1000,-1000,1000,1000,-1500,-1500,1500,1500,-1485,1485\n")
         (codes "X,FA,-1\n")
-        ≡ Ok (risk_line (codes "X") (codes "D1") (codes "1200") (codes "11") ++ codes "T,X,D1,1200\n"
-        ++ risk_line (codes "X") (codes "D2") (codes "1500") (codes "11") ++ codes "T,X,D2,1500\n") }
+        ≡ Ok (short_of_x ++ short_under_d2) }
 {}
 
 // A future under a set without option values and then under one with them: each line is of its own set.
@@ -26,8 +26,7 @@ fn into_option_values()
         codes "SET,D2,2,USD\n" ++ commodity (codes "AA")
         ++ codes "CONTRACT,FA,AA,F,202503,1,1,0,0,-400,-400,400,400,-800,-800,800,800,-1200,-1200,1200,1200,-1188,1188,0\n")
         (codes "X,FA,1\n")
-        ≡ Ok (risk_line (codes "X") (codes "D1") (codes "1200") (codes "13") ++ codes "T,X,D1,1200\n"
-        ++ risk_line (codes "X") (codes "D2") (codes "1200") (codes "13") ++ codes "T,X,D2,1200,0,1200,0\n") }
+        ≡ Ok (long_of_x ++ long_with_value) }
 {}
 
 // A contract that the next set does not have.
@@ -47,8 +46,7 @@ fn higher_rate()
     ensures { roll_of 1
         (spread_and_spot (codes "D1") (codes "250,1,A,1,2,B,1")) (spread_and_spot (codes "D2") (codes "300,1,A,1,2,B,1"))
         (codes "X,FA,3\nX,FA2,-2\n")
-        ≡ Ok (spread_line (codes "D1") (codes "500") (codes "1740") ++ codes "T,X,D1,1740\n"
-        ++ spread_line (codes "D2") (codes "600") (codes "1840") ++ codes "T,X,D2,1840\n") }
+        ≡ Ok (spreads_of_x ++ spreads_under_d2) }
 {}
 
 // Positions that are not read count before the next parameters.

@@ -6,7 +6,8 @@ ghost use Rattle.plan_ir.specs.Figures.{figures_with};
 ghost use Rattle.span_money.specs.LineFields.{line};
 ghost use Rattle.statement.specs.near.Samples.{ca, commodity, fa, fa1, fa2, fb, future, one_commodity, one_future};
 ghost use Rattle.statement.specs.near.Samples.{one_future_with_crlf, one_tier, pa, set_d1, spread_and_spot, three_commodities};
-ghost use Rattle.statement.specs.near.Samples.{three_tiers, two_commodities, two_options, two_tiers};
+ghost use Rattle.statement.specs.near.Samples.{long_of_x, short_of_x, spreads_of_x, three_tiers, two_commodities, two_options};
+ghost use Rattle.statement.specs.near.Samples.{two_tiers};
 ghost use Rattle.statement.specs.Statement.{figures_line, statement_of, total_line};
 
 // The line of a commodity and that of a total.
@@ -23,9 +24,9 @@ fn lines_of_a_row()
 // A future that is long, and short; positions that cancel out; and a record over the limit of a net, which is within it.
 fn one_account()
     ensures long { statement_of one_future (codes "X,FA,1\n")
-        ≡ Ok (codes "R,X,D1,AA,1200,13,0,0,0,0,1200\nT,X,D1,1200\n") }
+        ≡ Ok long_of_x }
     ensures short { statement_of one_future (codes "X,FA,-1\n")
-        ≡ Ok (codes "R,X,D1,AA,1200,11,0,0,0,0,1200\nT,X,D1,1200\n") }
+        ≡ Ok short_of_x }
     ensures nothing_held { statement_of one_future (codes "X,FA,1\nX,FA,-1\n") ≡ Ok (codes "T,X,D1,0\n") }
     ensures net_within_limit { statement_of one_future (codes "X,FA,100001\nX,FA,-1\n")
         ≡ Ok (codes "R,X,D1,AA,120000000,13,0,0,0,0,120000000\nT,X,D1,120000000\n") }
@@ -41,9 +42,9 @@ fn accounts()
 // CRLF line ends and quoted fields; and a byte order mark before each file.
 fn other_bytes_for_the_same_records()
     ensures quoted { statement_of one_future_with_crlf (codes "\"X\",\"FA\",\"1\"\r\n")
-        ≡ Ok (codes "R,X,D1,AA,1200,13,0,0,0,0,1200\nT,X,D1,1200\n") }
+        ≡ Ok long_of_x }
     ensures marked { statement_of (239 ∷ 187 ∷ 191 ∷ one_future_with_crlf) (239 ∷ 187 ∷ 191 ∷ codes "X,FA,1\n")
-        ≡ Ok (codes "R,X,D1,AA,1200,13,0,0,0,0,1200\nT,X,D1,1200\n") }
+        ≡ Ok long_of_x }
 {}
 
 // A contract before its commodity, and spreads before those of lower priority number.
@@ -57,14 +58,14 @@ fn records_in_any_order()
         ++ codes "TIER,AA,1,202501,202504\n"
         ++ commodity (codes "AA"))
         (codes "X,FA,3\nX,FA2,-2\n")
-        ≡ Ok (codes "R,X,D1,AA,1200,13,500,40,0,0,1740\nT,X,D1,1740\n") }
+        ≡ Ok spreads_of_x }
 {}
 
 // An intracommodity spread with a spot month: side A long, side A short, and a third of a spread, whose two charges are
 // rounded up.
 fn one_spread()
     ensures first_direction { statement_of (spread_and_spot (codes "D1") (codes "250,1,A,1,2,B,1")) (codes "X,FA,3\nX,FA2,-2\n")
-        ≡ Ok (codes "R,X,D1,AA,1200,13,500,40,0,0,1740\nT,X,D1,1740\n") }
+        ≡ Ok spreads_of_x }
     ensures second_direction { statement_of (spread_and_spot (codes "D1") (codes "250,1,A,1,2,B,1")) (codes "X,FA,-3\nX,FA2,2\n")
         ≡ Ok (codes "R,X,D1,AA,1200,11,500,40,0,0,1740\nT,X,D1,1740\n") }
     ensures part { statement_of (spread_and_spot (codes "D1") (codes "250,1,A,3,2,B,3")) (codes "X,FA,1\nX,FA2,-1\n")
