@@ -144,7 +144,8 @@ fold_stays (s ∷ spreads) n states long all are =
     (both_ways_states s states all (rw long is)) (All-tail (IsInter n) s spreads are)
 
 -- after all spreads
-pub states_stay : (spreads : List Inter) (states : List CommodityState) → All IsCommodityState states → All (IsInter (length states)) spreads
+pub states_stay : (spreads : List Inter) (states : List CommodityState) → All IsCommodityState states
+    → All (IsInter (length states)) spreads
     → All IsCommodityState (after_inter_spreads spreads states)
 unfolding after_inter_spreads
 states_stay spreads states all are = fold_stays spreads (length states) states refl all are

@@ -44,6 +44,7 @@ one_direction states s inter = by_count (inter_formed_in s ALong states) refl wh
       let uses = one_way_uses s ALong states inter k in
       rw (rest_of_state states k, rest_of_state (inter_one_way s ALong states) k) uses.rest
 
-  by_count : (n : ℕ) → inter_formed_in s ALong states ≡ n → ((inter_formed_both states s).a_long ≡ 0) ⊎ ((inter_formed_both states s).a_short ≡ 0)
+  by_count : (n : ℕ) → inter_formed_in s ALong states ≡ n
+      → ((inter_formed_both states s).a_long ≡ 0) ⊎ ((inter_formed_both states s).a_short ≡ 0)
   by_count zero e = inl e
   by_count (suc n) e = inr (none_with_a_short states (inter_one_way s ALong states) left s.legs (omega (arith, e)))

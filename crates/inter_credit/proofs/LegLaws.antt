@@ -76,7 +76,8 @@ module _ (d : Direction) (n basis_points : ℕ) where
   from_first leg [] end states apart fall = fall
   from_first leg (other ∷ legs) end states apart fall = (
     fall.0 ∙ ap (part_on (market_side d other.side))
-        (rest_at-change_at (state_after (market_side d leg.side) (n * leg.ratio) basis_points) leg.commodity other.commodity states apart.0),
+        (rest_at-change_at (state_after (market_side d leg.side) (n * leg.ratio) basis_points) leg.commodity other.commodity
+        states apart.0),
     from_first leg legs end states apart.1 fall.1,
   )
 

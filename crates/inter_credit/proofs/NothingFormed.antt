@@ -21,7 +21,8 @@ no_weight w b = omega arith
 same_state : (on : MarketSide) (b : ℕ) (state : CommodityState) → state_after on 0 b state ≡ state
 same_state on b state = rw (none_used on state.rest, no_weight state.weight b) refl
 
-same_states : (f : CommodityState → CommodityState) → ((state : CommodityState) → f state ≡ state) → (place : ℕ) (states : List CommodityState)
+same_states : (f : CommodityState → CommodityState) → ((state : CommodityState) → f state ≡ state)
+    → (place : ℕ) (states : List CommodityState)
     → change_at f place states ≡ states
 same_states f same place [] = refl
 same_states f same zero (state ∷ states) = ap (λ l. l ∷ states) (same state)

@@ -77,7 +77,8 @@ used_state on used bp state le = record {
   net = refl;
   price2 = refl;
   rest = used_left on state.rest used le;
-  weight = weight_after state.weight used bp (nat_abs state.rest) (nat_abs (less_used on state.rest used)) (used_size on state.rest used le);
+  weight = weight_after state.weight used bp (nat_abs state.rest) (nat_abs (less_used on state.rest used))
+      (used_size on state.rest used le);
 }
 
 -- a change at a place uses each state, where it does so there

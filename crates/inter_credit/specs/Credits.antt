@@ -58,7 +58,8 @@ inter_both_ways states s = inter_one_way s AShort (inter_one_way s ALong states)
 
 -- how many spreads a spread forms in both directions: with A long of what there is, with A short of what A long leaves
 abbrev pub inter_formed_both : List CommodityState → Inter → SpreadsFormed
-inter_formed_both states s = record { a_long = inter_formed_in s ALong states; a_short = inter_formed_in s AShort (inter_one_way s ALong states) }
+inter_formed_both states s =
+    record { a_long = inter_formed_in s ALong states; a_short = inter_formed_in s AShort (inter_one_way s ALong states) }
 
 -- after the spreads of the set, in their order
 unfoldable pub after_inter_spreads : List Inter → List CommodityState → List CommodityState

@@ -60,7 +60,8 @@ pub fn each_leg_uses_its_part()
 pub fn spreads_formed_add_weight()
     ensures { (states : List CommodityState) (spread : Inter) (k : ℕ) → k < length states
         → (state_at (inter_both_ways states spread) k).weight ≡ (state_at states k).weight
-        + sum_by (λ leg. ((inter_formed_both states spread).a_long + (inter_formed_both states spread).a_short) * leg.ratio * spread.basis_points)
+        + sum_by (λ leg. ((inter_formed_both states spread).a_long + (inter_formed_both states spread).a_short)
+        * leg.ratio * spread.basis_points)
         (filter (λ leg. leg.commodity == k) spread.legs) }
 {}
 

@@ -117,7 +117,8 @@ module _ (contracts : List Contract) (positions : List PositionRecord) where
 
 -- what settling answers
 module _ (ids accounts : List (List ℕ)) (nets : List (List Holding)) (positions : List PositionRecord) where
-  settled_is : (b2 b3 : Option BindFault) → b2 ≡ limit_fault limit.Net ids accounts nets positions → b3 ≡ limit_fault limit.Held ids accounts nets positions
+  settled_is : (b2 b3 : Option BindFault) → b2 ≡ limit_fault limit.Net ids accounts nets positions
+      → b3 ≡ limit_fault limit.Held ids accounts nets positions
       → portfolios_or_fault ids accounts nets positions ≡ ok_unless (option_or b2 b3) (portfolios_from accounts nets)
   unfolding portfolios_or_fault
   settled_is b2 b3 x y =
@@ -136,7 +137,8 @@ module _ (ids accounts : List (List ℕ)) (nets : List (List Holding)) (position
       → MatchBool (is_memory e) ⊤ (portfolios_or_fault ids accounts nets positions ≡ Err e)
   settled_net e h = fault_given e (settled_is (Some e) (limit_fault limit.Held ids accounts nets positions) h refl)
 
-  pub settled_held : (e : BindFault) → None ≡ limit_fault limit.Net ids accounts nets positions → Some e ≡ limit_fault limit.Held ids accounts nets positions
+  pub settled_held : (e : BindFault) → None ≡ limit_fault limit.Net ids accounts nets positions
+      → Some e ≡ limit_fault limit.Held ids accounts nets positions
       → MatchBool (is_memory e) ⊤ (portfolios_or_fault ids accounts nets positions ≡ Err e)
   settled_held e none h = fault_given e (settled_is None (Some e) none h)
 

@@ -133,7 +133,8 @@ module _ (contracts : List Contract) (positions : List PositionRecord) (ids : Li
   pub kept_settled : portfolios_or_fault ids (accounts_of positions) nets positions ≡ bindings_of contracts positions
   unfolding portfolios_or_fault exact
   kept_settled =
-      by (limit_fault limit.Net ids (accounts_of positions) exact positions) (limit_fault limit.Held ids (accounts_of positions) exact positions) refl refl
+      by (limit_fault limit.Net ids (accounts_of positions) exact positions)
+          (limit_fault limit.Held ids (accounts_of positions) exact positions) refl refl
       ∙ exact_settled
     where
       exact_settled : portfolios_or_fault ids (accounts_of positions) exact positions ≡ bindings_of contracts positions
@@ -144,7 +145,8 @@ module _ (contracts : List Contract) (positions : List PositionRecord) (ids : Li
           → portfolios_or_fault ids (accounts_of positions) ns positions
           ≡ ok_unless (option_or b2 b3) (portfolios_from (accounts_of positions) ns)
       settles ns b2 b3 x y =
-          ap (λ o. ok_unless (option_or o (limit_fault limit.Held ids (accounts_of positions) ns positions)) (portfolios_from (accounts_of positions) ns))
+          ap (λ o. ok_unless (option_or o (limit_fault limit.Held ids (accounts_of positions) ns positions))
+          (portfolios_from (accounts_of positions) ns))
           x ∙ ap (λ o. ok_unless (option_or b2 o) (portfolios_from (accounts_of positions) ns)) y
 
       by : (b2 b3 : Option BindFault) → limit_fault limit.Net ids (accounts_of positions) exact positions ≡ b2
@@ -152,7 +154,8 @@ module _ (contracts : List Contract) (positions : List PositionRecord) (ids : Li
           → portfolios_or_fault ids (accounts_of positions) nets positions
           ≡ portfolios_or_fault ids (accounts_of positions) exact positions
       by (Some e) b3 x y = settles nets (Some e) b3 (fault_is limit.Net ∙ x) (fault_is limit.Held ∙ y) ∙ sym (settles exact (Some e) b3 x y)
-      by None (Some e) x y = settles nets None (Some e) (fault_is limit.Net ∙ x) (fault_is limit.Held ∙ y) ∙ sym (settles exact None (Some e) x y)
+      by None (Some e) x y =
+          settles nets None (Some e) (fault_is limit.Net ∙ x) (fault_is limit.Held ∙ y) ∙ sym (settles exact None (Some e) x y)
       by None None x y =
           ap (λ ns. portfolios_or_fault ids (accounts_of positions) ns positions) (are_kept ∙ all_same exact (exact_hold x y))
 

@@ -183,7 +183,7 @@ impl<S: ShelfName> Beginning<S> {
         }
     }
 
-    /// AddsPublication a set to the history where the history is no longer than this beginning, and says whether the set was added.
+    /// Adds a set to the history where the history is no longer than this beginning, and says whether the set was added.
     /// Where it was not, the beginning becomes the history.
     pub(crate) fn add(&mut self, counter: &Counter<S>, set: &CompiledSet) -> bool
         requires { length self.old < 2 ^ 64 - 1 }

@@ -20,6 +20,6 @@ portfolios_or_fault-requires-clause-fit c =
 pub returns : goal.returns
 returns c =
     subst (Gives is_memory c.portfolios_or_fault.result)
-    (kept_settled c.args.contracts.now c.args.positions.now c.in_ok-numbers.numbers.keys c.in_ok-ledgers.ledgers.items c.in_ok-nets.nets.items
-    c.requires c.in_ok-numbers.ensures c.in_ok-ledgers.ensures c.in_ok-nets.ensures)
+    (kept_settled c.args.contracts.now c.args.positions.now c.in_ok-numbers.numbers.keys c.in_ok-ledgers.ledgers.items
+    c.in_ok-nets.nets.items c.requires c.in_ok-numbers.ensures c.in_ok-ledgers.ensures c.in_ok-nets.ensures)
     c.portfolios_or_fault.ensures
