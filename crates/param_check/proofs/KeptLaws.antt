@@ -134,7 +134,7 @@ module _ (contracts : List Contract) (positions : List PositionRecord) (ids : Li
   unfolding portfolios_or_fault exact
   kept_settled =
       by (limit_fault limit.Net ids (accounts_of positions) exact positions)
-          (limit_fault limit.Held ids (accounts_of positions) exact positions) refl refl
+      (limit_fault limit.Held ids (accounts_of positions) exact positions) refl refl
       ∙ exact_settled
     where
       exact_settled : portfolios_or_fault ids (accounts_of positions) exact positions ≡ bindings_of contracts positions
