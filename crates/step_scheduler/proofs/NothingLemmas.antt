@@ -28,7 +28,8 @@ figures_from_nothing : (states : List CommodityState) (c : ℕ) → credit_at st
     → figures_from no_scan 0 (pos 0) (pos 0) states c ≡ no_figures
 unfolding intra_charge requirement_of
 figures_from_nothing states c none =
-    ap (λ credit. figures_with (pos 0) 1 (pos 0) (pos 0) (pos credit) (pos 0) (requirement_of (pos 0) (pos 0) (pos 0) (pos credit) (pos 0))) none
+    ap (λ credit. figures_with (pos 0) 1 (pos 0) (pos 0) (pos credit) (pos 0)
+    (requirement_of (pos 0) (pos 0) (pos 0) (pos credit) (pos 0))) none
 
 -- a state without a net delta earns nothing
 credit_read : (o : Option CommodityState) → (unwrap_or o (unspread_state (pos 0) 0)).net ≡ pos 0
@@ -71,5 +72,6 @@ module _ (t : AcceptedTables) (holdings : List Holding) (c : ℕ) (none : held_a
   pub figures_of_nothing : c < length t.commodities → figures_of t holdings c ≡ no_figures
   unfolding figures_of
   figures_of_nothing lt =
-      (λ k. figures_from (nothing_scanned k) (no_tiers k).charge (pos (nothing_delivered k)) (pos (no_minimum k)) (inter_states t holdings) c)
+      (λ k. figures_from (nothing_scanned k) (no_tiers k).charge (pos (nothing_delivered k)) (pos (no_minimum k))
+      (inter_states t holdings) c)
       ∙ figures_from_nothing (inter_states t holdings) c (no_credit lt)
