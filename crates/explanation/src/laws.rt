@@ -8,7 +8,7 @@ ghost use Rattle.span_money.specs.LineFields.{Line, line};
 ghost use Rattle.span_money.specs.Numbers.{int_sum_by};
 ghost use Rattle.span_csv.specs.PositionFaults.{positions_of};
 ghost use Rattle.span_tables.specs.Net.{AccountHoldings};
-ghost use Rattle.span_tables.specs.Tables.{AcceptedTables, has_option_value};
+ghost use Rattle.span_tables.specs.Tables.{AcceptedTables, facts_in};
 ghost use Rattle.span_tables.specs.declared.records.PositionRecord.{PositionRecord};
 ghost use Rattle.statement.specs.Statement.{accepted_of, portfolios_under, row_text, statement_of, total_of};
 ghost use Rattle.statement.specs.declared.faults.SpanFault.{SpanFault};
@@ -55,6 +55,6 @@ pub fn total_is_the_sum_of_the_requirements_shown()
 
 /// Where options have a value, that of an account is the sum of the values of the positions shown.
 pub fn value_is_the_sum_of_the_values_shown()
-    ensures { (t : AcceptedTables) (p : AccountHoldings) → has_option_value t ≡ true → option_value_of t p.holdings
+    ensures { (t : AcceptedTables) (p : AccountHoldings) → (facts_in t).options_have_value ≡ true → option_value_of t p.holdings
         ≡ int_sum_by (values_shown_at t p.holdings) (numbers_shown t p.holdings) }
 {}

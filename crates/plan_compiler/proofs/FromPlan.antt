@@ -5,7 +5,7 @@ use Rattle.std.specs.Prelude.{All, if◌then◌else◌}
 use Rattle.std.specs.List.{AllByRecursion}
 use Rattle.std.proofs.lemmas.List.Elements.{All-append, All-cons, All-from_recursion, All-nil}
 use Rattle.std.proofs.lemmas.Option.{slice_get_within}
-use Rattle.span_tables.specs.Tables.{AcceptedTables, has_option_value, inters_of}
+use Rattle.span_tables.specs.Tables.{AcceptedTables, facts_in, inters_of}
 use Rattle.plan_ir.specs.Figures.{intras_at}
 use Rattle.plan_ir.specs.declared.ops.Op.{Op}
 use Rattle.plan_ir.specs.declared.ops.Op.TheVariants as op
@@ -25,12 +25,12 @@ one : (P : Op → Type 0) (o : Op) → P o → All P (o ∷ [])
 one P o h = All-cons P o [] h (All-nil P)
 
 module _ (t : AcceptedTables) where
-  known_value : (b : Bool) → has_option_value t ≡ b → (c : ℕ) → c < length t.commodities
+  known_value : (b : Bool) → (facts_in t).options_have_value ≡ b → (c : ℕ) → c < length t.commodities
       → All (IsPlanned t) (if b then op.NetValue c ∷ [] else [])
   known_value true has c lt = one (IsPlanned t) (op.NetValue c) (has, lt)
   known_value false has c lt = All-nil (IsPlanned t)
 
-  known_premium : (b : Bool) → has_option_value t ≡ b
+  known_premium : (b : Bool) → (facts_in t).options_have_value ≡ b
       → All (IsPlanned t) (if b then op.ValueStart ∷ [] ++ each (λ c. op.ValueAdd c ∷ []) (length t.commodities) else [])
   known_premium true has =
       All-append (IsPlanned t) (op.ValueStart ∷ []) (each (λ c. op.ValueAdd c ∷ []) (length t.commodities))
@@ -49,7 +49,7 @@ module _ (t : AcceptedTables) where
       (All-append (IsPlanned t) (op.Delivery c ∷ op.Minimum c ∷ [] ++ value_ops t c) (op.Final c ∷ [])
       (All-append (IsPlanned t) (op.Delivery c ∷ op.Minimum c ∷ []) (value_ops t c)
       (All-from_recursion (IsPlanned t) (op.Delivery c ∷ op.Minimum c ∷ []) (lt, (lt, tt)))
-      (known_value (has_option_value t) refl c lt))
+      (known_value (facts_in t).options_have_value refl c lt))
       (one (IsPlanned t) (op.Final c) lt))
 
   pub known_ops : All (IsPlanned t) (ops_of t)
@@ -66,7 +66,7 @@ module _ (t : AcceptedTables) where
       (each_all (IsPlanned t) (λ j. op.InterSpread j ∷ []) m (λ j lt. one (IsPlanned t) (op.InterSpread j) lt))))
       (All-append (IsPlanned t) (op.TotalStart ∷ []) (each (λ c. op.TotalAdd c ∷ []) n) (one (IsPlanned t) op.TotalStart tt)
       (each_all (IsPlanned t) (λ c. op.TotalAdd c ∷ []) n (λ c lt. one (IsPlanned t) (op.TotalAdd c) lt))))
-      (known_premium (has_option_value t) refl)
+      (known_premium (facts_in t).options_have_value refl)
 
   known_before_spread : (c j : ℕ) → c < length t.commodities → j ≤ length (intras_at t c) → IsPlanned t (before_spread c j)
   known_before_spread c zero lt le = lt
@@ -84,7 +84,7 @@ module _ (t : AcceptedTables) where
   known_before_total zero le = tt
   known_before_total (suc c) le = omega (arith, le)
 
-  pub known_before_value : has_option_value t ≡ true → (c : ℕ) → c ≤ length t.commodities → IsPlanned t (before_value c)
+  pub known_before_value : (facts_in t).options_have_value ≡ true → (c : ℕ) → c ≤ length t.commodities → IsPlanned t (before_value c)
   known_before_value has zero le = has
   known_before_value has (suc c) le = (has, omega (arith, le))
 

@@ -5,7 +5,7 @@ use Rattle.std.specs.Prelude.{if◌then◌else◌}
 use Rattle.std.proofs.lemmas.Bool.{cases_eq}
 use Rattle.std.proofs.lemmas.List.{append_assoc, length-append}
 use Rattle.span_tables.specs.Accepted.{IsWithinLimits}
-use Rattle.span_tables.specs.Tables.{commodity_id, AcceptedTables, has_option_value, inters_of}
+use Rattle.span_tables.specs.Tables.{commodity_id, AcceptedTables, facts_in, inters_of}
 use Rattle.span_tables.specs.declared.limits.TheConstants.{MAX_INTRA_SPREADS}
 use Rattle.plan_ir.specs.Apply.{IsOp}
 use Rattle.plan_ir.specs.Figures.{intras_at}
@@ -18,9 +18,9 @@ use Rattle.plan_compiler.specs.Places.{first_step, place_of, premium_step, total
 
 -- the operation is one of the plan: its numbers are those of the tables, and options have a value where it is one of theirs
 abbrev pub IsPlanned : AcceptedTables → Op → Type 0
-IsPlanned t (op.NetValue c) = (has_option_value t ≡ true) × (c < length t.commodities)
-IsPlanned t op.ValueStart = has_option_value t ≡ true
-IsPlanned t (op.ValueAdd c) = (has_option_value t ≡ true) × (c < length t.commodities)
+IsPlanned t (op.NetValue c) = ((facts_in t).options_have_value ≡ true) × (c < length t.commodities)
+IsPlanned t op.ValueStart = (facts_in t).options_have_value ≡ true
+IsPlanned t (op.ValueAdd c) = ((facts_in t).options_have_value ≡ true) × (c < length t.commodities)
 IsPlanned t o = IsOp t o
 
 pub planned_is_op : (t : AcceptedTables) (o : Op) → IsPlanned t o → IsOp t o
@@ -75,9 +75,9 @@ few_value false = omega arith
 
 -- the steps of the option value are not too many
 pub value_steps_small : (t : AcceptedTables) → value_steps t ≤ VALUE_STEPS
-value_steps_small t = few_value (has_option_value t)
+value_steps_small t = few_value (facts_in t).options_have_value
 
-no_value_steps : (t : AcceptedTables) → has_option_value t ≡ false → value_steps t ≡ 0
+no_value_steps : (t : AcceptedTables) → (facts_in t).options_have_value ≡ false → value_steps t ≡ 0
 no_value_steps t none = ap (λ (b : Bool). if b then VALUE_STEPS else 0) none
 
 -- the steps of a commodity in front of its figures
@@ -86,7 +86,7 @@ charges t c = op.Delivery c ∷ op.Minimum c ∷ [] ++ value_ops t c
 
 length_charges : (t : AcceptedTables) (c : ℕ) → length (charges t c) ≡ 2 + value_steps t
 length_charges t c =
-    let value = length_value (has_option_value t) (op.NetValue c) in
+    let value = length_value (facts_in t).options_have_value (op.NetValue c) in
     omega (arith, value, length-append (op.Delivery c ∷ op.Minimum c ∷ []) (value_ops t c))
 
 length_commodity : (t : AcceptedTables) (c : ℕ)
@@ -117,7 +117,7 @@ first_small t limits (suc c) =
     omega (arith, before, here, few, value_steps_small t, length-append (each (commodity_ops t) c) (commodity_ops t c))
 
 -- fewer steps stand before it where options have no value
-pub first_smaller : (t : AcceptedTables) → IsWithinLimits t → has_option_value t ≡ false → (c : ℕ)
+pub first_smaller : (t : AcceptedTables) → IsWithinLimits t → (facts_in t).options_have_value ≡ false → (c : ℕ)
     → first_step t c ≤ c * (COMMODITY_STEPS + MAX_INTRA_SPREADS)
 first_smaller t limits none zero = omega arith
 first_smaller t limits none (suc c) =
@@ -268,10 +268,10 @@ module _ (t : AcceptedTables) where
       let all = length-append (each (commodity_ops t) n ++ inter_ops n m) (total_ops n) in
       omega (arith, front, all, length_inter, length_total)
 
-  in_premium : (i k : ℕ) (o : Op) → has_option_value t ≡ true → slice_get premiums i ≡ Some o → k ≡ premium_step t 0 + i
+  in_premium : (i k : ℕ) (o : Op) → (facts_in t).options_have_value ≡ true → slice_get premiums i ≡ Some o → k ≡ premium_step t 0 + i
       → slice_get (ops_of t) k ≡ Some o
   in_premium i k o has e at =
-      at_back margin_ops (premium_ops t) i k o (premiums_here (has_option_value t) has i o e) (omega (arith, at, length_margin))
+      at_back margin_ops (premium_ops t) i k o (premiums_here (facts_in t).options_have_value has i o e) (omega (arith, at, length_margin))
 
   -- each operation of the tables stands at its place
   pub place_stands : (o : Op) → IsPlanned t o → slice_get (ops_of t) (place_of t o) ≡ Some o
@@ -305,7 +305,8 @@ module _ (t : AcceptedTables) where
       (at_back (op.TotalStart ∷ []) (each (λ n. op.TotalAdd n ∷ []) (length t.commodities)) c (1 + c) (op.TotalAdd c)
       (at_single (λ n. op.TotalAdd n ∷ []) (λ n. refl) (length t.commodities) c c (op.TotalAdd c) known refl refl) refl)
       (omega arith)
-  place_stands (op.NetValue c) known = in_final c 2 _ (op.NetValue c) known.1 (value_here (has_option_value t) c known.0) (omega arith)
+  place_stands (op.NetValue c) known =
+      in_final c 2 _ (op.NetValue c) known.1 (value_here (facts_in t).options_have_value c known.0) (omega arith)
   place_stands op.ValueStart known = in_premium 0 _ op.ValueStart known refl (omega arith)
   place_stands (op.ValueAdd c) known =
       in_premium (1 + c) _ (op.ValueAdd c) known.0
@@ -336,9 +337,9 @@ module _ (t : AcceptedTables) where
   premiums_long false = omega arith
 
   pub few_premiums : length (premium_ops t) ≤ 1 + length t.commodities
-  few_premiums = premiums_long (has_option_value t)
+  few_premiums = premiums_long (facts_in t).options_have_value
 
-  pub no_premiums : has_option_value t ≡ false → length (premium_ops t) ≡ 0
+  pub no_premiums : (facts_in t).options_have_value ≡ false → length (premium_ops t) ≡ 0
   no_premiums none = ap (λ (b : Bool). length (if b then premiums else [])) none
 
   pub length_ops : length (ops_of t) ≡ first_step t (length t.commodities) + (2 + 2 * length t.commodities + length (inters_of t))

@@ -8,7 +8,7 @@ use Rattle.std.proofs.lemmas.List.Elements.{All-cons, All-map, All-nil, recursio
 use Rattle.std.proofs.lemmas.Option.{get_or_from_slice_get, slice_get_within}
 use Rattle.span_tables.specs.Accepted.{IsWithinLimits}
 use Rattle.span_tables.specs.Names.{has_repeat}
-use Rattle.span_tables.specs.Tables.{AcceptedTables, has_option_value}
+use Rattle.span_tables.specs.Tables.{AcceptedTables, facts_in}
 use Rattle.span_tables.specs.declared.limits.TheConstants.{MAX_COMMODITIES, MAX_INTER_SPREADS, MAX_INTRA_SPREADS}
 use Rattle.span_tables.specs.declared.portfolios.Holding.{Holding}
 use Rattle.plan_ir.specs.Apply.{IsOp}
@@ -155,7 +155,7 @@ module _ (t : AcceptedTables) where
       omega (arith, many, length_ops t, few_premiums t, small, commodities, inters)
 
   -- where options have no value the plan is shorter
-  pub plan_is_short : IsWithinLimits t → has_option_value t ≡ false
+  pub plan_is_short : IsWithinLimits t → (facts_in t).options_have_value ≡ false
       → length (plan_of t) ≤ MAX_COMMODITIES * (10 + MAX_INTRA_SPREADS) + 1 + MAX_INTER_SPREADS + 1
   unfolding plan_of
   plan_is_short limits none =

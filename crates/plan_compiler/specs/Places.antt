@@ -1,6 +1,6 @@
 -- Where the steps of a plan stand, and the plan of accepted tables with the numbers of its inputs.
 use Rattle.std.specs.Prelude.{ℕ, ◌+◌, if◌then◌else◌, List, length, map}
-use Rattle.span_tables.specs.Tables.{AcceptedTables, has_option_value, inters_of}
+use Rattle.span_tables.specs.Tables.{AcceptedTables, facts_in, inters_of}
 use Rattle.plan_ir.specs.Figures.{intras_at}
 use Rattle.plan_ir.specs.Plans.{StepView, steps_with}
 use Rattle.plan_ir.specs.declared.ops.Op.{Op}
@@ -32,7 +32,7 @@ total_step t commodities = inter_step t (length (inters_of t)) + TOTAL + commodi
 
 -- how many steps a commodity has for its option value
 abbrev pub value_steps : AcceptedTables → ℕ
-value_steps t = if has_option_value t then VALUE_STEPS else 0
+value_steps t = if (facts_in t).options_have_value then VALUE_STEPS else 0
 
 -- the number of the step of the option value of the first commodities
 abbrev pub premium_step : AcceptedTables → ℕ → ℕ

@@ -1,6 +1,6 @@
 -- The plan of accepted tables.
 use Rattle.std.specs.Prelude.{◌≡◌, ℕ, zero, suc, ◌<◌, if◌then◌else◌, Some, List, [], ◌∷◌, ◌++◌, length, map, slice_get}
-use Rattle.span_tables.specs.Tables.{AcceptedTables, has_option_value, inters_of}
+use Rattle.span_tables.specs.Tables.{AcceptedTables, facts_in, inters_of}
 use Rattle.plan_ir.specs.Figures.{intras_at}
 use Rattle.plan_ir.specs.Plans.{StepView, inputs_at, op_at, ops_in}
 use Rattle.plan_ir.specs.declared.ops.Op.{Op}
@@ -22,7 +22,7 @@ spread_ops c spreads = each (λ j. op.Spread c j ∷ []) spreads
 
 -- the step of its option value, where options have one
 abbrev pub value_ops : AcceptedTables → ℕ → List Op
-value_ops t c = if has_option_value t then op.NetValue c ∷ [] else []
+value_ops t c = if (facts_in t).options_have_value then op.NetValue c ∷ [] else []
 
 -- the steps behind its spreads
 abbrev pub final_ops : AcceptedTables → ℕ → List Op
@@ -44,7 +44,7 @@ total_ops commodities = op.TotalStart ∷ [] ++ each (λ c. op.TotalAdd c ∷ []
 -- the steps of the account's option value, where options have one
 abbrev pub premium_ops : AcceptedTables → List Op
 premium_ops t =
-    if has_option_value t then op.ValueStart ∷ [] ++ each (λ c. op.ValueAdd c ∷ []) (length t.commodities) else []
+    if (facts_in t).options_have_value then op.ValueStart ∷ [] ++ each (λ c. op.ValueAdd c ∷ []) (length t.commodities) else []
 
 -- the operations of the plan, in order
 abbrev pub ops_of : AcceptedTables → List Op

@@ -1,6 +1,6 @@
 //! The laws of plans (docs/METHOD.md, "The plan of steps"), each the contract of a function with an empty body.
 ghost use Rattle.span_tables.specs.Accepted.{IsWithinLimits};
-ghost use Rattle.span_tables.specs.Tables.{AcceptedTables, has_option_value};
+ghost use Rattle.span_tables.specs.Tables.{AcceptedTables, facts_in};
 ghost use Rattle.std.specs.Prelude.{◌≡◌, ◌+◌, ◌*◌, ◌≤◌, false, length};
 ghost use Rattle.span_tables.specs.declared.limits.TheConstants.{MAX_COMMODITIES, MAX_INTER_SPREADS, MAX_INTRA_SPREADS};
 ghost use Rattle.plan_ir.specs.declared.plans.TheConstants.{MAX_STEPS};
@@ -23,7 +23,7 @@ pub fn plans_keep_the_plan_law()
 /// commodity has two steps more, and there is one more behind the total. That fits the limit of plans.
 #[tactic(auto, using(crate::proofs::PlanLaw::plan_is_short, crate::proofs::PlanLaw::value_plan_is_short))]
 pub fn the_largest_plan_fits()
-    ensures largest { (t : AcceptedTables) → IsWithinLimits t → has_option_value t ≡ false
+    ensures largest { (t : AcceptedTables) → IsWithinLimits t → (facts_in t).options_have_value ≡ false
         → length (plan_of t) ≤ MAX_COMMODITIES * (10 + MAX_INTRA_SPREADS) + 1 + MAX_INTER_SPREADS + 1 }
     ensures largest_of_values { (t : AcceptedTables) → IsWithinLimits t
         → length (plan_of t) ≤ MAX_COMMODITIES * (12 + MAX_INTRA_SPREADS) + 1 + MAX_INTER_SPREADS + 1 + 1 }

@@ -49,7 +49,7 @@ fn value_steps(tables: &Tables) -> u32
     ensures value { result ≡ value_steps tables.now }
     ensures bound { result ≤ VALUE_STEPS }
 {
-    if tables.has_option_value() {
+    if tables.facts().options_have_value {
         VALUE_STEPS as u32
     } else {
         0

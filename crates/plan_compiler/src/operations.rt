@@ -24,7 +24,7 @@ fn push_final(ops: &mut Vec<Op>, tables: &Tables, c: u32) -> Result<(), AllocErr
     ensures { OnOk result (ops.new.items ≡ ops.old.items ++ final_ops tables.now c) }
 {
     ops.extend_from_slice(&[Op::Delivery(c), Op::Minimum(c)])?;
-    if tables.has_option_value() {
+    if tables.facts().options_have_value {
         ops.push(Op::NetValue(c))?;
     }
     ops.push(Op::Final(c))?;
@@ -103,7 +103,7 @@ fn push_value_adds(ops: &mut Vec<Op>, commodities: u32) -> Result<(), AllocError
 fn push_premium(ops: &mut Vec<Op>, tables: &Tables) -> Result<(), AllocError>
     ensures { OnOk result (ops.new.items ≡ ops.old.items ++ premium_ops tables.now) }
 {
-    if !tables.has_option_value() {
+    if !tables.facts().options_have_value {
         return Ok(());
     }
     let commodities = tables.commodities().len();

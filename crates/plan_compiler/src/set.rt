@@ -1,6 +1,6 @@
 //! Compiled sets (docs/METHOD.md, "The plan of steps").
 ghost use Rattle.std.specs.Prelude.{◌≡◌, ◌<◌, IfOk, IfSome, List, is_some, length};
-ghost use Rattle.span_tables.specs.Tables.{has_option_value};
+ghost use Rattle.span_tables.specs.Tables.{facts_in};
 ghost use Rattle.span_tables.specs.declared.portfolios.Holding.{Holding};
 ghost use Rattle.plan_ir.specs.Figures.{total_to, value_to};
 ghost use Rattle.plan_ir.specs.Plans.{op_at};
@@ -136,14 +136,14 @@ impl CompiledSet {
 
     /// The number of the step that has the account's option value, where options have one.
     pub fn value_step(&self) -> Option<u32>
-        ensures some { is_some result ≡ has_option_value self.now.tables }
+        ensures some { is_some result ≡ (facts_in self.now.tables).options_have_value }
         ensures in_range { IfSome result (λ k. k < length self.now.plan) }
         ensures op { IfSome result (λ k. op_at self.now.plan k ≡ last_value self.now.tables) }
         ensures means { IfSome result (λ k. (holdings : List Holding) → step_meaning self.now holdings k
             ≡ value.Premium (value_to self.now.tables holdings (length self.now.tables.commodities))) }
     {
         let Shared { tables, firsts, .. } = &*self.shared;
-        if !tables.has_option_value() {
+        if !tables.facts().options_have_value {
             return None;
         }
         Some(premium_step(tables, firsts, tables.commodities().len() as u32))

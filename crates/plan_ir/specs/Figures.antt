@@ -2,7 +2,7 @@
 use Rattle.std.specs.Prelude.{ℕ, Bool, not, ◌==◌, if◌then◌else◌, List, [], ◌∷◌, length, map, slice_index_or, ℤ, pos}
 use Rattle.std.specs.List.{range_with_len}
 use Rattle.span_money.specs.Numbers.{int_sum_by}
-use Rattle.span_tables.specs.Tables.{commodity_id, AcceptedTables, has_option_value, intras_of, spots_of, inters_of}
+use Rattle.span_tables.specs.Tables.{commodity_id, AcceptedTables, facts_in, intras_of, spots_of, inters_of}
 use Rattle.span_tables.specs.Net.{HeldContract, held_of}
 use Rattle.scan_risk.specs.Scenarios.{scenario_sums, scan_of}
 use Rattle.spread_stage.specs.Charges.{intra_charge, delivery_charge}
@@ -129,4 +129,4 @@ value_to t holdings n = int_sum_by (net_value_at t holdings) (range_with_len 0 n
 
 -- the option value of an account: the sum over all commodities, and 0 where options have none
 abbrev pub option_value_of : AcceptedTables → List Holding → ℤ
-option_value_of t holdings = if has_option_value t then value_to t holdings (length t.commodities) else pos 0
+option_value_of t holdings = if (facts_in t).options_have_value then value_to t holdings (length t.commodities) else pos 0

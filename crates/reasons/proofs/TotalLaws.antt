@@ -8,7 +8,7 @@ use Rattle.std.proofs.lemmas.Bool.Decides.{nat_tests}
 use Rattle.std.proofs.lemmas.Int.{ints}
 use Rattle.span_money.specs.Numbers.{int_sum_by}
 use Rattle.span_tables.specs.Net.{HeldContract}
-use Rattle.span_tables.specs.Tables.{AcceptedTables, has_option_value}
+use Rattle.span_tables.specs.Tables.{AcceptedTables, facts_in}
 use Rattle.span_tables.specs.declared.portfolios.Holding.{Holding}
 use Rattle.span_tables.specs.declared.records.Intra.{Intra}
 use Rattle.span_tables.specs.declared.records.Spot.{Spot}
@@ -130,6 +130,6 @@ module _ (t : AcceptedTables) (holdings : List Holding) where
       sum_of_passing (is_commodity_held t holdings) (values_shown_at t holdings) (length t.commodities)
       (λ c lt e. no_value t holdings c (none_held (held_at t holdings c) e)) 0 (length t.commodities) (omega arith)
 
-  pub value_shown : has_option_value t ≡ true
+  pub value_shown : (facts_in t).options_have_value ≡ true
       → option_value_of t holdings ≡ int_sum_by (values_shown_at t holdings) (numbers_shown t holdings)
   value_shown has = ap (λ b. cond b (value_to t holdings (length t.commodities)) (pos 0)) has ∙ values_shown

@@ -4,7 +4,7 @@ use Rattle.std.specs.Fmt.{signed_decimal}
 use Rattle.span_money.specs.ExactDecimals.{exact_decimal}
 use Rattle.span_money.specs.LineFields.{Line}
 use Rattle.span_tables.specs.Net.{HeldContract}
-use Rattle.span_tables.specs.Tables.{AcceptedTables, has_option_value, inters_of}
+use Rattle.span_tables.specs.Tables.{AcceptedTables, facts_in, inters_of}
 use Rattle.span_tables.specs.declared.portfolios.Holding.{Holding}
 use Rattle.span_tables.specs.declared.records.Commodity.{Commodity}
 use Rattle.span_tables.specs.declared.records.MinimumMethod.{MinimumMethod}
@@ -65,7 +65,7 @@ abbrev pub held_reason : AcceptedTables → HeldContract → Line
 held_reason t h = record {
   word = codes "HELD";
   fields = (h.contract).id ∷ kind_letter (h.contract).kind ∷ decimal (h.contract).month ∷ signed_decimal h.net
-      ∷ (if has_option_value t then signed_decimal (position_value h) ∷ [] else []);
+      ∷ (if (facts_in t).options_have_value then signed_decimal (position_value h) ∷ [] else []);
 }
 
 -- the sixteen scenario sums

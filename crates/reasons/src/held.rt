@@ -34,7 +34,7 @@ fn push_held_at(
     let kind = Field::Text(kind_letter(contract.kind));
     let month = Field::Whole(i128::from(contract.month));
     let net = Field::Whole(i128::from(held.net(place)));
-    if !tables.has_option_value() {
+    if !tables.facts().options_have_value {
         return push_line(out, "HELD", ids, &[id, kind, month, net]);
     }
     let value = Field::Whole(position_value(held, place).get());

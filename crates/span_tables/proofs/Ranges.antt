@@ -3,11 +3,11 @@ use Rattle.std.proofs.Common.{◌≡◌, ℕ, ◌<◌, ◌≤◌, Bool, true, ar
 use Rattle.std.specs.Prelude.{All, MatchOption, filter_map, find, nat_abs, nat_le, option_map, unwrap_or}
 use Rattle.std.specs.List.{AllByRecursion, list_all}
 use Rattle.std.proofs.lemmas.Bool.{leb-true}
-use Rattle.std.proofs.lemmas.Bool.Decides.{Decides-eqb}
+use Rattle.std.proofs.lemmas.Bool.Decides.{Decides-eqb, nat_tests}
 use Rattle.std.proofs.lemmas.List.{length-map}
 use Rattle.std.proofs.lemmas.List.Elements.{All-nil, All-cons, All-head, All-map, All-weaker}
 use Rattle.span_tables.specs.Accepted.{IsContract, IsIntra, IsSpot}
-use Rattle.span_tables.specs.near.Limits.{commodity_in_range, contract_in_range, in_range, inter_in_range}
+use Rattle.span_tables.specs.near.Limits.{commodity_in_range, contract_in_range, extras_in_range, in_range, inter_in_range}
 use Rattle.span_tables.specs.near.Limits.{intra_in_range, lies_within, set_in_range, spot_in_range}
 use Rattle.span_tables.specs.Tables.{most_option_value}
 use Rattle.span_tables.specs.Tables.{intra_spread, month_leg, profile_in}
@@ -16,6 +16,7 @@ use Rattle.span_tables.specs.declared.limits.TheConstants.{MAX_ARRAY_VALUE, MAX_
 use Rattle.span_tables.specs.declared.limits.TheConstants.{MAX_PROFILE, MAX_RATE, MAX_RATIO}
 use Rattle.span_tables.specs.declared.records.Commodity.{Commodity}
 use Rattle.span_tables.specs.declared.records.Contract.{Contract}
+use Rattle.span_tables.specs.declared.records.ContractExtras.{ContractExtras}
 use Rattle.span_tables.specs.declared.records.InterRecord.{InterRecord}
 use Rattle.span_tables.specs.declared.records.IntraRecord.{IntraRecord}
 use Rattle.span_tables.specs.declared.records.Record.{Record}
@@ -77,17 +78,20 @@ most_small product.Future = omega arith
 most_small product.Call = omega arith
 most_small product.Put = omega arith
 
+value_within : (kind : ProductKind) (extras : ContractExtras) → extras_in_range kind extras ≡ true
+    → extras.option_value ≤ most_option_value kind
+value_within kind extras e = grind (arith, nat_tests)
+
 pub is_contract : (x : Contract) → contract_in_range x ≡ true → IsContract x
 is_contract x e =
     let last = all_true _ _ _ e in
     let middle = all_true _ _ _ last.0 in
-    let most = leb-true x.extras.option_value (most_option_value x.kind) last.2 in
     record {
       delta = leb-true _ _ (and_true _ _ middle.0).1;
       scale = (within _ _ _ middle.1).1;
       sixteen = (Decides-eqb _ _).0 middle.2;
       values = all_by _ (λ v. nat_abs v ≤ MAX_ARRAY_VALUE) (λ v le. leb-true _ _ le) x.values last.1;
-      option_value = omega (arith, most, most_small x.kind);
+      option_value = omega (arith, value_within x.kind x.extras last.2, most_small x.kind);
     }
 
 pub is_intra : (tiers : List Tier) (s : IntraRecord) → intra_in_range s ≡ true → IsIntra (intra_spread tiers s)

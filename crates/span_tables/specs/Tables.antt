@@ -4,6 +4,7 @@ use Rattle.std.specs.Prelude.{Bool, Option, ◌∷◌, map, filter, find, filter
 use Rattle.std.specs.List.{position_or_len}
 use Rattle.span_tables.specs.Profiles.{facts_of}
 use Rattle.span_tables.specs.Rules.{as_set, commodities_in, contracts_in, tiers_in, intras_in, spots_in, inters_in}
+use Rattle.span_tables.specs.declared.profiles.ProfileFacts.{ProfileFacts}
 use Rattle.span_tables.specs.declared.records.SetRecord.{SetRecord}
 use Rattle.span_tables.specs.declared.records.Commodity.{Commodity}
 use Rattle.span_tables.specs.declared.records.Contract.{Contract}
@@ -68,9 +69,9 @@ tables_of rs = record {
   inter_records = rising_by (λ s. s.priority) (inters_in rs);
 }
 
--- options have a value under the set's profile
-abbrev pub has_option_value : AcceptedTables → Bool
-has_option_value t = (facts_of t.profile).options_have_value
+-- what the set's profile has
+abbrev pub facts_in : AcceptedTables → ProfileFacts
+facts_in t = facts_of t.profile
 
 -- a leg with the months of its tier; a tier that there is not has none
 abbrev pub month_leg : List Tier → List ℕ → IntraLeg → MonthLeg

@@ -27,7 +27,7 @@ pub const MIN_LEGS: usize = 2;
 pub const MAX_LEGS: usize = 4;
 /// The profile of a set, which is the version of its SET record, at most; the least is 1.
 pub const MAX_PROFILE: u8 = 2;
-/// The profile under which options have a value.
+/// The first profile under which options have a value.
 pub const VALUE_PROFILE: u8 = 2;
 
 /// A rate, in minor units.

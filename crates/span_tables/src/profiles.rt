@@ -5,7 +5,7 @@ ghost use Rattle.span_tables.specs.Profiles.{facts_of};
 
 use crate::limits::VALUE_PROFILE;
 
-/// What a profile has.
+/// What a profile has: each fact holds from the profile that brings it on.
 #[derive(Clone, Copy, Debug, PartialEq, Eq)]
 pub struct ProfileFacts {
     /// Options have a value, which stands in their CONTRACT records.
@@ -17,6 +17,6 @@ pub fn facts_of(profile: u8) -> ProfileFacts
     ensures { result ≡ facts_of profile }
 {
     ProfileFacts {
-        options_have_value: profile == VALUE_PROFILE,
+        options_have_value: VALUE_PROFILE <= profile,
     }
 }

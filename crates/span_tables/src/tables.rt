@@ -6,13 +6,13 @@ ghost use Rattle.span_tables.specs.Accepted.{IsInter, IsIntra, IsSpot, IsWithinL
 ghost use Rattle.span_tables.specs.near.Kept.{IsAccepted, tables_from};
 ghost use Rattle.span_tables.specs.Tables.{commodity_id};
 ghost use Rattle.span_tables.specs.Rules.{keeps_rules};
-ghost use Rattle.span_tables.specs.Tables.{has_option_value, inters_of, intras_of, spots_of, tables_of};
+ghost use Rattle.span_tables.specs.Tables.{facts_in, inters_of, intras_of, spots_of, tables_of};
 ghost use Rattle.span_tables.specs.declared.limits.TheConstants.{MAX_INTER_SPREADS, MAX_INTRA_SPREADS, MAX_SPOT_MONTHS};
 
 use crate::groups::{numbers_of, spots_by_commodity};
 use crate::kinds::{Kinds, in_order, profile, set_id};
 use crate::name::Name;
-use crate::profiles::facts_of;
+use crate::profiles::{ProfileFacts, facts_of};
 use crate::raw::RawTables;
 use crate::records::{Commodity, Contract, Inter, InterRecord, Intra, IntraRecord, Spot, Tier};
 use crate::spreads::{inters_with_numbers, intras_by_commodity};
@@ -154,11 +154,11 @@ impl Tables {
         self.version
     }
 
-    /// Whether options have a value under the profile of the set.
-    pub fn has_option_value(&self) -> bool
-        ensures { result ≡ has_option_value self.now }
+    /// What the profile of the set has.
+    pub fn facts(&self) -> ProfileFacts
+        ensures { result ≡ facts_in self.now }
     {
-        facts_of(self.profile()).options_have_value
+        facts_of(self.profile())
     }
 
     /// The commodities by their numbers.

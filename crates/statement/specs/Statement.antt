@@ -7,7 +7,7 @@ use Rattle.span_money.specs.LineFields.{Line, line}
 use Rattle.span_csv.specs.ParamFaults.{params_of}
 use Rattle.span_csv.specs.PositionFaults.{positions_of}
 use Rattle.param_check.specs.CheckFaults.{checked}
-use Rattle.span_tables.specs.Tables.{AcceptedTables, has_option_value}
+use Rattle.span_tables.specs.Tables.{AcceptedTables, facts_in}
 use Rattle.span_tables.specs.Net.{AccountHoldings}
 use Rattle.span_tables.specs.declared.records.PositionRecord.{PositionRecord}
 use Rattle.param_check.specs.Binding.{bindings_of}
@@ -46,7 +46,7 @@ total_of t p = total_to t p.holdings (length t.commodities)
 -- after it, and what that value is over the total.
 abbrev pub total_numbers : AcceptedTables → ℤ → ℤ → List ℤ
 total_numbers t total value =
-    if has_option_value t then total ∷ value ∷ pos (due_of total value) ∷ pos (excess_of total value) ∷ [] else total ∷ []
+    if (facts_in t).options_have_value then total ∷ value ∷ pos (due_of total value) ∷ pos (excess_of total value) ∷ [] else total ∷ []
 
 -- the lines of an account: its figures in each commodity that it holds, in file order, and its total
 unfoldable pub row_text : AcceptedTables → AccountHoldings → List ℕ

@@ -102,7 +102,7 @@ pub fn push_total_of(out: &mut Vec<u8>, row: &Row) -> Result<(), AllocError>
         (option_value_of row.now.set.tables row.now.portfolio.holdings)))) }
 {
     let total = row.total();
-    if !row.set().tables().has_option_value() {
+    if !row.set().tables().facts().options_have_value {
         return push_total(out, row.account(), row.set_id(), &[total.get()]);
     }
     let value = row.value();

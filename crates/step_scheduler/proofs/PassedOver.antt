@@ -5,7 +5,7 @@ use Rattle.std.specs.Prelude.{◌+ℤ◌, ℤ, pos, replicate, true}
 use Rattle.std.specs.List.{range_with_len}
 use Rattle.std.proofs.Math.IntN.{+ℤ_idr}
 use Rattle.std.proofs.lemmas.List.FromFn.{map-range_with_len_more}
-use Rattle.span_tables.specs.Tables.{AcceptedTables, has_option_value}
+use Rattle.span_tables.specs.Tables.{AcceptedTables, facts_in}
 use Rattle.span_tables.specs.declared.portfolios.Holding.{Holding}
 use Rattle.inter_credit.specs.Credits.{unspread_state}
 use Rattle.inter_credit.specs.declared.state.CommodityState.{CommodityState}
@@ -65,7 +65,7 @@ module _ (t : AcceptedTables) (holdings : List Holding) where
 
   -- the option value up to the next that is held, with that of the next
   pub value_with : (p : Part) (from : ℕ) (value : ℤ) → IsNext t holdings from p.commodity → IsPart t holdings p
-      → has_option_value t ≡ true → value ≡ value_to t holdings from
+      → (facts_in t).options_have_value ≡ true → value ≡ value_to t holdings from
       → value +ℤ p.worth ≡ value_to t holdings p.commodity +ℤ net_value_at t holdings p.commodity
   value_with p from value next is has e =
       λ k. (e ∙ values_over from p.commodity next.behind next.none) k +ℤ is.worth has k

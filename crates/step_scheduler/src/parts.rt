@@ -7,7 +7,7 @@ ghost use Rattle.std.specs.Prelude.{slice_set, true};
 ghost use Rattle.span_money.specs.declared.amounts.TheConstants.{MAX_MONEY};
 ghost use Rattle.span_tables.specs.Accepted.{IsInter, IsIntra};
 ghost use Rattle.span_tables.specs.Holdings.{fits};
-ghost use Rattle.span_tables.specs.Tables.{has_option_value};
+ghost use Rattle.span_tables.specs.Tables.{facts_in};
 ghost use Rattle.span_tables.specs.declared.portfolios.Holding.{Holding};
 ghost use Rattle.spread_stage.specs.Months.{Shrinks};
 ghost use Rattle.spread_stage.specs.Spreads.{spread_both_ways};
@@ -67,9 +67,9 @@ fn form_intras<W: Watch>(tiers: &mut TierState, intras: &[Intra], walk: &mut Wal
 // The option value of a commodity, where options have one.
 #[inline(always)]
 fn worth_of<W: Watch>(tables: &Tables, held: &Held, walk: &mut Walk<'_, W>) -> Money
-    ensures { has_option_value tables.now ≡ true → result ≡ net_value_of held.now }
+    ensures { (facts_in tables.now).options_have_value ≡ true → result ≡ net_value_of held.now }
 {
-    if !tables.has_option_value() {
+    if !tables.facts().options_have_value {
         return Money::new(0);
     }
     walk.pass();
@@ -320,7 +320,7 @@ pub(crate) fn value_of_all<W: Watch>(
     requires parts { ArePartsFrom tables.now portfolio.now.holdings 0 parts.now }
     ensures { result ≡ option_value_of tables.now portfolio.now.holdings }
 {
-    if !tables.has_option_value() {
+    if !tables.facts().options_have_value {
         return Money::new(0);
     }
     // Called for their clauses: the tables are within their limits, and the holdings are those of a portfolio.

@@ -7,6 +7,7 @@ use Rattle.span_money.specs.Numbers.{is_month}
 use Rattle.span_tables.specs.Rules.{as_set, commodities_in, contracts_in, tiers_in, intras_in, spots_in, inters_in}
 use Rattle.span_tables.specs.declared.records.Commodity.{Commodity}
 use Rattle.span_tables.specs.declared.records.Contract.{Contract}
+use Rattle.span_tables.specs.declared.records.ContractExtras.{ContractExtras}
 use Rattle.span_tables.specs.declared.records.Tier.{Tier}
 use Rattle.span_tables.specs.declared.records.IntraRecord.{IntraRecord}
 use Rattle.span_tables.specs.declared.records.Spot.{Spot}
@@ -18,6 +19,7 @@ use Rattle.span_tables.specs.declared.limits.TheConstants.{MAX_SPOT_MONTHS, MAX_
 use Rattle.span_tables.specs.declared.limits.TheConstants.{MAX_ARRAY_VALUE, MAX_DELTA, MAX_SCALE, MAX_RATIO}
 use Rattle.span_tables.specs.declared.limits.TheConstants.{MAX_TIER_NUMBER, MAX_PRIORITY, MAX_BASIS_POINTS, MIN_LEGS}
 use Rattle.span_tables.specs.declared.limits.TheConstants.{MAX_LEGS, SCENARIOS, MAX_PROFILE}
+use Rattle.span_tables.specs.declared.records.ProductKind.{ProductKind}
 use Rattle.span_tables.specs.declared.records.SetRecord.{SetRecord}
 use Rattle.span_tables.specs.Tables.{most_option_value}
 
@@ -51,12 +53,16 @@ set_in_range s = is_name s.id && lies_within 1 MAX_PROFILE s.profile
 abbrev pub commodity_in_range : Commodity → Bool
 commodity_in_range c = is_name c.id && is_rate c.minimum_rate
 
--- a contract: its names, month, delta, scale, a value for each scenario and its option value
+-- what profiles add to a contract of a kind: its option value
+abbrev pub extras_in_range : ProductKind → ContractExtras → Bool
+extras_in_range kind extras = nat_le extras.option_value (most_option_value kind)
+
+-- a contract: its names, month, delta, scale, a value for each scenario and what its profile adds
 abbrev pub contract_in_range : Contract → Bool
 contract_in_range x =
     is_name x.id && is_name x.commodity && is_month x.month && nat_le (nat_abs x.delta) MAX_DELTA && lies_within 1 MAX_SCALE x.scale
     && (length x.values == SCENARIOS) && list_all (λ v. nat_le (nat_abs v) MAX_ARRAY_VALUE) x.values
-    && nat_le x.extras.option_value (most_option_value x.kind)
+    && extras_in_range x.kind x.extras
 
 -- a tier: its commodity, number and months
 abbrev pub tier_in_range : Tier → Bool

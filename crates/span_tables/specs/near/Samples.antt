@@ -19,7 +19,7 @@ set_under profile id = record_of.Set (record { id = id; profile = profile; curre
 abbrev pub set : List ℕ → Record
 set id = set_under 1 id
 
--- a set of this id, under the profile in which options have a value
+-- a set of this id, under the first profile in which options have a value
 abbrev pub value_set : List ℕ → Record
 value_set id = set_under VALUE_PROFILE id
 

@@ -1,6 +1,6 @@
 -- What a whole run has of the commodities that are held, and what it gives.
 use Rattle.std.specs.Prelude.{◌≡◌, ℕ, ◌+◌, ◌*◌, ◌<◌, ◌≤◌, true, List, [], ◌∷◌, length, slice_index_or, nat_abs, pos, replicate, ℤ}
-use Rattle.span_tables.specs.Tables.{AcceptedTables, has_option_value}
+use Rattle.span_tables.specs.Tables.{AcceptedTables, facts_in}
 use Rattle.span_tables.specs.declared.held.CommodityHeld.{CommodityHeld}
 use Rattle.span_tables.specs.declared.limits.TheConstants.{MAX_PRICE2, MAX_RATE, MAX_UNITS}
 use Rattle.span_tables.specs.declared.portfolios.Holding.{Holding}
@@ -43,7 +43,7 @@ pub record IsPart (t : AcceptedTables) (holdings : List Holding) (p : Part) : Ty
   pub charge : p.charge ≡ (tiers_at t holdings p.commodity).charge
   pub delivery : p.delivery ≡ pos (delivery_at t holdings p.commodity)
   pub minimum : p.minimum ≡ pos (minimum_at t holdings p.commodity)
-  pub worth : has_option_value t ≡ true → p.worth ≡ net_value_at t holdings p.commodity
+  pub worth : (facts_in t).options_have_value ≡ true → p.worth ≡ net_value_at t holdings p.commodity
 
 -- what the held commodities from a number on have, by rising numbers
 abbrev pub ArePartsFrom : AcceptedTables → List Holding → ℕ → List Part → Type 0

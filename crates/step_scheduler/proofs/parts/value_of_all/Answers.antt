@@ -1,10 +1,17 @@
-use Rattle.std.proofs.Common.{length, sym, ◌∙◌}
+use Rattle.std.proofs.Common.{◌≡◌, ap, length, sym, true, ◌∙◌}
+use Rattle.span_tables.specs.Tables.{AcceptedTables, facts_in}
+use Rattle.span_tables.specs.declared.profiles.ProfileFacts.{ProfileFacts}
 use Rattle.plan_ir.specs.Figures.{value_to}
 use Rattle.plan_ir.proofs.BoundLaws.{next_value_is_money}
 use Rattle.plan_compiler.proofs.Meanings.{value_more}
 use Rattle.step_scheduler.proofs.HeldLemmas.{next_part, no_part}
 use Rattle.step_scheduler.proofs.PassedOver.{value_with, values_over}
 use Rattle.step_scheduler.proofs.parts.value_of_all.Goals as goal
+
+-- options have a value where the facts that the tables gave say so
+valued : (t : AcceptedTables) (facts : ProfileFacts) → facts ≡ facts_in t → facts.options_have_value ≡ true
+    → (facts_in t).options_have_value ≡ true
+valued t facts is have = ap (λ (f : ProfileFacts). f.options_have_value) (sym is) ∙ have
 
 pub loop-part-init : goal.loop-part-init
 unfolding value_to
@@ -14,19 +21,21 @@ pub sum-value-requires : goal.sum-value-requires
 sum-value-requires g c =
     let here = next_part _ _ c.args.parts.now c.loop-part.part-index c.loop-part.next c.part-item.result c.loop-part-test.true
     c.part-item.is c.loop-part.invariant.left in
-    rw (value_with _ _ _ _ _ here.0 here.1 (sym c.has_option_value.ensures ∙ c.if-not-has_option_value.false) c.loop-part.invariant.value)
+    let has = valued c.args.tables.now _ c.facts.ensures c.if-not-facts-options_have_value.false in
+    rw (value_with _ _ _ _ _ here.0 here.1 has c.loop-part.invariant.value)
     (next_value_is_money _ _ _ c.commodities-count.ensures.limits c.holdings-kept.ensures.kept c.requires.fits here.0.known)
 
 pub loop-part-preserved : goal.loop-part-preserved
 loop-part-preserved g c =
     let here = next_part _ _ c.args.parts.now c.loop-part.part-index c.loop-part.next c.part-item.result c.loop-part-test.true
     c.part-item.is c.loop-part.invariant.left in
-    let value =
-    value_with _ _ _ _ _ here.0 here.1 (sym c.has_option_value.ensures ∙ c.if-not-has_option_value.false) c.loop-part.invariant.value in
+    let has = valued c.args.tables.now _ c.facts.ensures c.if-not-facts-options_have_value.false in
+    let value = value_with _ _ _ _ _ here.0 here.1 has c.loop-part.invariant.value in
     record { left = here.2; value = c.sum-value.ensures ∙ value ∙ value_more _ _ _ }
 
 pub returns : goal.returns
 returns g c =
     let end = no_part _ _ c.args.parts.now c.loop-part.part-index c.loop-part.next c.loop-part-test.false c.loop-part.invariant.left in
-    rw (sym c.has_option_value.ensures ∙ c.if-not-has_option_value.false)
+    let has = valued c.args.tables.now _ c.facts.ensures c.if-not-facts-options_have_value.false in
+    rw has
     (c.loop-part.invariant.value ∙ values_over _ _ _ (length (c.args.tables.now).commodities) end.behind end.none)

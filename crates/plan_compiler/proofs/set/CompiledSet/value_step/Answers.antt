@@ -1,6 +1,6 @@
 use Rattle.std.proofs.Common.{◌≡◌, ◌∙◌, true, ap, length, arith, refl, rules}
 use Rattle.std.specs.Arc.{arc_value}
-use Rattle.span_tables.specs.Tables.{has_option_value}
+use Rattle.span_tables.specs.Tables.{facts_in}
 use Rattle.plan_compiler.specs.Meaning.{last_value, meaning}
 use Rattle.plan_compiler.specs.Places.{place_of}
 use Rattle.plan_compiler.proofs.Meanings.{meaning-before_value}
@@ -12,7 +12,7 @@ pub returns : goal.returns
 returns c =
     let t = (arc_value c.self.inside.shared).tables in
     let n = length t.commodities in
-    let has : has_option_value t ≡ true = search rules in
+    let has : (facts_in t).options_have_value ≡ true = search rules in
     let place : c.premium_step.result ≡ place_of t (last_value t) =
     rw (c.premium_step.ensures, c.commodities.ensures.value, c.deref.ensures) (rw (place-before_value t n) refl) in
     let known = known_before_value t has n (omega arith) in
