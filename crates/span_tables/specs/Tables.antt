@@ -1,6 +1,6 @@
 -- The accepted tables: commodities and contracts in file order, and spreads by rising priority with what they name.
 use Rattle.std.specs.Prelude.{ℕ, true, ◌&&◌, ◌==◌, nat_le, if◌then◌else◌, List, [], slice_get}
-use Rattle.std.specs.Prelude.{Bool, Option, ◌∷◌, map, filter, find, filter_map, option_map, unwrap_or, bytes_eq}
+use Rattle.std.specs.Prelude.{Option, ◌∷◌, map, filter, find, filter_map, option_map, unwrap_or, bytes_eq}
 use Rattle.std.specs.List.{position_or_len}
 use Rattle.span_tables.specs.Profiles.{facts_of}
 use Rattle.span_tables.specs.Rules.{as_set, commodities_in, contracts_in, tiers_in, intras_in, spots_in, inters_in}
