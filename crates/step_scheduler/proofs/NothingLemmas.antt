@@ -11,10 +11,10 @@ use Rattle.spread_stage.proofs.ClosedLemmas.{after_spreads_of_nothing, delivery_
 use Rattle.inter_credit.specs.Credits.{credit_of, unspread_state}
 use Rattle.inter_credit.specs.OptionValue.{net_value_of}
 use Rattle.inter_credit.specs.Requirement.{minimum_of, requirement_of}
-use Rattle.inter_credit.specs.Credits.{credit_at}
+use Rattle.inter_credit.specs.Credits.{credit_at, state_at}
 use Rattle.inter_credit.specs.declared.state.CommodityState.{CommodityState}
 use Rattle.inter_credit.proofs.CreditLaws.{credit_zero}
-use Rattle.plan_ir.specs.Figures.{commodity_at, deltas_at, delivery_at, figures_from, figures_of, figures_with, held_at, inter_states}
+use Rattle.plan_ir.specs.Figures.{commodity_at, deltas_at, delivery_at, figures_from, figures_of, held_at, inter_states}
 use Rattle.plan_ir.specs.Figures.{intras_at, state_of, minimum_at, net_value_at, scan_at, spots_at, tiers_at}
 use Rattle.plan_ir.specs.Values.{no_figures, no_scan}
 use Rattle.plan_ir.proofs.NothingLemmas.{minimum_of_nothing, month_deltas_of_nothing, value_of_nothing}
@@ -24,18 +24,19 @@ scan_of_nothing : scan_of (scenario_sums []) ≡ no_scan
 unfolding scan_of scenario_sums
 scan_of_nothing = refl
 
-figures_from_nothing : (states : List CommodityState) (c : ℕ) → credit_at states c ≡ 0
-    → figures_from no_scan 0 (pos 0) (pos 0) states c ≡ no_figures
-unfolding intra_charge requirement_of
-figures_from_nothing states c none =
-    ap (λ credit. figures_with (pos 0) 1 (pos 0) (pos 0) (pos credit) (pos 0)
-    (requirement_of (pos 0) (pos 0) (pos 0) (pos credit) (pos 0))) none
-
 -- a state without a net delta earns nothing
 credit_read : (o : Option CommodityState) → (unwrap_or o (unspread_state (pos 0) 0)).net ≡ pos 0
     → unwrap_or (option_map credit_of o) 0 ≡ 0
 credit_read None e = refl
 credit_read (Some state) e = credit_zero state (ap nat_abs e)
+
+-- the figures of what has no scan, charge and minimum, and no net delta
+figures_from_nothing : (states : List CommodityState) (c : ℕ) → (state_at states c).net ≡ pos 0
+    → figures_from no_scan 0 (pos 0) (pos 0) states c ≡ no_figures
+unfolding intra_charge requirement_of
+figures_from_nothing states c no_net =
+    let no_credit : credit_at states c ≡ 0 = credit_read (slice_get states c) no_net in
+    simp (no_credit, no_net)
 
 module _ (t : AcceptedTables) (holdings : List Holding) (c : ℕ) (none : held_at t holdings c ≡ []) where
   no_months : deltas_at t holdings c ≡ []
@@ -63,10 +64,9 @@ module _ (t : AcceptedTables) (holdings : List Holding) (c : ℕ) (none : held_a
   pub no_value : net_value_at t holdings c ≡ pos 0
   no_value = ap net_value_of none ∙ value_of_nothing
 
-  no_credit : c < length t.commodities → credit_at (inter_states t holdings) c ≡ 0
-  no_credit lt =
-      credit_read (slice_get (inter_states t holdings) c) (kept_at t holdings (λ state. state.net) (λ on used bp state. refl) c lt
-      ∙ ap (λ (state : CommodityState). state.net) no_state)
+  no_net : c < length t.commodities → (state_at (inter_states t holdings) c).net ≡ pos 0
+  no_net lt =
+      kept_at t holdings (λ state. state.net) (λ on used bp state. refl) c lt ∙ ap (λ (state : CommodityState). state.net) no_state
 
   -- the figures are those of nothing held
   pub figures_of_nothing : c < length t.commodities → figures_of t holdings c ≡ no_figures
@@ -74,4 +74,4 @@ module _ (t : AcceptedTables) (holdings : List Holding) (c : ℕ) (none : held_a
   figures_of_nothing lt =
       (λ k. figures_from (nothing_scanned k) (no_tiers k).charge (pos (nothing_delivered k)) (pos (no_minimum k))
       (inter_states t holdings) c)
-      ∙ figures_from_nothing (inter_states t holdings) c (no_credit lt)
+      ∙ figures_from_nothing (inter_states t holdings) c (no_net lt)

@@ -1,4 +1,5 @@
-use Rattle.std.proofs.Common.{◌≡◌, ap, length, sym, true, ◌∙◌}
+use Rattle.std.proofs.Common.{◌≡◌, ap, false, length, not, sym, true, ◌∙◌}
+use Rattle.std.proofs.lemmas.Bool.{not-false}
 use Rattle.span_tables.specs.Tables.{AcceptedTables, facts_in}
 use Rattle.span_tables.specs.declared.profiles.ProfileFacts.{ProfileFacts}
 use Rattle.plan_ir.specs.Figures.{value_to}
@@ -9,9 +10,9 @@ use Rattle.step_scheduler.proofs.PassedOver.{value_with, values_over}
 use Rattle.step_scheduler.proofs.parts.value_of_all.Goals as goal
 
 -- options have a value where the facts that the tables gave say so
-valued : (t : AcceptedTables) (facts : ProfileFacts) → facts ≡ facts_in t → facts.options_have_value ≡ true
+valued : (t : AcceptedTables) (facts : ProfileFacts) → facts ≡ facts_in t → not facts.options_have_value ≡ false
     → (facts_in t).options_have_value ≡ true
-valued t facts is have = ap (λ (f : ProfileFacts). f.options_have_value) (sym is) ∙ have
+valued t facts is have = ap (λ (f : ProfileFacts). f.options_have_value) (sym is) ∙ not-false facts.options_have_value have
 
 pub loop-part-init : goal.loop-part-init
 unfolding value_to
@@ -21,7 +22,7 @@ pub sum-value-requires : goal.sum-value-requires
 sum-value-requires g c =
     let here = next_part _ _ c.args.parts.now c.loop-part.part-index c.loop-part.next c.part-item.result c.loop-part-test.true
     c.part-item.is c.loop-part.invariant.left in
-    let has = valued c.args.tables.now _ c.facts.ensures c.if-not-facts-options_have_value.false in
+    let has = valued c.args.tables.now _ c.facts.ensures c.if-not-facts.false in
     rw (value_with _ _ _ _ _ here.0 here.1 has c.loop-part.invariant.value)
     (next_value_is_money _ _ _ c.commodities-count.ensures.limits c.holdings-kept.ensures.kept c.requires.fits here.0.known)
 
@@ -29,13 +30,13 @@ pub loop-part-preserved : goal.loop-part-preserved
 loop-part-preserved g c =
     let here = next_part _ _ c.args.parts.now c.loop-part.part-index c.loop-part.next c.part-item.result c.loop-part-test.true
     c.part-item.is c.loop-part.invariant.left in
-    let has = valued c.args.tables.now _ c.facts.ensures c.if-not-facts-options_have_value.false in
+    let has = valued c.args.tables.now _ c.facts.ensures c.if-not-facts.false in
     let value = value_with _ _ _ _ _ here.0 here.1 has c.loop-part.invariant.value in
     record { left = here.2; value = c.sum-value.ensures ∙ value ∙ value_more _ _ _ }
 
 pub returns : goal.returns
 returns g c =
     let end = no_part _ _ c.args.parts.now c.loop-part.part-index c.loop-part.next c.loop-part-test.false c.loop-part.invariant.left in
-    let has = valued c.args.tables.now _ c.facts.ensures c.if-not-facts-options_have_value.false in
+    let has = valued c.args.tables.now _ c.facts.ensures c.if-not-facts.false in
     rw has
     (c.loop-part.invariant.value ∙ values_over _ _ _ (length (c.args.tables.now).commodities) end.behind end.none)
