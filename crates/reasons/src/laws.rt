@@ -19,6 +19,7 @@ ghost use Rattle.std.specs.Int.{div_ceil};
 ghost use Rattle.std.specs.Prelude.{◌*◌, ◌<◌, ◌^◌, ◌≡◌, List, Some, fold, length, pos, slice_get, sum_by, take, ℕ};
 
 /// The scan risk is the largest of the sums shown, or 0, and the active scenario the first one that has the largest sum.
+#[tactic(auto, unfolding(plan_ir::specs::Figures::figures_of, scan_risk::specs::Scenarios::scan_of))]
 pub fn scan_risk_is_the_largest_sum_shown()
     ensures risk { (t : AcceptedTables) (holdings : List Holding) (c : ℕ)
         → (figures_of t holdings c).scan ≡ scan_risk (scenario_sums (held_at t holdings c)) }
@@ -27,6 +28,7 @@ pub fn scan_risk_is_the_largest_sum_shown()
 {}
 
 /// The intracommodity charge is the sum of the charges of the spreads shown, divided by 10^4 and rounded up.
+#[tactic(auto, using(crate::proofs::ChargeLaws::intra_shown))]
 pub fn intracommodity_charge_is_that_of_the_spreads_shown()
     ensures { (t : AcceptedTables) (holdings : List Holding) (c : ℕ) → (figures_of t holdings c).intra
         ≡ pos (div_ceil (sum_by shown_intra_charge (intras_shown_at t holdings c)) (10 ^ 4)) }
@@ -43,6 +45,7 @@ pub fn each_spread_between_months_has_its_lines()
 
 /// The delivery charge is the sum of the charges of the spot months shown, divided by 10^8 and rounded up: a spot month whose
 /// delta is 0 has none.
+#[tactic(auto, using(crate::proofs::ChargeLaws::delivery_shown))]
 pub fn delivery_charge_is_that_of_the_months_shown()
     ensures { (t : AcceptedTables) (holdings : List Holding) (c : ℕ) → (figures_of t holdings c).delivery
         ≡ pos (div_ceil (sum_by shown_spot_charge (spots_shown_at t holdings c)) (10 ^ 8)) }
@@ -50,6 +53,7 @@ pub fn delivery_charge_is_that_of_the_months_shown()
 
 /// The net delta of the credit is the sum of the deltas of the months shown, and its price risk is that of the scan: spreads
 /// between commodities keep both.
+#[tactic(auto, using(crate::proofs::CreditLaws::net_shown, crate::proofs::CreditLaws::price2_shown))]
 pub fn net_delta_is_the_sum_of_the_months_shown()
     ensures net { (t : AcceptedTables) (holdings : List Holding) (c : ℕ) → c < length t.commodities
         → (state_after_all t holdings c).net ≡ int_sum_by (λ m. m.delta) (months_shown_at t holdings c) }
@@ -58,6 +62,7 @@ pub fn net_delta_is_the_sum_of_the_months_shown()
 {}
 
 /// The weight of the credit is the sum of the weights of the spreads shown, each what it uses times its basis points.
+#[tactic(auto, using(crate::proofs::CreditLaws::weight_shown))]
 pub fn weight_is_the_sum_of_the_spreads_shown()
     ensures { (t : AcceptedTables) (holdings : List Holding) (c : ℕ) → IsWithinLimits t → c < length t.commodities
         → (state_after_all t holdings c).weight ≡ sum_by weight_of (inters_shown_at t holdings c) }
@@ -73,12 +78,14 @@ pub fn each_spread_between_commodities_has_its_lines()
 {}
 
 /// The credit is that of the price risk, the net delta and the weight shown.
+#[tactic(auto, using(crate::proofs::FigureLaws::credit_shown))]
 pub fn credit_follows_from_what_is_shown()
     ensures { (t : AcceptedTables) (holdings : List Holding) (c : ℕ)
         → (figures_of t holdings c).credit ≡ pos (credit_of (state_after_all t holdings c)) }
 {}
 
 /// The minimum is the rate times the short calls and short puts shown, as the method counts them.
+#[tactic(auto, using(crate::proofs::FigureLaws::minimum_shown))]
 pub fn minimum_follows_from_the_counts_shown()
     ensures { (t : AcceptedTables) (holdings : List Holding) (c : ℕ) → (figures_of t holdings c).minimum
         ≡ pos ((commodity_at t c).minimum_rate * counted (commodity_at t c).method
@@ -86,6 +93,7 @@ pub fn minimum_follows_from_the_counts_shown()
 {}
 
 /// The requirement is that of the other amounts.
+#[tactic(auto, unfolding(plan_ir::specs::Figures::figures_of))]
 pub fn requirement_is_of_the_figures_shown()
     ensures { (t : AcceptedTables) (holdings : List Holding) (c : ℕ) → (figures_of t holdings c).requirement
         ≡ requirement_of (figures_of t holdings c).scan (figures_of t holdings c).intra (figures_of t holdings c).delivery
