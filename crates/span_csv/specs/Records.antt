@@ -1,4 +1,4 @@
--- The record grammar of both files: the records of a file's bytes, the forms of their fields, and what they say.
+-- The record grammar of all files: the records of a file's bytes, the forms of their fields, and what they say.
 use Rattle.std.specs.Prelude.{ℕ, ◌+◌, ◌-◌, Bool, true, false, ◌&&◌, ◌||◌, ◌==◌, if◌then◌else◌, List, [], ◌∷◌, ◌++◌}
 use Rattle.std.specs.Prelude.{length, take, drop, map, zip, Option, Some, None, is_some, unwrap_or, option_and_then}
 use Rattle.std.specs.Prelude.{slice_index_or, codes, bytes_eq, ℤ, pos, neg_ℤ, int_le}
@@ -28,6 +28,7 @@ use Rattle.span_tables.specs.declared.records.InterLeg.{InterLeg}
 use Rattle.span_tables.specs.declared.records.InterRecord.{InterRecord}
 use Rattle.span_tables.specs.declared.records.Record.{Record}
 use Rattle.span_tables.specs.declared.records.Record.TheVariants as record_of
+use Rattle.span_tables.specs.declared.records.OrderRecord.{OrderRecord}
 use Rattle.span_tables.specs.declared.records.PositionRecord.{PositionRecord}
 use Rattle.span_tables.specs.declared.limits.TheConstants.{MAX_RATE, MAX_ARRAY_VALUE, MAX_DELTA, MAX_SCALE, MAX_RATIO}
 use Rattle.span_tables.specs.declared.limits.TheConstants.{MAX_TIER_NUMBER, MAX_PRIORITY, MAX_BASIS_POINTS}
@@ -184,9 +185,17 @@ forms_of kind.Intra profile product = with_legs intra_front intra_leg_forms
 forms_of kind.Spot profile product = exactly spot_forms
 forms_of kind.Inter profile product = with_legs inter_front inter_leg_forms
 
+-- a quantity, in contracts
+abbrev pub a_quantity : FieldForm
+a_quantity = form.Whole (neg_ℤ (pos MAX_QUANTITY)) (pos MAX_QUANTITY)
+
 -- the forms of a position record's fields
 abbrev pub position_forms : List FieldForm
-position_forms = form.Name ∷ form.Name ∷ form.Whole (neg_ℤ (pos MAX_QUANTITY)) (pos MAX_QUANTITY) ∷ []
+position_forms = form.Name ∷ form.Name ∷ a_quantity ∷ []
+
+-- the forms of an order record's fields
+abbrev pub order_forms : List FieldForm
+order_forms = form.Name ∷ form.Name ∷ form.Name ∷ a_quantity ∷ []
 
 -- the text of a field, from 0
 abbrev pub text_at : Fields → ℕ → List ℕ
@@ -321,3 +330,7 @@ param_record r = record_of_kind (unwrap_or (kind_of r) kind.Set) r
 -- what a position record without a fault says
 unfoldable pub position_record : Fields → PositionRecord
 position_record r = record { account = text_at r 0; contract = text_at r 1; quantity = whole_at r 2 }
+
+-- what an order record without a fault says
+unfoldable pub order_record : Fields → OrderRecord
+order_record r = record { order = text_at r 0; account = text_at r 1; contract = text_at r 2; quantity = whole_at r 3 }

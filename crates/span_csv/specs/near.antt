@@ -2,5 +2,7 @@
 pub mod Checks
 pub mod Grammar
 pub mod OnLiterals
-pub mod PositionReading
+pub mod NumberedReading
+pub mod OrderReading
+pub mod RecordReading
 pub mod Rows

@@ -1,4 +1,5 @@
 //! Why a file is not read. `at` is a record's number, from 1.
+ghost use Rattle.span_csv.specs.declared.faults.OrderFault.TheVariants as order;
 ghost use Rattle.span_csv.specs.declared.faults.ParamFault.TheVariants as param;
 ghost use Rattle.span_csv.specs.declared.faults.PositionFault.TheVariants as position;
 ghost use Rattle.std.specs.Prelude.{◌≡◌};
@@ -61,6 +62,32 @@ pub enum PositionFault {
     OutOfMemory,
 }
 
+/// Why an order file is not read.
+#[derive(Clone, Copy, Debug, Drop, PartialEq, Eq, Error)]
+pub enum OrderFault {
+    /// O1: not four fields.
+    #[error("O1 FieldCount at record {at}")]
+    FieldCount { at: usize },
+    /// O2: an order, account or contract that is no name.
+    #[error("O2 BadName at record {at}")]
+    BadName { at: usize },
+    /// O3: a quantity that is no whole number.
+    #[error("O3 BadNumber at record {at}")]
+    BadNumber { at: usize },
+    /// O4: a quantity outside its range.
+    #[error("O4 OutOfRange at record {at}")]
+    OutOfRange { at: usize },
+    /// O5: the first record of one order too many.
+    #[error("O5 TooManyOrders at record {at}")]
+    TooManyOrders { at: usize },
+    /// O6: another account than that of the first record of its order.
+    #[error("O6 SecondAccount at record {at}")]
+    SecondAccount { at: usize },
+    /// Want of memory.
+    #[error("memory")]
+    OutOfMemory,
+}
+
 impl From<AllocError> for ParamFault {
     ghost from_gives = { λ _ e. e ≡ param.OutOfMemory };
 
@@ -90,5 +117,39 @@ impl<T: Drop> From<AllocFailed<T>> for PositionFault {
 
     fn from(_error: AllocFailed<T>) -> PositionFault {
         PositionFault::OutOfMemory
+    }
+}
+
+/// The fault of an order's record that it has as a position under its order's name.
+impl From<PositionFault> for OrderFault {
+    ghost use Rattle.span_csv.specs.near.OrderReading.{as_order_fault};
+
+    ghost from_gives = { λ fault e. e ≡ as_order_fault fault };
+
+    fn from(fault: PositionFault) -> OrderFault {
+        match fault {
+            PositionFault::FieldCount { at } => OrderFault::FieldCount { at },
+            PositionFault::BadName { at } => OrderFault::BadName { at },
+            PositionFault::BadNumber { at } => OrderFault::BadNumber { at },
+            PositionFault::OutOfRange { at } => OrderFault::OutOfRange { at },
+            PositionFault::TooManyAccounts { at } => OrderFault::TooManyOrders { at },
+            PositionFault::OutOfMemory => OrderFault::OutOfMemory,
+        }
+    }
+}
+
+impl From<AllocError> for OrderFault {
+    ghost from_gives = { λ _ e. e ≡ order.OutOfMemory };
+
+    fn from(_error: AllocError) -> OrderFault {
+        OrderFault::OutOfMemory
+    }
+}
+
+impl<T: Drop> From<AllocFailed<T>> for OrderFault {
+    ghost from_gives = { λ _ e. e ≡ order.OutOfMemory };
+
+    fn from(_error: AllocFailed<T>) -> OrderFault {
+        OrderFault::OutOfMemory
     }
 }

@@ -1,4 +1,4 @@
-//! The readers of parameter and position files.
+//! The readers of parameter, position and order files.
 #![tactic(auto)]
 
 pub mod accepted_files;
@@ -7,6 +7,9 @@ mod contents;
 pub mod faults;
 mod fields;
 mod grammar;
+mod numbered;
+pub mod order_laws;
+pub mod orders;
 pub mod param_laws;
 pub mod params;
 pub mod position_laws;

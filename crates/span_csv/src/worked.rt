@@ -4,8 +4,10 @@
 ghost use Rattle.std.specs.List.{repeat};
 ghost use Rattle.std.specs.Prelude.{◌≡◌, [], ◌∷◌, Err, Ok, codes, neg_ℤ, pos};
 ghost use Rattle.span_csv.specs.ParamFaults.{params_of};
+ghost use Rattle.span_csv.specs.OrderFaults.{orders_of};
 ghost use Rattle.span_csv.specs.PositionFaults.{positions_of};
 ghost use Rattle.span_csv.specs.Records.{records_of};
+ghost use Rattle.span_csv.specs.declared.faults.OrderFault.TheVariants as order;
 ghost use Rattle.span_csv.specs.declared.faults.ParamFault.TheVariants as param;
 ghost use Rattle.span_csv.specs.declared.faults.PositionFault.TheVariants as position;
 ghost use Rattle.span_tables.specs.Profiles.{no_extras};
@@ -98,4 +100,23 @@ fn two_positions()
     ensures { positions_of (codes "Y,FA,-3\nX,FB,1000000\n") ≡ Ok
         (record { account = codes "Y"; contract = codes "FA"; quantity = neg_ℤ (pos 3) }
         ∷ record { account = codes "X"; contract = codes "FB"; quantity = pos 1000000 } ∷ []) }
+{}
+
+// The lowest-numbered fault of the first record with one.
+fn lowest_fault_of_an_order()
+    ensures fields { orders_of (codes "x,X,FA,?,\n") ≡ Err (order.FieldCount 1) }
+    ensures order { orders_of (codes "N,X,FA,1\nn,X,FA,?\n") ≡ Err (order.BadName 2) }
+    ensures account { orders_of (codes "N,x,FA,?\n") ≡ Err (order.BadName 1) }
+    ensures contract { orders_of (codes "N,X,fa,?\n") ≡ Err (order.BadName 1) }
+    ensures number { orders_of (codes "N,X,FA,+1\n") ≡ Err (order.BadNumber 1) }
+    ensures range { orders_of (codes "N,X,FA,1\nN,Y,FA,-1000001\n") ≡ Err (order.OutOfRange 2) }
+    ensures second { orders_of (codes "N,X,FA,1\nM,Y,FA,1\nN,Y,FB,1\nM\n") ≡ Err (order.SecondAccount 3) }
+{}
+
+// Orders, accounts and contracts as they stand in their fields, a negative quantity, and an order again behind another one of its account.
+fn three_orders()
+    ensures { orders_of (codes "N,Y,FA,-3\nM,Y,FB,1000000\nN,Y,FA,5\n") ≡ Ok
+        (record { order = codes "N"; account = codes "Y"; contract = codes "FA"; quantity = neg_ℤ (pos 3) }
+        ∷ record { order = codes "M"; account = codes "Y"; contract = codes "FB"; quantity = pos 1000000 }
+        ∷ record { order = codes "N"; account = codes "Y"; contract = codes "FA"; quantity = pos 5 } ∷ []) }
 {}

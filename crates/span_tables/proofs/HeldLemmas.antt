@@ -1,11 +1,11 @@
 -- What an account holds of a commodity: holdings of contracts that there are, with their whole records, and within the limits.
 use Rattle.std.proofs.Common.{◌≡◌, ℕ, ℤ, suc, zero, ◌<◌, ◌≤◌, Bool, true, false}
-use Rattle.std.proofs.Common.{cond, eqb, ltb, List, [], ◌∷◌, ◌++◌, length, length-append, map}
+use Rattle.std.proofs.Common.{cond, eqb, ltb, List, [], ◌∷◌, length, map}
 use Rattle.std.proofs.Common.{filter, get_or, Option, Some, None, refl, sym, ap, ◌∙◌, subst, arith}
 use Rattle.std.specs.Prelude.{◌&&◌, All, IfSome, bytes_eq, nat_abs, nat_lt, option_map, slice_get, unwrap_or}
 use Rattle.std.specs.List.{cons_option, list_all}
 use Rattle.std.proofs.lemmas.Bool.Decides.{nat_tests}
-use Rattle.std.proofs.lemmas.List.Elements.{All-nil, All-cons, All-head, All-tail, All-filter, All-push}
+use Rattle.std.proofs.lemmas.List.Elements.{All-nil, All-cons, All-head, All-tail, All-filter}
 use Rattle.span_tables.specs.Accepted.{IsContract, IsWithinLimits, commodity_number}
 use Rattle.span_tables.specs.Tables.{commodity_id}
 use Rattle.span_tables.specs.Holdings.{AreHeld, AreHoldings, ArePortfolio}

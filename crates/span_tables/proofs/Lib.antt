@@ -22,6 +22,8 @@ pub mod NameLaws
 pub mod NameLemmas
 pub mod NameTexts
 pub mod NumberedLaws
+mod OrdersByOrder
+pub mod MergedLaws
 pub mod GatherLemmas
 pub mod HeldFlags
 pub mod RunLemmas

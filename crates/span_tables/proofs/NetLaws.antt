@@ -23,7 +23,7 @@ length_push [] x = refl
 length_push (y ∷ front) x = let h = length_push front x in omega (arith, h)
 
 -- a size of 0 is that of 0 alone
-size_zero : (z : ℤ) → not (nat_abs z == 0) ≡ false → z ≡ pos 0
+pub size_zero : (z : ℤ) → not (nat_abs z == 0) ≡ false → z ≡ pos 0
 size_zero (pos zero) e = refl
 size_zero (pos (suc n)) e = grind (arith, nat_tests, e)
 size_zero (negsuc n) e = grind (arith, nat_tests, e)

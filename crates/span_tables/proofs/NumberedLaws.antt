@@ -12,7 +12,7 @@ use Rattle.indexmap.specs.IndexSet.{insert_key}
 use Rattle.span_tables.specs.Names.{is_among}
 use Rattle.span_tables.specs.Net.{accounts_of}
 use Rattle.span_tables.specs.near.Positions.{named_position, named_positions, AreNumbered}
-use Rattle.span_tables.specs.declared.limits.TheConstants.{MAX_ACCOUNTS, MAX_QUANTITY}
+use Rattle.span_tables.specs.declared.limits.TheConstants.{MAX_ORDERS, MAX_QUANTITY}
 use Rattle.span_tables.specs.declared.records.NumberedPosition.{NumberedPosition}
 use Rattle.span_tables.specs.declared.records.PositionRecord.{PositionRecord}
 use Rattle.span_tables.proofs.NameLemmas.{same_name, is_among-distinct, distinct-push}
@@ -35,7 +35,7 @@ name_there (k ∷ keys) zero name at = cc
 name_there (k ∷ keys) (suc a) name at = name_there keys a name at
 
 -- the accounts so far keep their places
-stays : (keys : List (List ℕ)) (name : List ℕ) (i : ℕ) → i < length keys
+pub stays : (keys : List (List ℕ)) (name : List ℕ) (i : ℕ) → i < length keys
     → get_or (insert_key bytes_eq keys name) i [] ≡ get_or keys i []
 stays keys name i within =
     elim (cases_Bool (is_among keys name)) [
@@ -83,7 +83,7 @@ module _ (keys keys' : List (List ℕ)) (records : List NumberedPosition) (p : N
       (ap (λ ks. named_positions ks records) more ∙ same_named keys name records was.known)
 
   -- the records with one more are numbered by their accounts
-  pub numbered_more : length keys' ≤ MAX_ACCOUNTS → nat_abs p.quantity ≤ MAX_QUANTITY → AreNumbered keys' (records ++ p ∷ [])
+  pub numbered_more : length keys' ≤ MAX_ORDERS → nat_abs p.quantity ≤ MAX_QUANTITY → AreNumbered keys' (records ++ p ∷ [])
   numbered_more few small = record {
     accounts_are =
         more

@@ -6,6 +6,7 @@ pub mod Rules
 pub mod Tables
 pub mod Accepted
 pub mod Net
+pub mod Orders
 pub mod Holdings
 pub mod Sides
 pub mod Slots

@@ -6,7 +6,7 @@ ghost use Rattle.span_tables.specs.declared.limits.TheConstants.{MAX_INTRA_SPREA
 ghost use Rattle.span_tables.specs.declared.limits.TheConstants.{MAX_HELD, SCENARIOS, MIN_LEGS, MAX_LEGS, MAX_RATE};
 ghost use Rattle.span_tables.specs.declared.limits.TheConstants.{MAX_ARRAY_VALUE, MAX_DELTA, MAX_SCALE, MAX_RATIO};
 ghost use Rattle.span_tables.specs.declared.limits.TheConstants.{MAX_TIER_NUMBER, MAX_PRIORITY, MAX_BASIS_POINTS, MAX_QUANTITY};
-ghost use Rattle.span_tables.specs.declared.limits.TheConstants.{MAX_OPTION_VALUE, MAX_PROFILE, VALUE_PROFILE};
+ghost use Rattle.span_tables.specs.declared.limits.TheConstants.{MAX_OPTION_VALUE, MAX_ORDERS, MAX_PROFILE, VALUE_PROFILE};
 
 /// How many there may be of each thing, and the profiles.
 pub fn counts_have_these_digits()
@@ -17,6 +17,7 @@ pub fn counts_have_these_digits()
     ensures intra_spreads { MAX_INTRA_SPREADS ≡ 64 }
     ensures spot_months { MAX_SPOT_MONTHS ≡ 16 }
     ensures accounts { MAX_ACCOUNTS ≡ 4096 }
+    ensures orders { MAX_ORDERS ≡ 65536 }
     ensures net { MAX_NET ≡ 100000 }
     ensures held { MAX_HELD ≡ 1024 }
     ensures scenarios { SCENARIOS ≡ 16 }

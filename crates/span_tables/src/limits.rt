@@ -15,6 +15,8 @@ pub const MAX_INTRA_SPREADS: usize = 64;
 pub const MAX_SPOT_MONTHS: usize = 16;
 /// Accounts of a position file.
 pub const MAX_ACCOUNTS: usize = 4096;
+/// Orders of an order file.
+pub const MAX_ORDERS: usize = 65_536;
 /// The size of a net quantity, in contracts.
 pub const MAX_NET: u64 = 100_000;
 /// Contracts that an account holds.
@@ -48,7 +50,7 @@ pub const MAX_TIER_NUMBER: u32 = 32;
 pub const MAX_PRIORITY: u32 = 9999;
 /// A credit rate, in basis points.
 pub const MAX_BASIS_POINTS: u32 = 10_000;
-/// The size of a position record's quantity, in contracts.
+/// The size of the quantity of a position record or of an order's, in contracts.
 pub const MAX_QUANTITY: u32 = 1_000_000;
 
 /// The sizes of an account's month deltas in a commodity together, in units of 10^-8: as many contracts as may be held,

@@ -1,9 +1,11 @@
 //! The records of a file, as its reader gives them.
-ghost use Rattle.std.specs.Prelude.{◌≡◌, ◌<◌, ◌≤◌, All, length, nat_abs, true};
+ghost use Rattle.std.specs.Prelude.{◌≡◌, ◌<◌, ◌≤◌, All, length, map, nat_abs, true};
 ghost use Rattle.span_tables.specs.near.Limits.{is_readable};
 ghost use Rattle.span_tables.specs.Net.{accounts_of};
+ghost use Rattle.span_tables.specs.Orders.{account_of_order, orders_in};
+ghost use Rattle.span_tables.specs.near.Orders.{order_records, under_order};
 ghost use Rattle.span_tables.specs.near.Positions.{named_positions, AreNumbered};
-ghost use Rattle.span_tables.specs.declared.limits.TheConstants.{MAX_ACCOUNTS, MAX_QUANTITY};
+ghost use Rattle.span_tables.specs.declared.limits.TheConstants.{MAX_ORDERS, MAX_QUANTITY};
 
 use crate::name::Name;
 use crate::records::{NumberedPosition, Record};
@@ -90,7 +92,7 @@ impl RawPositions {
     /// The accounts in the order of first appearance: a record has its account's place here.
     pub fn accounts(&self) -> &[Name]
         ensures value { result.now ≡ accounts_of self.now }
-        ensures few { length result.now ≤ MAX_ACCOUNTS }
+        ensures few { length result.now ≤ MAX_ORDERS }
     {
         self.accounts.as_slice()
     }
@@ -102,5 +104,54 @@ impl RawPositions {
         ensures small { All (λ p. nat_abs p.quantity ≤ MAX_QUANTITY) result.now }
     {
         &self.records
+    }
+}
+
+/// The records of an order file without a fault, in file order. Contracts see the list.
+///
+/// A record's number, from 1, is its place in the file.
+#[derive(Drop)]
+pub struct RawOrders {
+    // The records as positions, under the names of their orders in place of an account's.
+    by_order: RawPositions,
+    // The account of each order.
+    accounts: Vec<Name>,
+}
+
+impl Model for RawOrders {
+    ghost use Rattle.std.specs.Prelude.{◌≡◌, List, length};
+    ghost use Rattle.span_tables.specs.Net.{accounts_of};
+    ghost use Rattle.span_tables.specs.near.Orders.{order_records};
+    ghost use Rattle.span_tables.specs.declared.records.OrderRecord.{OrderRecord};
+
+    ghost Value = { List OrderRecord };
+
+    ghost view = { λ raw. order_records raw.accounts.items raw.by_order };
+
+    ghost invariant = { λ raw. length raw.accounts.items ≡ length (accounts_of raw.by_order) };
+}
+
+impl RawOrders {
+    /// The records of a file as positions under the names of their orders, with the account of each order.
+    pub fn new(by_order: RawPositions, accounts: Vec<Name>) -> RawOrders
+        requires { length accounts.items ≡ length (accounts_of by_order) }
+        ensures { result ≡ order_records accounts.items by_order }
+    {
+        RawOrders { by_order, accounts }
+    }
+
+    /// The records in file order as positions, under the names of their orders in place of an account's.
+    pub fn by_order(&self) -> &RawPositions
+        ensures { result.now ≡ map under_order self.now }
+    {
+        &self.by_order
+    }
+
+    /// The account of each order, the orders in the order of first appearance; it is that of all of the order's records.
+    pub fn accounts(&self) -> &[Name]
+        ensures value { result.now ≡ map (account_of_order self.now) (orders_in self.now) }
+        ensures one { All (λ r. r.account ≡ account_of_order self.now r.order) self.now }
+    {
+        &self.accounts
     }
 }

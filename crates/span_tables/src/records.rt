@@ -219,6 +219,15 @@ pub struct NumberedPosition {
     pub quantity: i32,
 }
 
+/// A record of an order file, as contracts see it. The quantity is in contracts; a short one is negative.
+#[derive(Drop)]
+pub struct OrderRecord {
+    pub order: Name,
+    pub account: Name,
+    pub contract: Name,
+    pub quantity: i32,
+}
+
 /// A leg of an accepted intracommodity spread: the months of its tier, a side and a ratio.
 #[derive(Clone, Copy, Default)]
 pub struct MonthLeg {

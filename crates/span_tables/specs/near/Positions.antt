@@ -1,7 +1,7 @@
--- Position records that tell their accounts by number.
+-- Position records that tell their accounts by number; the orders of an order file stand in place of accounts.
 use Rattle.std.specs.Prelude.{◌≡◌, ◌<◌, ◌≤◌, ℕ, All, List, [], length, map, nat_abs, slice_index_or}
 use Rattle.span_tables.specs.Net.{accounts_of}
-use Rattle.span_tables.specs.declared.limits.TheConstants.{MAX_ACCOUNTS, MAX_QUANTITY}
+use Rattle.span_tables.specs.declared.limits.TheConstants.{MAX_ORDERS, MAX_QUANTITY}
 use Rattle.span_tables.specs.declared.records.NumberedPosition.{NumberedPosition}
 use Rattle.span_tables.specs.declared.records.PositionRecord.{PositionRecord}
 
@@ -13,9 +13,10 @@ named_position accounts p = record { account = slice_index_or accounts p.account
 abbrev pub named_positions : List (List ℕ) → List NumberedPosition → List PositionRecord
 named_positions accounts records = map (named_position accounts) records
 
--- the accounts are those of the records in the order of first appearance, and no limit is exceeded
+-- The accounts are those of the records in the order of first appearance, and no limit is exceeded: there may be as many as orders of a
+-- file, of which there may be more than accounts.
 pub record AreNumbered (accounts : List (List ℕ)) (records : List NumberedPosition) : Type 0 where
   pub accounts_are : accounts ≡ accounts_of (named_positions accounts records)
-  pub few : length accounts ≤ MAX_ACCOUNTS
+  pub few : length accounts ≤ MAX_ORDERS
   pub known : All (λ p. p.account < length accounts) records
   pub small : All (λ p. nat_abs p.quantity ≤ MAX_QUANTITY) records

@@ -1,0 +1,318 @@
+-- Orders told by number, as one more record comes behind others.
+use Rattle.std.proofs.Common.{◌≡◌, ◌∙◌, refl, sym, ap, subst, inl, inr, arith, ℕ, ◌+◌, ◌<◌, ◌≤◌, Bool, true, false, not}
+use Rattle.std.proofs.Common.{◌||◌, ◌&&◌, ◌==◌, List, [], ◌∷◌, ◌++◌, length, get_or, map, Some, slice_get}
+use Rattle.std.specs.Prelude.{All, bytes_eq, MatchBool, ⊤, Ok, Err}
+use Rattle.std.specs.List.{position_or_len}
+use Rattle.std.proofs.lemmas.Bool.{cases_Bool, eqb-true, eq-eqb, ne_eqb, not-false}
+use Rattle.std.proofs.Math.Seq.{get_or-append_seam}
+use Rattle.std.proofs.lemmas.List.{map-append, length-append, length-map, get_or_append_left}
+use Rattle.std.proofs.lemmas.List.Elements.{All-head, All-tail}
+use Rattle.std.proofs.lemmas.Option.{slice_get_within, slice_get-get_or}
+use Rattle.indexmap.specs.IndexSet.{insert_key}
+use Rattle.span_tables.specs.Names.{is_among, has_repeat}
+use Rattle.span_tables.specs.Net.{accounts_of}
+use Rattle.span_tables.specs.near.Orders.{order_record, order_records, under_order}
+use Rattle.span_tables.specs.near.Positions.{named_position, named_positions, AreNumbered}
+use Rattle.span_tables.specs.declared.records.NumberedPosition.{NumberedPosition}
+use Rattle.span_tables.specs.declared.records.OrderRecord.{OrderRecord}
+use Rattle.span_tables.specs.declared.records.PositionRecord.{PositionRecord}
+use Rattle.span_tables.proofs.GroupLemmas.{name_sym}
+use Rattle.span_tables.proofs.NameLaws.{distinct_once}
+use Rattle.span_tables.proofs.NameLemmas.{is_among-distinct, same_name}
+use Rattle.span_tables.proofs.NumberedLaws.{accounts_of-push, among_at, name_there, stays}
+use Rattle.span_tables.proofs.Places.{place_at}
+use Rattle.span_tables.proofs.Places.{same_name as itself}
+use Rattle.span_tables.specs.declared.limits.TheConstants.{MAX_ORDERS}
+use Rattle.span_csv.specs.OrderFaults.{is_memory}
+use Rattle.span_csv.specs.PositionFaults as position
+use Rattle.span_csv.specs.Records.{Fields, text_at}
+use Rattle.span_csv.specs.near.NumberedReading.{next_position}
+use Rattle.span_csv.specs.near.OrderReading.{accounts_with, as_order_fault, has_another_account, is_of_another, next_order}
+use Rattle.span_csv.specs.near.OrderReading.{numbered_order, numbered_orders, order_behind}
+use Rattle.span_csv.specs.declared.orders.TheConstants.{ORDER_NAMES}
+use Rattle.span_csv.specs.declared.faults.PositionFault.{PositionFault}
+use Rattle.span_csv.specs.declared.faults.PositionFault.TheVariants as fault
+use Rattle.span_csv.specs.declared.faults.OrderFault.TheVariants as order
+
+-- ---- what numbered orders are
+
+-- names that number records are apart
+names_apart : (keys : List (List ℕ)) (records : List NumberedPosition) → AreNumbered keys records → has_repeat bytes_eq keys ≡ false
+names_apart keys records was =
+    ap (has_repeat bytes_eq) was.accounts_are
+    ∙ distinct_once (map (λ (p : PositionRecord). p.account) (named_positions keys records))
+
+-- the place of the name at a place is that place
+place_of : (keys : List (List ℕ)) (i : ℕ) → has_repeat bytes_eq keys ≡ false → i < length keys
+    → position_or_len (bytes_eq (get_or keys i [])) keys ≡ i
+place_of keys i apart within =
+    (λ j. position_or_len (λ c. name_sym (get_or keys i []) c j) keys) ∙ place_at (λ c. c) keys i [] apart within
+
+-- names at two places are the same only if the places are
+same_place : (keys : List (List ℕ)) (i j : ℕ) → has_repeat bytes_eq keys ≡ false → i < length keys → j < length keys
+    → get_or keys i [] ≡ get_or keys j [] → i ≡ j
+same_place keys i j apart in_i in_j same =
+    sym (place_of keys i apart in_i) ∙ ap (λ n. position_or_len (bytes_eq n) keys) same ∙ place_of keys j apart in_j
+
+-- numbered orders under their names are numbered positions
+pub numbered_under : (keys accounts : List (List ℕ)) (records : List NumberedPosition)
+    → map under_order (numbered_orders keys accounts records) ≡ named_positions keys records
+numbered_under keys accounts [] = refl
+numbered_under keys accounts (p ∷ records) = ap (λ rest. named_position keys p ∷ rest) (numbered_under keys accounts records)
+
+numbered_by : (keys accounts : List (List ℕ)) (records : List NumberedPosition) → has_repeat bytes_eq keys ≡ false
+    → All (λ (p : NumberedPosition). p.account < length keys) records
+    → map (order_record keys accounts) (named_positions keys records) ≡ numbered_orders keys accounts records
+numbered_by keys accounts [] apart known = refl
+numbered_by keys accounts (p ∷ records) apart known =
+    let place = place_of keys p.account apart (All-head (λ (p : NumberedPosition). p.account < length keys) p records known) in
+    let rest = numbered_by keys accounts records apart (All-tail (λ (p : NumberedPosition). p.account < length keys) p records known) in
+    λ i. record {
+      order = get_or keys p.account [];
+      account = get_or accounts (place i) [];
+      contract = p.contract;
+      quantity = p.quantity;
+    } ∷ rest i
+
+-- the records that stand as positions of their orders are the numbered ones
+pub order_records-numbered : (keys accounts : List (List ℕ)) (records : List NumberedPosition) → AreNumbered keys records
+    → order_records accounts (named_positions keys records) ≡ numbered_orders keys accounts records
+order_records-numbered keys accounts records was =
+    ap (λ ks. map (order_record ks accounts) (named_positions keys records)) (sym was.accounts_are)
+    ∙ numbered_by keys accounts records (names_apart keys records was) was.known
+
+-- ---- one more record
+
+module _ (keys accounts : List (List ℕ)) (order account : List ℕ) (agrees : Bool) where
+  -- where the account of the order agrees or not, an earlier record of it has another account or not
+  changes : (records : List NumberedPosition) → All (λ (p : NumberedPosition). p.account < length keys) records
+      → ((i : ℕ) → i < length keys → get_or keys i [] ≡ order → bytes_eq (get_or accounts i []) account ≡ agrees)
+      → has_another_account (numbered_orders keys accounts records) order account
+      ≡ (is_among (map (λ (p : PositionRecord). p.account) (named_positions keys records)) order && not agrees)
+  changes [] known told = refl
+  changes (p ∷ records) known told =
+      let within = All-head (λ (q : NumberedPosition). q.account < length keys) p records known in
+      let rest = changes records (All-tail (λ (q : NumberedPosition). q.account < length keys) p records known) told in
+      elim (cases_Bool (bytes_eq (get_or keys p.account []) order)) [
+        | inl same ↦
+            let flipped : bytes_eq order (get_or keys p.account []) ≡ true = name_sym order (get_or keys p.account []) ∙ same in
+            let here = told p.account within (same_name (get_or keys p.account []) order same) in
+            rw (same, here, flipped, rest) (absorbed agrees (is_among (map (λ (p : PositionRecord). p.account)
+            (named_positions keys records)) order))
+        | inr other ↦
+            let flipped : bytes_eq order (get_or keys p.account []) ≡ false = name_sym order (get_or keys p.account []) ∙ other in
+            rw (other, flipped) rest
+      ]
+    where
+      absorbed : (b c : Bool) → (not b || (c && not b)) ≡ not b
+      absorbed true true = refl
+      absorbed true false = refl
+      absorbed false c = refl
+
+module _ (keys keys' accounts : List (List ℕ)) (earlier : List NumberedPosition) (p : NumberedPosition) (order account : List ℕ)
+    (was : AreNumbered keys earlier) (each : length accounts ≡ length keys)
+    (more : keys' ≡ insert_key bytes_eq keys order) (at : slice_get keys' p.account ≡ Some order) where
+  among_same : is_among (map (λ (q : PositionRecord). q.account) (named_positions keys earlier)) order ≡ is_among keys order
+  among_same =
+      sym (is_among-distinct (map (λ (q : PositionRecord). q.account) (named_positions keys earlier)) order)
+      ∙ ap (λ ks. is_among ks order) (sym was.accounts_are)
+
+  -- an order that is known stands among the orders so far, and a new one behind them
+  old_place : is_among keys order ≡ true → (keys' ≡ keys) × (p.account < length keys) × (get_or keys p.account [] ≡ order)
+  old_place old =
+      let same : keys' ≡ keys = more ∙ (rw old refl) in
+      let there : slice_get keys p.account ≡ Some order = subst (λ ks. slice_get ks p.account ≡ Some order) same at in
+      (same, slice_get_within keys p.account order there, name_there keys p.account order there)
+
+  new_place : is_among keys order ≡ false → (keys' ≡ keys ++ order ∷ []) × (p.account ≡ length keys)
+  new_place new =
+      let longer : keys' ≡ keys ++ order ∷ [] = more ∙ (rw new refl) in
+      let within : p.account < length keys' = slice_get_within keys' p.account order at in
+      let long : length keys' ≡ length keys + 1 = ap length longer ∙ length-append keys (order ∷ []) in
+      let there : get_or (keys ++ order ∷ []) p.account [] ≡ order =
+      subst (λ ks. get_or ks p.account [] ≡ order) longer (name_there keys' p.account order at) in
+      let not_below : p.account < length keys → ⊥ = λ below.
+      let here : get_or keys p.account [] ≡ order = sym (get_or_append_left keys (order ∷ []) [] p.account below) ∙ there in
+      let found : slice_get keys p.account ≡ Some order = slice_get-get_or keys p.account [] below ∙ ap Some here in
+      let e : true ≡ false = sym (among_at keys p.account order found) ∙ new in cc in
+      (longer, omega (arith, within, long, not_below))
+
+  -- an earlier record of the order has another account just where the order has
+  pub changes_at : has_another_account (numbered_orders keys accounts earlier) order account ≡ is_of_another accounts p.account account
+  changes_at =
+      elim (cases_Bool (is_among keys order)) [
+        | inl old ↦
+            let place = old_place old in
+            let apart : (p.account == length accounts) ≡ false =
+            ne_eqb p.account (length accounts) (λ e. absurd (omega (arith, e, place.1, each))) in
+            let agrees = bytes_eq (get_or accounts p.account []) account in
+            changes keys accounts order account agrees earlier was.known (λ i within is.
+            ap (λ j. bytes_eq (get_or accounts j []) account)
+            (same_place keys i p.account (names_apart keys earlier was) within place.1 (is ∙ sym place.2)))
+            ∙ rw (among_same, old, apart) refl
+        | inr new ↦
+            let place = new_place new in
+            let last : (p.account == length accounts) ≡ true = eq-eqb p.account (length accounts) (place.1 ∙ sym each) in
+            changes keys accounts order account true earlier was.known (λ i within is.
+            let found : slice_get keys i ≡ Some order = slice_get-get_or keys i [] within ∙ ap Some is in
+            let e : true ≡ false = sym (among_at keys i order found) ∙ new in cc)
+            ∙ rw (among_same, new, last) refl
+      ]
+
+  -- each order has an account
+  pub each_more : length (accounts_with accounts p.account account) ≡ length keys'
+  each_more =
+      elim (cases_Bool (is_among keys order)) [
+        | inl old ↦
+            let place = old_place old in
+            let apart : (p.account == length accounts) ≡ false =
+            ne_eqb p.account (length accounts) (λ e. absurd (omega (arith, e, place.1, each))) in
+            rw apart (each ∙ sym (ap length place.0))
+        | inr new ↦
+            let place = new_place new in
+            let last : (p.account == length accounts) ≡ true = eq-eqb p.account (length accounts) (place.1 ∙ sym each) in
+            rw last (length-append accounts (account ∷ []) ∙ ap (λ n. n + 1) each
+            ∙ sym (ap length place.0 ∙ length-append keys (order ∷ [])))
+      ]
+
+  -- where it is the account that the order has, that account stands at the order's place
+  pub account_taken : is_of_another accounts p.account account ≡ false
+      → get_or (accounts_with accounts p.account account) p.account [] ≡ account
+  account_taken same =
+      elim (cases_Bool (p.account == length accounts)) [
+        | inl last ↦
+            let e : p.account ≡ length accounts = eqb-true p.account (length accounts) last in
+            rw (last, e) (get_or-append_seam accounts account [] [])
+        | inr known ↦ rw known (same_name (get_or accounts p.account []) account (not-false _ (rw known at same)))
+      ]
+
+  -- the earlier records stand for the same
+  earlier_same : (records : List NumberedPosition) → All (λ (q : NumberedPosition). q.account < length keys) records
+      → numbered_orders keys' (accounts_with accounts p.account account) records ≡ numbered_orders keys accounts records
+  earlier_same [] known = refl
+  earlier_same (q ∷ records) known =
+      let within = All-head (λ (q : NumberedPosition). q.account < length keys) q records known in
+      let rest = earlier_same records (All-tail (λ (q : NumberedPosition). q.account < length keys) q records known) in
+      let name : get_or keys' q.account [] ≡ get_or keys q.account [] =
+      ap (λ ks. get_or ks q.account []) more ∙ stays keys order q.account within in
+      let given : get_or (accounts_with accounts p.account account) q.account [] ≡ get_or accounts q.account [] =
+      given_stays q.account (omega (arith, within, each)) in
+      λ i. record { order = name i; account = given i; contract = q.contract; quantity = q.quantity } ∷ rest i
+    where
+      given_stays : (i : ℕ) → i < length accounts → get_or (accounts_with accounts p.account account) i [] ≡ get_or accounts i []
+      given_stays i within =
+          elim (cases_Bool (p.account == length accounts)) [
+            | inl last ↦ rw last (get_or_append_left accounts (account ∷ []) [] i within)
+            | inr known ↦ rw known refl
+          ]
+
+  -- the records that the numbered ones stand for are one more
+  pub orders_more : numbered_orders keys' (accounts_with accounts p.account account) (earlier ++ p ∷ [])
+      ≡ numbered_orders keys accounts earlier ++ numbered_order keys' (accounts_with accounts p.account account) p ∷ []
+  orders_more =
+      map-append (numbered_order keys' (accounts_with accounts p.account account)) earlier (p ∷ [])
+      ∙ ap (λ front. front ++ numbered_order keys' (accounts_with accounts p.account account) p ∷ []) (earlier_same earlier was.known)
+
+-- ---- the account of an order
+
+at_most_one_more : (keys : List (List ℕ)) (order : List ℕ) → length (insert_key bytes_eq keys order) ≤ length keys + 1
+at_most_one_more keys order =
+    elim (cases_Bool (is_among keys order)) [
+      | inl old ↦ rw old (omega arith)
+      | inr new ↦ rw new (let e = length-append keys (order ∷ []) in omega (arith, e))
+    ]
+
+-- the account of the order at a place is another one, where the account does not stand there
+pub of_another : (accounts : List (List ℕ)) (place : ℕ) (account : List ℕ) → place < length accounts
+    → (slice_get accounts place ≡ Some account → ⊥) → is_of_another accounts place account ≡ true
+of_another accounts place account within apart =
+    let known : (place == length accounts) ≡ false = ne_eqb place (length accounts) (λ e. absurd (omega (arith, e, within))) in
+    elim (cases_Bool (bytes_eq (get_or accounts place []) account)) [
+      | inl same ↦ absurd (apart (slice_get-get_or accounts place [] within
+          ∙ ap Some (same_name (get_or accounts place []) account same)))
+      | inr other ↦ rw (known, other) refl
+    ]
+
+-- and none where it does
+pub of_same : (accounts : List (List ℕ)) (place : ℕ) (account : List ℕ) → slice_get accounts place ≡ Some account
+    → is_of_another accounts place account ≡ false
+of_same accounts place account there =
+    let within = slice_get_within accounts place account there in
+    let known : (place == length accounts) ≡ false = ne_eqb place (length accounts) (λ e. absurd (omega (arith, e, within))) in
+    rw (known, name_there accounts place account there, itself account) refl
+
+-- ---- what the next record is
+
+-- a record that is refused as a position under its order's name is refused
+pub next_refused : (orders : List OrderRecord) (r : Fields) (e : PositionFault)
+    → MatchBool (position.is_memory e) ⊤ (next_position ORDER_NAMES MAX_ORDERS (map under_order orders) r ≡ Err e)
+    → MatchBool (is_memory (as_order_fault e)) ⊤ (next_order orders r ≡ Err (as_order_fault e))
+unfolding next_order
+next_refused orders r fault.OutOfMemory h = tt
+next_refused orders r (fault.FieldCount at) h = rw h refl
+next_refused orders r (fault.BadName at) h = rw h refl
+next_refused orders r (fault.BadNumber at) h = rw h refl
+next_refused orders r (fault.OutOfRange at) h = rw h refl
+next_refused orders r (fault.TooManyAccounts at) h = rw h refl
+
+module _ (keys keys' accounts : List (List ℕ)) (earlier : List NumberedPosition) (p : NumberedPosition) (r : Fields)
+    (was : AreNumbered keys earlier) (each : length accounts ≡ length keys) (now : AreNumbered keys' (earlier ++ p ∷ []))
+    (named : named_positions keys' (earlier ++ p ∷ []) ≡ named_positions keys earlier ++ named_position keys' p ∷ []) where
+  abbrev order_here : List ℕ
+  order_here = get_or keys' p.account []
+
+  abbrev account_here : List ℕ
+  account_here = text_at r 1
+
+  within_now : p.account < length keys'
+  within_now =
+      let long : length (earlier ++ p ∷ []) ≡ length earlier + 1 = length-append earlier (p ∷ []) in
+      subst (λ (q : NumberedPosition). q.account < length keys') (get_or-append_seam earlier p [] p)
+      (now.known (length earlier) p (omega (arith, long)))
+
+  at_now : slice_get keys' p.account ≡ Some order_here
+  at_now = slice_get-get_or keys' p.account [] within_now
+
+  more_now : keys' ≡ insert_key bytes_eq keys order_here
+  more_now =
+      now.accounts_are
+      ∙ ap accounts_of named
+      ∙ accounts_of-push (named_positions keys earlier) (named_position keys' p)
+      ∙ ap (λ ks. insert_key bytes_eq ks order_here) (sym was.accounts_are)
+
+  longest_now : length keys' ≤ length keys + 1
+  longest_now = let e = ap length more_now in let le = at_most_one_more keys order_here in omega (arith, e, le)
+
+  -- the order's place is one of those known, or that behind all
+  pub place_known : p.account ≤ length accounts
+  place_known = let longest = longest_now in let within = within_now in omega (arith, each, longest, within)
+
+  -- each order has an account
+  pub each_now : length (accounts_with accounts p.account account_here) ≡ length keys'
+  each_now = each_more keys keys' accounts earlier p order_here account_here was each more_now at_now
+
+  -- the records that the numbered ones stand for are one more
+  pub orders_now : numbered_orders keys' (accounts_with accounts p.account account_here) (earlier ++ p ∷ [])
+      ≡ numbered_orders keys accounts earlier ++ numbered_order keys' (accounts_with accounts p.account account_here) p ∷ []
+  orders_now = orders_more keys keys' accounts earlier p order_here account_here was each more_now at_now
+
+  module _ (found : next_position ORDER_NAMES MAX_ORDERS (named_positions keys earlier) r ≡ Ok (named_position keys' p)) where
+    next_behind : next_order (numbered_orders keys accounts earlier) r
+        ≡ order_behind (length earlier + 1) (numbered_orders keys accounts earlier) account_here (Ok (named_position keys' p))
+    unfolding next_order
+    next_behind = rw (numbered_under keys accounts earlier, length-map earlier (numbered_order keys accounts), found) refl
+
+    changed : has_another_account (numbered_orders keys accounts earlier) order_here account_here
+        ≡ is_of_another accounts p.account account_here
+    changed = changes_at keys keys' accounts earlier p order_here account_here was each more_now at_now
+
+    pub next_second : is_of_another accounts p.account account_here ≡ true
+        → next_order (numbered_orders keys accounts earlier) r ≡ Err (order.SecondAccount (length earlier + 1))
+    next_second other = next_behind ∙ rw (changed, other) refl
+
+    pub next_read : is_of_another accounts p.account account_here ≡ false
+        → next_order (numbered_orders keys accounts earlier) r
+        ≡ Ok (numbered_order keys' (accounts_with accounts p.account account_here) p)
+    next_read same =
+        next_behind
+        ∙ rw (changed, same, account_taken keys keys' accounts earlier p order_here account_here was each more_now at_now same) refl

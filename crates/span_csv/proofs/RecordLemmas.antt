@@ -1,0 +1,77 @@
+-- Records read one after another give what a definition says of all, where each record gives what it says of that one.
+use Rattle.std.proofs.Common.{◌≡◌, ◌∙◌, refl, sym, ap, ℕ, ◌+◌, Bool, true, false}
+use Rattle.std.proofs.Common.{List, [], ◌∷◌, ◌++◌, length, map, Option, Some, None, Result, Ok, Err, append_assoc}
+use Rattle.std.specs.Prelude.{option_map, MatchBool, ⊤}
+use Rattle.std.proofs.lemmas.List.{append-nil, map-append}
+use Rattle.span_tables.specs.Faults.{first_fault, first_fault_after, ok_unless}
+use Rattle.span_tables.specs.Gives.{Gives}
+use Rattle.span_csv.specs.Records.{Fields}
+use Rattle.span_csv.specs.near.RecordReading.{records_after}
+
+-- ---- what is answered
+
+-- a fault that is told is that of the definition
+pub told : {X : Type 0} (memory : Bool) → X → MatchBool memory ⊤ X
+told true x = tt
+told false x = x
+
+-- where another fact is told, what follows from it is
+pub told_by : {X Y : Type 0} (memory : Bool) → MatchBool memory ⊤ X → (X → Y) → MatchBool memory ⊤ Y
+told_by true x follows = tt
+told_by false x follows = follows x
+
+-- ---- one record
+
+module _ {R F : Type 0} (next : List R → Fields → Result R F) where
+  pub records_after-ok : (earlier : List R) (r : Fields) (rest : List Fields) (x : R)
+      → next earlier r ≡ Ok x → records_after next earlier (r ∷ rest) ≡ records_after next (earlier ++ x ∷ []) rest
+  unfolding records_after
+  records_after-ok earlier r rest x e = rw e refl
+
+  pub records_after-err : (earlier : List R) (r : Fields) (rest : List Fields) (e : F)
+      → next earlier r ≡ Err e → records_after next earlier (r ∷ rest) ≡ Err e
+  unfolding records_after
+  records_after-err earlier r rest f e = rw e refl
+
+  pub records_after-end : (earlier : List R) → records_after next earlier [] ≡ Ok earlier
+  unfolding records_after
+  records_after-end earlier = refl
+
+  -- a record with a fault ends the reading
+  pub records_after-refused : (is_memory : F → Bool) (earlier : List R) (r : Fields) (rest : List Fields) (e : F)
+      → Gives {V = R} is_memory (Err e) (next earlier r)
+      → Gives {V = List R} is_memory (Err e) (records_after next earlier (r ∷ rest))
+  records_after-refused is_memory earlier r rest e h = told_by (is_memory e) h (records_after-err earlier r rest e)
+
+-- ---- all records
+
+module _ {R F : Type 0} (next : List R → Fields → Result R F) (fault_of : List Fields → Fields → Option (ℕ → F))
+    (what : Fields → R)
+    (judges : (before : List Fields) (r : Fields) → next (map what before) r
+    ≡ ok_unless (option_map (λ f. f (length before + 1)) (fault_of before r)) (what r)) where
+  -- what the definition says of the records from here on
+  abbrev all_judged : List Fields → List Fields → Result (List R) F
+  all_judged before rows = ok_unless (first_fault_after fault_of before rows) (map what (before ++ rows))
+
+  by_outcome : (before : List Fields) (r : Fields) (rest : List Fields) (o : Option (ℕ → F)) → fault_of before r ≡ o
+      → records_after next (map what (before ++ r ∷ [])) rest ≡ all_judged (before ++ r ∷ []) rest
+      → records_after next (map what before) (r ∷ rest) ≡ all_judged before (r ∷ rest)
+  by_outcome before r rest None is later =
+      records_after-ok next (map what before) r rest (what r)
+      (judges before r ∙ ap (λ o. ok_unless (option_map (λ f. f (length before + 1)) o) (what r)) is)
+      ∙ sym (ap (λ earlier. records_after next earlier rest) (map-append what before (r ∷ [])))
+      ∙ later
+      ∙ rw (is, append_assoc before (r ∷ []) rest) refl
+  by_outcome before r rest (Some f) is later =
+      records_after-err next (map what before) r rest (f (length before + 1))
+      (judges before r ∙ ap (λ o. ok_unless (option_map (λ f. f (length before + 1)) o) (what r)) is)
+      ∙ rw is refl
+
+  reads_on : (before rows : List Fields) → records_after next (map what before) rows ≡ all_judged before rows
+  reads_on before [] =
+      records_after-end next (map what before) ∙ ap (λ rows. Ok (map what rows)) (sym (append-nil before))
+  reads_on before (r ∷ rows) = by_outcome before r rows (fault_of before r) refl (reads_on (before ++ r ∷ []) rows)
+
+  -- reading from the first record on is the definition
+  pub records_after-judged : (rows : List Fields) → records_after next [] rows ≡ ok_unless (first_fault fault_of rows) (map what rows)
+  records_after-judged rows = reads_on [] rows

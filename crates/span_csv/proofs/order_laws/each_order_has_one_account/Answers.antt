@@ -1,0 +1,5 @@
+use Rattle.span_csv.proofs.OrderLaws.{one_account}
+use Rattle.span_csv.proofs.order_laws.each_order_has_one_account.Goals as goal
+
+pub returns : goal.returns
+returns c = one_account

@@ -1,0 +1,46 @@
+-- The faults of an order file's records.
+use Rattle.std.specs.Prelude.{ℕ, Bool, not, ◌&&◌, ◌==◌, List, [], ◌∷◌, length, map, Option, Result, true, false, bytes_eq}
+use Rattle.std.specs.List.{list_any}
+use Rattle.span_tables.specs.Faults.{first_that_holds, first_fault, ok_unless}
+use Rattle.span_tables.specs.Names.{is_among, distinct}
+use Rattle.span_csv.specs.Records.{Fields, records_of, text_at, all_have, has_word_form}
+use Rattle.span_csv.specs.Records.{has_number_form, is_in_range, order_forms, order_record}
+use Rattle.span_tables.specs.declared.records.OrderRecord.{OrderRecord}
+use Rattle.span_csv.specs.declared.faults.OrderFault.{OrderFault}
+use Rattle.span_csv.specs.declared.faults.OrderFault.TheVariants as fault
+use Rattle.span_tables.specs.declared.limits.TheConstants.{MAX_ORDERS}
+
+-- the order is new behind the earlier records, which have as many as there may be
+abbrev pub exceeds_orders : List Fields → Fields → Bool
+exceeds_orders earlier r =
+    let orders = map (λ x. text_at x 0) earlier in
+    not (is_among orders (text_at r 0)) && (length (distinct orders) == MAX_ORDERS)
+
+-- an earlier record of the order has another account
+abbrev pub changes_account : List Fields → Fields → Bool
+changes_account earlier r =
+    list_any (λ x. bytes_eq (text_at x 0) (text_at r 0) && not (bytes_eq (text_at x 1) (text_at r 1))) earlier
+
+-- the faults that a record may have behind the earlier ones, in the order of their numbers
+abbrev pub order_faults : List Fields → Fields → List (Bool × (ℕ → OrderFault))
+order_faults earlier r =
+    (not (length r == length order_forms), fault.FieldCount)
+    ∷ (not (all_have has_word_form order_forms r), fault.BadName)
+    ∷ (not (all_have has_number_form order_forms r), fault.BadNumber)
+    ∷ (not (all_have is_in_range order_forms r), fault.OutOfRange)
+    ∷ (exceeds_orders earlier r, fault.TooManyOrders)
+    ∷ (changes_account earlier r, fault.SecondAccount)
+    ∷ []
+
+-- the fault of an order file's records: that of the first record with one, the lowest-numbered that it has
+unfoldable pub order_fault : List Fields → Option OrderFault
+order_fault rs = first_fault (λ earlier x. first_that_holds (order_faults earlier x)) rs
+
+-- what an order file says, or its fault
+unfoldable pub orders_of : List ℕ → Result (List OrderRecord) OrderFault
+orders_of bytes = ok_unless (order_fault (records_of bytes)) (map order_record (records_of bytes))
+
+-- the fault is want of memory, of which the definition does not speak
+abbrev pub is_memory : OrderFault → Bool
+is_memory fault.OutOfMemory = true
+is_memory _ = false

@@ -1,0 +1,167 @@
+//! Records with a name in front that numbers them: a position's account, or an order, which stands in place of an account.
+ghost use Rattle.std.specs.Prelude.{◌≡◌, ◌+◌, ◌<◌, ◌++◌, ◌∷◌, [], ◌≤◌, ⊤, ℕ, IfOk, IsTrue, ◌↔◌, MatchBool};
+ghost use Rattle.std.specs.Prelude.{MatchResult, OnOk, Ok, Err, Some, false, length, nat_abs, slice_get, true};
+ghost use Rattle.csv.specs.Records.{fields_of};
+ghost use Rattle.span_money.specs.Numbers.{whole_number};
+ghost use Rattle.span_csv.specs.PositionFaults.{is_memory};
+ghost use Rattle.span_csv.specs.Records.{text_at};
+ghost use Rattle.span_csv.specs.declared.faults.PositionFault.TheVariants as fault;
+ghost use Rattle.span_csv.specs.near.NumberedReading.{are_names, is_one_too_many, is_quantity, next_position};
+ghost use Rattle.span_csv.specs.near.NumberedReading.{quantity_alone, quantity_from, with_name};
+ghost use Rattle.span_tables.specs.Names.{is_name};
+ghost use Rattle.span_tables.specs.near.Positions.{named_position, named_positions, AreNumbered};
+ghost use Rattle.span_tables.specs.declared.limits.TheConstants.{MAX_ORDERS, MAX_QUANTITY};
+
+use crate::faults::PositionFault;
+use crate::rows::field;
+use csv::ByteRecord;
+use indexmap::IndexSet;
+use span_money::texts::parse_whole;
+use span_tables::limits::MAX_QUANTITY;
+use span_tables::name::{Name, is_name};
+use span_tables::records::NumberedPosition;
+
+// Whether a quantity is in its range.
+fn is_quantity(quantity: i64) -> bool
+    ensures value { result ≡ is_quantity quantity }
+    ensures size { result ≡ true → nat_abs quantity ≤ MAX_QUANTITY }
+{
+    quantity.unsigned_abs() <= u64::from(MAX_QUANTITY)
+}
+
+// The quantity that a text is.
+fn quantity_from(at: usize, text: &[u8]) -> Result<i32, PositionFault>
+    ensures value { result ≡ quantity_from at (whole_number text.now) }
+    ensures size { IfOk result (λ quantity. nat_abs quantity ≤ MAX_QUANTITY) }
+{
+    let Some(quantity) = parse_whole(text) else {
+        return Err(PositionFault::BadNumber { at });
+    };
+    if !is_quantity(quantity) {
+        return Err(PositionFault::OutOfRange { at });
+    }
+    Ok(quantity as i32)
+}
+
+// Whether so many fields in front are names.
+#[inline(always)]
+fn are_names(row: &ByteRecord, names: usize) -> bool
+    requires { names ≤ length (fields_of row.now) }
+    ensures value { result ≡ are_names names (fields_of row.now) }
+    ensures each { result ≡ true → (i : ℕ) → i < names → is_name (text_at (fields_of row.now) i) ≡ true }
+{
+    for i in 0..names {
+        if !is_name(field(row, i)) {
+            return false;
+        }
+    }
+    true
+}
+
+// The quantity of a record of so many names.
+#[inline(always)]
+#[tactic(auto, unfolding(crate::specs::near::NumberedReading::quantity_alone))]
+fn quantity(names: usize, at: usize, row: &ByteRecord) -> Result<i32, PositionFault>
+    requires { names ≤ 3 }
+    ensures value { result ≡ quantity_alone names at (fields_of row.now) }
+    ensures fields { OnOk result (length (fields_of row.now) ≡ names + 1) }
+    ensures named { OnOk result ((i : ℕ) → i < names → is_name (text_at (fields_of row.now) i) ≡ true) }
+    ensures size { IfOk result (λ quantity. nat_abs quantity ≤ MAX_QUANTITY) }
+{
+    if row.len() != names + 1 {
+        return Err(PositionFault::FieldCount { at });
+    }
+    if !are_names(row, names) {
+        return Err(PositionFault::BadName { at });
+    }
+    quantity_from(at, field(row, names))
+}
+
+/// Whether a name stands at a place.
+pub(crate) fn stands_at(known: &[Name], place: u32, name: &[u8]) -> bool
+    ensures { IsTrue result ↔ (slice_get known.now place ≡ Some name.now) }
+{
+    match known.get(place as usize) {
+        Some(known) => known.as_bytes() == name,
+        None => false,
+    }
+}
+
+// Whether a name is one more than there may be.
+fn is_one_too_many(known: &IndexSet<Name>, most: usize, name: &Name) -> bool
+    ensures { result ≡ is_one_too_many most known.now.keys name.now }
+{
+    !known.contains(name) && known.len() == most
+}
+
+// The place of a name, which is put last where it is new. The place of the last record's name is tried first.
+#[inline(always)]
+#[tactic(auto, using(span_tables::proofs::NumberedLaws::among_at))]
+fn place(
+    most: usize,
+    at: usize,
+    known: &mut IndexSet<Name>,
+    last: u32,
+    name: &[u8],
+) -> Result<u32, PositionFault>
+    requires name { is_name name.now ≡ true }
+    requires few { length known.old.keys ≤ most }
+    requires most { most ≤ MAX_ORDERS }
+    ensures room { MatchResult result
+        (λ place. is_one_too_many most known.old.keys name.now ≡ false)
+        (λ e. MatchBool (is_memory e) ⊤ ((e ≡ fault.TooManyAccounts at) × (is_one_too_many most known.old.keys name.now ≡ true))) }
+    ensures taken { OnOk result (known.new.keys ≡ with_name known.old.keys name.now) }
+    ensures at { IfOk result (λ place. slice_get known.new.keys place ≡ Some name.now) }
+{
+    if stands_at(known.as_slice(), last, name) {
+        return Ok(last);
+    }
+    let name = Name::of(name);
+    if is_one_too_many(known, most, &name) {
+        return Err(PositionFault::TooManyAccounts { at });
+    }
+    let (place, _) = known.insert_full(name)?;
+    Ok(place as u32)
+}
+
+// The place of the last record's name, or the first one where there is no record.
+fn last_place(earlier: &[NumberedPosition]) -> u32 {
+    earlier.last().map_or(0, |position| position.account)
+}
+
+/// The position of the record behind the earlier ones, which these names number. `names` is how many names stand in front of its quantity:
+/// the first numbers it, and the last is its contract's. At most `most` names may number records.
+#[inline(always)]
+pub(crate) fn next_position(
+    names: usize,
+    most: usize,
+    earlier: &[NumberedPosition],
+    known: &mut IndexSet<Name>,
+    row: &ByteRecord,
+) -> Result<NumberedPosition, PositionFault>
+    requires at_least { 1 ≤ names }
+    requires at_most { names ≤ 3 }
+    requires numbered { AreNumbered known.old.keys earlier.now }
+    requires few { length known.old.keys ≤ most }
+    requires most { most ≤ MAX_ORDERS }
+    ensures found { MatchResult result
+        (λ p. next_position names most (named_positions known.old.keys earlier.now) (fields_of row.now)
+        ≡ Ok (named_position known.new.keys p))
+        (λ e. MatchBool (is_memory e) ⊤
+        (next_position names most (named_positions known.old.keys earlier.now) (fields_of row.now) ≡ Err e)) }
+    ensures named { IfOk result (λ p. named_positions known.new.keys (earlier.now ++ p ∷ [])
+        ≡ named_positions known.old.keys earlier.now ++ named_position known.new.keys p ∷ []) }
+    ensures numbered { IfOk result (λ p. AreNumbered known.new.keys (earlier.now ++ p ∷ [])) }
+    ensures few { OnOk result (length known.new.keys ≤ most) }
+    ensures fields { OnOk result (length (fields_of row.now) ≡ names + 1) }
+    ensures names { OnOk result ((i : ℕ) → i < names → is_name (text_at (fields_of row.now) i) ≡ true) }
+{
+    let at = earlier.len() + 1;
+    let quantity = quantity(names, at, row)?;
+    let account = place(most, at, known, last_place(earlier), field(row, 0))?;
+    Ok(NumberedPosition {
+        contract: Name::of(field(row, names - 1)),
+        account,
+        quantity,
+    })
+}
