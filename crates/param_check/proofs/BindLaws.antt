@@ -15,7 +15,7 @@ use Rattle.span_tables.specs.declared.portfolios.Holding.{Holding}
 use Rattle.span_tables.specs.declared.records.Contract.{Contract}
 use Rattle.span_tables.specs.declared.records.PositionRecord.{PositionRecord}
 use Rattle.param_check.specs.Binding.{exceeds_net, exceeds_held, bindings_of, is_memory}
-use Rattle.param_check.specs.near.Holdings.{ids_of, limit_fault, portfolios_from, portfolios_or_fault}
+use Rattle.param_check.specs.near.Holdings.{excess_of, ids_of, limit_fault, portfolios_from, portfolios_or_fault}
 use Rattle.param_check.specs.declared.binding.over_limits.Limit.TheVariants as limit
 use Rattle.param_check.specs.near.Ledgers.{AreLedgers, is_foreign, foreign_fault}
 use Rattle.param_check.specs.near.Nets.{entry_holdings, entries_of}
@@ -76,19 +76,19 @@ module _ (contracts : List Contract) (positions : List PositionRecord) where
         nets_are ∙ all_holdings_are contracts positions (accounts_of positions) ledgers apart
         (ledger.ledgers_are ∙ ap (λ k. map (entries_of k positions) (accounts_of positions)) ids_are)
 
-    range_is : limit_fault limit.Net ids (accounts_of positions) nets positions ≡ out_of_range positions
+    range_is : limit_fault limit.Net ids (accounts_of positions) (map excess_of nets) positions ≡ out_of_range positions
     range_is =
-        ap (λ k. limit_fault limit.Net k (accounts_of positions) nets positions) ids_are
+        ap (λ k. limit_fault limit.Net k (accounts_of positions) (map excess_of nets) positions) ids_are
         ∙ net_fault_is contracts positions (accounts_of positions) nets refl holdings known
 
-    many_is : limit_fault limit.Held ids (accounts_of positions) nets positions ≡ too_many contracts positions
+    many_is : limit_fault limit.Held ids (accounts_of positions) (map excess_of nets) positions ≡ too_many contracts positions
     many_is =
-        ap (λ k. limit_fault limit.Held k (accounts_of positions) nets positions) ids_are
+        ap (λ k. limit_fault limit.Held k (accounts_of positions) (map excess_of nets) positions) ids_are
         ∙ held_fault_is contracts positions (accounts_of positions) nets refl holdings known
 
     -- what the nets are settled to is what the records are bound to
-    settled_by : (b2 b3 : Option BindFault) → limit_fault limit.Net ids (accounts_of positions) nets positions ≡ b2
-        → limit_fault limit.Held ids (accounts_of positions) nets positions ≡ b3
+    settled_by : (b2 b3 : Option BindFault) → limit_fault limit.Net ids (accounts_of positions) (map excess_of nets) positions ≡ b2
+        → limit_fault limit.Held ids (accounts_of positions) (map excess_of nets) positions ≡ b3
         → bindings_of contracts positions ≡ ok_unless (option_or b2 b3) (portfolios_from (accounts_of positions) nets)
     settled_by b2 b3 x y =
         bound_is None b2 b3 no_unknown (sym range_is ∙ x) (sym many_is ∙ y)
@@ -98,31 +98,32 @@ module _ (contracts : List Contract) (positions : List PositionRecord) where
     pub bound_settled : portfolios_or_fault ids (accounts_of positions) nets positions ≡ bindings_of contracts positions
     unfolding portfolios_or_fault
     bound_settled =
-        sym (settled_by (limit_fault limit.Net ids (accounts_of positions) nets positions)
-        (limit_fault limit.Held ids (accounts_of positions) nets positions) refl refl)
+        sym (settled_by (limit_fault limit.Net ids (accounts_of positions) (map excess_of nets) positions)
+        (limit_fault limit.Held ids (accounts_of positions) (map excess_of nets) positions) refl refl)
 
-    pub nets_hold : limit_fault limit.Net ids (accounts_of positions) nets positions ≡ None
-        → limit_fault limit.Held ids (accounts_of positions) nets positions ≡ None → All ArePortfolio nets
+    pub nets_hold : limit_fault limit.Net ids (accounts_of positions) (map excess_of nets) positions ≡ None
+        → limit_fault limit.Held ids (accounts_of positions) (map excess_of nets) positions ≡ None → All ArePortfolio nets
     nets_hold none few =
         portfolios_hold contracts positions (accounts_of positions) nets refl holdings
         (fit_from_none fault.NetOutOfRange (exceeds_net positions) positions
         (sym (net_fault_any contracts positions (accounts_of positions) nets refl holdings known)
-        ∙ ap (λ k. limit_fault limit.Net k (accounts_of positions) nets positions) (sym ids_are) ∙ none))
+        ∙ ap (λ k. limit_fault limit.Net k (accounts_of positions) (map excess_of nets) positions) (sym ids_are) ∙ none))
         (fit_from_none fault.TooManyHeld (exceeds_held contracts positions) positions
         (sym (held_fault_any contracts positions (accounts_of positions) nets refl holdings known)
-        ∙ ap (λ k. limit_fault limit.Held k (accounts_of positions) nets positions) (sym ids_are) ∙ few))
+        ∙ ap (λ k. limit_fault limit.Held k (accounts_of positions) (map excess_of nets) positions) (sym ids_are) ∙ few))
 
     pub as_many : length nets ≡ length (accounts_of positions)
     as_many = ap length holdings ∙ length-map (accounts_of positions) (holdings_of contracts positions)
 
 -- what settling answers
 module _ (ids accounts : List (List ℕ)) (nets : List (List Holding)) (positions : List PositionRecord) where
-  settled_is : (b2 b3 : Option BindFault) → b2 ≡ limit_fault limit.Net ids accounts nets positions
-      → b3 ≡ limit_fault limit.Held ids accounts nets positions
+  settled_is : (b2 b3 : Option BindFault) → b2 ≡ limit_fault limit.Net ids accounts (map excess_of nets) positions
+      → b3 ≡ limit_fault limit.Held ids accounts (map excess_of nets) positions
       → portfolios_or_fault ids accounts nets positions ≡ ok_unless (option_or b2 b3) (portfolios_from accounts nets)
   unfolding portfolios_or_fault
   settled_is b2 b3 x y =
-      ap (λ o. ok_unless (option_or o (limit_fault limit.Held ids accounts nets positions)) (portfolios_from accounts nets)) (sym x)
+      ap (λ o. ok_unless (option_or o (limit_fault limit.Held ids accounts (map excess_of nets) positions))
+      (portfolios_from accounts nets)) (sym x)
       ∙ ap (λ o. ok_unless (option_or b2 o) (portfolios_from accounts nets)) (sym y)
 
   fault_given : (e : BindFault) → portfolios_or_fault ids accounts nets positions ≡ Err e
@@ -133,17 +134,17 @@ module _ (ids accounts : List (List ℕ)) (nets : List (List Holding)) (position
       by true = tt
       by false = h
 
-  pub settled_net : (e : BindFault) → Some e ≡ limit_fault limit.Net ids accounts nets positions
+  pub settled_net : (e : BindFault) → Some e ≡ limit_fault limit.Net ids accounts (map excess_of nets) positions
       → MatchBool (is_memory e) ⊤ (portfolios_or_fault ids accounts nets positions ≡ Err e)
-  settled_net e h = fault_given e (settled_is (Some e) (limit_fault limit.Held ids accounts nets positions) h refl)
+  settled_net e h = fault_given e (settled_is (Some e) (limit_fault limit.Held ids accounts (map excess_of nets) positions) h refl)
 
-  pub settled_held : (e : BindFault) → None ≡ limit_fault limit.Net ids accounts nets positions
-      → Some e ≡ limit_fault limit.Held ids accounts nets positions
+  pub settled_held : (e : BindFault) → None ≡ limit_fault limit.Net ids accounts (map excess_of nets) positions
+      → Some e ≡ limit_fault limit.Held ids accounts (map excess_of nets) positions
       → MatchBool (is_memory e) ⊤ (portfolios_or_fault ids accounts nets positions ≡ Err e)
   settled_held e none h = fault_given e (settled_is None (Some e) none h)
 
-  pub settled_all : (all : List AccountHoldings) → None ≡ limit_fault limit.Net ids accounts nets positions
-      → None ≡ limit_fault limit.Held ids accounts nets positions → all ≡ portfolios_from accounts nets
+  pub settled_all : (all : List AccountHoldings) → None ≡ limit_fault limit.Net ids accounts (map excess_of nets) positions
+      → None ≡ limit_fault limit.Held ids accounts (map excess_of nets) positions → all ≡ portfolios_from accounts nets
       → portfolios_or_fault ids accounts nets positions ≡ Ok all
   settled_all all none few is = settled_is None None none few ∙ ap Ok (sym is)
 

@@ -6,10 +6,11 @@ use Rattle.std.specs.List.{list_any, enumerate_from, range_with_len, position_or
 use Rattle.std.proofs.lemmas.Bool.{cases_eq, or_parts, eq-eqb, ne_eqb}
 use Rattle.span_money.specs.Numbers.{int_sum_by}
 use Rattle.span_tables.specs.Names.{has_repeat}
-use Rattle.span_tables.specs.Net.{net_of, is_held, holding_of, holdings_of}
+use Rattle.span_tables.specs.Net.{net_of, is_held, holdings_of}
 use Rattle.span_tables.specs.declared.portfolios.Holding.{Holding}
 use Rattle.span_tables.specs.declared.records.Contract.{Contract}
 use Rattle.span_tables.specs.declared.records.PositionRecord.{PositionRecord}
+use Rattle.span_tables.proofs.MergedLaws.{held_of_all, numbered}
 use Rattle.span_tables.proofs.SumLaws.{int_sum_by-if}
 use Rattle.span_tables.proofs.NameLemmas.{same_name}
 use Rattle.param_check.specs.near.Nets.{entry_of, entries_of, entry_net, entry_holdings}
@@ -34,7 +35,7 @@ eqb_up a b = by (cases_eq a b)
     by (inr n) = ne_eqb (1 + a) (suc b) (λ e. n (omega (arith, e))) ∙ sym (ne_eqb a b n)
 
 -- a name has a number just where it is the id of the contract of that number
-number_is : (contracts : List Contract) (name : List ℕ) (k : ℕ) (x : Contract)
+pub number_is : (contracts : List Contract) (name : List ℕ) (k : ℕ) (x : Contract)
     → has_repeat (λ y z. bytes_eq y.id z.id) contracts ≡ false → slice_get contracts k ≡ Some x
     → (position_or_len (bytes_eq name) (ids_of contracts) == k) ≡ bytes_eq name x.id
 number_is [] name k x h e = cc
@@ -60,7 +61,7 @@ number_is (y ∷ contracts) name (suc k) x h e = by (bytes_eq name y.id) refl (n
     by false t more = eqb_up rest k ∙ more
 
 -- the net of an account's entries in the contract of a number
-net_is : (contracts : List Contract) (account : List ℕ) (k : ℕ) (x : Contract)
+pub net_is : (contracts : List Contract) (account : List ℕ) (k : ℕ) (x : Contract)
     → has_repeat (λ y z. bytes_eq y.id z.id) contracts ≡ false → slice_get contracts k ≡ Some x
     → (positions : List PositionRecord) → net_of positions account x.id
     ≡ entry_net (entries_of (ids_of contracts) positions account) k
@@ -87,31 +88,35 @@ net_is contracts account k x h e (p ∷ positions) = by (bytes_eq p.account acco
         (filter (λ (q : Entry). q.contract == k) (map (entry_of ids) rest)))
     by false more = more
 
-holding_with : ℕ → ℤ → Holding
-holding_with k z = record { contract = k; net = z }
-
-same_holdings : (positions : List PositionRecord) (account : List ℕ) (es : List Entry) (a : ℕ) (xs : List Contract)
-    → ((k : ℕ) (x : Contract) → slice_get xs k ≡ Some x → net_of positions account x.id ≡ entry_net es (a + k))
-    → map (holding_of positions account) (enumerate_from a xs)
+same_holdings : (net : ℕ → Contract → ℤ) (es : List Entry) (a : ℕ) (xs : List Contract)
+    → ((k : ℕ) (x : Contract) → slice_get xs k ≡ Some x → net (a + k) x ≡ entry_net es (a + k))
+    → map (numbered net) (enumerate_from a xs)
     ≡ map (λ c. record { contract = c; net = entry_net es c }) (range_with_len a (length xs))
-unfolding holding_with
-same_holdings positions account es a [] h = refl
-same_holdings positions account es a (x ∷ xs) h =
-    let here : net_of positions account x.id ≡ entry_net es a = h 0 x refl
-    ∙ (let z : a + 0 ≡ a = omega arith in ap (entry_net es) z) in
-    let rest = same_holdings positions account es (a + 1) xs
-    (λ k y e. h (suc k) y e ∙ (let z : a + suc k ≡ a + 1 + k = omega arith in ap (entry_net es) z)) in
-    λ i. holding_with a (here i) ∷ rest i
+same_holdings net es a [] h = refl
+same_holdings net es a (x ∷ xs) h =
+    let zero_more : a + 0 ≡ a = omega arith in
+    let here : net a x ≡ entry_net es a = ap (λ n. net n x) (sym zero_more) ∙ h 0 x refl ∙ ap (entry_net es) zero_more in
+    let rest = same_holdings net es (a + 1) xs (λ k y e.
+    let up : a + 1 + k ≡ a + suc k = omega arith in
+    ap (λ n. net n y) up ∙ h (suc k) y e ∙ ap (entry_net es) (sym up)) in
+    λ i. (let it : Holding = record { contract = a; net = here i } in it) ∷ rest i
+
+-- what is held by nets that are those of entries
+pub held_by_entries : (net : ℕ → Contract → ℤ) (es : List Entry) (contracts : List Contract)
+    → ((k : ℕ) (x : Contract) → slice_get contracts k ≡ Some x → net k x ≡ entry_net es k)
+    → held_of_all net 0 contracts ≡ entry_holdings (length contracts) es
+unfolding entry_holdings
+held_by_entries net es contracts h =
+    ap (filter is_held) (same_holdings net es 0 contracts (λ k x e.
+    let same : k ≡ 0 + k = omega arith in ap (λ n. net n x) (sym same) ∙ h k x e ∙ ap (entry_net es) same))
 
 -- what an account holds is what its entries hold
 pub holdings_are : (contracts : List Contract) (positions : List PositionRecord) (account : List ℕ)
     → has_repeat (λ y z. bytes_eq y.id z.id) contracts ≡ false
     → holdings_of contracts positions account ≡ entry_holdings (length contracts) (entries_of (ids_of contracts) positions account)
-unfolding entry_holdings
 holdings_are contracts positions account h =
-    ap (filter is_held) (same_holdings positions account (entries_of (ids_of contracts) positions account) 0 contracts
-    (λ k x e. net_is contracts account k x h e positions
-    ∙ (let z : k ≡ 0 + k = omega arith in ap (entry_net (entries_of (ids_of contracts) positions account)) z)))
+    held_by_entries (λ k x. net_of positions account x.id) (entries_of (ids_of contracts) positions account) contracts
+    (λ k x e. net_is contracts account k x h e positions)
 
 pub all_holdings_are : (contracts : List Contract) (positions : List PositionRecord) (accounts : List (List ℕ))
     (ledgers : List (List Entry)) → has_repeat (λ y z. bytes_eq y.id z.id) contracts ≡ false

@@ -21,3 +21,9 @@ pub mod PortfolioLaws
 pub mod RuleLaws
 pub mod UnfitLaws
 pub mod UnknownLemmas
+pub mod MergedFit
+pub mod OrderNets
+pub mod OrderTransfer
+pub mod KeptOrderLaws
+pub mod OrderBindLaws
+pub mod TriedLaws

@@ -15,11 +15,12 @@ use Rattle.span_tables.specs.declared.records.PositionRecord.{PositionRecord}
 use Rattle.span_tables.proofs.NameLaws.{distinct_same}
 use Rattle.span_tables.proofs.NameLemmas.{same_name}
 use Rattle.param_check.specs.Binding.{first_unfit, is_unknown, is_first_of_contract, is_first_of_account, exceeds_net, exceeds_held}
-use Rattle.param_check.specs.near.Holdings.{are_many, exceeds, exceeds_at, ids_of, is_over, is_over_at, limit_fault}
+use Rattle.param_check.specs.near.Holdings.{are_many, exceeds, exceeds_at, excess_of, ids_of, is_over, is_over_at, limit_fault}
 use Rattle.param_check.specs.declared.binding.over_limits.Limit.TheVariants as limit
 use Rattle.param_check.specs.near.Ledgers.{is_foreign, foreign_fault}
 use Rattle.param_check.specs.declared.faults.BindFault.TheVariants as fault
 use Rattle.param_check.proofs.AccountLaws.{bytes_eq-refl, bytes_eq-flip}
+use Rattle.param_check.proofs.LimitLaws.{over_filtered}
 use Rattle.param_check.proofs.KindLaws.{net_of_kind, held_of_kind}
 use Rattle.param_check.proofs.UnfitLaws.{unfit_same}
 
@@ -122,10 +123,10 @@ module _ (positions : List PositionRecord) (account : List ℕ) where
           (ap (λ n. nat_lt MAX_NET (nat_abs (net_of positions account n))) (sym (same_name name x.id same)))
       by false same h e more = others (is_held first) (ne_eqb a c (λ z. omega (arith, e, z))) (more h (omega (arith, e)))
 
--- ---- each record's faults
+-- ---- each record's faults, by what the account that it names holds
 
-module _ (contracts : List Contract) (positions : List PositionRecord) (accounts : List (List ℕ)) (nets : List (List Holding))
-    (accounts_are : accounts ≡ accounts_of positions) (nets_are : nets ≡ map (holdings_of contracts positions) accounts)
+module _ (contracts : List Contract) (positions : List PositionRecord) (held : List ℕ → List Holding) (accounts : List (List ℕ))
+    (nets : List (List Holding)) (accounts_are : accounts ≡ accounts_of positions) (nets_are : nets ≡ map held accounts)
     (known : list_any (is_foreign (ids_of contracts)) positions ≡ false) where
   -- the account of a record is among the accounts
   account_among : (k : ℕ) (d : PositionRecord) → k < length positions
@@ -145,52 +146,82 @@ module _ (contracts : List Contract) (positions : List PositionRecord) (accounts
       (false_from_ne_true (is_foreign (ids_of contracts) (get_or positions k d))
       (λ e. true≢false (sym (list_any_at (is_foreign (ids_of contracts)) positions k d lt e) ∙ known)))
 
-  nets_at : (name : List ℕ) → list_any (bytes_eq name) accounts ≡ true
-      → get_or nets (position_or_len (bytes_eq name) accounts) [] ≡ holdings_of contracts positions name
-  nets_at name h =
-      ap (λ n. get_or n (position_or_len (bytes_eq name) accounts) []) nets_are
-      ∙ at_place (holdings_of contracts positions) accounts name [] h
+  excesses_are : (ks : List (List ℕ)) → map excess_of (map held ks) ≡ map (λ k. excess_of (held k)) ks
+  excesses_are [] = refl
+  excesses_are (k ∷ ks) = ap (λ xs. excess_of (held k) ∷ xs) (excesses_are ks)
+
+  excess_at : (name : List ℕ) → list_any (bytes_eq name) accounts ≡ true
+      → get_or (map excess_of nets) (position_or_len (bytes_eq name) accounts) (excess_of []) ≡ excess_of (held name)
+  excess_at name h =
+      ap (λ n. get_or (map excess_of n) (position_or_len (bytes_eq name) accounts) (excess_of [])) nets_are
+      ∙ ap (λ n. get_or n (position_or_len (bytes_eq name) accounts) (excess_of [])) (excesses_are accounts)
+      ∙ at_place (λ k. excess_of (held k)) accounts name (excess_of []) h
 
   net_exceeds_is : (p : PositionRecord) → list_any (bytes_eq p.account) accounts ≡ true
       → list_any (bytes_eq p.contract) (ids_of contracts) ≡ true
-      → exceeds limit.Net (ids_of contracts) accounts nets p ≡ exceeds_net positions p
-  unfolding held_from
+      → exceeds limit.Net (ids_of contracts) accounts (map excess_of nets) p
+      ≡ is_over_at (position_or_len (bytes_eq p.contract) (ids_of contracts)) (held p.account)
   net_exceeds_is p a c =
-      ap (λ o. exceeds_at limit.Net o (position (bytes_eq p.contract) (ids_of contracts)) nets) (position_is accounts p.account a)
-      ∙ ap (λ o. exceeds_at limit.Net (Some (position_or_len (bytes_eq p.account) accounts)) o nets)
+      let at = position_or_len (bytes_eq p.contract) (ids_of contracts) in
+      ap (λ o. exceeds_at limit.Net o (position (bytes_eq p.contract) (ids_of contracts)) (map excess_of nets))
+      (position_is accounts p.account a)
+      ∙ ap (λ o. exceeds_at limit.Net (Some (position_or_len (bytes_eq p.account) accounts)) o (map excess_of nets))
       (position_is (ids_of contracts) p.contract c)
-      ∙ ap (is_over_at (position_or_len (bytes_eq p.contract) (ids_of contracts))) (nets_at p.account a)
-      ∙ over_here positions p.account 0 (position_or_len (bytes_eq p.contract) (ids_of contracts)) contracts p.contract c (omega arith)
+      ∙ ap (λ x. is_over_at at x.over) (excess_at p.account a)
+      ∙ over_filtered at (held p.account)
 
   held_exceeds_is : (p : PositionRecord) → list_any (bytes_eq p.account) accounts ≡ true
-      → exceeds limit.Held (ids_of contracts) accounts nets p ≡ exceeds_held contracts positions p
+      → exceeds limit.Held (ids_of contracts) accounts (map excess_of nets) p ≡ are_many (held p.account)
   held_exceeds_is p a =
-      ap (λ o. exceeds_at limit.Held o (position (bytes_eq p.contract) (ids_of contracts)) nets) (position_is accounts p.account a)
-      ∙ ap are_many (nets_at p.account a)
+      ap (λ o. exceeds_at limit.Held o (position (bytes_eq p.contract) (ids_of contracts)) (map excess_of nets))
+      (position_is accounts p.account a)
+      ∙ ap (λ x. x.many) (excess_at p.account a)
 
-  -- a fault of a net is that of a record, the first of its account and contract or not
-  pub net_fault_any : limit_fault limit.Net (ids_of contracts) accounts nets positions
-      ≡ first_unfit fault.NetOutOfRange (λ earlier p. exceeds_net positions p) positions
+  -- the fault of a net is that of the first record whose net in its contract is over the limit
+  pub net_limit_is : (over : PositionRecord → Bool) → ((p : PositionRecord) → list_any (bytes_eq p.contract) (ids_of contracts) ≡ true
+      → is_over_at (position_or_len (bytes_eq p.contract) (ids_of contracts)) (held p.account) ≡ over p)
+      → limit_fault limit.Net (ids_of contracts) accounts (map excess_of nets) positions
+      ≡ first_unfit fault.NetOutOfRange (λ earlier p. over p) positions
   unfolding limit_fault
-  net_fault_any =
-      unfit_same fault.NetOutOfRange (exceeds limit.Net (ids_of contracts) accounts nets) (exceeds_net positions) positions
-      (λ k d lt. net_exceeds_is (get_or positions k d) (account_among k d lt) (contract_among k d lt))
+  net_limit_is over is =
+      unfit_same fault.NetOutOfRange (exceeds limit.Net (ids_of contracts) accounts (map excess_of nets)) over positions
+      (λ k d lt. net_exceeds_is (get_or positions k d) (account_among k d lt) (contract_among k d lt)
+      ∙ is (get_or positions k d) (contract_among k d lt))
 
-  pub held_fault_any : limit_fault limit.Held (ids_of contracts) accounts nets positions
-      ≡ first_unfit fault.TooManyHeld (λ earlier p. exceeds_held contracts positions p) positions
+  -- the fault of many contracts is that of the first record whose account holds too many
+  pub held_limit_is : limit_fault limit.Held (ids_of contracts) accounts (map excess_of nets) positions
+      ≡ first_unfit fault.TooManyHeld (λ earlier p. are_many (held p.account)) positions
   unfolding limit_fault
-  held_fault_any =
-      unfit_same fault.TooManyHeld (exceeds limit.Held (ids_of contracts) accounts nets) (exceeds_held contracts positions) positions
+  held_limit_is =
+      unfit_same fault.TooManyHeld (exceeds limit.Held (ids_of contracts) accounts (map excess_of nets))
+      (λ p. are_many (held p.account)) positions
       (λ k d lt. held_exceeds_is (get_or positions k d) (account_among k d lt))
 
+module _ (contracts : List Contract) (positions : List PositionRecord) (accounts : List (List ℕ)) (nets : List (List Holding))
+    (accounts_are : accounts ≡ accounts_of positions) (nets_are : nets ≡ map (holdings_of contracts positions) accounts)
+    (known : list_any (is_foreign (ids_of contracts)) positions ≡ false) where
+  -- a fault of a net is that of a record, the first of its account and contract or not
+  pub net_fault_any : limit_fault limit.Net (ids_of contracts) accounts (map excess_of nets) positions
+      ≡ first_unfit fault.NetOutOfRange (λ earlier p. exceeds_net positions p) positions
+  unfolding held_from
+  net_fault_any =
+      net_limit_is contracts positions (holdings_of contracts positions) accounts nets accounts_are nets_are known (exceeds_net positions)
+      (λ p c. over_here positions p.account 0 (position_or_len (bytes_eq p.contract) (ids_of contracts)) contracts p.contract c
+      (omega arith))
+
+  pub held_fault_any : limit_fault limit.Held (ids_of contracts) accounts (map excess_of nets) positions
+      ≡ first_unfit fault.TooManyHeld (λ earlier p. exceeds_held contracts positions p) positions
+  held_fault_any =
+      held_limit_is contracts positions (holdings_of contracts positions) accounts nets accounts_are nets_are known
+
   -- the first net over the limit is that of the definition
-  pub net_fault_is : limit_fault limit.Net (ids_of contracts) accounts nets positions
+  pub net_fault_is : limit_fault limit.Net (ids_of contracts) accounts (map excess_of nets) positions
       ≡ first_unfit fault.NetOutOfRange (λ earlier p. is_first_of_contract earlier p && exceeds_net positions p) positions
   net_fault_is =
       net_fault_any ∙ sym (net_of_kind positions)
 
   -- the first account that holds too many contracts is that of the definition
-  pub held_fault_is : limit_fault limit.Held (ids_of contracts) accounts nets positions
+  pub held_fault_is : limit_fault limit.Held (ids_of contracts) accounts (map excess_of nets) positions
       ≡ first_unfit fault.TooManyHeld (λ earlier p. is_first_of_account earlier p && exceeds_held contracts positions p) positions
   held_fault_is =
       held_fault_any ∙ sym (held_of_kind contracts positions)

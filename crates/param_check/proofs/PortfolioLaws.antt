@@ -2,54 +2,53 @@
 use Rattle.std.proofs.Common.{◌≡◌, ◌≢◌, ℕ, zero, suc, ◌+◌, ◌<◌, ◌≤◌, ◌⊎◌, inl}
 use Rattle.std.proofs.Common.{inr, Bool, true, false, cond, ◌||◌, ◌&&◌, List, [], ◌∷◌, ◌++◌}
 use Rattle.std.proofs.Common.{length, get_or, take, filter, map, refl, sym, ap, subst, ◌∙◌, arith}
-use Rattle.std.specs.Prelude.{nat_abs, bytes_eq, ◌==◌, nat_lt, All}
+use Rattle.std.specs.Prelude.{ℤ, nat_abs, bytes_eq, ◌==◌, nat_lt, slice_get, All, Some}
 use Rattle.std.specs.List.{list_any, enumerate_from, range_with_len}
 use Rattle.std.specs.List.Sorted.{IsStrictlyIncreasing}
 use Rattle.std.proofs.lemmas.Bool.{true≢false, false≢true, or_parts, ltb-false, eq-eqb, not_from_true}
 use Rattle.std.proofs.lemmas.List.{length-append, take_more, length-take-le}
-use Rattle.std.proofs.lemmas.List.Elements.{All-filter, All-map, All-weaker, All-same, filter_passes}
+use Rattle.std.proofs.lemmas.List.Elements.{All-cons, All-filter, All-map, All-weaker, All-same, filter_passes}
 use Rattle.std.proofs.lemmas.List.Folds.{list_any_at}
 use Rattle.span_money.specs.Numbers.{int_sum_by}
 use Rattle.span_tables.specs.Holdings.{ArePortfolio}
-use Rattle.span_tables.specs.Net.{AccountHoldings, accounts_of, net_of, is_held, holding_of, holdings_of, portfolios_of}
+use Rattle.span_tables.specs.Net.{AccountHoldings, accounts_of, net_of, is_held, holdings_of, portfolios_of}
 use Rattle.span_tables.specs.declared.limits.TheConstants.{MAX_NET, MAX_HELD}
 use Rattle.span_tables.specs.declared.portfolios.Holding.{Holding}
 use Rattle.span_tables.specs.declared.records.Contract.{Contract}
 use Rattle.span_tables.specs.declared.records.PositionRecord.{PositionRecord}
+use Rattle.span_tables.proofs.MergedLaws.{held_of_all, numbered}
 use Rattle.span_tables.proofs.NameLaws.{distinct_same}
 use Rattle.span_tables.proofs.NameLemmas.{same_name}
 use Rattle.param_check.specs.Binding.{exceeds_net, exceeds_held}
-use Rattle.param_check.specs.near.Holdings.{portfolios_from}
+use Rattle.param_check.specs.near.Holdings.{are_many, portfolios_from}
 use Rattle.param_check.proofs.AccountLaws.{bytes_eq-refl}
 use Rattle.param_check.proofs.OrderLaws.{held_rise}
 
+-- where no record is over a limit of its account and contract, no account and contract that a record has is
+pub within_from : (over : List ℕ → List ℕ → Bool) (account name : List ℕ) (xs : List PositionRecord)
+    → list_any (λ p. over p.account p.contract) xs ≡ false
+    → (filter (λ p. bytes_eq p.account account && bytes_eq p.contract name) xs ≡ []) ⊎ (over account name ≡ false)
+within_from over account name [] h = inl refl
+within_from over account name (p ∷ xs) h =
+    by (bytes_eq p.account account) (bytes_eq p.contract name) refl refl (within_from over account name xs parts.1)
+  where
+    parts : (over p.account p.contract ≡ false) × (list_any (λ q. over q.account q.contract) xs ≡ false)
+    parts = or_parts (over p.account p.contract) (list_any (λ q. over q.account q.contract) xs) h
+
+    rest : List PositionRecord
+    rest = filter (λ q. bytes_eq q.account account && bytes_eq q.contract name) xs
+
+    by : (a c : Bool) → bytes_eq p.account account ≡ a → bytes_eq p.contract name ≡ c → (rest ≡ []) ⊎ (over account name ≡ false)
+        → (cond (a && c) (p ∷ rest) rest ≡ []) ⊎ (over account name ≡ false)
+    by true true a c more =
+        inr (ap (λ z. over z name) (sym (same_name p.account account a))
+        ∙ ap (over p.account) (sym (same_name p.contract name c)) ∙ parts.0)
+    by true false a c more = more
+    by false c a d more = more
+
 module _ (positions : List PositionRecord) (account name : List ℕ) where
-  -- where no record is over the limit, no net is
-  within_from : (xs : List PositionRecord) → list_any (exceeds_net positions) xs ≡ false
-      → (filter (λ p. bytes_eq p.account account && bytes_eq p.contract name) xs ≡ [])
-      ⊎ (nat_lt MAX_NET (nat_abs (net_of positions account name)) ≡ false)
-  within_from [] h = inl refl
-  within_from (p ∷ xs) h = by (bytes_eq p.account account) (bytes_eq p.contract name) refl refl (within_from xs parts.1)
-    where
-      parts : (exceeds_net positions p ≡ false) × (list_any (exceeds_net positions) xs ≡ false)
-      parts = or_parts (exceeds_net positions p) (list_any (exceeds_net positions) xs) h
-
-      rest : List PositionRecord
-      rest = filter (λ q. bytes_eq q.account account && bytes_eq q.contract name) xs
-
-      over : Bool
-      over = nat_lt MAX_NET (nat_abs (net_of positions account name))
-
-      by : (a c : Bool) → bytes_eq p.account account ≡ a → bytes_eq p.contract name ≡ c → (rest ≡ []) ⊎ (over ≡ false)
-          → (cond (a && c) (p ∷ rest) rest ≡ []) ⊎ (over ≡ false)
-      by true true a c more =
-          inr (ap (λ z. nat_lt MAX_NET (nat_abs (net_of positions z name))) (sym (same_name p.account account a))
-          ∙ ap (λ z. nat_lt MAX_NET (nat_abs (net_of positions p.account z))) (sym (same_name p.contract name c)) ∙ parts.0)
-      by true false a c more = more
-      by false c a d more = more
-
   pub net_within : list_any (exceeds_net positions) positions ≡ false → nat_abs (net_of positions account name) ≤ MAX_NET
-  net_within h = by (within_from positions h)
+  net_within h = by (within_from (λ a c. nat_lt MAX_NET (nat_abs (net_of positions a c))) account name positions h)
     where
       by : (filter (λ p. bytes_eq p.account account && bytes_eq p.contract name) positions ≡ [])
           ⊎ (nat_lt MAX_NET (nat_abs (net_of positions account name)) ≡ false) → nat_abs (net_of positions account name) ≤ MAX_NET
@@ -58,57 +57,78 @@ module _ (positions : List PositionRecord) (account name : List ℕ) where
           ap (λ xs. nat_abs (int_sum_by (λ (p : PositionRecord). p.quantity) xs)) none in omega (arith, zero_net)
       by (inr e) = ltb-false MAX_NET (nat_abs (net_of positions account name)) e
 
--- where no record's account holds too many, no account does
+-- where no record's account holds too many, no account that a record has does
+pub few_among : (held : List ℕ → List Holding) (account : List ℕ) (xs : List PositionRecord)
+    → list_any (bytes_eq account) (map (λ p. p.account) xs) ≡ true
+    → list_any (λ p. are_many (held p.account)) xs ≡ false → length (held account) ≤ MAX_HELD
+few_among held account [] among h = absurd (false≢true among)
+few_among held account (p ∷ xs) among h =
+    by (bytes_eq account p.account) refl among (λ e. few_among held account xs e parts.1)
+  where
+    parts : (are_many (held p.account) ≡ false) × (list_any (λ q. are_many (held q.account)) xs ≡ false)
+    parts = or_parts (are_many (held p.account)) (list_any (λ q. are_many (held q.account)) xs) h
+
+    by : (b : Bool) → bytes_eq account p.account ≡ b → (b || list_any (bytes_eq account) (map (λ q. q.account) xs)) ≡ true
+        → (list_any (bytes_eq account) (map (λ q. q.account) xs) ≡ true → length (held account) ≤ MAX_HELD)
+        → length (held account) ≤ MAX_HELD
+    by true e among more =
+        let few : length (held p.account) ≤ MAX_HELD = ltb-false MAX_HELD (length (held p.account)) parts.0 in
+        subst (λ a. length (held a) ≤ MAX_HELD) (sym (same_name account p.account e)) few
+    by false e among more = more among
+
 pub few_from : (contracts : List Contract) (positions : List PositionRecord) (account : List ℕ) (xs : List PositionRecord)
     → list_any (bytes_eq account) (map (λ p. p.account) xs) ≡ true
     → list_any (exceeds_held contracts positions) xs ≡ false → length (holdings_of contracts positions account) ≤ MAX_HELD
-few_from contracts positions account [] among h = absurd (false≢true among)
-few_from contracts positions account (p ∷ xs) among h =
-    by (bytes_eq account p.account) refl among (λ e. few_from contracts positions account xs e parts.1)
-  where
-    parts : (exceeds_held contracts positions p ≡ false) × (list_any (exceeds_held contracts positions) xs ≡ false)
-    parts = or_parts (exceeds_held contracts positions p) (list_any (exceeds_held contracts positions) xs) h
+few_from contracts positions account xs among h = few_among (holdings_of contracts positions) account xs among h
 
-    by : (b : Bool) → bytes_eq account p.account ≡ b → (b || list_any (bytes_eq account) (map (λ q. q.account) xs)) ≡ true
-        → (list_any (bytes_eq account) (map (λ q. q.account) xs) ≡ true
-        → length (holdings_of contracts positions account) ≤ MAX_HELD)
-        → length (holdings_of contracts positions account) ≤ MAX_HELD
-    by true e among more =
-        let few : length (holdings_of contracts positions p.account) ≤ MAX_HELD =
-        ltb-false MAX_HELD (length (holdings_of contracts positions p.account)) parts.0 in
-        subst (λ a. length (holdings_of contracts positions a) ≤ MAX_HELD) (sym (same_name account p.account e)) few
-    by false e among more = more among
-
-module _ (contracts : List Contract) (positions : List PositionRecord) (account : List ℕ) where
+module _ (net : ℕ → Contract → ℤ) (contracts : List Contract) where
   numbers_from : (a : ℕ) (xs : List Contract)
-      → map (λ h. h.contract) (map (holding_of positions account) (enumerate_from a xs)) ≡ range_with_len a (length xs)
+      → map (λ h. h.contract) (map (numbered net) (enumerate_from a xs)) ≡ range_with_len a (length xs)
   numbers_from a [] = refl
   numbers_from a (x ∷ xs) = ap (λ ns. a ∷ ns) (numbers_from (a + 1) xs)
 
   all : List Holding
-  all = map (holding_of positions account) (enumerate_from 0 contracts)
+  all = map (numbered net) (enumerate_from 0 contracts)
 
-  rising : IsStrictlyIncreasing (map (λ h. h.contract) (holdings_of contracts positions account))
+  pub all_rise : IsStrictlyIncreasing (map (λ h. h.contract) (held_of_all net 0 contracts))
   unfolding all
-  rising = held_rise all (length contracts) (numbers_from 0 contracts)
+  all_rise = held_rise all (length contracts) (numbers_from 0 contracts)
 
   not_zero : (h : Holding) → is_held h ≡ true → nat_abs h.net ≢ 0
   not_zero h e = λ z. true≢false (sym e ∙ not_from_true (nat_abs h.net == 0) (eq-eqb (nat_abs h.net) 0 z))
 
-  -- an account's holdings under no fault
-  pub portfolio_holds : list_any (exceeds_net positions) positions ≡ false
-      → length (holdings_of contracts positions account) ≤ MAX_HELD → ArePortfolio (holdings_of contracts positions account)
+  each_within : (a : ℕ) (xs : List Contract)
+      → ((k : ℕ) (x : Contract) → slice_get xs k ≡ Some x → nat_abs (net (a + k) x) ≤ MAX_NET)
+      → All (λ h. nat_abs h.net ≤ MAX_NET) (map (numbered net) (enumerate_from a xs))
+  each_within a [] h = λ k d lt. absurd (omega (arith, lt))
+  each_within a (x ∷ xs) h =
+      let zero_more : a + 0 ≡ a = omega arith in
+      All-cons (λ (y : Holding). nat_abs y.net ≤ MAX_NET) (numbered net (a, x)) (map (numbered net) (enumerate_from (a + 1) xs))
+      (subst (λ n. nat_abs (net n x) ≤ MAX_NET) zero_more (h 0 x refl))
+      (each_within (a + 1) xs (λ k y e.
+      let up : a + suc k ≡ a + 1 + k = omega arith in subst (λ n. nat_abs (net n y) ≤ MAX_NET) up (h (suc k) y e)))
+
+  -- what is held within the limits is a portfolio
+  pub held_holds : ((k : ℕ) (x : Contract) → slice_get contracts k ≡ Some x → nat_abs (net k x) ≤ MAX_NET)
+      → length (held_of_all net 0 contracts) ≤ MAX_HELD → ArePortfolio (held_of_all net 0 contracts)
   unfolding all
-  portfolio_holds h few = record {
+  held_holds within few = record {
     few = few;
     nets = All-filter is_held (λ (x : Holding). nat_abs x.net ≤ MAX_NET) all
-        (All-map (λ (x : Holding). nat_abs x.net ≤ MAX_NET) (holding_of positions account) (enumerate_from 0 contracts)
-        (λ k d lt. net_within positions account ((get_or (enumerate_from 0 contracts) k d).1).id h));
+        (each_within 0 contracts (λ k x e.
+        let same : k ≡ 0 + k = omega arith in subst (λ n. nat_abs (net n x) ≤ MAX_NET) same (within k x e)));
     held =
         All-weaker (λ (x : Holding). is_held x ≡ true) (λ (x : Holding). nat_abs x.net ≢ 0) not_zero (filter is_held all)
         (filter_passes is_held all);
-    rising = rising;
+    rising = all_rise;
   }
+
+-- an account's holdings under no fault
+pub portfolio_holds : (contracts : List Contract) (positions : List PositionRecord) (account : List ℕ)
+    → list_any (exceeds_net positions) positions ≡ false
+    → length (holdings_of contracts positions account) ≤ MAX_HELD → ArePortfolio (holdings_of contracts positions account)
+portfolio_holds contracts positions account h few =
+    held_holds (λ k x. net_of positions account x.id) contracts (λ k x e. net_within positions account x.id h) few
 
 module _ (contracts : List Contract) (positions : List PositionRecord) (accounts : List (List ℕ)) where
   -- the holdings of all accounts under no fault

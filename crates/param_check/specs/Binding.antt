@@ -31,11 +31,15 @@ exceeds_net all p = nat_lt MAX_NET (nat_abs (net_of all p.account p.contract))
 abbrev pub exceeds_held : List Contract → List PositionRecord → PositionRecord → Bool
 exceeds_held contracts all p = nat_lt MAX_HELD (length (holdings_of contracts all p.account))
 
--- the first record with a fault, under the fault's name and with the record's account
+-- the first record with a fault, under the fault's name and with a name of the record
+abbrev pub first_unfit_by : {R F : Type 0} → (R → List ℕ) → (ℕ → List ℕ → F) → (List R → R → Bool) → List R → Option F
+first_unfit_by name_of fault unfit all =
+    first_fault (λ earlier r. if unfit earlier r then Some (λ at. fault at (name_of r)) else None) all
+
+-- the first record of positions with a fault, under the fault's name and with the record's account
 abbrev pub first_unfit : (ℕ → List ℕ → BindFault) → (List PositionRecord → PositionRecord → Bool)
     → List PositionRecord → Option BindFault
-first_unfit fault unfit all =
-    first_fault (λ earlier p. if unfit earlier p then Some (λ at. fault at p.account) else None) all
+first_unfit fault unfit all = first_unfit_by (λ (p : PositionRecord). p.account) fault unfit all
 
 -- the fault of positions: an unknown contract in any record, then a net out of range, then too many contracts held
 unfoldable pub bind_fault : List Contract → List PositionRecord → Option BindFault

@@ -1,3 +1,4 @@
 pub mod Binding
 pub mod CheckFaults
+pub mod OrderBinding
 pub mod near

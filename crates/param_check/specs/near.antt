@@ -3,6 +3,7 @@ pub mod Holdings
 pub mod Keys
 pub mod Ledgers
 pub mod Nets
+pub mod Orders
 pub mod Outcomes
 pub mod Overlaps
 pub mod RecordRules

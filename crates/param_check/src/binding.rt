@@ -1,14 +1,14 @@
 //! The binding of positions to tables.
-mod contract_ids;
-mod contract_sums;
-mod ledgers;
-mod nets;
-mod over_limits;
+pub(crate) mod contract_ids;
+pub(crate) mod contract_sums;
+pub(crate) mod ledgers;
+pub(crate) mod nets;
+pub(crate) mod over_limits;
 
-ghost use Rattle.std.specs.Prelude.{◌≡◌, false, None, length, bytes_eq, All, IfOk};
+ghost use Rattle.std.specs.Prelude.{◌≡◌, false, None, length, bytes_eq, map, All, IfOk};
 ghost use Rattle.param_check.specs.Binding.{bindings_of, is_memory};
 ghost use Rattle.param_check.specs.declared.binding.over_limits.Limit.TheVariants as limit;
-ghost use Rattle.param_check.specs.near.Holdings.{limit_fault, portfolios_from, portfolios_or_fault};
+ghost use Rattle.param_check.specs.near.Holdings.{excess_of, limit_fault, portfolios_from, portfolios_or_fault};
 ghost use Rattle.span_tables.specs.Gives.{Gives};
 ghost use Rattle.span_tables.specs.Holdings.{ArePortfolio};
 ghost use Rattle.span_tables.specs.Names.{has_repeat};
@@ -17,7 +17,7 @@ ghost use Rattle.span_tables.specs.Net.{accounts_of};
 use crate::binding::contract_ids::ids_of;
 use crate::binding::ledgers::ledgers_of;
 use crate::binding::nets::{AccountNets, all_nets};
-use crate::binding::over_limits::{Limit, limit_fault};
+use crate::binding::over_limits::{Limit, excesses_of, limit_fault};
 use crate::faults::BindFault;
 use indexmap::IndexSet;
 use span_tables::name::Name;
@@ -53,16 +53,17 @@ fn portfolios_or_fault(
     positions: &RawPositions,
 ) -> Result<Portfolios, BindFault>
     requires as_many { length nets.items ≡ length (accounts_of positions.now) }
-    requires fit { limit_fault limit.Net numbers.now.keys (accounts_of positions.now) nets.items positions.now ≡ None
-        → limit_fault limit.Held numbers.now.keys (accounts_of positions.now) nets.items positions.now ≡ None
+    requires fit { limit_fault limit.Net numbers.now.keys (accounts_of positions.now) (map excess_of nets.items) positions.now ≡ None
+        → limit_fault limit.Held numbers.now.keys (accounts_of positions.now) (map excess_of nets.items) positions.now ≡ None
         → All ArePortfolio nets.items }
     ensures { Gives is_memory result
         (portfolios_or_fault numbers.now.keys (accounts_of positions.now) nets.items positions.now) }
 {
-    if let Some(fault) = limit_fault(Limit::Net, numbers, &nets, positions) {
+    let excesses = excesses_of(alloc, &nets)?;
+    if let Some(fault) = limit_fault(Limit::Net, numbers, &excesses, positions) {
         return Err(fault);
     }
-    if let Some(fault) = limit_fault(Limit::Held, numbers, &nets, positions) {
+    if let Some(fault) = limit_fault(Limit::Held, numbers, &excesses, positions) {
         return Err(fault);
     }
     let all = portfolios_from(alloc, positions.accounts(), nets)?;

@@ -1,6 +1,7 @@
 //! Which rule a file breaks. `at` is a record's number, from 1.
 ghost use Rattle.param_check.specs.declared.faults.BindFault.TheVariants as bind;
 ghost use Rattle.param_check.specs.declared.faults.CheckFault.TheVariants as check;
+ghost use Rattle.param_check.specs.declared.faults.OrderBindFault.TheVariants as order;
 ghost use Rattle.std.specs.Prelude.{◌≡◌};
 
 use span_tables::name::Name;
@@ -65,6 +66,23 @@ pub enum BindFault {
     OutOfMemory,
 }
 
+/// Why orders do not fit the tables and the portfolios of accounts.
+#[derive(Debug, Drop, PartialEq, Eq, Error)]
+pub enum OrderBindFault {
+    /// B1: a contract that the tables do not have.
+    #[error("B1 UnknownContract at record {at} order {order}")]
+    UnknownContract { at: usize, order: Name },
+    /// B2: a net quantity of the account, with the order, out of range.
+    #[error("B2 NetOutOfRange at record {at} order {order}")]
+    NetOutOfRange { at: usize, order: Name },
+    /// B3: too many contracts held, with the order.
+    #[error("B3 TooManyHeld at record {at} order {order}")]
+    TooManyHeld { at: usize, order: Name },
+    /// Want of memory.
+    #[error("memory")]
+    OutOfMemory,
+}
+
 impl From<AllocError> for CheckFault {
     ghost from_gives = { λ _ e. e ≡ check.OutOfMemory };
 
@@ -78,5 +96,13 @@ impl From<AllocError> for BindFault {
 
     fn from(_error: AllocError) -> BindFault {
         BindFault::OutOfMemory
+    }
+}
+
+impl From<AllocError> for OrderBindFault {
+    ghost from_gives = { λ _ e. e ≡ order.OutOfMemory };
+
+    fn from(_error: AllocError) -> OrderBindFault {
+        OrderBindFault::OutOfMemory
     }
 }

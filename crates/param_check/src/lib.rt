@@ -1,8 +1,11 @@
-//! The checker of parameter files, and the binding of positions to tables.
+//! The checker of parameter files, and the binding of positions and of orders to tables.
 #![tactic(auto)]
 
 pub mod binding;
 pub mod check;
 pub mod faults;
 pub mod laws;
+pub mod order_laws;
+mod order_worked;
+pub mod orders;
 mod worked;

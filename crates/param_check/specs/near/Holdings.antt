@@ -1,5 +1,5 @@
 -- The nets of all accounts, and the faults found in them.
-use Rattle.std.specs.Prelude.{ℕ, Bool, false, ◌&&◌, ◌==◌, nat_lt, List, [], length, map, zip}
+use Rattle.std.specs.Prelude.{ℕ, Bool, false, ◌&&◌, ◌==◌, nat_lt, List, [], filter, length, map, zip}
 use Rattle.std.specs.Prelude.{Option, Some, None, Result, position, slice_index_or, bytes_eq, nat_abs}
 use Rattle.std.specs.List.{list_any}
 use Rattle.std.specs.Option.{option_or}
@@ -10,6 +10,7 @@ use Rattle.span_tables.specs.declared.portfolios.Holding.{Holding}
 use Rattle.span_tables.specs.declared.records.Contract.{Contract}
 use Rattle.span_tables.specs.declared.records.PositionRecord.{PositionRecord}
 use Rattle.param_check.specs.Binding.{first_unfit}
+use Rattle.param_check.specs.declared.binding.over_limits.Excess.{Excess}
 use Rattle.param_check.specs.declared.binding.over_limits.Limit.{Limit}
 use Rattle.param_check.specs.declared.binding.over_limits.Limit.TheVariants as limit
 use Rattle.param_check.specs.declared.faults.BindFault.{BindFault}
@@ -31,35 +32,40 @@ is_over_at c holdings = list_any (λ h. (h.contract == c) && is_over h) holdings
 abbrev pub are_many : List Holding → Bool
 are_many holdings = nat_lt MAX_HELD (length holdings)
 
+-- what of what is held is over a limit: the nets that are, and whether more contracts are held than may be
+abbrev pub excess_of : List Holding → Excess
+excess_of holdings = record { over = filter is_over holdings; many = are_many holdings }
+
 -- some net of what is held, or the number of contracts, exceeds a limit
-abbrev pub exceeds_any : Limit → List Holding → Bool
-exceeds_any limit.Net holdings = list_any is_over holdings
-exceeds_any limit.Held holdings = are_many holdings
+abbrev pub exceeds_any : Limit → Excess → Bool
+exceeds_any limit.Net excess = list_any is_over excess.over
+exceeds_any limit.Held excess = excess.many
 
 -- what is held exceeds a limit at a contract, which has a number where it is known
-abbrev pub exceeds_in : Limit → Option ℕ → List Holding → Bool
-exceeds_in limit.Net (Some c) holdings = is_over_at c holdings
-exceeds_in limit.Net None holdings = false
-exceeds_in limit.Held c holdings = are_many holdings
+abbrev pub exceeds_in : Limit → Option ℕ → Excess → Bool
+exceeds_in limit.Net (Some c) excess = is_over_at c excess.over
+exceeds_in limit.Net None excess = false
+exceeds_in limit.Held c excess = excess.many
 
 -- what an account holds exceeds a limit at a contract, by the places of both
-abbrev pub exceeds_at : Limit → Option ℕ → Option ℕ → List (List Holding) → Bool
-exceeds_at limit (Some a) c nets = exceeds_in limit c (slice_index_or nets a [])
-exceeds_at limit None c nets = false
+abbrev pub exceeds_at : Limit → Option ℕ → Option ℕ → List Excess → Bool
+exceeds_at limit (Some a) c excesses = exceeds_in limit c (slice_index_or excesses a (excess_of []))
+exceeds_at limit None c excesses = false
 
 -- a record exceeds a limit
-abbrev pub exceeds : Limit → List (List ℕ) → List (List ℕ) → List (List Holding) → PositionRecord → Bool
-exceeds limit ids accounts nets p = exceeds_at limit (position (bytes_eq p.account) accounts) (position (bytes_eq p.contract) ids) nets
+abbrev pub exceeds : Limit → List (List ℕ) → List (List ℕ) → List Excess → PositionRecord → Bool
+exceeds limit ids accounts excesses p =
+    exceeds_at limit (position (bytes_eq p.account) accounts) (position (bytes_eq p.contract) ids) excesses
 
 -- the fault of a record that exceeds a limit
 abbrev pub fault_of : Limit → ℕ → List ℕ → BindFault
 fault_of limit.Net = fault.NetOutOfRange
 fault_of limit.Held = fault.TooManyHeld
 
--- the fault of the first record that exceeds a limit
-unfoldable pub limit_fault : Limit → List (List ℕ) → List (List ℕ) → List (List Holding) → List PositionRecord → Option BindFault
-limit_fault limit ids accounts nets positions =
-    first_unfit (fault_of limit) (λ earlier p. exceeds limit ids accounts nets p) positions
+-- the fault of the first record that exceeds a limit, by what each account has over it
+unfoldable pub limit_fault : Limit → List (List ℕ) → List (List ℕ) → List Excess → List PositionRecord → Option BindFault
+limit_fault limit ids accounts excesses positions =
+    first_unfit (fault_of limit) (λ earlier p. exceeds limit ids accounts excesses p) positions
 
 -- each account with its nets
 abbrev pub portfolios_from : List (List ℕ) → List (List Holding) → List AccountHoldings
@@ -70,5 +76,6 @@ unfoldable pub portfolios_or_fault : List (List ℕ) → List (List ℕ) → Lis
     → Result (List AccountHoldings) BindFault
 portfolios_or_fault ids accounts nets positions =
     ok_unless
-    (option_or (limit_fault limit.Net ids accounts nets positions) (limit_fault limit.Held ids accounts nets positions))
+    (option_or (limit_fault limit.Net ids accounts (map excess_of nets) positions)
+    (limit_fault limit.Held ids accounts (map excess_of nets) positions))
     (portfolios_from accounts nets)

@@ -2,6 +2,7 @@
 use Rattle.std.specs.Prelude.{◌≡◌, ℕ, ℤ, Bool, false, not, if◌then◌else◌, List, map, Option, Some, None, bytes_eq}
 use Rattle.std.specs.List.{list_any, position_or_len}
 use Rattle.span_tables.specs.Net.{accounts_of}
+use Rattle.span_tables.specs.declared.portfolios.Holding.{Holding}
 use Rattle.span_tables.specs.declared.records.PositionRecord.{PositionRecord}
 use Rattle.param_check.specs.Binding.{first_unfit}
 use Rattle.param_check.specs.declared.faults.BindFault.{BindFault}
@@ -18,6 +19,13 @@ unfoldable pub known_entry : List (List ℕ) → List ℕ → ℤ → Option Ent
 known_entry ids contract quantity =
     if not (list_any (bytes_eq contract) ids) then None
     else Some (record { contract = position_or_len (bytes_eq contract) ids; quantity = quantity })
+
+-- what is held, as entries
+abbrev pub held_entry : Holding → Entry
+held_entry h = record { contract = h.contract; quantity = h.net }
+
+abbrev pub held_entries : List Holding → List Entry
+held_entries holdings = map held_entry holdings
 
 -- the first record whose contract is not among the ids
 unfoldable pub foreign_fault : List (List ℕ) → List PositionRecord → Option BindFault

@@ -6,7 +6,9 @@ use Rattle.span_tables.specs.declared.records.ProductKind.TheVariants as product
 use Rattle.span_tables.specs.declared.records.Side.{Side}
 use Rattle.span_tables.specs.declared.records.Side.TheVariants as side
 use Rattle.span_tables.specs.declared.limits.TheConstants.{SCENARIOS}
+use Rattle.span_tables.specs.Net.{AccountHoldings}
 use Rattle.span_tables.specs.declared.records.Contract.{Contract}
+use Rattle.span_tables.specs.declared.records.OrderRecord.{OrderRecord}
 use Rattle.span_tables.specs.declared.records.PositionRecord.{PositionRecord}
 use Rattle.span_tables.specs.declared.records.Record.{Record}
 use Rattle.span_tables.specs.declared.records.Record.TheVariants as record_of
@@ -18,6 +20,14 @@ contract_of id = contract product.Future id (codes "AA") 202503 (repeat SCENARIO
 -- a position
 abbrev pub position_of : List ℕ → List ℕ → ℤ → PositionRecord
 position_of account contract quantity = record { account = account; contract = contract; quantity = quantity }
+
+-- a record of an order
+abbrev pub order_of : List ℕ → List ℕ → List ℕ → ℤ → OrderRecord
+order_of order account contract quantity = record { order = order; account = account; contract = contract; quantity = quantity }
+
+-- an account that holds one contract, the one of a number
+abbrev pub portfolio_of : List ℕ → ℕ → ℤ → AccountHoldings
+portfolio_of account contract net = record { account = account; holdings = record { contract = contract; net = net } ∷ [] }
 
 -- a tier of one quarter
 abbrev pub tier_sample : List ℕ → ℕ → ℕ → Record

@@ -3,12 +3,14 @@ ghost use Rattle.std.specs.Prelude.{◌≡◌, ◌≤◌, ◌++◌, ◌∷◌, [
 ghost use Rattle.std.specs.Prelude.{nat_abs, replicate, All, IfOk, IfSome, OnOk, MatchBool, MatchResult};
 ghost use Rattle.span_tables.specs.declared.limits.TheConstants.{MAX_QUANTITY};
 ghost use Rattle.param_check.specs.Binding.{is_memory};
-ghost use Rattle.param_check.specs.near.Ledgers.{foreign_fault, known_entry, AreLedgers};
+ghost use Rattle.param_check.specs.near.Ledgers.{foreign_fault, held_entries, known_entry, AreLedgers};
+ghost use Rattle.span_tables.specs.Holdings.{ArePortfolio};
 
 use crate::binding::nets::Entry;
 use crate::faults::BindFault;
 use indexmap::IndexSet;
 use span_tables::name::Name;
+use span_tables::portfolios::Holding;
 use span_tables::raw::RawPositions;
 use span_tables::records::NumberedPosition;
 use std::alloc::{AllocError, Global};
@@ -47,6 +49,37 @@ impl Ledger {
     {
         self.entries.push(entry)?;
         Ok(())
+    }
+
+    // What is held, as entries, with room for so many more.
+    fn of_held(alloc: Global, holdings: &[Holding], more: usize) -> Result<Ledger, AllocError>
+        requires { ArePortfolio holdings.now }
+        ensures { IfOk result (λ ledger. ledger ≡ held_entries holdings.now) }
+    {
+        let mut ledger = Ledger {
+            entries: Vec::with_capacity(alloc, holdings.len().saturating_add(more))?,
+        };
+        for holding in holdings {
+            ledger.push(Entry {
+                contract: holding.contract,
+                quantity: holding.net,
+            })?;
+        }
+        Ok(ledger)
+    }
+
+    /// What is held, as entries, and the entries of an order behind them.
+    pub(crate) fn after(
+        alloc: Global,
+        holdings: &[Holding],
+        order: &Ledger,
+    ) -> Result<Ledger, AllocError>
+        requires { ArePortfolio holdings.now }
+        ensures { IfOk result (λ ledger. ledger ≡ held_entries holdings.now ++ order.now) }
+    {
+        let mut ledger = Ledger::of_held(alloc, holdings, order.entries.len())?;
+        ledger.entries.extend_from_slice(&order.entries)?;
+        Ok(ledger)
     }
 
     /// The entries in their order.

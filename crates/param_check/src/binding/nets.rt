@@ -1,13 +1,15 @@
 //! The net quantities of one account.
 ghost use Rattle.std.specs.Prelude.{◌≡◌, ◌<◌, ◌≤◌, ◌+◌, ◌^◌, ◌+ℤ◌, All};
-ghost use Rattle.std.specs.Prelude.{length, map, nat_abs, replicate, pos, slice_index_or, slice_set, IfOk};
+ghost use Rattle.std.specs.Prelude.{filter, length, map, nat_abs, replicate, pos, slice_index_or, slice_set, IfOk};
 ghost use Rattle.std.specs.List.{range_with_len};
+ghost use Rattle.param_check.specs.near.Holdings.{is_over};
 ghost use Rattle.param_check.specs.near.Nets.{entry_net};
 ghost use Rattle.param_check.specs.near.Sums.{kept_holdings};
 ghost use Rattle.span_tables.specs.declared.limits.TheConstants.{MAX_QUANTITY};
 
 use crate::binding::contract_sums::Sums;
 use crate::binding::ledgers::Ledger;
+use span_tables::limits::MAX_NET;
 use span_tables::portfolios::Holding;
 use std::alloc::{AllocError, Global};
 use std::marker::Model;
@@ -38,6 +40,24 @@ impl Model for AccountNets {
     ghost invariant = { λ n. IsStrictlyIncreasing (map (λ h. h.contract) n.holdings.items) };
 }
 
+/// Whether a net is over the limit either way.
+pub(crate) fn is_over(holding: &Holding) -> bool
+    ensures { result ≡ is_over holding.now }
+{
+    holding.net.unsigned_abs() > MAX_NET
+}
+
+// The nets that are over the limit either way.
+fn all_over(alloc: Global, holdings: &[Holding]) -> Result<Vec<Holding>, AllocError>
+    ensures { IfOk result (λ over. over.items ≡ filter is_over holdings.now) }
+{
+    holdings
+        .iter()
+        .filter(|holding| is_over(holding))
+        .copied()
+        .collect(alloc)
+}
+
 impl AccountNets {
     ghost use Rattle.std.specs.Prelude.{map};
     ghost use Rattle.std.specs.List.Sorted.{IsStrictlyIncreasing};
@@ -48,6 +68,14 @@ impl AccountNets {
         ensures rising { IsStrictlyIncreasing (map (λ h. h.contract) self.now) }
     {
         &self.holdings
+    }
+
+    /// The nets that are over the limit either way.
+    pub(crate) fn over(&self, alloc: Global) -> Result<AccountNets, AllocError>
+        ensures { IfOk result (λ nets. nets ≡ filter is_over self.now) }
+    {
+        let holdings = all_over(alloc, &self.holdings)?;
+        Ok(AccountNets { holdings })
     }
 
     /// The holdings by rising contract number, handed over.
@@ -79,8 +107,12 @@ fn add_all(nets: &mut Sums, entries: &[Entry])
     }
 }
 
-// What an account of these entries holds, by sums that have a place for each contract.
-fn account_nets(alloc: Global, sums: &mut Sums, ledger: &Ledger) -> Result<AccountNets, AllocError>
+/// What an account of these entries holds, by sums that have a place for each contract.
+pub(crate) fn account_nets(
+    alloc: Global,
+    sums: &mut Sums,
+    ledger: &Ledger,
+) -> Result<AccountNets, AllocError>
     ensures nets { IfOk result (λ nets. nets ≡ kept_holdings (length sums.old) ledger.now) }
     ensures places { length sums.new ≡ length sums.old }
 {

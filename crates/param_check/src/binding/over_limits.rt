@@ -1,19 +1,20 @@
 //! The records whose nets or whose accounts exceed a limit.
-ghost use Rattle.std.specs.Prelude.{◌≡◌, Some, bytes_eq, map, position};
+ghost use Rattle.std.specs.Prelude.{◌≡◌, Some, bytes_eq, map, position, IfOk};
 ghost use Rattle.std.specs.List.Sorted.{IsStrictlyIncreasing};
 ghost use Rattle.std.specs.List.{list_any};
-ghost use Rattle.param_check.specs.near.Holdings.{are_many, exceeds_any, exceeds_at, exceeds_in, fault_of};
+ghost use Rattle.param_check.specs.near.Holdings.{are_many, exceeds_any, exceeds_at, exceeds_in, excess_of, fault_of};
 ghost use Rattle.param_check.specs.near.Holdings.{is_over, is_over_at, limit_fault};
 ghost use Rattle.span_tables.specs.Net.{accounts_of};
 
-use crate::binding::nets::AccountNets;
+use crate::binding::nets::{AccountNets, is_over};
 use crate::faults::BindFault;
 use indexmap::IndexSet;
-use span_tables::limits::{MAX_HELD, MAX_NET};
+use span_tables::limits::MAX_HELD;
 use span_tables::name::Name;
 use span_tables::portfolios::Holding;
 use span_tables::raw::RawPositions;
 use span_tables::records::NumberedPosition;
+use std::alloc::{AllocError, Global};
 
 /// What of an account has a limit.
 #[derive(Clone, Copy)]
@@ -24,11 +25,13 @@ pub(crate) enum Limit {
     Held,
 }
 
-// Whether a net is over the limit either way.
-fn is_over(holding: &Holding) -> bool
-    ensures { result ≡ is_over holding.now }
-{
-    holding.net.unsigned_abs() > MAX_NET
+/// What of what an account holds is over a limit.
+#[derive(Drop)]
+pub(crate) struct Excess {
+    // The nets that are.
+    over: AccountNets,
+    // Whether more contracts are held than may be.
+    many: bool,
 }
 
 // Whether some net is over the limit.
@@ -56,32 +59,51 @@ fn are_many(holdings: &[Holding]) -> bool
     holdings.len() > MAX_HELD
 }
 
+/// What of what an account holds is over a limit.
+pub(crate) fn excess_of(alloc: Global, nets: &AccountNets) -> Result<Excess, AllocError>
+    ensures { IfOk result (λ excess. excess ≡ excess_of nets.now) }
+{
+    let over = nets.over(alloc)?;
+    let many = are_many(nets.as_slice());
+    Ok(Excess { over, many })
+}
+
+/// What of what each account holds is over a limit.
+pub(crate) fn excesses_of(alloc: Global, nets: &[AccountNets]) -> Result<Vec<Excess>, AllocError>
+    ensures { IfOk result (λ excesses. excesses.items ≡ map excess_of nets.now) }
+{
+    let mut excesses = Vec::with_capacity(alloc, nets.len())?;
+    for account in nets {
+        excesses.push(excess_of(alloc, account)?)?;
+    }
+    Ok(excesses)
+}
+
 // Whether some net of what is held, or the number of contracts, exceeds a limit.
-fn exceeds_any(limit: Limit, holdings: &[Holding]) -> bool
-    ensures { result ≡ exceeds_any limit holdings.now }
+fn exceeds_any(limit: Limit, excess: &Excess) -> bool
+    ensures { result ≡ exceeds_any limit excess.now }
 {
     match limit {
-        Limit::Net => has_over(holdings),
-        Limit::Held => are_many(holdings),
+        Limit::Net => has_over(excess.over.as_slice()),
+        Limit::Held => excess.many,
     }
 }
 
 // Whether what some account holds exceeds a limit.
-fn some_exceeds(limit: Limit, nets: &[AccountNets]) -> bool
-    ensures { result ≡ list_any (exceeds_any limit) nets.now }
+fn some_exceeds(limit: Limit, excesses: &[Excess]) -> bool
+    ensures { result ≡ list_any (exceeds_any limit) excesses.now }
 {
-    nets.iter()
-        .any(|account| exceeds_any(limit, account.as_slice()))
+    excesses.iter().any(|excess| exceeds_any(limit, excess))
 }
 
 // Whether what an account holds exceeds a limit at a contract, which has a number where it is known.
-fn exceeds_in(limit: Limit, account: &AccountNets, contract: Option<usize>) -> bool
-    ensures { result ≡ exceeds_in limit contract account.now }
+fn exceeds_in(limit: Limit, excess: &Excess, contract: Option<usize>) -> bool
+    ensures { result ≡ exceeds_in limit contract excess.now }
 {
     match (limit, contract) {
-        (Limit::Net, Some(contract)) => is_over_at(account.as_slice(), contract),
+        (Limit::Net, Some(contract)) => is_over_at(excess.over.as_slice(), contract),
         (Limit::Net, None) => false,
-        (Limit::Held, _) => are_many(account.as_slice()),
+        (Limit::Held, _) => excess.many,
     }
 }
 
@@ -90,14 +112,14 @@ fn exceeds_in(limit: Limit, account: &AccountNets, contract: Option<usize>) -> b
 fn exceeds_at(
     limit: Limit,
     numbers: &IndexSet<Name>,
-    nets: &[AccountNets],
+    excesses: &[Excess],
     numbered: &NumberedPosition,
 ) -> bool
     ensures { result ≡ exceeds_at limit (Some numbered.now.account)
-        (position (bytes_eq numbered.now.contract) numbers.now.keys) nets.now }
+        (position (bytes_eq numbered.now.contract) numbers.now.keys) excesses.now }
 {
-    match nets.get(numbered.account as usize) {
-        Some(account) => exceeds_in(limit, account, numbers.get_index_of(&numbered.contract)),
+    match excesses.get(numbered.account as usize) {
+        Some(excess) => exceeds_in(limit, excess, numbers.get_index_of(&numbered.contract)),
         None => false,
     }
 }
@@ -112,21 +134,21 @@ fn fault_of(limit: Limit, at: usize, account: Name) -> BindFault
     }
 }
 
-/// The fault of the first record that exceeds a limit.
+/// The fault of the first record that exceeds a limit, by what each account has over it.
 pub(crate) fn limit_fault(
     limit: Limit,
     numbers: &IndexSet<Name>,
-    nets: &[AccountNets],
+    excesses: &[Excess],
     positions: &RawPositions,
 ) -> Option<BindFault>
-    ensures { result ≡ limit_fault limit numbers.now.keys (accounts_of positions.now) nets.now positions.now }
+    ensures { result ≡ limit_fault limit numbers.now.keys (accounts_of positions.now) excesses.now positions.now }
 {
-    if !some_exceeds(limit, nets) {
+    if !some_exceeds(limit, excesses) {
         return None;
     }
     let accounts = positions.accounts();
     for (number, position) in positions.records().iter().enumerate() {
-        if exceeds_at(limit, numbers, nets, position) {
+        if exceeds_at(limit, numbers, excesses, position) {
             let account = accounts[position.account as usize].copied();
             return Some(fault_of(limit, number + 1, account));
         }

@@ -6,4 +6,4 @@ use Rattle.param_check.proofs.binding.over_limits.limit_fault.Given as goal
 
 abbrev pub invariant-loop-number : goal.invariant-loop-number
 invariant-loop-number l =
-    list_any (exceeds l.limit l.numbers.keys (accounts_of l.positions) l.nets) (take l.number l.positions) ≡ false
+    list_any (exceeds l.limit l.numbers.keys (accounts_of l.positions) l.excesses) (take l.number l.positions) ≡ false
