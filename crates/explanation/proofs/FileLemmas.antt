@@ -8,9 +8,10 @@ use Rattle.span_csv.specs.PositionFaults.{positions_of}
 use Rattle.span_tables.specs.Net.{AccountHoldings}
 use Rattle.span_tables.specs.Tables.{AcceptedTables}
 use Rattle.span_tables.specs.declared.records.PositionRecord.{PositionRecord}
-use Rattle.statement.specs.Statement.{accepted_of, and_then, portfolios_under, same, statement_bound, statement_of, statement_under}
+use Rattle.statement.specs.Statement.{accepted_of, portfolios_under, same, statement_bound, statement_of, statement_under}
 use Rattle.statement.specs.declared.faults.SpanFault.{SpanFault}
 use Rattle.statement.specs.declared.faults.SpanFault.TheVariants as fault
+use Rattle.statement.proofs.FaultLemmas.{fault_stays}
 use Rattle.explanation.specs.Explanation.{account_lines, account_text, explained, explanation_of, named_text}
 
 module _ (params positions : List ℕ) (account : Option (List ℕ)) where
@@ -37,13 +38,6 @@ pub account_unknown : (params positions name : List ℕ) (t : AcceptedTables) (r
     → explanation_of params positions (Some name) ≡ Err (fault.UnknownAccount name)
 account_unknown params positions name t records portfolios a q b found =
     accepted_explained params positions (Some name) t records portfolios a q b ∙ ap (named_text t name) found
-
--- a fault that follows an outcome, where what follows its value has that fault too
-fault_stays : {A B C F : Type 0} (named : F → SpanFault) (r : Result A F) (next : A → Result B SpanFault)
-    (other : A → Result C SpanFault) (e : SpanFault) → ((x : A) → next x ≡ Err e → other x ≡ Err e)
-    → and_then named r next ≡ Err e → and_then named r other ≡ Err e
-fault_stays named (Ok x) next other e stays is = stays x is
-fault_stays named (Err f) next other e stays is = let same_fault : named f ≡ e = cc in ap Err same_fault
 
 -- the fault of a statement is that of an explanation
 pub faults_explained : (params positions : List ℕ) (account : Option (List ℕ)) (e : SpanFault)

@@ -62,7 +62,8 @@ adds-goes sets seen set count len begins false is =
 
 -- the exchange that adds a set can be done whatever the history is
 pub adds-moves : (seen : List SetView) (set : SetView) (count : ℕ) → length seen ≡ count
-    → Moves CountsPublications shown moved 0 (at_hand seen) (exchanged count) (AddsPublication (step 0 count (count + 1) set) (at_hand seen))
+    → Moves CountsPublications shown moved 0 (at_hand seen) (exchanged count)
+    (AddsPublication (step 0 count (count + 1) set) (at_hand seen))
 adds-moves seen set count len words sets counted begins away =
     let Fits : List Cell → Type 0 = λ w. (0 < length w) × ((cell w 0).1 ≡ true) × AddGoes seen set count w sets in
     subst Fits (sym counted.are) (omega arith, refl, adds-goes sets seen set count len begins (length sets == count) refl)

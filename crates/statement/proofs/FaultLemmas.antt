@@ -1,5 +1,5 @@
 -- The faults of the statement of two files are those of the files: a call that gives it names no other.
-use Rattle.std.proofs.Common.{◌≡◌, ℕ, List, Bool, true, false, true≢false, Ok, Err, Result, refl, sym, subst, inl, inr}
+use Rattle.std.proofs.Common.{◌≡◌, ℕ, List, Bool, true, false, true≢false, Ok, Err, Result, refl, sym, ap, subst, inl, inr}
 use Rattle.span_csv.specs.ParamFaults.{params_of}
 use Rattle.span_csv.specs.PositionFaults.{positions_of}
 use Rattle.span_tables.specs.Tables.{AcceptedTables}
@@ -31,6 +31,8 @@ each_of_files P params check positions bind (fault.Params f) is = params f
 each_of_files P params check positions bind (fault.Check f) is = check f
 each_of_files P params check positions bind (fault.Positions f) is = positions f
 each_of_files P params check positions bind (fault.Bind f) is = bind f
+each_of_files P params check positions bind (fault.Orders f) is = absurd (true≢false (sym is))
+each_of_files P params check positions bind (fault.BindOrders f) is = absurd (true≢false (sym is))
 each_of_files P params check positions bind (fault.NextParams f) is = absurd (true≢false (sym is))
 each_of_files P params check positions bind (fault.NextCheck f) is = absurd (true≢false (sym is))
 each_of_files P params check positions bind (fault.NextBind f) is = absurd (true≢false (sym is))
@@ -46,6 +48,13 @@ and_then_of_files : {A B F : Type 0} (named : F → SpanFault) (r : Result A F) 
     → and_then named r next ≡ Err e → is_of_files e ≡ true
 and_then_of_files named (Ok x) next e first rest is = rest x is
 and_then_of_files named (Err f) next e first rest is = let same_fault : named f ≡ e = cc in rw (← same_fault) (first f refl)
+
+-- a fault that follows an outcome, where what follows its value has that fault too
+pub fault_stays : {A B C F : Type 0} (named : F → SpanFault) (r : Result A F) (next : A → Result B SpanFault)
+    (other : A → Result C SpanFault) (e : SpanFault) → ((x : A) → next x ≡ Err e → other x ≡ Err e)
+    → and_then named r next ≡ Err e → and_then named r other ≡ Err e
+fault_stays named (Ok x) next other e stays is = stays x is
+fault_stays named (Err f) next other e stays is = let same_fault : named f ≡ e = cc in ap Err same_fault
 
 pub accepted_of_files : (params : List ℕ) (e : SpanFault) → accepted_of params ≡ Err e → is_of_files e ≡ true
 unfolding accepted_of

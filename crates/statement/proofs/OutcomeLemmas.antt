@@ -42,6 +42,7 @@ pub text_of_batch : (set : SetView) (portfolios : List AccountHoldings)
 unfolding statement_text
 text_of_batch set [] = refl
 text_of_batch set (p ∷ portfolios) =
-    flat_map-cons (λ (r : RowView). row_text r.set.tables r.portfolio) (record { set = set; portfolio = p }) (rows_of_accounts set portfolios)
+    flat_map-cons (λ (r : RowView). row_text r.set.tables r.portfolio) (record { set = set; portfolio = p })
+    (rows_of_accounts set portfolios)
     ∙ ap (λ t. row_text set.tables p ++ t) (text_of_batch set portfolios)
     ∙ sym (flat_map-cons (row_text set.tables) p portfolios)

@@ -12,6 +12,12 @@ use Rattle.param_check.specs.CheckFaults as check_fault
 use Rattle.param_check.specs.declared.faults.BindFault.{BindFault}
 use Rattle.param_check.specs.declared.faults.BindFault.TheVariants as bind
 use Rattle.param_check.specs.Binding as bind_fault
+use Rattle.span_csv.specs.declared.faults.OrderFault.{OrderFault}
+use Rattle.span_csv.specs.declared.faults.OrderFault.TheVariants as order
+use Rattle.span_csv.specs.OrderFaults as order_fault
+use Rattle.param_check.specs.declared.faults.OrderBindFault.{OrderBindFault}
+use Rattle.param_check.specs.declared.faults.OrderBindFault.TheVariants as bind_order
+use Rattle.param_check.specs.OrderBinding as bind_order_fault
 use Rattle.result_book.specs.declared.books.BookFault.{BookFault}
 use Rattle.result_book.specs.declared.books.BookFault.TheVariants as book
 use Rattle.result_book.specs.BookFaults as book_fault
@@ -43,6 +49,10 @@ record_line file code at = place_text file code at ++ codes "\n"
 -- the line of positions that do not fit the tables, with the record's account
 abbrev pub account_line : List ℕ → List ℕ → ℕ → List ℕ → List ℕ
 account_line file code at account = place_text file code at ++ (codes " account " ++ (account ++ codes "\n"))
+
+-- the line of orders that do not fit the tables or the accounts, with the record's order
+abbrev pub order_line : List ℕ → List ℕ → ℕ → List ℕ → List ℕ
+order_line file code at order = place_text file code at ++ (codes " order " ++ (order ++ codes "\n"))
 
 -- the line of a parameter file's fault
 abbrev pub param_line : List ℕ → ParamFault → List ℕ
@@ -87,6 +97,23 @@ bind_line file (bind.NetOutOfRange at account) = account_line file (codes "B2 Ne
 bind_line file (bind.TooManyHeld at account) = account_line file (codes "B3 TooManyHeld") at account
 bind_line file bind.OutOfMemory = memory_line
 
+-- the line of an order file's fault
+abbrev pub orders_line : OrderFault → List ℕ
+orders_line (order.FieldCount at) = record_line (codes "orders") (codes "O1 FieldCount") at
+orders_line (order.BadName at) = record_line (codes "orders") (codes "O2 BadName") at
+orders_line (order.BadNumber at) = record_line (codes "orders") (codes "O3 BadNumber") at
+orders_line (order.OutOfRange at) = record_line (codes "orders") (codes "O4 OutOfRange") at
+orders_line (order.TooManyOrders at) = record_line (codes "orders") (codes "O5 TooManyOrders") at
+orders_line (order.SecondAccount at) = record_line (codes "orders") (codes "O6 SecondAccount") at
+orders_line order.OutOfMemory = memory_line
+
+-- the line of orders that do not fit the tables or the accounts
+abbrev pub bind_orders_line : OrderBindFault → List ℕ
+bind_orders_line (bind_order.UnknownContract at order) = order_line (codes "orders") (codes "B1 UnknownContract") at order
+bind_orders_line (bind_order.NetOutOfRange at order) = order_line (codes "orders") (codes "B2 NetOutOfRange") at order
+bind_orders_line (bind_order.TooManyHeld at order) = order_line (codes "orders") (codes "B3 TooManyHeld") at order
+bind_orders_line bind_order.OutOfMemory = memory_line
+
 -- what a book refused
 abbrev pub refused_line : List ℕ → List ℕ
 refused_line code = codes "book: " ++ (code ++ codes "\n")
@@ -108,6 +135,8 @@ fault_line (fault.Params e) = param_line (codes "parameters") e
 fault_line (fault.Check e) = check_line (codes "parameters") e
 fault_line (fault.Positions e) = position_line e
 fault_line (fault.Bind e) = bind_line (codes "positions") e
+fault_line (fault.Orders e) = orders_line e
+fault_line (fault.BindOrders e) = bind_orders_line e
 fault_line (fault.NextParams e) = param_line (codes "next parameters") e
 fault_line (fault.NextCheck e) = check_line (codes "next parameters") e
 fault_line (fault.NextBind e) = bind_line (codes "next positions") e
@@ -117,13 +146,15 @@ fault_line (fault.Book e) = book_line e
 fault_line fault.Shelf = shelf_line
 fault_line fault.Memory = memory_line
 
--- the exit status of a fault: that of refused parameters, of refused positions, of a mistake of usage, of a book or a shelf
--- that refused, or of want of memory
+-- the exit status of a fault: that of refused parameters, of refused positions or orders, of a mistake of usage, of a book or a
+-- shelf that refused, or of want of memory
 abbrev pub fault_status : SpanFault → ℕ
 fault_status (fault.Params e) = if param_fault.is_memory e then OUT_OF_MEMORY else PARAMETERS_REFUSED
 fault_status (fault.Check e) = if check_fault.is_memory e then OUT_OF_MEMORY else PARAMETERS_REFUSED
 fault_status (fault.Positions e) = if position_fault.is_memory e then OUT_OF_MEMORY else POSITIONS_REFUSED
 fault_status (fault.Bind e) = if bind_fault.is_memory e then OUT_OF_MEMORY else POSITIONS_REFUSED
+fault_status (fault.Orders e) = if order_fault.is_memory e then OUT_OF_MEMORY else POSITIONS_REFUSED
+fault_status (fault.BindOrders e) = if bind_order_fault.is_memory e then OUT_OF_MEMORY else POSITIONS_REFUSED
 fault_status (fault.NextParams e) = if param_fault.is_memory e then OUT_OF_MEMORY else PARAMETERS_REFUSED
 fault_status (fault.NextCheck e) = if check_fault.is_memory e then OUT_OF_MEMORY else PARAMETERS_REFUSED
 fault_status (fault.NextBind e) = if bind_fault.is_memory e then OUT_OF_MEMORY else POSITIONS_REFUSED

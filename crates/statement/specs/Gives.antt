@@ -1,9 +1,11 @@
--- What a call answers for a definition that may name a fault of both files.
+-- What a call answers for a definition that may name a fault of its files.
 use Rattle.std.specs.Prelude.{◌≡◌, ◌⊎◌, Bool, true, false, Result, Ok, Err}
 use Rattle.span_csv.specs.ParamFaults as param
 use Rattle.span_csv.specs.PositionFaults as position
 use Rattle.param_check.specs.CheckFaults as check
 use Rattle.param_check.specs.Binding as bind
+use Rattle.span_csv.specs.OrderFaults as order
+use Rattle.param_check.specs.OrderBinding as bind_order
 use Rattle.result_book.specs.BookFaults as book
 use Rattle.statement.specs.declared.faults.SpanFault.{SpanFault}
 use Rattle.statement.specs.declared.faults.SpanFault.TheVariants as fault
@@ -14,6 +16,8 @@ is_memory (fault.Params e) = param.is_memory e
 is_memory (fault.Check e) = check.is_memory e
 is_memory (fault.Positions e) = position.is_memory e
 is_memory (fault.Bind e) = bind.is_memory e
+is_memory (fault.Orders e) = order.is_memory e
+is_memory (fault.BindOrders e) = bind_order.is_memory e
 is_memory (fault.NextParams e) = param.is_memory e
 is_memory (fault.NextCheck e) = check.is_memory e
 is_memory (fault.NextBind e) = bind.is_memory e

@@ -120,7 +120,7 @@ pub fn accept(alloc: Global, params: &[u8], positions: &[u8]) -> Result<Accepted
 /// compiles the parameters beside reading the positions; where no thread is started, the two are done one after the other.
 /// The order of the faults is the same.
 #[tactic(auto, unfolding(crate::specs::Statement::statement_of, crate::specs::Statement::statement_under))]
-pub(crate) fn accept_together<R: Threads>(
+pub fn accept_together<R: Threads>(
     rt: &R,
     alloc: Global,
     params: &[u8],

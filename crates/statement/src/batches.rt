@@ -61,7 +61,7 @@ pub fn rows_alone(
 
 /// The rows of portfolios under a compiled set, in their order, computed on 1 to 16 workers, in teams. Want of memory for one
 /// account refuses all.
-pub(crate) fn rows_together<R: Threads + Wait + Clock + Sync, G: Gate>(
+pub fn rows_together<R: Threads + Wait + Clock + Sync, G: Gate>(
     rt: &R,
     alloc: Global,
     set: &Arc<CompiledSet>,

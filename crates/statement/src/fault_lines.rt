@@ -1,6 +1,6 @@
 //! The lines that say why there is no statement (docs/FORMATS.md, Fault lines and statuses).
-ghost use Rattle.statement.specs.FaultLines.{account_line, bind_line, book_line, check_line, fault_line, param_line};
-ghost use Rattle.statement.specs.FaultLines.{position_line, record_line};
+ghost use Rattle.statement.specs.FaultLines.{account_line, bind_line, bind_orders_line, book_line, check_line, fault_line};
+ghost use Rattle.statement.specs.FaultLines.{order_line, orders_line, param_line, position_line, record_line};
 ghost use Rattle.statement.specs.near.LineParts.{text_of};
 ghost use Rattle.statement.specs.Streams.{Says};
 ghost use Rattle.std.specs.Io.KnownBytes.{Appends};
@@ -8,9 +8,9 @@ ghost use Rattle.std.specs.Prelude.{◌≡◌, OnOk, codes};
 
 use crate::faults::SpanFault;
 use crate::marked_writer::MarkedWriter;
-use param_check::faults::{BindFault, CheckFault};
+use param_check::faults::{BindFault, CheckFault, OrderBindFault};
 use result_book::books::BookFault;
-use span_csv::faults::{ParamFault, PositionFault};
+use span_csv::faults::{OrderFault, ParamFault, PositionFault};
 use span_tables::name::Name;
 use std::fmt::Display;
 use std::io::Write;
@@ -48,6 +48,11 @@ enum Line<'a> {
         place: RecordPlace,
         account: &'a Name,
     },
+    // Orders that do not fit the tables or the accounts: the record and its order.
+    Order {
+        place: RecordPlace,
+        order: &'a Name,
+    },
     // An account that the positions do not have.
     UnknownAccount {
         account: &'a Name,
@@ -74,6 +79,7 @@ impl<'a> Display for Line<'a> {
         match self {
             Line::Record { place } => writeln!(f, "{place}"),
             Line::Account { place, account } => writeln!(f, "{place} account {account}"),
+            Line::Order { place, order } => writeln!(f, "{place} order {order}"),
             Line::UnknownAccount { account } => {
                 writeln!(f, "positions: E1 UnknownAccount account {account}")
             }
@@ -177,6 +183,43 @@ fn bind_line<'a>(file: &'static str, fault: &'a BindFault) -> Line<'a>
     }
 }
 
+fn orders_line(fault: &OrderFault) -> Line<'static>
+    ensures { text_of result ≡ orders_line fault.now }
+{
+    match fault {
+        OrderFault::FieldCount { at } => in_file("orders", "O1 FieldCount", *at),
+        OrderFault::BadName { at } => in_file("orders", "O2 BadName", *at),
+        OrderFault::BadNumber { at } => in_file("orders", "O3 BadNumber", *at),
+        OrderFault::OutOfRange { at } => in_file("orders", "O4 OutOfRange", *at),
+        OrderFault::TooManyOrders { at } => in_file("orders", "O5 TooManyOrders", *at),
+        OrderFault::SecondAccount { at } => in_file("orders", "O6 SecondAccount", *at),
+        OrderFault::OutOfMemory => Line::Memory,
+    }
+}
+
+// Orders that do not fit the tables or the accounts.
+fn of_order<'a>(code: &'static str, at: usize, order: &'a Name) -> Line<'a>
+    ensures { text_of result ≡ order_line (codes "orders") code.entry.now at order.entry.now }
+{
+    let place = RecordPlace {
+        file: "orders",
+        code,
+        at,
+    };
+    Line::Order { place, order }
+}
+
+fn bind_orders_line(fault: &OrderBindFault) -> Line<'_>
+    ensures { text_of result ≡ bind_orders_line fault.entry.now }
+{
+    match fault {
+        OrderBindFault::UnknownContract { at, order } => of_order("B1 UnknownContract", *at, order),
+        OrderBindFault::NetOutOfRange { at, order } => of_order("B2 NetOutOfRange", *at, order),
+        OrderBindFault::TooManyHeld { at, order } => of_order("B3 TooManyHeld", *at, order),
+        OrderBindFault::OutOfMemory => Line::Memory,
+    }
+}
+
 fn book_line(fault: BookFault) -> Line<'static>
     ensures { text_of result ≡ book_line fault }
 {
@@ -203,6 +246,8 @@ fn line_of(fault: &SpanFault) -> Line<'_>
         SpanFault::Check(fault) => check_line("parameters", fault),
         SpanFault::Positions(fault) => position_line(fault),
         SpanFault::Bind(fault) => bind_line("positions", fault),
+        SpanFault::Orders(fault) => orders_line(fault),
+        SpanFault::BindOrders(fault) => bind_orders_line(fault),
         SpanFault::NextParams(fault) => param_line("next parameters", fault),
         SpanFault::NextCheck(fault) => check_line("next parameters", fault),
         SpanFault::NextBind(fault) => bind_line("next positions", fault),

@@ -2,6 +2,8 @@
 ghost use Rattle.statement.specs.FaultLines.{fault_status};
 ghost use Rattle.param_check.specs.Binding as bind;
 ghost use Rattle.param_check.specs.CheckFaults as check;
+ghost use Rattle.param_check.specs.OrderBinding as bind_orders;
+ghost use Rattle.span_csv.specs.OrderFaults as orders;
 ghost use Rattle.span_csv.specs.ParamFaults as params;
 ghost use Rattle.span_csv.specs.PositionFaults as positions;
 ghost use Rattle.statement.specs.Rolls.{of_next_set};
@@ -10,10 +12,10 @@ ghost use Rattle.statement.specs.declared.faults.SpanFault.TheVariants as fault;
 ghost use Rattle.std.specs.Prelude.{◌≡◌};
 
 use crate::statuses::{BOOK_REFUSED, OUT_OF_MEMORY, PARAMETERS_REFUSED, POSITIONS_REFUSED, USAGE};
-use param_check::faults::{BindFault, CheckFault};
+use param_check::faults::{BindFault, CheckFault, OrderBindFault};
 use plan_shelf::faults::{NotPublished, ShelfFault};
 use result_book::books::BookFault;
-use span_csv::faults::{ParamFault, PositionFault};
+use span_csv::faults::{OrderFault, ParamFault, PositionFault};
 use span_tables::name::Name;
 use std::alloc::AllocError;
 use thiserror::Error;
@@ -33,6 +35,12 @@ pub enum SpanFault {
     /// The positions do not fit the tables.
     #[error("positions: {0}")]
     Bind(BindFault),
+    /// The order file is not read.
+    #[error("orders: {0}")]
+    Orders(OrderFault),
+    /// The orders do not fit the tables and the accounts.
+    #[error("orders: {0}")]
+    BindOrders(OrderBindFault),
     /// The parameter file of the next set is not read.
     #[error("next parameters: {0}")]
     NextParams(ParamFault),
@@ -103,6 +111,28 @@ impl From<BindFault> for SpanFault {
     }
 }
 
+impl From<OrderFault> for SpanFault {
+    ghost from_gives = { λ e answer. answer ≡ of_stage orders.is_memory fault.Orders e };
+
+    fn from(error: OrderFault) -> SpanFault {
+        match error {
+            OrderFault::OutOfMemory => SpanFault::Memory,
+            fault => SpanFault::Orders(fault),
+        }
+    }
+}
+
+impl From<OrderBindFault> for SpanFault {
+    ghost from_gives = { λ e answer. answer ≡ of_stage bind_orders.is_memory fault.BindOrders e };
+
+    fn from(error: OrderBindFault) -> SpanFault {
+        match error {
+            OrderBindFault::OutOfMemory => SpanFault::Memory,
+            fault => SpanFault::BindOrders(fault),
+        }
+    }
+}
+
 impl From<BookFault> for SpanFault {
     ghost from_gives = { λ e answer. answer ≡ of_book e };
 
@@ -155,7 +185,7 @@ impl SpanFault {
     }
 }
 
-/// The exit status of a fault: that of refused parameters, of refused positions, of a mistake of usage, of a book or a
+/// The exit status of a fault: that of refused parameters, of refused positions or orders, of a mistake of usage, of a book or a
 /// shelf that refused, or of want of memory.
 pub fn status(fault: &SpanFault) -> u8
     ensures { result ≡ fault_status fault.now }
@@ -165,6 +195,8 @@ pub fn status(fault: &SpanFault) -> u8
         | SpanFault::Check(CheckFault::OutOfMemory)
         | SpanFault::Positions(PositionFault::OutOfMemory)
         | SpanFault::Bind(BindFault::OutOfMemory)
+        | SpanFault::Orders(OrderFault::OutOfMemory)
+        | SpanFault::BindOrders(OrderBindFault::OutOfMemory)
         | SpanFault::NextParams(ParamFault::OutOfMemory)
         | SpanFault::NextCheck(CheckFault::OutOfMemory)
         | SpanFault::NextBind(BindFault::OutOfMemory)
@@ -176,6 +208,8 @@ pub fn status(fault: &SpanFault) -> u8
         | SpanFault::NextCheck(_) => PARAMETERS_REFUSED,
         SpanFault::Positions(_)
         | SpanFault::Bind(_)
+        | SpanFault::Orders(_)
+        | SpanFault::BindOrders(_)
         | SpanFault::NextBind(_)
         | SpanFault::UnknownAccount { .. } => POSITIONS_REFUSED,
         SpanFault::Workers => USAGE,

@@ -5,7 +5,8 @@ ghost use Rattle.statement.specs.Statement.{commodity_text, figures_line, row_te
 ghost use Rattle.inter_credit.specs.OptionValue.{due_of, excess_of};
 ghost use Rattle.plan_ir.specs.Figures.{option_value_of};
 ghost use Rattle.std.specs.Arc.{arc_value};
-ghost use Rattle.std.specs.Prelude.{[], ◌++◌, ◌∷◌, ◌≡◌, ◌<◌, IfOk, OnOk, flat_map, length, map, pos};
+ghost use Rattle.span_money.specs.declared.amounts.TheConstants.{MAX_MONEY};
+ghost use Rattle.std.specs.Prelude.{[], ◌++◌, ◌∷◌, ◌≡◌, ◌*◌, ◌<◌, ◌≤◌, IfOk, OnOk, flat_map, length, map, pos};
 
 use plan_ir::figures::Figures;
 use result_book::rows::Row;
@@ -80,9 +81,10 @@ fn push_total(
     push_line_of_numbers(out, "T", &ids, numbers)
 }
 
-// What an account has to bring after its option value, in minor units.
-fn due(total: Money, value: Money) -> i128
-    ensures { result ≡ pos (due_of total value) }
+/// What an account has to bring after its option value, in minor units.
+pub fn due(total: Money, value: Money) -> i128
+    ensures value { result ≡ pos (due_of total value) }
+    ensures bound { due_of total value ≤ 2 * MAX_MONEY }
 {
     (total.get() - value.get()).max(0)
 }

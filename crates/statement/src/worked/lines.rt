@@ -10,6 +10,12 @@ ghost use Rattle.param_check.specs.declared.faults.CheckFault.TheVariants as che
 ghost use Rattle.result_book.specs.BookFaults as book_fault;
 ghost use Rattle.result_book.specs.declared.books.BookFault.{BookFault};
 ghost use Rattle.result_book.specs.declared.books.BookFault.TheVariants as book;
+ghost use Rattle.param_check.specs.OrderBinding as bind_order_fault;
+ghost use Rattle.param_check.specs.declared.faults.OrderBindFault.{OrderBindFault};
+ghost use Rattle.param_check.specs.declared.faults.OrderBindFault.TheVariants as bind_orders;
+ghost use Rattle.span_csv.specs.OrderFaults as order_fault;
+ghost use Rattle.span_csv.specs.declared.faults.OrderFault.{OrderFault};
+ghost use Rattle.span_csv.specs.declared.faults.OrderFault.TheVariants as orders;
 ghost use Rattle.span_csv.specs.ParamFaults as param_fault;
 ghost use Rattle.span_csv.specs.PositionFaults as position_fault;
 ghost use Rattle.span_csv.specs.declared.faults.ParamFault.{ParamFault};
@@ -62,6 +68,24 @@ fn lines_of_positions()
         ≡ codes "positions: B2 NetOutOfRange at record 2 account ACC-1\n" }
     ensures b3 { fault_line (span_fault.Bind (bind.TooManyHeld 3 (codes "A_B")))
         ≡ codes "positions: B3 TooManyHeld at record 3 account A_B\n" }
+{}
+
+// Orders that are not read, or do not fit the tables or the accounts.
+fn lines_of_orders()
+    ensures o1 { fault_line (span_fault.Orders (orders.FieldCount 1)) ≡ codes "orders: O1 FieldCount at record 1\n" }
+    ensures o2 { fault_line (span_fault.Orders (orders.BadName 1)) ≡ codes "orders: O2 BadName at record 1\n" }
+    ensures o3 { fault_line (span_fault.Orders (orders.BadNumber 1)) ≡ codes "orders: O3 BadNumber at record 1\n" }
+    ensures o4 { fault_line (span_fault.Orders (orders.OutOfRange 1)) ≡ codes "orders: O4 OutOfRange at record 1\n" }
+    ensures o5 { fault_line (span_fault.Orders (orders.TooManyOrders 12)) ≡ codes "orders: O5 TooManyOrders at record 12\n" }
+    ensures o6 { fault_line (span_fault.Orders (orders.SecondAccount 2)) ≡ codes "orders: O6 SecondAccount at record 2\n" }
+    ensures b1 { fault_line (span_fault.BindOrders (bind_orders.UnknownContract 1 (codes "TRY")))
+        ≡ codes "orders: B1 UnknownContract at record 1 order TRY\n" }
+    ensures b2 { fault_line (span_fault.BindOrders (bind_orders.NetOutOfRange 2 (codes "TRY-1")))
+        ≡ codes "orders: B2 NetOutOfRange at record 2 order TRY-1\n" }
+    ensures b3 { fault_line (span_fault.BindOrders (bind_orders.TooManyHeld 3 (codes "A_B")))
+        ≡ codes "orders: B3 TooManyHeld at record 3 order A_B\n" }
+    ensures memory { fault_line (span_fault.Orders orders.OutOfMemory) ≡ codes "memory\n" }
+    ensures memory_of_binding { fault_line (span_fault.BindOrders bind_orders.OutOfMemory) ≡ codes "memory\n" }
 {}
 
 // An account that the positions do not have.
@@ -117,6 +141,9 @@ fn statuses_of_faults()
     ensures rules { (e : CheckFault) → check_fault.is_memory e ≡ false → fault_status (span_fault.Check e) ≡ 3 }
     ensures positions { (e : PositionFault) → position_fault.is_memory e ≡ false → fault_status (span_fault.Positions e) ≡ 4 }
     ensures binding { (e : BindFault) → bind_fault.is_memory e ≡ false → fault_status (span_fault.Bind e) ≡ 4 }
+    ensures orders { (e : OrderFault) → order_fault.is_memory e ≡ false → fault_status (span_fault.Orders e) ≡ 4 }
+    ensures binding_of_orders { (e : OrderBindFault) → bind_order_fault.is_memory e ≡ false
+        → fault_status (span_fault.BindOrders e) ≡ 4 }
     ensures book { (e : BookFault) → book_fault.is_memory e ≡ false → fault_status (span_fault.Book e) ≡ 7 }
     ensures e1 { fault_status (span_fault.UnknownAccount (codes "X")) ≡ 4 }
     ensures workers { fault_status span_fault.Workers ≡ 2 }

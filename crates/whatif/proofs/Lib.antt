@@ -1,0 +1,9 @@
+pub mod AccountLaws
+pub mod BatchLemmas
+pub mod BeforeLemmas
+pub mod ChangeLaws
+pub mod FileLemmas
+pub mod LineLemmas
+pub mod NothingLaws
+pub mod SlotLemmas
+pub mod TextLemmas

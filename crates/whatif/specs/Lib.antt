@@ -1,0 +1,2 @@
+pub mod Whatif
+pub mod near

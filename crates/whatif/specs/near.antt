@@ -1,0 +1,4 @@
+-- What no promise's words stand on: forms near to the code.
+pub mod Befores
+pub mod Numbers
+pub mod Orders

@@ -1,0 +1,53 @@
+-- What portfolios are margined at, as it is kept, and the lines of an order between two of them.
+use Rattle.std.specs.Prelude.{◌≡◌, ℕ, ◌<◌, if◌then◌else◌, List, [], ◌++◌, codes, length, map, slice_index_or, ℤ}
+use Rattle.std.specs.Fmt.{signed_decimal}
+use Rattle.std.specs.Ordering.{int_eq}
+use Rattle.span_money.specs.LineFields.{line}
+use Rattle.span_tables.specs.Tables.{AcceptedTables}
+use Rattle.span_tables.specs.declared.portfolios.Holding.{Holding}
+use Rattle.param_check.specs.OrderBinding.{TriedOrder, TriedOrders}
+use Rattle.plan_ir.specs.Figures.{figures_of, option_value_of, total_to}
+use Rattle.result_book.specs.Rows.{RowView}
+use Rattle.whatif.specs.Whatif.{change_line, change_of, changes}
+use Rattle.whatif.specs.declared.numbers.Numbers.{Numbers}
+
+-- the requirements of the first commodities, as many as there are
+abbrev pub AreFirstRequirements : AcceptedTables → List Holding → List ℤ → Type 0
+AreFirstRequirements t holdings requirements =
+    (c : ℕ) → c < length requirements → (d : ℤ) → slice_index_or requirements c d ≡ (figures_of t holdings c).requirement
+
+-- the numbers are those of an account with these holdings
+pub record AreNumbers (t : AcceptedTables) (holdings : List Holding) (numbers : Numbers) : Type 0 where
+  pub every : length numbers.requirements.items ≡ length t.commodities
+  pub each : AreFirstRequirements t holdings numbers.requirements.items
+  pub total : numbers.total ≡ total_to t holdings (length t.commodities)
+  pub value : numbers.value ≡ option_value_of t holdings
+
+-- the numbers are those of a row
+abbrev pub AreOfRow : RowView → Numbers → Type 0
+AreOfRow r numbers = AreNumbers r.set.tables r.portfolio.holdings numbers
+
+-- an order for a number past the end
+abbrev pub no_order : TriedOrder
+no_order = record { order = []; before = record { account = []; holdings = [] }; after = record { account = []; holdings = [] } }
+
+-- the order of a number
+abbrev pub order_at : TriedOrders → ℕ → TriedOrder
+order_at tried i = slice_index_or tried.orders i no_order
+
+-- an order's account has these numbers before it, and this row after it
+pub record IsTried (t : AcceptedTables) (o : TriedOrder) (before : Numbers) (row : RowView) : Type 0 where
+  pub tables_are : row.set.tables ≡ t
+  pub before_is : AreNumbers t o.before.holdings before
+  pub after_is : row.portfolio ≡ o.after
+
+-- the line of a change under these ids, where there is one, and else nothing
+abbrev pub changed_text : List (List ℕ) → ℤ → ℤ → List ℕ
+changed_text ids before after =
+    if int_eq before after
+    then []
+    else line (record { word = codes "CHANGE"; fields = ids ++ map signed_decimal (change_of before after) })
+
+-- the line of the commodity of a number, where an order changes its requirement, and else nothing
+abbrev pub change_text : AcceptedTables → TriedOrder → ℕ → List ℕ
+change_text t o c = if changes t o c then line (change_line t o c) else []

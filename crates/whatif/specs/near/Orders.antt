@@ -1,0 +1,17 @@
+-- The lines of some of the orders that are tried, and that their portfolios fit a set.
+use Rattle.std.specs.Prelude.{ℕ, List, All, flat_map}
+use Rattle.std.specs.List.{range_with_len}
+use Rattle.span_tables.specs.Tables.{AcceptedTables}
+use Rattle.param_check.specs.OrderBinding.{TriedOrders}
+use Rattle.plan_compiler.specs.Compiled.{SetView}
+use Rattle.worker_pool.specs.Batches.{FitsSet}
+use Rattle.whatif.specs.Whatif.{order_text}
+use Rattle.whatif.specs.near.Numbers.{order_at}
+
+-- what each account holds with its order fits the tables of the set
+abbrev pub OrdersFit : SetView → TriedOrders → Type 0
+OrdersFit set tried = All (λ o. FitsSet set o.after) tried.orders
+
+-- the lines of so many orders from a number on
+abbrev pub orders_text : AcceptedTables → TriedOrders → ℕ → ℕ → List ℕ
+orders_text t tried first count = flat_map (λ i. order_text t (order_at tried i)) (range_with_len first count)

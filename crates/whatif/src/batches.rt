@@ -1,0 +1,120 @@
+//! Orders in batches, each on its account (docs/FORMATS.md, "Orders tried").
+ghost use Rattle.std.specs.Arc.{arc_value};
+ghost use Rattle.std.specs.Prelude.{◌≡◌, ◌++◌, ◌+◌, ◌-◌, ◌≤◌, IfOk, OnOk, drop, length, map, take};
+ghost use Rattle.statement.specs.near.Batches.{rows_of_accounts};
+ghost use Rattle.worker_pool.specs.Batches.{AllFit};
+ghost use Rattle.whatif.specs.Whatif.{whatif_text};
+ghost use Rattle.whatif.specs.near.Befores.{AreBefores};
+ghost use Rattle.whatif.specs.near.Orders.{OrdersFit, orders_text};
+
+use crate::befores::{Befores, befores_of};
+use crate::lines::push_order;
+use param_check::orders::Orders;
+use plan_compiler::set::CompiledSet;
+use result_book::rows::Row;
+use span_tables::portfolios::{Portfolio, Portfolios};
+use statement::batches::rows_together;
+use std::alloc::{AllocError, Global};
+use std::sync::{Arc, Wait};
+use std::thread::Threads;
+use std::time::Clock;
+use worker_pool::gates::Gate;
+
+// How many orders a batch has, at most.
+const MOST_AT_ONCE: usize = 4096;
+
+/// What batches are lent: a runtime, an allocator, the set, so many workers and the gate that they pass.
+#[derive(Drop)]
+pub(crate) struct Lent<'a, R, G: Gate> {
+    pub(crate) rt: &'a R,
+    pub(crate) alloc: Global,
+    pub(crate) set: &'a Arc<CompiledSet>,
+    pub(crate) workers: usize,
+    pub(crate) gate: &'a G,
+}
+
+/// The rows of portfolios, in their order.
+pub(crate) fn rows_of<R: Threads + Wait + Clock + Sync, G: Gate>(
+    lent: &Lent<'_, R, G>,
+    portfolios: Vec<Portfolio>,
+) -> Result<Vec<Arc<Row>>, AllocError>
+    requires { AllFit (arc_value lent.now.set.now) portfolios.items }
+    ensures { IfOk result (λ rows. map arc_value rows.items ≡ rows_of_accounts (arc_value lent.now.set.now) portfolios.items) }
+{
+    rows_together(
+        lent.rt,
+        lent.alloc,
+        lent.set,
+        Portfolios::new(portfolios),
+        lent.workers,
+        lent.gate,
+    )
+}
+
+// Appends the lines of the orders from one number up to another, from the rows after them.
+fn push_orders(
+    out: &mut Vec<u8>,
+    set: &Arc<CompiledSet>,
+    orders: &Orders,
+    befores: &Befores,
+    first: usize,
+    end: usize,
+    rows: &[Arc<Row>],
+) -> Result<(), AllocError>
+    requires first { first ≤ end }
+    requires end { end ≤ length orders.now.orders }
+    requires befores { AreBefores (arc_value set.now).tables orders.now befores.now }
+    requires rows { map arc_value rows.now
+        ≡ rows_of_accounts (arc_value set.now) (map (λ o. o.after) (take (end - first) (drop first orders.now.orders))) }
+    ensures { OnOk result (out.new.items
+        ≡ out.old.items ++ orders_text (arc_value set.now).tables orders.now first (end - first)) }
+{
+    let tables = set.tables();
+    for order in first..end {
+        let before = befores.at(order);
+        push_order(out, tables, orders, order, before, &rows[order - first])?;
+    }
+    Ok(())
+}
+
+// Appends the lines of the orders from one number up to another: their accounts are margined with them, in one batch.
+fn push_batch<R: Threads + Wait + Clock + Sync, G: Gate>(
+    lent: &Lent<'_, R, G>,
+    out: &mut Vec<u8>,
+    orders: &Orders,
+    befores: &Befores,
+    first: usize,
+    end: usize,
+) -> Result<(), AllocError>
+    requires first { first ≤ end }
+    requires end { end ≤ length orders.now.orders }
+    requires fits { OrdersFit (arc_value lent.now.set.now) orders.now }
+    requires befores { AreBefores (arc_value lent.now.set.now).tables orders.now befores.now }
+    ensures { OnOk result (out.new.items
+        ≡ out.old.items ++ orders_text (arc_value lent.now.set.now).tables orders.now first (end - first)) }
+{
+    let portfolios = orders.portfolios_with(lent.alloc, first, end - first)?;
+    let rows = rows_of(lent, portfolios)?;
+    push_orders(out, lent.set, orders, befores, first, end, &rows)
+}
+
+/// What orders would do, in their order. Besides the text and the orders, the rows of one batch are in memory, and the numbers of
+/// each account before the orders.
+pub(crate) fn text_of<R: Threads + Wait + Clock + Sync, G: Gate>(
+    lent: &Lent<'_, R, G>,
+    orders: &Orders,
+) -> Result<Vec<u8>, AllocError>
+    requires portfolios { AllFit (arc_value lent.now.set.now) orders.now.portfolios }
+    requires fits { OrdersFit (arc_value lent.now.set.now) orders.now }
+    ensures { IfOk result (λ text. text.items ≡ whatif_text (arc_value lent.now.set.now).tables orders.now.orders) }
+{
+    let befores = befores_of(lent, orders)?;
+    let mut out = Vec::new(lent.alloc);
+    let mut first = 0;
+    while first < orders.len() {
+        let end = first + (orders.len() - first).min(MOST_AT_ONCE);
+        push_batch(lent, &mut out, orders, &befores, first, end)?;
+        first = end;
+    }
+    Ok(out)
+}

@@ -1,0 +1,105 @@
+//! Laws: what the lines of an order say of the statements without it and with it. Each is the contract of a function that does nothing.
+ghost use Rattle.param_check.specs.OrderBinding.{TriedOrder, holdings_after, holdings_before, orders_bound, tried_order};
+ghost use Rattle.param_check.specs.OrderBinding.{TriedOrders};
+ghost use Rattle.param_check.specs.declared.faults.OrderBindFault.{OrderBindFault};
+ghost use Rattle.plan_ir.specs.Figures.{is_commodity_held};
+ghost use Rattle.span_csv.specs.OrderFaults.{orders_of};
+ghost use Rattle.span_csv.specs.PositionFaults.{positions_of};
+ghost use Rattle.span_csv.specs.declared.faults.OrderFault.{OrderFault};
+ghost use Rattle.span_money.specs.LineFields.{line};
+ghost use Rattle.span_money.specs.Numbers.{int_sum_by};
+ghost use Rattle.span_tables.specs.Net.{AccountHoldings, net_of, portfolios_of};
+ghost use Rattle.span_tables.specs.Orders.{account_of_order, positions_of_order};
+ghost use Rattle.span_tables.specs.Tables.{AcceptedTables};
+ghost use Rattle.span_tables.specs.declared.records.Contract.{Contract};
+ghost use Rattle.span_tables.specs.declared.records.OrderRecord.{OrderRecord};
+ghost use Rattle.span_tables.specs.declared.records.PositionRecord.{PositionRecord};
+ghost use Rattle.statement.specs.Statement.{accepted_of, portfolios_under, statement_of, total_of};
+ghost use Rattle.statement.specs.declared.faults.SpanFault.{SpanFault};
+ghost use Rattle.statement.specs.declared.faults.SpanFault.TheVariants as fault;
+ghost use Rattle.std.specs.Prelude.{◌≡◌, ◌-ℤ◌, ◌++◌, ◌<◌, Err, List, None, Ok, Some, [], bytes_eq, false, filter, find, length};
+ghost use Rattle.std.specs.Prelude.{pos, ℕ};
+ghost use Rattle.whatif.specs.Whatif.{changed_by, due_at, order_line, order_text, requirement_at, tried_of, whatif_text};
+
+/// The changes of the commodities that have a line add up to the change of the total of the account.
+pub fn changes_add_up()
+    ensures { (t : AcceptedTables) (o : TriedOrder)
+        → int_sum_by (λ c. requirement_at t o.after c -ℤ requirement_at t o.before c) (changed_by t o)
+        ≡ total_of t o.after -ℤ total_of t o.before }
+{}
+
+/// An order with which its account holds what it held without it has its last line alone, with all changes 0.
+pub fn an_order_that_changes_no_holding_has_one_line()
+    ensures none { (t : AcceptedTables) (o : TriedOrder) → o.after.holdings ≡ o.before.holdings → changed_by t o ≡ [] }
+    ensures alone { (t : AcceptedTables) (o : TriedOrder) → o.after.holdings ≡ o.before.holdings
+        → order_text t o ≡ line (order_line t o) }
+    ensures total { (t : AcceptedTables) (o : TriedOrder) → o.after.holdings ≡ o.before.holdings
+        → total_of t o.after -ℤ total_of t o.before ≡ pos 0 }
+    ensures due { (t : AcceptedTables) (o : TriedOrder) → o.after.holdings ≡ o.before.holdings
+        → due_at t o.after -ℤ due_at t o.before ≡ pos 0 }
+{}
+
+/// An order whose quantities add up to 0 in each contract changes no holding of its account.
+pub fn an_order_that_adds_up_to_nothing_changes_no_holding()
+    ensures { (contracts : List Contract) (positions : List PositionRecord) (records : List OrderRecord) (order : List ℕ)
+        → ((contract : List ℕ) → net_of (positions_of_order records order) (account_of_order records order) contract ≡ pos 0)
+        → holdings_after contracts (portfolios_of contracts positions) records order
+        ≡ holdings_before (portfolios_of contracts positions) records order }
+{}
+
+/// Before an order its account has the portfolio that it has among those that the order is tried on, or holds nothing, where it has
+/// none. After it the account has the portfolio that it has under the records of the positions with the order's behind them. So what the
+/// lines of the order say of before and after is what the lines of the account say in the statements of these portfolios.
+pub fn before_and_after_are_those_of_statements()
+    ensures before { (contracts : List Contract) (portfolios : List AccountHoldings) (records : List OrderRecord) (order : List ℕ)
+        (p : AccountHoldings) → find (λ q. bytes_eq q.account (account_of_order records order)) portfolios ≡ Some p
+        → (tried_order contracts portfolios records order).before ≡ p }
+    ensures nothing { (contracts : List Contract) (portfolios : List AccountHoldings) (records : List OrderRecord) (order : List ℕ)
+        → find (λ q. bytes_eq q.account (account_of_order records order)) portfolios ≡ None
+        → (tried_order contracts portfolios records order).before.holdings ≡ [] }
+    ensures after { (t : AcceptedTables) (positions : List PositionRecord) (records : List OrderRecord) (order : List ℕ)
+        (portfolios later : List AccountHoldings) (p : AccountHoldings) → portfolios_under t positions ≡ Ok portfolios
+        → portfolios_under t (positions ++ positions_of_order records order) ≡ Ok later
+        → find (λ q. bytes_eq q.account (account_of_order records order)) later ≡ Some p
+        → (tried_order t.contracts portfolios records order).after ≡ p }
+{}
+
+/// Nothing is required in a commodity of which nothing is held, and an account that holds nothing has total 0 and owes nothing.
+pub fn what_holds_nothing_requires_nothing()
+    ensures commodity { (t : AcceptedTables) (p : AccountHoldings) (c : ℕ) → c < length t.commodities
+        → is_commodity_held t p.holdings c ≡ false → requirement_at t p c ≡ pos 0 }
+    ensures commodities { (t : AcceptedTables) (p : AccountHoldings) → p.holdings ≡ [] → (c : ℕ) → c < length t.commodities
+        → requirement_at t p c ≡ pos 0 }
+    ensures total { (t : AcceptedTables) (p : AccountHoldings) → p.holdings ≡ [] → total_of t p ≡ pos 0 }
+    ensures due { (t : AcceptedTables) (p : AccountHoldings) → p.holdings ≡ [] → due_at t p ≡ pos 0 }
+{}
+
+/// The lines of an order are the same beside whatever other orders. No orders give no bytes, and the lines of some orders stand before
+/// those of the orders behind them.
+pub fn orders_stand_by_themselves()
+    ensures same { (t : AcceptedTables) (portfolios : List AccountHoldings) (these those : List OrderRecord) (order : List ℕ)
+        → filter (λ r. bytes_eq r.order order) these ≡ filter (λ r. bytes_eq r.order order) those
+        → order_text t (tried_order t.contracts portfolios these order) ≡ order_text t (tried_order t.contracts portfolios those order) }
+    ensures none { (t : AcceptedTables) → whatif_text t [] ≡ [] }
+    ensures in_order { (t : AcceptedTables) (some others : List TriedOrder)
+        → whatif_text t (some ++ others) ≡ whatif_text t some ++ whatif_text t others }
+{}
+
+/// What refuses a statement refuses what is tried on it; then come the faults of reading the orders, and those of binding them. Where there
+/// is none, the answer is the text of the orders.
+pub fn faults_come_in_order()
+    ensures statement { (params positions orders : List ℕ) (e : SpanFault) → statement_of params positions ≡ Err e
+        → tried_of params positions orders ≡ Err e }
+    ensures orders { (params positions orders : List ℕ) (t : AcceptedTables) (records : List PositionRecord)
+        (portfolios : List AccountHoldings) (e : OrderFault) → accepted_of params ≡ Ok t → positions_of positions ≡ Ok records
+        → portfolios_under t records ≡ Ok portfolios → orders_of orders ≡ Err e
+        → tried_of params positions orders ≡ Err (fault.Orders e) }
+    ensures bind { (params positions orders : List ℕ) (t : AcceptedTables) (records : List PositionRecord)
+        (portfolios : List AccountHoldings) (tried : List OrderRecord) (e : OrderBindFault) → accepted_of params ≡ Ok t
+        → positions_of positions ≡ Ok records → portfolios_under t records ≡ Ok portfolios → orders_of orders ≡ Ok tried
+        → orders_bound t.contracts portfolios tried ≡ Err e → tried_of params positions orders ≡ Err (fault.BindOrders e) }
+    ensures text { (params positions orders : List ℕ) (t : AcceptedTables) (records : List PositionRecord)
+        (portfolios : List AccountHoldings) (all : List OrderRecord) (tried : TriedOrders) → accepted_of params ≡ Ok t
+        → positions_of positions ≡ Ok records → portfolios_under t records ≡ Ok portfolios → orders_of orders ≡ Ok all
+        → orders_bound t.contracts portfolios all ≡ Ok tried → tried_of params positions orders ≡ Ok (whatif_text t tried.orders) }
+{}

@@ -1,0 +1,10 @@
+//! Orders tried: from the bytes of a parameter file, a position file and an order file to what each order would do to the margin of
+//! its account.
+#![tactic(auto)]
+
+mod batches;
+mod befores;
+pub mod laws;
+mod lines;
+mod numbers;
+pub mod trying;
