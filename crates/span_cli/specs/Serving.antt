@@ -8,6 +8,7 @@ use Rattle.statement.specs.Rolls.{GivesRoll}
 use Rattle.statement.specs.Statement.{margin_of}
 use Rattle.statement.specs.declared.faults.SpanFault.{SpanFault}
 use Rattle.statement.specs.declared.statuses.TheConstants.{DONE, FILE_FAILED, OUT_OF_MEMORY}
+use Rattle.whatif.specs.Whatif.{whatif_of}
 use Rattle.span_cli.specs.Sources.{File}
 use Rattle.span_cli.specs.declared.sources.ReadFault.{ReadFault}
 use Rattle.span_cli.specs.declared.sources.ReadFault.TheVariants as read
@@ -54,6 +55,7 @@ pub data Command : Type 0 where
   Margin : ℕ → Command
   Explain : Option (List ℕ) → Command
   Roll : ℕ → Command
+  WhatIf : ℕ → Command
 
 -- what is asked for: a command, and the names of its files in the order in which they are read
 abbrev pub Asked : Type 0
@@ -66,6 +68,7 @@ asked_by (request.Plan params) = (Plan, params.now ∷ [])
 asked_by (request.Margin params positions workers) = (Margin workers, params.now ∷ positions.now ∷ [])
 asked_by (request.Explain params positions account) = (Explain account, params.now ∷ positions.now ∷ [])
 asked_by (request.Roll params next positions workers) = (Roll workers, params.now ∷ next.now ∷ positions.now ∷ [])
+asked_by (request.WhatIf params positions orders workers) = (WhatIf workers, params.now ∷ positions.now ∷ orders.now ∷ [])
 
 -- The answer is one that a roll of these bytes on so many workers may have: that of its text, of the first fault of the
 -- files, of memory, of a book or of a shelf that refused.
@@ -81,6 +84,8 @@ answered Plan (params ∷ []) answer = answer ≡ answer_of (listing_of params)
 answered (Margin workers) (params ∷ positions ∷ []) answer = answer ≡ answer_of (margin_of workers params positions)
 answered (Explain account) (params ∷ positions ∷ []) answer = answer ≡ answer_of (explanation_of params positions account)
 answered (Roll workers) (params ∷ next ∷ positions ∷ []) answer = IsOfRoll workers params next positions answer
+answered (WhatIf workers) (params ∷ positions ∷ orders ∷ []) answer =
+    answer ≡ answer_of (whatif_of workers params positions orders)
 answered command files answer = ⊥
 
 -- What becomes of files that are read: the bytes of all; or the answer that names the first that cannot be read; or nothing,

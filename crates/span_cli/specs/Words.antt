@@ -12,7 +12,7 @@ use Rattle.clap.specs.declared.builder.value_parser.ValueParser.TheVariants as v
 use Rattle.clap.specs.declared.error.kind.ErrorKind.TheVariants as kind
 use Rattle.span_tables.specs.Names.{name_of}
 use Rattle.worker_pool.specs.declared.batch.TheConstants.{MAX_WORKERS}
-use Rattle.span_cli.specs.Serving.{Asked, Command, Check, Explain, Margin, Plan, Roll}
+use Rattle.span_cli.specs.Serving.{Asked, Command, Check, Explain, Margin, Plan, Roll, WhatIf}
 
 -- The words with each `--account` and the word behind it, whatever that is, in one word; a `--`, and all behind it, stand as
 -- they are.
@@ -100,6 +100,8 @@ commands =
     ∷ words_of (codes "explain") (needed (codes "PARAMS" ∷ codes "POSITIONS" ∷ [])) (account_rule ∷ []) (with_account_option Explain)
     ∷ words_of (codes "roll") (needed (codes "PARAMS" ∷ codes "NEXT" ∷ codes "POSITIONS" ∷ [])) (workers_rule ∷ [])
     (with_workers Roll)
+    ∷ words_of (codes "whatif") (needed (codes "PARAMS" ∷ codes "POSITIONS" ∷ codes "ORDERS" ∷ [])) (workers_rule ∷ [])
+    (with_workers WhatIf)
     ∷ []
 
 -- a command with these arguments behind its own

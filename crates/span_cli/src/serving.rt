@@ -24,6 +24,7 @@ use std::io::Write;
 use std::sync::{Mutex, Wait};
 use std::thread::Threads;
 use std::time::Clock;
+use whatif::trying::whatif;
 use worker_pool::gates::Gate;
 
 /// What the program is asked for, with the names of its files.
@@ -54,6 +55,13 @@ pub enum Request<'a> {
         params: &'a str,
         next: &'a str,
         positions: &'a str,
+        workers: usize,
+    },
+    /// What each order of a file would do to the margin of its account, on so many workers.
+    WhatIf {
+        params: &'a str,
+        positions: &'a str,
+        orders: &'a str,
         workers: usize,
     },
 }
@@ -89,6 +97,12 @@ impl<'a> Request<'a> {
                 positions,
                 ..
             } => listed(&[params, next, positions]),
+            Request::WhatIf {
+                params,
+                positions,
+                orders,
+                ..
+            } => listed(&[params, positions, orders]),
         }
     }
 }
@@ -191,6 +205,9 @@ fn answer<R: Threads + Wait + Clock + Sync, G: Gate>(
         (Request::Roll { workers, .. }, [params, next, positions]) => {
             rolled(lent, params, next, positions, *workers)
         }
+        (Request::WhatIf { workers, .. }, [params, positions, orders]) => whatif(
+            lent.rt, lent.alloc, params, positions, orders, *workers, lent.gate,
+        ),
         _ => unreachable!(),
     }
 }

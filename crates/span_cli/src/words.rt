@@ -93,6 +93,12 @@ const POSITIONS: FileArg = FileArg {
     required: true,
 };
 
+const ORDERS: FileArg = FileArg {
+    id: "ORDERS",
+    help: "Order file (CSV): order, account, contract, quantity in contracts (minus is sold)",
+    required: true,
+};
+
 const CHECK: CommandRow = CommandRow {
     name: "check",
     about: "Checks a parameter file and counts its records",
@@ -167,8 +173,25 @@ docs/ROLL.md has a day's roll in commands.",
     option: Some(OptionArg::Workers),
 };
 
+const WHAT_IF: CommandRow = CommandRow {
+    name: "whatif",
+    about: "Prints what each order would do to the margin of its account",
+    more: "\
+Tries each order by itself on the positions of its account. Prints a line for each commodity whose requirement it
+changes, then one for the account's total:
+  CHANGE,order,account,set,commodity,before,after,change
+  ORDER,order,account,set,before,after,change
+Under a set of version 2, whose options have a value, the last line goes on with what the account has to bring
+after that value:
+  ORDER,order,account,set,before,after,change,due before,due after,due change
+An order is all records with its name. `before` is without the order, `after` with it, `change` after less before.
+docs/FORMATS.md describes the files and the lines; docs/WHATIF.md tries orders in commands.",
+    files: &[PARAMS, POSITIONS, ORDERS],
+    option: Some(OptionArg::Workers),
+};
+
 // The commands, as help lists them.
-const COMMANDS: [CommandRow; 5] = [CHECK, PLAN, MARGIN, EXPLAIN, ROLL];
+const COMMANDS: [CommandRow; 6] = [CHECK, PLAN, MARGIN, EXPLAIN, ROLL, WHAT_IF];
 
 // A file's name.
 fn file_arg<'a>(alloc: Global, file: &FileArg) -> Arg<'a>
@@ -349,6 +372,12 @@ fn request_under<'a>(name: &str, matches: &ArgMatches<'a>) -> Option<Request<'a>
             params: file(PARAMS)?,
             next: file(NEXT)?,
             positions: file(POSITIONS)?,
+            workers: workers_asked(matches)?,
+        }),
+        "whatif" => Some(Request::WhatIf {
+            params: file(PARAMS)?,
+            positions: file(POSITIONS)?,
+            orders: file(ORDERS)?,
             workers: workers_asked(matches)?,
         }),
         _ => None,

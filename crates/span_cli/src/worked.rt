@@ -2,7 +2,7 @@
 #![tactic(auto, unfolding(crate::specs::near::OnLiterals::on_literals))]
 
 ghost use Rattle.clap.specs.declared.error.kind.ErrorKind.TheVariants as kind;
-ghost use Rattle.span_cli.specs.Serving.{Check, Explain, IsAnswer, Margin, Plan, Roll, done, refused};
+ghost use Rattle.span_cli.specs.Serving.{Check, Explain, IsAnswer, Margin, Plan, Roll, WhatIf, done, refused};
 ghost use Rattle.span_cli.specs.Words.{asked_in, is_request, joined_words, kinds_of};
 ghost use Rattle.span_cli.specs.declared.sources.ReadFault.TheVariants as read;
 ghost use Rattle.span_cli.specs.declared.disk.TheConstants.{MAX_TURNS};
@@ -91,6 +91,18 @@ fn roll_of_three_files()
     ensures no_next { kinds_of (codes "span" ∷ codes "roll" ∷ codes "p" ∷ codes "q" ∷ []) ≡ kind.MissingRequiredArgument ∷ [] }
 {}
 
+// `span whatif p q o` is taken, and asks for just that, with the files in their order and one worker; and with two.
+fn whatif_of_three_files()
+    ensures taken { is_request (codes "span" ∷ codes "whatif" ∷ codes "p" ∷ codes "q" ∷ codes "o" ∷ []) ≡ true }
+    ensures asked { asked_in (codes "span" ∷ codes "whatif" ∷ codes "p" ∷ codes "q" ∷ codes "o" ∷ [])
+        ≡ Some (WhatIf 1, codes "p" ∷ codes "q" ∷ codes "o" ∷ []) }
+    ensures workers { asked_in (codes "span" ∷ codes "whatif" ∷ codes "--workers=2" ∷ codes "p" ∷ codes "q" ∷ codes "o" ∷ [])
+        ≡ Some (WhatIf 2, codes "p" ∷ codes "q" ∷ codes "o" ∷ []) }
+    ensures no_orders { kinds_of (codes "span" ∷ codes "whatif" ∷ codes "p" ∷ codes "q" ∷ []) ≡ kind.MissingRequiredArgument ∷ [] }
+    ensures four { kinds_of (codes "span" ∷ codes "whatif" ∷ codes "p" ∷ codes "q" ∷ codes "o" ∷ codes "r" ∷ [])
+        ≡ kind.UnknownArgument ∷ [] }
+{}
+
 // A number of workers behind the files, as a word of its own.
 fn workers_behind_the_files()
     ensures taken { is_request (codes "span" ∷ codes "margin" ∷ codes "p" ∷ codes "q" ∷ codes "--workers" ∷ codes "16" ∷ [])
@@ -175,6 +187,8 @@ fn first_that_is_not_read()
     ensures next_of_a_roll { IsAnswer (λ name. if bytes_eq name (codes "p") then Some (Ok [])
         else if bytes_eq name (codes "n") then Some (Err read.Failed) else None)
         (Roll 1, codes "p" ∷ codes "n" ∷ codes "q" ∷ []) (refused 6 (codes "file: n\n")) }
+    ensures orders { IsAnswer (λ name. if bytes_eq name (codes "o") then Some (Err read.Failed) else Some (Ok []))
+        (WhatIf 1, codes "p" ∷ codes "q" ∷ codes "o" ∷ []) (refused 6 (codes "file: o\n")) }
 {}
 
 // The counts and the statement of small files, and two that are refused.
@@ -188,6 +202,12 @@ fn files_that_are_read()
     ensures unknown_contract { IsAnswer (λ name. if bytes_eq name (codes "p") then Some (Ok (codes "SET,D1,1,USD\n"))
         else Some (Ok (codes "X,FA,1\n"))) (Margin 1, codes "p" ∷ codes "q" ∷ [])
         (refused 4 (codes "positions: B1 UnknownContract at record 1 account X\n")) }
+    ensures no_orders { IsAnswer (λ name. if bytes_eq name (codes "p") then Some (Ok (codes "SET,D1,1,USD\n"))
+        else Some (Ok [])) (WhatIf 1, codes "p" ∷ codes "q" ∷ codes "o" ∷ []) (done []) }
+    ensures unknown_contract_of_an_order { IsAnswer (λ name. if bytes_eq name (codes "p") then Some (Ok (codes "SET,D1,1,USD\n"))
+        else if bytes_eq name (codes "q") then Some (Ok []) else Some (Ok (codes "BUY,X,FA,1\n")))
+        (WhatIf 1, codes "p" ∷ codes "q" ∷ codes "o" ∷ [])
+        (refused 4 (codes "orders: B1 UnknownContract at record 1 order BUY\n")) }
 {}
 
 // The plan of a set alone, and the refusal of a file that is no set.
