@@ -120,6 +120,35 @@ fn three_workers_at_once(rt: HostRuntime) {
     assert!(rt; gate.was_passed_once_by_each_step());
 }
 
+// An order of a new account, of which three workers share the steps.
+#[test]
+fn three_workers_at_one_order(rt: HostRuntime) {
+    let gate = Together::new(3);
+    let words = [
+        "span",
+        "whatif",
+        "--workers=3",
+        "params.csv",
+        "positions.csv",
+        "orders.csv",
+    ];
+    let mut sources = InMemory {
+        files: &[
+            ("params.csv", PARAMS),
+            ("positions.csv", b""),
+            ("orders.csv", b"TRY,X,FA,1\nTRY,X,FB,-2\n"),
+        ],
+    };
+    let given = run_on(&rt, rt.alloc(), &words, &mut sources, &gate);
+    let changes = b"\
+CHANGE,TRY,X,D1,AA,0,600,600
+CHANGE,TRY,X,D1,BB,0,1350,1350
+ORDER,TRY,X,D1,0,1950,1950
+";
+    assert!(rt; given.is(0, changes, b""));
+    assert!(rt; gate.were_together(0b111));
+}
+
 #[test]
 fn each_step_once_in_order_on_one_worker(rt: HostRuntime) {
     let gate = Together::new(1);

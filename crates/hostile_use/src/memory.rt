@@ -6,6 +6,7 @@ ghost use Rattle.span_tables.specs.Holdings.{fits};
 
 use param_check::binding::bind;
 use param_check::check::check;
+use param_check::orders::bind_orders;
 use plan_compiler::set::{CompiledSet, compile};
 use plan_shelf::faults::ShelfFault;
 use plan_shelf::history::{History, ShelfName};
@@ -15,9 +16,10 @@ use plan_shelf::shelves::shelf;
 use result_book::books::{BookFault, ResultBook};
 use result_book::rows::Row;
 use sample_files::three_commodities::{PARAMS, POSITIONS, STATEMENT};
-use sample_files::{calendar, one_future};
+use sample_files::{calendar, one_future, two_commodities};
 use sample_sets::boards::board_of;
 use sample_sets::files::{accounts_of, job_of, set_of};
+use span_csv::orders::read_orders;
 use span_csv::params::read_params;
 use span_csv::positions::read_positions;
 use span_tables::name::Name;
@@ -36,6 +38,7 @@ use step_scheduler::boards::{Board, Refused};
 use step_scheduler::evaluation::evaluate;
 use step_scheduler::jobs::Job;
 use step_scheduler::tasks::Task;
+use whatif::trying::whatif;
 use worker_pool::batch::{PoolFault, run_batch};
 use worker_pool::gates::{Gate, OpenGate};
 use worker_pool::outcomes::Outcome;
@@ -50,12 +53,19 @@ fn was_refused(answer: Result<(), SpanFault>) -> Result<bool, SpanFault> {
     }
 }
 
-// Reading, checking, binding and compiling.
+// Reading, checking, binding, trying and compiling.
 fn each_stage<R: Abort>(rt: &R, alloc: Global) -> Result<(), SpanFault> {
     let tables = check(alloc, read_params(alloc, PARAMS)?)?;
     let positions = read_positions(alloc, POSITIONS)?;
     let portfolios = bind(alloc, &tables, &positions)?;
     assert_eq!(rt; portfolios.as_slice().len(), 1);
+    let orders = read_orders(alloc, b"BUY,X,FA,1\nBUY,X,FB,1\nBUY,X,FA,2\nNEW,Y,FC,1\n")?;
+    let orders = bind_orders(alloc, &tables, portfolios, &orders)?;
+    assert_eq!(rt; orders.len(), 2);
+    let after = orders
+        .portfolios_with(alloc, 0, 2)
+        .map_err(|_| SpanFault::Memory)?;
+    assert_eq!(rt; after.len(), 2);
     let set = compile(alloc, tables)?;
     assert_eq!(rt; set.plan().len(), 34);
     Ok(())
@@ -108,6 +118,42 @@ fn statement_on_four_workers(rt: HostRuntime) -> Result<(), Fail> {
     let alloc = rt.alloc();
     if was_refused(statement_on(&rt, alloc, 4))? {
         statement_on(&rt, alloc, 4)?;
+    }
+    Ok(())
+}
+
+fn orders_on<R: Threads + Wait + Clock + Sync + Abort>(
+    rt: &R,
+    alloc: Global,
+    workers: usize,
+) -> Result<(), SpanFault> {
+    let text = whatif(
+        rt,
+        alloc,
+        two_commodities::PARAMS,
+        two_commodities::TWO_ACCOUNTS,
+        two_commodities::ORDERS,
+        workers,
+        &OpenGate,
+    )?;
+    assert_eq!(rt; text.as_slice(), two_commodities::CHANGES);
+    Ok(())
+}
+
+#[test]
+fn orders_on_one_worker(rt: HostRuntime) -> Result<(), Fail> {
+    let alloc = rt.alloc();
+    if was_refused(orders_on(&rt, alloc, 1))? {
+        orders_on(&rt, alloc, 1)?;
+    }
+    Ok(())
+}
+
+#[test]
+fn orders_on_four_workers(rt: HostRuntime) -> Result<(), Fail> {
+    let alloc = rt.alloc();
+    if was_refused(orders_on(&rt, alloc, 4))? {
+        orders_on(&rt, alloc, 4)?;
     }
     Ok(())
 }

@@ -26,6 +26,33 @@ R,X,D1,BB,1800,11,0,0,450,0,1350
 T,X,D1,1950
 ";
 
+/// Two accounts, one long one in the first commodity, the other short two in the second:
+/// `tests/cases/records-of-two-orders-scattered/positions.csv`.
+pub const TWO_ACCOUNTS: &[u8] = b"\
+X,FA,1
+Y,FB,-2
+";
+
+/// An order of each account, the second one's first, their records by turns:
+/// `tests/cases/records-of-two-orders-scattered/orders.csv`.
+pub const ORDERS: &[u8] = b"\
+SWAP,Y,FA,1
+HEDGE,X,FB,-1
+SWAP,Y,FB,1
+HEDGE,X,FB,-1
+";
+
+/// Each order leaves its account with both commodities, of which one earns a credit of the other:
+/// `tests/cases/records-of-two-orders-scattered/stdout`.
+pub const CHANGES: &[u8] = b"\
+CHANGE,SWAP,Y,D1,AA,0,600,600
+CHANGE,SWAP,Y,D1,BB,1800,450,-1350
+ORDER,SWAP,Y,D1,1800,1050,-750
+CHANGE,HEDGE,X,D1,AA,1200,600,-600
+CHANGE,HEDGE,X,D1,BB,0,1350,1350
+ORDER,HEDGE,X,D1,1200,1950,750
+";
+
 /// The account explained: one spread forms, at half of what each of its deltas risks:
 /// `tests/cases/two-commodities-one-credit-explained/stdout`.
 pub const EXPLANATION: &[u8] = b"\

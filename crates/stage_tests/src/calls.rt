@@ -8,7 +8,9 @@ use inter_credit::credit::credit;
 use inter_credit::spreads::inter_spread;
 use param_check::binding::{bind, bind_positions};
 use param_check::check::check;
+use param_check::orders::bind_orders;
 use sample_files::calendar::{PARAMS, POSITIONS};
+use span_csv::orders::read_orders;
 use span_csv::params::read_params;
 use span_csv::positions::read_positions;
 use span_money::exact::push_exact;
@@ -31,6 +33,7 @@ fn calls_succeed(rt: HostRuntime) -> Result<(), Fail> {
     lists(&rt, alloc)?;
     let tables = tables_read(&rt, alloc)?;
     let account = account_read(&rt, alloc, &tables)?;
+    orders_read(&rt, alloc, &tables)?;
     let held = held_of(&rt, alloc, &tables, &account)?;
     spreads_of_months(&rt, alloc, &tables, &held)?;
     spreads_of_commodities(&rt, alloc)
@@ -91,6 +94,29 @@ fn account_read(rt: &impl Abort, alloc: Global, tables: &Tables) -> Result<Portf
     let account = portfolios.into_vec().pop().ok_or("an account")?;
     assert!(rt; account.fits(tables));
     Ok(account)
+}
+
+// Whether an account holds this contract alone.
+fn holds(account: &Portfolio, contract: usize, net: i64) -> bool {
+    match account.holdings() {
+        [only] => (only.contract, only.net) == (contract, net),
+        _ => false,
+    }
+}
+
+// `span_csv` and `param_check`: an order that closes the short contract and sells one of the other, and one of a new account.
+fn orders_read(rt: &impl Abort, alloc: Global, tables: &Tables) -> Result<(), Fail> {
+    let positions = read_positions(alloc, POSITIONS)?;
+    let portfolios = bind(alloc, tables, &positions)?;
+    let raw = read_orders(alloc, b"CLOSE,X,FA2,2\nOPEN,Y,FA,4\nCLOSE,X,FA,-1\n")?;
+    let orders = bind_orders(alloc, tables, portfolios, &raw)?;
+    assert_eq!(rt; orders.len(), 2);
+    assert_eq!(rt; orders.name(0).as_bytes(), b"CLOSE".as_slice());
+    assert_eq!(rt; (orders.place(0), orders.place(1)), (Some(0), None));
+    let after = orders.portfolios_with(alloc, 0, 2)?;
+    assert_eq!(rt; after.len(), 2);
+    assert!(rt; holds(&after[0], 0, 2) && holds(&after[1], 0, 4));
+    Ok(())
 }
 
 // `span_tables`: what is held of the one commodity, and nothing.

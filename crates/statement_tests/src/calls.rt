@@ -1,5 +1,5 @@
-//! Each public call of `statement`, `explanation`, `reasons` and `worker_teams` whose clause lets it give up, for want of memory
-//! or where a writer fails: that it succeeds where there is memory and nothing fails, once.
+//! Each public call of `statement`, `explanation`, `whatif`, `reasons` and `worker_teams` whose clause lets it give up, for want of
+//! memory or where a writer fails: that it succeeds where there is memory and nothing fails, once.
 ghost use Rattle.span_tables.specs.Holdings.{fits};
 ghost use Rattle.std.specs.Prelude.{◌≡◌, ◌<◌, length, true};
 
@@ -29,6 +29,7 @@ use std::process::Abort;
 use std::sync::{Arc, Mutex, Wait};
 use std::thread::Threads;
 use std::time::Clock;
+use whatif::trying::whatif;
 use worker_pool::gates::OpenGate;
 use worker_pool::outcomes::Outcome;
 use worker_teams::teams::run_in_teams;
@@ -158,6 +159,23 @@ fn of_reasons(rt: &impl Abort, alloc: Global) {
     assert_eq!(rt; text.as_slice(), two_commodities::EXPLANATION);
 }
 
+// What two orders change, alone and on workers.
+fn of_orders<R: Threads + Wait + Clock + Sync + Abort>(rt: &R, alloc: Global) {
+    for workers in [1usize, 2] {
+        let text = whatif(
+            rt,
+            alloc,
+            two_commodities::PARAMS,
+            two_commodities::TWO_ACCOUNTS,
+            two_commodities::ORDERS,
+            workers,
+            &OpenGate,
+        );
+        let text = text.expect(rt, "changes");
+        assert_eq!(rt; text.as_slice(), two_commodities::CHANGES);
+    }
+}
+
 // The reasons for the figures of the first commodity, under the ids of an account of a calendar spread.
 fn reasons_of(alloc: Global, tables: &Tables, portfolio: &Portfolio) -> Result<Vec<u8>, AllocError>
     requires commodity { 0 < length tables.now.commodities }
@@ -212,6 +230,7 @@ fn calls_succeed(rt: HostRuntime) {
     of_rows(&rt, alloc);
     of_teams(&rt, alloc);
     of_reasons(&rt, alloc);
+    of_orders(&rt, alloc);
     of_stages(&rt, alloc);
     of_faults(&rt, alloc);
 }
