@@ -1,5 +1,6 @@
 # Writes a random pair of accepted files, of either version: awk -v seed=N -v params=FILE -v positions=FILE -f random-files.awk
-# The same seed gives the same files.
+# With -v orders=FILE also accepted orders on them, some of them of accounts that the positions do not have. The same seed gives the
+# same files.
 
 function pick(low, high) { return low + int(rand() * (high - low + 1)) }
 
@@ -81,4 +82,16 @@ BEGIN {
     printf "" > positions
     for (i = accounts * pick(1, 8); i > 0; i--)
         print "A" pick(1, accounts) ",K" pick(1, contracts) "," pick(-50, 50) > positions
+    if (orders == "") exit
+    count = pick(0, 30)
+    printf "" > orders
+    for (i = count * pick(1, 4); i > 0; i--) {
+        o = pick(1, count)
+        if (!(o in account)) account[o] = "A" pick(1, accounts + 2)
+        leg = "O" o "," account[o] ",K" pick(1, contracts) ","
+        quantity = pick(-50, 50)
+        print leg quantity > orders
+        # some legs add up to 0
+        if (rand() < 0.1) print leg (-quantity) > orders
+    }
 }

@@ -1,0 +1,23 @@
+# The lines that `span whatif` has to print of an order, by the statement of the positions and that of the same with the order's records
+# behind them: awk -v order=NAME -v account=NAME -f order.awk part=set PARAMS part=before STATEMENT part=after STATEMENT
+
+BEGIN { FS = "," }
+part == "set" && $1 == "SET" { set = $2; version = $3 }
+part == "set" && $1 == "COMMODITY" { commodity[++commodities] = $2 }
+part != "set" && $1 == "R" && $2 == account { requirement[part, $4] = $11 }
+part != "set" && $1 == "T" && $2 == account { total[part] = $4; due[part] = $6 }
+
+# What is before, what after, and the difference; what no statement has is 0.
+function change(before, after) { return sprintf("%.0f,%.0f,%.0f", before, after, after - before) }
+
+END {
+    for (i = 1; i <= commodities; i++) {
+        before = requirement["before", commodity[i]] + 0
+        after = requirement["after", commodity[i]] + 0
+        if (before != after)
+            print "CHANGE," order "," account "," set "," commodity[i] "," change(before, after)
+    }
+    line = "ORDER," order "," account "," set "," change(total["before"], total["after"])
+    if (version == 2) line = line "," change(due["before"], due["after"])
+    print line
+}
