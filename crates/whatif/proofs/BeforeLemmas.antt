@@ -1,8 +1,9 @@
 -- The numbers of what each order has before it, from the rows of the portfolios that are chosen.
-use Rattle.std.proofs.Common.{refl, sym, ◌≡◌, ◌∙◌, ℕ, zero, suc, ◌<◌, List, [], ◌∷◌, ◌++◌, drop, take, length, subst, arith}
+use Rattle.std.proofs.Common.{refl, sym, ap, ◌≡◌, ◌∙◌, ℕ, zero, suc, ◌<◌, List, [], ◌∷◌, ◌++◌, drop, take, length, subst, arith}
+use Rattle.std.proofs.Common.{append_assoc}
 use Rattle.std.specs.Prelude.{Some, slice_get, slice_index_or}
 use Rattle.std.specs.List.{AllZip}
-use Rattle.std.proofs.lemmas.List.{take-append-drop}
+use Rattle.std.proofs.lemmas.List.{append-nil, take-append-drop}
 use Rattle.span_tables.specs.Net.{AccountHoldings}
 use Rattle.span_tables.specs.Tables.{AcceptedTables}
 use Rattle.span_tables.specs.declared.portfolios.Holding.{Holding}
@@ -10,7 +11,7 @@ use Rattle.param_check.specs.OrderBinding.{TriedOrders}
 use Rattle.plan_compiler.specs.Compiled.{SetView}
 use Rattle.result_book.specs.Rows.{RowView}
 use Rattle.statement.specs.near.Batches.{rows_of_accounts}
-use Rattle.whatif.specs.near.Befores.{AreBefores, AreSlots, HasSlot}
+use Rattle.whatif.specs.near.Befores.{AreBefores, AreMargined, AreSlots, HasSlot}
 use Rattle.whatif.specs.near.Numbers.{AreNumbers, AreOfRow, order_at}
 use Rattle.whatif.specs.declared.befores.Befores.{Befores}
 use Rattle.whatif.specs.declared.numbers.Numbers.{Numbers}
@@ -57,14 +58,26 @@ module _ (set : SetView) where
   numbers_joined (p ∷ some) others [] those first rest = absurd first
   numbers_joined (p ∷ some) others (n ∷ these) those first rest = (first.0, numbers_joined some others these those first.1 rest)
 
-  -- of all, which are margined in two parts
-  pub befores_of_parts : (tried : TriedOrders) (chosen some others : List AccountHoldings) (these those : List Numbers) (befores : Befores)
-      → length befores.slots.items ≡ length tried.orders → AreSlots chosen tried befores.slots.items
-      → some ≡ take 1 chosen → others ≡ drop 1 chosen → AllZip AreOfRow (rows_of_accounts set some) these
-      → AllZip AreOfRow (rows_of_accounts set others) those → befores.numbers.items ≡ these ++ those → AreBefores set.tables tried befores
-  befores_of_parts tried chosen some others these those befores every slots front back first rest are =
-      let whole : some ++ others ≡ chosen = (λ k. front k ++ back k) ∙ take-append-drop 1 chosen in
-      let joined = numbers_joined some others these those first rest in
-      befores_are tried chosen (rows_of_accounts set chosen) befores every slots refl
-      (subst (λ ps. AllZip AreOfRow (rows_of_accounts set ps) befores.numbers.items) whole
-      (subst (λ ns. AllZip AreOfRow (rows_of_accounts set (some ++ others)) ns) (sym are) joined))
+  -- before any is margined
+  pub none_margined : (all : List AccountHoldings) → AreMargined set all all []
+  none_margined all = record { done = []; parts = refl; each = tt }
+
+  -- some of those that are left are margined too
+  pub more_margined : (all left some rest : List AccountHoldings) (n : ℕ) (these those numbers : List Numbers)
+      → AreMargined set all left these → some ≡ take n left → rest ≡ drop n left → AllZip AreOfRow (rows_of_accounts set some) those
+      → numbers ≡ these ++ those → AreMargined set all rest numbers
+  more_margined all left some rest n these those numbers m front back more are = record {
+    done = m.done ++ some;
+    parts =
+        let whole : some ++ rest ≡ left = (λ k. front k ++ back k) ∙ take-append-drop n left in
+        append_assoc m.done some rest ∙ ap (λ ps. m.done ++ ps) whole ∙ m.parts;
+    each = subst (λ ns. AllZip AreOfRow (rows_of_accounts set (m.done ++ some)) ns) (sym are)
+        (numbers_joined m.done some these those m.each more);
+  }
+
+  -- all are margined where none is left
+  pub all_margined : (all left : List AccountHoldings) (numbers : List Numbers) → AreMargined set all left numbers → left ≡ []
+      → AllZip AreOfRow (rows_of_accounts set all) numbers
+  all_margined all left numbers m none =
+      let whole : m.done ≡ all = sym (append-nil m.done) ∙ ap (λ ps. m.done ++ ps) (sym none) ∙ m.parts in
+      subst (λ ps. AllZip AreOfRow (rows_of_accounts set ps) numbers) whole m.each

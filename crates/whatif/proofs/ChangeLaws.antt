@@ -1,5 +1,5 @@
 -- What the changes of an order add up to, and where there are none.
-use Rattle.std.proofs.Common.{◌≡◌, ◌∙◌, ℕ, ◌+◌, Bool, true, false, cond, List}
+use Rattle.std.proofs.Common.{◌≡◌, ◌∙◌, ℕ, Bool, true, false, cond, List}
 use Rattle.std.proofs.Common.{[], ◌∷◌, ◌++◌, filter, flat_map, length, refl, sym, ap, arith}
 use Rattle.std.specs.Prelude.{not, ℤ, pos, ◌-ℤ◌}
 use Rattle.std.specs.List.{range_with_len}

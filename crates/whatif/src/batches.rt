@@ -8,7 +8,7 @@ ghost use Rattle.whatif.specs.near.Befores.{AreBefores};
 ghost use Rattle.whatif.specs.near.Orders.{OrdersFit, orders_text};
 
 use crate::befores::{Befores, befores_of};
-use crate::lines::push_order;
+use crate::lines::Trial;
 use param_check::orders::Orders;
 use plan_compiler::set::CompiledSet;
 use result_book::rows::Row;
@@ -20,8 +20,8 @@ use std::thread::Threads;
 use std::time::Clock;
 use worker_pool::gates::Gate;
 
-// How many orders a batch has, at most.
-const MOST_AT_ONCE: usize = 4096;
+/// How many portfolios a batch has, at most.
+pub(crate) const MOST_AT_ONCE: usize = 1024;
 
 /// What batches are lent: a runtime, an allocator, the set, so many workers and the gate that they pass.
 #[derive(Drop)]
@@ -72,7 +72,7 @@ fn push_orders(
     let tables = set.tables();
     for order in first..end {
         let before = befores.at(order);
-        push_order(out, tables, orders, order, before, &rows[order - first])?;
+        Trial::new(tables, orders, order, before, &rows[order - first]).push_to(out)?;
     }
     Ok(())
 }

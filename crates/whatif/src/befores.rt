@@ -7,7 +7,7 @@ ghost use Rattle.worker_pool.specs.Batches.{AllFit};
 ghost use Rattle.whatif.specs.near.Befores.{AreBefores, AreKept, AreSlots, AllKeepFit, HasSlot, IsChoice, IsMarked};
 ghost use Rattle.whatif.specs.near.Numbers.{AreOfRow, order_at};
 
-use crate::batches::{Lent, rows_of};
+use crate::batches::{Lent, MOST_AT_ONCE, rows_of};
 use crate::numbers::{Numbers, all_numbers};
 use param_check::orders::Orders;
 use span_tables::name::Name;
@@ -150,8 +150,25 @@ fn margined<R: Threads + Wait + Clock + Sync, G: Gate>(
     all_numbers(lent.alloc, &rows)
 }
 
-/// What the accounts of orders are margined at before these: each portfolio that some order is tried on is margined once, and before
-/// them the one that holds nothing, by itself.
+// The numbers of portfolios, which are margined in batches.
+fn all_margined<R: Threads + Wait + Clock + Sync, G: Gate>(
+    lent: &Lent<'_, R, G>,
+    portfolios: Vec<Portfolio>,
+) -> Result<Vec<Numbers>, AllocError>
+    requires { AllFit (arc_value lent.now.set.now) portfolios.items }
+    ensures { IfOk result (λ all. AllZip AreOfRow (rows_of_accounts (arc_value lent.now.set.now) portfolios.items) all.items) }
+{
+    let mut numbers = Vec::with_capacity(lent.alloc, portfolios.len())?;
+    let mut left = portfolios;
+    while !left.is_empty() {
+        let rest = left.split_off(left.len().min(MOST_AT_ONCE))?;
+        numbers.append(&mut margined(lent, left)?)?;
+        left = rest;
+    }
+    Ok(numbers)
+}
+
+/// What the accounts of orders are margined at before these: each portfolio that some order is tried on is margined once.
 pub(crate) fn befores_of<R: Threads + Wait + Clock + Sync, G: Gate>(
     lent: &Lent<'_, R, G>,
     orders: &Orders,
@@ -160,9 +177,6 @@ pub(crate) fn befores_of<R: Threads + Wait + Clock + Sync, G: Gate>(
     ensures { IfOk result (AreBefores (arc_value lent.now.set.now).tables orders.now) }
 {
     let Chosen { portfolios, slots } = choose(lent.alloc, orders)?;
-    let mut nothing = portfolios;
-    let others = nothing.split_off(1)?;
-    let mut numbers = margined(lent, nothing)?;
-    numbers.append(&mut margined(lent, others)?)?;
+    let numbers = all_margined(lent, portfolios)?;
     Ok(Befores { numbers, slots })
 }

@@ -8,3 +8,4 @@ pub mod laws;
 mod lines;
 mod numbers;
 pub mod trying;
+mod worked;

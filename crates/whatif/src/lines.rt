@@ -15,13 +15,28 @@ use span_tables::name::Name;
 use span_tables::tables::Tables;
 use statement::lines::due;
 use std::alloc::AllocError;
+use std::marker::Model;
 
-// The name of the order of a number.
-fn name_of(orders: &Orders, order: usize) -> &Name
-    requires { order < length orders.now.orders }
-    ensures { result.now ≡ (order_at orders.now order).order }
-{
-    orders.name(order)
+/// An order that is tried: its number among the orders, the numbers of its account before it, and the row after it. Contracts see the
+/// tables and the order.
+#[derive(Drop)]
+pub(crate) struct Trial<'a> {
+    tables: &'a Tables,
+    orders: &'a Orders,
+    number: usize,
+    before: &'a Numbers,
+    row: &'a Row,
+}
+
+impl<'a> Model for Trial<'a> {
+    ghost use Rattle.whatif.specs.near.Numbers.{order_at};
+    ghost use Rattle.whatif.specs.near.Trials.{IsTrial, TrialView};
+
+    ghost Value = { TrialView };
+
+    ghost view = { λ t. record { tables = t.tables.now; order = order_at t.orders.now t.number } };
+
+    ghost invariant = { λ t. IsTrial t.tables.now t.orders.now t.number t.before.now t.row.now };
 }
 
 // What a line says of an amount: what it is before and after, and what the second is over the first.
@@ -48,112 +63,105 @@ fn push_changed(
     push_line_of_numbers(out, "CHANGE", ids, &change_of(before, after))
 }
 
-// Appends the line of the commodity of a number, where the order of a number changes its requirement.
-#[tactic(auto, unfolding(crate::specs::Whatif::change_line))]
-fn push_change(
-    out: &mut Vec<u8>,
-    tables: &Tables,
-    orders: &Orders,
-    order: usize,
-    before: &Numbers,
-    row: &Row,
-    commodity: usize,
-) -> Result<(), AllocError>
-    requires order { order < length orders.now.orders }
-    requires tried { IsTried tables.now (order_at orders.now order) before.now row.now }
-    requires commodity { commodity < length tables.now.commodities }
-    ensures { OnOk result (out.new.items ≡ out.old.items ++ change_text tables.now (order_at orders.now order) commodity) }
-{
-    let ids = [
-        Field::Bytes(name_of(orders, order).as_bytes()),
-        Field::Bytes(row.account().as_bytes()),
-        Field::Bytes(tables.set_id().as_bytes()),
-        Field::Bytes(tables.commodities()[commodity].id.as_bytes()),
-    ];
-    let required = before.requirements[commodity];
-    push_changed(out, &ids, required, row.figures(commodity).requirement)
-}
-
-// Appends the line of each commodity whose requirement the order of a number changes.
-fn push_changes(
-    out: &mut Vec<u8>,
-    tables: &Tables,
-    orders: &Orders,
-    order: usize,
-    before: &Numbers,
-    row: &Row,
-) -> Result<(), AllocError>
-    requires order { order < length orders.now.orders }
-    requires tried { IsTried tables.now (order_at orders.now order) before.now row.now }
-    ensures { OnOk result (out.new.items ≡ out.old.items
-        ++ flat_map (λ c. line (change_line tables.now (order_at orders.now order) c))
-        (changed_by tables.now (order_at orders.now order))) }
-{
-    for commodity in 0..tables.commodities().len() {
-        push_change(out, tables, orders, order, before, row, commodity)?;
+impl<'a> Trial<'a> {
+    /// The order of a number, with the numbers of its account before it and the row after it.
+    pub(crate) fn new(
+        tables: &'a Tables,
+        orders: &'a Orders,
+        number: usize,
+        before: &'a Numbers,
+        row: &'a Row,
+    ) -> Trial<'a>
+        requires order { number < length orders.now.orders }
+        requires tried { IsTried tables.now (order_at orders.now number) before.now row.now }
+        ensures tables { result.tables ≡ tables.now }
+        ensures order { result.order ≡ order_at orders.now number }
+    {
+        Trial {
+            tables,
+            orders,
+            number,
+            before,
+            row,
+        }
     }
-    Ok(())
-}
 
-// What an account has to bring after its option value, before an order and after it, and the difference.
-fn change_of_due(before: &Numbers, row: &Row) -> [i128; 3]
-    ensures { result ≡ change_of (pos (due_of before.now.total before.now.value)) (due_at row.now.set.tables row.now.portfolio) }
-{
-    let before = due(before.total, before.value);
-    let after = due(row.total(), row.value());
-    [before, after, after - before]
-}
-
-// Appends the last line of the order of a number: how it changes the total of its account, and, where options have a value, what that
-// has to bring after it.
-#[tactic(auto, unfolding(crate::specs::Whatif::order_line))]
-fn push_totals(
-    out: &mut Vec<u8>,
-    tables: &Tables,
-    orders: &Orders,
-    order: usize,
-    before: &Numbers,
-    row: &Row,
-) -> Result<(), AllocError>
-    requires order { order < length orders.now.orders }
-    requires tried { IsTried tables.now (order_at orders.now order) before.now row.now }
-    ensures { OnOk result (out.new.items ≡ out.old.items ++ line (order_line tables.now (order_at orders.now order))) }
-{
-    let ids = [
-        Field::Bytes(name_of(orders, order).as_bytes()),
-        Field::Bytes(row.account().as_bytes()),
-        Field::Bytes(tables.set_id().as_bytes()),
-    ];
-    let [before_total, after_total, change] = change_of(before.total, row.total());
-    if !tables.facts().options_have_value {
-        return push_line_of_numbers(out, "ORDER", &ids, &[before_total, after_total, change]);
+    // The name of the order.
+    fn order(&self) -> &Name
+        ensures { result.now ≡ self.now.order.order }
+    {
+        self.orders.name(self.number)
     }
-    let [before_due, after_due, change_of_due] = change_of_due(before, row);
-    let numbers = [
-        before_total,
-        after_total,
-        change,
-        before_due,
-        after_due,
-        change_of_due,
-    ];
-    push_line_of_numbers(out, "ORDER", &ids, &numbers)
-}
 
-/// Appends the lines of the order of a number, from the numbers of its account before it, and the row after it.
-#[tactic(auto, unfolding(crate::specs::Whatif::order_text))]
-pub(crate) fn push_order(
-    out: &mut Vec<u8>,
-    tables: &Tables,
-    orders: &Orders,
-    order: usize,
-    before: &Numbers,
-    row: &Row,
-) -> Result<(), AllocError>
-    requires order { order < length orders.now.orders }
-    requires tried { IsTried tables.now (order_at orders.now order) before.now row.now }
-    ensures { OnOk result (out.new.items ≡ out.old.items ++ order_text tables.now (order_at orders.now order)) }
-{
-    push_changes(out, tables, orders, order, before, row)?;
-    push_totals(out, tables, orders, order, before, row)
+    // The account of the order.
+    fn account(&self) -> &Name
+        ensures { result.now ≡ self.now.order.after.account }
+    {
+        self.row.account()
+    }
+
+    // Appends the line of the commodity of a number, where the order changes its requirement.
+    #[tactic(auto, unfolding(crate::specs::Whatif::change_line))]
+    fn push_change(&self, out: &mut Vec<u8>, commodity: usize) -> Result<(), AllocError>
+        requires { commodity < length self.now.tables.commodities }
+        ensures { OnOk result (out.new.items ≡ out.old.items ++ change_text self.now.tables self.now.order commodity) }
+    {
+        let ids = [
+            Field::Bytes(self.order().as_bytes()),
+            Field::Bytes(self.account().as_bytes()),
+            Field::Bytes(self.tables.set_id().as_bytes()),
+            Field::Bytes(self.tables.commodities()[commodity].id.as_bytes()),
+        ];
+        let required = self.before.requirements[commodity];
+        push_changed(out, &ids, required, self.row.figures(commodity).requirement)
+    }
+
+    // Appends the line of each commodity whose requirement the order changes.
+    fn push_changes(&self, out: &mut Vec<u8>) -> Result<(), AllocError>
+        ensures { OnOk result (out.new.items ≡ out.old.items
+            ++ flat_map (λ c. line (change_line self.now.tables self.now.order c)) (changed_by self.now.tables self.now.order)) }
+    {
+        for commodity in 0..self.tables.commodities().len() {
+            self.push_change(out, commodity)?;
+        }
+        Ok(())
+    }
+
+    // What the account has to bring after its option value, before the order and after it, and the difference.
+    fn change_of_due(&self) -> [i128; 3]
+        ensures { result ≡ change_of (due_at self.now.tables self.now.order.before) (due_at self.now.tables self.now.order.after) }
+    {
+        let before = due(self.before.total, self.before.value);
+        let after = due(self.row.total(), self.row.value());
+        [before, after, after - before]
+    }
+
+    // Appends the last line of the order: how it changes the total of its account, and, where options have a value, what that has to
+    // bring after it.
+    #[tactic(auto, unfolding(crate::specs::Whatif::order_line))]
+    fn push_totals(&self, out: &mut Vec<u8>) -> Result<(), AllocError>
+        ensures { OnOk result (out.new.items ≡ out.old.items ++ line (order_line self.now.tables self.now.order)) }
+    {
+        let ids = [
+            Field::Bytes(self.order().as_bytes()),
+            Field::Bytes(self.account().as_bytes()),
+            Field::Bytes(self.tables.set_id().as_bytes()),
+        ];
+        let [before, after, change] = change_of(self.before.total, self.row.total());
+        if !self.tables.facts().options_have_value {
+            return push_line_of_numbers(out, "ORDER", &ids, &[before, after, change]);
+        }
+        let [due_before, due_after, change_of_due] = self.change_of_due();
+        let numbers = [before, after, change, due_before, due_after, change_of_due];
+        push_line_of_numbers(out, "ORDER", &ids, &numbers)
+    }
+
+    /// Appends the lines of the order.
+    #[tactic(auto, unfolding(crate::specs::Whatif::order_text))]
+    pub(crate) fn push_to(&self, out: &mut Vec<u8>) -> Result<(), AllocError>
+        ensures { OnOk result (out.new.items ≡ out.old.items ++ order_text self.now.tables self.now.order) }
+    {
+        self.push_changes(out)?;
+        self.push_totals(out)
+    }
 }

@@ -5,17 +5,14 @@ use Rattle.std.specs.Str.{chars}
 use Rattle.clap.specs.Faults.{defaults_fault, flags_fault, walk_fault}
 use Rattle.clap.specs.Takes.{flags_pass, walk_passes}
 use Rattle.clap.specs.Walk.{bundle_met, walked}
-use Rattle.param_check.specs.OrderBinding.{order_bind_fault, orders_bound}
 use Rattle.plan_ir.specs.Listing.{plan_text}
 use Rattle.plan_compiler.specs.Places.{plan_of}
 use Rattle.statement.specs.Listing.{listing_of}
-use Rattle.statement.specs.near.OnLiterals.{on_literals as statement_on_literals}
-use Rattle.whatif.specs.Whatif.{order_text, tried_of, tried_on, whatif_of, whatif_text}
+use Rattle.whatif.specs.near.OnLiterals.{on_literals as whatif_on_literals}
 use Rattle.span_cli.specs.Words.{form_kinds, has_form, is_request, joined, kinds_of}
 
 -- all words that computing on literals unfolds
 unfoldable pub on_literals : ⊤
-unfolding statement_on_literals defaults_fault flags_fault walk_fault flags_pass walk_passes bundle_met walked chars encode_utf8
-    is_request kinds_of has_form form_kinds joined plan_text plan_of listing_of order_bind_fault orders_bound order_text whatif_text
-    tried_on tried_of whatif_of
+unfolding whatif_on_literals defaults_fault flags_fault walk_fault flags_pass walk_passes bundle_met walked chars encode_utf8
+    is_request kinds_of has_form form_kinds joined plan_text plan_of listing_of
 on_literals = tt

@@ -1,11 +1,14 @@
 -- What each order has before it, among portfolios that are margined once.
 use Rattle.std.specs.Prelude.{◌≡◌, ◌≢◌, ◌<◌, ℕ, List, [], ◌++◌, All, Some, length, option_map, slice_get, slice_index_or, true}
+use Rattle.std.specs.List.{AllZip}
 use Rattle.span_tables.specs.Holdings.{fits}
 use Rattle.span_tables.specs.Net.{AccountHoldings}
 use Rattle.span_tables.specs.Tables.{AcceptedTables}
 use Rattle.span_tables.specs.declared.portfolios.Holding.{Holding}
 use Rattle.param_check.specs.OrderBinding.{TriedOrders}
-use Rattle.whatif.specs.near.Numbers.{AreNumbers, order_at}
+use Rattle.plan_compiler.specs.Compiled.{SetView}
+use Rattle.statement.specs.near.Batches.{rows_of_accounts}
+use Rattle.whatif.specs.near.Numbers.{AreNumbers, AreOfRow, order_at}
 use Rattle.whatif.specs.declared.befores.Befores.{Befores}
 use Rattle.whatif.specs.declared.befores.Choice.{Choice}
 use Rattle.whatif.specs.declared.numbers.Numbers.{Numbers}
@@ -50,3 +53,9 @@ pub record AreBefores (t : AcceptedTables) (tried : TriedOrders) (befores : Befo
   pub each : (i : ℕ) → i < length tried.orders → (numbers : Numbers)
       → slice_get befores.numbers.items (slice_index_or befores.slots.items i 0) ≡ Some numbers
       → AreNumbers t (order_at tried i).before.holdings numbers
+
+-- of all portfolios some are left, and the others have their numbers
+pub record AreMargined (set : SetView) (all left : List AccountHoldings) (numbers : List Numbers) : Type 0 where
+  pub done : List AccountHoldings
+  pub parts : done ++ left ≡ all
+  pub each : AllZip AreOfRow (rows_of_accounts set done) numbers

@@ -7,8 +7,8 @@ use Rattle.whatif.proofs.BatchLemmas.{row_there}
 use Rattle.whatif.proofs.TextLemmas.{written_next}
 use Rattle.whatif.proofs.batches.push_orders.Goals as goal
 
-pub push_order-requires-clause-tried : goal.push_order-requires-clause-tried
-push_order-requires-clause-tried c =
+pub new-requires-clause-tried : goal.new-requires-clause-tried
+new-requires-clause-tried c =
     let set = arc_value c.args.set.now in
     let tried = c.args.orders.now in
     let first = c.args.first in
@@ -35,6 +35,7 @@ loop-order-preserved c =
     let order = c.loop-order.order in
     let f : ℕ → List ℕ = λ i. order_text set.tables (order_at tried i) in
     let tables : c.tables-tables.result.now ≡ set.tables = c.tables-tables.ensures.tables ∙ ap (λ s. s.tables) c.deref.ensures in
-    c.in_ok-push_order.ensures ∙ (λ k. c.loop-order.invariant k ++ order_text (tables k) (order_at tried order))
+    c.in_ok-push_to.ensures
+    ∙ (λ k. c.loop-order.invariant k ++ order_text ((c.new.ensures.tables ∙ tables) k) (c.new.ensures.order k))
     ∙ written_next f c.args.out.now.items first (order - first) order (order + 1 - first) (omega (arith, c.loop-order.auto.order))
     (omega (arith, c.loop-order.auto.order))

@@ -1,22 +1,22 @@
 use Rattle.std.proofs.Common.{◌≡◌, ◌∙◌, ◌++◌, ap, arith, flat_map, length}
 use Rattle.std.specs.List.{range_with_len}
 use Rattle.span_money.proofs.LineLemmas.{numbered_more}
-use Rattle.whatif.specs.near.Numbers.{change_text, order_at}
+use Rattle.whatif.specs.near.Numbers.{change_text}
 use Rattle.whatif.proofs.LineLemmas.{all_changes}
-use Rattle.whatif.proofs.lines.push_changes.Goals as goal
+use Rattle.whatif.proofs.lines.Trial.push_changes.Goals as goal
 
 pub loop-commodity-preserved : goal.loop-commodity-preserved
 loop-commodity-preserved c =
-    let f = change_text c.args.tables.now (order_at c.args.orders.now c.args.order) in
+    let f = change_text c.args.self.now.tables c.args.self.now.order in
     let n = c.loop-commodity.commodity in
     c.in_ok-push_change.ensures ∙ ap (λ t. t ++ f n) c.loop-commodity.invariant ∙ numbered_more f c.args.out.now.items n
 
 pub returns : goal.returns
 returns c =
-    let t = c.args.tables.now in
-    let o = order_at c.args.orders.now c.args.order in
+    let t = c.args.self.now.tables in
+    let o = c.args.self.now.order in
     let count : length c.commodities-commodity-end.result.now ≡ length t.commodities =
-    ap length c.commodities-commodity-end.ensures.value in
+    ap length c.commodities-commodity-end.ensures.value ∙ ap (λ v. length v.tables.commodities) c.self.view_is in
     let all : c.loop-commodity.commodity ≡ length t.commodities =
     omega (arith, c.loop-commodity-test.false, c.loop-commodity.auto.commodity-end, count) in
     c.loop-commodity.invariant ∙ ap (λ n. c.args.out.now.items ++ flat_map (change_text t o) (range_with_len 0 n)) all
