@@ -1,24 +1,18 @@
--- The portfolio of the account of an order among those of a statement.
-use Rattle.std.proofs.Common.{◌++◌, map, filter, Ok, arith, ◌≡◌, ◌∙◌, ℕ, Bool, true}
-use Rattle.std.proofs.Common.{false, cond, List, [], ◌∷◌, Option, Some, None, refl, sym, ap}
+-- The portfolio of the account of an order before it, and an order that adds up to 0.
+use Rattle.std.proofs.Common.{◌++◌, map, filter, arith, ◌≡◌, ◌∙◌, ℕ, Bool, true}
+use Rattle.std.proofs.Common.{false, cond, List, [], ◌∷◌, Some, None, refl, sym, ap}
 use Rattle.std.specs.Prelude.{bytes_eq, find, option_map, unwrap_or}
 use Rattle.std.specs.Prelude.{pos}
 use Rattle.std.specs.List.{enumerate_from}
 use Rattle.std.proofs.lemmas.Int.{ints}
-use Rattle.span_tables.specs.Faults.{ok_unless}
 use Rattle.span_tables.specs.Net.{AccountHoldings, holding_of, is_held, net_of, portfolios_of}
 use Rattle.span_tables.specs.Orders.{account_of_order, holdings_among, positions_of_order}
-use Rattle.span_tables.specs.Tables.{AcceptedTables}
 use Rattle.span_tables.specs.declared.records.Contract.{Contract}
 use Rattle.span_tables.specs.declared.records.OrderRecord.{OrderRecord}
 use Rattle.span_tables.specs.declared.records.PositionRecord.{PositionRecord}
-use Rattle.span_tables.proofs.MergedLaws.{holdings_among_all, net_of-append}
+use Rattle.span_tables.proofs.MergedLaws.{net_of-append}
 use Rattle.param_check.proofs.TriedLaws.{after_by_positions, before_by_positions}
-use Rattle.param_check.specs.Binding.{bind_fault, bindings_of}
 use Rattle.param_check.specs.OrderBinding.{holdings_after, holdings_before, tried_order}
-use Rattle.param_check.specs.declared.faults.BindFault.{BindFault}
-use Rattle.statement.specs.Statement.{and_then, portfolios_under}
-use Rattle.statement.specs.declared.faults.SpanFault.TheVariants as fault
 use Rattle.span_tables.proofs.NameLemmas.{same_name}
 use Rattle.span_tables.specs.declared.portfolios.Holding.{Holding}
 
@@ -44,19 +38,6 @@ found_is portfolios account holdings p among found =
     let named = found_of portfolios account p found in
     λ k. record { account = sym named k; holdings = holds k }
 
--- ---- the portfolios of a statement
-
--- they are those of its positions
-portfolios_are : (t : AcceptedTables) (positions : List PositionRecord) (portfolios : List AccountHoldings)
-    → portfolios_under t positions ≡ Ok portfolios → portfolios_of t.contracts positions ≡ portfolios
-unfolding portfolios_under bindings_of
-portfolios_are t positions portfolios e = by_fault (bind_fault t.contracts positions) e where
-  by_fault : (o : Option BindFault)
-      → and_then fault.Bind (ok_unless o (portfolios_of t.contracts positions)) (λ found. Ok found) ≡ Ok portfolios
-      → portfolios_of t.contracts positions ≡ portfolios
-  by_fault (Some f) e = cc
-  by_fault None e = cc
-
 -- the portfolio before an order is that of its account among the portfolios that it is tried on
 pub before_is : (contracts : List Contract) (portfolios : List AccountHoldings) (records : List OrderRecord) (order : List ℕ)
     (p : AccountHoldings) → find (λ q. bytes_eq q.account (account_of_order records order)) portfolios ≡ Some p
@@ -71,24 +52,10 @@ pub before_is_nothing : (contracts : List Contract) (portfolios : List AccountHo
 before_is_nothing contracts portfolios records order none =
     ap (λ o. unwrap_or (option_map (λ (q : AccountHoldings). q.holdings) o) []) none
 
-module _ (t : AcceptedTables) (positions : List PositionRecord) (records : List OrderRecord) (order : List ℕ) where
-  -- the portfolio after an order is that of its account in the statement of the positions and the order's records behind them
-  pub after_is : (portfolios later : List AccountHoldings) (p : AccountHoldings) → portfolios_under t positions ≡ Ok portfolios
-      → portfolios_under t (positions ++ positions_of_order records order) ≡ Ok later
-      → find (λ q. bytes_eq q.account (account_of_order records order)) later ≡ Some p
-      → (tried_order t.contracts portfolios records order).after ≡ p
-  after_is portfolios later p bound more found =
-      let account = account_of_order records order in
-      let all = positions ++ positions_of_order records order in
-      let held : holdings_after t.contracts portfolios records order ≡ holdings_among later account =
-      ap (λ ps. holdings_after t.contracts ps records order) (sym (portfolios_are t positions portfolios bound))
-      ∙ after_by_positions t.contracts positions records order ∙ sym (holdings_among_all t.contracts all account)
-      ∙ ap (λ ps. holdings_among ps account) (portfolios_are t all later more) in
-      found_is later account (holdings_after t.contracts portfolios records order) p held found
-
 -- ---- an order that adds up to 0
 
-same_nets : (these those : List PositionRecord) (account : List ℕ)
+-- where each net is the same, so is each holding
+pub same_nets : (these those : List PositionRecord) (account : List ℕ)
     → ((contract : List ℕ) → net_of these account contract ≡ net_of those account contract)
     → (xs : List (ℕ × Contract)) → map (holding_of these account) xs ≡ map (holding_of those account) xs
 same_nets these those account same [] = refl

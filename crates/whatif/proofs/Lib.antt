@@ -1,6 +1,7 @@
 pub mod AccountLaws
 pub mod BatchLemmas
 pub mod BeforeLemmas
+pub mod BehindLaws
 pub mod ChangeLaws
 pub mod FileLemmas
 pub mod LineLemmas

@@ -8,8 +8,9 @@ ghost use Rattle.span_csv.specs.PositionFaults.{positions_of};
 ghost use Rattle.span_csv.specs.declared.faults.OrderFault.{OrderFault};
 ghost use Rattle.span_money.specs.LineFields.{line};
 ghost use Rattle.span_money.specs.Numbers.{int_sum_by};
+ghost use Rattle.span_tables.specs.Names.{is_among};
 ghost use Rattle.span_tables.specs.Net.{AccountHoldings, net_of, portfolios_of};
-ghost use Rattle.span_tables.specs.Orders.{account_of_order, positions_of_order};
+ghost use Rattle.span_tables.specs.Orders.{account_of_order, orders_in, positions_of_order};
 ghost use Rattle.span_tables.specs.Tables.{AcceptedTables};
 ghost use Rattle.span_tables.specs.declared.records.Contract.{Contract};
 ghost use Rattle.span_tables.specs.declared.records.OrderRecord.{OrderRecord};
@@ -17,9 +18,11 @@ ghost use Rattle.span_tables.specs.declared.records.PositionRecord.{PositionReco
 ghost use Rattle.statement.specs.Statement.{accepted_of, portfolios_under, statement_of, total_of};
 ghost use Rattle.statement.specs.declared.faults.SpanFault.{SpanFault};
 ghost use Rattle.statement.specs.declared.faults.SpanFault.TheVariants as fault;
-ghost use Rattle.std.specs.Prelude.{◌≡◌, ◌-ℤ◌, ◌++◌, ◌<◌, Err, List, None, Ok, Some, [], bytes_eq, false, filter, find, length};
+ghost use Rattle.std.specs.Prelude.{◌≡◌, ◌-ℤ◌, ◌++◌, ◌<◌, Err, List, None, Ok, Some, [], bytes_eq, false, filter, find, length, true};
 ghost use Rattle.std.specs.Prelude.{pos, ℕ};
 ghost use Rattle.whatif.specs.Whatif.{changed_by, due_at, order_line, order_text, requirement_at, tried_of, whatif_text};
+
+use span_csv::order_laws::each_order_has_one_account;
 
 /// The changes of the commodities that have a line add up to the change of the total of the account.
 pub fn changes_add_up()
@@ -57,12 +60,27 @@ pub fn before_and_after_are_those_of_statements()
     ensures nothing { (contracts : List Contract) (portfolios : List AccountHoldings) (records : List OrderRecord) (order : List ℕ)
         → find (λ q. bytes_eq q.account (account_of_order records order)) portfolios ≡ None
         → (tried_order contracts portfolios records order).before.holdings ≡ [] }
-    ensures after { (t : AcceptedTables) (positions : List PositionRecord) (records : List OrderRecord) (order : List ℕ)
-        (portfolios later : List AccountHoldings) (p : AccountHoldings) → portfolios_under t positions ≡ Ok portfolios
-        → portfolios_under t (positions ++ positions_of_order records order) ≡ Ok later
-        → find (λ q. bytes_eq q.account (account_of_order records order)) later ≡ Some p
-        → (tried_order t.contracts portfolios records order).after ≡ p }
+    ensures after { (t : AcceptedTables) (positions : List PositionRecord) (portfolios : List AccountHoldings)
+        (records : List OrderRecord) (order : List ℕ) → portfolios_under t positions ≡ Ok portfolios
+        → is_among (orders_in records) order ≡ true
+        → find (λ q. bytes_eq q.account (account_of_order records order))
+        (portfolios_of t.contracts (positions ++ positions_of_order records order))
+        ≡ Some (tried_order t.contracts portfolios records order).after }
 {}
+
+/// Where positions are accepted, and orders on them, so are the records of the positions with those of any one of the orders behind them.
+/// So these have a statement, and the portfolio of the order's account in it is the one after the order.
+pub fn an_orders_records_are_accepted_behind_the_positions()
+    ensures { (params orders : List ℕ) (t : AcceptedTables) (positions : List PositionRecord) (portfolios : List AccountHoldings)
+        (records : List OrderRecord) (tried : TriedOrders) (order : List ℕ) → accepted_of params ≡ Ok t
+        → portfolios_under t positions ≡ Ok portfolios → orders_of orders ≡ Ok records
+        → orders_bound t.contracts portfolios records ≡ Ok tried → is_among (orders_in records) order ≡ true
+        → portfolios_under t (positions ++ positions_of_order records order)
+        ≡ Ok (portfolios_of t.contracts (positions ++ positions_of_order records order)) }
+{
+    // The records of an order are all of its account, so each other account holds what it held.
+    each_order_has_one_account()
+}
 
 /// Nothing is required in a commodity of which nothing is held, and an account that holds nothing has total 0 and owes nothing.
 pub fn what_holds_nothing_requires_nothing()
