@@ -5,15 +5,16 @@ use Rattle.std.proofs.Common.{Option, Some, None, Ok, Err, Result, refl, sym, ap
 use Rattle.std.proofs.lemmas.Bool.{cases_Bool, ne_eqb}
 use Rattle.std.proofs.lemmas.Bool.Decides.{nat_tests}
 use Rattle.std.proofs.lemmas.List.{append-nil, length-append, map-append}
-use Rattle.span_csv.specs.PositionFaults.{exceeds_accounts, position_fault, position_faults, positions_of}
+use Rattle.span_csv.specs.PositionFaults.{exceeds_accounts, position_faults, positions_of, record_fault}
 use Rattle.span_csv.specs.Records.{Fields, position_record, records_of, text_at}
 use Rattle.span_csv.specs.declared.faults.PositionFault.{PositionFault}
 use Rattle.span_csv.specs.declared.faults.PositionFault.TheVariants as position
-use Rattle.span_tables.specs.Faults.{first_that_holds, ok_unless}
+use Rattle.span_tables.specs.Faults.{first_fault, first_that_holds, ok_unless}
 use Rattle.span_tables.specs.Laws.{IsFaultFree}
 use Rattle.span_tables.specs.Names.{distinct, is_among}
 use Rattle.span_tables.specs.Tables.{AcceptedTables}
 use Rattle.span_tables.specs.declared.limits.TheConstants.{MAX_ACCOUNTS}
+use Rattle.span_csv.proofs.CountedLaws.{fault_where_all_count, free_from_all_count, free_where_all_count}
 use Rattle.span_tables.proofs.FaultLaws.{first_fault_free, first_fault_none}
 use Rattle.span_tables.proofs.NameLemmas.{distinct-push}
 use Rattle.cut_positions.specs.Parts.{AreApart, AreFilesApart, BeginsWithNoMark, EndsInLineFeed, ShareNoName, accounts_in, has_quote}
@@ -68,9 +69,9 @@ count_behind rs more apart =
 
 -- ---- records without a fault
 
--- the fault of a record behind earlier ones
+-- the fault of a record behind earlier ones, which all count where none has a fault
 abbrev fault_of : List Fields → Fields → Option (ℕ → PositionFault)
-fault_of earlier r = first_that_holds (position_faults earlier r)
+fault_of earlier r = fault_where_all_count earlier r
 
 -- where the accounts of these records and more are no more than there may be, none is one too many
 not_exceeded : (earlier more : List Fields) (r : Fields) → count (earlier ++ r ∷ more) ≤ MAX_ACCOUNTS
@@ -191,21 +192,22 @@ positions_apart rs ss apart = λ name among.
 -- a file that has a statement has no fault in its records, and it is theirs
 of_records : (t : AcceptedTables) (bytes text : List ℕ) → statement_under t bytes ≡ Ok text
     → IsFaultFree fault_of [] (records_of bytes) × (statement_bound t (map position_record (records_of bytes)) ≡ Ok text)
-unfolding statement_under positions_of position_fault
-of_records t bytes text is = by (position_fault (records_of bytes)) refl is where
-  by : (o : Option PositionFault) → position_fault (records_of bytes) ≡ o
+unfolding statement_under positions_of position_faults
+of_records t bytes text is = by (first_fault record_fault (records_of bytes)) refl is where
+  by : (o : Option PositionFault) → first_fault record_fault (records_of bytes) ≡ o
       → and_then fault.Positions (ok_unless o (map position_record (records_of bytes)))
       (λ records. statement_bound t records) ≡ Ok text
       → IsFaultFree fault_of [] (records_of bytes) × (statement_bound t (map position_record (records_of bytes)) ≡ Ok text)
   by (Some f) e is = cc
-  by None e is = (first_fault_none fault_of [] (records_of bytes) e, is)
+  by None e is = (free_where_all_count [] (records_of bytes) refl (first_fault_none record_fault [] (records_of bytes) e), is)
 
 -- records without a fault, with a statement of theirs, are those of a file with that statement
 of_file : (t : AcceptedTables) (bytes text : List ℕ) → IsFaultFree fault_of [] (records_of bytes)
     → statement_bound t (map position_record (records_of bytes)) ≡ Ok text → statement_under t bytes ≡ Ok text
-unfolding statement_under positions_of position_fault
+unfolding statement_under positions_of position_faults
 of_file t bytes text free is =
-    let none : position_fault (records_of bytes) ≡ None = first_fault_free fault_of [] (records_of bytes) free in
+    let none : first_fault record_fault (records_of bytes) ≡ None =
+    first_fault_free record_fault [] (records_of bytes) (free_from_all_count [] (records_of bytes) refl free) in
     rw none is
 
 module _ (whole first second : List ℕ) (cut : records_of whole ≡ records_of first ++ records_of second)

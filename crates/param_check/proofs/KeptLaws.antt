@@ -71,8 +71,8 @@ excess_at (hs ∷ nets) (suc a) = excess_at nets a
 in_kept : (l : Limit) (c : Option ℕ) (hs : List Holding)
     → exceeds_in l c (excess_of (map kept_holding hs)) ≡ exceeds_in l c (excess_of hs)
 in_kept limit.Net (Some c) hs = over_filtered c (map kept_holding hs) ∙ over_at_kept c hs ∙ sym (over_filtered c hs)
-in_kept limit.Net None hs = refl
-in_kept limit.Held c hs = many_kept hs
+in_kept limit.Held (Some c) hs = many_kept hs
+in_kept _ None hs = refl
 
 -- the same records exceed a limit by the nets and by the nets as they are kept
 at_all : (l : Limit) (a c : Option ℕ) (nets : List (List Holding))
@@ -82,7 +82,7 @@ at_all l (Some a) c nets =
 at_all l None c nets = refl
 
 module _ (l : Limit) (ids accounts : List (List ℕ)) (nets : List (List Holding)) (positions : List PositionRecord) where
-  exceeds_all : (p : PositionRecord)
+  pub exceeds_all : (p : PositionRecord)
       → exceeds l ids accounts (map excess_of (all_kept nets)) p ≡ exceeds l ids accounts (map excess_of nets) p
   exceeds_all p = at_all l (position (bytes_eq p.account) accounts) (position (bytes_eq p.contract) ids) nets
 

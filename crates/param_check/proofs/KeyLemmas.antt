@@ -1,19 +1,22 @@
 -- Each rule on repeated records, as a rule on repeated keys.
-use Rattle.std.proofs.Common.{◌≡◌, ℕ, Bool, List, Option, None, refl, sym, ◌∙◌, ◌&&◌, eqb, bytes_eq, arith}
+use Rattle.std.proofs.Common.{◌≡◌, ℕ, ◌+◌, ◌<◌, Bool, false, List, [], ◌∷◌, Option, None, Some, refl, sym, ap, ◌∙◌, ◌&&◌, ◌||◌, eqb}
+use Rattle.std.proofs.Common.{bytes_eq}
+use Rattle.std.proofs.Common.{take, get_or, length, arith}
 use Rattle.std.specs.Prelude.{filter_map}
 use Rattle.std.specs.List.{list_any}
 use Rattle.std.proofs.Math.Bool.{or-false, and-true}
 use Rattle.std.proofs.lemmas.Bool.Decides.{nat_tests}
-use Rattle.span_tables.specs.Rules.{is_and, first_breaking, as_commodity, as_contract, as_tier, as_intra, as_inter, as_spot}
+use Rattle.std.proofs.lemmas.List.{take_more}
+use Rattle.std.proofs.lemmas.List.Folds.{list_any-append}
+use Rattle.span_tables.specs.Rules.{is_and, as_commodity, as_contract, as_tier, as_intra, as_inter, as_spot}
 use Rattle.span_tables.specs.declared.records.Record.{Record}
 use Rattle.span_tables.specs.declared.records.Record.TheVariants as record_of
-use Rattle.param_check.specs.near.Keys.{name_key, key_of, is_same_key, repeats_key, repeats}
+use Rattle.param_check.specs.near.Keys.{has_key, is_key_among, is_same, is_same_key, is_same_name, key_of, name_key, repeats, repeats_key}
 use Rattle.param_check.specs.declared.check.keys.Key.{Key}
 use Rattle.param_check.specs.declared.check.keys.Identity.{Identity}
 use Rattle.param_check.specs.declared.check.keys.Identity.TheVariants as identity
 use Rattle.param_check.proofs.AccountLaws.{bytes_eq-flip}
 use Rattle.param_check.proofs.FilterMaps.{list_any-filter_map, list_any-same}
-use Rattle.param_check.proofs.FirstFaults.{first_breaking-same}
 
 eqb-swap : (m n : ℕ) → eqb m n ≡ eqb n m
 eqb-swap m n = grind (arith, nat_tests)
@@ -85,7 +88,43 @@ repeats_key-is identity.SpotMonth earlier (record_of.Spot x) =
     (spot_alike x.commodity x.month) earlier
 repeats_key-is _ _ _ = refl
 
--- the first repeated key is that of the first record that breaks the rule of its kind
-pub first_repeated : (i : Identity) (all : List Record)
-    → first_breaking (λ at. at) (repeats_key i) all ≡ first_breaking (λ at. at) (repeats i) all
-first_repeated i all = first_breaking-same (λ at. at) (repeats_key i) (repeats i) (repeats_key-is i) all
+same_name-flip : (x y : Option (List ℕ)) → is_same_name x y ≡ is_same_name y x
+same_name-flip None None = refl
+same_name-flip None (Some y) = refl
+same_name-flip (Some x) None = refl
+same_name-flip (Some x) (Some y) = bytes_eq-flip x y
+
+pub same_key-flip : (k l : Key) → is_same_key k l ≡ is_same_key l k
+same_key-flip k l =
+    let name = same_name-flip k.name l.name in
+    let number = eqb-swap k.number l.number in
+    λ i. name i && number i
+
+among_none : (keys : List Key) (o : Option Key) → o ≡ None → is_key_among keys o ≡ false
+among_none keys o e = ap (is_key_among keys) e
+
+-- keys with which those of the earlier records are found tell whether a record breaks the rule of its kind
+pub repeats_by_members : (i : Identity) (keys : List Key) (earlier : List Record)
+    → ((k : Key) → is_key_among keys (Some k) ≡ has_key i earlier k)
+    → (r : Record) → is_key_among keys (key_of i r) ≡ repeats i earlier r
+repeats_by_members i keys earlier members r = by (key_of i r) refl ∙ repeats_key-is i earlier r
+  where
+    flipped : (o : Option Key) (k : Key) → is_same o k ≡ is_and o (is_same_key k)
+    flipped None k = refl
+    flipped (Some l) k = same_key-flip l k
+
+    by : (o : Option Key) → key_of i r ≡ o → is_key_among keys (key_of i r) ≡ repeats_key i earlier r
+    by None e = among_none keys (key_of i r) e ∙ sym (among_none (filter_map (key_of i) earlier) (key_of i r) e)
+    by (Some k) e =
+        ap (is_key_among keys) e ∙ members k
+        ∙ list_any-same _ _ (λ q. flipped (key_of i q) k) earlier
+        ∙ sym (list_any-filter_map (key_of i) (is_same_key k) earlier)
+        ∙ ap (is_key_among (filter_map (key_of i) earlier)) (sym e)
+
+-- one more record
+pub has_key_more : (i : Identity) (all : List Record) (n : ℕ) (d : Record) (k : Key) → n < length all
+    → has_key i (take (n + 1) all) k ≡ (has_key i (take n all) k || is_same (key_of i (get_or all n d)) k)
+has_key_more i all n d k h =
+    ap (list_any (λ r. is_same (key_of i r) k)) (take_more all n d h)
+    ∙ list_any-append (λ r. is_same (key_of i r) k) (take n all) (get_or all n d ∷ [])
+    ∙ ap (λ b. has_key i (take n all) k || b) (or-false (is_same (key_of i (get_or all n d)) k))

@@ -1,10 +1,12 @@
 -- Laws of the ledger, record by record.
-use Rattle.std.proofs.Common.{◌≡◌, ℕ, ◌+◌, ◌<◌, ◌≤◌, Bool, true, false, cond, ◌||◌, List, [], ◌∷◌, ◌++◌, length, get_or}
-use Rattle.std.proofs.Common.{map, replicate, set, take, Some, None, slice_get, refl, sym, ap, subst, ◌∙◌, arith}
-use Rattle.std.specs.Prelude.{All, bytes_eq}
+use Rattle.std.proofs.Common.{◌≡◌, ℕ, ◌+◌, ◌<◌, ◌≤◌, Bool, true, false, cond, List, [], ◌∷◌, ◌++◌, length, get_or}
+use Rattle.std.proofs.Common.{map, replicate, set, take, not, Some, None, slice_get, refl, sym, ap, subst, ◌∙◌, arith}
+use Rattle.std.specs.Prelude.{All, MatchBool, bytes_eq, ⊤}
 use Rattle.std.specs.List.{list_any}
 use Rattle.std.proofs.lemmas.List.{get_or-map, get_or_default, length-map, take_more}
-use Rattle.std.proofs.lemmas.List.Folds.{list_any-append}
+use Rattle.std.proofs.lemmas.List.{append-nil}
+use Rattle.std.proofs.lemmas.List.Elements.{filter-append}
+use Rattle.std.proofs.lemmas.Bool.{not-false}
 use Rattle.std.proofs.lemmas.Option.{slice_get-get_or}
 use Rattle.span_tables.specs.Names.{has_repeat}
 use Rattle.span_tables.specs.Net.{accounts_of}
@@ -12,12 +14,19 @@ use Rattle.span_tables.specs.near.Positions.{named_position, named_positions}
 use Rattle.span_tables.specs.declared.records.NumberedPosition.{NumberedPosition}
 use Rattle.span_tables.specs.declared.records.PositionRecord.{PositionRecord}
 use Rattle.span_tables.proofs.NameLaws.{distinct_once}
-use Rattle.param_check.specs.near.Ledgers.{is_foreign, known_entry, foreign_fault}
+use Rattle.param_check.specs.near.Ledgers.{AreLedgers, foreign_fault, foreign_faults, is_foreign, is_listed, known_entry, listed_records}
 use Rattle.param_check.specs.near.Nets.{entry_of, entries_of}
 use Rattle.param_check.specs.declared.faults.BindFault.TheVariants as fault
 use Rattle.param_check.specs.declared.binding.nets.Entry.{Entry}
+use Rattle.param_check.specs.Binding.{is_memory}
+use Rattle.param_check.specs.declared.faults.BindFault.{BindFault}
+use Rattle.param_check.proofs.KnownRecords.{all_pass}
 use Rattle.param_check.proofs.AccountLaws.{entered_known, entries_push}
-use Rattle.param_check.proofs.UnfitLaws.{unfit_found}
+use Rattle.span_tables.specs.Faults.{first_of}
+use Rattle.param_check.specs.near.Wanted.{wanted_of}
+use Rattle.param_check.specs.declared.wanted.Wanted.TheVariants as wanted
+use Rattle.param_check.proofs.UnfitLaws.{fit_from_none}
+use Rattle.param_check.proofs.WantedLaws.{first_wanted}
 
 -- what the entry of a record says of its contract
 pub foreign_from_none : (ids : List (List ℕ)) (p : PositionRecord) → None ≡ known_entry ids p.contract p.quantity
@@ -44,14 +53,62 @@ pub record IsSeen (positions : List PositionRecord) (i : ℕ) (p : PositionRecor
   pub at : p ≡ get_or positions i p
   pub named : name ≡ p.account
 
--- the first record of an unknown contract
-pub foreign_found : (ids : List (List ℕ)) (positions : List PositionRecord) (i : ℕ) (p : PositionRecord) (name : List ℕ)
-    → IsSeen positions i p name → list_any (is_foreign ids) (take i positions) ≡ false → is_foreign ids p ≡ true
-    → foreign_fault ids positions ≡ Some (fault.UnknownContract (i + 1) name)
+pub none_first : {F : Type 0} (xs : List F) → first_of xs ≡ None → xs ≡ []
+none_first [] e = refl
+none_first (x ∷ xs) e = cc
+
+-- the first record of an unknown contract is the first of them
+pub foreign_first : (ids : List (List ℕ)) (positions : List PositionRecord)
+    → first_of (foreign_faults ids positions) ≡ foreign_fault ids positions
+unfolding foreign_faults foreign_fault
+foreign_first ids positions = refl
+
+-- where no record is of an unknown contract, each is among those of known ones
+pub none_foreign : (ids : List (List ℕ)) (positions : List PositionRecord) → foreign_fault ids positions ≡ None
+    → list_any (is_foreign ids) positions ≡ false
 unfolding foreign_fault
-foreign_found ids positions i p name seen h e =
-    unfit_found fault.UnknownContract (is_foreign ids) positions i p seen.within (sym seen.at) h e
-    ∙ ap (λ z. Some (fault.UnknownContract (i + 1) z)) (sym seen.named)
+none_foreign ids positions e = fit_from_none fault.UnknownContract (is_foreign ids) positions e
+
+unless : (b : Bool) {P : Type 0} → P → MatchBool b ⊤ P
+unless true p = tt
+unless false p = p
+
+-- the first of the foreign records that are told is the fault
+pub first_foreign : (ids : List (List ℕ)) (positions : List PositionRecord) (told : List BindFault) (y : BindFault)
+    → told ≡ wanted_of wanted.First (foreign_faults ids positions) → Some y ≡ first_of told
+    → MatchBool (is_memory y) ⊤ (foreign_fault ids positions ≡ Some y)
+first_foreign ids positions told y are is =
+    unless (is_memory y)
+    (sym (foreign_first ids positions) ∙ sym (first_wanted wanted.First (foreign_faults ids positions)) ∙ ap first_of (sym are) ∙ sym is)
+
+-- where none is told, the entries are those of all records
+pub none_told_foreign : (ids : List (List ℕ)) (positions : List PositionRecord) (told : List BindFault) (ledgers : List (List Entry))
+    → told ≡ wanted_of wanted.First (foreign_faults ids positions) → None ≡ first_of told
+    → (told ≡ [] → ledgers ≡ map (entries_of ids (listed_records ids positions)) (accounts_of positions)) → AreLedgers ids positions ledgers
+none_told_foreign ids positions told ledgers are none is =
+    let known = none_foreign ids positions
+    (sym (foreign_first ids positions) ∙ sym (first_wanted wanted.First (foreign_faults ids positions)) ∙ ap first_of (sym are)
+    ∙ sym none) in
+    record {
+      ledgers_are = is (none_first told (sym none))
+          ∙ ap (λ ps. map (entries_of ids ps) (accounts_of positions)) (all_pass (is_listed ids) positions known);
+      all_known = known;
+    }
+
+not-true : (b : Bool) → not b ≡ true → b ≡ false
+not-true true e = cc
+not-true false e = refl
+
+-- a list to which one was pushed has some
+pub pushed_none : {F : Type 0} (xs : List F) (x : F) → xs ++ x ∷ [] ≡ [] → ⊥
+pushed_none [] x e = cc
+pushed_none (y ∷ xs) x e = cc
+
+-- one more record
+listed_more : (ids : List (List ℕ)) (front : List PositionRecord) (p : PositionRecord) (b : Bool) → is_listed ids p ≡ b
+    → listed_records ids (front ++ p ∷ []) ≡ listed_records ids front ++ cond b (p ∷ []) []
+listed_more ids front p b e =
+    filter-append (is_listed ids) front (p ∷ []) ∙ ap (λ (t : Bool). listed_records ids front ++ cond t (p ∷ []) []) e
 
 -- ---- records by the numbers of their accounts
 
@@ -94,6 +151,11 @@ module _ (positions : List PositionRecord) (records : List NumberedPosition)
     named = same ∙ account_is i r names name lt at are is;
   }
 
+  -- the record itself is seen there, under its account's name
+  pub record_seen : (i : ℕ) (r : NumberedPosition) → i < length records → r ≡ get_or records i r
+      → IsSeen positions i (named_position (accounts_of positions) r) (get_or (accounts_of positions) r.account [])
+  record_seen i r lt at = record { within = omega (arith, lt, as_many); at = record_at i r lt at; named = refl }
+
   -- behind all records there is no position
   pub all_seen : (i : ℕ) → length records ≤ i → length positions ≤ i
   all_seen i past = omega (arith, past, as_many)
@@ -102,39 +164,47 @@ module _ (positions : List PositionRecord) (records : List NumberedPosition)
   pub apart : has_repeat bytes_eq (accounts_of positions) ≡ false
   apart = distinct_once (map (λ (p : PositionRecord). p.account) positions)
 
-  -- the ledgers after the record at a place
+  -- the records up to the one at a place
+  taken_next : (i : ℕ) (r : NumberedPosition) → i < length records → r ≡ get_or records i r
+      → take (i + 1) positions ≡ take i positions ++ named_position (accounts_of positions) r ∷ []
+  taken_next i r lt at =
+      take_more positions i (named_position (accounts_of positions) r) (omega (arith, lt, as_many))
+      ∙ ap (λ z. take i positions ++ z ∷ []) (sym (record_at i r lt at))
+
+  -- the ledgers after the record at a place, whose contract is among the ids
   pub ledgers_step : (ids : List (List ℕ)) (i : ℕ) (r : NumberedPosition) (ledgers ledgers' : List (List Entry)) (e : Entry)
-      → i < length records → r ≡ get_or records i r → ledgers ≡ map (entries_of ids (take i positions)) (accounts_of positions)
+      → i < length records → r ≡ get_or records i r
+      → ledgers ≡ map (entries_of ids (listed_records ids (take i positions))) (accounts_of positions)
+      → is_foreign ids (named_position (accounts_of positions) r) ≡ false
       → e ≡ entry_of ids (named_position (accounts_of positions) r)
       → ledgers' ≡ set ledgers r.account (get_or ledgers r.account [] ++ e ∷ [])
-      → ledgers' ≡ map (entries_of ids (take (i + 1) positions)) (accounts_of positions)
-  ledgers_step ids i r ledgers ledgers' e lt at was is more =
+      → ledgers' ≡ map (entries_of ids (listed_records ids (take (i + 1) positions))) (accounts_of positions)
+  ledgers_step ids i r ledgers ledgers' e lt at was listed is more =
       let p = named_position (accounts_of positions) r in
-      let lt' : i < length positions = omega (arith, lt, as_many) in
-      let next : take (i + 1) positions ≡ take i positions ++ p ∷ [] = take_more positions i p lt'
-      ∙ ap (λ z. take i positions ++ z ∷ []) (sym (record_at i r lt at)) in
+      let before = listed_records ids (take i positions) in
+      let next : listed_records ids (take (i + 1) positions) ≡ before ++ p ∷ [] = ap (listed_records ids) (taken_next i r lt at)
+      ∙ listed_more ids (take i positions) p true (not-false (is_listed ids p) listed) in
       more
       ∙ ap (λ bs. set bs r.account (get_or bs r.account [] ++ e ∷ [])) was
-      ∙ ap (λ x. set (map (entries_of ids (take i positions)) (accounts_of positions)) r.account
-      (get_or (map (entries_of ids (take i positions)) (accounts_of positions)) r.account [] ++ x ∷ [])) is
-      ∙ entered_known (entries_of ids (take i positions)) (entries_of ids (take i positions ++ p ∷ [])) p.account (entry_of ids p)
-      (entries_push ids (take i positions) p)
+      ∙ ap (λ x. set (map (entries_of ids before) (accounts_of positions)) r.account
+      (get_or (map (entries_of ids before) (accounts_of positions)) r.account [] ++ x ∷ [])) is
+      ∙ entered_known (entries_of ids before) (entries_of ids (before ++ p ∷ [])) p.account (entry_of ids p)
+      (entries_push ids before p)
       (accounts_of positions) r.account apart (account_at i r lt at)
       ∙ ap (λ ps. map (entries_of ids ps) (accounts_of positions)) (sym next)
 
-  -- a test that no record up to a place passes, where no record before the place does and that at the place does not
-  pub none_step : (test : PositionRecord → Bool) (i : ℕ) (r : NumberedPosition) → i < length records → r ≡ get_or records i r
-      → list_any test (take i positions) ≡ false → test (named_position (accounts_of positions) r) ≡ false
-      → list_any test (take (i + 1) positions) ≡ false
-  none_step test i r lt at was one =
+  -- the ledgers stay at a record whose contract is not among the ids
+  pub foreign_step : (ids : List (List ℕ)) (i : ℕ) (r : NumberedPosition) (ledgers : List (List Entry)) → i < length records
+      → r ≡ get_or records i r → ledgers ≡ map (entries_of ids (listed_records ids (take i positions))) (accounts_of positions)
+      → is_foreign ids (named_position (accounts_of positions) r) ≡ true
+      → ledgers ≡ map (entries_of ids (listed_records ids (take (i + 1) positions))) (accounts_of positions)
+  foreign_step ids i r ledgers lt at was foreign =
       let p = named_position (accounts_of positions) r in
-      let lt' : i < length positions = omega (arith, lt, as_many) in
-      let next : take (i + 1) positions ≡ take i positions ++ p ∷ [] = take_more positions i p lt'
-      ∙ ap (λ z. take i positions ++ z ∷ []) (sym (record_at i r lt at)) in
-      ap (list_any test) next
-      ∙ list_any-append test (take i positions) (p ∷ [])
-      ∙ ap (λ b. b || (test p || false)) was
-      ∙ ap (λ b. b || false) one
+      was
+      ∙ ap (λ ps. map (entries_of ids ps) (accounts_of positions)) (sym
+      (ap (listed_records ids) (taken_next i r lt at)
+      ∙ listed_more ids (take i positions) p false (not-true (is_listed ids p) foreign)
+      ∙ append-nil (listed_records ids (take i positions))))
 
 -- no entry at first
 pub no_entries : (ids : List (List ℕ)) (accounts : List (List ℕ))

@@ -1,23 +1,36 @@
 -- Laws of the faults found in the nets of all accounts.
-use Rattle.std.proofs.Common.{◌≡◌, ℕ, zero, suc, ◌+◌, ◌≤◌, Bool, true, false, cond, ◌&&◌, ◌||◌, List}
+use Rattle.std.proofs.Common.{◌≡◌, ℕ, zero, suc, ◌+◌, Bool, true, false, cond, ◌&&◌, ◌||◌, List}
 use Rattle.std.proofs.Common.{[], ◌∷◌, filter, length, get_or, take, Option, Some, None, position, refl, sym, ap, ◌∙◌}
 use Rattle.std.specs.Prelude.{bytes_eq, ◌==◌}
 use Rattle.std.specs.List.{list_any}
-use Rattle.std.proofs.lemmas.Bool.{or_parts, or_from, and_right}
-use Rattle.std.proofs.lemmas.List.{take_all}
+use Rattle.std.proofs.Common.{◌++◌, not}
+use Rattle.std.specs.Prelude.{if◌then◌else◌, option_map, option_to_list}
+use Rattle.std.proofs.Math.Bool.{and-true, or-false}
+use Rattle.std.proofs.lemmas.Bool.{and_parts, or_parts, or_from, and_right}
+use Rattle.std.proofs.lemmas.List.{take_more}
+use Rattle.std.proofs.lemmas.List.Folds.{list_any-append}
+use Rattle.span_tables.specs.Faults.{faults_after, first_of}
 use Rattle.span_tables.specs.declared.portfolios.Holding.{Holding}
 use Rattle.span_tables.specs.declared.records.PositionRecord.{PositionRecord}
 use Rattle.param_check.specs.near.Holdings.{exceeds, exceeds_any, exceeds_at, exceeds_in, excess_of, fault_of, is_over, is_over_at}
-use Rattle.param_check.specs.near.Holdings.{limit_fault}
+use Rattle.param_check.specs.near.Holdings.{exceeds_anew, is_same_told, is_told, limit_fault, limit_faults, same_told, told_as}
+use Rattle.param_check.specs.declared.binding.over_limits.Told.{Told}
 use Rattle.param_check.specs.declared.binding.over_limits.Excess.{Excess}
 use Rattle.param_check.specs.declared.binding.over_limits.Limit.{Limit}
 use Rattle.param_check.specs.declared.binding.over_limits.Limit.TheVariants as limit
 use Rattle.param_check.proofs.LedgerLaws.{IsSeen}
-use Rattle.param_check.proofs.UnfitLaws.{unfit_none, unfit_found}
+use Rattle.param_check.proofs.FilterMaps.{list_any-same}
+use Rattle.param_check.proofs.UnfitLaws.{first_of_kind}
+use Rattle.param_check.proofs.UnfitWalk.{unfit_at}
 
-none_of_all : {X : Type 0} (test : X → Bool) → ((x : X) → test x ≡ false) → (xs : List X) → list_any test xs ≡ false
-none_of_all test h [] = refl
-none_of_all test h (x ∷ xs) = or_from (test x) (list_any test xs) (h x) (none_of_all test h xs)
+-- where no element has a fault, there are none
+no_faults : {A F : Type 0} (fault_of : List A → A → Option (ℕ → F)) → ((earlier : List A) (x : A) → fault_of earlier x ≡ None)
+    → (earlier xs : List A) → faults_after fault_of earlier xs ≡ []
+no_faults fault_of none earlier [] = refl
+no_faults {F} fault_of none earlier (x ∷ xs) =
+    ap (λ o. option_to_list (option_map {U = F} (λ fault. fault (length earlier + 1)) o) ++ faults_after fault_of (earlier ++ x ∷ []) xs)
+    (none earlier x)
+    ∙ no_faults fault_of none (earlier ++ x ∷ []) xs
 
 -- where no net is over the limit, none is at any place
 none_over_in : (c : ℕ) (holdings : List Holding) → list_any is_over holdings ≡ false → is_over_at c holdings ≡ false
@@ -45,8 +58,8 @@ nothing_exceeds limit.Held = refl
 
 none_in : (l : Limit) (c : Option ℕ) (excess : Excess) → exceeds_any l excess ≡ false → exceeds_in l c excess ≡ false
 none_in limit.Net (Some c) excess e = none_over_in c excess.over e
-none_in limit.Net None excess e = refl
-none_in limit.Held c excess e = e
+none_in limit.Held (Some c) excess e = e
+none_in _ None excess e = refl
 
 -- nothing that is held exceeds no limit
 pub none_held : (l : Limit) (c : Option ℕ) → exceeds_in l c (excess_of []) ≡ false
@@ -64,25 +77,55 @@ none_at l (Some a) c excesses e = none_from l a c excesses e
 none_at l None c excesses e = refl
 
 module _ (l : Limit) (ids accounts : List (List ℕ)) (excesses : List Excess) (positions : List PositionRecord) where
+  none_anew : list_any (exceeds_any l) excesses ≡ false → (earlier : List PositionRecord) (p : PositionRecord)
+      → exceeds_anew l ids accounts excesses earlier p ≡ false
+  none_anew e earlier p =
+      and_right (not (list_any (λ x. same_told l x p && exceeds l ids accounts excesses x) earlier)) (exceeds l ids accounts excesses p)
+      (none_at l (position (bytes_eq p.account) accounts) (position (bytes_eq p.contract) ids) excesses e)
+
   -- where what no account holds exceeds the limit
-  pub limit_fault-none : list_any (exceeds_any l) excesses ≡ false → None ≡ limit_fault l ids accounts excesses positions
-  unfolding limit_fault
-  limit_fault-none e =
-      sym (unfit_none (fault_of l) (exceeds l ids accounts excesses) positions
-      (none_of_all (exceeds l ids accounts excesses)
-      (λ p. none_at l (position (bytes_eq p.account) accounts) (position (bytes_eq p.contract) ids) excesses e) positions))
+  pub limit_faults-none : list_any (exceeds_any l) excesses ≡ false → limit_faults l ids accounts excesses positions ≡ []
+  unfolding limit_faults
+  limit_faults-none e =
+      no_faults (unfit_at (fault_of l) (exceeds_anew l ids accounts excesses))
+      (λ earlier p. ap (λ (b : Bool). if b then Some (λ at. fault_of l at p.account) else None) (none_anew e earlier p)) [] positions
 
-  pub limit_fault-all : (i : ℕ) → length positions ≤ i → list_any (exceeds l ids accounts excesses) (take i positions) ≡ false
-      → None ≡ limit_fault l ids accounts excesses positions
-  unfolding limit_fault
-  limit_fault-all i le e =
-      sym (unfit_none (fault_of l) (exceeds l ids accounts excesses) positions
-      (ap (list_any (exceeds l ids accounts excesses)) (sym (take_all i positions le)) ∙ e))
+  -- the first of the faults is that of the first record that exceeds the limit
+  pub limit_faults-first : first_of (limit_faults l ids accounts excesses positions) ≡ limit_fault l ids accounts excesses positions
+  unfolding limit_faults limit_fault
+  limit_faults-first =
+      first_of_kind (fault_of l) (λ x p. same_told l x p && exceeds l ids accounts excesses x) (exceeds l ids accounts excesses)
+      (λ x p both over. (and_parts (same_told l x p) (exceeds l ids accounts excesses x) both).1) positions
 
-  pub limit_fault-found : (i : ℕ) (p : PositionRecord) (name : List ℕ) → IsSeen positions i p name
-      → list_any (exceeds l ids accounts excesses) (take i positions) ≡ false → exceeds l ids accounts excesses p ≡ true
-      → Some (fault_of l (i + 1) name) ≡ limit_fault l ids accounts excesses positions
-  unfolding limit_fault
-  limit_fault-found i p name seen h e =
-      ap (λ z. Some (fault_of l (i + 1) z)) seen.named
-      ∙ sym (unfit_found (fault_of l) (exceeds l ids accounts excesses) positions i p seen.within (sym seen.at) h e)
+  told_alike : (k : Limit) (x p : PositionRecord)
+      → is_same_told (told_as k x.account x.contract) (told_as k p.account p.contract) ≡ same_told k x p
+  told_alike limit.Net x p = refl
+  told_alike limit.Held x p = and-true (bytes_eq x.account p.account)
+
+  -- a record that exceeds the limit is one like this
+  abbrev pub is_member : Told → PositionRecord → Bool
+  is_member t x = is_same_told (told_as l x.account x.contract) t && exceeds l ids accounts excesses x
+
+  module _ (i : ℕ) (p : PositionRecord) (name : List ℕ) (seen : IsSeen positions i p name) (told : List Told)
+      (members : (t : Told) → is_told told t ≡ list_any (is_member t) (take i positions)) (over : Bool)
+      (is : over ≡ exceeds l ids accounts excesses p) where
+    -- what is told so far says whether the record exceeds the limit anew
+    pub anew_is : (not (is_told told (told_as l name p.contract)) && over) ≡ exceeds_anew l ids accounts excesses (take i positions) p
+    anew_is =
+        let here = ap (λ n. is_told told (told_as l n p.contract)) seen.named ∙ members (told_as l p.account p.contract)
+        ∙ list_any-same _ _ (λ x. ap (λ b. b && exceeds l ids accounts excesses x) (told_alike l x p)) (take i positions) in
+        λ k. not (here k) && is k
+
+    -- what is told with the record
+    pub members_next : (now : List Told)
+        → ((t : Told) → is_told now t ≡ (is_told told t || (is_same_told (told_as l name p.contract) t && over)))
+        → (t : Told) → is_told now t ≡ list_any (is_member t) (take (i + 1) positions)
+    members_next now more t =
+        let one = ap (λ n. is_same_told (told_as l n p.contract) t) seen.named in
+        more t
+        ∙ ap (λ b. b || (is_same_told (told_as l name p.contract) t && over)) (members t)
+        ∙ (λ k. list_any (is_member t) (take i positions) || (one k && is k))
+        ∙ ap (λ b. list_any (is_member t) (take i positions) || b) (sym (or-false (is_member t p)))
+        ∙ sym (list_any-append (is_member t) (take i positions) (p ∷ []))
+        ∙ ap (λ q. list_any (is_member t) (take i positions ++ q ∷ [])) seen.at
+        ∙ ap (list_any (is_member t)) (sym (take_more positions i p seen.within))

@@ -8,6 +8,7 @@ use Rattle.span_tables.specs.Faults.{first_fault_after}
 use Rattle.span_tables.specs.near.Orders.{under_order}
 use Rattle.span_tables.specs.declared.records.OrderRecord.{OrderRecord}
 use Rattle.span_tables.specs.declared.records.PositionRecord.{PositionRecord}
+use Rattle.span_tables.proofs.FaultLaws.{first_fault_next}
 use Rattle.param_check.specs.Binding.{first_unfit, is_first_of_account, is_first_of_contract}
 use Rattle.param_check.specs.OrderBinding.{first_unfit_order, is_first_of_leg, is_first_of_order}
 use Rattle.param_check.specs.near.Orders.{order_fault}
@@ -29,7 +30,11 @@ module _ (fault : ℕ → List ℕ → BindFault) (these : List OrderRecord → 
       → among_orders earlier xs ≡ option_map order_fault (among_positions (map under_order earlier) (map under_order xs))
   unfolding among_orders among_positions
   from earlier [] = refl
-  from earlier (r ∷ xs) = by (those (map under_order earlier) (under_order r)) (same earlier r) refl (from (earlier ++ r ∷ []) xs)
+  from earlier (r ∷ xs) =
+      first_fault_next (λ e r. if these e r then Some (λ at. order_fault (fault at r.order)) else None) earlier r xs
+      ∙ by (those (map under_order earlier) (under_order r)) (same earlier r) refl (from (earlier ++ r ∷ []) xs)
+      ∙ ap (option_map order_fault) (sym (first_fault_next (λ e p. if those e p then Some (λ at. fault at p.account) else None)
+      (map under_order earlier) (under_order r) (map under_order xs)))
     where
       orders_behind : Option OrderBindFault
       orders_behind = among_orders (earlier ++ r ∷ []) xs

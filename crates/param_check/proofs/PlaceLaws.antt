@@ -4,7 +4,8 @@ use Rattle.std.proofs.Common.{◌∷◌, length, get_or, filter, map, Some, None
 use Rattle.std.specs.Prelude.{ℤ, nat_abs, bytes_eq, ◌==◌, nat_lt}
 use Rattle.std.specs.List.{list_any, enumerate_from, position_or_len}
 use Rattle.std.proofs.Math.Bool.{or-false}
-use Rattle.std.proofs.lemmas.Bool.{true≢false, false≢true, eq-eqb, ne_eqb, eqb-true, lt-ltb, le-ltb, not-false, false_from_ne_true}
+use Rattle.std.proofs.lemmas.Bool.{true≢false, false≢true, eq-eqb, ne_eqb, eqb-true, lt-ltb, or_parts, le-ltb, not-false}
+use Rattle.std.proofs.lemmas.Bool.{false_from_ne_true}
 use Rattle.std.proofs.lemmas.List.{get_or-map, length-map}
 use Rattle.std.proofs.lemmas.List.Folds.{list_any_at}
 use Rattle.span_tables.specs.Net.{accounts_of, net_of, is_held, holding_of, holdings_of}
@@ -14,10 +15,12 @@ use Rattle.span_tables.specs.declared.records.Contract.{Contract}
 use Rattle.span_tables.specs.declared.records.PositionRecord.{PositionRecord}
 use Rattle.span_tables.proofs.NameLaws.{distinct_same}
 use Rattle.span_tables.proofs.NameLemmas.{same_name}
-use Rattle.param_check.specs.Binding.{first_unfit, is_unknown, is_first_of_contract, is_first_of_account, exceeds_net, exceeds_held}
+use Rattle.param_check.specs.Binding.{first_unfit, is_known, is_unknown, is_first_of_contract, is_first_of_account, exceeds_net}
+use Rattle.param_check.specs.Binding.{exceeds_held}
 use Rattle.param_check.specs.near.Holdings.{are_many, exceeds, exceeds_at, excess_of, ids_of, is_over, is_over_at, limit_fault}
+use Rattle.param_check.specs.declared.binding.over_limits.Limit.{Limit}
 use Rattle.param_check.specs.declared.binding.over_limits.Limit.TheVariants as limit
-use Rattle.param_check.specs.near.Ledgers.{is_foreign, foreign_fault}
+use Rattle.param_check.specs.near.Ledgers.{foreign_fault, is_foreign, is_listed}
 use Rattle.param_check.specs.declared.faults.BindFault.TheVariants as fault
 use Rattle.param_check.proofs.AccountLaws.{bytes_eq-refl, bytes_eq-flip}
 use Rattle.param_check.proofs.LimitLaws.{over_filtered}
@@ -42,6 +45,19 @@ position_is : (ks : List (List ℕ)) (name : List ℕ) → list_any (bytes_eq na
 position_is ks name h =
     ap (λ b. cond b (Some (position_or_len (bytes_eq name) ks)) None)
     (lt-ltb (position_or_len (bytes_eq name) ks) (length ks) (within ks name h))
+
+position_none : (ks : List (List ℕ)) (name : List ℕ) → list_any (bytes_eq name) ks ≡ false → position (bytes_eq name) ks ≡ None
+position_none ks name h =
+    let past = absent ks name h in
+    ap (λ b. cond b (Some (position_or_len (bytes_eq name) ks)) None)
+    (le-ltb (position_or_len (bytes_eq name) ks) (length ks) (omega (arith, past)))
+  where
+    absent : (xs : List (List ℕ)) (n : List ℕ) → list_any (bytes_eq n) xs ≡ false → position_or_len (bytes_eq n) xs ≡ length xs
+    absent [] n e = refl
+    absent (x ∷ xs) n e =
+        let parts = or_parts (bytes_eq n x) (list_any (bytes_eq n) xs) e in
+        let more = absent xs n parts.1 in
+        ap (λ b. cond (not b) (1 + position_or_len (bytes_eq n) xs) 0) parts.0 ∙ omega (arith, more)
 
 at_place : {H : Type 0} (f : List ℕ → H) (ks : List (List ℕ)) (name : List ℕ) (d : H) → list_any (bytes_eq name) ks ≡ true
     → get_or (map f ks) (position_or_len (bytes_eq name) ks) d ≡ f name
@@ -123,13 +139,21 @@ module _ (positions : List PositionRecord) (account : List ℕ) where
           (ap (λ n. nat_lt MAX_NET (nat_abs (net_of positions account n))) (sym (same_name name x.id same)))
       by false same h e more = others (is_held first) (ne_eqb a c (λ z. omega (arith, e, z))) (more h (omega (arith, e)))
 
+-- a net over the limit among what an account holds is the net of its contract
+pub over_held : (contracts : List Contract) (positions : List PositionRecord) (account name : List ℕ)
+    → list_any (bytes_eq name) (ids_of contracts) ≡ true
+    → is_over_at (position_or_len (bytes_eq name) (ids_of contracts)) (holdings_of contracts positions account)
+    ≡ nat_lt MAX_NET (nat_abs (net_of positions account name))
+unfolding held_from
+over_held contracts positions account name h =
+    over_here positions account 0 (position_or_len (bytes_eq name) (ids_of contracts)) contracts name h (omega arith)
+
 -- ---- each record's faults, by what the account that it names holds
 
 module _ (contracts : List Contract) (positions : List PositionRecord) (held : List ℕ → List Holding) (accounts : List (List ℕ))
-    (nets : List (List Holding)) (accounts_are : accounts ≡ accounts_of positions) (nets_are : nets ≡ map held accounts)
-    (known : list_any (is_foreign (ids_of contracts)) positions ≡ false) where
+    (nets : List (List Holding)) (accounts_are : accounts ≡ accounts_of positions) (nets_are : nets ≡ map held accounts) where
   -- the account of a record is among the accounts
-  account_among : (k : ℕ) (d : PositionRecord) → k < length positions
+  pub account_among : (k : ℕ) (d : PositionRecord) → k < length positions
       → list_any (bytes_eq (get_or positions k d).account) accounts ≡ true
   account_among k d lt =
       let name = (get_or positions k d).account in
@@ -137,14 +161,6 @@ module _ (contracts : List Contract) (positions : List PositionRecord) (held : L
       ∙ list_any_at (bytes_eq name) (map (λ (p : PositionRecord). p.account) positions) k []
       (omega (arith, lt, length-map positions (λ (p : PositionRecord). p.account)))
       (ap (bytes_eq name) (get_or-map (λ (p : PositionRecord). p.account) positions k d [] lt) ∙ bytes_eq-refl name)
-
-  -- the contract of a record is among the ids
-  contract_among : (k : ℕ) (d : PositionRecord) → k < length positions
-      → list_any (bytes_eq (get_or positions k d).contract) (ids_of contracts) ≡ true
-  contract_among k d lt =
-      not-false (list_any (bytes_eq (get_or positions k d).contract) (ids_of contracts))
-      (false_from_ne_true (is_foreign (ids_of contracts) (get_or positions k d))
-      (λ e. true≢false (sym (list_any_at (is_foreign (ids_of contracts)) positions k d lt e) ∙ known)))
 
   excesses_are : (ks : List (List ℕ)) → map excess_of (map held ks) ≡ map (λ k. excess_of (held k)) ks
   excesses_are [] = refl
@@ -157,7 +173,7 @@ module _ (contracts : List Contract) (positions : List PositionRecord) (held : L
       ∙ ap (λ n. get_or n (position_or_len (bytes_eq name) accounts) (excess_of [])) (excesses_are accounts)
       ∙ at_place (λ k. excess_of (held k)) accounts name (excess_of []) h
 
-  net_exceeds_is : (p : PositionRecord) → list_any (bytes_eq p.account) accounts ≡ true
+  pub net_exceeds_is : (p : PositionRecord) → list_any (bytes_eq p.account) accounts ≡ true
       → list_any (bytes_eq p.contract) (ids_of contracts) ≡ true
       → exceeds limit.Net (ids_of contracts) accounts (map excess_of nets) p
       ≡ is_over_at (position_or_len (bytes_eq p.contract) (ids_of contracts)) (held p.account)
@@ -170,32 +186,58 @@ module _ (contracts : List Contract) (positions : List PositionRecord) (held : L
       ∙ ap (λ x. is_over_at at x.over) (excess_at p.account a)
       ∙ over_filtered at (held p.account)
 
-  held_exceeds_is : (p : PositionRecord) → list_any (bytes_eq p.account) accounts ≡ true
+  pub held_exceeds_is : (p : PositionRecord) → list_any (bytes_eq p.account) accounts ≡ true
+      → list_any (bytes_eq p.contract) (ids_of contracts) ≡ true
       → exceeds limit.Held (ids_of contracts) accounts (map excess_of nets) p ≡ are_many (held p.account)
-  held_exceeds_is p a =
+  held_exceeds_is p a c =
       ap (λ o. exceeds_at limit.Held o (position (bytes_eq p.contract) (ids_of contracts)) (map excess_of nets))
       (position_is accounts p.account a)
+      ∙ ap (λ o. exceeds_at limit.Held (Some (position_or_len (bytes_eq p.account) accounts)) o (map excess_of nets))
+      (position_is (ids_of contracts) p.contract c)
       ∙ ap (λ x. x.many) (excess_at p.account a)
 
-  -- the fault of a net is that of the first record whose net in its contract is over the limit
-  pub net_limit_is : (over : PositionRecord → Bool) → ((p : PositionRecord) → list_any (bytes_eq p.contract) (ids_of contracts) ≡ true
-      → is_over_at (position_or_len (bytes_eq p.contract) (ids_of contracts)) (held p.account) ≡ over p)
-      → limit_fault limit.Net (ids_of contracts) accounts (map excess_of nets) positions
-      ≡ first_unfit fault.NetOutOfRange (λ earlier p. over p) positions
-  unfolding limit_fault
-  net_limit_is over is =
-      unfit_same fault.NetOutOfRange (exceeds limit.Net (ids_of contracts) accounts (map excess_of nets)) over positions
-      (λ k d lt. net_exceeds_is (get_or positions k d) (account_among k d lt) (contract_among k d lt)
-      ∙ is (get_or positions k d) (contract_among k d lt))
+  -- at a contract that is not among the ids nothing is exceeded
+  pub none_exceeds_is : (l : Limit) (p : PositionRecord) → list_any (bytes_eq p.account) accounts ≡ true
+      → list_any (bytes_eq p.contract) (ids_of contracts) ≡ false → exceeds l (ids_of contracts) accounts (map excess_of nets) p ≡ false
+  none_exceeds_is l p a c =
+      ap (λ o. exceeds_at l o (position (bytes_eq p.contract) (ids_of contracts)) (map excess_of nets))
+      (position_is accounts p.account a)
+      ∙ ap (λ o. exceeds_at l (Some (position_or_len (bytes_eq p.account) accounts)) o (map excess_of nets))
+      (position_none (ids_of contracts) p.contract c)
+      ∙ none l
+    where
+      none : (k : Limit) → exceeds_at k (Some (position_or_len (bytes_eq p.account) accounts)) None (map excess_of nets) ≡ false
+      none limit.Net = refl
+      none limit.Held = refl
 
-  -- the fault of many contracts is that of the first record whose account holds too many
-  pub held_limit_is : limit_fault limit.Held (ids_of contracts) accounts (map excess_of nets) positions
-      ≡ first_unfit fault.TooManyHeld (λ earlier p. are_many (held p.account)) positions
-  unfolding limit_fault
-  held_limit_is =
-      unfit_same fault.TooManyHeld (exceeds limit.Held (ids_of contracts) accounts (map excess_of nets))
-      (λ p. are_many (held p.account)) positions
-      (λ k d lt. held_exceeds_is (get_or positions k d) (account_among k d lt))
+  module _ (known : list_any (is_foreign (ids_of contracts)) positions ≡ false) where
+    -- the contract of a record is among the ids
+    contract_among : (k : ℕ) (d : PositionRecord) → k < length positions
+        → list_any (bytes_eq (get_or positions k d).contract) (ids_of contracts) ≡ true
+    contract_among k d lt =
+        not-false (list_any (bytes_eq (get_or positions k d).contract) (ids_of contracts))
+        (false_from_ne_true (is_foreign (ids_of contracts) (get_or positions k d))
+        (λ e. true≢false (sym (list_any_at (is_foreign (ids_of contracts)) positions k d lt e) ∙ known)))
+
+    -- the fault of a net is that of the first record whose net in its contract is over the limit
+    pub net_limit_is : (over : PositionRecord → Bool) → ((p : PositionRecord) → list_any (bytes_eq p.contract) (ids_of contracts) ≡ true
+        → is_over_at (position_or_len (bytes_eq p.contract) (ids_of contracts)) (held p.account) ≡ over p)
+        → limit_fault limit.Net (ids_of contracts) accounts (map excess_of nets) positions
+        ≡ first_unfit fault.NetOutOfRange (λ earlier p. over p) positions
+    unfolding limit_fault
+    net_limit_is over is =
+        unfit_same fault.NetOutOfRange (exceeds limit.Net (ids_of contracts) accounts (map excess_of nets)) over positions
+        (λ k d lt. net_exceeds_is (get_or positions k d) (account_among k d lt) (contract_among k d lt)
+        ∙ is (get_or positions k d) (contract_among k d lt))
+
+    -- the fault of many contracts is that of the first record whose account holds too many
+    pub held_limit_is : limit_fault limit.Held (ids_of contracts) accounts (map excess_of nets) positions
+        ≡ first_unfit fault.TooManyHeld (λ earlier p. are_many (held p.account)) positions
+    unfolding limit_fault
+    held_limit_is =
+        unfit_same fault.TooManyHeld (exceeds limit.Held (ids_of contracts) accounts (map excess_of nets))
+        (λ p. are_many (held p.account)) positions
+        (λ k d lt. held_exceeds_is (get_or positions k d) (account_among k d lt) (contract_among k d lt))
 
 module _ (contracts : List Contract) (positions : List PositionRecord) (accounts : List (List ℕ)) (nets : List (List Holding))
     (accounts_are : accounts ≡ accounts_of positions) (nets_are : nets ≡ map (holdings_of contracts positions) accounts)
@@ -226,16 +268,16 @@ module _ (contracts : List Contract) (positions : List PositionRecord) (accounts
   held_fault_is =
       held_fault_any ∙ sym (held_of_kind contracts positions)
 
+-- a contract is among the ids just where the tables have it
+pub listed_is : (contracts : List Contract) (p : PositionRecord) → is_listed (ids_of contracts) p ≡ is_known contracts p
+listed_is [] p = refl
+listed_is (x ∷ xs) p =
+    ap (λ b. b || is_listed (ids_of xs) p) (bytes_eq-flip p.contract x.id) ∙ ap (λ b. bytes_eq x.id p.contract || b) (listed_is xs p)
+
 -- the first unknown contract is that of the definition
 pub foreign_fault_is : (contracts : List Contract) (positions : List PositionRecord)
     → foreign_fault (ids_of contracts) positions ≡ first_unfit fault.UnknownContract (λ earlier p. is_unknown contracts p) positions
 unfolding foreign_fault
 foreign_fault_is contracts positions =
     unfit_same fault.UnknownContract (is_foreign (ids_of contracts)) (is_unknown contracts) positions
-    (λ k d lt. ap not (among (get_or positions k d).contract contracts))
-  where
-    among : (name : List ℕ) (xs : List Contract) → list_any (bytes_eq name) (ids_of xs) ≡ list_any (λ x. bytes_eq x.id name) xs
-    among name [] = refl
-    among name (x ∷ xs) =
-        ap (λ b. b || list_any (bytes_eq name) (ids_of xs)) (bytes_eq-flip name x.id)
-        ∙ ap (λ b. bytes_eq x.id name || b) (among name xs)
+    (λ k d lt. ap not (listed_is contracts (get_or positions k d)))

@@ -1,14 +1,14 @@
 -- Laws of the first record with a fault, where the fault is one of the record alone.
 use Rattle.std.proofs.Common.{◌≡◌, ℕ, suc, ◌+◌, ◌<◌, Bool, true, false, cond, not, ◌||◌, ◌&&◌, List, []}
-use Rattle.std.proofs.Common.{◌∷◌, ◌++◌, length, get_or, take, drop, Option, Some, None, refl, sym, ap, ◌∙◌, arith}
+use Rattle.std.proofs.Common.{◌∷◌, ◌++◌, length, get_or, Option, Some, None, refl, sym, ap, ◌∙◌, arith}
 use Rattle.std.specs.Prelude.{option_map}
 use Rattle.std.specs.Option.{option_or}
 use Rattle.std.specs.List.{list_any}
 use Rattle.std.proofs.lemmas.Bool.{true≢false, or_parts, and_right, false_from_ne_true}
-use Rattle.std.proofs.lemmas.List.{take-append-drop, drop_more, length-take-le, length_push}
 use Rattle.std.proofs.lemmas.List.Folds.{list_any-append}
 use Rattle.span_tables.specs.Faults.{first_fault_after}
 use Rattle.span_tables.specs.declared.records.PositionRecord.{PositionRecord}
+use Rattle.span_tables.proofs.FaultLaws.{first_fault_next}
 use Rattle.param_check.specs.Binding.{first_unfit}
 use Rattle.param_check.specs.declared.faults.BindFault.{BindFault}
 
@@ -25,7 +25,8 @@ module _ (fault : ℕ → List ℕ → BindFault) where
       (after unfit (earlier ++ p ∷ []) xs)
   unfolding after fault_if
   one unfit b earlier p xs e =
-      ap (λ t. option_or (option_map (λ f. f (length earlier + 1)) (fault_if t p)) (after unfit (earlier ++ p ∷ []) xs)) e
+      first_fault_next (λ e p. cond (unfit p) (Some (λ at. fault at p.account)) None) earlier p xs
+      ∙ ap (λ t. option_or (option_map (λ f. f (length earlier + 1)) (fault_if t p)) (after unfit (earlier ++ p ∷ []) xs)) e
 
   module _ (unfit : PositionRecord → Bool) where
     none_after : (earlier xs : List PositionRecord) → list_any unfit xs ≡ false → after unfit earlier xs ≡ None
@@ -35,33 +36,10 @@ module _ (fault : ℕ → List ℕ → BindFault) where
         let parts = or_parts (unfit p) (list_any unfit xs) h in
         one unfit false earlier p xs parts.0 ∙ none_after (earlier ++ p ∷ []) xs parts.1
 
-    found_after : (earlier front : List PositionRecord) (p : PositionRecord) (rest : List PositionRecord) (n : ℕ)
-        → list_any unfit front ≡ false → unfit p ≡ true
-        → n ≡ length earlier + length front → after unfit earlier (front ++ p ∷ rest) ≡ Some (fault (n + 1) p.account)
-    unfolding after fault_if
-    found_after earlier [] p rest n h e k =
-        one unfit true earlier p rest e ∙ (let same : length earlier ≡ n = omega (arith, k) in
-        ap (λ m. Some (fault (m + 1) p.account)) same)
-    found_after earlier (q ∷ front) p rest n h e k =
-        let parts = or_parts (unfit q) (list_any unfit front) h in
-        one unfit false earlier q (front ++ p ∷ rest) parts.0
-        ∙ found_after (earlier ++ q ∷ []) front p rest n parts.1 e (omega (arith, k, length_push earlier q))
-
     -- no record is unfit
     pub unfit_none : (xs : List PositionRecord) → list_any unfit xs ≡ false → first_unfit fault (λ earlier p. unfit p) xs ≡ None
     unfolding after
     unfit_none xs h = none_after [] xs h
-
-    -- the record at a place is, and none before it
-    pub unfit_found : (xs : List PositionRecord) (i : ℕ) (p : PositionRecord) → i < length xs → get_or xs i p ≡ p
-        → list_any unfit (take i xs) ≡ false → unfit p ≡ true
-        → first_unfit fault (λ earlier p. unfit p) xs ≡ Some (fault (i + 1) p.account)
-    unfolding after
-    unfit_found xs i p lt at h e =
-        let split : xs ≡ take i xs ++ p ∷ drop (i + 1) xs =
-        sym (take-append-drop i xs) ∙ ap (λ ys. take i xs ++ ys) (drop_more xs i p lt ∙ ap (λ z. z ∷ drop (i + 1) xs) at) in
-        let short : length (take i xs) ≡ i = length-take-le i xs (omega (arith, lt)) in
-        ap (after unfit []) split ∙ found_after [] (take i xs) p (drop (i + 1) xs) i h e (omega (arith, short))
 
     none_back : (earlier xs : List PositionRecord) → after unfit earlier xs ≡ None → list_any unfit xs ≡ false
     unfolding after fault_if
@@ -88,6 +66,7 @@ module _ (fault : ℕ → List ℕ → BindFault) where
         one f (g p) earlier p xs (h 0 p (omega arith))
         ∙ ap (option_or (option_map (λ w. w (length earlier + 1)) (fault_if (g p) p)))
         (same_after (earlier ++ p ∷ []) xs (λ k d lt. h (suc k) d (omega (arith, lt))))
+        ∙ sym (one g (g p) earlier p xs refl)
 
     -- two tests that agree on the records find the same fault
     pub unfit_same : (xs : List PositionRecord)
@@ -122,15 +101,20 @@ module _ (fault : ℕ → List ℕ → BindFault) where
         by (unfit p) refl (λ e. firsts_after (earlier ++ p ∷ []) xs
         (list_any-append unfit earlier (p ∷ []) ∙ ap (λ b. b || (unfit p || false)) h ∙ ap (λ b. b || false) e))
       where
+        next : firsts earlier (p ∷ xs) ≡ option_or (option_map (λ f. f (length earlier + 1))
+            (fault_if (not (list_any (λ x. same x p) earlier) && unfit p) p)) (firsts (earlier ++ p ∷ []) xs)
+        next =
+            first_fault_next (λ e p. cond (not (list_any (λ x. same x p) e) && unfit p) (Some (λ at. fault at p.account)) None) earlier p xs
+
         by : (b : Bool) → unfit p ≡ b → (unfit p ≡ false
             → firsts (earlier ++ p ∷ []) xs ≡ after unfit (earlier ++ p ∷ []) xs)
             → firsts earlier (p ∷ xs) ≡ after unfit earlier (p ∷ xs)
         by true e more =
-            ap (λ t. option_or (option_map (λ f. f (length earlier + 1)) (fault_if t p)) (firsts (earlier ++ p ∷ []) xs))
+            next ∙ ap (λ t. option_or (option_map (λ f. f (length earlier + 1)) (fault_if t p)) (firsts (earlier ++ p ∷ []) xs))
             (test_is earlier p h true e)
             ∙ sym (one unfit true earlier p xs e)
         by false e more =
-            ap (λ t. option_or (option_map (λ f. f (length earlier + 1)) (fault_if t p)) (firsts (earlier ++ p ∷ []) xs))
+            next ∙ ap (λ t. option_or (option_map (λ f. f (length earlier + 1)) (fault_if t p)) (firsts (earlier ++ p ∷ []) xs))
             (test_is earlier p h false e)
             ∙ more e ∙ sym (one unfit false earlier p xs e)
 

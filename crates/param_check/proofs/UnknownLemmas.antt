@@ -2,7 +2,7 @@
 use Rattle.std.proofs.Common.{◌≡◌, ℕ, not, List, [], ◌∷◌, Some, refl, sym, ap, ◌∙◌, ◌&&◌, eqb, bytes_eq}
 use Rattle.std.specs.List.{list_any}
 use Rattle.std.proofs.Math.Bool.{and-true, or-false}
-use Rattle.span_tables.specs.Rules.{is_and, first_breaking, as_commodity, as_tier}
+use Rattle.span_tables.specs.Rules.{is_and, all_breaking, as_commodity, as_tier}
 use Rattle.span_tables.specs.Rules.{commodities_in, has_tier, names_no_commodity, names_no_tier}
 use Rattle.span_tables.specs.declared.records.Record.{Record}
 use Rattle.span_tables.specs.declared.records.Record.TheVariants as record_of
@@ -11,7 +11,7 @@ use Rattle.param_check.specs.near.Keys.{names_unknown, names_unknown_tier}
 use Rattle.param_check.specs.declared.check.keys.Key.{Key}
 use Rattle.param_check.specs.declared.check.keys.Identity.TheVariants as identity
 use Rattle.param_check.proofs.FilterMaps.{list_any-filter_map, list_any-map, list_any-same}
-use Rattle.param_check.proofs.FirstFaults.{first_breaking-same}
+use Rattle.param_check.proofs.FirstFaults.{all_breaking-same}
 
 -- ---- commodities
 
@@ -42,10 +42,10 @@ module _ (keys : List Key) (all : List Record) (are : (key : Key) → is_key_amo
       ∙ sym (list_any-map (λ name. not (list_any (λ c. bytes_eq c.id name) (commodities_in all))) (λ leg. leg.commodity) x.legs.items)
   names_unknown-alike earlier _ = refl
 
-  pub names_unknown-first : first_breaking (λ at. at) (λ earlier r. names_unknown keys r) all
-      ≡ first_breaking (λ at. at) (λ earlier r. names_no_commodity all r) all
-  names_unknown-first =
-      first_breaking-same (λ at. at) (λ earlier r. names_unknown keys r) (λ earlier r. names_no_commodity all r) names_unknown-alike all
+  pub names_unknown-all : all_breaking (λ at. at) (λ earlier r. names_unknown keys r) all
+      ≡ all_breaking (λ at. at) (λ earlier r. names_no_commodity all r) all
+  names_unknown-all =
+      all_breaking-same (λ at. at) (λ earlier r. names_unknown keys r) (λ earlier r. names_no_commodity all r) names_unknown-alike all
 
 -- ---- tiers
 
@@ -66,8 +66,8 @@ module _ (keys : List Key) (all : List Record) (are : (key : Key) → is_key_amo
   names_unknown_tier-alike earlier (record_of.Intra x) = list_any-same _ _ (λ leg. unknown_tier x.commodity leg.tier) x.legs.items
   names_unknown_tier-alike earlier _ = refl
 
-  pub names_unknown_tier-first : first_breaking (λ at. at) (λ earlier r. names_unknown_tier keys r) all
-      ≡ first_breaking (λ at. at) (λ earlier r. names_no_tier all r) all
-  names_unknown_tier-first =
-      first_breaking-same (λ at. at) (λ earlier r. names_unknown_tier keys r)
+  pub names_unknown_tier-all : all_breaking (λ at. at) (λ earlier r. names_unknown_tier keys r) all
+      ≡ all_breaking (λ at. at) (λ earlier r. names_no_tier all r) all
+  names_unknown_tier-all =
+      all_breaking-same (λ at. at) (λ earlier r. names_unknown_tier keys r)
       (λ earlier r. names_no_tier all r) names_unknown_tier-alike all

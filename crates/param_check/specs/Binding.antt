@@ -1,8 +1,8 @@
 -- Which positions fit the accepted tables.
-use Rattle.std.specs.Prelude.{ℕ, Bool, not, ◌&&◌, nat_lt, if◌then◌else◌, List, [], ◌∷◌}
+use Rattle.std.specs.Prelude.{ℕ, Bool, not, ◌&&◌, nat_lt, if◌then◌else◌, List, ◌++◌, filter}
 use Rattle.std.specs.Prelude.{length, Option, Some, None, bytes_eq, nat_abs, Result, true, false}
 use Rattle.std.specs.List.{list_any}
-use Rattle.span_tables.specs.Faults.{first_some, first_fault, ok_unless}
+use Rattle.span_tables.specs.Faults.{all_faults, first_of, ok_unless}
 use Rattle.span_tables.specs.Net.{AccountHoldings, net_of, holdings_of, portfolios_of}
 use Rattle.span_tables.specs.declared.records.Contract.{Contract}
 use Rattle.span_tables.specs.declared.records.PositionRecord.{PositionRecord}
@@ -10,9 +10,21 @@ use Rattle.param_check.specs.declared.faults.BindFault.{BindFault}
 use Rattle.param_check.specs.declared.faults.BindFault.TheVariants as fault
 use Rattle.span_tables.specs.declared.limits.TheConstants.{MAX_NET, MAX_HELD}
 
+-- the record is of a contract that the tables have
+abbrev pub is_known : List Contract → PositionRecord → Bool
+is_known contracts p = list_any (λ x. bytes_eq x.id p.contract) contracts
+
 -- the record is of a contract that the tables do not have
 abbrev pub is_unknown : List Contract → PositionRecord → Bool
-is_unknown contracts p = not (list_any (λ x. bytes_eq x.id p.contract) contracts)
+is_unknown contracts p = not (is_known contracts p)
+
+-- the records of contracts that the tables have
+abbrev pub known_records : List Contract → List PositionRecord → List PositionRecord
+known_records contracts records = filter (is_known contracts) records
+
+-- the record is of a contract that the tables have, and a test of such records alone holds of it
+abbrev pub among_known : List Contract → (List PositionRecord → PositionRecord → Bool) → List PositionRecord → PositionRecord → Bool
+among_known contracts test earlier p = is_known contracts p && test (known_records contracts earlier) p
 
 -- the record is the first of its account and contract
 abbrev pub is_first_of_contract : List PositionRecord → PositionRecord → Bool
@@ -31,23 +43,39 @@ exceeds_net all p = nat_lt MAX_NET (nat_abs (net_of all p.account p.contract))
 abbrev pub exceeds_held : List Contract → List PositionRecord → PositionRecord → Bool
 exceeds_held contracts all p = nat_lt MAX_HELD (length (holdings_of contracts all p.account))
 
--- the first record with a fault, under the fault's name and with a name of the record
-abbrev pub first_unfit_by : {R F : Type 0} → (R → List ℕ) → (ℕ → List ℕ → F) → (List R → R → Bool) → List R → Option F
-first_unfit_by name_of fault unfit all =
-    first_fault (λ earlier r. if unfit earlier r then Some (λ at. fault at (name_of r)) else None) all
+-- each record with a fault, under the fault's name and with a name of the record
+abbrev pub all_unfit_by : {R F : Type 0} → (R → List ℕ) → (ℕ → List ℕ → F) → (List R → R → Bool) → List R → List F
+all_unfit_by name_of fault unfit all =
+    all_faults (λ earlier r. if unfit earlier r then Some (λ at. fault at (name_of r)) else None) all
 
--- the first record of positions with a fault, under the fault's name and with the record's account
+-- the first of these
+abbrev pub first_unfit_by : {R F : Type 0} → (R → List ℕ) → (ℕ → List ℕ → F) → (List R → R → Bool) → List R → Option F
+first_unfit_by name_of fault unfit all = first_of (all_unfit_by name_of fault unfit all)
+
+-- each record of positions with a fault, under the fault's name and with the record's account
+abbrev pub all_unfit : (ℕ → List ℕ → BindFault) → (List PositionRecord → PositionRecord → Bool)
+    → List PositionRecord → List BindFault
+all_unfit fault unfit all = all_unfit_by (λ (p : PositionRecord). p.account) fault unfit all
+
+-- the first of these
 abbrev pub first_unfit : (ℕ → List ℕ → BindFault) → (List PositionRecord → PositionRecord → Bool)
     → List PositionRecord → Option BindFault
-first_unfit fault unfit all = first_unfit_by (λ (p : PositionRecord). p.account) fault unfit all
+first_unfit fault unfit all = first_of (all_unfit fault unfit all)
 
--- the fault of positions: an unknown contract in any record, then a net out of range, then too many contracts held
+-- The faults of positions: each record of an unknown contract, then each net out of range and then each account that holds too many
+-- contracts, as if the records of unknown contracts were not there, but for the numbers.
+unfoldable pub bind_faults : List Contract → List PositionRecord → List BindFault
+bind_faults contracts all =
+    let known = known_records contracts all in
+    all_unfit fault.UnknownContract (λ earlier p. is_unknown contracts p) all
+    ++ all_unfit fault.NetOutOfRange
+    (among_known contracts (λ earlier p. is_first_of_contract earlier p && exceeds_net known p)) all
+    ++ all_unfit fault.TooManyHeld
+    (among_known contracts (λ earlier p. is_first_of_account earlier p && exceeds_held contracts known p)) all
+
+-- the first of these
 unfoldable pub bind_fault : List Contract → List PositionRecord → Option BindFault
-bind_fault contracts all = first_some
-    (first_unfit fault.UnknownContract (λ earlier p. is_unknown contracts p) all
-    ∷ first_unfit fault.NetOutOfRange (λ earlier p. is_first_of_contract earlier p && exceeds_net all p) all
-    ∷ first_unfit fault.TooManyHeld (λ earlier p. is_first_of_account earlier p && exceeds_held contracts all p) all
-    ∷ [])
+bind_fault contracts all = first_of (bind_faults contracts all)
 
 -- the portfolios of positions, or their fault
 unfoldable pub bindings_of : List Contract → List PositionRecord → Result (List AccountHoldings) BindFault

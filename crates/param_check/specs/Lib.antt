@@ -1,4 +1,5 @@
 pub mod Binding
 pub mod CheckFaults
+pub mod FaultLaws
 pub mod OrderBinding
 pub mod near

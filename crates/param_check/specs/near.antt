@@ -2,10 +2,12 @@
 pub mod Holdings
 pub mod Keys
 pub mod Ledgers
+pub mod NamedRules
 pub mod Nets
+pub mod OnLiterals
 pub mod Orders
-pub mod Outcomes
 pub mod Overlaps
 pub mod RecordRules
 pub mod Samples
 pub mod Sums
+pub mod Wanted

@@ -6,7 +6,7 @@ pub(crate) mod nets;
 pub(crate) mod over_limits;
 
 ghost use Rattle.std.specs.Prelude.{◌≡◌, false, None, length, bytes_eq, map, All, IfOk};
-ghost use Rattle.param_check.specs.Binding.{bindings_of, is_memory};
+ghost use Rattle.param_check.specs.Binding.{bind_faults, bindings_of, is_memory};
 ghost use Rattle.param_check.specs.declared.binding.over_limits.Limit.TheVariants as limit;
 ghost use Rattle.param_check.specs.near.Holdings.{excess_of, limit_fault, portfolios_from, portfolios_or_fault};
 ghost use Rattle.span_tables.specs.Gives.{Gives};
@@ -15,10 +15,11 @@ ghost use Rattle.span_tables.specs.Names.{has_repeat};
 ghost use Rattle.span_tables.specs.Net.{accounts_of};
 
 use crate::binding::contract_ids::ids_of;
-use crate::binding::ledgers::ledgers_of;
+use crate::binding::ledgers::{gather, ledgers_of};
 use crate::binding::nets::{AccountNets, all_nets};
-use crate::binding::over_limits::{Limit, excesses_of, limit_fault};
+use crate::binding::over_limits::{Limit, excesses_of, limit_fault, limit_faults};
 use crate::faults::BindFault;
+use crate::wanted::Wanted;
 use indexmap::IndexSet;
 use span_tables::name::Name;
 use span_tables::portfolios::{Portfolio, Portfolios};
@@ -60,10 +61,10 @@ fn portfolios_or_fault(
         (portfolios_or_fault numbers.now.keys (accounts_of positions.now) nets.items positions.now) }
 {
     let excesses = excesses_of(alloc, &nets)?;
-    if let Some(fault) = limit_fault(Limit::Net, numbers, &excesses, positions) {
+    if let Some(fault) = limit_fault(alloc, Limit::Net, numbers, &excesses, positions)? {
         return Err(fault);
     }
-    if let Some(fault) = limit_fault(Limit::Held, numbers, &excesses, positions) {
+    if let Some(fault) = limit_fault(alloc, Limit::Held, numbers, &excesses, positions)? {
         return Err(fault);
     }
     let all = portfolios_from(alloc, positions.accounts(), nets)?;
@@ -83,6 +84,53 @@ pub fn bind_positions(
     let ledgers = ledgers_of(alloc, &numbers, positions)?;
     let nets = all_nets(alloc, contracts.len(), ledgers)?;
     portfolios_or_fault(alloc, &numbers, nets, positions)
+}
+
+// All faults of the records; the ids of the contracts are apart.
+fn all_faults(
+    alloc: Global,
+    contracts: &[Contract],
+    positions: &RawPositions,
+) -> Result<Vec<BindFault>, AllocError>
+    requires { has_repeat (λ x y. bytes_eq x.id y.id) contracts.now ≡ false }
+    ensures { IfOk result (λ faults. faults.items ≡ bind_faults contracts.now positions.now) }
+{
+    let numbers = ids_of(alloc, contracts)?;
+    let gathered = gather(alloc, Wanted::All, &numbers, positions)?;
+    let nets = all_nets(alloc, contracts.len(), gathered.ledgers)?;
+    let excesses = excesses_of(alloc, &nets)?;
+    let mut over = limit_faults(
+        alloc,
+        Wanted::All,
+        Limit::Net,
+        &numbers,
+        &excesses,
+        positions,
+    )?;
+    let mut many = limit_faults(
+        alloc,
+        Wanted::All,
+        Limit::Held,
+        &numbers,
+        &excesses,
+        positions,
+    )?;
+    let mut faults = gathered.unknown;
+    faults.append(&mut over)?;
+    faults.append(&mut many)?;
+    Ok(faults)
+}
+
+/// All faults of the positions, of B1 to B3 (docs/FORMATS.md, "All faults"): each record whose contract the tables do not have, and then,
+/// as if these records were not there, each net out of range and each account that holds too many contracts.
+pub fn bind_faults(
+    alloc: Global,
+    tables: &Tables,
+    positions: &RawPositions,
+) -> Result<Vec<BindFault>, AllocError>
+    ensures { IfOk result (λ faults. faults.items ≡ bind_faults tables.now.contracts positions.now) }
+{
+    all_faults(alloc, tables.contracts(), positions)
 }
 
 /// What each account holds, by the accounts' first appearance (docs/METHOD.md, "Positions"), or the fault of the

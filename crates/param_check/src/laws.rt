@@ -1,18 +1,17 @@
 //! Laws of the rules, in the methodology's words: each is the contract of a function that does nothing.
 ghost use Rattle.std.specs.Prelude.{◌≡◌, ◌≤◌, ◌&&◌, ℕ, false, true, length, map};
-ghost use Rattle.std.specs.Prelude.{nat_abs, Bool, List, [], Option, Some, None, if◌then◌else◌};
+ghost use Rattle.std.specs.Prelude.{nat_abs, Bool, List, [], Some, None, if◌then◌else◌, zip};
 ghost use Rattle.std.specs.List.{list_any};
 ghost use Rattle.param_check.specs.Binding.{bind_fault, exceeds_held, exceeds_net, first_unfit};
 ghost use Rattle.param_check.specs.Binding.{is_first_of_account, is_first_of_contract, is_unknown};
-ghost use Rattle.param_check.specs.CheckFaults.{check_fault};
+ghost use Rattle.param_check.specs.CheckFaults.{check_fault, rule_names};
 ghost use Rattle.param_check.specs.declared.faults.BindFault.TheVariants as bind;
 ghost use Rattle.param_check.specs.declared.faults.BindFault.{BindFault};
 ghost use Rattle.param_check.specs.declared.faults.CheckFault.{CheckFault};
-ghost use Rattle.span_tables.specs.Faults.{first_some};
 ghost use Rattle.span_tables.specs.Laws.{IsFirstFault, IsFirstOutcome};
 ghost use Rattle.span_tables.specs.Names.{is_among};
 ghost use Rattle.span_tables.specs.Net.{holdings_of, net_of};
-ghost use Rattle.span_tables.specs.Rules.{first_breaking, keeps_rules};
+ghost use Rattle.span_tables.specs.Rules.{first_breaking, keeps_rules, rules};
 ghost use Rattle.span_tables.specs.declared.limits.TheConstants.{MAX_HELD, MAX_NET};
 ghost use Rattle.span_tables.specs.declared.records.Contract.{Contract};
 ghost use Rattle.span_tables.specs.declared.records.PositionRecord.{PositionRecord};
@@ -23,8 +22,8 @@ pub fn first_broken_rule_counts()
     ensures first { (fault : ℕ → CheckFault) (breaks : List Record → Record
         → Bool) (all : List Record) (y : CheckFault) → first_breaking fault breaks all ≡ Some y
         → IsFirstFault (λ earlier r. if breaks earlier r then Some fault else None) [] all y }
-    ensures rule { (outcomes : List (Option CheckFault)) (y : CheckFault)
-        → first_some outcomes ≡ Some y → IsFirstOutcome outcomes y }
+    ensures rule { (all : List Record) (y : CheckFault) → check_fault all ≡ Some y
+        → IsFirstOutcome (map (λ named. first_breaking named.0 named.1 all) (zip rule_names (rules all))) y }
 {}
 
 /// Records without a fault of the check keep every rule.

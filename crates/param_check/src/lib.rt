@@ -3,9 +3,12 @@
 
 pub mod binding;
 pub mod check;
+pub mod fault_laws;
 pub mod faults;
 pub mod laws;
 pub mod order_laws;
 mod order_worked;
 pub mod orders;
+mod wanted;
 mod worked;
+mod worked_faults;

@@ -1,5 +1,5 @@
 //! Worked orders, computed by the definitions alone.
-#![tactic(auto, unfolding(crate::specs::OrderBinding::order_bind_fault, crate::specs::OrderBinding::orders_bound))]
+#![tactic(auto, unfolding(crate::specs::near::OnLiterals::on_literals))]
 
 ghost use Rattle.std.specs.List.{repeat};
 ghost use Rattle.std.specs.Prelude.{◌≡◌, ◌+◌, [], ◌∷◌, None, Ok, Some, codes, neg_ℤ, pos};

@@ -135,10 +135,10 @@ fn kept_or_fault(
     ensures before { IfOk result (λ kept. All (λ o. ArePortfolio (portfolio_before portfolios o.account).holdings) orders.items) }
 {
     let excesses = order_excesses(alloc, contracts, portfolios.as_slice(), &orders)?;
-    if let Some(fault) = limit_fault(Limit::Net, numbers, &excesses, records.by_order()) {
+    if let Some(fault) = limit_fault(alloc, Limit::Net, numbers, &excesses, records.by_order())? {
         return Err(order_fault(fault));
     }
-    if let Some(fault) = limit_fault(Limit::Held, numbers, &excesses, records.by_order()) {
+    if let Some(fault) = limit_fault(alloc, Limit::Held, numbers, &excesses, records.by_order())? {
         return Err(order_fault(fault));
     }
     Ok(Orders {

@@ -1,5 +1,5 @@
 //! Worked faults, computed by the definitions alone.
-#![tactic(auto, unfolding(crate::specs::Binding::bind_fault, crate::specs::CheckFaults::check_fault))]
+#![tactic(auto, unfolding(crate::specs::near::OnLiterals::on_literals))]
 
 ghost use Rattle.std.specs.List.{repeat};
 ghost use Rattle.std.specs.Prelude.{◌≡◌, ◌+◌, [], ◌∷◌, None, Some, codes, neg_ℤ, pos};

@@ -14,8 +14,8 @@ use Rattle.span_tables.specs.declared.records.Record.{Record}
 use Rattle.span_tables.proofs.NameLemmas.{same_name}
 use Rattle.span_csv.specs.Records.{Fields, has_word_form}
 use Rattle.span_csv.specs.Records.{is_in_range, kind_named, kind_of, layout_of, is_word, text_at, record_of_kind, param_record}
-use Rattle.span_csv.specs.ParamFaults.{is_set, profile_of, some_fail, exceeds_limit, param_faults}
-use Rattle.span_csv.specs.declared.faults.ParamFault.{ParamFault}
+use Rattle.span_csv.specs.ParamFaults.{counted, is_set, profile_of, some_fail, exceeds_limit, record_fault, record_faults}
+use Rattle.span_csv.proofs.FormedLemmas.{counted_more, free_formed}
 use Rattle.span_csv.specs.declared.grammar.Kind.{Kind}
 use Rattle.span_csv.specs.declared.grammar.Kind.TheVariants as kind
 
@@ -29,11 +29,7 @@ pub record IsClean (earlier : List Fields) (r : Fields) : Type 0 where
   pub layout : is_none (layout_of (profile_of earlier) r) ≡ false
   pub words : some_fail has_word_form (profile_of earlier) r ≡ false
   pub ranges : some_fail is_in_range (profile_of earlier) r ≡ false
-  pub room : exceeds_limit earlier r (kind_of r) ≡ false
-
--- the fault of a record behind earlier ones
-abbrev pub fault_of : List Fields → Fields → Option (ℕ → ParamFault)
-fault_of earlier r = first_that_holds (param_faults earlier r)
+  pub room : exceeds_limit (counted earlier) r (kind_of r) ≡ false
 
 -- no test holds
 abbrev AllFalse : {F : Type 0} → List (Bool × F) → Type 0
@@ -48,9 +44,9 @@ none_holds : {F : Type 0} (xs : List (Bool × F)) → first_that_holds xs ≡ No
 none_holds [] e = tt
 none_holds (x ∷ xs) e = let parts = by_head x.0 x.1 (first_that_holds xs) e in (parts.0, none_holds xs parts.1)
 
-pub clean : (earlier : List Fields) (r : Fields) → fault_of earlier r ≡ None → IsClean earlier r
+pub clean : (earlier : List Fields) (r : Fields) → record_fault earlier r ≡ None → IsClean earlier r
 clean earlier r e =
-    let h = none_holds (param_faults earlier r) e in
+    let h = none_holds (record_faults earlier r) e in
     record {
       first = h.0;
       second = h.1.0;
@@ -146,7 +142,7 @@ count_by-cons_option test (Some x) xs = sum_by-cons (λ y. cond (test y) 1 0) x 
 -- what records without a fault give is counted by their fields
 pub count_picked : {A : Type 0} (kind : Kind) (pick : Record → Option A) (test : A → Bool) (of_fields : Fields → Bool)
     → IsPicked kind pick test of_fields
-    → (before rows : List Fields) → IsFaultFree fault_of before rows
+    → (before rows : List Fields) → IsFaultFree record_fault before rows
     → count_by test (filter_map pick (map param_record rows)) ≡ count_by (λ r. has_kind kind r && of_fields r) rows
 count_picked kind pick test of_fields picked before [] free = refl
 count_picked kind pick test of_fields picked before (r ∷ rows) free =
@@ -171,10 +167,13 @@ count_push test rows r most le room =
 
 -- no more pass a test than may, where none without a fault is one more
 pub never_more : (test : Fields → Bool) (most : ℕ)
-    → ((earlier : List Fields) (r : Fields) → IsClean earlier r → test r ≡ true → (count_by test earlier == most) ≡ false)
-    → (before rows : List Fields) → count_by test before ≤ most → IsFaultFree fault_of before rows
+    → ((earlier : List Fields) (r : Fields) → counted earlier ≡ earlier → IsClean earlier r → test r ≡ true
+    → (count_by test earlier == most) ≡ false)
+    → (before rows : List Fields) → counted before ≡ before → count_by test before ≤ most → IsFaultFree record_fault before rows
     → count_by test (before ++ rows) ≤ most
-never_more test most room before [] le free = rw (append-nil before) le
-never_more test most room before (r ∷ rows) le free =
-    rw (← append_assoc before (r ∷ []) rows)
-    (never_more test most room (before ++ r ∷ []) rows (count_push test before r most le (room before r (clean before r free.0))) free.1)
+never_more test most room before [] all le free = rw (append-nil before) le
+never_more test most room before (r ∷ rows) all le free =
+    let here = count_push test before r most le (room before r all (clean before r free.0)) in
+    let all_more : counted (before ++ r ∷ []) ≡ before ++ r ∷ [] =
+    counted_more before r (free_formed before r free.0) ∙ ap (λ zs. zs ++ r ∷ []) all in
+    rw (← append_assoc before (r ∷ []) rows) (never_more test most room (before ++ r ∷ []) rows all_more here free.1)

@@ -1,12 +1,16 @@
+mod AccountLemmas
+mod AllFaultLaws
 mod AloneLemmas
 mod CheckLemmas
 mod CountLemmas
+pub mod CountedLaws
 mod FieldLemmas
 mod FormLemmas
+mod FormedLemmas
 mod LegLemmas
 mod LowestLaws
 mod NumberedLemmas
-mod OrderLaws
+pub mod OrderLaws
 mod OrderLemmas
 mod OrderSteps
 mod PositionLemmas
@@ -16,7 +20,10 @@ mod ReadLemmas
 mod RecordLemmas
 pub mod ReadableLaws
 mod RowLemmas
+mod SizeLemmas
 mod StepLemmas
 mod TallyLemmas
+mod TellLemmas
 mod TestLemmas
+mod ToldLemmas
 mod ValueLemmas

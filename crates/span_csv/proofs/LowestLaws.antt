@@ -1,5 +1,5 @@
 -- `first_that_holds` gives the first fault whose test holds.
-use Rattle.std.proofs.Common.{◌≡◌, refl, Bool, true, false, List, [], ◌∷◌, ◌++◌, Some, None}
+use Rattle.std.proofs.Common.{◌≡◌, refl, subst, Bool, true, false, List, [], ◌∷◌, ◌++◌, Some, None}
 use Rattle.std.specs.Prelude.{All}
 use Rattle.std.specs.List.{AllByRecursion}
 use Rattle.std.proofs.lemmas.List.Elements.{All-head, All-tail}
@@ -18,6 +18,13 @@ module _ {F : Type 0} where
   pub none_holds : (faults : List (Bool × F)) → All Fails faults → first_that_holds faults ≡ None
   none_holds [] fail = refl
   none_holds (x ∷ faults) fail = rw (All-head Fails x faults fail) (none_holds faults (All-tail Fails x faults fail))
+
+  -- what all faults are, the first that holds is
+  pub first_is : (P : F → Type 0) (faults : List (Bool × F)) (y : F) → AllByRecursion (λ x. P x.1) faults
+      → first_that_holds faults ≡ Some y → P y
+  first_is P [] y each is = cc
+  first_is P ((true, z) ∷ faults) y each is = let same : z ≡ y = cc in subst P same each.0
+  first_is P ((false, z) ∷ faults) y each is = first_is P faults y each.1 is
 
   pub all_fail : (faults : List (Bool × F)) → first_that_holds faults ≡ None → AllByRecursion Fails faults
   all_fail [] none = tt

@@ -1,5 +1,5 @@
 -- The records of an order file without a fault have the account of their order.
-use Rattle.std.proofs.Common.{◌≡◌, ◌∙◌, refl, sym, subst, inl, inr, ℕ, false, not, ◌&&◌}
+use Rattle.std.proofs.Common.{◌≡◌, ◌∙◌, refl, sym, subst, inl, inr, ℕ, false}
 use Rattle.std.proofs.Common.{List, [], ◌∷◌, ◌++◌, map, Option, None, Ok, append_assoc}
 use Rattle.std.specs.Prelude.{All, bytes_eq}
 use Rattle.std.specs.List.{AllByRecursion}
@@ -26,12 +26,10 @@ of_first : (earlier : List OrderRecord) (r : OrderRecord) (later : List OrderRec
     → has_another_account earlier r.order r.account ≡ false → r.account ≡ account_of_order (earlier ++ r ∷ later) r.order
 of_first [] r later same = rw (places.same_name r.order) refl
 of_first (x ∷ earlier) r later same =
-    let parts = places.or_false (bytes_eq x.order r.order && not (bytes_eq x.account r.account))
-    (has_another_account earlier r.order r.account) same in
     elim (cases_Bool (bytes_eq x.order r.order)) [
       | inl of_order ↦
-          rw of_order (sym (same_name x.account r.account (not-false (bytes_eq x.account r.account) (rw of_order at parts.0))))
-      | inr other ↦ rw other (of_first earlier r later parts.1)
+          rw of_order (sym (same_name x.account r.account (not-false (bytes_eq x.account r.account) (rw of_order at same))))
+      | inr other ↦ rw other (of_first earlier r later (rw other at same))
     ]
 
 -- the fault of a record behind earlier ones

@@ -1,11 +1,12 @@
 -- Order records read one after another give what the definition says of all.
-use Rattle.std.proofs.Common.{◌≡◌, ◌∙◌, refl, ap, inl, inr, ℕ, ◌+◌, Bool, not, ◌||◌, ◌&&◌, ℤ}
-use Rattle.std.proofs.Common.{List, [], ◌∷◌, length, map, Some, Result, Ok, Err}
-use Rattle.std.specs.Prelude.{bytes_eq}
-use Rattle.std.specs.List.{list_any}
+use Rattle.std.proofs.Common.{◌≡◌, ◌∙◌, refl, ap, inl, inr, ℕ, ◌+◌, Bool, false, not, ℤ}
+use Rattle.std.proofs.Common.{List, [], ◌∷◌, length, map, Option, Some, Result, Ok, Err}
+use Rattle.std.specs.Prelude.{bytes_eq, find}
+use Rattle.std.specs.Option.{option_map_or}
 use Rattle.std.proofs.lemmas.Bool.{cases_Bool}
 use Rattle.std.proofs.lemmas.List.{length-map}
 use Rattle.span_tables.specs.Faults.{first_that_holds}
+use Rattle.span_tables.specs.Laws.{IsFaultFree}
 use Rattle.span_tables.specs.Names.{distinct}
 use Rattle.span_tables.proofs.NameLemmas.{is_among-distinct}
 use Rattle.span_tables.specs.near.Orders.{under_order}
@@ -35,11 +36,14 @@ record_orders (r ∷ before) = ap (λ rest. text_at r 0 ∷ rest) (record_orders
 
 -- their accounts are those of their second fields
 pub record_changes : (before : List Fields) (order account : List ℕ) → has_another_account (map order_record before) order account
-    ≡ list_any (λ x. bytes_eq (text_at x 0) order && not (bytes_eq (text_at x 1) account)) before
+    ≡ option_map_or (λ x. not (bytes_eq (text_at x 1) account)) (find (λ x. bytes_eq (text_at x 0) order) before) false
 unfolding order_record
 record_changes [] order account = refl
 record_changes (r ∷ before) order account =
-    ap (λ b. (bytes_eq (text_at r 0) order && not (bytes_eq (text_at r 1) account)) || b) (record_changes before order account)
+    elim (cases_Bool (bytes_eq (text_at r 0) order)) [
+      | inl same ↦ rw same refl
+      | inr other ↦ rw other (record_changes before order account)
+    ]
 
 module _ (at : ℕ) (before : List Fields) (r : Fields) where
   order_of : Result ℤ PositionFault → Result OrderRecord OrderFault
@@ -89,11 +93,15 @@ module _ (at : ℕ) (before : List Fields) (r : Fields) where
       by_quantity (quantity_alone ORDER_NAMES at r)
       ∙ left_alone as_order_fault ORDER_NAMES at r among_others (order_record r) (λ q. order_of (Ok q)) counted
 
+-- the fault of a record behind earlier ones
+abbrev fault_of : List Fields → Fields → Option (ℕ → OrderFault)
+fault_of earlier r = first_that_holds (order_faults earlier r)
+
 -- the next record has its lowest-numbered fault, or is an order's
-next_order-judged : (before : List Fields) (r : Fields) → next_order (map order_record before) r
+next_order-judged : (before : List Fields) (r : Fields) → IsFaultFree fault_of [] before → next_order (map order_record before) r
     ≡ left_by (length before + 1) (order_record r) (order_faults before r)
 unfolding next_order next_position order_of
-next_order-judged before r =
+next_order-judged before r free =
     rw (length-map (map order_record before) under_order, length-map before order_record, record_orders before)
     (judged (length before + 1) before r)
 
@@ -101,5 +109,5 @@ next_order-judged before r =
 pub orders_of-reading : (bytes : List ℕ) → records_after next_order [] (records_of bytes) ≡ orders_of bytes
 unfolding orders_of order_fault
 orders_of-reading bytes =
-    records_after-judged next_order (λ earlier x. first_that_holds (order_faults earlier x)) order_record next_order-judged
+    records_after-judged next_order fault_of order_record next_order-judged
     (records_of bytes)

@@ -1,6 +1,6 @@
 -- Orders told by number, as one more record comes behind others.
 use Rattle.std.proofs.Common.{◌≡◌, ◌∙◌, refl, sym, ap, subst, inl, inr, arith, ℕ, ◌+◌, ◌<◌, ◌≤◌, Bool, true, false, not}
-use Rattle.std.proofs.Common.{◌||◌, ◌&&◌, ◌==◌, List, [], ◌∷◌, ◌++◌, length, get_or, map, Some, slice_get}
+use Rattle.std.proofs.Common.{◌&&◌, ◌==◌, List, [], ◌∷◌, ◌++◌, length, get_or, map, Some, slice_get}
 use Rattle.std.specs.Prelude.{All, bytes_eq, MatchBool, ⊤, Ok, Err}
 use Rattle.std.specs.List.{position_or_len}
 use Rattle.std.proofs.lemmas.Bool.{cases_Bool, eqb-true, eq-eqb, ne_eqb, not-false}
@@ -97,17 +97,11 @@ module _ (keys accounts : List (List ℕ)) (order account : List ℕ) (agrees : 
         | inl same ↦
             let flipped : bytes_eq order (get_or keys p.account []) ≡ true = name_sym order (get_or keys p.account []) ∙ same in
             let here = told p.account within (same_name (get_or keys p.account []) order same) in
-            rw (same, here, flipped, rest) (absorbed agrees (is_among (map (λ (p : PositionRecord). p.account)
-            (named_positions keys records)) order))
+            rw (same, here, flipped) refl
         | inr other ↦
             let flipped : bytes_eq order (get_or keys p.account []) ≡ false = name_sym order (get_or keys p.account []) ∙ other in
             rw (other, flipped) rest
       ]
-    where
-      absorbed : (b c : Bool) → (not b || (c && not b)) ≡ not b
-      absorbed true true = refl
-      absorbed true false = refl
-      absorbed false c = refl
 
 module _ (keys keys' accounts : List (List ℕ)) (earlier : List NumberedPosition) (p : NumberedPosition) (order account : List ℕ)
     (was : AreNumbered keys earlier) (each : length accounts ≡ length keys)

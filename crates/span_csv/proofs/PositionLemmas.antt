@@ -1,22 +1,23 @@
 -- Position records read one after another give what the definition says of all.
-use Rattle.std.proofs.Common.{◌≡◌, ◌∙◌, refl, ap, inl, inr, ℕ, ◌+◌, ℤ}
-use Rattle.std.proofs.Common.{List, [], ◌∷◌, length, map, Some, Result, Ok, Err}
+use Rattle.std.proofs.Common.{◌≡◌, ◌∙◌, refl, sym, ap, inl, inr, ℕ, ◌+◌, ℤ}
+use Rattle.std.proofs.Common.{List, [], ◌∷◌, ◌++◌, length, map, Some, Result, Ok, Err}
 use Rattle.std.proofs.lemmas.Bool.{cases_Bool}
 use Rattle.std.proofs.lemmas.List.{length-map}
-use Rattle.span_tables.specs.Faults.{first_that_holds}
+use Rattle.span_tables.specs.Laws.{IsFaultFree}
 use Rattle.span_tables.specs.Names.{distinct}
 use Rattle.span_tables.proofs.NameLemmas.{is_among-distinct}
 use Rattle.span_tables.specs.declared.limits.TheConstants.{MAX_ACCOUNTS}
 use Rattle.span_tables.specs.declared.records.PositionRecord.{PositionRecord}
 use Rattle.span_money.specs.Numbers.{whole_number}
 use Rattle.span_csv.specs.Records.{Fields, records_of, text_at, position_record}
-use Rattle.span_csv.specs.PositionFaults.{position_fault, position_faults, positions_of, exceeds_accounts}
+use Rattle.span_csv.specs.PositionFaults.{exceeds_accounts, form_faults, position_faults, positions_of, record_fault, record_faults}
 use Rattle.span_csv.specs.near.NumberedReading.{next_position, position_behind, quantity_alone}
 use Rattle.span_csv.specs.near.RecordReading.{records_after}
 use Rattle.span_csv.specs.declared.positions.TheConstants.{POSITION_NAMES}
 use Rattle.span_csv.specs.declared.faults.PositionFault.{PositionFault}
 use Rattle.span_csv.specs.declared.faults.PositionFault.TheVariants as fault
 use Rattle.span_csv.proofs.AloneLemmas.{left_alone, left_by, with_quantity}
+use Rattle.span_csv.proofs.CountedLaws.{free_counted}
 use Rattle.span_csv.proofs.RecordLemmas.{records_after-judged}
 
 -- the texts of the records' first fields
@@ -38,10 +39,10 @@ module _ (at : ℕ) (before : List Fields) (r : Fields) where
   by_quantity (Err e) = refl
   by_quantity (Ok q) = refl
 
-  counted : (q : ℤ) → whole_number (text_at r 2) ≡ Some q → position_of (Ok q)
+  within : (q : ℤ) → whole_number (text_at r 2) ≡ Some q → position_of (Ok q)
       ≡ left_by at (position_record r) ((exceeds_accounts before r, fault.TooManyAccounts) ∷ [])
   unfolding position_of position_record
-  counted q is =
+  within q is =
       elim (cases_Bool (exceeds_accounts before r)) [
         | inl over ↦ rw (is_among-distinct (names_of before) (text_at r 0), over) refl
         | inr room ↦ rw (is_among-distinct (names_of before) (text_at r 0), room, is) refl
@@ -49,22 +50,27 @@ module _ (at : ℕ) (before : List Fields) (r : Fields) where
 
   -- what the faults of a record leave of it
   judged : position_of (quantity_alone POSITION_NAMES at r)
-      ≡ left_by at (position_record r) (position_faults before r)
+      ≡ left_by at (position_record r) (form_faults r ++ (exceeds_accounts before r, fault.TooManyAccounts) ∷ [])
   judged =
       by_quantity (quantity_alone POSITION_NAMES at r)
       ∙ left_alone (λ e. e) POSITION_NAMES at r ((exceeds_accounts before r, fault.TooManyAccounts) ∷ []) (position_record r)
-      (λ q. position_of (Ok q)) counted
+      (λ q. position_of (Ok q)) within
 
 -- the next record has its lowest-numbered fault, or is a position
-next_position-judged : (before : List Fields) (r : Fields) → next_position POSITION_NAMES MAX_ACCOUNTS (map position_record before) r
-    ≡ left_by (length before + 1) (position_record r) (position_faults before r)
+next_position-judged : (before : List Fields) (r : Fields) → IsFaultFree record_fault [] before
+    → next_position POSITION_NAMES MAX_ACCOUNTS (map position_record before) r
+    ≡ left_by (length before + 1) (position_record r) (record_faults before r)
 unfolding next_position position_of
-next_position-judged before r = rw (length-map before position_record, record_accounts before) (judged (length before + 1) before r)
+next_position-judged before r free =
+    rw (length-map before position_record, record_accounts before)
+    (judged (length before + 1) before r
+    ∙ ap (λ rs. left_by (length before + 1) (position_record r) (form_faults r ++ (exceeds_accounts rs r, fault.TooManyAccounts) ∷ []))
+    (sym (free_counted [] before refl free)))
 
 -- reading from the first record on is the definition
 pub positions_of-reading : (bytes : List ℕ)
     → records_after (next_position POSITION_NAMES MAX_ACCOUNTS) [] (records_of bytes) ≡ positions_of bytes
-unfolding positions_of position_fault
+unfolding positions_of position_faults
 positions_of-reading bytes =
-    records_after-judged (next_position POSITION_NAMES MAX_ACCOUNTS) (λ earlier x. first_that_holds (position_faults earlier x))
+    records_after-judged (next_position POSITION_NAMES MAX_ACCOUNTS) record_fault
     position_record next_position-judged (records_of bytes)

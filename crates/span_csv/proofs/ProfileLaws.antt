@@ -1,10 +1,11 @@
 -- What profiles add to a contract is 0 under the profiles that do not have it.
-use Rattle.std.proofs.Common.{◌≡◌, ◌∙◌, refl, ap, subst, arith, ℕ, ◌+◌, ◌-◌, ◌<◌, ◌≤◌, false}
+use Rattle.std.proofs.Common.{◌≡◌, ◌∙◌, refl, sym, ap, subst, arith, ℕ, ◌+◌, ◌-◌, ◌<◌, ◌≤◌, true, false}
 use Rattle.std.proofs.Common.{List, [], ◌∷◌, ◌++◌, length, length-append, map, Some, None, Ok}
 use Rattle.std.specs.Prelude.{All}
 use Rattle.std.specs.List.{AllByRecursion, cons_option}
 use Rattle.std.proofs.lemmas.Bool.{not-false}
 use Rattle.std.proofs.lemmas.List.Elements.{All-from_recursion}
+use Rattle.span_tables.specs.Faults.{first_of}
 use Rattle.span_tables.specs.Laws.{IsFaultFree}
 use Rattle.span_tables.specs.Rules.{as_contract, contracts_in}
 use Rattle.span_tables.specs.Profiles.{facts_of}
@@ -13,15 +14,14 @@ use Rattle.span_tables.specs.declared.records.Contract.{Contract}
 use Rattle.span_tables.specs.declared.records.ProductKind.{ProductKind}
 use Rattle.span_tables.specs.declared.records.Record.{Record}
 use Rattle.span_tables.proofs.FaultLaws.{first_fault_none}
-use Rattle.span_csv.specs.ParamFaults.{is_set, param_fault, params_of, profile_of}
-use Rattle.span_csv.specs.Records.{Fields}
-use Rattle.span_csv.specs.Records.{contract_back, contract_record, count_at, exactly, extras_place, kind_of, layout_of}
-use Rattle.span_csv.specs.Records.{param_record, product_at}
-use Rattle.span_csv.specs.Records.{record_of_kind, records_of}
-use Rattle.span_csv.proofs.CountLemmas.{IsClean, fault_of, clean, clean_kind, param_record-kind, some_of, word_named}
-use Rattle.span_csv.proofs.FormLemmas.{count_past}
+use Rattle.span_csv.specs.ParamFaults.{faults_in, is_set, param_faults, params_of, profile_of, record_fault}
+use Rattle.span_csv.specs.Records.{Fields, a_version, all_have, contract_back, contract_record}
+use Rattle.span_csv.specs.Records.{count_at, exactly, extras_place, is_in_range, kind_of}
+use Rattle.span_csv.specs.Records.{layout_of, param_record, product_at, record_of_kind, records_of, set_forms, text_at}
+use Rattle.span_csv.proofs.CountLemmas.{IsClean, clean, clean_kind, param_record-kind, some_of, word_named}
+use Rattle.span_csv.proofs.FormLemmas.{count_past, passes_at}
 use Rattle.span_csv.proofs.RangeLemmas.{contract_with, exact}
-use Rattle.span_csv.proofs.ReadableLaws.{ok_parts}
+use Rattle.span_csv.proofs.ReadableLaws.{all_pass, ok_parts}
 use Rattle.span_csv.specs.declared.grammar.FieldForm.{FieldForm}
 use Rattle.span_csv.specs.declared.grammar.Kind.{Kind}
 use Rattle.span_csv.specs.declared.grammar.Kind.TheVariants as kind
@@ -47,9 +47,28 @@ profile_stays (x ∷ before) r some = refl
 first_kind : (r : Fields) → IsClean [] r → kind_of r ≡ Some kind.Set
 first_kind r c = word_named r kind.Set (not-false (is_set r) c.first)
 
-set_profile : (r : Fields) (rows : List Fields) → kind_of r ≡ Some kind.Set
+-- the first record has a version
+version_in : (word : List ℕ) (fields : Fields) (forms : List FieldForm) → kind_of (word ∷ fields) ≡ Some kind.Set
+    → layout_of 1 (word ∷ fields) ≡ Some forms → all_have is_in_range forms fields ≡ true
+    → is_in_range a_version (text_at fields 1) ≡ true
+version_in word fields forms is found all =
+    let count : length (word ∷ fields) - 1 ≡ length fields = omega arith in
+    let layout : exactly set_forms (length fields) ≡ Some forms = rw (is, count) at found in
+    let own = exact set_forms forms (length fields) layout in
+    passes_at is_in_range set_forms fields 1 a_version (subst (λ fs. all_have is_in_range fs fields ≡ true) (sym own.1) all)
+    (omega (arith, own.0)) refl
+
+version_there : (r : Fields) → IsClean [] r → is_in_range a_version (text_at r 2) ≡ true
+version_there [] c = let e = c.kind in cc
+version_there (word ∷ fields) c =
+    let forms = some_of (layout_of 1 (word ∷ fields)) c.layout in
+    version_in word fields forms.0 (first_kind (word ∷ fields) c) forms.1 (all_pass is_in_range 1 word fields forms.0 forms.1 c.ranges)
+
+set_profile : (r : Fields) (rows : List Fields) → IsClean [] r
     → profile_in (map param_record (r ∷ rows)) ≡ profile_of (r ∷ [])
-set_profile r rows is = rw (param_record-kind r kind.Set is) refl
+set_profile r rows c =
+    let set : is_set r ≡ true = not-false (is_set r) c.first in
+    rw (param_record-kind r kind.Set (first_kind r c), set, version_there r c) refl
 
 set_no_contract : (r : Fields) (rows : List Fields) → kind_of r ≡ Some kind.Set
     → contracts_in (map param_record (r ∷ rows)) ≡ contracts_in (map param_record rows)
@@ -74,7 +93,7 @@ module _ (place : ℕ) (says : Contract → ℕ) (is_said : (r : Fields) → say
   contract_more _ r rest here others = others
 
   none_behind : (before rows : List Fields) → 0 < length before → EndsBy place (profile_of before)
-      → IsFaultFree fault_of before rows → AllByRecursion SaysNothing (contracts_in (map param_record rows))
+      → IsFaultFree record_fault before rows → AllByRecursion SaysNothing (contracts_in (map param_record rows))
   none_behind before [] some short free = tt
   none_behind before (r ∷ rows) some short free =
       let c = clean before r free.0 in
@@ -84,27 +103,27 @@ module _ (place : ℕ) (says : Contract → ℕ) (is_said : (r : Fields) → say
       rw (param_record-kind r k.0 k.1)
       (contract_more k.0 r (contracts_in (map param_record rows)) (λ e. clean_contract before r c short (k.1 ∙ ap Some e)) rest)
 
-  free_rows : (r : Fields) (rows : List Fields) → IsFaultFree fault_of [] (r ∷ rows)
+  free_rows : (r : Fields) (rows : List Fields) → IsFaultFree record_fault [] (r ∷ rows)
       → EndsBy place (profile_in (map param_record (r ∷ rows)))
       → All SaysNothing (contracts_in (map param_record (r ∷ rows)))
   free_rows r rows free short =
       let is = first_kind r (clean [] r free.0) in
-      let apart = subst (EndsBy place) (set_profile r rows is) short in
+      let apart = subst (EndsBy place) (set_profile r rows (clean [] r free.0)) short in
       rw (set_no_contract r rows is)
       (All-from_recursion SaysNothing (contracts_in (map param_record rows)) (none_behind (r ∷ []) rows (omega arith) apart free.1))
 
-  rows_say : (rows : List Fields) → param_fault rows ≡ None → EndsBy place (profile_in (map param_record rows))
+  rows_say : (rows : List Fields) → first_of (faults_in rows) ≡ None → EndsBy place (profile_in (map param_record rows))
       → All SaysNothing (contracts_in (map param_record rows))
-  unfolding param_fault
+  unfolding faults_in
   rows_say [] e short = cc
-  rows_say (r ∷ rows) e short = free_rows r rows (first_fault_none fault_of [] (r ∷ rows) e) short
+  rows_say (r ∷ rows) e short = free_rows r rows (first_fault_none record_fault [] (r ∷ rows) e) short
 
   -- a parameter file without a fault says nothing with it, under a profile whose contracts end before it
   says_nothing : (bytes : List ℕ) (records : List Record) → params_of bytes ≡ Ok records → EndsBy place (profile_in records)
       → All SaysNothing (contracts_in records)
-  unfolding params_of
+  unfolding params_of param_faults
   says_nothing bytes records e =
-      let parts = ok_parts (param_fault (records_of bytes)) (map param_record (records_of bytes)) records e in
+      let parts = ok_parts (first_of (faults_in (records_of bytes))) (map param_record (records_of bytes)) records e in
       subst (λ rs. EndsBy place (profile_in rs) → All SaysNothing (contracts_in rs)) parts.1 (rows_say (records_of bytes) parts.0)
 
 -- ---- each field: where it stands, and what a profile without it has

@@ -1,22 +1,18 @@
 -- The reading of a file, one record after another.
 use Rattle.std.proofs.Common.{◌≡◌, ◌+◌, ◌∙◌, sym, ap, refl, arith, ℕ, Bool, true, false}
-use Rattle.std.proofs.Common.{List, [], ◌∷◌, ◌++◌, length, map, Option, Some, None, Ok, Err, Result}
+use Rattle.std.proofs.Common.{List, [], ◌∷◌, ◌++◌, length, map, Some, None, Ok, Err, Result}
 use Rattle.std.specs.Prelude.{⊤, option_map, MatchBool, ◌==◌}
-use Rattle.std.specs.Option.{option_or}
+use Rattle.std.specs.Option.{option_to_list}
 use Rattle.std.proofs.lemmas.Bool.{eqb-true, false≢true}
 use Rattle.std.proofs.lemmas.List.{append_assoc, append-nil, map-append, length-map}
-use Rattle.span_tables.specs.Faults.{first_that_holds, first_fault_after, ok_unless}
+use Rattle.span_tables.specs.Faults.{faults_after, first_fault_after, first_of, ok_unless}
 use Rattle.span_tables.specs.declared.records.Record.{Record}
 use Rattle.span_csv.specs.near.Checks.{IsFaultOf, NextIs, Tallies, params_in}
-use Rattle.span_csv.specs.ParamFaults.{param_faults, param_fault, params_of, is_memory}
+use Rattle.span_csv.specs.ParamFaults.{faults_in, param_faults, params_of, is_memory, record_fault, record_faults}
 use Rattle.span_csv.specs.Records.{Fields, records_of, param_record}
 use Rattle.span_csv.specs.declared.faults.ParamFault.{ParamFault}
 use Rattle.span_csv.specs.declared.faults.ParamFault.TheVariants as fault
 use Rattle.span_csv.specs.declared.tally.Tally.{Tally}
-
--- the fault of a record behind earlier ones
-abbrev pub fault_of : List Fields → Fields → Option (ℕ → ParamFault)
-fault_of earlier r = first_that_holds (param_faults earlier r)
 
 -- the records so far say these records and have no fault, and the rest has that of the whole
 pub record IsSoFar (all : List Fields) (xs : List Record) (t : Tally) (rest : List Fields) : Type 0 where
@@ -24,7 +20,7 @@ pub record IsSoFar (all : List Fields) (xs : List Record) (t : Tally) (rest : Li
   pub whole : earlier ++ rest ≡ all
   pub said : xs ≡ map param_record earlier
   pub tallies : Tallies t earlier
-  pub answer : first_fault_after fault_of earlier rest ≡ first_fault_after fault_of [] all
+  pub answer : first_fault_after record_fault earlier rest ≡ first_fault_after record_fault [] all
 
 -- as many records were read as there are earlier ones
 so_far_count : (all : List Fields) (xs : List Record) (t : Tally) (rest : List Fields) (s : IsSoFar all xs t rest)
@@ -51,27 +47,27 @@ so_far_more all xs t u r before rest x s is next = record {
       ∙ sym (map-append param_record s.earlier (r ∷ []));
   tallies = next.2;
   answer =
-      let here : first_fault_after fault_of s.earlier (r ∷ rest) ≡ first_fault_after fault_of [] all =
-      ap (first_fault_after fault_of s.earlier) (sym is) ∙ s.answer in
-      sym (ap (λ o. option_or (option_map (λ f. f (length s.earlier + 1)) o) (first_fault_after fault_of (s.earlier ++ r ∷ []) rest))
-      next.0) ∙ here;
+      let here : first_fault_after record_fault s.earlier (r ∷ rest) ≡ first_fault_after record_fault [] all =
+      ap (first_fault_after record_fault s.earlier) (sym is) ∙ s.answer in
+      sym (ap (λ o. first_of (option_to_list (option_map (λ f. f (length s.earlier + 1)) o)
+      ++ faults_after record_fault (s.earlier ++ r ∷ []) rest)) next.0) ∙ here;
 }
 
 -- ---- the answer
 
-params_fault : (all : List Fields) (e : ParamFault) → param_fault all ≡ Some e → params_in all ≡ Err e
+params_fault : (all : List Fields) (e : ParamFault) → first_of (faults_in all) ≡ Some e → params_in all ≡ Err e
 params_fault all e is = ap (λ o. ok_unless o (map param_record all)) is
 
-params_none : (all : List Fields) → param_fault all ≡ None → params_in all ≡ Ok (map param_record all)
+params_none : (all : List Fields) → first_of (faults_in all) ≡ None → params_in all ≡ Ok (map param_record all)
 params_none all is = ap (λ o. ok_unless o (map param_record all)) is
 
-some_records : (all : List Fields) → (all ≡ [] → ⊥) → param_fault all ≡ first_fault_after fault_of [] all
-unfolding param_fault
+some_records : (all : List Fields) → (all ≡ [] → ⊥) → first_of (faults_in all) ≡ first_fault_after record_fault [] all
+unfolding faults_in
 some_records [] some = absurd (some refl)
 some_records (r ∷ rs) some = refl
 
-no_records : (all : List Fields) → all ≡ [] → param_fault all ≡ Some (fault.NoSet 0)
-unfolding param_fault
+no_records : (all : List Fields) → all ≡ [] → first_of (faults_in all) ≡ Some (fault.NoSet 0)
+unfolding faults_in
 no_records [] none = refl
 no_records (r ∷ rs) none = cc
 
@@ -102,27 +98,27 @@ pub read_all : (all : List Fields) (xs : List Record) (t : Tally) (rest : List F
     → rest ≡ [] → (xs ≡ [] → ⊥) → params_in all ≡ Ok xs
 read_all all xs t rest s end some =
     let whole = ended all xs t rest s end in
-    let none : first_fault_after fault_of [] all ≡ None = sym s.answer ∙ ap (first_fault_after fault_of s.earlier) end in
+    let none : first_fault_after record_fault [] all ≡ None = sym s.answer ∙ ap (first_fault_after record_fault s.earlier) end in
     let given : all ≡ [] → ⊥ = λ e. some (s.said ∙ ap (map param_record) (whole ∙ e)) in
     params_none all (some_records all given ∙ none) ∙ ap Ok (ap (map param_record) (sym whole) ∙ sym s.said)
 
 -- a record with a fault
-pub read_fault : (all : List Fields) (xs : List Record) (t : Tally) (r : Fields) (before rest : List Fields) (e : ParamFault)
+pub read_fault : (all : List Fields) (xs : List Record) (t u : Tally) (r : Fields) (before rest : List Fields) (e : ParamFault)
     (s : IsSoFar all xs t before) → before ≡ r ∷ rest
-    → MatchBool (is_memory e) ⊤ (IsFaultOf (param_faults s.earlier r) (length s.earlier + 1) e)
-    → MatchBool (is_memory e) ⊤ (params_in all ≡ Err e)
-read_fault all xs t r before rest e s is h =
+    → NextIs s.earlier r (Err e) u → MatchBool (is_memory e) ⊤ (params_in all ≡ Err e)
+read_fault all xs t u r before rest e s is h =
     let given : all ≡ [] → ⊥ = λ none. not_empty s.earlier r rest (ap (λ zs. s.earlier ++ zs) (sym is) ∙ s.whole ∙ none) in
-    on_match (is_memory e) (IsFaultOf (param_faults s.earlier r) (length s.earlier + 1) e) (params_in all ≡ Err e)
+    on_match (is_memory e) (IsFaultOf (record_faults s.earlier r) (length s.earlier + 1) e × Tallies u (s.earlier ++ r ∷ []))
+    (params_in all ≡ Err e)
     (λ here.
-    let first : first_fault_after fault_of s.earlier (r ∷ rest) ≡ Some e =
-    ap (λ o. option_or o (first_fault_after fault_of (s.earlier ++ r ∷ []) rest)) here in
-    params_fault all e (some_records all given ∙ sym s.answer ∙ ap (first_fault_after fault_of s.earlier) is ∙ first))
+    let first : first_fault_after record_fault s.earlier (r ∷ rest) ≡ Some e =
+    ap (λ o. first_of (option_to_list o ++ faults_after record_fault (s.earlier ++ r ∷ []) rest)) here.0 in
+    params_fault all e (some_records all given ∙ sym s.answer ∙ ap (first_fault_after record_fault s.earlier) is ∙ first))
     h
 
 -- what the records of a file say is what its bytes say
 pub params_read : (bytes : List ℕ) → params_of bytes ≡ params_in (records_of bytes)
-unfolding params_of
+unfolding params_of param_faults
 params_read bytes = refl
 
 -- ---- a test for no records

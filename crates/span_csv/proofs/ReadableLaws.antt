@@ -5,7 +5,7 @@ use Rattle.std.specs.Prelude.{nat_le, count_by, filter_map, is_some, bytes_eq}
 use Rattle.std.specs.List.{list_all}
 use Rattle.std.proofs.lemmas.Bool.{and_parts, and_from, le-leb, ne_eqb, not-false, both_ways}
 use Rattle.std.proofs.lemmas.List.Sums.{sum_by-cons}
-use Rattle.span_tables.specs.Faults.{ok_unless}
+use Rattle.span_tables.specs.Faults.{first_of, ok_unless}
 use Rattle.span_tables.specs.Laws.{IsFaultFree}
 use Rattle.span_tables.specs.Rules.{as_set, as_commodity, as_contract, as_tier, as_intra, as_spot, as_inter}
 use Rattle.span_tables.specs.near.Limits.{in_range, at_most_each, keeps_counts, is_readable}
@@ -18,9 +18,9 @@ use Rattle.span_csv.specs.Records.{Fields}
 use Rattle.span_csv.specs.Records.{records_of, all_have, has_word_form, is_in_range}
 use Rattle.span_csv.specs.Records.{forms_of, kind_of, layout_of, product_at, text_at, record_of_kind, param_record}
 use Rattle.span_csv.specs.ParamFaults.{is_set, profile_of, some_fail, exceeds_limit, count_of_kind, count_of_commodity}
-use Rattle.span_csv.specs.ParamFaults.{param_fault, params_of}
+use Rattle.span_csv.specs.ParamFaults.{counted, faults_in, param_faults, params_of, record_fault}
 use Rattle.span_csv.proofs.RangeLemmas.{kept}
-use Rattle.span_csv.proofs.CountLemmas.{IsClean, fault_of, clean, clean_kind, param_record-kind, has_kind, word_of}
+use Rattle.span_csv.proofs.CountLemmas.{IsClean, clean, clean_kind, param_record-kind, has_kind, word_of}
 use Rattle.span_csv.proofs.CountLemmas.{named_word, some_of, word_named, IsPicked, count_picked, never_more}
 use Rattle.span_csv.specs.declared.grammar.FieldForm.{FieldForm}
 use Rattle.span_csv.specs.declared.grammar.Kind.{Kind}
@@ -29,7 +29,7 @@ use Rattle.span_csv.specs.declared.grammar.Kind.TheVariants as kind
 -- ---- ranges
 
 -- no field fails a test where some_fail does not hold
-all_pass : (test : FieldForm → List ℕ → Bool) (profile : ℕ) (word : List ℕ) (fields : Fields) (forms : List FieldForm)
+pub all_pass : (test : FieldForm → List ℕ → Bool) (profile : ℕ) (word : List ℕ) (fields : Fields) (forms : List FieldForm)
     → layout_of profile (word ∷ fields) ≡ Some forms
     → some_fail test profile (word ∷ fields) ≡ false → all_have test forms fields ≡ true
 all_pass test profile word fields forms found e =
@@ -50,7 +50,7 @@ clean_in_range earlier (word ∷ fields) c =
     (kept word fields forms.0 (all_pass has_word_form profile word fields forms.0 forms.1 c.words)
     (all_pass is_in_range profile word fields forms.0 forms.1 c.ranges) k.0 profile (sym layout ∙ forms.1)).0
 
-all_in_range : (before rows : List Fields) → IsFaultFree fault_of before rows → list_all in_range (map param_record rows) ≡ true
+all_in_range : (before rows : List Fields) → IsFaultFree record_fault before rows → list_all in_range (map param_record rows) ≡ true
 all_in_range before [] free = refl
 all_in_range before (r ∷ rows) free =
     and_from _ _ (clean_in_range before r (clean before r free.0)) (all_in_range (before ++ r ∷ []) rows free.1)
@@ -77,7 +77,7 @@ later_set earlier r some c =
     let other : is_set r ≡ false = rw behind at c.second in
     rw (param_record-kind r k.0 k.1) (not_set k.0 r k.1 other)
 
-no_more_sets : (before rows : List Fields) → 0 < length before → IsFaultFree fault_of before rows
+no_more_sets : (before rows : List Fields) → 0 < length before → IsFaultFree record_fault before rows
     → list_all (λ x. not (is_some (as_set x))) (map param_record rows) ≡ true
 no_more_sets before [] some free = refl
 no_more_sets before (r ∷ rows) some free =
@@ -93,12 +93,13 @@ and_true false = refl
 -- records of a kind with a limit
 kind_room : (kind : Kind) (most : ℕ) → ((earlier : List Fields) (r : Fields)
     → exceeds_limit earlier r (Some kind) ≡ (count_of_kind earlier r == most))
-    → (earlier : List Fields) (r : Fields) → IsClean earlier r → (has_kind kind r && true) ≡ true
+    → (earlier : List Fields) (r : Fields) → counted earlier ≡ earlier → IsClean earlier r → (has_kind kind r && true) ≡ true
     → (count_by (λ x. has_kind kind x && true) earlier == most) ≡ false
-kind_room kind most limit earlier r c h =
+kind_room kind most limit earlier r all c h =
     let word = (and_parts (has_kind kind r) true h).0 in
+    let room : exceeds_limit earlier r (kind_of r) ≡ false = subst (λ rs. exceeds_limit rs r (kind_of r) ≡ false) all c.room in
     let one_more : exceeds_limit earlier r (Some kind) ≡ false =
-    subst (λ k. exceeds_limit earlier r k ≡ false) (word_named r kind word) c.room in
+    subst (λ k. exceeds_limit earlier r k ≡ false) (word_named r kind word) room in
     let counts : (count_by (λ x. bytes_eq (text_at x 0) (text_at r 0)) earlier == most) ≡ false = sym (limit earlier r) ∙ one_more in
     let named = subst (λ w. (count_by (λ (x : Fields). bytes_eq (text_at x 0) w) earlier == most) ≡ false)
     (same_name (text_at r 0) (word_of kind) word) counts in
@@ -110,10 +111,10 @@ length-count (x ∷ xs) = sum_by-cons (λ x. 1) x xs ∙ omega (arith, length-co
 
 few_of_kind : {A : Type 0} (kind : Kind) (most : ℕ) (pick : Record → Option A)
     → ((earlier : List Fields) (r : Fields) → exceeds_limit earlier r (Some kind) ≡ (count_of_kind earlier r == most))
-    → IsPicked kind pick (λ x. true) (λ r. true) → (rows : List Fields) → IsFaultFree fault_of [] rows
+    → IsPicked kind pick (λ x. true) (λ r. true) → (rows : List Fields) → IsFaultFree record_fault [] rows
     → nat_le (length (filter_map pick (map param_record rows))) most ≡ true
 few_of_kind kind most pick limit picked rows free =
-    let few = never_more (λ r. has_kind kind r && true) most (kind_room kind most limit) [] rows (omega arith) free in
+    let few = never_more (λ r. has_kind kind r && true) most (kind_room kind most limit) [] rows refl (omega arith) free in
     let same = count_picked kind pick (λ x. true) (λ r. true) picked [] rows free in
     let all = length-count (filter_map pick (map param_record rows)) in
     le-leb _ most (omega (arith, few, same, all))
@@ -121,12 +122,14 @@ few_of_kind kind most pick limit picked rows free =
 -- records of a kind with a limit for each commodity
 commodity_room : (kind : Kind) (most : ℕ) (commodity : List ℕ)
     → ((earlier : List Fields) (r : Fields) → exceeds_limit earlier r (Some kind) ≡ (count_of_commodity earlier r == most))
-    → (earlier : List Fields) (r : Fields) → IsClean earlier r → (has_kind kind r && bytes_eq (text_at r 1) commodity) ≡ true
+    → (earlier : List Fields) (r : Fields) → counted earlier ≡ earlier → IsClean earlier r
+    → (has_kind kind r && bytes_eq (text_at r 1) commodity) ≡ true
     → (count_by (λ x. has_kind kind x && bytes_eq (text_at x 1) commodity) earlier == most) ≡ false
-commodity_room kind most commodity limit earlier r c h =
+commodity_room kind most commodity limit earlier r all c h =
     let parts = and_parts (has_kind kind r) (bytes_eq (text_at r 1) commodity) h in
+    let room : exceeds_limit earlier r (kind_of r) ≡ false = subst (λ rs. exceeds_limit rs r (kind_of r) ≡ false) all c.room in
     let one_more : exceeds_limit earlier r (Some kind) ≡ false =
-    subst (λ k. exceeds_limit earlier r k ≡ false) (word_named r kind parts.0) c.room in
+    subst (λ k. exceeds_limit earlier r k ≡ false) (word_named r kind parts.0) room in
     let counts : (count_by (λ x. bytes_eq (text_at x 0) (text_at r 0) && bytes_eq (text_at x 1) (text_at r 1)) earlier == most) ≡ false =
     sym (limit earlier r) ∙ one_more in
     let named = subst (λ w. (count_by (λ (x : Fields). bytes_eq (text_at x 0) w && bytes_eq (text_at x 1) (text_at r 1)) earlier == most)
@@ -142,13 +145,13 @@ all_true test (x ∷ xs) each = and_from (test x) (list_all test xs) (each x) (a
 few_of_each : {A : Type 0} (kind : Kind) (most : ℕ) (pick : Record → Option A) (commodity_of : A → List ℕ)
     → ((earlier : List Fields) (r : Fields) → exceeds_limit earlier r (Some kind) ≡ (count_of_commodity earlier r == most))
     → ((commodity : List ℕ) → IsPicked kind pick (λ x. bytes_eq (commodity_of x) commodity) (λ r. bytes_eq (text_at r 1) commodity))
-    → (rows : List Fields) → IsFaultFree fault_of [] rows
+    → (rows : List Fields) → IsFaultFree record_fault [] rows
     → at_most_each most commodity_of (filter_map pick (map param_record rows)) ≡ true
 few_of_each kind most pick commodity_of limit picked rows free =
     all_true _ (filter_map pick (map param_record rows)) (λ x.
     let commodity = commodity_of x in
     let few = never_more (λ r. has_kind kind r && bytes_eq (text_at r 1) commodity) most (commodity_room kind most commodity limit) [] rows
-    (omega arith) free in
+    refl (omega arith) free in
     let same = count_picked kind pick (λ y. bytes_eq (commodity_of y) commodity) (λ r. bytes_eq (text_at r 1) commodity)
     (picked commodity) [] rows free in
     le-leb _ most (omega (arith, few, same)))
@@ -180,7 +183,7 @@ spot_picked : (commodity : List ℕ) → IsPicked kind.Spot as_spot (λ s. bytes
 spot_picked commodity kind.Spot r = refl
 spot_picked commodity _ r = refl
 
-counts_kept : (rows : List Fields) → IsFaultFree fault_of [] rows → keeps_counts (map param_record rows) ≡ true
+counts_kept : (rows : List Fields) → IsFaultFree record_fault [] rows → keeps_counts (map param_record rows) ≡ true
 counts_kept rows free =
     and_from _ _
     (and_from _ _
@@ -196,7 +199,7 @@ counts_kept rows free =
 
 -- ---- all
 
-free_readable : (r : Fields) (rows : List Fields) → IsFaultFree fault_of [] (r ∷ rows)
+free_readable : (r : Fields) (rows : List Fields) → IsFaultFree record_fault [] (r ∷ rows)
     → is_readable (map param_record (r ∷ rows)) ≡ true
 unfolding is_readable
 free_readable r rows free =
@@ -206,10 +209,10 @@ free_readable r rows free =
     (all_in_range [] (r ∷ rows) free))
     (counts_kept (r ∷ rows) free)
 
-rows_readable : (rows : List Fields) → param_fault rows ≡ None → is_readable (map param_record rows) ≡ true
-unfolding param_fault
+rows_readable : (rows : List Fields) → first_of (faults_in rows) ≡ None → is_readable (map param_record rows) ≡ true
+unfolding faults_in
 rows_readable [] e = cc
-rows_readable (r ∷ rows) e = free_readable r rows (first_fault_none fault_of [] (r ∷ rows) e)
+rows_readable (r ∷ rows) e = free_readable r rows (first_fault_none record_fault [] (r ∷ rows) e)
 
 pub ok_parts : {A F : Type 0} (o : Option F) (x y : A) → ok_unless o x ≡ Ok y → (o ≡ None) × (x ≡ y)
 ok_parts None x y e = (refl, cc)
@@ -217,7 +220,7 @@ ok_parts (Some f) x y e = cc
 
 -- the records of a parameter file without a fault are readable
 pub params_readable : (bytes : List ℕ) (records : List Record) → params_of bytes ≡ Ok records → is_readable records ≡ true
-unfolding params_of
+unfolding params_of param_faults
 params_readable bytes records e =
-    let parts = ok_parts (param_fault (records_of bytes)) (map param_record (records_of bytes)) records e in
+    let parts = ok_parts (first_of (faults_in (records_of bytes))) (map param_record (records_of bytes)) records e in
     subst (λ rs. is_readable rs ≡ true) parts.1 (rows_readable (records_of bytes) parts.0)

@@ -7,12 +7,13 @@ use Rattle.std.proofs.lemmas.List.Sums.{sum_by_push, count_by-le-length}
 use Rattle.std.proofs.lemmas.Bool.{ne_eqb}
 use Rattle.std.proofs.lemmas.Bool.Decides.{nat_tests}
 use Rattle.span_tables.proofs.NameLemmas.{same_name}
-use Rattle.span_csv.specs.near.Checks.{AddsRecord, Tallies, count_for, count_in, count_word, count_words, limit_of}
-use Rattle.span_csv.specs.ParamFaults.{exceeds_limit, is_set, profile_of}
+use Rattle.span_csv.specs.near.Checks.{AddsRecord, Counts, KeepsProfile, Tallies, count_for, count_in, count_word, count_words, limit_of}
+use Rattle.span_csv.specs.ParamFaults.{counted, exceeds_limit, is_formed, profile_of}
 use Rattle.span_csv.specs.Records.{Fields}
-use Rattle.span_csv.specs.Records.{count_at, kind_of, text_at}
+use Rattle.span_csv.specs.Records.{kind_of, text_at}
 use Rattle.span_csv.specs.declared.tally.Tally.{Tally}
 use Rattle.span_csv.proofs.CountLemmas.{named_word, word_of}
+use Rattle.span_csv.proofs.FormedLemmas.{counted_few, counted_more, counted_same}
 use Rattle.span_csv.specs.declared.grammar.Kind.{Kind}
 use Rattle.span_csv.specs.declared.grammar.Kind.TheVariants as kind
 
@@ -43,9 +44,9 @@ words_more a b word cc rs r first is counts before =
     (ap (λ t. bytes_eq t word && bytes_eq (text_at r 1) cc) is) in
     counts ∙ ap (λ n. n + (if bytes_eq first word && bytes_eq (text_at r 1) cc then 1 else 0)) before ∙ sym step
 
--- each count grows by the record where that is of its kind and commodity, and a SET's profile is kept
+-- each count grows by the record where that is of its kind and commodity
 record Grows (t u : Tally) (first : List ℕ) (r : Fields) : Type 0 where
-  profile : u.profile ≡ (if bytes_eq first (codes "SET") then count_at r 2 else t.profile)
+  profile : u.profile ≡ t.profile
   commodities : u.commodities ≡ t.commodities + (if bytes_eq first (codes "COMMODITY") then 1 else 0)
   contracts : u.contracts ≡ t.contracts + (if bytes_eq first (codes "CONTRACT") then 1 else 0)
   tiers : (q : List ℕ) → count_in u.tiers q ≡ count_in t.tiers q
@@ -56,28 +57,15 @@ record Grows (t u : Tally) (first : List ℕ) (r : Fields) : Type 0 where
       + (if bytes_eq first (codes "SPOT") && bytes_eq (text_at r 1) q then 1 else 0)
   inters : u.inters ≡ t.inters + (if bytes_eq first (codes "INTER") then 1 else 0)
 
--- the profile is that of the first record, which alone is a SET
-profile_more : (p q : ℕ) (rs : List Fields) (r : Fields) (set : Bool) → set ≡ (length rs == 0)
-    → q ≡ (if set then count_at r 2 else p) → p ≡ profile_of rs → q ≡ profile_of (rs ++ r ∷ [])
-profile_more p q [] r set first kept before = rw first at kept
-profile_more p q (x ∷ rs) r set first kept before =
-    let later : (length (x ∷ rs) == 0) ≡ false = ne_eqb (length (x ∷ rs)) 0 (λ e. absurd (omega (arith, e))) in
-    let other : set ≡ false = first ∙ later in
-    let same : q ≡ p = rw other at kept in
-    same ∙ before
-
-grown : (t u : Tally) (rs : List Fields) (r : Fields) (first : List ℕ) → text_at r 0 ≡ first → is_set r ≡ (length rs == 0)
-    → Tallies t rs → Grows t u first r → Tallies u (rs ++ r ∷ [])
-grown t u rs r first is set tallies g = record {
-  profile =
-      profile_more t.profile u.profile rs r (bytes_eq first (codes "SET")) (ap (λ w. bytes_eq w (codes "SET")) (sym is) ∙ set) g.profile
-      tallies.profile;
-  commodities = word_more _ _ (codes "COMMODITY") rs r first is g.commodities tallies.commodities;
-  contracts = word_more _ _ (codes "CONTRACT") rs r first is g.contracts tallies.contracts;
-  tiers = λ cc. words_more _ _ (codes "TIER") cc rs r first is (g.tiers cc) (tallies.tiers cc);
-  intras = λ cc. words_more _ _ (codes "INTRA") cc rs r first is (g.intras cc) (tallies.intras cc);
-  spots = λ cc. words_more _ _ (codes "SPOT") cc rs r first is (g.spots cc) (tallies.spots cc);
-  inters = word_more _ _ (codes "INTER") rs r first is g.inters tallies.inters;
+grown : (t u : Tally) (rs : List Fields) (r : Fields) (first : List ℕ) → text_at r 0 ≡ first → Counts t rs → Grows t u first r
+    → Counts u (rs ++ r ∷ [])
+grown t u rs r first is counts g = record {
+  commodities = word_more _ _ (codes "COMMODITY") rs r first is g.commodities counts.commodities;
+  contracts = word_more _ _ (codes "CONTRACT") rs r first is g.contracts counts.contracts;
+  tiers = λ cc. words_more _ _ (codes "TIER") cc rs r first is (g.tiers cc) (counts.tiers cc);
+  intras = λ cc. words_more _ _ (codes "INTRA") cc rs r first is (g.intras cc) (counts.intras cc);
+  spots = λ cc. words_more _ _ (codes "SPOT") cc rs r first is (g.spots cc) (counts.spots cc);
+  inters = word_more _ _ (codes "INTER") rs r first is g.inters counts.inters;
 }
 
 same : (a b : ℕ) → a ≡ b → a ≡ b + 0
@@ -92,11 +80,46 @@ grows t u kind.Intra r adds = search rules
 grows t u kind.Spot r adds = search rules
 grows t u kind.Inter r adds = search rules
 
--- a record that is added is counted
-pub tally_more : (t u : Tally) (kind : Kind) (rs : List Fields) (r : Fields) (n : ℕ) → kind_of r ≡ Some kind → length rs ≡ n
-    → is_set r ≡ (n == 0) → Tallies t rs → AddsRecord kind r t u → Tallies u (rs ++ r ∷ [])
-tally_more t u kind rs r n is len set tallies adds =
-    grown t u rs r (word_of kind) (kind_word r kind is) (set ∙ ap (λ k. k == 0) (sym len)) tallies (grows t u kind r adds)
+-- the profile is that which the first record gives
+profile_more : (p : ℕ) (rs : List Fields) (r : Fields) → p ≡ profile_of rs
+    → (if length rs == 0 then profile_of (r ∷ []) else p) ≡ profile_of (rs ++ r ∷ [])
+profile_more p [] r before = refl
+profile_more p (x ∷ rs) r before =
+    let later : (length (x ∷ rs) == 0) ≡ false = ne_eqb (length (x ∷ rs)) 0 (λ e. absurd (omega (arith, e))) in
+    rw later before
+
+module _ (t kept : Tally) (rs : List Fields) (r : Fields) (n : ℕ) (len : length rs ≡ n) (keeps : KeepsProfile (n == 0) r t kept)
+    (tallies : Tallies t rs) where
+  -- the profile is kept, and nothing is counted yet
+  kept_profile : kept.profile ≡ profile_of (rs ++ r ∷ [])
+  kept_profile =
+      ap (λ (k : Tally). k.profile) keeps ∙ ap (λ k. if k == 0 then profile_of (r ∷ []) else t.profile) (sym len)
+      ∙ profile_more t.profile rs r tallies.profile
+
+  pub kept_counts : Counts kept (counted rs)
+  kept_counts = subst (λ k. Counts k (counted rs)) (sym keeps) (record {
+    commodities = tallies.counts.commodities;
+    contracts = tallies.counts.contracts;
+    tiers = tallies.counts.tiers;
+    intras = tallies.counts.intras;
+    spots = tallies.counts.spots;
+    inters = tallies.counts.inters;
+  })
+
+  -- a record that has one of P1 to P7 is not counted
+  pub tally_same : is_formed rs r ≡ false → Tallies kept (rs ++ r ∷ [])
+  tally_same e = record { profile = kept_profile; counts = subst (Counts kept) (sym (counted_same rs r e)) kept_counts }
+
+  -- and one that has none is
+  pub tally_more : (u : Tally) (kind : Kind) → kind_of r ≡ Some kind → is_formed rs r ≡ true → AddsRecord kind r kept u
+      → Tallies u (rs ++ r ∷ [])
+  tally_more u kind is formed adds =
+      let g = grows kept u kind r adds in
+      record {
+        profile = g.profile ∙ kept_profile;
+        counts = subst (Counts u) (sym (counted_more rs r formed)) (grown kept u (counted rs) r (word_of kind) (kind_word r kind is)
+            kept_counts g);
+      }
 
 -- ---- the limit
 
@@ -106,7 +129,7 @@ equal_true a b e = grind (arith, nat_tests)
 unequal_false : (a b : ℕ) → (a ≡ b → ⊥) → (a == b) ≡ false
 unequal_false a b e = grind (arith, nat_tests)
 
-count_exceeds : (t : Tally) (kind : Kind) (rs : List Fields) (r : Fields) → kind_of r ≡ Some kind → Tallies t rs
+count_exceeds : (t : Tally) (kind : Kind) (rs : List Fields) (r : Fields) → kind_of r ≡ Some kind → Counts t rs
     → exceeds_limit rs r (kind_of r) ≡ (count_for t kind (text_at r 1) == limit_of kind)
 count_exceeds t kind.Set rs r is tallies = ap (exceeds_limit rs r) is
 count_exceeds t kind.Commodity rs r is tallies = rw (is, kind_word r kind.Commodity is, tallies.commodities) refl
@@ -116,25 +139,29 @@ count_exceeds t kind.Intra rs r is tallies = rw (is, kind_word r kind.Intra is, 
 count_exceeds t kind.Spot rs r is tallies = rw (is, kind_word r kind.Spot is, tallies.spots (text_at r 1)) refl
 count_exceeds t kind.Inter rs r is tallies = rw (is, kind_word r kind.Inter is, tallies.inters) refl
 
-pub count_small : (t : Tally) (kind : Kind) (rs : List Fields) (cc : List ℕ) → Tallies t rs → count_for t kind cc ≤ length rs
-count_small t kind.Set rs cc tallies = omega arith
-count_small t kind.Commodity rs cc tallies = rw tallies.commodities (count_by-le-length _ rs)
-count_small t kind.Contract rs cc tallies = rw tallies.contracts (count_by-le-length _ rs)
-count_small t kind.Tier rs cc tallies = subst (λ n. n ≤ length rs) (sym (tallies.tiers cc)) (count_by-le-length _ rs)
-count_small t kind.Intra rs cc tallies = subst (λ n. n ≤ length rs) (sym (tallies.intras cc)) (count_by-le-length _ rs)
-count_small t kind.Spot rs cc tallies = subst (λ n. n ≤ length rs) (sym (tallies.spots cc)) (count_by-le-length _ rs)
-count_small t kind.Inter rs cc tallies = rw tallies.inters (count_by-le-length _ rs)
+few_counted : (t : Tally) (kind : Kind) (rs : List Fields) (cc : List ℕ) → Counts t rs → count_for t kind cc ≤ length rs
+few_counted t kind.Set rs cc counts = omega arith
+few_counted t kind.Commodity rs cc counts = rw counts.commodities (count_by-le-length _ rs)
+few_counted t kind.Contract rs cc counts = rw counts.contracts (count_by-le-length _ rs)
+few_counted t kind.Tier rs cc counts = subst (λ n. n ≤ length rs) (sym (counts.tiers cc)) (count_by-le-length _ rs)
+few_counted t kind.Intra rs cc counts = subst (λ n. n ≤ length rs) (sym (counts.intras cc)) (count_by-le-length _ rs)
+few_counted t kind.Spot rs cc counts = subst (λ n. n ≤ length rs) (sym (counts.spots cc)) (count_by-le-length _ rs)
+few_counted t kind.Inter rs cc counts = rw counts.inters (count_by-le-length _ rs)
+
+-- no more are counted than were read
+pub count_small : (t : Tally) (kind : Kind) (rs : List Fields) (cc : List ℕ) → Counts t (counted rs) → count_for t kind cc ≤ length rs
+count_small t kind rs cc counts = omega (arith, few_counted t kind (counted rs) cc counts, counted_few rs)
 
 -- where a kind has as many records as there may be, one more exceeds the limit
 pub count_full : (t : Tally) (kind : Kind) (rs : List Fields) (r : Fields) (count limit : ℕ) → kind_of r ≡ Some kind
-    → Tallies t rs
+    → Counts t rs
     → count ≡ count_for t kind (text_at r 1) → limit ≡ limit_of kind → count ≡ limit → exceeds_limit rs r (kind_of r) ≡ true
 count_full t kind rs r count limit is tallies counts limits e =
     count_exceeds t kind rs r is tallies ∙ equal_true (count_for t kind (text_at r 1)) (limit_of kind) (sym counts ∙ e ∙ limits)
 
 -- where a kind has fewer records than there may be, one more is within the limit
 pub count_within : (t : Tally) (kind : Kind) (rs : List Fields) (r : Fields) (count limit : ℕ) → kind_of r ≡ Some kind
-    → Tallies t rs
+    → Counts t rs
     → count ≡ count_for t kind (text_at r 1) → limit ≡ limit_of kind → (count ≡ limit → ⊥)
     → exceeds_limit rs r (kind_of r) ≡ false
 count_within t kind rs r count limit is tallies counts limits e =

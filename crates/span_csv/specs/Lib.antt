@@ -2,4 +2,5 @@ pub mod Records
 pub mod ParamFaults
 pub mod PositionFaults
 pub mod OrderFaults
+pub mod Laws
 pub mod near

@@ -1,6 +1,6 @@
 -- The faults of an order file's records.
-use Rattle.std.specs.Prelude.{ℕ, Bool, not, ◌&&◌, ◌==◌, List, [], ◌∷◌, length, map, Option, Result, true, false, bytes_eq}
-use Rattle.std.specs.List.{list_any}
+use Rattle.std.specs.Prelude.{ℕ, Bool, not, ◌&&◌, ◌==◌, List, [], ◌∷◌, length, map, find, Option, Result, true, false, bytes_eq}
+use Rattle.std.specs.Option.{option_map_or}
 use Rattle.span_tables.specs.Faults.{first_that_holds, first_fault, ok_unless}
 use Rattle.span_tables.specs.Names.{is_among, distinct}
 use Rattle.span_csv.specs.Records.{Fields, records_of, text_at, all_have, has_word_form}
@@ -16,10 +16,11 @@ exceeds_orders earlier r =
     let orders = map (λ x. text_at x 0) earlier in
     not (is_among orders (text_at r 0)) && (length (distinct orders) == MAX_ORDERS)
 
--- an earlier record of the order has another account
+-- the account is another one than that of the first record of the order
 abbrev pub changes_account : List Fields → Fields → Bool
 changes_account earlier r =
-    list_any (λ x. bytes_eq (text_at x 0) (text_at r 0) && not (bytes_eq (text_at x 1) (text_at r 1))) earlier
+    option_map_or (λ first. not (bytes_eq (text_at first 1) (text_at r 1)))
+    (find (λ x. bytes_eq (text_at x 0) (text_at r 0)) earlier) false
 
 -- the faults that a record may have behind the earlier ones, in the order of their numbers
 abbrev pub order_faults : List Fields → Fields → List (Bool × (ℕ → OrderFault))

@@ -1,10 +1,10 @@
 -- The faults of a parameter file's records.
-use Rattle.std.specs.Prelude.{ℕ, Bool, false, not, ◌&&◌, ◌==◌, List, [], ◌∷◌, length, drop}
+use Rattle.std.specs.Prelude.{ℕ, Bool, false, not, ◌&&◌, ◌==◌, if◌then◌else◌, List, [], ◌∷◌, ◌++◌, length, drop}
 use Rattle.std.specs.Prelude.{map, count_by, Option, Some, None, is_none, codes, bytes_eq, Result, true}
 use Rattle.std.specs.Option.{option_map_or}
-use Rattle.span_tables.specs.Faults.{first_that_holds, first_fault, ok_unless}
+use Rattle.span_tables.specs.Faults.{first_that_holds, all_faults, first_of, ok_unless}
 use Rattle.span_csv.specs.Records.{Fields, records_of}
-use Rattle.span_csv.specs.Records.{kind_of, layout_of, text_at, is_word}
+use Rattle.span_csv.specs.Records.{kind_of, layout_of, text_at, is_word, a_version}
 use Rattle.span_csv.specs.Records.{all_have, has_word_form, has_number_form, is_in_range, count_at, param_record}
 use Rattle.span_tables.specs.declared.records.Record.{Record}
 use Rattle.span_csv.specs.declared.faults.ParamFault.{ParamFault}
@@ -19,15 +19,43 @@ use Rattle.span_csv.specs.declared.grammar.Kind.TheVariants as kind
 abbrev pub is_set : Fields → Bool
 is_set r = is_word (codes "SET") (text_at r 0)
 
--- the profile of a file that begins with these records: the version of the first, which is its SET; in front of that there is
--- none, and the forms of a SET go by none
+-- the profile of a file that begins with these records, by which the fields of its contracts are judged: the version in the third field
+-- of the first record, if that is a SET and the field a version, whatever else is wrong with it, and else 1
 abbrev pub profile_of : List Fields → ℕ
-profile_of [] = 0
-profile_of (first ∷ rest) = count_at first 2
+profile_of [] = 1
+profile_of (first ∷ rest) = if is_set first && is_in_range a_version (text_at first 2) then count_at first 2 else 1
 
 -- some field behind the first fails the test of its form under a profile
 abbrev pub some_fail : (FieldForm → List ℕ → Bool) → ℕ → Fields → Bool
 some_fail test profile r = option_map_or (λ forms. not (all_have test forms (drop 1 r))) (layout_of profile r) false
+
+-- the faults P1 to P7 that a record may have behind the earlier ones, in the order of their numbers
+abbrev pub form_faults : List Fields → Fields → List (Bool × (ℕ → ParamFault))
+form_faults earlier r =
+    ((length earlier == 0) && not (is_set r), fault.NoSet)
+    ∷ (not (length earlier == 0) && is_set r, fault.SecondSet)
+    ∷ (is_none (kind_of r), fault.UnknownKind)
+    ∷ (is_none (layout_of (profile_of earlier) r), fault.FieldCount)
+    ∷ (some_fail has_word_form (profile_of earlier) r, fault.BadName)
+    ∷ (some_fail has_number_form (profile_of earlier) r, fault.BadNumber)
+    ∷ (some_fail is_in_range (profile_of earlier) r, fault.OutOfRange)
+    ∷ []
+
+-- the record has none of them
+abbrev pub is_formed : List Fields → Fields → Bool
+is_formed earlier r = is_none (first_that_holds (form_faults earlier r))
+
+-- ---- limits
+
+-- those records behind earlier ones that have none of P1 to P7
+abbrev pub formed_behind : List Fields → List Fields → List Fields
+formed_behind earlier [] = []
+formed_behind earlier (r ∷ rest) =
+    if is_formed earlier r then r ∷ formed_behind (earlier ++ r ∷ []) rest else formed_behind (earlier ++ r ∷ []) rest
+
+-- the records of a file that its limits count: those that have none of P1 to P7
+abbrev pub counted : List Fields → List Fields
+counted rs = formed_behind [] rs
 
 -- how many records of the same first field there are
 abbrev pub count_of_kind : List Fields → Fields → ℕ
@@ -37,38 +65,40 @@ count_of_kind rs r = count_by (λ x. bytes_eq (text_at x 0) (text_at r 0)) rs
 abbrev pub count_of_commodity : List Fields → Fields → ℕ
 count_of_commodity rs r = count_by (λ x. bytes_eq (text_at x 0) (text_at r 0) && bytes_eq (text_at x 1) (text_at r 1)) rs
 
--- the record is one more than its limit: of its kind, or of its kind and commodity
+-- the record is one more than its limit, behind these that count: of its kind, or of its kind and commodity
 abbrev pub exceeds_limit : List Fields → Fields → Option Kind → Bool
-exceeds_limit earlier r None = false
-exceeds_limit earlier r (Some kind.Set) = false
-exceeds_limit earlier r (Some kind.Commodity) = count_of_kind earlier r == MAX_COMMODITIES
-exceeds_limit earlier r (Some kind.Contract) = count_of_kind earlier r == MAX_CONTRACTS
-exceeds_limit earlier r (Some kind.Tier) = count_of_commodity earlier r == MAX_TIERS
-exceeds_limit earlier r (Some kind.Intra) = count_of_commodity earlier r == MAX_INTRA_SPREADS
-exceeds_limit earlier r (Some kind.Spot) = count_of_commodity earlier r == MAX_SPOT_MONTHS
-exceeds_limit earlier r (Some kind.Inter) = count_of_kind earlier r == MAX_INTER_SPREADS
+exceeds_limit rs r None = false
+exceeds_limit rs r (Some kind.Set) = false
+exceeds_limit rs r (Some kind.Commodity) = count_of_kind rs r == MAX_COMMODITIES
+exceeds_limit rs r (Some kind.Contract) = count_of_kind rs r == MAX_CONTRACTS
+exceeds_limit rs r (Some kind.Tier) = count_of_commodity rs r == MAX_TIERS
+exceeds_limit rs r (Some kind.Intra) = count_of_commodity rs r == MAX_INTRA_SPREADS
+exceeds_limit rs r (Some kind.Spot) = count_of_commodity rs r == MAX_SPOT_MONTHS
+exceeds_limit rs r (Some kind.Inter) = count_of_kind rs r == MAX_INTER_SPREADS
+
+-- ---- faults
 
 -- the faults that a record may have behind the earlier ones, in the order of their numbers
-abbrev pub param_faults : List Fields → Fields → List (Bool × (ℕ → ParamFault))
-param_faults earlier r =
-    ((length earlier == 0) && not (is_set r), fault.NoSet)
-    ∷ (not (length earlier == 0) && is_set r, fault.SecondSet)
-    ∷ (is_none (kind_of r), fault.UnknownKind)
-    ∷ (is_none (layout_of (profile_of earlier) r), fault.FieldCount)
-    ∷ (some_fail has_word_form (profile_of earlier) r, fault.BadName)
-    ∷ (some_fail has_number_form (profile_of earlier) r, fault.BadNumber)
-    ∷ (some_fail is_in_range (profile_of earlier) r, fault.OutOfRange)
-    ∷ (exceeds_limit earlier r (kind_of r), fault.TooMany)
-    ∷ []
+abbrev pub record_faults : List Fields → Fields → List (Bool × (ℕ → ParamFault))
+record_faults earlier r =
+    form_faults earlier r ++ (exceeds_limit (counted earlier) r (kind_of r), fault.TooMany) ∷ []
 
--- the fault of a parameter file's records: that of the first record with one, the lowest-numbered that it has
-unfoldable pub param_fault : List Fields → Option ParamFault
-param_fault [] = Some (fault.NoSet 0)
-param_fault (r ∷ rs) = first_fault (λ earlier x. first_that_holds (param_faults earlier x)) (r ∷ rs)
+-- the fault of a record behind the earlier ones, told its number: the lowest-numbered that it has
+abbrev pub record_fault : List Fields → Fields → Option (ℕ → ParamFault)
+record_fault earlier r = first_that_holds (record_faults earlier r)
 
--- what a parameter file says, or its fault
+-- the faults of a parameter file's records: of each the one that it has, and where there is no record, that there is no SET
+unfoldable pub faults_in : List Fields → List ParamFault
+faults_in [] = fault.NoSet 0 ∷ []
+faults_in (r ∷ rs) = all_faults record_fault (r ∷ rs)
+
+-- all faults of a parameter file
+unfoldable pub param_faults : List ℕ → List ParamFault
+param_faults bytes = faults_in (records_of bytes)
+
+-- what a parameter file says, or its first fault
 unfoldable pub params_of : List ℕ → Result (List Record) ParamFault
-params_of bytes = ok_unless (param_fault (records_of bytes)) (map param_record (records_of bytes))
+params_of bytes = ok_unless (first_of (param_faults bytes)) (map param_record (records_of bytes))
 
 -- the fault is want of memory, of which the definition does not speak
 abbrev pub is_memory : ParamFault → Bool

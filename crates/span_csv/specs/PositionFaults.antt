@@ -1,6 +1,6 @@
 -- The faults of a position file's records.
-use Rattle.std.specs.Prelude.{ℕ, Bool, not, ◌&&◌, ◌==◌, List, [], ◌∷◌, length, map, Option, Result, true, false}
-use Rattle.span_tables.specs.Faults.{first_that_holds, first_fault, ok_unless}
+use Rattle.std.specs.Prelude.{ℕ, Bool, not, ◌&&◌, ◌==◌, List, [], ◌∷◌, ◌++◌, length, map, filter, is_none, Option, Result, true, false}
+use Rattle.span_tables.specs.Faults.{first_that_holds, all_faults, first_of, ok_unless}
 use Rattle.span_tables.specs.Names.{is_among, distinct}
 use Rattle.span_csv.specs.Records.{Fields, records_of, text_at, all_have, has_word_form}
 use Rattle.span_csv.specs.Records.{has_number_form, is_in_range, position_forms, position_record}
@@ -9,29 +9,44 @@ use Rattle.span_csv.specs.declared.faults.PositionFault.{PositionFault}
 use Rattle.span_csv.specs.declared.faults.PositionFault.TheVariants as fault
 use Rattle.span_tables.specs.declared.limits.TheConstants.{MAX_ACCOUNTS}
 
--- the account is new behind the earlier records, which have as many as there may be
-abbrev pub exceeds_accounts : List Fields → Fields → Bool
-exceeds_accounts earlier r =
-    let accounts = map (λ x. text_at x 0) earlier in
-    not (is_among accounts (text_at r 0)) && (length (distinct accounts) == MAX_ACCOUNTS)
-
--- the faults that a record may have behind the earlier ones, in the order of their numbers
-abbrev pub position_faults : List Fields → Fields → List (Bool × (ℕ → PositionFault))
-position_faults earlier r =
+-- the faults Q1 to Q4 that a record may have, in the order of their numbers
+abbrev pub form_faults : Fields → List (Bool × (ℕ → PositionFault))
+form_faults r =
     (not (length r == length position_forms), fault.FieldCount)
     ∷ (not (all_have has_word_form position_forms r), fault.BadName)
     ∷ (not (all_have has_number_form position_forms r), fault.BadNumber)
     ∷ (not (all_have is_in_range position_forms r), fault.OutOfRange)
-    ∷ (exceeds_accounts earlier r, fault.TooManyAccounts)
     ∷ []
 
--- the fault of a position file's records: that of the first record with one, the lowest-numbered that it has
-unfoldable pub position_fault : List Fields → Option PositionFault
-position_fault rs = first_fault (λ earlier x. first_that_holds (position_faults earlier x)) rs
+-- the record has none of them
+abbrev pub is_formed : Fields → Bool
+is_formed r = is_none (first_that_holds (form_faults r))
 
--- what a position file says, or its fault
+-- the records whose accounts the limit counts: those that have none of Q1 to Q4
+abbrev pub counted : List Fields → List Fields
+counted rs = filter is_formed rs
+
+-- the account is new behind these records that count, which have as many as there may be
+abbrev pub exceeds_accounts : List Fields → Fields → Bool
+exceeds_accounts rs r =
+    let accounts = map (λ x. text_at x 0) rs in
+    not (is_among accounts (text_at r 0)) && (length (distinct accounts) == MAX_ACCOUNTS)
+
+-- the faults that a record may have behind the earlier ones, in the order of their numbers
+abbrev pub record_faults : List Fields → Fields → List (Bool × (ℕ → PositionFault))
+record_faults earlier r = form_faults r ++ (exceeds_accounts (counted earlier) r, fault.TooManyAccounts) ∷ []
+
+-- the fault of a record behind the earlier ones, told its number: the lowest-numbered that it has
+abbrev pub record_fault : List Fields → Fields → Option (ℕ → PositionFault)
+record_fault earlier r = first_that_holds (record_faults earlier r)
+
+-- all faults of a position file: of each record the one that it has
+unfoldable pub position_faults : List ℕ → List PositionFault
+position_faults bytes = all_faults record_fault (records_of bytes)
+
+-- what a position file says, or its first fault
 unfoldable pub positions_of : List ℕ → Result (List PositionRecord) PositionFault
-positions_of bytes = ok_unless (position_fault (records_of bytes)) (map position_record (records_of bytes))
+positions_of bytes = ok_unless (first_of (position_faults bytes)) (map position_record (records_of bytes))
 
 -- the fault is want of memory, of which the definition does not speak
 abbrev pub is_memory : PositionFault → Bool

@@ -120,9 +120,13 @@ with_legs front leg fields =
     option_or (option_or (exactly (front ++ repeat 2 leg) fields) (exactly (front ++ repeat 3 leg) fields))
     (exactly (front ++ repeat 4 leg) fields)
 
+-- a version, which is a profile's number
+abbrev pub a_version : FieldForm
+a_version = form.Whole (pos 1) (pos MAX_PROFILE)
+
 -- the forms of each kind's fields behind the first; a SET's version is the file's profile
 abbrev pub set_forms : List FieldForm
-set_forms = form.Name ∷ form.Whole (pos 1) (pos MAX_PROFILE) ∷ form.Currency ∷ []
+set_forms = form.Name ∷ a_version ∷ form.Currency ∷ []
 
 abbrev pub commodity_forms : List FieldForm
 commodity_forms = form.Name ∷ a_rate ∷ form.Method ∷ []

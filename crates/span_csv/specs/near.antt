@@ -6,3 +6,4 @@ pub mod NumberedReading
 pub mod OrderReading
 pub mod RecordReading
 pub mod Rows
+pub mod Telling

@@ -10,7 +10,8 @@ use crate::faults::ParamFault;
 use crate::grammar::{FieldTest, Kind, kind_named, text_at};
 use csv::ByteRecord;
 
-fn is_set(row: &ByteRecord) -> bool
+/// Whether a record is a SET.
+pub(crate) fn is_set(row: &ByteRecord) -> bool
     ensures { result ≡ is_set (fields_of row.now) }
 {
     text_at(row, 0) == b"SET".as_slice()

@@ -54,8 +54,8 @@ pub(crate) enum FieldTest {
     All,
 }
 
-// Numbers from their lowest to their highest value.
-const VERSION: FieldForm = FieldForm::Whole(1, MAX_PROFILE as i64);
+/// A version, the number of a profile. It and the numbers below stand from their lowest to their highest value.
+pub(crate) const VERSION: FieldForm = FieldForm::Whole(1, MAX_PROFILE as i64);
 
 const RATE: FieldForm = FieldForm::Whole(0, MAX_RATE as i64);
 
@@ -388,7 +388,8 @@ impl FieldForm {
         }
     }
 
-    fn passes(self, test: FieldTest, text: &[u8]) -> bool
+    /// Whether a field's text passes the test of its form.
+    pub(crate) fn passes(self, test: FieldTest, text: &[u8]) -> bool
         ensures { result ≡ passes test self text.now }
     {
         match test {

@@ -58,10 +58,10 @@ fn are_names(row: &ByteRecord, names: usize) -> bool
     true
 }
 
-// The quantity of a record of so many names.
+/// The quantity of a record of so many names, whose number is `at`.
 #[inline(always)]
 #[tactic(auto, unfolding(crate::specs::near::NumberedReading::quantity_alone))]
-fn quantity(names: usize, at: usize, row: &ByteRecord) -> Result<i32, PositionFault>
+pub(crate) fn quantity(names: usize, at: usize, row: &ByteRecord) -> Result<i32, PositionFault>
     requires { names ≤ 3 }
     ensures value { result ≡ quantity_alone names at (fields_of row.now) }
     ensures fields { OnOk result (length (fields_of row.now) ≡ names + 1) }
@@ -94,10 +94,10 @@ fn is_one_too_many(known: &IndexSet<Name>, most: usize, name: &Name) -> bool
     !known.contains(name) && known.len() == most
 }
 
-// The place of a name, which is put last where it is new. The place of the last record's name is tried first.
+/// The place of a name, which is put last where it is new, also where it is one too many. A last record's place is tried first.
 #[inline(always)]
 #[tactic(auto, using(span_tables::proofs::NumberedLaws::among_at))]
-fn place(
+pub(crate) fn place(
     most: usize,
     at: usize,
     known: &mut IndexSet<Name>,
@@ -109,7 +109,8 @@ fn place(
     requires most { most ≤ MAX_ORDERS }
     ensures room { MatchResult result
         (λ place. is_one_too_many most known.old.keys name.now ≡ false)
-        (λ e. MatchBool (is_memory e) ⊤ ((e ≡ fault.TooManyAccounts at) × (is_one_too_many most known.old.keys name.now ≡ true))) }
+        (λ e. MatchBool (is_memory e) ⊤ ((e ≡ fault.TooManyAccounts at) × (is_one_too_many most known.old.keys name.now ≡ true)
+        × (known.new.keys ≡ with_name known.old.keys name.now))) }
     ensures taken { OnOk result (known.new.keys ≡ with_name known.old.keys name.now) }
     ensures at { IfOk result (λ place. slice_get known.new.keys place ≡ Some name.now) }
 {
@@ -117,10 +118,11 @@ fn place(
         return Ok(last);
     }
     let name = Name::of(name);
-    if is_one_too_many(known, most, &name) {
+    let too_many = is_one_too_many(known, most, &name);
+    let (place, _) = known.insert_full(name)?;
+    if too_many {
         return Err(PositionFault::TooManyAccounts { at });
     }
-    let (place, _) = known.insert_full(name)?;
     Ok(place as u32)
 }
 

@@ -1,11 +1,12 @@
 //! Laws of the definitions of a parameter file, in the format's own words: each is the contract of a function that
 //! does nothing.
-ghost use Rattle.std.specs.Prelude.{◌≡◌, ◌∷◌, ℕ, All, List, [], Ok, Some, None, false};
-ghost use Rattle.span_csv.specs.ParamFaults.{param_fault, param_faults, params_of};
-ghost use Rattle.span_csv.specs.Records.{Fields};
+ghost use Rattle.std.specs.Prelude.{◌≡◌, ◌∷◌, ℕ, All, Contains, Err, List, [], Ok, Some, None, false, map};
+ghost use Rattle.span_csv.specs.Laws.{param_number};
+ghost use Rattle.span_csv.specs.ParamFaults.{faults_in, is_memory, param_faults, params_of, record_fault};
+ghost use Rattle.span_csv.specs.Records.{Fields, param_record, records_of};
 ghost use Rattle.span_csv.specs.declared.faults.ParamFault.{ParamFault};
-ghost use Rattle.span_tables.specs.Faults.{first_that_holds};
-ghost use Rattle.span_tables.specs.Laws.{IsFaultFree, IsFirstFault};
+ghost use Rattle.span_tables.specs.Faults.{first_of};
+ghost use Rattle.span_tables.specs.Laws.{IsFaultFree, IsFaultOfSome, IsFirstFault, IsStrictlyRisingBy};
 ghost use Rattle.span_tables.specs.Profiles.{facts_of};
 ghost use Rattle.span_tables.specs.Rules.{contracts_in};
 ghost use Rattle.span_tables.specs.Tables.{profile_in};
@@ -13,13 +14,33 @@ ghost use Rattle.span_tables.specs.declared.records.Record.{Record};
 
 /// The fault of a parameter file is that of the first record with one, and there is none only where no record has one.
 pub fn first_faulty_record_counts()
-    ensures first { (r : Fields) (rs : List Fields) (y : ParamFault) → param_fault (r ∷ rs) ≡ Some y
-        → IsFirstFault (λ earlier x. first_that_holds (param_faults earlier x)) [] (r ∷ rs) y }
-    ensures none { (r : Fields) (rs : List Fields) → param_fault (r ∷ rs) ≡ None
-        → IsFaultFree (λ earlier x. first_that_holds (param_faults earlier x)) [] (r ∷ rs) }
-    ensures free { (r : Fields) (rs : List Fields)
-        → IsFaultFree (λ earlier x. first_that_holds (param_faults earlier x)) [] (r ∷ rs)
-        → param_fault (r ∷ rs) ≡ None }
+    ensures first { (r : Fields) (rs : List Fields) (y : ParamFault) → first_of (faults_in (r ∷ rs)) ≡ Some y
+        → IsFirstFault record_fault [] (r ∷ rs) y }
+    ensures none { (r : Fields) (rs : List Fields) → first_of (faults_in (r ∷ rs)) ≡ None
+        → IsFaultFree record_fault [] (r ∷ rs) }
+    ensures free { (r : Fields) (rs : List Fields) → IsFaultFree record_fault [] (r ∷ rs)
+        → first_of (faults_in (r ∷ rs)) ≡ None }
+{}
+
+/// All faults of a parameter file are none exactly where the file is read, and else the first of them is the one that it is refused for.
+pub fn first_of_all_refuses()
+    ensures read { (bytes : List ℕ) (records : List Record) → params_of bytes ≡ Ok records → param_faults bytes ≡ [] }
+    ensures none { (bytes : List ℕ) → param_faults bytes ≡ []
+        → params_of bytes ≡ Ok (map param_record (records_of bytes)) }
+    ensures refused { (bytes : List ℕ) (y : ParamFault) → params_of bytes ≡ Err y → first_of (param_faults bytes) ≡ Some y }
+{}
+
+/// Each fault that is told of a parameter file is that of one of its records, and each record that has a fault is told.
+pub fn each_faulty_record_is_told()
+    ensures of_record { (r : Fields) (rs : List Fields) → All (IsFaultOfSome record_fault [] (r ∷ rs)) (faults_in (r ∷ rs)) }
+    ensures told { (r : Fields) (rs : List Fields) (y : ParamFault) → IsFaultOfSome record_fault [] (r ∷ rs) y
+        → Contains (faults_in (r ∷ rs)) y }
+    ensures memory { (rs : List Fields) → All (λ y. is_memory y ≡ false) (faults_in rs) }
+{}
+
+/// No record of a parameter file is told twice: the numbers of the records that are told rise.
+pub fn no_record_is_told_twice()
+    ensures { (rs : List Fields) → IsStrictlyRisingBy param_number (faults_in rs) }
 {}
 
 /// Contracts have an option value under the profiles of such values alone: in a file of another profile it is 0.

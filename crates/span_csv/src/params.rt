@@ -1,8 +1,9 @@
 //! The reader of parameter files.
-ghost use Rattle.std.specs.Prelude.{◌≡◌, ◌+◌, ◌<◌, ◌^◌, [], Err, List, MatchBool, MatchResult, Ok, length, ⊤};
+ghost use Rattle.std.specs.Prelude.{◌≡◌, ◌+◌, ◌<◌, ◌^◌, [], Err, IfOk, List, MatchBool, MatchResult, Ok, OnOk, length, ⊤};
 ghost use Rattle.csv.specs.Records.{fields_of};
 ghost use Rattle.span_csv.specs.near.Checks.{HasTallied, NextIs, Tallies, params_in};
-ghost use Rattle.span_csv.specs.ParamFaults.{is_memory, params_of};
+ghost use Rattle.span_csv.specs.near.Telling.{Tells};
+ghost use Rattle.span_csv.specs.ParamFaults.{faults_in, is_memory, param_faults, params_of};
 ghost use Rattle.span_csv.specs.Records.{Fields};
 ghost use Rattle.span_tables.specs.Gives.{Gives};
 
@@ -14,20 +15,24 @@ use crate::tally::Tally;
 use csv::ByteRecord;
 use span_tables::raw::RawTables;
 use span_tables::records::Record;
-use std::alloc::Global;
+use std::alloc::{AllocError, Global};
 
-// What the record says behind `earlier` others, which were counted.
+// What the record says behind `earlier` others, of which those were counted that count. It is counted itself also where it has the fault
+// that it is one too many.
 fn next_record(tally: &mut Tally, earlier: usize, row: &ByteRecord) -> Result<Record, ParamFault>
     requires tallied { HasTallied tally.old earlier }
     requires room { earlier + 1 < 2 ^ 64 }
     ensures { (rs : List Fields) → length rs ≡ earlier → Tallies tally.old rs → NextIs rs (fields_of row.now) result tally.new }
 {
     let at = earlier + 1;
-    let kind = check_form(earlier == 0, at, tally.profile(), row)?;
-    if tally.count(kind, row) == kind.limit() {
+    let profile = tally.profile();
+    tally.keep_profile(earlier == 0, row);
+    let kind = check_form(earlier == 0, at, profile, row)?;
+    let count = tally.count(kind, row);
+    tally.add(kind, row)?;
+    if count == kind.limit() {
         return Err(ParamFault::TooMany { at });
     }
-    tally.add(kind, row)?;
     Ok(record_of_kind(kind, row))
 }
 
@@ -87,4 +92,51 @@ pub fn read_params(alloc: Global, bytes: &[u8]) -> Result<RawTables, ParamFault>
 {
     let records = read_records(alloc, bytes)?;
     Ok(RawTables::new(records))
+}
+
+// Tells the fault of a record onto `faults`, if that is the answer for it.
+fn tell(answer: Result<Record, ParamFault>, faults: &mut Vec<ParamFault>) -> Result<(), AllocError>
+    ensures { OnOk result (Tells is_memory answer faults.old.items faults.new.items) }
+{
+    match answer {
+        Ok(_) => Ok(()),
+        Err(ParamFault::OutOfMemory) => Err(AllocError),
+        Err(fault) => Ok(faults.push(fault)?),
+    }
+}
+
+// Tells the fault of each row of a file onto `faults`, of which there are none before.
+fn tell_rows(
+    rows: &mut Rows,
+    row: &mut ByteRecord,
+    tally: &mut Tally,
+    faults: &mut Vec<ParamFault>,
+) -> Result<(), AllocError>
+    requires none { faults.old.items ≡ [] }
+    requires tallied { Tallies tally.old [] }
+    requires room { length rows.old < 2 ^ 64 }
+    ensures { OnOk result (faults.new.items ≡ faults_in rows.old) }
+{
+    let mut read = 0;
+    while rows.next(row)? {
+        tell(next_record(tally, read, row), faults)?;
+        read += 1;
+    }
+    if read == 0 {
+        faults.push(ParamFault::NoSet { at: 0 })?;
+    }
+    Ok(())
+}
+
+/// All faults of a parameter file, by rising record: of each record its lowest-numbered one of P1 to P8, if it has one, and P1 with
+/// record 0 of a file without a record (docs/FORMATS.md, "All faults").
+pub fn param_faults(alloc: Global, bytes: &[u8]) -> Result<Vec<ParamFault>, AllocError>
+    ensures { IfOk result (λ faults. faults.items ≡ param_faults bytes.now) }
+{
+    let mut rows = Rows::new(alloc, bytes);
+    let mut row = ByteRecord::new(alloc);
+    let mut tally = Tally::new(alloc);
+    let mut faults = Vec::new(alloc);
+    tell_rows(&mut rows, &mut row, &mut tally, &mut faults)?;
+    Ok(faults)
 }

@@ -1,23 +1,43 @@
 //! Laws of the definitions of a position file, in the format's own words: each is the contract of a function that does nothing.
-ghost use Rattle.std.specs.Prelude.{◌≡◌, ℕ, All, Bool, List, [], ◌∷◌, ◌++◌, Some, None, codes, false, length, map, true};
-ghost use Rattle.span_csv.specs.PositionFaults.{exceeds_accounts, position_fault, position_faults};
-ghost use Rattle.span_csv.specs.Records.{Fields, text_at};
+ghost use Rattle.std.specs.Prelude.{◌≡◌, ℕ, All, Bool, Contains, Err, List, [], ◌∷◌, ◌++◌, Ok, Some, None, codes, false, length, map};
+ghost use Rattle.std.specs.Prelude.{true};
+ghost use Rattle.span_csv.specs.Laws.{position_number};
+ghost use Rattle.span_csv.specs.PositionFaults.{counted, exceeds_accounts, is_memory, position_faults, positions_of, record_fault};
+ghost use Rattle.span_csv.specs.Records.{Fields, position_record, records_of, text_at};
 ghost use Rattle.span_csv.specs.declared.faults.PositionFault.{PositionFault};
 ghost use Rattle.span_csv.specs.declared.faults.PositionFault.TheVariants as fault;
-ghost use Rattle.span_tables.specs.Faults.{first_that_holds};
-ghost use Rattle.span_tables.specs.Laws.{IsFaultFree, IsFirstFault};
+ghost use Rattle.span_tables.specs.Faults.{all_faults, first_fault, first_of, first_that_holds};
+ghost use Rattle.span_tables.specs.Laws.{IsFaultFree, IsFaultOfSome, IsFirstFault, IsStrictlyRisingBy};
 ghost use Rattle.span_tables.specs.Names.{distinct, is_among, is_name};
 ghost use Rattle.span_tables.specs.declared.limits.TheConstants.{MAX_ACCOUNTS};
+ghost use Rattle.span_tables.specs.declared.records.PositionRecord.{PositionRecord};
 
 /// The fault of a position file is that of the first record with one, and there is none only where no record has one.
 pub fn first_faulty_position_counts()
-    ensures first { (rs : List Fields) (y : PositionFault) → position_fault rs ≡ Some y
-        → IsFirstFault (λ earlier x. first_that_holds (position_faults earlier x)) [] rs y }
-    ensures none { (rs : List Fields) → position_fault rs ≡ None
-        → IsFaultFree (λ earlier x. first_that_holds (position_faults earlier x)) [] rs }
-    ensures free { (rs : List Fields)
-        → IsFaultFree (λ earlier x. first_that_holds (position_faults earlier x)) [] rs
-        → position_fault rs ≡ None }
+    ensures first { (rs : List Fields) (y : PositionFault) → first_fault record_fault rs ≡ Some y
+        → IsFirstFault record_fault [] rs y }
+    ensures none { (rs : List Fields) → first_fault record_fault rs ≡ None → IsFaultFree record_fault [] rs }
+    ensures free { (rs : List Fields) → IsFaultFree record_fault [] rs → first_fault record_fault rs ≡ None }
+{}
+
+/// All faults of a position file are none exactly where the file is read, and else the first of them is the one that it is refused for.
+pub fn first_of_all_refuses()
+    ensures read { (bytes : List ℕ) (records : List PositionRecord) → positions_of bytes ≡ Ok records → position_faults bytes ≡ [] }
+    ensures none { (bytes : List ℕ) → position_faults bytes ≡ []
+        → positions_of bytes ≡ Ok (map position_record (records_of bytes)) }
+    ensures refused { (bytes : List ℕ) (y : PositionFault) → positions_of bytes ≡ Err y → first_of (position_faults bytes) ≡ Some y }
+{}
+
+/// Each fault that is told of a position file is that of one of its records, and each record that has a fault is told.
+pub fn each_faulty_record_is_told()
+    ensures of_record { (rs : List Fields) → All (IsFaultOfSome record_fault [] rs) (all_faults record_fault rs) }
+    ensures told { (rs : List Fields) (y : PositionFault) → IsFaultOfSome record_fault [] rs y → Contains (all_faults record_fault rs) y }
+    ensures memory { (rs : List Fields) → All (λ y. is_memory y ≡ false) (all_faults record_fault rs) }
+{}
+
+/// No record of a position file is told twice: the numbers of the records that are told rise.
+pub fn no_record_is_told_twice()
+    ensures { (rs : List Fields) → IsStrictlyRisingBy position_number (all_faults record_fault rs) }
 {}
 
 /// Of the faults that a record may have, the first whose test holds counts, and there is none only where no test holds.
@@ -28,16 +48,15 @@ pub fn lowest_fault_counts()
         → first_that_holds faults ≡ None }
 {}
 
-/// A record of a new account is refused where there are as many accounts as there may be, and only there.
+/// A record of a new account is refused where the earlier records that count have as many accounts as there may be, and only there.
 pub fn accounts_are_limited()
     ensures refused { (earlier : List Fields) (account contract : List ℕ)
         → is_name account ≡ true → is_name contract ≡ true
-        → is_among (map (λ x. text_at x 0) earlier) account ≡ false
-        → length (distinct (map (λ x. text_at x 0) earlier)) ≡ MAX_ACCOUNTS
-        → first_that_holds (position_faults earlier (account ∷ contract ∷ codes "1" ∷ []))
-        ≡ Some fault.TooManyAccounts }
+        → is_among (map (λ x. text_at x 0) (counted earlier)) account ≡ false
+        → length (distinct (map (λ x. text_at x 0) (counted earlier))) ≡ MAX_ACCOUNTS
+        → record_fault earlier (account ∷ contract ∷ codes "1" ∷ []) ≡ Some fault.TooManyAccounts }
     ensures taken { (earlier : List Fields) (account contract : List ℕ)
         → is_name account ≡ true → is_name contract ≡ true
-        → exceeds_accounts earlier (account ∷ contract ∷ codes "1" ∷ []) ≡ false
-        → first_that_holds (position_faults earlier (account ∷ contract ∷ codes "1" ∷ [])) ≡ None }
+        → exceeds_accounts (counted earlier) (account ∷ contract ∷ codes "1" ∷ []) ≡ false
+        → record_fault earlier (account ∷ contract ∷ codes "1" ∷ []) ≡ None }
 {}

@@ -1,22 +1,26 @@
 //! The reader of position files.
-ghost use Rattle.std.specs.Prelude.{◌≡◌, ◌≤◌, ⊤, MatchBool, MatchResult, OnOk, Ok, Err, length};
-ghost use Rattle.span_csv.specs.PositionFaults.{is_memory, positions_of};
+ghost use Rattle.std.specs.Prelude.{◌≡◌, ◌≤◌, ◌<◌, ◌+◌, ◌^◌, [], List, ⊤, IfOk, MatchBool, MatchResult, OnOk, Ok, Err, length};
+ghost use Rattle.csv.specs.Records.{fields_of};
+ghost use Rattle.span_csv.specs.PositionFaults.{is_memory, position_faults, positions_of, record_fault};
+ghost use Rattle.span_csv.specs.Records.{Fields};
 ghost use Rattle.span_csv.specs.near.NumberedReading.{next_position};
 ghost use Rattle.span_csv.specs.near.RecordReading.{records_after};
+ghost use Rattle.span_csv.specs.near.Telling.{accounts_counted, CheckIs, Tells};
+ghost use Rattle.span_tables.specs.Faults.{all_faults};
 ghost use Rattle.span_tables.specs.Gives.{Gives};
 ghost use Rattle.span_tables.specs.near.Positions.{named_positions, AreNumbered};
 ghost use Rattle.span_tables.specs.declared.limits.TheConstants.{MAX_ACCOUNTS};
 
 use crate::faults::PositionFault;
-use crate::numbered::next_position;
-use crate::rows::Rows;
+use crate::numbered::{next_position, place, quantity};
+use crate::rows::{Rows, field};
 use csv::ByteRecord;
 use indexmap::IndexSet;
 use span_tables::limits::MAX_ACCOUNTS;
 use span_tables::name::Name;
 use span_tables::raw::RawPositions;
 use span_tables::records::NumberedPosition;
-use std::alloc::Global;
+use std::alloc::{AllocError, Global};
 
 // The names of a record, in front of its quantity: an account's and a contract's.
 const POSITION_NAMES: usize = 2;
@@ -56,4 +60,70 @@ pub fn read_positions(alloc: Global, bytes: &[u8]) -> Result<RawPositions, Posit
     let mut records: Vec<NumberedPosition> = Vec::new(alloc);
     read_rows(&mut rows, &mut row, &mut accounts, &mut records)?;
     Ok(RawPositions::new(accounts, records))
+}
+
+// Looks at the record of a number behind others, where these are the accounts of those that count; its own is put behind them, where it
+// counts and is new. Behind one account too many there is no second one, and only the fields of a record can have faults.
+fn check_row(
+    at: usize,
+    accounts: &mut IndexSet<Name>,
+    row: &ByteRecord,
+) -> Result<(), PositionFault>
+    ensures { (rs : List Fields) → length rs + 1 ≡ at → accounts.old.keys ≡ accounts_counted rs
+        → CheckIs rs (fields_of row.now) result accounts.new.keys }
+{
+    quantity(POSITION_NAMES, at, row)?;
+    if accounts.len() > MAX_ACCOUNTS {
+        return Ok(());
+    }
+    let last = accounts.len().saturating_sub(1) as u32;
+    place(MAX_ACCOUNTS, at, accounts, last, field(row, 0))?;
+    Ok(())
+}
+
+// Tells the fault of a record onto `faults`, if that is the answer for it.
+fn tell(
+    answer: Result<(), PositionFault>,
+    faults: &mut Vec<PositionFault>,
+) -> Result<(), AllocError>
+    ensures { OnOk result (Tells is_memory answer faults.old.items faults.new.items) }
+{
+    match answer {
+        Ok(_) => Ok(()),
+        Err(PositionFault::OutOfMemory) => Err(AllocError),
+        Err(fault) => Ok(faults.push(fault)?),
+    }
+}
+
+// Tells the fault of each row of a file onto `faults`, of which there are none before.
+fn tell_rows(
+    rows: &mut Rows,
+    row: &mut ByteRecord,
+    accounts: &mut IndexSet<Name>,
+    faults: &mut Vec<PositionFault>,
+) -> Result<(), AllocError>
+    requires none { faults.old.items ≡ [] }
+    requires no_accounts { accounts.old.keys ≡ [] }
+    requires room { length rows.old < 2 ^ 64 }
+    ensures { OnOk result (faults.new.items ≡ all_faults record_fault rows.old) }
+{
+    let mut read = 0;
+    while rows.next(row)? {
+        read += 1;
+        tell(check_row(read, accounts, row), faults)?;
+    }
+    Ok(())
+}
+
+/// All faults of a position file, by rising record: of each record its lowest-numbered one of Q1 to Q5, if it has one
+/// (docs/FORMATS.md, "All faults").
+pub fn position_faults(alloc: Global, bytes: &[u8]) -> Result<Vec<PositionFault>, AllocError>
+    ensures { IfOk result (λ faults. faults.items ≡ position_faults bytes.now) }
+{
+    let mut rows = Rows::new(alloc, bytes);
+    let mut row = ByteRecord::new(alloc);
+    let mut accounts = IndexSet::new(alloc);
+    let mut faults = Vec::new(alloc);
+    tell_rows(&mut rows, &mut row, &mut accounts, &mut faults)?;
+    Ok(faults)
 }

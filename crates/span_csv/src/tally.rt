@@ -1,12 +1,14 @@
 //! How many records of each kind were read, as far as there is a limit, and under which profile.
-ghost use Rattle.std.specs.Prelude.{◌≡◌, ◌+◌, ◌<◌, ◌^◌, List, OnOk, [], ℕ};
+ghost use Rattle.std.specs.Prelude.{◌≡◌, ◌+◌, ◌<◌, ◌^◌, List, OnOk, [], ◌∷◌, ℕ};
 ghost use Rattle.csv.specs.Records.{fields_of};
 ghost use Rattle.span_csv.specs.near.Checks.{CountsOne, count_in, limit_of};
 ghost use Rattle.span_csv.specs.near.Grammar.{FitsKind};
+ghost use Rattle.span_csv.specs.ParamFaults.{profile_of};
 ghost use Rattle.span_csv.specs.Records.{text_at};
 
+use crate::checks::is_set;
 use crate::fields::{name_at, profile_at};
-use crate::grammar::Kind;
+use crate::grammar::{FieldTest, Kind, VERSION, text_at};
 use csv::ByteRecord;
 use indexmap::IndexMap;
 use span_tables::limits::{
@@ -38,6 +40,17 @@ fn count_one(counts: &mut IndexMap<Name, usize>, commodity: Name) -> Result<(), 
     }
 }
 
+// The profile of a file that begins with this record.
+fn profile_from(first: &ByteRecord) -> u8
+    ensures { result ≡ profile_of (fields_of first.now ∷ []) }
+{
+    if is_set(first) && VERSION.passes(FieldTest::All, text_at(first, 2)) {
+        profile_at(first, 2)
+    } else {
+        1
+    }
+}
+
 impl Kind {
     /// How many records there may be of the kind, or of the kind and a commodity.
     pub(crate) fn limit(self) -> usize
@@ -55,8 +68,8 @@ impl Kind {
     }
 }
 
-/// The records that were read: the profile of the SET, and how many of the other kinds, of some all and of others those of
-/// each commodity.
+/// The records that were read: the profile that the first of them gives, and how many there are of the kinds with a limit, of some all
+/// and of others those of each commodity.
 #[derive(Drop)]
 pub(crate) struct Tally {
     profile: u8,
@@ -69,14 +82,14 @@ pub(crate) struct Tally {
 }
 
 impl Tally {
-    ghost use Rattle.span_csv.specs.near.Checks.{AddsRecord, Tallies, count_for};
+    ghost use Rattle.span_csv.specs.near.Checks.{AddsRecord, KeepsProfile, Tallies, count_for};
 
     /// No record.
     pub(crate) fn new(alloc: Global) -> Tally
         ensures { Tallies result [] }
     {
         Tally {
-            profile: 0,
+            profile: 1,
             commodities: 0,
             contracts: 0,
             tiers: IndexMap::new(alloc),
@@ -86,7 +99,7 @@ impl Tally {
         }
     }
 
-    /// The profile of the SET, or 0 in front of it.
+    /// The profile of the file, or 1 in front of its first record.
     pub(crate) fn profile(&self) -> u8
         ensures { result ≡ self.now.profile }
     {
@@ -109,14 +122,24 @@ impl Tally {
         }
     }
 
-    /// Counts a record, or keeps its profile.
+    /// Keeps the profile of a file whose first record this is, where it is the first.
+    #[inline(always)]
+    pub(crate) fn keep_profile(&mut self, first: bool, row: &ByteRecord)
+        ensures { KeepsProfile first (fields_of row.now) self.old self.new }
+    {
+        if first {
+            self.profile = profile_from(row);
+        }
+    }
+
+    /// Counts a record, where its kind has a limit.
     pub(crate) fn add(&mut self, kind: Kind, row: &ByteRecord) -> Result<(), AllocError>
         requires forms { FitsKind kind (fields_of row.now) }
         requires room { count_for self.old kind (text_at (fields_of row.now) 1) + 1 < 2 ^ 64 }
         ensures { OnOk result (AddsRecord kind (fields_of row.now) self.old self.new) }
     {
         match kind {
-            Kind::Set => self.profile = profile_at(row, 2),
+            Kind::Set => {}
             Kind::Commodity => self.commodities += 1,
             Kind::Contract => self.contracts += 1,
             Kind::Tier => count_one(&mut self.tiers, name_at(row, 1))?,

@@ -2,10 +2,10 @@
 #![tactic(auto, unfolding(crate::specs::near::OnLiterals::reading_on_literals))]
 
 ghost use Rattle.std.specs.List.{repeat};
-ghost use Rattle.std.specs.Prelude.{◌≡◌, [], ◌∷◌, Err, Ok, codes, neg_ℤ, pos};
-ghost use Rattle.span_csv.specs.ParamFaults.{params_of};
+ghost use Rattle.std.specs.Prelude.{◌≡◌, [], ◌∷◌, ◌++◌, Err, Ok, codes, neg_ℤ, pos};
+ghost use Rattle.span_csv.specs.ParamFaults.{faults_in, param_faults, params_of};
 ghost use Rattle.span_csv.specs.OrderFaults.{orders_of};
-ghost use Rattle.span_csv.specs.PositionFaults.{positions_of};
+ghost use Rattle.span_csv.specs.PositionFaults.{position_faults, positions_of};
 ghost use Rattle.span_csv.specs.Records.{records_of};
 ghost use Rattle.span_csv.specs.declared.faults.OrderFault.TheVariants as order;
 ghost use Rattle.span_csv.specs.declared.faults.ParamFault.TheVariants as param;
@@ -54,6 +54,39 @@ fn malformed_names()
     ensures none { params_of (codes "SET,D1,0,USD\n") ≡ Err (param.OutOfRange 1) }
 {}
 
+// Of each record the lowest-numbered fault is told, whatever other records have, and of no other record one.
+fn all_faults_of_parameters()
+    ensures several { param_faults (codes "SET,d1,3,USD\nSPOT,AA,202501,0,0\nTIERS\nSET,D1,1,USD\nTIER,aa,?\nTIER,aa,?,1,1\nSPOT,A,1,0,?\n")
+        ≡ param.BadName 1 ∷ param.UnknownKind 3 ∷ param.SecondSet 4 ∷ param.FieldCount 5 ∷ param.BadName 6 ∷ param.BadNumber 7 ∷ [] }
+    ensures no_set { param_faults (codes "COMMODITY,AA,0,SUM\nSET,D1,1,USD\nCOMMODITY,AA,0,SUM\n")
+        ≡ param.NoSet 1 ∷ param.SecondSet 2 ∷ [] }
+    ensures none { param_faults (codes "SET,D1,1,USD\nCOMMODITY,AA,0,SUM\n") ≡ [] }
+    ensures empty { param_faults [] ≡ param.NoSet 0 ∷ [] }
+{}
+
+// A first record that is a SET gives its version, if that is one, also where it has a fault.
+fn version_of_a_faulty_set()
+    ensures name { param_faults (codes "SET,d2,2,USD\nCONTRACT,CA,AA,C,202512,1,1,0,0,0,0,0,0,0,0,0,0,0,0,0,0,0,0\n")
+        ≡ param.BadName 1 ∷ param.FieldCount 2 ∷ [] }
+    ensures three_fields { param_faults (codes "SET,D2,2\nCONTRACT,CA,AA,C,202512,1,1,0,0,0,0,0,0,0,0,0,0,0,0,0,0,0,0,120\n")
+        ≡ param.FieldCount 1 ∷ [] }
+    ensures range { param_faults (codes "SET,D2,3,USD\nCONTRACT,CA,AA,C,202512,1,1,0,0,0,0,0,0,0,0,0,0,0,0,0,0,0,0\n")
+        ≡ param.OutOfRange 1 ∷ [] }
+    ensures no_set { param_faults (codes "SETS,D2,2,USD\nCONTRACT,CA,AA,C,202512,1,1,0,0,0,0,0,0,0,0,0,0,0,0,0,0,0,0,120\n")
+        ≡ param.NoSet 1 ∷ param.FieldCount 2 ∷ [] }
+    ensures second { param_faults (codes "SET,D1,1,USD\nSET,D2,2,USD\nCONTRACT,CA,AA,C,202512,1,1,0,0,0,0,0,0,0,0,0,0,0,0,0,0,0,0,120\n")
+        ≡ param.SecondSet 2 ∷ param.FieldCount 3 ∷ [] }
+{}
+
+// Of SPOT records of one commodity the 17th that has no lower fault is one too many, and no other one.
+fn one_spot_month_too_many()
+    ensures { faults_in ((codes "SET" ∷ codes "D1" ∷ codes "1" ∷ codes "USD" ∷ [])
+        ∷ repeat 9 ((codes "SPOT" ∷ codes "AA" ∷ codes "202512" ∷ codes "0" ∷ codes "0" ∷ []) ∷ [])
+        ++ (codes "SPOT" ∷ codes "AA" ∷ codes "202513" ∷ codes "0" ∷ codes "0" ∷ [])
+        ∷ repeat 9 ((codes "SPOT" ∷ codes "AA" ∷ codes "202512" ∷ codes "0" ∷ codes "0" ∷ []) ∷ []))
+        ≡ param.OutOfRange 11 ∷ param.TooMany 19 ∷ [] }
+{}
+
 // Under version 2 a contract has an option value behind its risk array, and under version 1 its option value is 0.
 fn contracts_of_both_versions()
     ensures first { params_of (codes "SET,D1,1,USD\nCONTRACT,CA,AA,C,202512,1,1,-9,8,7,7,7,7,7,7,7,7,7,7,7,7,7,7\n") ≡ Ok
@@ -93,6 +126,14 @@ fn lowest_fault_of_a_position()
     ensures name { positions_of (codes "X,FA,1\nx,FA,?\n") ≡ Err (position.BadName 2) }
     ensures number { positions_of (codes "X,FA,+1\n") ≡ Err (position.BadNumber 1) }
     ensures range { positions_of (codes "X,FA,-1000001\nx\n") ≡ Err (position.OutOfRange 1) }
+{}
+
+// Of each record the lowest-numbered fault is told, and of no other record one.
+fn all_faults_of_positions()
+    ensures several { position_faults (codes "X,FA,1\nx,FA,?\nX,FA,?,\nX,fa,1\nX,FA,?\nX,FA,1000001\nX,FA,1\n")
+        ≡ position.BadName 2 ∷ position.FieldCount 3 ∷ position.BadName 4 ∷ position.BadNumber 5 ∷ position.OutOfRange 6 ∷ [] }
+    ensures none { position_faults (codes "X,FA,1\n") ≡ [] }
+    ensures empty { position_faults [] ≡ [] }
 {}
 
 // Accounts and contracts as they stand in their fields, and a negative quantity.

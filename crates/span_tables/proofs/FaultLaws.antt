@@ -1,16 +1,35 @@
--- The answer of `first_fault` is that of the first element with a fault.
-use Rattle.std.proofs.Common.{◌≡◌, ℕ, ◌+◌, List, [], ◌∷◌, ◌++◌, length, Option, Some, None, refl, sym, ap, subst}
-use Rattle.std.proofs.lemmas.List.{append_assoc, append-nil}
-use Rattle.std.specs.Prelude.{option_map}
-use Rattle.std.specs.Option.{option_or}
-use Rattle.span_tables.specs.Faults.{first_fault_after}
-use Rattle.span_tables.specs.Laws.{IsFaultFree, IsFirstFault}
+-- The answer of `first_fault` is that of the first element with a fault, and `all_faults` tells the fault of each element that has one.
+use Rattle.std.proofs.Common.{◌≡◌, ℕ, ◌+◌, ◌<◌, List, [], ◌∷◌, ◌++◌, length, Option, Some, None, refl, sym, ap, ◌∙◌, subst, arith}
+use Rattle.std.proofs.lemmas.List.{append_assoc, append-nil, length-append}
+use Rattle.std.proofs.lemmas.List.Elements.{Contains-append_left, Contains-append_right}
+use Rattle.std.specs.Prelude.{⊤, All, Contains, option_map}
+use Rattle.std.specs.List.{AllByRecursion}
+use Rattle.std.specs.Option.{option_or, option_to_list}
+use Rattle.span_tables.specs.Faults.{faults_after, first_fault_after, first_of}
+use Rattle.span_tables.specs.Laws.{IsFaultFree, IsFaultOfSome, IsFirstFault, IsStrictlyRisingBy}
+
+-- the first of two lists' faults is that of the first list, if it has one
+pub first_of_both : {F : Type 0} (xs ys : List F) → first_of (xs ++ ys) ≡ option_or (first_of xs) (first_of ys)
+first_of_both [] ys = refl
+first_of_both (x ∷ xs) ys = refl
+
+-- the first of at most one fault and others
+pub first_of_option : {F : Type 0} (o : Option F) (ys : List F) → first_of (option_to_list o ++ ys) ≡ option_or o (first_of ys)
+first_of_option None ys = refl
+first_of_option (Some x) ys = refl
 
 module _ {A F : Type 0} (fault_of : List A → A → Option (ℕ → F)) where
+  -- the first fault is the first element's, if it has one, and else that of the rest
+  pub first_fault_next : (before : List A) (x : A) (xs : List A) → first_fault_after fault_of before (x ∷ xs)
+      ≡ option_or (option_map (λ fault. fault (length before + 1)) (fault_of before x))
+      (first_fault_after fault_of (before ++ x ∷ []) xs)
+  first_fault_next before x xs = first_of_option (option_map (λ fault. fault (length before + 1)) (fault_of before x))
+      (faults_after fault_of (before ++ x ∷ []) xs)
+
   -- the answer where the first element's own fault is o
   abbrev answer_by : List A → A → List A → Option (ℕ → F) → Option F
-  answer_by before x xs o =
-      option_or (option_map (λ fault. fault (length before + 1)) o) (first_fault_after fault_of (before ++ x ∷ []) xs)
+  answer_by before x xs o = first_of (option_to_list (option_map (λ fault. fault (length before + 1)) o)
+      ++ faults_after fault_of (before ++ x ∷ []) xs)
 
   head_none : (before : List A) (x : A) (xs : List A) (o : Option (ℕ → F)) → fault_of before x ≡ o
       → answer_by before x xs o ≡ None
@@ -65,3 +84,119 @@ module _ {A F : Type 0} (fault_of : List A → A → Option (ℕ → F)) where
       → IsFirstFault fault_of before xs y
   first_fault_some before [] y e = cc
   first_fault_some before (x ∷ xs) y e = head_some before x xs y (fault_of before x) refl e (first_fault_some (before ++ x ∷ []) xs y)
+
+  -- ---- all faults
+
+  -- a fault of one of the elements behind one more
+  of_later : (before : List A) (x : A) (xs : List A) (y : F) → IsFaultOfSome fault_of (before ++ x ∷ []) xs y
+      → IsFaultOfSome fault_of before (x ∷ xs) y
+  of_later before x xs y f = record {
+    earlier = x ∷ f.earlier;
+    at = f.at;
+    later = f.later;
+    split = ap (λ zs. x ∷ zs) f.split;
+    fault = f.fault;
+    has = subst (λ zs. fault_of zs f.at ≡ Some f.fault) (append_assoc before (x ∷ []) f.earlier) f.has;
+    answers = subst (λ zs. y ≡ f.fault (length zs + 1)) (append_assoc before (x ∷ []) f.earlier) f.answers;
+  }
+
+  of_first : (before : List A) (x : A) (xs : List A) (fault : ℕ → F) → fault_of before x ≡ Some fault
+      → IsFaultOfSome fault_of before (x ∷ xs) (fault (length before + 1))
+  of_first before x xs fault is = record {
+    earlier = [];
+    at = x;
+    later = xs;
+    split = refl;
+    fault = fault;
+    has = subst (λ zs. fault_of zs x ≡ Some fault) (sym (append-nil before)) is;
+    answers = subst (λ zs. fault (length before + 1) ≡ fault (length zs + 1)) (sym (append-nil before)) refl;
+  }
+
+  pub all_weaker : (P Q : F → Type 0) → ((y : F) → P y → Q y) → (ys : List F) → AllByRecursion P ys → AllByRecursion Q ys
+  all_weaker P Q follows [] all = tt
+  all_weaker P Q follows (y ∷ ys) all = (follows y all.0, all_weaker P Q follows ys all.1)
+
+  by_own : (P : F → Type 0) (own : Option F) (ys : List F) → ((y : F) → own ≡ Some y → P y) → AllByRecursion P ys
+      → AllByRecursion P (option_to_list own ++ ys)
+  by_own P None ys here rest = rest
+  by_own P (Some y) ys here rest = (here y refl, rest)
+
+  -- an element's own fault
+  own_fault : (n : ℕ) (o : Option (ℕ → F)) (y : F) → option_map (λ fault. fault n) o ≡ Some y
+      → (fault : ℕ → F) × (o ≡ Some fault) × (fault n ≡ y)
+  own_fault n None y e = cc
+  own_fault n (Some fault) y e = let same : fault n ≡ y = cc in (fault, refl, same)
+
+  -- each fault that is told is one of some element
+  pub faults_are_of_some : (before xs : List A) → AllByRecursion (IsFaultOfSome fault_of before xs) (faults_after fault_of before xs)
+  faults_are_of_some before [] = tt
+  faults_are_of_some before (x ∷ xs) =
+      by_own (IsFaultOfSome fault_of before (x ∷ xs)) (option_map (λ fault. fault (length before + 1)) (fault_of before x))
+      (faults_after fault_of (before ++ x ∷ []) xs)
+      (λ y e.
+      let own = own_fault (length before + 1) (fault_of before x) y e in
+      subst (IsFaultOfSome fault_of before (x ∷ xs)) own.2 (of_first before x xs own.0 own.1))
+      (all_weaker _ _ (of_later before x xs) (faults_after fault_of (before ++ x ∷ []) xs) (faults_are_of_some (before ++ x ∷ []) xs))
+
+  -- each element's fault is told
+  each_told : (before earlier : List A) (at : A) (later : List A) (fault : ℕ → F) → fault_of (before ++ earlier) at ≡ Some fault
+      → Contains (faults_after fault_of before (earlier ++ at ∷ later)) (fault (length (before ++ earlier) + 1))
+  each_told before [] at later fault has =
+      let here : fault_of before at ≡ Some fault = subst (λ zs. fault_of zs at ≡ Some fault) (append-nil before) has in
+      subst (λ zs. Contains (faults_after fault_of before (at ∷ later)) (fault (length zs + 1))) (sym (append-nil before))
+      (subst (λ o. Contains (option_to_list (option_map (λ f. f (length before + 1)) o) ++ faults_after fault_of (before ++ at ∷ []) later)
+      (fault (length before + 1)))
+      (sym here)
+      (Contains-append_left (fault (length before + 1) ∷ []) (faults_after fault_of (before ++ at ∷ []) later)
+      (fault (length before + 1)) (0, omega arith, refl)))
+  each_told before (x ∷ earlier) at later fault has =
+      let assoc = append_assoc before (x ∷ []) earlier in
+      Contains-append_right (option_to_list (option_map (λ f. f (length before + 1)) (fault_of before x)))
+      (faults_after fault_of (before ++ x ∷ []) (earlier ++ at ∷ later)) (fault (length (before ++ x ∷ earlier) + 1))
+      (subst (λ zs. Contains (faults_after fault_of (before ++ x ∷ []) (earlier ++ at ∷ later)) (fault (length zs + 1))) assoc
+      (each_told (before ++ x ∷ []) earlier at later fault (subst (λ zs. fault_of zs at ≡ Some fault) (sym assoc) has)))
+
+  pub faults_told : (before xs : List A) (y : F) → IsFaultOfSome fault_of before xs y → Contains (faults_after fault_of before xs) y
+  faults_told before xs y f =
+      subst (λ zs. Contains (faults_after fault_of before zs) y) (sym f.split)
+      (subst (Contains (faults_after fault_of before (f.earlier ++ f.at ∷ f.later))) (sym f.answers)
+      (each_told before f.earlier f.at f.later f.fault f.has))
+
+  -- ---- the numbers of the elements that have a fault
+
+  module _ (number : F → ℕ)
+      (numbered : (earlier : List A) (x : A) (fault : ℕ → F) (n : ℕ) → fault_of earlier x ≡ Some fault → number (fault n) ≡ n) where
+    own_number : (before : List A) (x : A) (y : F) → option_map (λ fault. fault (length before + 1)) (fault_of before x) ≡ Some y
+        → number y ≡ length before + 1
+    own_number before x y e =
+        let own = own_fault (length before + 1) (fault_of before x) y e in
+        ap number (sym own.2) ∙ numbered before x own.0 (length before + 1) own.1
+
+    numbers_above : (before xs : List A) → AllByRecursion (λ y. length before < number y) (faults_after fault_of before xs)
+    numbers_above before [] = tt
+    numbers_above before (x ∷ xs) =
+        by_own (λ y. length before < number y) (option_map (λ fault. fault (length before + 1)) (fault_of before x))
+        (faults_after fault_of (before ++ x ∷ []) xs)
+        (λ y e. let is = own_number before x y e in omega (arith, is))
+        (all_weaker (λ y. length (before ++ x ∷ []) < number y) (λ y. length before < number y)
+        (λ y lt. let long = length-append before (x ∷ []) in omega (arith, lt, long))
+        (faults_after fault_of (before ++ x ∷ []) xs) (numbers_above (before ++ x ∷ []) xs))
+
+    rising_by : (n : ℕ) (own : Option F) (ys : List F) → ((y : F) → own ≡ Some y → number y ≡ n)
+        → AllByRecursion (λ y. n < number y) ys → IsStrictlyRisingBy number ys → IsStrictlyRisingBy number (option_to_list own ++ ys)
+    rising_by n None ys is above rising = rising
+    rising_by n (Some y) ys is above rising = (
+      all_weaker (λ z. n < number z) (λ z. number y < number z) (λ z lt. let here = is y refl in omega (arith, lt, here)) ys above,
+      rising,
+    )
+
+    -- the numbers of the elements whose faults are told rise strictly
+    pub numbers_rise : (before xs : List A) → IsStrictlyRisingBy number (faults_after fault_of before xs)
+    numbers_rise before [] = tt
+    numbers_rise before (x ∷ xs) =
+        rising_by (length before + 1) (option_map (λ fault. fault (length before + 1)) (fault_of before x))
+        (faults_after fault_of (before ++ x ∷ []) xs) (own_number before x)
+        (all_weaker (λ y. length (before ++ x ∷ []) < number y) (λ y. length before + 1 < number y)
+        (λ y lt. let long = length-append before (x ∷ []) in omega (arith, lt, long))
+        (faults_after fault_of (before ++ x ∷ []) xs) (numbers_above (before ++ x ∷ []) xs))
+        (numbers_rise (before ++ x ∷ []) xs)

@@ -3,10 +3,10 @@ use Rattle.std.proofs.Common.{◌≡◌, ℕ, ◌+◌, Bool, true, false, List, 
 use Rattle.std.proofs.Common.{◌++◌, length, Option, Some, None, refl, ap, ◌∙◌, subst}
 use Rattle.std.specs.Prelude.{All, MatchOption, filter_map, is_none, if◌then◌else◌, option_map, ◌||◌, ◌&&◌}
 use Rattle.std.specs.List.{AllByRecursion, cons_option, list_all, list_any}
-use Rattle.std.specs.Option.{option_or}
+use Rattle.std.specs.Option.{option_to_list}
 use Rattle.std.proofs.lemmas.List.{append-nil}
 use Rattle.std.proofs.lemmas.List.Elements.{All-nil, All-cons, All-head, All-tail, filter_map-append}
-use Rattle.span_tables.specs.Faults.{first_fault_after}
+use Rattle.span_tables.specs.Faults.{faults_after, first_fault_after, first_of}
 use Rattle.span_tables.specs.Names.{has_repeat}
 use Rattle.span_tables.specs.Rules.{first_breaking, is_and, keeps_rules, rules}
 use Rattle.span_tables.specs.declared.records.Record.{Record}
@@ -24,9 +24,9 @@ abbrev pub Unbroken : (List Record → Record → Bool) → List Record → List
 Unbroken breaks earlier [] = Unit {0}
 Unbroken breaks earlier (r ∷ rs) = (breaks earlier r ≡ false) × Unbroken breaks (earlier ++ r ∷ []) rs
 
-free_head : (b : Bool) (n : ℕ) (rest : Option ℕ)
-    → option_or (option_map (λ (f : ℕ → ℕ). f n) (if b then Some (λ (at : ℕ). at) else None)) rest ≡ None
-    → (b ≡ false) × (rest ≡ None)
+free_head : (b : Bool) (n : ℕ) (rest : List ℕ)
+    → first_of (option_to_list (option_map (λ (f : ℕ → ℕ). f n) (if b then Some (λ (at : ℕ). at) else None)) ++ rest) ≡ None
+    → (b ≡ false) × (first_of rest ≡ None)
 free_head true n rest e = cc
 free_head false n rest e = (refl, e)
 
@@ -36,7 +36,7 @@ unbroken_behind : (breaks : List Record → Record → Bool) (before rs : List R
 unbroken_behind breaks before [] e = tt
 unbroken_behind breaks before (r ∷ rs) e =
     let h = free_head (breaks before r) (length before + 1)
-    (first_fault_after (λ earlier x. if breaks earlier x then Some (λ (at : ℕ). at) else None) (before ++ r ∷ []) rs) e in
+    (faults_after (λ earlier x. if breaks earlier x then Some (λ (at : ℕ). at) else None) (before ++ r ∷ []) rs) e in
     (h.0, unbroken_behind breaks (before ++ r ∷ []) rs h.1)
 
 none_is : (o : Option ℕ) → is_none o ≡ true → o ≡ None

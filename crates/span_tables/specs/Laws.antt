@@ -17,6 +17,17 @@ abbrev pub IsFaultFree : {A F : Type 0} → (List A → A → Option (ℕ → F)
 IsFaultFree fault_of earlier [] = ⊤
 IsFaultFree fault_of earlier (x ∷ xs) = (fault_of earlier x ≡ None) × IsFaultFree fault_of (earlier ++ x ∷ []) xs
 
+-- some element has this fault, told the element's number
+pub record IsFaultOfSome {A F : Type 0} (fault_of : List A → A → Option (ℕ → F)) (before xs : List A)
+    (answer : F) : Type 0 where
+  pub earlier : List A
+  pub at : A
+  pub later : List A
+  pub split : xs ≡ earlier ++ at ∷ later
+  pub fault : ℕ → F
+  pub has : fault_of (before ++ earlier) at ≡ Some fault
+  pub answers : answer ≡ fault (length (before ++ earlier) + 1)
+
 -- some element has this fault, told the element's number, and none before it has one
 pub record IsFirstFault {A F : Type 0} (fault_of : List A → A → Option (ℕ → F)) (before xs : List A)
     (answer : F) : Type 0 where
@@ -33,6 +44,11 @@ pub record IsFirstFault {A F : Type 0} (fault_of : List A → A → Option (ℕ 
 abbrev pub IsRisingBy : {A : Type 0} → (A → ℕ) → List A → Type 0
 IsRisingBy key [] = ⊤
 IsRisingBy key (x ∷ xs) = AllByRecursion (λ y. key x ≤ key y) xs × IsRisingBy key xs
+
+-- the elements' keys rise, and no two are the same
+abbrev pub IsStrictlyRisingBy : {A : Type 0} → (A → ℕ) → List A → Type 0
+IsStrictlyRisingBy key [] = ⊤
+IsStrictlyRisingBy key (x ∷ xs) = AllByRecursion (λ y. key x < key y) xs × IsStrictlyRisingBy key xs
 
 -- the outcomes before some fault are none
 pub record IsFirstOutcome {F : Type 0} (outcomes : List (Option F)) (answer : F) : Type 0 where

@@ -3,7 +3,7 @@ use Rattle.std.specs.Prelude.{ℕ, Bool, true, false, not, ◌&&◌, ◌||◌, �
 use Rattle.std.specs.Prelude.{if◌then◌else◌, List, [], ◌∷◌, map, filter_map, Option, Some, None, is_none, bytes_eq}
 use Rattle.std.specs.List.{list_any, list_all}
 use Rattle.std.specs.Option.{option_map_or}
-use Rattle.span_tables.specs.Faults.{first_fault}
+use Rattle.span_tables.specs.Faults.{all_faults, first_of}
 use Rattle.span_tables.specs.Names.{has_repeat}
 use Rattle.span_tables.specs.declared.records.Side.{Side}
 use Rattle.span_tables.specs.declared.records.Side.TheVariants as side
@@ -192,9 +192,13 @@ rules all =
     ∷ repeats_spot
     ∷ []
 
+-- each record that breaks a rule, told its number
+abbrev pub all_breaking : {F : Type 0} → (ℕ → F) → (List Record → Record → Bool) → List Record → List F
+all_breaking fault breaks all = all_faults (λ earlier r. if breaks earlier r then Some fault else None) all
+
 -- the first record that breaks a rule, told its number
 abbrev pub first_breaking : {F : Type 0} → (ℕ → F) → (List Record → Record → Bool) → List Record → Option F
-first_breaking fault breaks all = first_fault (λ earlier r. if breaks earlier r then Some fault else None) all
+first_breaking fault breaks all = first_of (all_breaking fault breaks all)
 
 -- no record breaks a rule
 unfoldable pub keeps_rules : List Record → Bool

@@ -1,5 +1,5 @@
 -- The nets of all accounts, and the faults found in them.
-use Rattle.std.specs.Prelude.{ℕ, Bool, false, ◌&&◌, ◌==◌, nat_lt, List, [], filter, length, map, zip}
+use Rattle.std.specs.Prelude.{ℕ, Bool, false, not, ◌&&◌, ◌==◌, nat_lt, List, [], filter, length, map, zip}
 use Rattle.std.specs.Prelude.{Option, Some, None, Result, position, slice_index_or, bytes_eq, nat_abs}
 use Rattle.std.specs.List.{list_any}
 use Rattle.std.specs.Option.{option_or}
@@ -9,10 +9,12 @@ use Rattle.span_tables.specs.declared.limits.TheConstants.{MAX_NET, MAX_HELD}
 use Rattle.span_tables.specs.declared.portfolios.Holding.{Holding}
 use Rattle.span_tables.specs.declared.records.Contract.{Contract}
 use Rattle.span_tables.specs.declared.records.PositionRecord.{PositionRecord}
-use Rattle.param_check.specs.Binding.{first_unfit}
+use Rattle.param_check.specs.Binding.{all_unfit, first_unfit}
 use Rattle.param_check.specs.declared.binding.over_limits.Excess.{Excess}
 use Rattle.param_check.specs.declared.binding.over_limits.Limit.{Limit}
 use Rattle.param_check.specs.declared.binding.over_limits.Limit.TheVariants as limit
+use Rattle.param_check.specs.declared.binding.over_limits.Told.{Told}
+use Rattle.param_check.specs.near.Keys.{is_same_name}
 use Rattle.param_check.specs.declared.faults.BindFault.{BindFault}
 use Rattle.param_check.specs.declared.faults.BindFault.TheVariants as fault
 
@@ -41,11 +43,11 @@ abbrev pub exceeds_any : Limit → Excess → Bool
 exceeds_any limit.Net excess = list_any is_over excess.over
 exceeds_any limit.Held excess = excess.many
 
--- what is held exceeds a limit at a contract, which has a number where it is known
+-- what is held exceeds a limit at a contract, which has a number where it is known; at another there is nothing to exceed
 abbrev pub exceeds_in : Limit → Option ℕ → Excess → Bool
 exceeds_in limit.Net (Some c) excess = is_over_at c excess.over
-exceeds_in limit.Net None excess = false
-exceeds_in limit.Held c excess = excess.many
+exceeds_in limit.Held (Some c) excess = excess.many
+exceeds_in _ None excess = false
 
 -- what an account holds exceeds a limit at a contract, by the places of both
 abbrev pub exceeds_at : Limit → Option ℕ → Option ℕ → List Excess → Bool
@@ -61,6 +63,34 @@ exceeds limit ids accounts excesses p =
 abbrev pub fault_of : Limit → ℕ → List ℕ → BindFault
 fault_of limit.Net = fault.NetOutOfRange
 fault_of limit.Held = fault.TooManyHeld
+
+-- a record is told of a limit as another: a net of its account and contract, what is held of its account
+abbrev pub same_told : Limit → PositionRecord → PositionRecord → Bool
+same_told limit.Net x p = bytes_eq x.account p.account && bytes_eq x.contract p.contract
+same_told limit.Held x p = bytes_eq x.account p.account
+
+-- a record exceeds a limit, and none of the earlier ones that do is told as it is
+abbrev pub exceeds_anew : Limit → List (List ℕ) → List (List ℕ) → List Excess → List PositionRecord → PositionRecord → Bool
+exceeds_anew limit ids accounts excesses earlier p =
+    not (list_any (λ x. same_told limit x p && exceeds limit ids accounts excesses x) earlier)
+    && exceeds limit ids accounts excesses p
+
+-- the faults of the records that exceed a limit, by what each account has over it
+unfoldable pub limit_faults : Limit → List (List ℕ) → List (List ℕ) → List Excess → List PositionRecord → List BindFault
+limit_faults limit ids accounts excesses positions = all_unfit (fault_of limit) (exceeds_anew limit ids accounts excesses) positions
+
+-- what a record is told as
+abbrev pub told_as : Limit → List ℕ → List ℕ → Told
+told_as limit.Net account contract = record { account = account; contract = Some contract }
+told_as limit.Held account contract = record { account = account; contract = None }
+
+-- two are told alike
+abbrev pub is_same_told : Told → Told → Bool
+is_same_told x y = bytes_eq x.account y.account && is_same_name x.contract y.contract
+
+-- one like this is told
+abbrev pub is_told : List Told → Told → Bool
+is_told told t = list_any (is_same_told t) told
 
 -- the fault of the first record that exceeds a limit, by what each account has over it
 unfoldable pub limit_fault : Limit → List (List ℕ) → List (List ℕ) → List Excess → List PositionRecord → Option BindFault

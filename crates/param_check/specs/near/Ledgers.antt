@@ -1,18 +1,26 @@
 -- The entries of each account as the binding gathers them, by account in the order of first appearance.
-use Rattle.std.specs.Prelude.{◌≡◌, ℕ, ℤ, Bool, false, not, if◌then◌else◌, List, map, Option, Some, None, bytes_eq}
+use Rattle.std.specs.Prelude.{◌≡◌, ℕ, ℤ, Bool, false, not, if◌then◌else◌, List, filter, map, Option, Some, None, bytes_eq}
 use Rattle.std.specs.List.{list_any, position_or_len}
 use Rattle.span_tables.specs.Net.{accounts_of}
 use Rattle.span_tables.specs.declared.portfolios.Holding.{Holding}
 use Rattle.span_tables.specs.declared.records.PositionRecord.{PositionRecord}
-use Rattle.param_check.specs.Binding.{first_unfit}
+use Rattle.param_check.specs.Binding.{all_unfit, first_unfit}
 use Rattle.param_check.specs.declared.faults.BindFault.{BindFault}
 use Rattle.param_check.specs.declared.faults.BindFault.TheVariants as fault
 use Rattle.param_check.specs.declared.binding.nets.Entry.{Entry}
 use Rattle.param_check.specs.near.Nets.{entries_of}
 
+-- the record is of a contract that is among the ids
+abbrev pub is_listed : List (List ℕ) → PositionRecord → Bool
+is_listed ids p = list_any (bytes_eq p.contract) ids
+
 -- the record is of a contract that is not among the ids
 abbrev pub is_foreign : List (List ℕ) → PositionRecord → Bool
-is_foreign ids p = not (list_any (bytes_eq p.contract) ids)
+is_foreign ids p = not (is_listed ids p)
+
+-- the records of contracts that are among the ids
+abbrev pub listed_records : List (List ℕ) → List PositionRecord → List PositionRecord
+listed_records ids positions = filter (is_listed ids) positions
 
 -- the entry of a contract and a quantity, where the contract is among the ids
 unfoldable pub known_entry : List (List ℕ) → List ℕ → ℤ → Option Entry
@@ -26,6 +34,10 @@ held_entry h = record { contract = h.contract; quantity = h.net }
 
 abbrev pub held_entries : List Holding → List Entry
 held_entries holdings = map held_entry holdings
+
+-- the records whose contracts are not among the ids
+unfoldable pub foreign_faults : List (List ℕ) → List PositionRecord → List BindFault
+foreign_faults ids positions = all_unfit fault.UnknownContract (λ earlier p. is_foreign ids p) positions
 
 -- the first record whose contract is not among the ids
 unfoldable pub foreign_fault : List (List ℕ) → List PositionRecord → Option BindFault

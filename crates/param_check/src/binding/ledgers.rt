@@ -1,13 +1,17 @@
 //! The entries of each account, gathered from the records of a position file.
-ghost use Rattle.std.specs.Prelude.{◌≡◌, ◌≤◌, ◌++◌, ◌∷◌, [], ⊤, Some, bytes_eq};
+ghost use Rattle.std.specs.Prelude.{◌≡◌, ◌≤◌, ◌++◌, ◌∷◌, [], ⊤, Some, bytes_eq, map, true};
 ghost use Rattle.std.specs.Prelude.{nat_abs, replicate, All, IfOk, IfSome, OnOk, MatchBool, MatchResult};
 ghost use Rattle.span_tables.specs.declared.limits.TheConstants.{MAX_QUANTITY};
 ghost use Rattle.param_check.specs.Binding.{is_memory};
-ghost use Rattle.param_check.specs.near.Ledgers.{foreign_fault, held_entries, known_entry, AreLedgers};
+ghost use Rattle.param_check.specs.near.Ledgers.{foreign_fault, foreign_faults, held_entries, known_entry, listed_records, AreLedgers};
+ghost use Rattle.param_check.specs.near.Nets.{entries_of};
+ghost use Rattle.param_check.specs.near.Wanted.{is_first, wanted_of};
+ghost use Rattle.span_tables.specs.Net.{accounts_of};
 ghost use Rattle.span_tables.specs.Holdings.{ArePortfolio};
 
 use crate::binding::nets::Entry;
 use crate::faults::BindFault;
+use crate::wanted::{Wanted, first};
 use indexmap::IndexSet;
 use span_tables::name::Name;
 use span_tables::portfolios::Holding;
@@ -115,8 +119,50 @@ fn empty_ledgers(alloc: Global, count: usize) -> Result<Vec<Ledger>, AllocError>
     Ok(ledgers)
 }
 
-/// The ledgers of the accounts of positions, or the first record whose contract is not among these.
+/// The records of a position file, gathered.
+#[derive(Drop)]
+pub(crate) struct Gathered {
+    /// The entries of each account, of the records of contracts that are known.
+    pub(crate) ledgers: Vec<Ledger>,
+    /// The faults of the other records.
+    pub(crate) unknown: Vec<BindFault>,
+}
+
+/// The ledgers of the accounts of positions, and the faults of the records whose contracts are not among these, those that are wanted.
+/// Where the walk ends with the first of these, the ledgers are of the records before it.
 #[tactic(auto, unfolding(crate::specs::near::Ledgers::known_entry))]
+pub(crate) fn gather(
+    alloc: Global,
+    wanted: Wanted,
+    numbers: &IndexSet<Name>,
+    positions: &RawPositions,
+) -> Result<Gathered, AllocError>
+    ensures unknown { IfOk result (λ gathered. gathered.unknown.items
+        ≡ wanted_of wanted (foreign_faults numbers.now.keys positions.now)) }
+    ensures ledgers { IfOk result (λ gathered. (is_first wanted ≡ true → gathered.unknown.items ≡ []) → gathered.ledgers.items
+        ≡ map (entries_of numbers.now.keys (listed_records numbers.now.keys positions.now)) (accounts_of positions.now)) }
+{
+    let accounts = positions.accounts();
+    let mut ledgers = empty_ledgers(alloc, accounts.len())?;
+    let mut unknown = Vec::new(alloc);
+    for (number, position) in positions.records().iter().enumerate() {
+        let account = position.account as usize;
+        let Some(entry) = known_entry(numbers, position) else {
+            unknown.push(BindFault::UnknownContract {
+                at: number + 1,
+                account: accounts[account].copied(),
+            })?;
+            if wanted.is_first() {
+                return Ok(Gathered { ledgers, unknown });
+            }
+            continue;
+        };
+        ledgers[account].push(entry)?;
+    }
+    Ok(Gathered { ledgers, unknown })
+}
+
+/// The ledgers of the accounts of positions, or the first record whose contract is not among these.
 pub(crate) fn ledgers_of(
     alloc: Global,
     numbers: &IndexSet<Name>,
@@ -126,17 +172,9 @@ pub(crate) fn ledgers_of(
         (λ ledgers. AreLedgers numbers.now.keys positions.now ledgers.items)
         (λ e. MatchBool (is_memory e) ⊤ (foreign_fault numbers.now.keys positions.now ≡ Some e)) }
 {
-    let accounts = positions.accounts();
-    let mut ledgers = empty_ledgers(alloc, accounts.len())?;
-    for (number, position) in positions.records().iter().enumerate() {
-        let account = position.account as usize;
-        let Some(entry) = known_entry(numbers, position) else {
-            return Err(BindFault::UnknownContract {
-                at: number + 1,
-                account: accounts[account].copied(),
-            });
-        };
-        ledgers[account].push(entry)?;
+    let gathered = gather(alloc, Wanted::First, numbers, positions)?;
+    match first(gathered.unknown) {
+        Some(fault) => Err(fault),
+        None => Ok(gathered.ledgers),
     }
-    Ok(ledgers)
 }

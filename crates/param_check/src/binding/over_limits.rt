@@ -1,13 +1,15 @@
 //! The records whose nets or whose accounts exceed a limit.
-ghost use Rattle.std.specs.Prelude.{◌≡◌, Some, bytes_eq, map, position, IfOk};
+ghost use Rattle.std.specs.Prelude.{◌≡◌, ◌&&◌, ◌||◌, not, Some, bytes_eq, map, position, IfOk, OnOk};
 ghost use Rattle.std.specs.List.Sorted.{IsStrictlyIncreasing};
 ghost use Rattle.std.specs.List.{list_any};
 ghost use Rattle.param_check.specs.near.Holdings.{are_many, exceeds_any, exceeds_at, exceeds_in, excess_of, fault_of};
-ghost use Rattle.param_check.specs.near.Holdings.{is_over, is_over_at, limit_fault};
+ghost use Rattle.param_check.specs.near.Holdings.{is_over, is_over_at, is_same_told, is_told, limit_fault, limit_faults, told_as};
+ghost use Rattle.param_check.specs.near.Wanted.{wanted_of};
 ghost use Rattle.span_tables.specs.Net.{accounts_of};
 
 use crate::binding::nets::{AccountNets, is_over};
 use crate::faults::BindFault;
+use crate::wanted::{Wanted, first};
 use indexmap::IndexSet;
 use span_tables::limits::MAX_HELD;
 use span_tables::name::Name;
@@ -102,8 +104,8 @@ fn exceeds_in(limit: Limit, excess: &Excess, contract: Option<usize>) -> bool
 {
     match (limit, contract) {
         (Limit::Net, Some(contract)) => is_over_at(excess.over.as_slice(), contract),
-        (Limit::Net, None) => false,
-        (Limit::Held, _) => excess.many,
+        (Limit::Held, Some(_)) => excess.many,
+        (_, None) => false,
     }
 }
 
@@ -134,24 +136,101 @@ fn fault_of(limit: Limit, at: usize, account: Name) -> BindFault
     }
 }
 
-/// The fault of the first record that exceeds a limit, by what each account has over it.
-pub(crate) fn limit_fault(
+/// What a record is told as: its account, and of a net the contract.
+#[derive(Debug, Drop, PartialEq, Eq, Hash)]
+pub(crate) struct Told {
+    account: Name,
+    contract: Option<Name>,
+}
+
+// What a record of an account and a contract is told as.
+fn told_as(limit: Limit, account: &Name, contract: &Name) -> Told
+    ensures { result ≡ told_as limit account.now contract.now }
+{
+    Told {
+        account: account.copied(),
+        contract: match limit {
+            Limit::Net => Some(contract.copied()),
+            Limit::Held => None,
+        },
+    }
+}
+
+// Takes what a record is told as among those so far, and says whether it was not among them.
+fn is_new(told: &mut IndexSet<Told>, next: Told) -> Result<bool, AllocError>
+    ensures fresh { IfOk result (λ fresh. fresh ≡ not (is_told told.old.keys next)) }
+    ensures members { OnOk result ((t : Told)
+        → is_told told.new.keys t ≡ (is_told told.old.keys t || is_same_told next t)) }
+{
+    let is_new = told.insert(next)?;
+    Ok(is_new)
+}
+
+// Whether a record of an account exceeds a limit where none that is told as it is did; it is told from then on.
+fn exceeds_anew(
+    limit: Limit,
+    numbers: &IndexSet<Name>,
+    excesses: &[Excess],
+    told: &mut IndexSet<Told>,
+    account: &Name,
+    numbered: &NumberedPosition,
+) -> Result<bool, AllocError>
+    ensures anew { IfOk result (λ anew. anew
+        ≡ (not (is_told told.old.keys (told_as limit account.now numbered.now.contract))
+        && exceeds_at limit (Some numbered.now.account) (position (bytes_eq numbered.now.contract) numbers.now.keys) excesses.now)) }
+    ensures members { OnOk result ((t : Told) → is_told told.new.keys t
+        ≡ (is_told told.old.keys t || (is_same_told (told_as limit account.now numbered.now.contract) t
+        && exceeds_at limit (Some numbered.now.account) (position (bytes_eq numbered.now.contract) numbers.now.keys) excesses.now))) }
+{
+    if !exceeds_at(limit, numbers, excesses, numbered) {
+        return Ok(false);
+    }
+    is_new(told, told_as(limit, account, &numbered.contract))
+}
+
+/// The faults of the records that exceed a limit, by what each account has over it, those that are wanted: of an account and contract, or
+/// of an account, that of the first record that does.
+pub(crate) fn limit_faults(
+    alloc: Global,
+    wanted: Wanted,
     limit: Limit,
     numbers: &IndexSet<Name>,
     excesses: &[Excess],
     positions: &RawPositions,
-) -> Option<BindFault>
-    ensures { result ≡ limit_fault limit numbers.now.keys (accounts_of positions.now) excesses.now positions.now }
+) -> Result<Vec<BindFault>, AllocError>
+    ensures { IfOk result (λ faults. faults.items
+        ≡ wanted_of wanted (limit_faults limit numbers.now.keys (accounts_of positions.now) excesses.now positions.now)) }
 {
+    let mut faults = Vec::new(alloc);
     if !some_exceeds(limit, excesses) {
-        return None;
+        return Ok(faults);
     }
     let accounts = positions.accounts();
+    let mut told = IndexSet::new(alloc);
     for (number, position) in positions.records().iter().enumerate() {
-        if exceeds_at(limit, numbers, excesses, position) {
-            let account = accounts[position.account as usize].copied();
-            return Some(fault_of(limit, number + 1, account));
+        let account = &accounts[position.account as usize];
+        if !exceeds_anew(limit, numbers, excesses, &mut told, account, position)? {
+            continue;
+        }
+        faults.push(fault_of(limit, number + 1, account.copied()))?;
+        if wanted.is_first() {
+            return Ok(faults);
         }
     }
-    None
+    Ok(faults)
+}
+
+/// The fault of the first record that exceeds a limit, by what each account has over it.
+pub(crate) fn limit_fault(
+    alloc: Global,
+    limit: Limit,
+    numbers: &IndexSet<Name>,
+    excesses: &[Excess],
+    positions: &RawPositions,
+) -> Result<Option<BindFault>, AllocError>
+    ensures { IfOk result (λ fault. fault
+        ≡ limit_fault limit numbers.now.keys (accounts_of positions.now) excesses.now positions.now) }
+{
+    let faults = limit_faults(alloc, Wanted::First, limit, numbers, excesses, positions)?;
+    Ok(first(faults))
 }

@@ -1,8 +1,10 @@
 //! What no two records of a kind may share, as keys of a set.
 ghost use Rattle.std.specs.Prelude.{◌≡◌, ◌++◌, ◌||◌, false, option_to_list, IfOk, OnOk};
-ghost use Rattle.span_tables.specs.Rules.{first_breaking};
+ghost use Rattle.span_tables.specs.Rules.{all_breaking};
 ghost use Rattle.param_check.specs.near.Keys.{has_key, is_key_among, is_same, key_of, repeats};
+ghost use Rattle.param_check.specs.near.Wanted.{wanted_of};
 
+use crate::wanted::{Wanted, take_number};
 use indexmap::IndexSet;
 use span_tables::name::Name;
 use span_tables::records::Record;
@@ -63,7 +65,6 @@ pub(crate) fn name_key(name: &Name, number: u32) -> Key
 // Takes the key of a record among those so far, and says whether it was among them.
 fn repeats_or_joins(keys: &mut IndexSet<Key>, key: Option<Key>) -> Result<bool, AllocError>
     ensures repeats { IfOk result (λ repeats. repeats ≡ is_key_among keys.old.keys key) }
-    ensures taken { IfOk result (λ repeats. repeats ≡ false → keys.new.keys ≡ keys.old.keys ++ option_to_list key) }
     ensures members { OnOk result ((k : Key)
         → is_key_among keys.new.keys (Some k) ≡ (is_key_among keys.old.keys (Some k) || is_same key k)) }
 {
@@ -74,21 +75,24 @@ fn repeats_or_joins(keys: &mut IndexSet<Key>, key: Option<Key>) -> Result<bool, 
     Ok(!is_new)
 }
 
-/// The number of the first record with the key of an earlier one, which breaks C1, C3, C4, C10 or C11.
-pub(crate) fn first_repeat(
+/// The numbers of the records with the key of an earlier one, which break C1, C3, C4, C10 or C11, those that are wanted.
+pub(crate) fn repeats(
     alloc: Global,
+    wanted: Wanted,
     identity: Identity,
     records: &[Record],
-) -> Result<Option<usize>, AllocError>
-    ensures { IfOk result (λ at. at ≡ first_breaking (λ at. at) (repeats identity) records.now) }
+) -> Result<Vec<usize>, AllocError>
+    ensures { IfOk result (λ numbers. numbers.items ≡ wanted_of wanted (all_breaking (λ at. at) (repeats identity) records.now)) }
 {
     let mut keys = IndexSet::new(alloc);
+    let mut numbers = Vec::new(alloc);
     for (index, item) in records.iter().enumerate() {
-        if repeats_or_joins(&mut keys, key_of(identity, item))? {
-            return Ok(Some(index + 1));
+        let is_repeat = repeats_or_joins(&mut keys, key_of(identity, item))?;
+        if take_number(wanted, &mut numbers, index + 1, is_repeat)? {
+            return Ok(numbers);
         }
     }
-    Ok(None)
+    Ok(numbers)
 }
 
 /// The keys of all records that have one.

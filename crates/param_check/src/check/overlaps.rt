@@ -1,12 +1,14 @@
-//! The first tier that shares a month with an earlier one of its commodity.
-ghost use Rattle.std.specs.Prelude.{◌≡◌, ℕ, ◌++◌, ◌∷◌, [], List, false};
-ghost use Rattle.std.specs.Prelude.{bytes_eq, if◌then◌else◌, option_to_list, IfOk};
+//! The tiers that share a month with an earlier one of their commodity.
+ghost use Rattle.std.specs.Prelude.{◌≡◌, ℕ, ◌++◌, ◌∷◌, [], List};
+ghost use Rattle.std.specs.Prelude.{bytes_eq, if◌then◌else◌, option_to_list, IfOk, OnOk};
 ghost use Rattle.std.specs.List.{list_any};
 ghost use Rattle.std.specs.Option.{option_map_or};
 ghost use Rattle.indexmap.specs.IndexMap.{get};
-ghost use Rattle.span_tables.specs.Rules.{first_breaking, overlaps_tier};
+ghost use Rattle.span_tables.specs.Rules.{all_breaking, overlaps_tier};
 ghost use Rattle.param_check.specs.near.Overlaps.{meet, meets_earlier, months_under};
+ghost use Rattle.param_check.specs.near.Wanted.{wanted_of};
 
+use crate::wanted::{Wanted, take_number};
 use indexmap::IndexMap;
 use span_tables::name::Name;
 use span_tables::records::Record;
@@ -42,17 +44,15 @@ fn meets_or_joins(
 ) -> Result<bool, AllocError>
     ensures meets { IfOk result (λ met. met
         ≡ list_any (meet months) (option_map_or (λ v. v.items) (get bytes_eq tiers.old commodity.now) [])) }
-    ensures joins { IfOk result (λ met. met ≡ false → (c : List ℕ)
+    ensures joins { OnOk result ((c : List ℕ)
         → option_map_or (λ v. v.items) (get bytes_eq tiers.new c) []
         ≡ option_map_or (λ v. v.items) (get bytes_eq tiers.old c) []
         ++ (if bytes_eq commodity.now c then months ∷ [] else [])) }
 {
     if let Some(earlier) = tiers.get_mut(commodity) {
-        if meets(months, earlier) {
-            return Ok(true);
-        }
+        let met = meets(months, earlier);
         earlier.push(months)?;
-        return Ok(false);
+        return Ok(met);
     }
     let mut group = Vec::new(alloc);
     group.push(months)?;
@@ -68,7 +68,7 @@ fn overlaps_or_joins(
 ) -> Result<bool, AllocError>
     ensures meets { IfOk result (λ met. met
         ≡ meets_earlier (λ c. option_map_or (λ v. v.items) (get bytes_eq tiers.old c) []) item.now) }
-    ensures joins { IfOk result (λ met. met ≡ false → (c : List ℕ)
+    ensures joins { OnOk result ((c : List ℕ)
         → option_map_or (λ v. v.items) (get bytes_eq tiers.new c) []
         ≡ option_map_or (λ v. v.items) (get bytes_eq tiers.old c) [] ++ option_to_list (months_under c item.now)) }
 {
@@ -82,15 +82,21 @@ fn overlaps_or_joins(
     meets_or_joins(alloc, tiers, &tier.commodity, months)
 }
 
-/// The number of the first record that breaks C6.
-pub(crate) fn first_overlap(alloc: Global, records: &[Record]) -> Result<Option<usize>, AllocError>
-    ensures { IfOk result (λ at. at ≡ first_breaking (λ at. at) overlaps_tier records.now) }
+/// The numbers of the records that break C6, those that are wanted.
+pub(crate) fn overlaps(
+    alloc: Global,
+    wanted: Wanted,
+    records: &[Record],
+) -> Result<Vec<usize>, AllocError>
+    ensures { IfOk result (λ numbers. numbers.items ≡ wanted_of wanted (all_breaking (λ at. at) overlaps_tier records.now)) }
 {
     let mut tiers = IndexMap::new(alloc);
+    let mut numbers = Vec::new(alloc);
     for (index, item) in records.iter().enumerate() {
-        if overlaps_or_joins(alloc, &mut tiers, item)? {
-            return Ok(Some(index + 1));
+        let met = overlaps_or_joins(alloc, &mut tiers, item)?;
+        if take_number(wanted, &mut numbers, index + 1, met)? {
+            return Ok(numbers);
         }
     }
-    Ok(None)
+    Ok(numbers)
 }

@@ -1,13 +1,15 @@
-//! The rules that a record breaks by itself or by what it names: C2, C5, C7, C8 and C9, and the first record that breaks one.
+//! The rules that a record breaks by itself or by what it names: C2, C5, C7, C8 and C9, and the records that break one.
 ghost use Rattle.std.specs.Prelude.{◌≡◌, ◌&&◌, ◌==◌, bytes_eq, map, IfOk};
 ghost use Rattle.std.specs.List.{list_all, list_any};
 ghost use Rattle.span_tables.specs.Names.{has_repeat};
-ghost use Rattle.span_tables.specs.Rules.{are_one_sided, first_breaking, is_backwards, is_one_sided, is_side_a};
+ghost use Rattle.span_tables.specs.Rules.{all_breaking, are_one_sided, is_backwards, is_one_sided, is_side_a};
 ghost use Rattle.span_tables.specs.Rules.{names_no_commodity, names_no_tier, repeats_leg, same_side};
 ghost use Rattle.param_check.specs.near.Keys.{is_key_unknown, names_unknown, names_unknown_tier};
 ghost use Rattle.param_check.specs.near.RecordRules.{breaks};
+ghost use Rattle.param_check.specs.near.Wanted.{wanted_of};
 
 use crate::check::keys::{Identity, Key, all_keys, name_key};
+use crate::wanted::{Wanted, take_number};
 use indexmap::IndexSet;
 use span_tables::name::Name;
 use span_tables::records::{InterLeg, IntraLeg, Record, Side};
@@ -41,16 +43,24 @@ fn breaks(rule: &RecordRule, item: &Record) -> bool
     }
 }
 
-/// The number of the first record that breaks a rule.
-pub(crate) fn first_that_breaks(rule: &RecordRule, records: &[Record]) -> Option<usize>
-    ensures { result ≡ first_breaking (λ at. at) (λ earlier r. breaks rule.now r) records.now }
+/// The numbers of the records that break a rule, those that are wanted.
+pub(crate) fn that_break(
+    alloc: Global,
+    wanted: Wanted,
+    rule: &RecordRule,
+    records: &[Record],
+) -> Result<Vec<usize>, AllocError>
+    ensures { IfOk result (λ numbers. numbers.items
+        ≡ wanted_of wanted (all_breaking (λ at. at) (λ earlier r. breaks rule.now r) records.now)) }
 {
+    let mut numbers = Vec::new(alloc);
     for (index, item) in records.iter().enumerate() {
-        if breaks(rule, item) {
-            return Some(index + 1);
+        let is_broken = breaks(rule, item);
+        if take_number(wanted, &mut numbers, index + 1, is_broken)? {
+            return Ok(numbers);
         }
     }
-    None
+    Ok(numbers)
 }
 
 // ---- C2
@@ -84,16 +94,22 @@ fn names_unknown(commodities: &IndexSet<Key>, item: &Record) -> bool
     }
 }
 
-/// The number of the first record that breaks C2.
-pub(crate) fn first_unknown_commodity(
+/// The numbers of the records that break C2, those that are wanted.
+pub(crate) fn unknown_commodities(
     alloc: Global,
+    wanted: Wanted,
     records: &[Record],
-) -> Result<Option<usize>, AllocError>
-    ensures { IfOk result (λ at. at
-        ≡ first_breaking (λ at. at) (λ earlier r. names_no_commodity records.now r) records.now) }
+) -> Result<Vec<usize>, AllocError>
+    ensures { IfOk result (λ numbers. numbers.items
+        ≡ wanted_of wanted (all_breaking (λ at. at) (λ earlier r. names_no_commodity records.now r) records.now)) }
 {
     let commodities = all_keys(alloc, Identity::Commodity, records)?;
-    Ok(first_that_breaks(&RecordRule::KnownCommodities(commodities), records))
+    that_break(
+        alloc,
+        wanted,
+        &RecordRule::KnownCommodities(commodities),
+        records,
+    )
 }
 
 // ---- C5
@@ -128,16 +144,17 @@ fn names_unknown_tier(tiers: &IndexSet<Key>, item: &Record) -> bool
     }
 }
 
-/// The number of the first record that breaks C7.
-pub(crate) fn first_unknown_tier(
+/// The numbers of the records that break C7, those that are wanted.
+pub(crate) fn unknown_tiers(
     alloc: Global,
+    wanted: Wanted,
     records: &[Record],
-) -> Result<Option<usize>, AllocError>
-    ensures { IfOk result (λ at. at
-        ≡ first_breaking (λ at. at) (λ earlier r. names_no_tier records.now r) records.now) }
+) -> Result<Vec<usize>, AllocError>
+    ensures { IfOk result (λ numbers. numbers.items
+        ≡ wanted_of wanted (all_breaking (λ at. at) (λ earlier r. names_no_tier records.now r) records.now)) }
 {
     let tiers = all_keys(alloc, Identity::Tier, records)?;
-    Ok(first_that_breaks(&RecordRule::KnownTiers(tiers), records))
+    that_break(alloc, wanted, &RecordRule::KnownTiers(tiers), records)
 }
 
 // ---- C8

@@ -3,13 +3,13 @@ use Rattle.std.specs.Prelude.{◌≡◌, ⊤, ℕ, ◌+◌, Bool, not, ◌&&◌,
 use Rattle.std.specs.Prelude.{length, map, count_by, Some, None, option_map, is_none, unwrap_or}
 use Rattle.std.specs.Prelude.{codes, bytes_eq, Result, Ok, Err, MatchBool}
 use Rattle.std.specs.HashMap.{HashMap, get}
-use Rattle.span_tables.specs.Faults.{first_that_holds, ok_unless}
+use Rattle.span_tables.specs.Faults.{first_of, first_that_holds, ok_unless}
 use Rattle.span_tables.specs.declared.records.Record.{Record}
 use Rattle.span_tables.specs.declared.limits.TheConstants.{MAX_COMMODITIES, MAX_CONTRACTS, MAX_TIERS}
 use Rattle.span_tables.specs.declared.limits.TheConstants.{MAX_INTRA_SPREADS, MAX_SPOT_MONTHS, MAX_INTER_SPREADS}
 use Rattle.span_csv.specs.Records.{Fields}
-use Rattle.span_csv.specs.Records.{kind_of, layout_of, text_at, count_at, has_word_form, has_number_form, is_in_range, param_record}
-use Rattle.span_csv.specs.ParamFaults.{is_set, profile_of, some_fail, param_faults, param_fault, is_memory}
+use Rattle.span_csv.specs.Records.{kind_of, layout_of, text_at, has_word_form, has_number_form, is_in_range, param_record}
+use Rattle.span_csv.specs.ParamFaults.{counted, faults_in, is_set, profile_of, some_fail, record_faults, is_memory}
 use Rattle.span_csv.specs.declared.faults.ParamFault.{ParamFault}
 use Rattle.span_csv.specs.declared.faults.ParamFault.TheVariants as fault
 use Rattle.span_csv.specs.declared.tally.Tally.{Tally}
@@ -74,9 +74,13 @@ count_for t kind.Intra cc = count_in t.intras cc
 count_for t kind.Spot cc = count_in t.spots cc
 count_for t kind.Inter cc = t.inters
 
--- a record of a kind is counted, or its profile kept
+-- the first record of a file gives its profile
+abbrev pub KeepsProfile : Bool → Fields → Tally → Tally → Type 0
+KeepsProfile first r old new = new ≡ record old { profile = if first then profile_of (r ∷ []) else old.profile }
+
+-- a record of a kind with a limit is counted
 abbrev pub AddsRecord : Kind → Fields → Tally → Tally → Type 0
-AddsRecord kind.Set r old new = new ≡ record old { profile = count_at r 2 }
+AddsRecord kind.Set r old new = new ≡ old
 AddsRecord kind.Commodity r old new = new ≡ record old { commodities = old.commodities + 1 }
 AddsRecord kind.Contract r old new = new ≡ record old { contracts = old.contracts + 1 }
 AddsRecord kind.Tier r old new = CountsOne old.tiers (text_at r 1) new.tiers × (new ≡ record old { tiers = new.tiers })
@@ -84,15 +88,19 @@ AddsRecord kind.Intra r old new = CountsOne old.intras (text_at r 1) new.intras 
 AddsRecord kind.Spot r old new = CountsOne old.spots (text_at r 1) new.spots × (new ≡ record old { spots = new.spots })
 AddsRecord kind.Inter r old new = new ≡ record old { inters = old.inters + 1 }
 
--- these records were counted, and the profile of their file kept
-pub record Tallies (t : Tally) (rs : List Fields) : Type 0 where
-  pub profile : t.profile ≡ profile_of rs
+-- these records were counted
+pub record Counts (t : Tally) (rs : List Fields) : Type 0 where
   pub commodities : t.commodities ≡ count_word (codes "COMMODITY") rs
   pub contracts : t.contracts ≡ count_word (codes "CONTRACT") rs
   pub tiers : (cc : List ℕ) → count_in t.tiers cc ≡ count_words (codes "TIER") cc rs
   pub intras : (cc : List ℕ) → count_in t.intras cc ≡ count_words (codes "INTRA") cc rs
   pub spots : (cc : List ℕ) → count_in t.spots cc ≡ count_words (codes "SPOT") cc rs
   pub inters : t.inters ≡ count_word (codes "INTER") rs
+
+-- of these records those were counted that count, and the profile of their file was kept
+pub record Tallies (t : Tally) (rs : List Fields) : Type 0 where
+  pub profile : t.profile ≡ profile_of rs
+  pub counts : Counts t (counted rs)
 
 -- ---- one record behind others
 
@@ -103,11 +111,12 @@ HasTallied t n = (earlier : List Fields) × (length earlier ≡ n) × Tallies t 
 -- what is answered for a record behind earlier ones
 abbrev pub NextIs : List Fields → Fields → Result Record ParamFault → Tally → Type 0
 NextIs earlier r (Ok x) t =
-    (first_that_holds (param_faults earlier r) ≡ None) × (x ≡ param_record r) × Tallies t (earlier ++ r ∷ [])
-NextIs earlier r (Err e) t = MatchBool (is_memory e) ⊤ (IsFaultOf (param_faults earlier r) (length earlier + 1) e)
+    (first_that_holds (record_faults earlier r) ≡ None) × (x ≡ param_record r) × Tallies t (earlier ++ r ∷ [])
+NextIs earlier r (Err e) t =
+    MatchBool (is_memory e) ⊤ (IsFaultOf (record_faults earlier r) (length earlier + 1) e × Tallies t (earlier ++ r ∷ []))
 
 -- ---- all records
 
 -- what a parameter file with these records says, or its fault
 abbrev pub params_in : List Fields → Result (List Record) ParamFault
-params_in rows = ok_unless (param_fault rows) (map param_record rows)
+params_in rows = ok_unless (first_of (faults_in rows)) (map param_record rows)

@@ -3,12 +3,12 @@ use Rattle.std.specs.Prelude.{⊤}
 use Rattle.csv.specs.Machine.{next_record}
 use Rattle.csv.specs.Reading.{records_from, strip_bom}
 use Rattle.span_csv.specs.Records.{records_of, order_record, param_record, position_record}
-use Rattle.span_csv.specs.ParamFaults.{param_fault, params_of}
+use Rattle.span_csv.specs.ParamFaults.{faults_in, param_faults, params_of}
 use Rattle.span_csv.specs.OrderFaults.{order_fault, orders_of}
-use Rattle.span_csv.specs.PositionFaults.{position_fault, positions_of}
+use Rattle.span_csv.specs.PositionFaults.{position_faults, positions_of}
 
 -- all words that computing the records of a literal file unfolds
 unfoldable pub reading_on_literals : ⊤
 unfolding next_record records_from strip_bom records_of order_record param_record position_record
-    order_fault orders_of param_fault params_of position_fault positions_of
+    order_fault orders_of faults_in param_faults params_of position_faults positions_of
 reading_on_literals = tt

@@ -1,7 +1,7 @@
 -- Orders read one after another: each record as a position under its order's name, and the account that it gives the order.
-use Rattle.std.specs.Prelude.{ℕ, ◌+◌, Bool, not, ◌&&◌, ◌==◌, if◌then◌else◌, List, []}
-use Rattle.std.specs.Prelude.{◌∷◌, ◌++◌, length, map, slice_index_or, bytes_eq, Result, Ok, Err}
-use Rattle.std.specs.List.{list_any}
+use Rattle.std.specs.Prelude.{ℕ, ◌+◌, Bool, false, not, ◌&&◌, ◌==◌, if◌then◌else◌, List, []}
+use Rattle.std.specs.Prelude.{◌∷◌, ◌++◌, length, map, find, slice_index_or, bytes_eq, Result, Ok, Err}
+use Rattle.std.specs.Option.{option_map_or}
 use Rattle.span_tables.specs.near.Orders.{under_order}
 use Rattle.span_tables.specs.declared.limits.TheConstants.{MAX_ORDERS}
 use Rattle.span_tables.specs.declared.records.NumberedPosition.{NumberedPosition}
@@ -24,9 +24,10 @@ as_order_fault (position.OutOfRange at) = fault.OutOfRange at
 as_order_fault (position.TooManyAccounts at) = fault.TooManyOrders at
 as_order_fault position.OutOfMemory = fault.OutOfMemory
 
--- an earlier record of the order has another account
+-- the first earlier record of the order has another account
 abbrev pub has_another_account : List OrderRecord → List ℕ → List ℕ → Bool
-has_another_account earlier order account = list_any (λ r. bytes_eq r.order order && not (bytes_eq r.account account)) earlier
+has_another_account earlier order account =
+    option_map_or (λ first. not (bytes_eq first.account account)) (find (λ r. bytes_eq r.order order) earlier) false
 
 -- the order's record that a position under its name is
 abbrev pub with_account : List ℕ → PositionRecord → OrderRecord

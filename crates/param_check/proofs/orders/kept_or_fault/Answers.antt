@@ -21,10 +21,10 @@ returns-in-Some-clause-answer c =
     (c.deref-2.ensures.value ∙ excesses) in
     subst (λ (e : OrderBindFault). MatchBool (is_memory e) ⊤ (kept_or_fault n portfolios ids records orders ≡ Err e))
     (sym c.order_fault.ensures)
-    (settled_net portfolios records n ids orders c.in-Some.fault (c.in-Some.ensures ∙ seen))
+    (settled_net portfolios records n ids orders c.in-Some.fault (sym c.in-Some.is ∙ c.in_ok-fault.ensures ∙ seen))
 
-pub returns-in-Some-limit_fault-clause-answer : goal.returns-in-Some-limit_fault-clause-answer
-returns-in-Some-limit_fault-clause-answer c =
+pub returns-in-Some-2-clause-answer : goal.returns-in-Some-2-clause-answer
+returns-in-Some-2-clause-answer c =
     let n = c.args.contracts in
     let ids = c.args.numbers.now.keys in
     let portfolios = c.args.portfolios in
@@ -37,9 +37,9 @@ returns-in-Some-limit_fault-clause-answer c =
     let seen = fault_seen portfolios records limit.Held n ids _ _ _ orders c.by_order-2.ensures c.as_slice.ensures
     (c.deref-3.ensures.value ∙ excesses) in
     subst (λ (e : OrderBindFault). MatchBool (is_memory e) ⊤ (kept_or_fault n portfolios ids records orders ≡ Err e))
-    (sym c.order_fault-in-Some-limit_fault.ensures)
-    (settled_held portfolios records n ids orders c.in-Some-limit_fault.fault (c.in_default.ensures ∙ none)
-    (c.in-Some-limit_fault.ensures ∙ seen))
+    (sym c.order_fault-in-Some-2.ensures)
+    (settled_held portfolios records n ids orders c.in-Some-2.fault (sym c.in_default.is ∙ c.in_ok-fault.ensures ∙ none)
+    (sym c.in-Some-2.is ∙ c.in_ok-fault-2.ensures ∙ seen))
 
 pub invariant_of-result : goal.invariant_of-result
 invariant_of-result c =
@@ -55,7 +55,7 @@ invariant_of-result c =
     let few = fault_seen portfolios records limit.Held n ids _ _ _ orders c.by_order-2.ensures c.as_slice.ensures
     (c.deref-3.ensures.value ∙ excesses) in
     c.requires.fit (before_found portfolios records _ _ orders c.as_slice.ensures c.deref.ensures.value c.in_ok-excesses.ensures.before)
-    (sym (c.in_default.ensures ∙ none)) (sym (c.in_default-limit_fault.ensures ∙ few))
+    (sym (sym c.in_default.is ∙ c.in_ok-fault.ensures ∙ none)) (sym (sym c.in_default-2.is ∙ c.in_ok-fault-2.ensures ∙ few))
 
 pub returns-clause-answer : goal.returns-clause-answer
 returns-clause-answer c =
@@ -70,7 +70,8 @@ returns-clause-answer c =
     (c.deref-2.ensures.value ∙ excesses) in
     let few = fault_seen portfolios records limit.Held n ids _ _ _ orders c.by_order-2.ensures c.as_slice.ensures
     (c.deref-3.ensures.value ∙ excesses) in
-    settled_all portfolios records n ids orders (c.in_default.ensures ∙ none) (c.in_default-limit_fault.ensures ∙ few)
+    settled_all portfolios records n ids orders (sym c.in_default.is ∙ c.in_ok-fault.ensures ∙ none) (sym c.in_default-2.is
+    ∙ c.in_ok-fault-2.ensures ∙ few)
 
 pub returns-clause-before : goal.returns-clause-before
 returns-clause-before c =

@@ -1,43 +1,57 @@
 use Rattle.std.proofs.Common.{◌≡◌, ◌∙◌, rules, arith, Err}
 use Rattle.csv.specs.Records.{fields_of}
 use Rattle.span_csv.specs.Records.{text_at}
-use Rattle.span_csv.proofs.StepLemmas.{next_fault, next_too_many, next_free, record_of, set_first}
-use Rattle.span_csv.proofs.TallyLemmas.{count_full, count_within, count_small, tally_more}
+use Rattle.span_csv.proofs.StepLemmas.{next_fault, next_formed, next_free, next_too_many, next_unformed, record_of}
+use Rattle.span_csv.proofs.TallyLemmas.{count_full, count_small, count_within, kept_counts, tally_more, tally_same}
 use Rattle.span_csv.proofs.params.next_record.Goals as goal
 
 pub returns-in_err-kind : goal.returns-in_err-kind
 returns-in_err-kind c = λ rs len tallies.
-    let e : c.from_residual.result ≡ Err c.in_err-kind.field-0.0 = search rules in
-    rw e (next_fault rs (fields_of c.args.row.now) c.args.earlier c.profile.result c.in_err-kind.field-0.0 len
-    (c.profile.ensures ∙ tallies.profile) c.in_err-kind.ensures.kind)
+    let r = fields_of c.args.row.now in
+    let under = c.profile-profile.ensures ∙ tallies.profile in
+    let answer = c.in_err-kind.field-0.0 in
+    let e : c.from_residual.result ≡ Err answer = search rules in
+    let unformed = next_unformed rs r c.args.earlier c.profile-profile.result answer len under c.in_err-kind.ensures.kind in
+    rw e (next_fault rs r c.args.earlier c.profile-profile.result answer _ len under c.in_err-kind.ensures.kind
+    (tally_same c.args.tally.now c.keep_profile.new.self rs r c.args.earlier len c.keep_profile.ensures tallies unformed))
 
 pub returns-then-count-limit : goal.returns-then-count-limit
 returns-then-count-limit c = λ rs len tallies.
-    next_too_many rs (fields_of c.args.row.now) c.args.earlier c.profile.result len (c.profile.ensures ∙ tallies.profile)
-    c.in_ok-kind.ensures.free
-    (count_full c.args.tally.now c.in_ok-kind.kind rs
-    (fields_of c.args.row.now) c.count.result c.limit.result c.in_ok-kind.ensures.kind.0 tallies c.count.ensures c.limit.ensures
-    c.if-count-limit.true)
+    let r = fields_of c.args.row.now in
+    let under = c.profile-profile.ensures ∙ tallies.profile in
+    let is = c.in_ok-kind.ensures.kind.0 in
+    let kept = kept_counts c.args.tally.now c.keep_profile.new.self rs r c.args.earlier len c.keep_profile.ensures tallies in
+    let formed = next_formed rs r c.args.earlier c.profile-profile.result len under c.in_ok-kind.ensures.free in (
+      next_too_many rs r c.args.earlier c.profile-profile.result len under c.in_ok-kind.ensures.free
+          (count_full c.keep_profile.new.self c.in_ok-kind.kind _ r c.count-count.result c.limit.result is kept
+          c.count-count.ensures c.limit.ensures c.if-count-limit.true),
+      tally_more c.args.tally.now c.keep_profile.new.self rs r c.args.earlier len c.keep_profile.ensures tallies c.add.new.self
+          c.in_ok-kind.kind is formed c.in_ok-add.ensures,
+    )
 
 pub add-requires-clause-room : goal.add-requires-clause-room
 add-requires-clause-room c =
-    let counted = c.requires.tallied in
+    let r = fields_of c.args.row.now in
+    let rs = c.requires.tallied.0 in
+    let kept = kept_counts c.args.tally.now c.keep_profile.new.self rs r c.args.earlier c.requires.tallied.1 c.keep_profile.ensures
+    c.requires.tallied.2 in
     omega (
       arith,
-      counted.1,
-      count_small c.args.tally.now c.in_ok-kind.kind counted.0
-          (text_at (fields_of c.args.row.now) 1) counted.2,
+      c.requires.tallied.1,
+      count_small c.keep_profile.new.self c.in_ok-kind.kind rs (text_at r 1) kept,
     )
 
 pub returns : goal.returns
 returns c = λ rs len tallies.
+    let r = fields_of c.args.row.now in
+    let under = c.profile-profile.ensures ∙ tallies.profile in
     let is = c.in_ok-kind.ensures.kind.0 in
-    let set = set_first c.args.earlier c.profile.result (fields_of c.args.row.now) c.in_ok-kind.ensures.free in (
-      next_free rs (fields_of c.args.row.now) c.args.earlier c.profile.result len (c.profile.ensures ∙ tallies.profile)
-          c.in_ok-kind.ensures.free
-          (count_within c.args.tally.now c.in_ok-kind.kind rs
-          (fields_of c.args.row.now) c.count.result c.limit.result is tallies c.count.ensures c.limit.ensures c.if-count-limit.false),
-      c.record_of_kind.ensures ∙ record_of (fields_of c.args.row.now) c.in_ok-kind.kind is,
-      tally_more c.args.tally.now c.add.new.self c.in_ok-kind.kind rs
-          (fields_of c.args.row.now) c.args.earlier is len set tallies c.in_ok-add.ensures,
+    let kept = kept_counts c.args.tally.now c.keep_profile.new.self rs r c.args.earlier len c.keep_profile.ensures tallies in
+    let formed = next_formed rs r c.args.earlier c.profile-profile.result len under c.in_ok-kind.ensures.free in (
+      next_free rs r c.args.earlier c.profile-profile.result len under c.in_ok-kind.ensures.free
+          (count_within c.keep_profile.new.self c.in_ok-kind.kind _ r c.count-count.result c.limit.result is kept c.count-count.ensures
+          c.limit.ensures c.if-count-limit.false),
+      c.record_of_kind.ensures ∙ record_of r c.in_ok-kind.kind is,
+      tally_more c.args.tally.now c.keep_profile.new.self rs r c.args.earlier len c.keep_profile.ensures tallies c.add.new.self
+          c.in_ok-kind.kind is formed c.in_ok-add.ensures,
     )

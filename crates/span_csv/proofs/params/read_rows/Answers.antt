@@ -9,7 +9,7 @@ returns-in_err-record c =
     let so_far = c.loop-tally.invariant in
     let count : length c.loop-tally.records.items ≡ c.len.result = search rules in
     let e : c.from_residual-in_err-record.result ≡ Err c.in_err-record.field-0.0 = search rules in
-    rw e (read_fault c.args.rows.now c.loop-tally.records.items c.loop-tally.tally
+    rw e (read_fault c.args.rows.now c.loop-tally.records.items c.loop-tally.tally c.next_record.new.tally
     (fields_of c.next.new.row) c.loop-tally.rows c.next.new.self c.in_err-record.field-0.0 so_far
     (when_true _ _ c.if-branch.true c.in_ok-next.ensures.found)
     (next_is so_far (fields_of c.next.new.row) (Err c.in_err-record.field-0.0) c.next_record.new.tally count c.in_err-record.ensures))

@@ -4,7 +4,7 @@ use Rattle.param_check.proofs.OverlapLemmas.{begun}
 use Rattle.param_check.proofs.check.overlaps.meets_or_joins.Goals as goal
 
 pub returns-clause-joins : goal.returns-clause-joins
-returns-clause-joins c = λ _ q.
+returns-clause-joins c = λ q.
     let up = c.in_ok-insert.ensures.updates.0 q in
     let old = c.get_mut.follows.holds-at-none in
     let one : c.push-2.new.self.items ≡ c.args.months ∷ [] = grind arith in

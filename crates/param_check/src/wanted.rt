@@ -1,0 +1,52 @@
+//! How many of the faults of a walk are wanted: the first, with which it ends, or all. One walk serves both.
+ghost use Rattle.std.specs.Prelude.{◌≡◌, ◌&&◌, ◌++◌, ◌∷◌, [], if◌then◌else◌, IfOk, OnOk};
+ghost use Rattle.span_tables.specs.Faults.{first_of};
+ghost use Rattle.param_check.specs.near.Wanted.{is_first};
+
+use crate::faults::BindFault;
+use std::alloc::AllocError;
+
+/// How many of the faults of a walk are wanted.
+#[derive(Clone, Copy)]
+pub(crate) enum Wanted {
+    /// The first.
+    First,
+    /// All.
+    All,
+}
+
+impl Wanted {
+    /// Whether a walk ends with the first fault.
+    pub(crate) fn is_first(self) -> bool
+        ensures { result ≡ is_first self }
+    {
+        match self {
+            Wanted::First => true,
+            Wanted::All => false,
+        }
+    }
+}
+
+/// Takes the number of a record that breaks a rule among those so far, and says whether no more are wanted.
+pub(crate) fn take_number(
+    wanted: Wanted,
+    numbers: &mut Vec<usize>,
+    number: usize,
+    breaks: bool,
+) -> Result<bool, AllocError>
+    ensures taken { OnOk result (numbers.new.items ≡ numbers.old.items ++ (if breaks then number ∷ [] else [])) }
+    ensures enough { IfOk result (λ enough. enough ≡ (breaks && is_first wanted)) }
+{
+    if !breaks {
+        return Ok(false);
+    }
+    numbers.push(number)?;
+    Ok(wanted.is_first())
+}
+
+/// The first of some faults, if there is one.
+pub(crate) fn first(faults: Vec<BindFault>) -> Option<BindFault>
+    ensures { result ≡ first_of faults.items }
+{
+    faults.into_iter().next()
+}

@@ -1,0 +1,114 @@
+-- The list of all faults of a file: what each of its faults is, and what its first says of the file.
+use Rattle.std.proofs.Common.{◌≡◌, refl, sym, ap, subst, ℕ, ◌+◌, Bool, false, List, [], ◌∷◌, length, Option, Some, None, Ok, Err}
+use Rattle.std.specs.Prelude.{All}
+use Rattle.std.specs.List.{AllByRecursion}
+use Rattle.std.proofs.lemmas.List.Elements.{All-from_recursion}
+use Rattle.span_tables.specs.Faults.{all_faults, first_of, ok_unless}
+use Rattle.span_tables.specs.Laws.{IsFaultOfSome, IsStrictlyRisingBy}
+use Rattle.span_tables.proofs.FaultLaws.{all_weaker, faults_are_of_some, numbers_rise}
+use Rattle.span_csv.specs.Laws.{param_number, position_number}
+use Rattle.span_csv.specs.Records.{Fields}
+use Rattle.span_csv.specs.ParamFaults as param
+use Rattle.span_csv.specs.PositionFaults as position
+use Rattle.span_csv.specs.declared.faults.ParamFault.{ParamFault}
+use Rattle.span_csv.specs.declared.faults.ParamFault.TheVariants as fault
+use Rattle.span_csv.specs.declared.faults.PositionFault.{PositionFault}
+use Rattle.span_csv.proofs.LowestLaws.{first_is}
+
+-- ---- the first
+
+-- where there is no first fault, there is none
+pub none_first : {F : Type 0} (faults : List F) → first_of faults ≡ None → faults ≡ []
+none_first [] e = refl
+none_first (y ∷ faults) e = cc
+
+-- what is accepted has no first fault
+pub accepted_none : {A F : Type 0} (o : Option F) (x y : A) → ok_unless o x ≡ Ok y → o ≡ None
+accepted_none None x y e = refl
+accepted_none (Some f) x y e = cc
+
+-- and what is refused has that one
+pub refused_some : {A F : Type 0} (o : Option F) (x : A) (f : F) → ok_unless o x ≡ Err f → o ≡ Some f
+refused_some None x f e = cc
+refused_some (Some g) x f e = let same : g ≡ f = cc in ap Some same
+
+-- ---- each of them
+
+-- a fault of a record tells the number that it is given, and is no want of memory
+abbrev TellsNumber : {F : Type 0} → (F → ℕ) → (F → Bool) → (ℕ → F) → Type 0
+TellsNumber number is_memory fault = (n : ℕ) → (number (fault n) ≡ n) × (is_memory (fault n) ≡ false)
+
+param_tells : (earlier : List Fields) (r : Fields) (fault : ℕ → ParamFault) → param.record_fault earlier r ≡ Some fault
+    → TellsNumber param_number param.is_memory fault
+param_tells earlier r fault is =
+    first_is (TellsNumber param_number param.is_memory) (param.record_faults earlier r) fault (
+      (λ n. (refl, refl)),
+      (
+        (λ n. (refl, refl)),
+        (
+          (λ n. (refl, refl)),
+          (
+            (λ n. (refl, refl)),
+            (
+              (λ n. (refl, refl)),
+              ((λ n. (refl, refl)), ((λ n. (refl, refl)), ((λ n. (refl, refl)), tt))),
+            ),
+          ),
+        ),
+      ),
+    ) is
+
+position_tells : (earlier : List Fields) (r : Fields) (fault : ℕ → PositionFault) → position.record_fault earlier r ≡ Some fault
+    → TellsNumber position_number position.is_memory fault
+position_tells earlier r fault is =
+    first_is (TellsNumber position_number position.is_memory) (position.record_faults earlier r) fault
+    ((λ n. (refl, refl)), ((λ n. (refl, refl)), ((λ n. (refl, refl)), ((λ n. (refl, refl)), ((λ n. (refl, refl)), tt))))) is
+
+module _ {F : Type 0} (fault_of : List Fields → Fields → Option (ℕ → F)) (number : F → ℕ) (is_memory : F → Bool)
+    (tells : (earlier : List Fields) (r : Fields) (fault : ℕ → F) → fault_of earlier r ≡ Some fault → TellsNumber number is_memory fault)
+    (rs : List Fields) where
+  of_each : AllByRecursion (IsFaultOfSome fault_of [] rs) (all_faults fault_of rs)
+  of_each = faults_are_of_some fault_of [] rs
+
+  -- each fault is that of a record
+  pub each_of_some : All (IsFaultOfSome fault_of [] rs) (all_faults fault_of rs)
+  each_of_some = All-from_recursion _ (all_faults fault_of rs) of_each
+
+  -- none is want of memory
+  pub none_of_memory : All (λ y. is_memory y ≡ false) (all_faults fault_of rs)
+  none_of_memory =
+      All-from_recursion _ (all_faults fault_of rs)
+      (all_weaker fault_of _ _ (λ y f.
+      subst (λ z. is_memory z ≡ false) (sym f.answers)
+      ((tells f.earlier f.at f.fault f.has (length f.earlier + 1)).1)) (all_faults fault_of rs) of_each)
+
+  -- the numbers of the records rise
+  pub each_once : IsStrictlyRisingBy number (all_faults fault_of rs)
+  each_once = numbers_rise fault_of number (λ earlier r fault n is. (tells earlier r fault is n).0) [] rs
+
+-- ---- a parameter file, which may be empty
+
+pub param_once : (rs : List Fields) → IsStrictlyRisingBy param_number (param.faults_in rs)
+unfolding param.faults_in
+param_once [] = (tt, tt)
+param_once (r ∷ rs) = each_once param.record_fault param_number param.is_memory param_tells (r ∷ rs)
+
+pub param_no_memory : (rs : List Fields) → All (λ y. param.is_memory y ≡ false) (param.faults_in rs)
+unfolding param.faults_in
+param_no_memory [] = All-from_recursion (λ y. param.is_memory y ≡ false) (fault.NoSet 0 ∷ []) (refl, tt)
+param_no_memory (r ∷ rs) = none_of_memory param.record_fault param_number param.is_memory param_tells (r ∷ rs)
+
+pub param_of_some : (r : Fields) (rs : List Fields) → All (IsFaultOfSome param.record_fault [] (r ∷ rs)) (param.faults_in (r ∷ rs))
+unfolding param.faults_in
+param_of_some r rs = each_of_some param.record_fault param_number param.is_memory param_tells (r ∷ rs)
+
+-- ---- a position file
+
+pub position_once : (rs : List Fields) → IsStrictlyRisingBy position_number (all_faults position.record_fault rs)
+position_once rs = each_once position.record_fault position_number position.is_memory position_tells rs
+
+pub position_no_memory : (rs : List Fields) → All (λ y. position.is_memory y ≡ false) (all_faults position.record_fault rs)
+position_no_memory rs = none_of_memory position.record_fault position_number position.is_memory position_tells rs
+
+pub position_of_some : (rs : List Fields) → All (IsFaultOfSome position.record_fault [] rs) (all_faults position.record_fault rs)
+position_of_some rs = each_of_some position.record_fault position_number position.is_memory position_tells rs

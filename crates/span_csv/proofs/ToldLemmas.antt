@@ -1,0 +1,67 @@
+-- The faults of all records of a file, told one record after another.
+use Rattle.std.proofs.Common.{◌≡◌, ◌∙◌, refl, sym, ap, subst, arith, ℕ, ◌+◌, ◌<◌, List, [], ◌∷◌, ◌++◌, length, Option, Some, None}
+use Rattle.std.specs.Prelude.{option_map}
+use Rattle.std.specs.Option.{option_to_list}
+use Rattle.std.proofs.lemmas.List.{append_assoc, append-nil, length-append}
+use Rattle.span_tables.specs.Faults.{all_faults, faults_after}
+use Rattle.span_csv.specs.Records.{Fields}
+
+-- So many records were read, of which these are the faults, and something is kept of them.
+pub record IsTold {F : Type 0} (fault_of : List Fields → Fields → Option (ℕ → F)) (Kept : List Fields → Type 0) (all : List Fields)
+    (faults : List F) (read : ℕ) (rest : List Fields) : Type 0 where
+  pub earlier : List Fields
+  pub whole : earlier ++ rest ≡ all
+  pub count : length earlier ≡ read
+  pub kept : Kept earlier
+  pub told : faults ++ faults_after fault_of earlier rest ≡ all_faults fault_of all
+
+module _ {F : Type 0} {fault_of : List Fields → Fields → Option (ℕ → F)} {Kept : List Fields → Type 0} {all : List Fields}
+    {faults : List F} {read : ℕ} {before : List Fields} (s : IsTold fault_of Kept all faults read before) where
+  -- fewer were read than there are, where there is one more
+  pub told_room : (r : Fields) (rest : List Fields) → before ≡ r ∷ rest → read < length all
+  told_room r rest is =
+      let long = length-append s.earlier (r ∷ rest) in
+      let whole : length (s.earlier ++ r ∷ rest) ≡ length all = ap (λ zs. length (s.earlier ++ zs)) (sym is) ∙ ap length s.whole in
+      omega (arith, long, whole, s.count)
+
+  -- one more record, which has this fault or none
+  told_next : (Then : List Fields → Type 0) (r : Fields) (rest : List Fields) (own : Option F) → before ≡ r ∷ rest
+      → option_map (λ f. f (length s.earlier + 1)) (fault_of s.earlier r) ≡ own → Then (s.earlier ++ r ∷ [])
+      → IsTold fault_of Then all (faults ++ option_to_list own) (read + 1) rest
+  told_next Then r rest own is has kept = record {
+    earlier = s.earlier ++ r ∷ [];
+    whole = append_assoc s.earlier (r ∷ []) rest ∙ ap (λ zs. s.earlier ++ zs) (sym is) ∙ s.whole;
+    count = length-append s.earlier (r ∷ []) ∙ ap (λ n. n + 1) s.count;
+    kept = kept;
+    told =
+        append_assoc faults (option_to_list own) (faults_after fault_of (s.earlier ++ r ∷ []) rest)
+        ∙ ap (λ o. faults ++ (option_to_list o ++ faults_after fault_of (s.earlier ++ r ∷ []) rest)) (sym has)
+        ∙ ap (λ zs. faults ++ faults_after fault_of s.earlier zs) (sym is)
+        ∙ s.told;
+  }
+
+  pub told_free : (Then : List Fields → Type 0) (r : Fields) (rest : List Fields) → before ≡ r ∷ rest
+      → fault_of s.earlier r ≡ None → Then (s.earlier ++ r ∷ []) → IsTold fault_of Then all faults (read + 1) rest
+  told_free Then r rest is none kept =
+      subst (λ fs. IsTold fault_of Then all fs (read + 1) rest) (append-nil faults)
+      (told_next Then r rest None is (ap (option_map (λ f. f (length s.earlier + 1))) none) kept)
+
+  pub told_fault : (Then : List Fields → Type 0) (r : Fields) (rest : List Fields) (e : F) → before ≡ r ∷ rest
+      → option_map (λ f. f (length s.earlier + 1)) (fault_of s.earlier r) ≡ Some e → Then (s.earlier ++ r ∷ [])
+      → IsTold fault_of Then all (faults ++ e ∷ []) (read + 1) rest
+  told_fault Then r rest e is has kept = told_next Then r rest (Some e) is has kept
+
+  -- where no record is left, all faults are told
+  pub told_all : before ≡ [] → faults ≡ all_faults fault_of all
+  told_all end =
+      sym (append-nil faults) ∙ ap (λ zs. faults ++ faults_after fault_of s.earlier zs) (sym end) ∙ s.told
+
+  -- and as many records were read as there are
+  pub told_count : before ≡ [] → length all ≡ read
+  told_count end =
+      ap length (sym s.whole) ∙ ap (λ zs. length (s.earlier ++ zs)) end ∙ ap length (append-nil s.earlier) ∙ s.count
+
+-- before the first record no fault is told
+pub told_start : {F : Type 0} (fault_of : List Fields → Fields → Option (ℕ → F)) (Kept : List Fields → Type 0) (all : List Fields)
+    → Kept [] → IsTold fault_of Kept all [] 0 all
+told_start fault_of Kept all kept = record { earlier = []; whole = refl; count = refl; kept = kept; told = refl }
