@@ -24,6 +24,7 @@ use span_csv::params::read_params;
 use span_csv::positions::read_positions;
 use span_tables::name::Name;
 use span_tables::portfolios::Portfolio;
+use statement::all_faults::{faults, faults_text};
 use statement::faults::SpanFault;
 use statement::margin::{margin, margin_plain};
 use statement::roll::roll;
@@ -154,6 +155,50 @@ fn orders_on_four_workers(rt: HostRuntime) -> Result<(), Fail> {
     let alloc = rt.alloc();
     if was_refused(orders_on(&rt, alloc, 4))? {
         orders_on(&rt, alloc, 4)?;
+    }
+    Ok(())
+}
+
+// All faults of two files, as these lines.
+fn told<R: Abort>(
+    rt: &R,
+    alloc: Global,
+    params: &[u8],
+    positions: &[u8],
+    lines: &[u8],
+) -> Result<(), SpanFault> {
+    let found = faults(alloc, params, Some(positions)).map_err(|_| SpanFault::Memory)?;
+    let text = faults_text(alloc, &found).map_err(|_| SpanFault::Memory)?;
+    assert_eq!(rt; text.as_slice(), lines);
+    Ok(())
+}
+
+// Faults of reading both files; then those of binding positions to a set that is accepted.
+fn all_told<R: Abort>(rt: &R, alloc: Global) -> Result<(), SpanFault> {
+    let params = b"SET,D1,1\nCOMMODITY,AA,x,SUM\n".as_slice();
+    let lines = b"\
+parameters: P4 FieldCount at record 1
+parameters: P6 BadNumber at record 2
+positions: Q1 FieldCount at record 1
+positions: Q3 BadNumber at record 2
+"
+        .as_slice();
+    told(rt, alloc, params, b"X,FA\nX,FA,y\n".as_slice(), lines)?;
+    let positions = b"X,FZ,1\nX,FA,100000\nX,FA,1\nY,FZ,2\n".as_slice();
+    let lines = b"\
+positions: B1 UnknownContract at record 1 account X
+positions: B1 UnknownContract at record 4 account Y
+positions: B2 NetOutOfRange at record 2 account X
+"
+        .as_slice();
+    told(rt, alloc, PARAMS, positions, lines)
+}
+
+#[test]
+fn all_faults(rt: HostRuntime) -> Result<(), Fail> {
+    let alloc = rt.alloc();
+    if was_refused(all_told(&rt, alloc))? {
+        all_told(&rt, alloc)?;
     }
     Ok(())
 }

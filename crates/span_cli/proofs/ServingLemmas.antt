@@ -12,7 +12,7 @@ use Rattle.statement.specs.Rolls.{GivesRoll}
 use Rattle.statement.specs.declared.faults.SpanFault.{SpanFault}
 use Rattle.statement.specs.declared.faults.SpanFault.TheVariants as fault
 use Rattle.span_cli.specs.Serving.{Answer, Asked, Found, IsAnswer, IsAnswered, IsOfRoll, all_read, answer_of, answered, memory}
-use Rattle.span_cli.specs.Serving.{read_before, refused}
+use Rattle.span_cli.specs.Serving.{done, read_before, refused}
 use Rattle.span_cli.specs.Sources.{File}
 use Rattle.span_cli.specs.Telling.{AnswersWords, RefusesWordsBy, Serves, Tells}
 use Rattle.span_cli.specs.Telling as telling
@@ -51,7 +51,8 @@ refusal_serves file asked r given out old_err new_err fresh same said (inr is) =
 
 -- what a roll gives
 pub of_roll : {Y : Type 0} (view : Y → List ℕ) (workers : ℕ) (params next positions : List ℕ) (r : Result Y SpanFault)
-    → GivesRoll view workers params next positions r → MayGive view r (IsOfRoll workers params next positions)
+    → GivesRoll view workers params next positions r
+    → MayGive (λ y. done (view y)) r (IsOfRoll workers params next positions)
 of_roll view workers params next positions (Ok y) h = record { given = Ok (view y); gives = h; is = refl }
 of_roll view workers params next positions (Err e) h = inr (record { given = Err e; gives = h; is = refl })
 

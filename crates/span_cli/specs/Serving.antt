@@ -1,6 +1,8 @@
 -- What is answered to a request.
-use Rattle.std.specs.Prelude.{◌≡◌, ℕ, List, [], ◌∷◌, ◌++◌, codes, Option, Some, None, Result, Ok, Err, ⊤}
+use Rattle.std.specs.Prelude.{◌≡◌, ℕ, List, [], ◌∷◌, ◌++◌, codes, Option, Some, None, option_map, Result, Ok, Err, ⊤}
+use Rattle.std.specs.Option.{option_to_list}
 use Rattle.explanation.specs.Explanation.{explanation_of}
+use Rattle.statement.specs.AllFaults.{faults_of, faults_status, faults_text}
 use Rattle.statement.specs.Counts.{counts_of}
 use Rattle.statement.specs.Listing.{listing_of}
 use Rattle.statement.specs.FaultLines.{fault_line, fault_status, memory_line}
@@ -42,6 +44,11 @@ abbrev pub answer_of : Result (List ℕ) SpanFault → Answer
 answer_of (Ok text) = done text
 answer_of (Err e) = refused (fault_status e) (fault_line e)
 
+-- The answer that tells faults: their lines on the output, and the status of the first. Where there is none it is done, with no
+-- bytes.
+abbrev pub answer_of_faults : List SpanFault → Answer
+answer_of_faults faults = record { status = faults_status faults; out = faults_text faults; err = [] }
+
 -- a file that is not read
 abbrev pub unread : List ℕ → ReadFault → Answer
 unread name read.Failed = refused FILE_FAILED (file_line name)
@@ -56,6 +63,7 @@ pub data Command : Type 0 where
   Explain : Option (List ℕ) → Command
   Roll : ℕ → Command
   WhatIf : ℕ → Command
+  Faults : Command
 
 -- what is asked for: a command, and the names of its files in the order in which they are read
 abbrev pub Asked : Type 0
@@ -69,6 +77,7 @@ asked_by (request.Margin params positions workers) = (Margin workers, params.now
 asked_by (request.Explain params positions account) = (Explain account, params.now ∷ positions.now ∷ [])
 asked_by (request.Roll params next positions workers) = (Roll workers, params.now ∷ next.now ∷ positions.now ∷ [])
 asked_by (request.WhatIf params positions orders workers) = (WhatIf workers, params.now ∷ positions.now ∷ orders.now ∷ [])
+asked_by (request.Faults params positions) = (Faults, params.now ∷ option_to_list (option_map (λ name. name.now) positions))
 
 -- The answer is one that a roll of these bytes on so many workers may have: that of its text, of the first fault of the
 -- files, of memory, of a book or of a shelf that refused.
@@ -86,6 +95,8 @@ answered (Explain account) (params ∷ positions ∷ []) answer = answer ≡ ans
 answered (Roll workers) (params ∷ next ∷ positions ∷ []) answer = IsOfRoll workers params next positions answer
 answered (WhatIf workers) (params ∷ positions ∷ orders ∷ []) answer =
     answer ≡ answer_of (whatif_of workers params positions orders)
+answered Faults (params ∷ []) answer = answer ≡ answer_of_faults (faults_of params None)
+answered Faults (params ∷ positions ∷ []) answer = answer ≡ answer_of_faults (faults_of params (Some positions))
 answered command files answer = ⊥
 
 -- What becomes of files that are read: the bytes of all; or the answer that names the first that cannot be read; or nothing,

@@ -4,7 +4,7 @@ use Rattle.clap.specs.Words.{Kinds}
 use Rattle.clap.specs.declared.error.kind.ErrorKind.{ErrorKind}
 use Rattle.clap.specs.declared.error.kind.ErrorKind.TheVariants as kind
 use Rattle.statement.specs.Streams.{Says, Stream}
-use Rattle.statement.specs.declared.statuses.TheConstants.{DONE, FILE_FAILED, USAGE}
+use Rattle.statement.specs.declared.statuses.TheConstants.{FILE_FAILED, USAGE}
 use Rattle.span_cli.specs.Serving.{Answer, Asked, IsAnswer, done, file_line, memory, refused}
 use Rattle.span_cli.specs.Sources.{File}
 
@@ -24,8 +24,8 @@ pub record Tells (answer : Answer) (given : ℕ) (old_out new_out old_err new_er
   pub out : Says old_out new_out answer.out
   -- just the answer's line, or that of the output, went to the error stream, unless a write of it failed
   pub err : Says old_err new_err (told new_out.failed answer).err
-  -- the output fails only for an answer that is done
-  pub cause : new_out.failed ≡ true → answer.status ≡ DONE
+  -- the output fails only for an answer that has nothing for the error stream
+  pub cause : new_out.failed ≡ true → answer.err ≡ []
 
 -- an answer to what is asked was told
 pub record TellsAnswer (file : List ℕ → Option File) (asked : Asked) (given : ℕ) (old_out new_out old_err new_err : Stream)

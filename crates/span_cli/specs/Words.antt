@@ -12,7 +12,7 @@ use Rattle.clap.specs.declared.builder.value_parser.ValueParser.TheVariants as v
 use Rattle.clap.specs.declared.error.kind.ErrorKind.TheVariants as kind
 use Rattle.span_tables.specs.Names.{name_of}
 use Rattle.worker_pool.specs.declared.batch.TheConstants.{MAX_WORKERS}
-use Rattle.span_cli.specs.Serving.{Asked, Command, Check, Explain, Margin, Plan, Roll, WhatIf}
+use Rattle.span_cli.specs.Serving.{Asked, Command, Check, Explain, Faults, Margin, Plan, Roll, WhatIf}
 
 -- The words with each `--account` and the word behind it, whatever that is, in one word; a `--`, and all behind it, stand as
 -- they are.
@@ -41,6 +41,10 @@ file_rule file = record (new_rule file.id) { required = file.required }
 -- names that have to be given
 abbrev pub needed : List Text → List FileWord
 needed ids = map (λ id. record { id = id; required = true }) ids
+
+-- names that may be left out
+abbrev pub optional : List Text → List FileWord
+optional ids = map (λ id. record { id = id; required = false }) ids
 
 -- the number of workers, from 1 to the most that there can be, and by itself 1
 abbrev pub workers_rule : Rule
@@ -102,6 +106,7 @@ commands =
     (with_workers Roll)
     ∷ words_of (codes "whatif") (needed (codes "PARAMS" ∷ codes "POSITIONS" ∷ codes "ORDERS" ∷ [])) (workers_rule ∷ [])
     (with_workers WhatIf)
+    ∷ words_of (codes "faults") (needed (codes "PARAMS" ∷ []) ++ optional (codes "POSITIONS" ∷ [])) [] (λ rows. Some Faults)
     ∷ []
 
 -- a command with these arguments behind its own

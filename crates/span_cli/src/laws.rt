@@ -1,8 +1,9 @@
 //! Laws of words and of what is told: each is the contract of a function that does nothing.
 ghost use Rattle.clap.specs.Words.{subcommand_of};
-ghost use Rattle.span_cli.specs.Serving.{Answer, answer_of, done, file_line, refused};
+ghost use Rattle.span_cli.specs.Serving.{Answer, answer_of, answer_of_faults, done, file_line, refused};
 ghost use Rattle.span_cli.specs.Telling.{Tells};
 ghost use Rattle.span_cli.specs.Words.{is_request, span_app};
+ghost use Rattle.statement.specs.AllFaults.{faults_status, faults_text};
 ghost use Rattle.statement.specs.Streams.{Stream};
 ghost use Rattle.statement.specs.FaultLines.{fault_line, fault_status};
 ghost use Rattle.statement.specs.declared.faults.SpanFault.{SpanFault};
@@ -35,13 +36,25 @@ pub fn unwritten_is_said()
         → Appends old_err.held new_err.held (codes "file: output\n") }
 {}
 
-/// Where the output did not fail the status is the answer's, whatever became of its line; and an answer that is refused
-/// never makes the output fail.
+/// Where faults were told and no write failed, the status is that of the first, or 0 where there is none; just their lines went to
+/// the output, and nothing to the error stream.
+pub fn faults_are_on_the_output()
+    ensures { (faults : List SpanFault) (given : ℕ) (old_out new_out old_err new_err : Stream)
+        → Tells (answer_of_faults faults) given old_out new_out old_err new_err
+        → new_out.failed ≡ false → new_err.failed ≡ false
+        → (given ≡ faults_status faults)
+        × (Appends old_out.held new_out.held (faults_text faults) × Appends old_err.held new_err.held []) }
+{}
+
+/// Where the output did not fail the status is the answer's, whatever became of its line; and an answer that has a line, as one that
+/// is refused for a fault, never makes the output fail.
 pub fn status_stands()
     ensures status { (answer : Answer) (given : ℕ) (old_out new_out old_err new_err : Stream)
         → Tells answer given old_out new_out old_err new_err → new_out.failed ≡ false → given ≡ answer.status }
     ensures refused { (answer : Answer) (given : ℕ) (old_out new_out old_err new_err : Stream)
-        → Tells answer given old_out new_out old_err new_err → answer.status ≢ 0 → new_out.failed ≡ false }
+        → Tells answer given old_out new_out old_err new_err → answer.err ≢ [] → new_out.failed ≡ false }
+    ensures fault { (fault : SpanFault) (given : ℕ) (old_out new_out old_err new_err : Stream)
+        → Tells (answer_of (Err fault)) given old_out new_out old_err new_err → new_out.failed ≡ false }
 {}
 
 /// Words that are taken name a command.

@@ -1,16 +1,18 @@
 //! Requests, and the bytes that answer them.
-ghost use Rattle.span_cli.specs.Serving.{IsAnswer, IsOfRoll, all_read, answered, asked_by, done};
+ghost use Rattle.span_cli.specs.Serving.{IsAnswer, IsOfRoll, all_read, answer_of_faults, answered, asked_by, done};
 ghost use Rattle.span_cli.specs.Telling.{Serves, Tells};
-ghost use Rattle.span_cli.specs.near.Refusals.{Loads, LoadsAll, MayGive, Runs, refusal_line, refusal_status};
+ghost use Rattle.span_cli.specs.near.Refusals.{Loads, LoadsAll, MayGive, Runs, given_answer, refusal_line, refusal_status};
 ghost use Rattle.span_cli.specs.declared.serving.Refusal.TheVariants as refusal;
+ghost use Rattle.statement.specs.AllFaults.{faults_of};
 ghost use Rattle.statement.specs.Streams.{Says};
-ghost use Rattle.std.specs.Prelude.{◌≡◌, ◌≤◌, IfOk, IfSome, List, false, length, map, ℕ};
+ghost use Rattle.std.specs.Prelude.{◌≡◌, ◌≤◌, IfOk, IfSome, List, false, length, map, option_map, ℕ};
 
 use crate::sources::{ReadFault, Sources};
 use arrayvec::ArrayVec;
 use explanation::explaining::explain;
 use result_book::books::ResultBook;
 use span_tables::name::Name;
+use statement::all_faults::{faults, faults_status, faults_text};
 use statement::counts::check_plain;
 use statement::fault_lines::tell_fault;
 use statement::faults::{SpanFault, status};
@@ -19,7 +21,7 @@ use statement::marked_writer::MarkedWriter;
 use statement::plans::plan_plain;
 use statement::roll::roll;
 use statement::statuses::{DONE, FILE_FAILED};
-use std::alloc::Global;
+use std::alloc::{AllocError, Global};
 use std::io::Write;
 use std::sync::{Mutex, Wait};
 use std::thread::Threads;
@@ -64,6 +66,11 @@ pub enum Request<'a> {
         orders: &'a str,
         workers: usize,
     },
+    /// All faults of a parameter file, and of a position file beside it, if one is given.
+    Faults {
+        params: &'a str,
+        positions: Option<&'a str>,
+    },
 }
 
 // Names, of which there are at most three.
@@ -80,7 +87,12 @@ impl<'a> Request<'a> {
         ensures { map (λ name. name.now) result.items ≡ (asked_by self.now).1 }
     {
         match self {
-            Request::Check { params } | Request::Plan { params } => listed(&[params]),
+            Request::Check { params }
+            | Request::Plan { params }
+            | Request::Faults {
+                params,
+                positions: None,
+            } => listed(&[params]),
             Request::Margin {
                 params,
                 positions,
@@ -90,6 +102,10 @@ impl<'a> Request<'a> {
                 params,
                 positions,
                 ..
+            }
+            | Request::Faults {
+                params,
+                positions: Some(positions),
             } => listed(&[params, positions]),
             Request::Roll {
                 params,
@@ -167,6 +183,32 @@ pub(crate) struct Lent<'a, R, G: Gate> {
     pub(crate) gate: &'a G,
 }
 
+// What a request gives: the bytes for the output, and the status.
+#[derive(Drop)]
+struct Given {
+    text: Vec<u8>,
+    status: u8,
+}
+
+// Bytes with the status of work that is done.
+fn done(text: Vec<u8>) -> Given
+    ensures { given_answer result ≡ done text.items }
+{
+    Given { text, status: DONE }
+}
+
+// The lines of all faults of these bytes, with the status of the first.
+fn faults_told(alloc: Global, params: &[u8], positions: Option<&[u8]>) -> Result<Given, AllocError>
+    ensures { IfOk result (λ given. given_answer given
+        ≡ answer_of_faults (faults_of params.now (option_map (λ bytes. bytes.now) positions.entry))) }
+{
+    let faults = faults(alloc, params, positions)?;
+    Ok(Given {
+        text: faults_text(alloc, &faults)?,
+        status: faults_status(&faults),
+    })
+}
+
 // What a roll of these bytes gives. The book of its two batches is a new one, which nobody reads.
 fn rolled<R: Threads + Wait + Clock + Sync, G: Gate>(
     lent: &Lent<'_, R, G>,
@@ -175,7 +217,7 @@ fn rolled<R: Threads + Wait + Clock + Sync, G: Gate>(
     positions: &[u8],
     workers: usize,
 ) -> Result<Vec<u8>, SpanFault>
-    ensures { MayGive (λ text. text.items) result (IsOfRoll workers params.now next.now positions.now) }
+    ensures { MayGive (λ text. done text.items) result (IsOfRoll workers params.now next.now positions.now) }
 {
     let book = Mutex::new(ResultBook::new(lent.alloc));
     roll(
@@ -188,26 +230,35 @@ fn answer<R: Threads + Wait + Clock + Sync, G: Gate>(
     lent: &Lent<'_, R, G>,
     request: &Request<'_>,
     files: &[Vec<u8>],
-) -> Result<Vec<u8>, SpanFault>
+) -> Result<Given, SpanFault>
     requires { length files.now ≡ length (asked_by request.now).1 }
-    ensures { MayGive (λ text. text.items) result
+    ensures { MayGive given_answer result
         (answered (asked_by request.now).0 (map (λ file. file.items) files.now)) }
 {
     match (request, files) {
-        (Request::Check { .. }, [params]) => check_plain(lent.alloc, params),
-        (Request::Plan { .. }, [params]) => plan_plain(lent.alloc, params),
+        (Request::Check { .. }, [params]) => Ok(done(check_plain(lent.alloc, params)?)),
+        (Request::Plan { .. }, [params]) => Ok(done(plan_plain(lent.alloc, params)?)),
         (Request::Margin { workers, .. }, [params, positions]) => {
-            margin(lent.rt, lent.alloc, params, positions, *workers, lent.gate)
+            let text = margin(lent.rt, lent.alloc, params, positions, *workers, lent.gate)?;
+            Ok(done(text))
         }
         (Request::Explain { account, .. }, [params, positions]) => {
-            explain(lent.alloc, params, positions, account.as_ref())
+            let text = explain(lent.alloc, params, positions, account.as_ref())?;
+            Ok(done(text))
         }
         (Request::Roll { workers, .. }, [params, next, positions]) => {
-            rolled(lent, params, next, positions, *workers)
+            Ok(done(rolled(lent, params, next, positions, *workers)?))
         }
-        (Request::WhatIf { workers, .. }, [params, positions, orders]) => whatif(
-            lent.rt, lent.alloc, params, positions, orders, *workers, lent.gate,
-        ),
+        (Request::WhatIf { workers, .. }, [params, positions, orders]) => {
+            let text = whatif(
+                lent.rt, lent.alloc, params, positions, orders, *workers, lent.gate,
+            )?;
+            Ok(done(text))
+        }
+        (Request::Faults { .. }, [params]) => Ok(faults_told(lent.alloc, params, None)?),
+        (Request::Faults { .. }, [params, positions]) => {
+            Ok(faults_told(lent.alloc, params, Some(positions.as_slice()))?)
+        }
         _ => unreachable!(),
     }
 }
@@ -217,12 +268,12 @@ fn run<'a, S: Sources, R: Threads + Wait + Clock + Sync, G: Gate>(
     lent: &Lent<'_, R, G>,
     request: &Request<'a>,
     sources: &mut S,
-) -> Result<Vec<u8>, Refusal<'a>>
-    ensures { Runs (λ text. text.items) result (IsAnswer (S.file sources.old) (asked_by request.now)) }
+) -> Result<Given, Refusal<'a>>
+    ensures { Runs given_answer result (IsAnswer (S.file sources.old) (asked_by request.now)) }
 {
     let files = load_all(lent.alloc, sources, &request.files())?;
-    let text = answer(lent, request, &files)?;
-    Ok(text)
+    let given = answer(lent, request, &files)?;
+    Ok(given)
 }
 
 // The status of a refusal.
@@ -256,17 +307,17 @@ fn refuse<E: Write>(refusal: Refusal<'_>, err: &mut MarkedWriter<E>) -> u8
     refusal_status(&refusal)
 }
 
-// Writes what a request gave, or says that it cannot be written.
+// Writes what a request gave, or says that it cannot be written, and gives the status.
 fn give<W: Write, E: Write>(
-    text: Vec<u8>,
+    given: Given,
     out: &mut MarkedWriter<W>,
     err: &mut MarkedWriter<E>,
 ) -> u8
     requires { out.old.failed ≡ false }
-    ensures { Tells (done text.items) result out.old out.new err.old err.new }
+    ensures { Tells (given_answer given) result out.old out.new err.old err.new }
 {
-    match out.write_all(text.as_slice()) {
-        Ok(()) => DONE,
+    match out.write_all(given.text.as_slice()) {
+        Ok(()) => given.status,
         Err(_) => {
             let _ = writeln!(err, "file: output");
             FILE_FAILED
@@ -293,7 +344,7 @@ pub fn serve<S: Sources, W: Write, E: Write, R: Threads + Wait + Clock + Sync, G
 {
     let lent = Lent { rt, alloc, gate };
     match run(&lent, &request, sources) {
-        Ok(text) => give(text, out, err),
+        Ok(given) => give(given, out, err),
         Err(refusal) => refuse(refusal, err),
     }
 }

@@ -93,6 +93,12 @@ const POSITIONS: FileArg = FileArg {
     required: true,
 };
 
+const POSITIONS_TOO: FileArg = FileArg {
+    id: "POSITIONS",
+    help: "Position file (CSV) whose faults are told too: account, contract, quantity in contracts",
+    required: false,
+};
+
 const ORDERS: FileArg = FileArg {
     id: "ORDERS",
     help: "Order file (CSV): order, account, contract, quantity in contracts (minus is sold)",
@@ -190,8 +196,25 @@ docs/FORMATS.md describes the files and the lines; docs/WHATIF.md tries orders i
     option: Some(OptionArg::Workers),
 };
 
+const FAULTS: CommandRow = CommandRow {
+    name: "faults",
+    about: "Prints all faults of a parameter file, and of a position file beside it",
+    more: "\
+Prints a line for each fault, as `margin` prints the first alone:
+  parameters: C3 DuplicateContract at record 7
+  positions: B1 UnknownContract at record 2 account X
+Of PARAMS each record that cannot be read has a line, with the lowest-numbered fault that it has; where all are read,
+each rule and record that breaks it has one. Of POSITIONS each record that cannot be read has a line, whatever PARAMS is;
+where all are read, and PARAMS has no fault, each fault of binding has one.
+The status is 0, and nothing is printed, where there is no fault; else 3 where PARAMS has one, and 4 where POSITIONS
+alone has.
+docs/FORMATS.md describes the faults and their order.",
+    files: &[PARAMS, POSITIONS_TOO],
+    option: None,
+};
+
 // The commands, as help lists them.
-const COMMANDS: [CommandRow; 6] = [CHECK, PLAN, MARGIN, EXPLAIN, ROLL, WHAT_IF];
+const COMMANDS: [CommandRow; 7] = [CHECK, PLAN, MARGIN, EXPLAIN, ROLL, WHAT_IF, FAULTS];
 
 // A file's name.
 fn file_arg<'a>(alloc: Global, file: &FileArg) -> Arg<'a>
@@ -379,6 +402,10 @@ fn request_under<'a>(name: &str, matches: &ArgMatches<'a>) -> Option<Request<'a>
             positions: file(POSITIONS)?,
             orders: file(ORDERS)?,
             workers: workers_asked(matches)?,
+        }),
+        "faults" => Some(Request::Faults {
+            params: file(PARAMS)?,
+            positions: file(POSITIONS_TOO),
         }),
         _ => None,
     }

@@ -2,7 +2,7 @@
 #![tactic(auto, unfolding(crate::specs::near::OnLiterals::on_literals))]
 
 ghost use Rattle.clap.specs.declared.error.kind.ErrorKind.TheVariants as kind;
-ghost use Rattle.span_cli.specs.Serving.{Check, Explain, IsAnswer, Margin, Plan, Roll, WhatIf, done, refused};
+ghost use Rattle.span_cli.specs.Serving.{Check, Explain, Faults, IsAnswer, Margin, Plan, Roll, WhatIf, done, refused};
 ghost use Rattle.span_cli.specs.Words.{asked_in, is_request, joined_words, kinds_of};
 ghost use Rattle.span_cli.specs.declared.sources.ReadFault.TheVariants as read;
 ghost use Rattle.span_cli.specs.declared.disk.TheConstants.{MAX_TURNS};
@@ -100,6 +100,19 @@ fn whatif_of_three_files()
         ≡ Some (WhatIf 2, codes "p" ∷ codes "q" ∷ codes "o" ∷ []) }
     ensures no_orders { kinds_of (codes "span" ∷ codes "whatif" ∷ codes "p" ∷ codes "q" ∷ []) ≡ kind.MissingRequiredArgument ∷ [] }
     ensures four { kinds_of (codes "span" ∷ codes "whatif" ∷ codes "p" ∷ codes "q" ∷ codes "o" ∷ codes "r" ∷ [])
+        ≡ kind.UnknownArgument ∷ [] }
+{}
+
+// `span faults p` and `span faults p q` are taken, and ask for just that; a third file and a number of workers are refused.
+fn faults_of_one_file_or_two()
+    ensures taken { is_request (codes "span" ∷ codes "faults" ∷ codes "p" ∷ []) ≡ true }
+    ensures asked { asked_in (codes "span" ∷ codes "faults" ∷ codes "p" ∷ []) ≡ Some (Faults, codes "p" ∷ []) }
+    ensures both_taken { is_request (codes "span" ∷ codes "faults" ∷ codes "p" ∷ codes "q" ∷ []) ≡ true }
+    ensures both { asked_in (codes "span" ∷ codes "faults" ∷ codes "p" ∷ codes "q" ∷ [])
+        ≡ Some (Faults, codes "p" ∷ codes "q" ∷ []) }
+    ensures none { kinds_of (codes "span" ∷ codes "faults" ∷ []) ≡ kind.MissingRequiredArgument ∷ [] }
+    ensures three { kinds_of (codes "span" ∷ codes "faults" ∷ codes "p" ∷ codes "q" ∷ codes "o" ∷ []) ≡ kind.UnknownArgument ∷ [] }
+    ensures workers { kinds_of (codes "span" ∷ codes "faults" ∷ codes "p" ∷ codes "q" ∷ codes "--workers" ∷ codes "2" ∷ [])
         ≡ kind.UnknownArgument ∷ [] }
 {}
 
@@ -208,6 +221,28 @@ fn files_that_are_read()
         else if bytes_eq name (codes "q") then Some (Ok []) else Some (Ok (codes "BUY,X,FA,1\n")))
         (WhatIf 1, codes "p" ∷ codes "q" ∷ codes "o" ∷ [])
         (refused 4 (codes "orders: B1 UnknownContract at record 1 order BUY\n")) }
+{}
+
+// Files without a fault, the one fault of an empty parameter file, and faults of both files, which have the status of the first.
+fn files_whose_faults_are_told()
+    ensures no_fault { IsAnswer (λ name. if bytes_eq name (codes "p") then Some (Ok (codes "SET,D1,1,USD\n")) else Some (Ok []))
+        (Faults, codes "p" ∷ codes "q" ∷ []) (done []) }
+    ensures no_set { IsAnswer (λ _. Some (Ok [])) (Faults, codes "p" ∷ [])
+        (record { status = 3; out = codes "parameters: P1 NoSet at record 0\n"; err = [] }) }
+    ensures both { IsAnswer (λ name. if bytes_eq name (codes "p") then Some (Ok []) else Some (Ok (codes "X,FA\n")))
+        (Faults, codes "p" ∷ codes "q" ∷ []) (record {
+          status = 3;
+          out = codes "parameters: P1 NoSet at record 0\npositions: Q1 FieldCount at record 1\n";
+          err = [];
+        }) }
+    ensures of_positions { IsAnswer (λ name. if bytes_eq name (codes "p") then Some (Ok (codes "SET,D1,1,USD\n"))
+        else Some (Ok (codes "X,FA,1\nY,FB,2\n"))) (Faults, codes "p" ∷ codes "q" ∷ []) (record {
+          status = 4;
+          out = codes "positions: B1 UnknownContract at record 1 account X\npositions: B1 UnknownContract at record 2 account Y\n";
+          err = [];
+        }) }
+    ensures second_not_read { IsAnswer (λ name. if bytes_eq name (codes "p") then Some (Ok []) else Some (Err read.Failed))
+        (Faults, codes "p" ∷ codes "q" ∷ []) (refused 6 (codes "file: q\n")) }
 {}
 
 // The plan of a set alone, and the refusal of a file that is no set.

@@ -1,4 +1,5 @@
 pub mod AccountLemmas
+pub mod AllFaultLemmas
 pub mod FitLemmas
 pub mod OutcomeLemmas
 pub mod RollLemmas

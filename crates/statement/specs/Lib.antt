@@ -1,3 +1,4 @@
+pub mod AllFaults
 pub mod Gives
 pub mod Counts
 pub mod Listing

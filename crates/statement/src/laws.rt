@@ -6,26 +6,29 @@ ghost use Rattle.param_check.specs.CheckFaults.{checked};
 ghost use Rattle.param_check.specs.declared.faults.BindFault.{BindFault};
 ghost use Rattle.param_check.specs.declared.faults.CheckFault.{CheckFault};
 ghost use Rattle.span_csv.specs.ParamFaults.{params_of};
-ghost use Rattle.span_csv.specs.PositionFaults.{positions_of};
+ghost use Rattle.span_csv.specs.PositionFaults.{position_faults, positions_of};
 ghost use Rattle.span_csv.specs.declared.faults.ParamFault.{ParamFault};
 ghost use Rattle.span_csv.specs.declared.faults.PositionFault.{PositionFault};
 ghost use Rattle.plan_ir.specs.Figures.{option_value_of};
 ghost use Rattle.span_money.specs.LineFields.{line};
+ghost use Rattle.span_tables.specs.Faults.{first_of};
 ghost use Rattle.span_tables.specs.Net.{AccountHoldings};
 ghost use Rattle.span_tables.specs.Tables.{AcceptedTables};
 ghost use Rattle.span_tables.specs.declared.records.PositionRecord.{PositionRecord};
 ghost use Rattle.span_tables.specs.declared.records.Record.{Record};
+ghost use Rattle.statement.specs.AllFaults.{faults_of, is_of_positions, is_of_reading_positions};
 ghost use Rattle.statement.specs.Gives.{is_memory};
 ghost use Rattle.statement.specs.FaultLines.{fault_line, fault_status, memory_line};
 ghost use Rattle.statement.specs.Rolls.{roll_of};
 ghost use Rattle.statement.specs.Rolls.{of_next_set};
-ghost use Rattle.statement.specs.Statement.{commodity_text, margin_of, row_text, statement_of, statement_text};
+ghost use Rattle.statement.specs.Statement.{accepted_of, commodity_text, margin_of, row_text, statement_of, statement_text};
 ghost use Rattle.statement.specs.Statement.{statement_under, total_line, total_numbers, total_of};
 ghost use Rattle.statement.specs.declared.faults.SpanFault.{SpanFault};
 ghost use Rattle.statement.specs.declared.faults.SpanFault.TheVariants as fault;
-ghost use Rattle.std.specs.Prelude.{◌++◌, ◌≡◌, ◌<◌, ◌≤◌, ◌∷◌, Err, List, Ok, [], flat_map};
-ghost use Rattle.std.specs.Prelude.{length, nat_eq, true, ℕ};
-ghost use Rattle.std.specs.List.{range_with_len};
+ghost use Rattle.std.specs.Prelude.{◌++◌, ◌≡◌, ◌<◌, ◌≤◌, ◌↔◌, ◌∷◌, Err, List, None, Ok, Some, [], filter, flat_map, is_ok};
+ghost use Rattle.std.specs.Prelude.{length, map, nat_eq, true, ℕ};
+ghost use Rattle.std.specs.List.{before_first, range_with_len};
+ghost use Rattle.std.specs.Result.{result_err};
 
 /// An account's lines are those of the commodities of which it holds a contract, and end with the line of its total.
 #[tactic(auto, unfolding(crate::specs::Statement::row_text))]
@@ -96,4 +99,29 @@ pub fn a_roll_is_two_statements()
 pub fn want_of_memory_is_told_apart()
     ensures line { (e : SpanFault) → is_memory e ≡ true → fault_line e ≡ memory_line }
     ensures status { (e : SpanFault) → nat_eq (fault_status e) 5 ≡ is_memory e }
+{}
+
+/// The list of all faults is empty exactly where the files are accepted, and else its first is the fault that they are refused for; so
+/// it is of a parameter file alone.
+pub fn faults_are_none_or_begin_with_the_first()
+    ensures both { (params positions : List ℕ)
+        → first_of (faults_of params (Some positions)) ≡ result_err (statement_of params positions) }
+    ensures none_of_both { (params positions : List ℕ)
+        → (faults_of params (Some positions) ≡ []) ↔ (is_ok (statement_of params positions) ≡ true) }
+    ensures params { (params : List ℕ) → first_of (faults_of params None) ≡ result_err (accepted_of params) }
+    ensures none_of_params { (params : List ℕ) → (faults_of params None ≡ []) ↔ (is_ok (accepted_of params) ≡ true) }
+{}
+
+/// The faults of a parameter file alone are those of both files up to the first fault of the positions.
+pub fn faults_of_parameters_stand_in_front()
+    ensures { (params positions : List ℕ)
+        → before_first is_of_positions (faults_of params (Some positions)) ≡ faults_of params None }
+{}
+
+/// The faults of reading positions are the same beside every parameter file: all that the file has.
+pub fn positions_are_read_beside_every_parameter_file()
+    ensures file { (params positions : List ℕ) → filter is_of_reading_positions (faults_of params (Some positions))
+        ≡ map fault.Positions (position_faults positions) }
+    ensures every { (params others positions : List ℕ) → filter is_of_reading_positions (faults_of params (Some positions))
+        ≡ filter is_of_reading_positions (faults_of others (Some positions)) }
 {}

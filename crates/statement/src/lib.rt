@@ -2,6 +2,7 @@
 #![tactic(auto)]
 
 pub mod accepting;
+pub mod all_faults;
 pub mod batches;
 pub mod counts;
 pub mod fault_lines;

@@ -15,6 +15,7 @@ use span_money::line_fields::Field;
 use span_tables::portfolios::{Portfolio, Portfolios};
 use span_tables::tables::Tables;
 use statement::accepting::{Accepted, accept};
+use statement::all_faults::{faults, faults_status, faults_text};
 use statement::batches::rows_alone;
 use statement::counts::{check_plain, write_counts};
 use statement::fault_lines::{tell_fault, write_fault};
@@ -209,6 +210,20 @@ fn of_stages(rt: &impl Abort, alloc: Global) {
     assert_eq!(rt; text.as_slice(), calendar::EXPLANATION);
 }
 
+// All faults of a parameter file and of a position file, with their lines and their status.
+fn of_all_faults(rt: &impl Abort, alloc: Global) {
+    let params = b"SET,D1,1,USD\nCOMMODITY,AA,0,SUM\nCOMMODITY,AA,0,SUM\n".as_slice();
+    let found = faults(alloc, params, Some(b"X,FA\n".as_slice())).expect(rt, "faults");
+    assert_eq!(rt; faults_status(&found), 3);
+    let lines = b"\
+parameters: C1 DuplicateCommodity at record 3
+positions: Q1 FieldCount at record 1
+"
+        .as_slice();
+    let text = faults_text(alloc, &found).expect(rt, "lines");
+    assert_eq!(rt; text.as_slice(), lines);
+}
+
 // The line of a fault.
 fn of_faults(rt: &impl Abort, alloc: Global) {
     let line = b"workers: L1 Workers\n".as_slice();
@@ -232,5 +247,6 @@ fn calls_succeed(rt: HostRuntime) {
     of_reasons(&rt, alloc);
     of_orders(&rt, alloc);
     of_stages(&rt, alloc);
+    of_all_faults(&rt, alloc);
     of_faults(&rt, alloc);
 }

@@ -1,11 +1,12 @@
 -- What is said of a refusal inside the library.
-use Rattle.std.specs.Prelude.{◌≡◌, ◌⊎◌, ℕ, List, ◌++◌, Some, None, Result, Ok, Err}
+use Rattle.std.specs.Prelude.{◌≡◌, ◌⊎◌, ℕ, List, [], ◌++◌, Some, None, Result, Ok, Err}
 use Rattle.statement.specs.FaultLines.{fault_line, fault_status}
 use Rattle.statement.specs.declared.faults.SpanFault.{SpanFault}
 use Rattle.statement.specs.declared.faults.SpanFault.TheVariants as fault
 use Rattle.statement.specs.declared.statuses.TheConstants.{FILE_FAILED}
-use Rattle.span_cli.specs.Serving.{Answer, Found, answer_of, done, file_line, refused}
+use Rattle.span_cli.specs.Serving.{Answer, Found, answer_of, file_line, refused}
 use Rattle.span_cli.specs.Sources.{File}
+use Rattle.span_cli.specs.declared.serving.Given.{Given}
 use Rattle.span_cli.specs.declared.serving.Refusal.{Refusal}
 use Rattle.span_cli.specs.declared.serving.Refusal.TheVariants as refusal
 use Rattle.span_cli.specs.declared.sources.ReadFault.TheVariants as read
@@ -24,14 +25,18 @@ refusal_status (refusal.Fault e) = fault_status e
 abbrev pub refusal_answer : Refusal → Answer
 refusal_answer r = refused (refusal_status r) (refusal_line r)
 
+-- what was given is an answer with nothing for the error stream
+abbrev pub given_answer : Given → Answer
+given_answer given = record { status = given.status; out = given.text.items; err = [] }
+
 -- what a request gave makes an answer that P holds of, unless for want of memory
-abbrev pub Runs : {X : Type 0} → (X → List ℕ) → Result X Refusal → (Answer → Type 0) → Type 0
-Runs view (Ok text) P = P (done (view text))
+abbrev pub Runs : {X : Type 0} → (X → Answer) → Result X Refusal → (Answer → Type 0) → Type 0
+Runs view (Ok given) P = P (view given)
 Runs view (Err r) P = (r ≡ refusal.Fault fault.Memory) ⊎ P (refusal_answer r)
 
 -- what a call gave makes one, unless for want of memory
-abbrev pub MayGive : {X : Type 0} → (X → List ℕ) → Result X SpanFault → (Answer → Type 0) → Type 0
-MayGive view (Ok text) P = P (done (view text))
+abbrev pub MayGive : {X : Type 0} → (X → Answer) → Result X SpanFault → (Answer → Type 0) → Type 0
+MayGive view (Ok given) P = P (view given)
 MayGive view (Err e) P = (e ≡ fault.Memory) ⊎ P (answer_of (Err e))
 
 -- what a load found is the file, unless for want of memory

@@ -13,31 +13,34 @@ fn nothing_but_a_set()
     ensures { counts_of set_d1 ≡ Ok (codes "OK,D1,0,0,0,0,0,0\n") }
 {}
 
-// Each kind of record, a different number of times: commodities, contracts, tiers, intracommodity spreads, spot months
-// and intercommodity spreads.
+// Each kind of record: of commodities, contracts and tiers a different number; of tiers, intracommodity spreads and spot months; and of
+// commodities and intercommodity spreads.
 fn each_kind()
-    ensures { counts_of (
+    ensures contracts { counts_of (
         codes "SET,D_1,1,USD\n"
-        ++ commodity (codes "AA") ++ commodity (codes "BB") ++ fa
+        ++ commodity (codes "AA") ++ commodity (codes "BB")
         ++ codes "TIER,AA,1,202501,202503\n"
         ++ codes "TIER,AA,2,202504,202506\n"
         ++ codes "TIER,AA,3,202507,202509\n"
-        ++ codes "INTRA,AA,1,250,1,A,1,2,B,1\n"
-        ++ codes "INTRA,AA,2,250,1,A,1,3,B,1\n"
-        ++ codes "INTRA,AA,3,250,2,A,1,3,B,1\n"
-        ++ codes "INTRA,AA,4,250,2,B,1,3,A,1\n"
+        ++ fa)
+        ≡ Ok (codes "OK,D_1,2,1,3,0,0,0\n") }
+    ensures spreads { counts_of (
+        codes "SET,D_1,1,USD\n"
+        ++ commodity (codes "AA")
+        ++ codes "TIER,AA,1,202501,202503\n"
+        ++ codes "TIER,AA,2,202504,202506\n"
         ++ codes "SPOT,AA,202503,10,20\n"
         ++ codes "SPOT,AA,202504,10,20\n"
         ++ codes "SPOT,AA,202505,10,20\n"
-        ++ codes "SPOT,AA,202506,10,20\n"
-        ++ codes "SPOT,AA,202507,10,20\n"
+        ++ codes "INTRA,AA,1,250,1,A,1,2,B,1\n")
+        ≡ Ok (codes "OK,D_1,1,0,2,1,3,0\n") }
+    ensures between_commodities { counts_of (
+        codes "SET,D_1,1,USD\n"
+        ++ commodity (codes "AA") ++ commodity (codes "BB")
         ++ codes "INTER,1,5000,AA,A,1,BB,B,1\n"
         ++ codes "INTER,2,5000,AA,A,1,BB,B,1\n"
-        ++ codes "INTER,3,5000,AA,A,1,BB,B,1\n"
-        ++ codes "INTER,4,5000,AA,A,1,BB,B,1\n"
-        ++ codes "INTER,5,5000,AA,A,1,BB,B,1\n"
-        ++ codes "INTER,6,5000,AA,A,1,BB,B,1\n")
-        ≡ Ok (codes "OK,D_1,2,1,3,4,5,6\n") }
+        ++ codes "INTER,3,5000,AA,A,1,BB,B,1\n")
+        ≡ Ok (codes "OK,D_1,2,0,0,0,0,3\n") }
 {}
 
 // No set, and a commodity twice.

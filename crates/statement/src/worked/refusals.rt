@@ -2,8 +2,10 @@
 #![tactic(auto, unfolding(crate::specs::near::OnLiterals::on_literals))]
 
 ghost use Rattle.std.specs.List.{repeat};
-ghost use Rattle.std.specs.Prelude.{◌+◌, ◌++◌, ◌≡◌, [], codes};
-ghost use Rattle.span_tables.specs.declared.limits.TheConstants.{MAX_COMMODITIES, MAX_TIERS};
+ghost use Rattle.std.specs.Prelude.{◌+◌, ◌++◌, ◌∷◌, ◌≡◌, Some, [], codes, false, true};
+ghost use Rattle.span_csv.specs.ParamFaults.{exceeds_limit};
+ghost use Rattle.span_csv.specs.declared.grammar.Kind.TheVariants as kind;
+ghost use Rattle.span_tables.specs.declared.limits.TheConstants.{MAX_COMMODITIES, MAX_SPOT_MONTHS, MAX_TIERS};
 ghost use Rattle.statement.specs.near.Samples.{commodity, fa, future, one_commodity, one_future, set_d1, two_tiers};
 ghost use Rattle.statement.specs.Statement.{statement_of};
 ghost use Rattle.statement.specs.declared.faults.SpanFault.TheVariants as span_fault;
@@ -34,16 +36,20 @@ fn values()
         ≡ Err (span_fault.Params (params.OutOfRange 3)) }
 {}
 
-// One tier of a commodity too many.
-fn too_many_tiers()
-    ensures { statement_of (one_commodity ++ repeat (MAX_TIERS + 1) (codes "TIER,AA,1,202501,202504\n")) []
-        ≡ Err (span_fault.Params (params.TooMany (MAX_TIERS + 3))) }
+// One tier of a commodity too many behind those that count, and one commodity.
+fn too_many_of_a_kind()
+    ensures tiers { exceeds_limit (repeat MAX_TIERS ((codes "TIER" ∷ codes "AA" ∷ codes "1" ∷ []) ∷ []))
+        (codes "TIER" ∷ codes "AA" ∷ codes "2" ∷ []) (Some kind.Tier) ≡ true }
+    ensures of_another { exceeds_limit (repeat MAX_TIERS ((codes "TIER" ∷ codes "AA" ∷ codes "1" ∷ []) ∷ []))
+        (codes "TIER" ∷ codes "BB" ∷ codes "2" ∷ []) (Some kind.Tier) ≡ false }
+    ensures commodities { exceeds_limit (repeat MAX_COMMODITIES ((codes "COMMODITY" ∷ codes "AA" ∷ []) ∷ []))
+        (codes "COMMODITY" ∷ codes "BB" ∷ []) (Some kind.Commodity) ≡ true }
 {}
 
-// One commodity too many.
-fn too_many_commodities()
-    ensures { statement_of (set_d1 ++ repeat (MAX_COMMODITIES + 1) (commodity (codes "AA"))) []
-        ≡ Err (span_fault.Params (params.TooMany (MAX_COMMODITIES + 2))) }
+// One spot month of a commodity too many, in a file.
+fn too_many_spot_months()
+    ensures { statement_of (one_commodity ++ repeat (MAX_SPOT_MONTHS + 1) (codes "SPOT,AA,202503,10,20\n")) []
+        ≡ Err (span_fault.Params (params.TooMany (MAX_SPOT_MONTHS + 3))) }
 {}
 
 // A commodity and a contract that stand twice; and a contract of an unknown commodity, which counts before tiers that overlap.

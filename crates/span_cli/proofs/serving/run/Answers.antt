@@ -10,17 +10,17 @@ returns-in_err-files g c =
     rw (is) (unread_answer (g.S.Sources.file c.args.sources.now) (asked_by c.args.request.now) _
     (rw (c.deref.ensures.0, c.files.ensures) at c.in_err-files.ensures.known))
 
-pub returns-in_err-text : goal.returns-in_err-text
-returns-in_err-text g c =
-    let is : c.from_residual-in_err-text.result ≡ Err (refusal.Fault c.in_err-text.field-0.0) = search rules in
+pub returns-in_err-given : goal.returns-in_err-given
+returns-in_err-given g c =
+    let is : c.from_residual-in_err-given.result ≡ Err (refusal.Fault c.in_err-given.field-0.0) = search rules in
     rw (is) (fault_answer (g.S.Sources.file c.args.sources.now) (asked_by c.args.request.now)
     (map (λ file. file.items) c.in_ok-files.files.items) _
     (rw (c.deref.ensures.0, c.files.ensures) at c.in_ok-files.ensures.known)
-    (rw c.deref-2.ensures.0 at c.in_err-text.ensures))
+    (rw c.deref-2.ensures.0 at c.in_err-given.ensures))
 
 pub returns : goal.returns
 returns g c =
     read_answer (g.S.Sources.file c.args.sources.now) (asked_by c.args.request.now)
     (map (λ file. file.items) c.in_ok-files.files.items) _
     (rw (c.deref.ensures.0, c.files.ensures) at c.in_ok-files.ensures.known)
-    (rw c.deref-2.ensures.0 at c.in_ok-text.ensures)
+    (rw c.deref-2.ensures.0 at c.in_ok-given.ensures)
