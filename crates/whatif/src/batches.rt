@@ -21,7 +21,7 @@ use std::time::Clock;
 use worker_pool::gates::Gate;
 
 /// How many portfolios a batch has, at most.
-pub(crate) const MOST_AT_ONCE: usize = 1024;
+pub(crate) const MOST_AT_ONCE: usize = 512;
 
 /// What batches are lent: a runtime, an allocator, the set, so many workers and the gate that they pass.
 #[derive(Drop)]

@@ -22,8 +22,6 @@ ghost use Rattle.std.specs.Prelude.{◌≡◌, ◌-ℤ◌, ◌++◌, ◌<◌, Er
 ghost use Rattle.std.specs.Prelude.{pos, ℕ};
 ghost use Rattle.whatif.specs.Whatif.{changed_by, due_at, order_line, order_text, requirement_at, tried_of, whatif_text};
 
-use span_csv::order_laws::each_order_has_one_account;
-
 /// The changes of the commodities that have a line add up to the change of the total of the account.
 pub fn changes_add_up()
     ensures { (t : AcceptedTables) (o : TriedOrder)
@@ -77,10 +75,7 @@ pub fn an_orders_records_are_accepted_behind_the_positions()
         → orders_bound t.contracts portfolios records ≡ Ok tried → is_among (orders_in records) order ≡ true
         → portfolios_under t (positions ++ positions_of_order records order)
         ≡ Ok (portfolios_of t.contracts (positions ++ positions_of_order records order)) }
-{
-    // The records of an order are all of its account, so each other account holds what it held.
-    each_order_has_one_account()
-}
+{}
 
 /// Nothing is required in a commodity of which nothing is held, and an account that holds nothing has total 0 and owes nothing.
 pub fn what_holds_nothing_requires_nothing()
