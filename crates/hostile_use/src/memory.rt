@@ -142,19 +142,12 @@ fn orders_on<R: Threads + Wait + Clock + Sync + Abort>(
 }
 
 #[test]
-fn orders_on_one_worker(rt: HostRuntime) -> Result<(), Fail> {
+fn orders_on_one_worker_and_on_four(rt: HostRuntime) -> Result<(), Fail> {
     let alloc = rt.alloc();
-    if was_refused(orders_on(&rt, alloc, 1))? {
-        orders_on(&rt, alloc, 1)?;
-    }
-    Ok(())
-}
-
-#[test]
-fn orders_on_four_workers(rt: HostRuntime) -> Result<(), Fail> {
-    let alloc = rt.alloc();
-    if was_refused(orders_on(&rt, alloc, 4))? {
-        orders_on(&rt, alloc, 4)?;
+    for workers in [1, 4] {
+        if was_refused(orders_on(&rt, alloc, workers))? {
+            orders_on(&rt, alloc, workers)?;
+        }
     }
     Ok(())
 }

@@ -389,6 +389,7 @@ impl FieldForm {
     }
 
     /// Whether a field's text passes the test of its form.
+    #[inline(always)]
     pub(crate) fn passes(self, test: FieldTest, text: &[u8]) -> bool
         ensures { result ≡ passes test self text.now }
     {
