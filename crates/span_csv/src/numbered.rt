@@ -1,6 +1,6 @@
 //! Records with a name in front that numbers them: a position's account, or an order, which stands in place of an account.
 ghost use Rattle.std.specs.Prelude.{◌≡◌, ◌+◌, ◌<◌, ◌++◌, ◌∷◌, [], ◌≤◌, ⊤, ℕ, IfOk, IsTrue, ◌↔◌, MatchBool};
-ghost use Rattle.std.specs.Prelude.{MatchResult, OnOk, Ok, Err, Some, false, length, nat_abs, slice_get, true};
+ghost use Rattle.std.specs.Prelude.{IfSome, MatchResult, OnOk, OnSome, Ok, Err, Some, false, length, nat_abs, slice_get, true};
 ghost use Rattle.csv.specs.Records.{fields_of};
 ghost use Rattle.span_money.specs.Numbers.{whole_number};
 ghost use Rattle.span_csv.specs.PositionFaults.{is_memory};
@@ -13,6 +13,7 @@ ghost use Rattle.span_tables.specs.near.Positions.{named_position, named_positio
 ghost use Rattle.span_tables.specs.declared.limits.TheConstants.{MAX_ORDERS, MAX_QUANTITY};
 
 use crate::faults::PositionFault;
+use crate::grammar::text_at;
 use crate::rows::field;
 use csv::ByteRecord;
 use indexmap::IndexSet;
@@ -43,14 +44,16 @@ fn quantity_from(at: usize, text: &[u8]) -> Result<i32, PositionFault>
     Ok(quantity as i32)
 }
 
-// Whether so many fields in front are names.
+// Whether so many fields in front are names, of which the first `tested` are known to be.
 #[inline(always)]
-fn are_names(row: &ByteRecord, names: usize) -> bool
-    requires { names ≤ length (fields_of row.now) }
+fn are_names(row: &ByteRecord, tested: usize, names: usize) -> bool
+    requires few { tested ≤ names }
+    requires room { names ≤ length (fields_of row.now) }
+    requires tested { are_names tested (fields_of row.now) ≡ true }
     ensures value { result ≡ are_names names (fields_of row.now) }
     ensures each { result ≡ true → (i : ℕ) → i < names → is_name (text_at (fields_of row.now) i) ≡ true }
 {
-    for i in 0..names {
+    for i in tested..names {
         if !is_name(field(row, i)) {
             return false;
         }
@@ -58,11 +61,18 @@ fn are_names(row: &ByteRecord, names: usize) -> bool
     true
 }
 
-/// The quantity of a record of so many names, whose number is `at`.
+/// The quantity of a record of so many names, whose number is `at`. The first `tested` of the names are known to be some.
 #[inline(always)]
 #[tactic(auto, unfolding(crate::specs::near::NumberedReading::quantity_alone))]
-pub(crate) fn quantity(names: usize, at: usize, row: &ByteRecord) -> Result<i32, PositionFault>
-    requires { names ≤ 3 }
+pub(crate) fn quantity(
+    names: usize,
+    tested: usize,
+    at: usize,
+    row: &ByteRecord,
+) -> Result<i32, PositionFault>
+    requires few { names ≤ 3 }
+    requires front { tested ≤ names }
+    requires tested { are_names tested (fields_of row.now) ≡ true }
     ensures value { result ≡ quantity_alone names at (fields_of row.now) }
     ensures fields { OnOk result (length (fields_of row.now) ≡ names + 1) }
     ensures named { OnOk result ((i : ℕ) → i < names → is_name (text_at (fields_of row.now) i) ≡ true) }
@@ -71,7 +81,7 @@ pub(crate) fn quantity(names: usize, at: usize, row: &ByteRecord) -> Result<i32,
     if row.len() != names + 1 {
         return Err(PositionFault::FieldCount { at });
     }
-    if !are_names(row, names) {
+    if !are_names(row, tested, names) {
         return Err(PositionFault::BadName { at });
     }
     quantity_from(at, field(row, names))
@@ -79,11 +89,24 @@ pub(crate) fn quantity(names: usize, at: usize, row: &ByteRecord) -> Result<i32,
 
 /// Whether a name stands at a place.
 pub(crate) fn stands_at(known: &[Name], place: u32, name: &[u8]) -> bool
-    ensures { IsTrue result ↔ (slice_get known.now place ≡ Some name.now) }
+    ensures at { IsTrue result ↔ (slice_get known.now place ≡ Some name.now) }
+    ensures is_name { IsTrue result → is_name name.now ≡ true }
 {
     match known.get(place as usize) {
         Some(known) => known.as_bytes() == name,
         None => false,
+    }
+}
+
+/// The place, if a name stands at it.
+pub(crate) fn found_at(known: &[Name], place: u32, name: &[u8]) -> Option<u32>
+    ensures at { IfSome result (λ at. slice_get known.now at ≡ Some name.now) }
+    ensures is_name { OnSome result (is_name name.now ≡ true) }
+{
+    if stands_at(known, place, name) {
+        Some(place)
+    } else {
+        None
     }
 }
 
@@ -94,16 +117,17 @@ fn is_one_too_many(known: &IndexSet<Name>, most: usize, name: &Name) -> bool
     !known.contains(name) && known.len() == most
 }
 
-/// The place of a name, which is put last where it is new, also where it is one too many. A last record's place is tried first.
+/// The place of a name, where it is not found already. It is put last where it is new, also where it is one too many.
 #[inline(always)]
 #[tactic(auto, using(span_tables::proofs::NumberedLaws::among_at))]
 pub(crate) fn place(
     most: usize,
     at: usize,
     known: &mut IndexSet<Name>,
-    last: u32,
+    found: Option<u32>,
     name: &[u8],
 ) -> Result<u32, PositionFault>
+    requires found { IfSome found (λ place. slice_get known.old.keys place ≡ Some name.now) }
     requires name { is_name name.now ≡ true }
     requires few { length known.old.keys ≤ most }
     requires most { most ≤ MAX_ORDERS }
@@ -114,8 +138,8 @@ pub(crate) fn place(
     ensures taken { OnOk result (known.new.keys ≡ with_name known.old.keys name.now) }
     ensures at { IfOk result (λ place. slice_get known.new.keys place ≡ Some name.now) }
 {
-    if stands_at(known.as_slice(), last, name) {
-        return Ok(last);
+    if let Some(place) = found {
+        return Ok(place);
     }
     let name = Name::of(name);
     let too_many = is_one_too_many(known, most, &name);
@@ -159,8 +183,10 @@ pub(crate) fn next_position(
     ensures names { OnOk result ((i : ℕ) → i < names → is_name (text_at (fields_of row.now) i) ≡ true) }
 {
     let at = earlier.len() + 1;
-    let quantity = quantity(names, at, row)?;
-    let account = place(most, at, known, last_place(earlier), field(row, 0))?;
+    let first = text_at(row, 0);
+    let last = found_at(known.as_slice(), last_place(earlier), first);
+    let quantity = quantity(names, usize::from(last.is_some()), at, row)?;
+    let account = place(most, at, known, last, first)?;
     Ok(NumberedPosition {
         contract: Name::of(field(row, names - 1)),
         account,

@@ -12,7 +12,7 @@ ghost use Rattle.span_tables.specs.near.Positions.{named_positions, AreNumbered}
 ghost use Rattle.span_tables.specs.declared.limits.TheConstants.{MAX_ACCOUNTS};
 
 use crate::faults::PositionFault;
-use crate::numbered::{next_position, place, quantity};
+use crate::numbered::{found_at, next_position, place, quantity};
 use crate::rows::{Rows, field};
 use csv::ByteRecord;
 use indexmap::IndexSet;
@@ -72,12 +72,14 @@ fn check_row(
     ensures { (rs : List Fields) → length rs + 1 ≡ at → accounts.old.keys ≡ accounts_counted rs
         → CheckIs rs (fields_of row.now) result accounts.new.keys }
 {
-    quantity(POSITION_NAMES, at, row)?;
+    quantity(POSITION_NAMES, 0, at, row)?;
     if accounts.len() > MAX_ACCOUNTS {
         return Ok(());
     }
     let last = accounts.len().saturating_sub(1) as u32;
-    place(MAX_ACCOUNTS, at, accounts, last, field(row, 0))?;
+    let account = field(row, 0);
+    let last = found_at(accounts.as_slice(), last, account);
+    place(MAX_ACCOUNTS, at, accounts, last, account)?;
     Ok(())
 }
 

@@ -23,21 +23,21 @@ returns-in_err-account-clause-found c =
     let e = c.in_err-account.field-0.0 in
     let full = next_full c.args.names c.args.most c.args.known.now.keys c.args.earlier.now (fields_of c.args.row.now)
     c.requires.numbered c.in_ok-quantity.quantity (sym c.in_ok-quantity.ensures.value) in
-    rw (p.1, p.2) (told_by (is_memory e) (rw c.field.ensures at c.in_err-account.ensures.room) (λ h. rw (h.0) (full h.1)))
+    rw (p.1, p.2) (told_by (is_memory e) (rw c.text_at-first.ensures at c.in_err-account.ensures.room) (λ h. rw (h.0) (full h.1)))
 
 pub returns-clause-found : goal.returns-clause-found
 returns-clause-found c =
     let q = c.in_ok-quantity.quantity in
     let fits : SFits w32 q = search rules in
-    rw (to_z-of_z w32 q fits, c.of.ensures, c.field-2.ensures)
+    rw (to_z-of_z w32 q fits, c.of.ensures, c.field.ensures)
     (next_read c.args.names c.args.most c.args.known.now.keys c.args.earlier.now
     (fields_of c.args.row.now) c.requires.numbered c.place.new.known.keys c.in_ok-account.account q
-    (sym c.in_ok-quantity.ensures.value) (rw c.field.ensures at c.in_ok-account.ensures.room)
-    (rw c.field.ensures at c.in_ok-account.ensures.at))
+    (sym c.in_ok-quantity.ensures.value) (rw c.text_at-first.ensures at c.in_ok-account.ensures.room)
+    (rw c.text_at-first.ensures at c.in_ok-account.ensures.at))
 
 pub returns-clause-named : goal.returns-clause-named
 returns-clause-named c =
-    named_more c.args.known.now.keys c.place.new.known.keys c.args.earlier.now _ c.field.result.now c.requires.numbered
+    named_more c.args.known.now.keys c.place.new.known.keys c.args.earlier.now _ c.text_at-first.result.now c.requires.numbered
     c.in_ok-account.ensures.taken c.in_ok-account.ensures.at
 
 pub returns-clause-numbered : goal.returns-clause-numbered
@@ -46,13 +46,13 @@ returns-clause-numbered c =
     let fits : SFits w32 q = search rules in
     let few : length c.place.new.known.keys ≤ c.args.most =
     rw (c.in_ok-account.ensures.taken)
-    (still_few c.args.most c.args.known.now.keys c.field.result.now c.requires.few c.in_ok-account.ensures.room) in
+    (still_few c.args.most c.args.known.now.keys c.text_at-first.result.now c.requires.few c.in_ok-account.ensures.room) in
     rw (to_z-of_z w32 q fits)
-    (numbered_more c.args.known.now.keys c.place.new.known.keys c.args.earlier.now _ c.field.result.now c.requires.numbered
+    (numbered_more c.args.known.now.keys c.place.new.known.keys c.args.earlier.now _ c.text_at-first.result.now c.requires.numbered
     c.in_ok-account.ensures.taken c.in_ok-account.ensures.at
     (omega (arith, few, c.requires.most)) c.in_ok-quantity.ensures.size)
 
 pub returns-clause-few : goal.returns-clause-few
 returns-clause-few c =
     rw (c.in_ok-account.ensures.taken)
-    (still_few c.args.most c.args.known.now.keys c.field.result.now c.requires.few c.in_ok-account.ensures.room)
+    (still_few c.args.most c.args.known.now.keys c.text_at-first.result.now c.requires.few c.in_ok-account.ensures.room)

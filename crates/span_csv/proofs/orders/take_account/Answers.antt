@@ -10,10 +10,10 @@ returns-then-not-stands_at-clause-same c =
       refl,
       of_another accounts c.args.place c.args.account.now within (λ there.
           let here : slice_get c.deref.result.now c.args.place ≡ Some c.args.account.now = rw c.deref.ensures.value there in
-          let e : true ≡ false = sym (c.stands_at.ensures.1 here) ∙ c.if-not-stands_at.true in cc),
+          let e : true ≡ false = sym (c.stands_at.ensures.at.1 here) ∙ c.if-not-stands_at.true in cc),
     )
 
 pub returns-clause-same : goal.returns-clause-same
 returns-clause-same c =
     of_same c.args.accounts.now.items c.args.place c.args.account.now
-    (rw c.deref.ensures.value at c.stands_at.ensures.0 c.if-not-stands_at.false)
+    (rw c.deref.ensures.value at c.stands_at.ensures.at.0 c.if-not-stands_at.false)

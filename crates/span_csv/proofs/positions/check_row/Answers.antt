@@ -23,11 +23,11 @@ returns-in_err-place c = λ rs count are.
     let p = err_from_is_err_and c.from_residual-in_err-place.result c.from_residual-in_err-place.ensures.1 in
     rw (p.1, p.2) (checked_full rs (fields_of c.args.row.now) c.args.at c.args.accounts.now.keys count are c.in_ok-quantity.field-0
     (sym c.in_ok-quantity.ensures.value) c.in_err-place.field-0.0 c.place.new.known.keys few
-    (rw c.field.ensures at c.in_err-place.ensures.room))
+    (rw c.field-account.ensures at c.in_err-place.ensures.room))
 
 pub returns : goal.returns
 returns c = λ rs count are.
     let few : length c.args.accounts.now.keys ≤ MAX_ACCOUNTS = omega (arith, c.len.ensures.len, c.if-len-gt-MAX_ACCOUNTS.false) in
     checked_taken rs (fields_of c.args.row.now) c.args.at c.args.accounts.now.keys count are c.in_ok-quantity.field-0
-    (sym c.in_ok-quantity.ensures.value) c.place.new.known.keys few (rw c.field.ensures at c.in_ok-place.ensures.room)
-    (rw c.field.ensures at c.in_ok-place.ensures.taken)
+    (sym c.in_ok-quantity.ensures.value) c.place.new.known.keys few (rw c.field-account.ensures at c.in_ok-place.ensures.room)
+    (rw c.field-account.ensures at c.in_ok-place.ensures.taken)
