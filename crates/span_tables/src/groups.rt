@@ -24,17 +24,33 @@ pub(crate) fn number_of(commodities: &[Commodity], id: &Name) -> usize
     place_of(commodities, id).unwrap_or(commodities.len())
 }
 
+// The same, where the number `near` is tried first: records of a commodity mostly stand together.
+pub(crate) fn number_near(commodities: &[Commodity], near: usize, id: &Name) -> usize
+    requires { has_repeat (λ c d. bytes_eq c.id d.id) commodities.now ≡ false }
+    ensures { result ≡ commodity_number commodities.now id.now }
+{
+    if let Some(commodity) = commodities.get(near) {
+        if commodity.id == *id {
+            return near;
+        }
+    }
+    number_of(commodities, id)
+}
+
 // The number of the commodity of each contract.
 pub(crate) fn numbers_of(
     alloc: Global,
     commodities: &[Commodity],
     contracts: &[Contract],
 ) -> Result<Vec<usize>, AllocError>
+    requires { has_repeat (λ c d. bytes_eq c.id d.id) commodities.now ≡ false }
     ensures { IfOk result (λ numbers. numbers.items ≡ map (λ x. commodity_number commodities.now x.commodity) contracts.now) }
 {
     let mut numbers = Vec::new(alloc);
+    let mut number = 0;
     for contract in contracts {
-        numbers.push(number_of(commodities, &contract.commodity))?;
+        number = number_near(commodities, number, &contract.commodity);
+        numbers.push(number)?;
     }
     Ok(numbers)
 }
@@ -88,8 +104,9 @@ pub(crate) fn tiers_by_commodity(
         ≡ map (λ c. filter (λ t. bytes_eq t.commodity c.id) tiers.now) commodities.now) }
 {
     let mut lists = empty_lists(alloc, commodities.len())?;
+    let mut place = 0;
     for tier in tiers {
-        let place = number_of(commodities, &tier.commodity);
+        place = number_near(commodities, place, &tier.commodity);
         push_at(&mut lists, place, tier.copied())?;
     }
     Ok(lists)
@@ -107,8 +124,9 @@ pub(crate) fn spots_by_commodity(
         ≡ map (λ c. filter (λ s. bytes_eq s.commodity c.id) spots.now) commodities.now) }
 {
     let mut lists = empty_lists(alloc, commodities.len())?;
+    let mut place = 0;
     for spot in spots {
-        let place = number_of(commodities, &spot.commodity);
+        place = number_near(commodities, place, &spot.commodity);
         push_at(&mut lists, place, spot.copied())?;
     }
     Ok(lists)

@@ -5,7 +5,7 @@ ghost use Rattle.span_tables.specs.Accepted.{commodity_number};
 ghost use Rattle.span_tables.specs.Names.{has_repeat};
 ghost use Rattle.span_tables.specs.Tables.{commodity_leg, inter_spread, intra_spread, month_leg};
 
-use crate::groups::{empty_lists, number_of, push_at, tiers_by_commodity};
+use crate::groups::{empty_lists, number_near, number_of, push_at, tiers_by_commodity};
 use crate::name::Name;
 use crate::records::{
     Commodity, CommodityLeg, Inter, InterLeg, InterRecord, Intra, IntraLeg, IntraRecord, MonthLeg,
@@ -67,8 +67,9 @@ pub(crate) fn intras_by_commodity(
 {
     let tier_lists = tiers_by_commodity(alloc, commodities, tiers)?;
     let mut lists = empty_lists(alloc, commodities.len())?;
+    let mut place = 0;
     for spread in spreads {
-        let place = number_of(commodities, &spread.commodity);
+        place = number_near(commodities, place, &spread.commodity);
         let intra = intra_of(&tier_lists[place], spread);
         push_at(&mut lists, place, intra)?;
     }

@@ -12,29 +12,29 @@ loop-spread-init c =
 
 pub index-requires : goal.index-requires
 index-requires c =
-    let within : c.number_of-place.result < length c.in_ok-tier_lists.tier_lists.items =
+    let within : c.number_near-place.result < length c.in_ok-tier_lists.tier_lists.items =
     place_within (λ d. d.id) (λ x. x.commodity) _ _ c.args.commodities.now c.args.spreads.now _ _ _ _ c.in_ok-tier_lists.ensures
-    c.requires.known c.loop-spread-test.true c.spread-item.is c.number_of-place.ensures in
+    c.requires.known c.loop-spread-test.true c.spread-item.is c.number_near-place.ensures in
     omega (arith, within, c.in_ok-tier_lists.tier_lists.ok.0)
 
 pub push_at-requires : goal.push_at-requires
 push_at-requires c =
     place_within (λ d. d.id) (λ x. x.commodity) _ _ c.args.commodities.now c.args.spreads.now _ _ _ _ c.loop-spread.invariant
-    c.requires.known c.loop-spread-test.true c.spread-item.is c.number_of-place.ensures
+    c.requires.known c.loop-spread-test.true c.spread-item.is c.number_near-place.ensures
 
 pub loop-spread-preserved : goal.loop-spread-preserved
 loop-spread-preserved c =
     let cs = c.args.commodities.now in
     let tiers = c.args.tiers.now in
-    let within : c.number_of-place.result < length c.in_ok-tier_lists.tier_lists.items =
+    let within : c.number_near-place.result < length c.in_ok-tier_lists.tier_lists.items =
     place_within (λ d. d.id) (λ x. x.commodity) _ _ c.args.commodities.now c.args.spreads.now _ _ _ _ c.in_ok-tier_lists.ensures
-    c.requires.known c.loop-spread-test.true c.spread-item.is c.number_of-place.ensures in
-    let found = tiers_found _ cs tiers _ _ _ c.spread-item.result c.in_ok-tier_lists.ensures c.number_of-place.ensures within
+    c.requires.known c.loop-spread-test.true c.spread-item.is c.number_near-place.ensures in
+    let found = tiers_found _ cs tiers _ _ _ c.spread-item.result c.in_ok-tier_lists.ensures c.number_near-place.ensures within
     c.index.ensures in
     let made = c.intra_of-intra.ensures ∙ ap (λ ts. intra_spread ts c.spread-item.result) c.deref.ensures.value ∙ found
     ∙ ap (intra_spread tiers) c.spread-item.is in
     groups_more (λ d. d.id) (λ x. x.commodity)
-    (intra_spread tiers) cs c.args.spreads.now c.loop-spread.spread-index c.spread-item.result _ _ c.number_of-place.result
+    (intra_spread tiers) cs c.args.spreads.now c.loop-spread.spread-index c.spread-item.result _ _ c.number_near-place.result
     c.intra_of-intra.result c.requires.apart c.loop-spread-test.true c.requires.known c.loop-spread.invariant
-    (c.number_of-place.ensures ∙ ap (λ (s : IntraRecord). commodity_number cs s.commodity) c.spread-item.is) made
+    (c.number_near-place.ensures ∙ ap (λ (s : IntraRecord). commodity_number cs s.commodity) c.spread-item.is) made
     c.in_ok-push_at.ensures.items

@@ -2,6 +2,9 @@ use Rattle.span_tables.proofs.WithinLimits.{accepted_intras, accepted_limits, ac
 use Rattle.span_tables.proofs.TablesMade.{are_tables}
 use Rattle.span_tables.proofs.tables.Tables.with_numbers.Goals as goal
 
+pub numbers_of-requires : goal.numbers_of-requires
+numbers_of-requires c = rw c.as_slice-commodities.ensures.value (accepted_limits _ c.requires).commodities_apart
+
 pub intras_by_commodity-requires-clause-apart : goal.intras_by_commodity-requires-clause-apart
 intras_by_commodity-requires-clause-apart c = rw c.as_slice-commodities.ensures.value (accepted_limits _ c.requires).commodities_apart
 
