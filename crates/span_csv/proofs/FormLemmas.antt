@@ -123,6 +123,13 @@ all_of_form test f (suc n) back (x ∷ fields) all =
     let parts = and_parts (test f x) (all_have test (repeat n (f ∷ []) ++ back) fields) all in
     and_from (test f x) (list_all (test f) (take n fields)) parts.0 (all_of_form test f n back fields parts.1)
 
+-- many fields of one form pass where each does
+pub all_have-repeat : (test : FieldForm → List ℕ → Bool) (f : FieldForm) (n : ℕ) (fields : Fields)
+    → all_have test (repeat n (f ∷ [])) fields ≡ list_all (test f) (take n fields)
+all_have-repeat test f zero fields = refl
+all_have-repeat test f (suc n) [] = refl
+all_have-repeat test f (suc n) (x ∷ fields) = ap (λ b. test f x && b) (all_have-repeat test f n fields)
+
 -- ---- layouts
 
 pub length-repeat : {A : Type 0} (n : ℕ) (xs : List A) → length (repeat n xs) ≡ n * length xs

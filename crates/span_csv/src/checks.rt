@@ -1,14 +1,15 @@
 //! The faults of a single record: its kind, its number of fields, and their forms and ranges.
-ghost use Rattle.std.specs.Prelude.{◌≡◌, ◌++◌, MatchResult, OnOk, Some};
+ghost use Rattle.std.specs.Prelude.{◌≡◌, ◌++◌, IfOk, MatchResult, OnOk, Some};
 ghost use Rattle.csv.specs.Records.{fields_of};
 ghost use Rattle.span_csv.specs.near.Checks.{IsFaultOf, IsFree, field_faults, kind_faults};
-ghost use Rattle.span_csv.specs.near.Grammar.{FitsKind};
+ghost use Rattle.span_csv.specs.near.Grammar.{FitsKind, HasValues};
 ghost use Rattle.span_csv.specs.ParamFaults.{is_set};
 ghost use Rattle.span_csv.specs.Records.{kind_of};
 
 use crate::faults::ParamFault;
-use crate::grammar::{FieldTest, Kind, kind_named, text_at};
+use crate::grammar::{FieldTest, Kind, fits, kind_named, text_at};
 use csv::ByteRecord;
+use span_tables::limits::SCENARIOS;
 
 /// Whether a record is a SET.
 pub(crate) fn is_set(row: &ByteRecord) -> bool
@@ -36,10 +37,17 @@ fn check_kind(first: bool, at: usize, row: &ByteRecord) -> Result<Kind, ParamFau
     }
 }
 
-// The number of fields of a record under a profile, and their forms and ranges.
-fn check_fields(at: usize, profile: u8, kind: Kind, row: &ByteRecord) -> Result<(), ParamFault>
+// The number of fields of a record under a profile, and their forms and ranges. The values of a risk array are read with that.
+fn check_fields(
+    at: usize,
+    profile: u8,
+    kind: Kind,
+    row: &ByteRecord,
+    values: &mut [i64; SCENARIOS],
+) -> Result<(), ParamFault>
     requires { kind_of (fields_of row.now) ≡ Some kind }
-    ensures { MatchResult result
+    ensures values { OnOk result (HasValues kind (fields_of row.now) values.new) }
+    ensures told { MatchResult result
         (λ _. FitsKind kind (fields_of row.now) × IsFree (field_faults profile (fields_of row.now)))
         (λ e. IsFaultOf (field_faults profile (fields_of row.now)) at e) }
 {
@@ -47,7 +55,7 @@ fn check_fields(at: usize, profile: u8, kind: Kind, row: &ByteRecord) -> Result<
         return Err(ParamFault::FieldCount { at });
     };
     // One walk over the fields serves a record without a fault.
-    if layout.all_have(FieldTest::All, row) {
+    if fits(kind, profile, &layout, row, values) {
         return Ok(());
     }
     if !layout.all_have(FieldTest::Word, row) {
@@ -61,19 +69,21 @@ fn check_fields(at: usize, profile: u8, kind: Kind, row: &ByteRecord) -> Result<
 }
 
 /// The kind of a record whose fields have their forms under a profile, or its lowest-numbered fault, as far as nothing
-/// else of the earlier records matters.
+/// else of the earlier records matters. The values of a risk array are read with that.
 pub(crate) fn check_form(
     first: bool,
     at: usize,
     profile: u8,
     row: &ByteRecord,
+    values: &mut [i64; SCENARIOS],
 ) -> Result<Kind, ParamFault>
+    ensures values { IfOk result (λ kind. HasValues kind (fields_of row.now) values.new) }
     ensures kind { MatchResult result
         (λ kind. (kind_of (fields_of row.now) ≡ Some kind) × FitsKind kind (fields_of row.now))
         (λ e. IsFaultOf (kind_faults first (fields_of row.now) ++ field_faults profile (fields_of row.now)) at e) }
     ensures free { OnOk result (IsFree (kind_faults first (fields_of row.now) ++ field_faults profile (fields_of row.now))) }
 {
     let kind = check_kind(first, at, row)?;
-    check_fields(at, profile, kind, row)?;
+    check_fields(at, profile, kind, row, values)?;
     Ok(kind)
 }

@@ -1,18 +1,17 @@
 //! What a record says, whose fields have their forms.
-ghost use Rattle.std.specs.Prelude.{◌≡◌, ◌≤◌, ◌+◌, ◌<◌, ◌^◌, drop, length, map, pos, take, true, unwrap_or};
+ghost use Rattle.std.specs.Prelude.{◌≡◌, ◌+◌, ◌<◌, ◌^◌, drop, map, true};
 ghost use Rattle.csv.specs.Records.{fields_of};
-ghost use Rattle.span_csv.specs.near.Grammar.{FitsKind, leg_at};
-ghost use Rattle.span_csv.specs.Records.{array_place, commodity_record, contract_record, count_at, extras_in, inter_leg};
+ghost use Rattle.span_csv.specs.near.Grammar.{array_values, FitsKind, HasValues, leg_at};
+ghost use Rattle.span_csv.specs.Records.{commodity_record, contract_record, count_at, extras_in, inter_leg};
 ghost use Rattle.span_csv.specs.Records.{inter_record, intra_leg, intra_record, legs_of, ratio_at, record_of_kind, set_record};
 ghost use Rattle.span_csv.specs.Records.{spot_record, text_at, tier_record};
 ghost use Rattle.span_csv.specs.declared.contents.TheConstants.{EXTRAS};
 ghost use Rattle.span_csv.specs.declared.grammar.Kind.TheVariants as kind;
-ghost use Rattle.span_money.specs.Numbers.{whole_number};
 ghost use Rattle.span_tables.specs.Names.{is_name};
 
 use crate::fields::{
     count_at, currency_at, delta_at, method_at, name_at, product_at, profile_at, ratio_at,
-    scale_at, side_at, whole_at,
+    scale_at, side_at,
 };
 use crate::grammar::Kind;
 use arrayvec::ArrayVec;
@@ -23,11 +22,11 @@ use span_tables::records::{
     SetRecord, Spot, Tier,
 };
 
-// The place of the first value of a CONTRACT's risk array.
-const FIRST_VALUE: usize = 7;
+/// The place of the first value of a CONTRACT's risk array.
+pub(crate) const FIRST_VALUE: usize = 7;
 
-// The place of what a profile adds, behind the risk array.
-const EXTRAS: usize = FIRST_VALUE + SCENARIOS;
+/// The place of what a profile adds, behind the risk array.
+pub(crate) const EXTRAS: usize = FIRST_VALUE + SCENARIOS;
 
 fn set_record(row: &ByteRecord) -> SetRecord
     requires { FitsKind kind.Set (fields_of row.now) }
@@ -51,18 +50,6 @@ fn commodity_record(row: &ByteRecord) -> Commodity
     }
 }
 
-// The values of a risk array.
-fn array_values(row: &ByteRecord) -> [i64; SCENARIOS]
-    requires { EXTRAS ≤ length (fields_of row.now) }
-    ensures { result ≡ map (λ text. unwrap_or (whole_number text) (pos 0)) (take SCENARIOS (drop array_place (fields_of row.now))) }
-{
-    let mut values = [0; SCENARIOS];
-    for i in 0..SCENARIOS {
-        values[i] = whole_at(row, FIRST_VALUE + i);
-    }
-    values
-}
-
 // What the profile adds: nothing where the record ends with its risk array.
 fn extras(row: &ByteRecord) -> ContractExtras
     requires { count_at (fields_of row.now) EXTRAS < 2 ^ 32 }
@@ -76,8 +63,9 @@ fn extras(row: &ByteRecord) -> ContractExtras
     }
 }
 
-fn contract_record(row: &ByteRecord) -> Contract
-    requires { FitsKind kind.Contract (fields_of row.now) }
+fn contract_record(row: &ByteRecord, values: &[i64; SCENARIOS]) -> Contract
+    requires fits { FitsKind kind.Contract (fields_of row.now) }
+    requires values { values.now ≡ array_values (fields_of row.now) }
     ensures { result ≡ contract_record (fields_of row.now) }
 {
     Contract {
@@ -87,7 +75,7 @@ fn contract_record(row: &ByteRecord) -> Contract
         month: count_at(row, 4),
         delta: delta_at(row, 5),
         scale: scale_at(row, 6),
-        values: array_values(row),
+        values: *values,
         extras: extras(row),
     }
 }
@@ -189,15 +177,16 @@ fn inter_record(row: &ByteRecord) -> InterRecord
     }
 }
 
-/// What a record of a kind says.
-pub(crate) fn record_of_kind(kind: Kind, row: &ByteRecord) -> Record
-    requires { FitsKind kind (fields_of row.now) }
+/// What a record of a kind says. The values are those of the risk array of a CONTRACT, which were read before.
+pub(crate) fn record_of_kind(kind: Kind, row: &ByteRecord, values: &[i64; SCENARIOS]) -> Record
+    requires fits { FitsKind kind (fields_of row.now) }
+    requires values { HasValues kind (fields_of row.now) values.now }
     ensures { result ≡ record_of_kind kind (fields_of row.now) }
 {
     match kind {
         Kind::Set => Record::Set(set_record(row)),
         Kind::Commodity => Record::Commodity(commodity_record(row)),
-        Kind::Contract => Record::Contract(contract_record(row)),
+        Kind::Contract => Record::Contract(contract_record(row, values)),
         Kind::Tier => Record::Tier(tier_record(row)),
         Kind::Intra => Record::Intra(intra_record(row)),
         Kind::Spot => Record::Spot(spot_record(row)),

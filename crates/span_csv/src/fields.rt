@@ -68,8 +68,8 @@ fn positive_part(n: i64) -> u64
     if n < 0 { 0 } else { n as u64 }
 }
 
-/// The whole number at a place, or 0.
-pub(crate) fn whole_at(row: &ByteRecord, i: usize) -> i64
+// The whole number at a place, or 0.
+fn whole_at(row: &ByteRecord, i: usize) -> i64
     ensures { result ≡ whole_at (fields_of row.now) i }
 {
     parse_whole(text_at(row, i)).unwrap_or(0)

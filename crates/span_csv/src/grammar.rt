@@ -1,12 +1,15 @@
 //! The kinds of records of a parameter file, and the forms of their fields.
 ghost use Rattle.std.specs.Char.{is_ascii_uppercase};
 ghost use Rattle.std.specs.List.{list_all, repeat};
-ghost use Rattle.std.specs.Prelude.{◌≡◌, ◌≤◌, ◌<◌, ◌&&◌, ◌++◌, ◌==◌, ◌+◌, ◌-◌, ◌*◌, ◌^◌, IfSome, drop, length};
+ghost use Rattle.std.specs.Prelude.{◌≡◌, ◌≤◌, ◌<◌, ◌&&◌, ◌++◌, ◌==◌, ◌+◌, ◌-◌, ◌*◌, ◌^◌, IfSome, Some, drop, length, take, true};
 ghost use Rattle.csv.specs.Records.{fields_of};
-ghost use Rattle.span_csv.specs.near.Grammar.{passes};
+ghost use Rattle.span_csv.specs.near.Grammar.{array_values, HasValues, passes};
 ghost use Rattle.span_csv.specs.Records.{all_have, contract_back, contract_forms, forms_of, has_number_form, has_word_form};
-ghost use Rattle.span_csv.specs.Records.{is_in_range, is_within, kind_named, product_at, text_at, with_legs};
+ghost use Rattle.span_csv.specs.Records.{an_array_value, array_place, is_in_range, is_within, kind_named, product_at, text_at, with_legs};
+ghost use Rattle.span_csv.specs.declared.contents.TheConstants.{EXTRAS};
+ghost use Rattle.span_csv.specs.declared.grammar.FieldTest.TheVariants as field_test;
 
+use crate::contents::{EXTRAS, FIRST_VALUE};
 use crate::fields::product_at;
 use crate::rows::field;
 use csv::ByteRecord;
@@ -65,7 +68,11 @@ const PRIORITY: FieldForm = FieldForm::Whole(1, MAX_PRIORITY as i64);
 
 const BASIS_POINTS: FieldForm = FieldForm::Whole(0, MAX_BASIS_POINTS as i64);
 
-const ARRAY_VALUE: FieldForm = FieldForm::Whole(-(MAX_ARRAY_VALUE as i64), MAX_ARRAY_VALUE as i64);
+const LOWEST_VALUE: i64 = -(MAX_ARRAY_VALUE as i64);
+
+const HIGHEST_VALUE: i64 = MAX_ARRAY_VALUE as i64;
+
+const ARRAY_VALUE: FieldForm = FieldForm::Whole(LOWEST_VALUE, HIGHEST_VALUE);
 
 // The option value of a future.
 const NO_VALUE: FieldForm = FieldForm::Whole(0, 0);
@@ -256,6 +263,39 @@ fn all_times(
     true
 }
 
+// Whether each value of a risk array is a number in its range. If so, `values` has them.
+fn read_values(row: &ByteRecord, values: &mut [i64; SCENARIOS]) -> bool
+    requires { EXTRAS ≤ length (fields_of row.now) }
+    ensures told { result ≡ list_all (passes field_test.All an_array_value) (take SCENARIOS (drop array_place (fields_of row.now))) }
+    ensures values { result ≡ true → values.new ≡ array_values (fields_of row.now) }
+{
+    for i in 0..SCENARIOS {
+        let value = parse_whole(field(row, FIRST_VALUE + i));
+        if !is_within(LOWEST_VALUE, HIGHEST_VALUE, value) {
+            return false;
+        }
+        values[i] = value.unwrap_or(0);
+    }
+    true
+}
+
+// Whether each field of a CONTRACT behind the first passes all tests of its form. If so, `values` has those of its risk array.
+fn fits_contract(profile: u8, row: &ByteRecord, values: &mut [i64; SCENARIOS]) -> bool
+    requires { length (fields_of row.now) ≡ length (contract_forms profile (product_at (fields_of row.now) 3)) + 1 }
+    ensures told { result
+        ≡ all_have (passes field_test.All) (contract_forms profile (product_at (fields_of row.now) 3)) (drop 1 (fields_of row.now)) }
+    ensures values { result ≡ true → values.new ≡ array_values (fields_of row.now) }
+{
+    if !all_from(FieldTest::All, &CONTRACT_FRONT, row, 1) {
+        return false;
+    }
+    if !read_values(row, values) {
+        return false;
+    }
+    let back = contract_back(profile, product_at(row, 3));
+    all_from(FieldTest::All, back, row, EXTRAS)
+}
+
 impl Layout {
     ghost use Rattle.std.specs.Prelude.{◌≡◌, ◌+◌, drop, length};
     ghost use Rattle.csv.specs.Records.{fields_of};
@@ -315,6 +355,26 @@ impl Kind {
             Kind::Spot => alone(&SPOT_FIELDS).exactly(fields),
             Kind::Inter => with_legs(&INTER_FRONT, &INTER_LEG, fields),
         }
+    }
+}
+
+/// Whether each field of a record behind the first passes all tests of its form, where that is the layout for its kind. If so, `values`
+/// has those of the risk array of a CONTRACT.
+pub(crate) fn fits(
+    kind: Kind,
+    profile: u8,
+    layout: &Layout,
+    row: &ByteRecord,
+    values: &mut [i64; SCENARIOS],
+) -> bool
+    requires found { forms_of kind profile (product_at (fields_of row.now) 3) (length (fields_of row.now) - 1) ≡ Some layout.now }
+    requires count { length (fields_of row.now) ≡ length layout.now + 1 }
+    ensures told { result ≡ all_have (passes field_test.All) layout.now (drop 1 (fields_of row.now)) }
+    ensures values { result ≡ true → HasValues kind (fields_of row.now) values.new }
+{
+    match kind {
+        Kind::Contract => fits_contract(profile, row, values),
+        _ => layout.all_have(FieldTest::All, row),
     }
 }
 

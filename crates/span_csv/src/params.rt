@@ -13,6 +13,7 @@ use crate::faults::ParamFault;
 use crate::rows::Rows;
 use crate::tally::Tally;
 use csv::ByteRecord;
+use span_tables::limits::SCENARIOS;
 use span_tables::raw::RawTables;
 use span_tables::records::Record;
 use std::alloc::{AllocError, Global};
@@ -27,13 +28,14 @@ fn next_record(tally: &mut Tally, earlier: usize, row: &ByteRecord) -> Result<Re
     let at = earlier + 1;
     let profile = tally.profile();
     tally.keep_profile(earlier == 0, row);
-    let kind = check_form(earlier == 0, at, profile, row)?;
+    let mut values = [0; SCENARIOS];
+    let kind = check_form(earlier == 0, at, profile, row, &mut values)?;
     let count = tally.count(kind, row);
     tally.add(kind, row)?;
     if count == kind.limit() {
         return Err(ParamFault::TooMany { at });
     }
-    Ok(record_of_kind(kind, row))
+    Ok(record_of_kind(kind, row, &values))
 }
 
 // Reads each row of a file onto `records`, of which there are none before.

@@ -1,8 +1,11 @@
 -- What the code tests of a field, and what it takes from a record whose fields pass the tests.
 use Rattle.std.specs.Prelude.{◌≡◌, ◌<◌, ◌≤◌, ◌+◌, ◌*◌, ◌^◌, ◌&&◌, ℕ, Bool, true, List, [], ◌∷◌, length, nat_abs}
+use Rattle.std.specs.Prelude.{⊤, ℤ, pos, drop, map, take, unwrap_or}
 use Rattle.span_tables.specs.Names.{is_name}
-use Rattle.span_tables.specs.declared.limits.TheConstants.{MAX_LEGS}
+use Rattle.span_money.specs.Numbers.{whole_number}
+use Rattle.span_tables.specs.declared.limits.TheConstants.{MAX_LEGS, SCENARIOS}
 use Rattle.span_csv.specs.Records.{Fields, has_word_form, has_number_form, is_in_range, text_at, count_at, decimal_at, ratio_at}
+use Rattle.span_csv.specs.Records.{array_place}
 use Rattle.span_csv.specs.declared.contents.TheConstants.{EXTRAS}
 use Rattle.span_csv.specs.declared.grammar.FieldForm.{FieldForm}
 use Rattle.span_csv.specs.declared.grammar.Kind.{Kind}
@@ -15,6 +18,15 @@ abbrev pub passes : FieldTest → FieldForm → List ℕ → Bool
 passes field_test.Word = has_word_form
 passes field_test.Number = has_number_form
 passes field_test.All = λ form text. has_word_form form text && is_in_range form text
+
+-- the values of a CONTRACT's risk array
+abbrev pub array_values : Fields → List ℤ
+array_values r = map (λ text. unwrap_or (whole_number text) (pos 0)) (take SCENARIOS (drop array_place r))
+
+-- of a CONTRACT these are them
+abbrev pub HasValues : Kind → Fields → List ℤ → Type 0
+HasValues kind.Contract r values = values ≡ array_values r
+HasValues _ r values = ⊤
 
 -- the three fields of a leg, from a place on
 abbrev pub leg_at : Fields → ℕ → Fields

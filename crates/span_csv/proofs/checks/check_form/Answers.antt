@@ -9,4 +9,4 @@ returns-in_err-check_fields-clause-kind c =
     let e : c.from_residual-in_err-check_fields.result ≡ Err c.in_err-check_fields.field-0.0 = search rules in
     rw e (fault_behind (kind_faults c.args.first (fields_of c.args.row.now))
     (field_faults c.args.profile (fields_of c.args.row.now)) c.args.at c.in_err-check_fields.field-0.0 c.in_ok-kind.ensures.1
-    c.in_err-check_fields.ensures)
+    c.in_err-check_fields.ensures.told)
