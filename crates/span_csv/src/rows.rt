@@ -4,7 +4,7 @@ ghost use Rattle.csv.specs.Records.{fields_of};
 ghost use Rattle.span_csv.specs.Records.{text_at};
 ghost use Rattle.span_csv.specs.near.Rows.{rows_left, CanRead};
 
-use csv::{ByteRecord, Error, Reader, ReaderBuilder};
+use csv::{ByteRecord, Reader, ReaderBuilder};
 use std::alloc::{AllocError, Global};
 use std::marker::Model;
 
@@ -25,11 +25,6 @@ impl<'a> Model for Rows<'a> {
     ghost invariant = { λ rows. CanRead rows.reader };
 }
 
-// A slice is read to its end, and a record may have any number of fields, so memory alone is lacking.
-fn memory(_error: Error) -> AllocError {
-    AllocError
-}
-
 // The next record into `row`, and whether there was one.
 fn read_row(reader: &mut Reader<&[u8]>, row: &mut ByteRecord) -> Result<bool, AllocError>
     requires { CanRead reader.old }
@@ -37,10 +32,11 @@ fn read_row(reader: &mut Reader<&[u8]>, row: &mut ByteRecord) -> Result<bool, Al
         (rows_left reader.old ≡ [])) }
     ensures goes_on { CanRead reader.new }
 {
-    match reader.read_byte_record(row) {
-        Ok(found) => Ok(found),
-        Err(error) => Err(memory(error)),
-    }
+    // A slice is read to its end, and a record may have any number of fields, so memory alone may be lacking.
+    let Ok(found) = reader.read_byte_record(row) else {
+        return Err(AllocError);
+    };
+    Ok(found)
 }
 
 impl<'a> Rows<'a> {
