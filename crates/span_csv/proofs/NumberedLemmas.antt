@@ -5,7 +5,7 @@ use Rattle.std.proofs.lemmas.Bool.{cases_Bool, eqb-false}
 use Rattle.std.proofs.lemmas.List.{length-map, length-append}
 use Rattle.span_tables.specs.Names.{is_among}
 use Rattle.span_tables.specs.near.Positions.{named_position, named_positions, AreNumbered}
-use Rattle.span_tables.proofs.NumberedLaws.{name_there}
+use Rattle.span_tables.proofs.NumberedLaws.{among_at, name_there}
 use Rattle.span_tables.specs.declared.records.NumberedPosition.{NumberedPosition}
 use Rattle.span_csv.specs.Records.{Fields, text_at}
 use Rattle.span_csv.specs.declared.faults.PositionFault.{PositionFault}
@@ -25,6 +25,11 @@ still_few most keys name few room =
           rw new (let e = length-append keys (name ∷ []) in let apart = eqb-false (length keys) most other in
           omega (arith, e, few, apart))
     ]
+
+-- a name that stands at a place stays where it is
+pub stands_there : (most : ℕ) (keys : List (List ℕ)) (a : ℕ) (name : List ℕ) → slice_get keys a ≡ Some name
+    → (is_one_too_many most keys name ≡ false) × (keys ≡ with_name keys name)
+stands_there most keys a name at = let there = among_at keys a name at in (rw there refl, rw there refl)
 
 -- ---- what the next record is
 

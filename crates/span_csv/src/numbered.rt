@@ -1,6 +1,6 @@
 //! Records with a name in front that numbers them: a position's account, or an order, which stands in place of an account.
 ghost use Rattle.std.specs.Prelude.{◌≡◌, ◌+◌, ◌<◌, ◌++◌, ◌∷◌, [], ◌≤◌, ⊤, ℕ, IfOk, IsTrue, ◌↔◌, MatchBool};
-ghost use Rattle.std.specs.Prelude.{IfSome, MatchResult, OnOk, OnSome, Ok, Err, Some, false, length, nat_abs, slice_get, true};
+ghost use Rattle.std.specs.Prelude.{MatchResult, OnOk, Ok, Err, Some, false, length, nat_abs, slice_get, true};
 ghost use Rattle.csv.specs.Records.{fields_of};
 ghost use Rattle.span_money.specs.Numbers.{whole_number};
 ghost use Rattle.span_csv.specs.PositionFaults.{is_memory};
@@ -98,18 +98,6 @@ pub(crate) fn stands_at(known: &[Name], place: u32, name: &[u8]) -> bool
     }
 }
 
-/// The place, if a name stands at it.
-pub(crate) fn found_at(known: &[Name], place: u32, name: &[u8]) -> Option<u32>
-    ensures at { IfSome result (λ at. slice_get known.now at ≡ Some name.now) }
-    ensures is_name { OnSome result (is_name name.now ≡ true) }
-{
-    if stands_at(known, place, name) {
-        Some(place)
-    } else {
-        None
-    }
-}
-
 // Whether a name is one more than there may be.
 fn is_one_too_many(known: &IndexSet<Name>, most: usize, name: &Name) -> bool
     ensures { result ≡ is_one_too_many most known.now.keys name.now }
@@ -117,17 +105,15 @@ fn is_one_too_many(known: &IndexSet<Name>, most: usize, name: &Name) -> bool
     !known.contains(name) && known.len() == most
 }
 
-/// The place of a name, where it is not found already. It is put last where it is new, also where it is one too many.
+/// The place of a name, which is put last where it is new, also where it is one too many.
 #[inline(always)]
 #[tactic(auto, using(span_tables::proofs::NumberedLaws::among_at))]
 pub(crate) fn place(
     most: usize,
     at: usize,
     known: &mut IndexSet<Name>,
-    found: Option<u32>,
     name: &[u8],
 ) -> Result<u32, PositionFault>
-    requires found { IfSome found (λ place. slice_get known.old.keys place ≡ Some name.now) }
     requires name { is_name name.now ≡ true }
     requires few { length known.old.keys ≤ most }
     requires most { most ≤ MAX_ORDERS }
@@ -138,9 +124,6 @@ pub(crate) fn place(
     ensures taken { OnOk result (known.new.keys ≡ with_name known.old.keys name.now) }
     ensures at { IfOk result (λ place. slice_get known.new.keys place ≡ Some name.now) }
 {
-    if let Some(place) = found {
-        return Ok(place);
-    }
     let name = Name::of(name);
     let too_many = is_one_too_many(known, most, &name);
     let (place, _) = known.insert_full(name)?;
@@ -150,13 +133,26 @@ pub(crate) fn place(
     Ok(place as u32)
 }
 
+// A position in a contract of this name, which was tested.
+fn position_at(account: u32, quantity: i32, contract: &[u8]) -> NumberedPosition
+    requires { is_name contract.now ≡ true }
+    ensures { result ≡ record { contract = contract.now; account = account; quantity = quantity } }
+{
+    NumberedPosition {
+        contract: Name::of(contract),
+        account,
+        quantity,
+    }
+}
+
 // The place of the last record's name, or the first one where there is no record.
 fn last_place(earlier: &[NumberedPosition]) -> u32 {
     earlier.last().map_or(0, |position| position.account)
 }
 
 /// The position of the record behind the earlier ones, which these names number. `names` is how many names stand in front of its quantity:
-/// the first numbers it, and the last is its contract's. At most `most` names may number records.
+/// the first numbers it, and the last is its contract's. At most `most` names may number records. The last record's name, which needs no
+/// test, is tried first.
 #[inline(always)]
 pub(crate) fn next_position(
     names: usize,
@@ -183,13 +179,12 @@ pub(crate) fn next_position(
     ensures names { OnOk result ((i : ℕ) → i < names → is_name (text_at (fields_of row.now) i) ≡ true) }
 {
     let at = earlier.len() + 1;
-    let first = text_at(row, 0);
-    let last = found_at(known.as_slice(), last_place(earlier), first);
-    let quantity = quantity(names, usize::from(last.is_some()), at, row)?;
-    let account = place(most, at, known, last, first)?;
-    Ok(NumberedPosition {
-        contract: Name::of(field(row, names - 1)),
-        account,
-        quantity,
-    })
+    let last = last_place(earlier);
+    if stands_at(known.as_slice(), last, text_at(row, 0)) {
+        let quantity = quantity(names, 1, at, row)?;
+        return Ok(position_at(last, quantity, field(row, names - 1)));
+    }
+    let quantity = quantity(names, 0, at, row)?;
+    let account = place(most, at, known, field(row, 0))?;
+    Ok(position_at(account, quantity, field(row, names - 1)))
 }

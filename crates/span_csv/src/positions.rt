@@ -12,7 +12,7 @@ ghost use Rattle.span_tables.specs.near.Positions.{named_positions, AreNumbered}
 ghost use Rattle.span_tables.specs.declared.limits.TheConstants.{MAX_ACCOUNTS};
 
 use crate::faults::PositionFault;
-use crate::numbered::{found_at, next_position, place, quantity};
+use crate::numbered::{next_position, place, quantity, stands_at};
 use crate::rows::{Rows, field};
 use csv::ByteRecord;
 use indexmap::IndexSet;
@@ -77,9 +77,10 @@ fn check_row(
         return Ok(());
     }
     let last = accounts.len().saturating_sub(1) as u32;
-    let account = field(row, 0);
-    let last = found_at(accounts.as_slice(), last, account);
-    place(MAX_ACCOUNTS, at, accounts, last, account)?;
+    if stands_at(accounts.as_slice(), last, field(row, 0)) {
+        return Ok(());
+    }
+    place(MAX_ACCOUNTS, at, accounts, field(row, 0))?;
     Ok(())
 }
 

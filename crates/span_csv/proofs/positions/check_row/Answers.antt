@@ -2,7 +2,9 @@ use Rattle.std.proofs.Common.{◌≤◌, ◌<◌, length, sym, arith}
 use Rattle.std.proofs.lemmas.Result.{err_from_is_err_and}
 use Rattle.csv.specs.Records.{fields_of}
 use Rattle.span_tables.specs.declared.limits.TheConstants.{MAX_ACCOUNTS}
+use Rattle.span_csv.specs.Records.{text_at}
 use Rattle.span_csv.proofs.AccountLemmas.{checked_full, checked_past, checked_refused, checked_taken}
+use Rattle.span_csv.proofs.NumberedLemmas.{stands_there}
 use Rattle.span_csv.proofs.positions.check_row.Goals as goal
 
 pub returns-in_err-quantity : goal.returns-in_err-quantity
@@ -17,17 +19,25 @@ returns-then-len-gt-MAX_ACCOUNTS c = λ rs count are.
     checked_past rs (fields_of c.args.row.now) c.args.at c.args.accounts.now.keys count are c.in_ok-quantity.field-0
     (sym c.in_ok-quantity.ensures.value) past
 
+pub returns-then-stands_at : goal.returns-then-stands_at
+returns-then-stands_at c = λ rs count are.
+    let few : length c.args.accounts.now.keys ≤ MAX_ACCOUNTS = omega (arith, c.len.ensures.len, c.if-len-gt-MAX_ACCOUNTS.false) in
+    let at = rw (c.as_slice.ensures.keys, c.field.ensures) at (c.stands_at.ensures.at.0 c.if-stands_at.true) in
+    let stays = stands_there MAX_ACCOUNTS c.args.accounts.now.keys _ (text_at (fields_of c.args.row.now) 0) at in
+    checked_taken rs (fields_of c.args.row.now) c.args.at c.args.accounts.now.keys count are c.in_ok-quantity.field-0
+    (sym c.in_ok-quantity.ensures.value) c.args.accounts.now.keys few stays.0 stays.1
+
 pub returns-in_err-place : goal.returns-in_err-place
 returns-in_err-place c = λ rs count are.
     let few : length c.args.accounts.now.keys ≤ MAX_ACCOUNTS = omega (arith, c.len.ensures.len, c.if-len-gt-MAX_ACCOUNTS.false) in
     let p = err_from_is_err_and c.from_residual-in_err-place.result c.from_residual-in_err-place.ensures.1 in
     rw (p.1, p.2) (checked_full rs (fields_of c.args.row.now) c.args.at c.args.accounts.now.keys count are c.in_ok-quantity.field-0
     (sym c.in_ok-quantity.ensures.value) c.in_err-place.field-0.0 c.place.new.known.keys few
-    (rw c.field-account.ensures at c.in_err-place.ensures.room))
+    (rw c.field-2.ensures at c.in_err-place.ensures.room))
 
 pub returns : goal.returns
 returns c = λ rs count are.
     let few : length c.args.accounts.now.keys ≤ MAX_ACCOUNTS = omega (arith, c.len.ensures.len, c.if-len-gt-MAX_ACCOUNTS.false) in
     checked_taken rs (fields_of c.args.row.now) c.args.at c.args.accounts.now.keys count are c.in_ok-quantity.field-0
-    (sym c.in_ok-quantity.ensures.value) c.place.new.known.keys few (rw c.field-account.ensures at c.in_ok-place.ensures.room)
-    (rw c.field-account.ensures at c.in_ok-place.ensures.taken)
+    (sym c.in_ok-quantity.ensures.value) c.place.new.known.keys few (rw c.field-2.ensures at c.in_ok-place.ensures.room)
+    (rw c.field-2.ensures at c.in_ok-place.ensures.taken)
