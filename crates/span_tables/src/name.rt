@@ -5,11 +5,12 @@ ghost use Rattle.span_tables.specs.Names.{is_name, is_name_byte, name_of};
 
 use arrayvec::ArrayVec;
 use std::fmt::Display;
+use std::hash::{Hash, Hasher};
 use std::marker::Model;
 use std::{fmt, str};
 
 /// A name: 1 to 16 bytes of `A` to `Z`, `0` to `9`, `_` and `-`. Contracts see it as the list of its bytes.
-#[derive(Clone, Debug, Drop, PartialEq, Eq, PartialOrd, Ord, Hash)]
+#[derive(Clone, Debug, Drop, PartialEq, Eq, PartialOrd, Ord)]
 pub struct Name {
     text: ArrayVec<u8, 16>,
 }
@@ -102,6 +103,21 @@ impl Name {
         ensures { result ≡ self.now }
     {
         Name::of(self.as_bytes())
+    }
+}
+
+impl Hash for Name {
+    ghost use Rattle.std.specs.Prelude.{◌∷◌, []};
+    ghost use Rattle.std.specs.Cmp.Rules.{hashing};
+    ghost use Rattle.std.proofs.Common.{rules};
+
+    ghost hash_input = { λ name. name ∷ [] };
+
+    ghost respects_eq = { Prim.search (hashing, rules) };
+
+    // The bytes in one write, which the hasher of maps mixes by one multiplication.
+    fn hash<H: Hasher>(&self, state: &mut H) {
+        state.write(self.as_bytes());
     }
 }
 
