@@ -1,4 +1,4 @@
-use Rattle.std.proofs.Common.{◌≡◌, ◌∙◌, ap, sym, refl, true, false, drop}
+use Rattle.std.proofs.Common.{◌∙◌, ap, sym, refl, true, false, drop}
 use Rattle.csv.specs.Records.{fields_of}
 use Rattle.span_csv.specs.near.Grammar.{passes}
 use Rattle.span_csv.specs.Records.{all_have, contract_back, product_at}
