@@ -14,14 +14,15 @@ use Rattle.span_tables.specs.Laws.{IsFaultFree}
 use Rattle.span_tables.specs.Names.{distinct, is_among}
 use Rattle.span_tables.specs.Tables.{AcceptedTables}
 use Rattle.span_tables.specs.declared.limits.TheConstants.{MAX_ACCOUNTS}
+use Rattle.span_csv.specs.Cuts.{BeginsWithNoMark, EndsInLineFeed, has_quote}
 use Rattle.span_csv.proofs.CountedLaws.{fault_where_all_count, free_from_all_count, free_where_all_count}
+use Rattle.span_csv.proofs.CutLemmas.{records_joined}
 use Rattle.span_tables.proofs.FaultLaws.{first_fault_free, first_fault_none}
 use Rattle.span_tables.proofs.NameLemmas.{distinct-push}
-use Rattle.cut_positions.specs.Parts.{AreApart, AreFilesApart, BeginsWithNoMark, EndsInLineFeed, ShareNoName, accounts_in, has_quote}
+use Rattle.cut_positions.specs.Parts.{AreApart, AreFilesApart, ShareNoName, accounts_in}
 use Rattle.statement.specs.Statement.{accepted_of, and_then, same, statement_bound, statement_of, statement_under}
 use Rattle.statement.specs.declared.faults.SpanFault.{SpanFault}
 use Rattle.statement.specs.declared.faults.SpanFault.TheVariants as fault
-use Rattle.cut_positions.proofs.CutLemmas.{records_joined}
 use Rattle.cut_positions.proofs.PartLemmas.{distinct_joined, statements_joined, statements_parted}
 
 -- ---- how many accounts there are

@@ -1,7 +1,5 @@
 -- Parts of a position file that have no account in common.
-use Rattle.std.specs.Prelude.{◌≡◌, ℕ, Bool, true, false, ◌==◌, List, [], ◌∷◌, ◌++◌, map, filter, bytes_eq}
-use Rattle.std.specs.List.{list_any}
-use Rattle.csv.specs.Reading.{strip_bom}
+use Rattle.std.specs.Prelude.{◌≡◌, ℕ, true, false, List, map, filter, bytes_eq}
 use Rattle.span_csv.specs.Records.{Fields, records_of, text_at}
 use Rattle.span_tables.specs.Names.{is_among}
 use Rattle.span_tables.specs.declared.records.PositionRecord.{PositionRecord}
@@ -25,15 +23,3 @@ accounts_in rs = map (λ r. text_at r 0) rs
 -- no account has records in both files
 abbrev pub AreFilesApart : List ℕ → List ℕ → Type 0
 AreFilesApart first second = ShareNoName (accounts_in (records_of first)) (accounts_in (records_of second))
-
--- the last byte is a line feed
-abbrev pub EndsInLineFeed : List ℕ → Type 0
-EndsInLineFeed bytes = (front : List ℕ) × (bytes ≡ front ++ 10 ∷ [])
-
--- a byte is a double quote
-abbrev pub has_quote : List ℕ → Bool
-has_quote bytes = list_any (λ b. b == 34) bytes
-
--- the file does not begin with a byte order mark, which a reader passes over at the start of a file alone
-abbrev pub BeginsWithNoMark : List ℕ → Type 0
-BeginsWithNoMark bytes = strip_bom bytes ≡ bytes

@@ -1,5 +1,6 @@
 //! Laws of a position file that is cut by account: the statements of the parts, joined, are the statement of the whole. Each is
 //! the contract of a function that does nothing.
+ghost use Rattle.span_csv.specs.Cuts.{BeginsWithNoMark, EndsInLineFeed, has_quote};
 ghost use Rattle.span_csv.specs.Records.{records_of};
 ghost use Rattle.span_tables.specs.Names.{distinct};
 ghost use Rattle.span_tables.specs.Net.{holdings_of};
@@ -7,8 +8,7 @@ ghost use Rattle.span_tables.specs.Tables.{AcceptedTables};
 ghost use Rattle.span_tables.specs.declared.limits.TheConstants.{MAX_ACCOUNTS};
 ghost use Rattle.span_tables.specs.declared.records.Contract.{Contract};
 ghost use Rattle.span_tables.specs.declared.records.PositionRecord.{PositionRecord};
-ghost use Rattle.cut_positions.specs.Parts.{AreApart, AreFilesApart, BeginsWithNoMark, EndsInLineFeed};
-ghost use Rattle.cut_positions.specs.Parts.{accounts_in, has_quote, records_of_account};
+ghost use Rattle.cut_positions.specs.Parts.{AreApart, AreFilesApart, accounts_in, records_of_account};
 ghost use Rattle.statement.specs.Statement.{statement_bound, statement_of};
 ghost use Rattle.std.specs.Prelude.{◌++◌, ◌≡◌, ◌≤◌, List, Ok, false, length, ℕ};
 
@@ -53,12 +53,6 @@ pub fn statements_of_cut_files_join()
         → statement_of params (first ++ second) ≡ Ok text
         → (one : List ℕ) × (other : List ℕ) × (statement_of params first ≡ Ok one)
         × (statement_of params second ≡ Ok other) × (text ≡ one ++ other) }
-{}
-
-/// Behind bytes that end in a line feed and have no double quote, the records of further bytes are what they are by themselves.
-pub fn files_are_cut_at_lines()
-    ensures { (first second : List ℕ) → EndsInLineFeed first → has_quote first ≡ false → BeginsWithNoMark second
-        → records_of (first ++ second) ≡ records_of first ++ records_of second }
 {}
 
 /// What an account holds depends on its own records alone: the records of other accounts may stand before them, between them

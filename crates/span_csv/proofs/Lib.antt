@@ -4,15 +4,19 @@ mod AloneLemmas
 mod CheckLemmas
 mod CountLemmas
 pub mod CountedLaws
+pub mod CutLemmas
 mod FieldLemmas
 mod FormLemmas
 mod FormedLemmas
 mod LegLemmas
+mod LineLemmas
 mod LowestLaws
 mod NumberedLemmas
 pub mod OrderLaws
 mod OrderLemmas
 mod OrderSteps
+pub mod PieceLaws
+mod PieceLemmas
 mod PositionLemmas
 pub mod ProfileLaws
 mod RangeLemmas

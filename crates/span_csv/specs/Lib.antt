@@ -1,4 +1,5 @@
 pub mod Records
+pub mod Cuts
 pub mod ParamFaults
 pub mod PositionFaults
 pub mod OrderFaults

@@ -4,6 +4,7 @@ pub mod Grammar
 pub mod OnLiterals
 pub mod NumberedReading
 pub mod OrderReading
+pub mod Pieces
 pub mod RecordReading
 pub mod Rows
 pub mod Telling

@@ -4,6 +4,7 @@
 pub mod accepted_files;
 mod checks;
 mod contents;
+pub mod cuts;
 pub mod faults;
 mod fields;
 mod grammar;
@@ -12,8 +13,10 @@ pub mod order_laws;
 pub mod orders;
 pub mod param_laws;
 pub mod params;
+pub mod pieces;
 pub mod position_laws;
 pub mod positions;
 mod rows;
 mod tally;
 mod worked;
+mod worked_pieces;

@@ -1,6 +1,7 @@
 //! Laws of the definitions of a position file, in the format's own words: each is the contract of a function that does nothing.
 ghost use Rattle.std.specs.Prelude.{◌≡◌, ℕ, All, Bool, Contains, Err, List, [], ◌∷◌, ◌++◌, Ok, Some, None, codes, false, length, map};
 ghost use Rattle.std.specs.Prelude.{true};
+ghost use Rattle.span_csv.specs.Cuts.{BeginsWithNoMark, EndsInLineFeed, has_quote};
 ghost use Rattle.span_csv.specs.Laws.{position_number};
 ghost use Rattle.span_csv.specs.PositionFaults.{counted, exceeds_accounts, is_memory, position_faults, positions_of, record_fault};
 ghost use Rattle.span_csv.specs.Records.{Fields, position_record, records_of, text_at};
@@ -59,4 +60,10 @@ pub fn accounts_are_limited()
         → is_name account ≡ true → is_name contract ≡ true
         → exceeds_accounts (counted earlier) (account ∷ contract ∷ codes "1" ∷ []) ≡ false
         → record_fault earlier (account ∷ contract ∷ codes "1" ∷ []) ≡ None }
+{}
+
+/// Behind bytes that end in a line feed and have no double quote, the records of further bytes are what they are by themselves.
+pub fn files_are_cut_at_lines()
+    ensures { (first second : List ℕ) → EndsInLineFeed first → has_quote first ≡ false → BeginsWithNoMark second
+        → records_of (first ++ second) ≡ records_of first ++ records_of second }
 {}

@@ -12,7 +12,7 @@ use Rattle.csv.specs.declared.parser.State.TheVariants as state
 use Rattle.csv.specs.declared.parser.Action.{Action}
 use Rattle.csv.specs.declared.parser.Action.TheVariants as act
 use Rattle.span_csv.specs.Records.{Fields, records_of}
-use Rattle.cut_positions.specs.Parts.{BeginsWithNoMark, EndsInLineFeed, has_quote}
+use Rattle.span_csv.specs.Cuts.{BeginsWithNoMark, EndsInLineFeed, has_quote}
 
 -- ---- the records of a text, byte by byte
 

@@ -1,0 +1,86 @@
+-- Where a search finds a byte, and what is cut behind a line feed.
+use Rattle.std.proofs.Common.{◌≡◌, ◌∙◌, refl, sym, ap, arith, ℕ, zero, suc, ◌<◌, Bool, true, false, not, ◌||◌, ◌==◌}
+use Rattle.std.proofs.Common.{List, [], ◌∷◌, ◌++◌, length, take, drop, get_or, inl, inr, Option, Some, None, append_assoc, slice_get}
+use Rattle.std.specs.Prelude.{flat_map, is_some}
+use Rattle.std.specs.List.{list_any}
+use Rattle.std.proofs.lemmas.Bool.{cases_Bool, or_parts}
+use Rattle.std.proofs.lemmas.Grind.{flat_map-append}
+use Rattle.std.proofs.lemmas.List.{append-nil, take-append-drop}
+use Rattle.std.proofs.lemmas.List.Folds.{list_any-append}
+use Rattle.csv.specs.Reading.{strip_bom}
+use Rattle.memchr.specs.Find.{IsFirstByte}
+use Rattle.span_csv.specs.Cuts.{BeginsWithNoMark, EndsInLineFeed, has_quote}
+use Rattle.span_csv.specs.Records.{records_of}
+use Rattle.span_csv.proofs.CutLemmas.{records_joined}
+
+-- ---- searches
+
+any_at : (test : ℕ → Bool) (hay : List ℕ) (k : ℕ) → k < length hay → test (get_or hay k 0) ≡ true → list_any test hay ≡ true
+any_at test [] k within passes = absurd (omega (arith, within))
+any_at test (x ∷ hay) zero within passes = rw passes refl
+any_at test (x ∷ hay) (suc k) within passes = by (test x) (any_at test hay k (omega (arith, within)) passes) where
+  by : (b : Bool) → list_any test hay ≡ true → (b || list_any test hay) ≡ true
+  by true rest = refl
+  by false rest = rest
+
+none_at : (test : ℕ → Bool) (hay : List ℕ) → ((k : ℕ) → k < length hay → test (get_or hay k 0) ≡ true → ⊥)
+    → list_any test hay ≡ false
+none_at test [] never = refl
+none_at test (x ∷ hay) never =
+    elim (cases_Bool (test x)) [
+      | inl passes ↦ absurd (never zero (omega arith) passes)
+      | inr fails ↦ rw fails (none_at test hay (λ k within passes. never (suc k) (omega (arith, within)) passes))
+    ]
+
+-- a search finds a byte just where there is one
+pub found_any : (test : ℕ → Bool) (hay : List ℕ) (r : Option ℕ) → IsFirstByte test hay r → is_some r ≡ list_any test hay
+found_any test hay None h = sym (none_at test hay (λ k within passes. h k (omega arith) within passes))
+found_any test hay (Some k) h = sym (any_at test hay k h.0.high h.1)
+
+-- ---- marks
+
+-- bytes that do not begin with the first byte of a mark begin with no mark
+pub unmarked : (a : ℕ) (rest : List ℕ) → (a == 0xEF) ≡ false → BeginsWithNoMark (a ∷ rest)
+unfolding strip_bom
+unmarked a [] other = refl
+unmarked a (b ∷ []) other = refl
+unmarked a (b ∷ c ∷ rest) other = rw other refl
+
+-- and so do bytes whose first one is another
+pub first_unmarked : (bytes : List ℕ) (first : ℕ) → Some first ≡ slice_get bytes 0 → not (first == 0xEF) ≡ true → BeginsWithNoMark bytes
+first_unmarked [] first is other = cc
+first_unmarked (a ∷ rest) first is other = unmarked a rest (by (a == 0xEF) refl) where
+  same : first ≡ a
+  same = cc
+
+  by : (b : Bool) → (a == 0xEF) ≡ b → b ≡ false
+  by false e = refl
+  by true e = let told : not true ≡ true = sym (ap not (ap (λ n. n == 0xEF) same ∙ e)) ∙ other in cc
+
+-- ---- cuts
+
+module _ (left : List ℕ) (at : ℕ) (plain : has_quote left ≡ false) where
+  parts_plain : (has_quote (take at left) || has_quote (drop at left)) ≡ false
+  parts_plain =
+      sym (list_any-append (λ b. b == 34) (take at left) (drop at left)) ∙ ap has_quote (take-append-drop at left) ∙ plain
+
+  -- what is left behind a cut has no quote
+  pub left_plain : has_quote (drop at left) ≡ false
+  left_plain = (or_parts (has_quote (take at left)) (has_quote (drop at left)) parts_plain).1
+
+  -- the records behind a cut are what they are by themselves
+  pub records_cut : EndsInLineFeed (take at left) → BeginsWithNoMark (drop at left)
+      → records_of (take at left) ++ records_of (drop at left) ≡ records_of left
+  records_cut line begins =
+      sym (records_joined (take at left) (drop at left) line
+      (or_parts (has_quote (take at left)) (has_quote (drop at left)) parts_plain).0 begins)
+      ∙ ap records_of (take-append-drop at left)
+
+-- one more piece in front of what is left
+pub one_more : {X A : Type 0} (f : X → List A) (pieces : List X) (piece : X) (rest left whole : List A)
+    → flat_map f pieces ++ left ≡ whole → f piece ++ rest ≡ left → flat_map f (pieces ++ piece ∷ []) ++ rest ≡ whole
+one_more f pieces piece rest left whole so_far cut =
+    ap (λ front. front ++ rest) (flat_map-append f pieces (piece ∷ []) ∙ ap (λ one. flat_map f pieces ++ one) (append-nil (f piece)))
+    ∙ append_assoc (flat_map f pieces) (f piece) rest
+    ∙ ap (λ more. flat_map f pieces ++ more) cut
+    ∙ so_far
