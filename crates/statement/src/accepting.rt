@@ -15,6 +15,7 @@ ghost use Rattle.std.specs.declared.alloc.Global.{Global};
 ghost use Rattle.std.specs.declared.sync.Arc.{Arc};
 
 use crate::faults::SpanFault;
+use crate::reading::read_together;
 use param_check::binding::bind;
 use param_check::check::check;
 use plan_compiler::set::{CompiledSet, compile};
@@ -117,10 +118,10 @@ pub fn accept(alloc: Global, params: &[u8], positions: &[u8]) -> Result<Accepted
 }
 
 /// What two files say, or the first fault, as [`accept`] has it. With two workers or more a thread of its own reads, checks and
-/// compiles the parameters beside reading the positions; where no thread is started, the two are done one after the other.
-/// The order of the faults is the same.
+/// compiles the parameters beside reading the positions, and of a large position file pieces are read side by side; where no thread is
+/// started, one is done after the other. The order of the faults is the same.
 #[tactic(auto, unfolding(crate::specs::Statement::statement_of, crate::specs::Statement::statement_under))]
-pub fn accept_together<R: Threads>(
+pub fn accept_together<R: Threads + Sync>(
     rt: &R,
     alloc: Global,
     params: &[u8],
@@ -137,7 +138,7 @@ pub fn accept_together<R: Threads>(
     let (set, positions) = thread::join(
         rt,
         || set_of(alloc, params),
-        || read_positions(alloc, positions),
+        || read_together(rt, alloc, positions, workers),
     );
     accept_positions(alloc, set?, positions?)
 }

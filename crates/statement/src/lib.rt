@@ -13,6 +13,7 @@ pub mod lines;
 pub mod margin;
 pub mod marked_writer;
 pub mod plans;
+mod reading;
 pub mod roll;
 pub mod statuses;
 pub mod worked;
