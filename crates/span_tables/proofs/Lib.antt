@@ -20,6 +20,7 @@ pub mod WithinLimits
 pub mod TablesMade
 pub mod NameLaws
 pub mod NameLemmas
+pub mod NamePlaces
 pub mod NameTexts
 pub mod NumberedLaws
 mod OrdersByOrder

@@ -5,6 +5,7 @@ pub mod HeldCommodities
 pub mod Kept
 pub mod Legs
 pub mod Limits
+pub mod NamePlaces
 pub mod Orders
 pub mod Positions
 pub mod Samples

@@ -3,29 +3,33 @@ ghost use Rattle.std.specs.Prelude.{◌≡◌, ◌≤◌, length, true, Option, 
 ghost use Rattle.std.specs.List.{list_all};
 ghost use Rattle.span_tables.specs.Names.{is_name, is_name_byte, name_of};
 
-use arrayvec::ArrayVec;
+use std::cmp::Ordering;
 use std::fmt::Display;
 use std::hash::{Hash, Hasher};
 use std::marker::Model;
 use std::{fmt, str};
 
 /// A name: 1 to 16 bytes of `A` to `Z`, `0` to `9`, `_` and `-`. Contracts see it as the list of its bytes.
-#[derive(Clone, Debug, Drop, PartialEq, Eq, PartialOrd, Ord)]
+#[derive(Clone, Debug, Drop)]
 pub struct Name {
-    text: ArrayVec<u8, 16>,
+    // The bytes, and 0 behind them, so that names are equal where these places are.
+    places: [u8; 16],
+    len: u8,
 }
 
 impl Model for Name {
-    ghost use Rattle.std.specs.Prelude.{◌≡◌, ℕ, List, true};
-    ghost use Rattle.span_tables.specs.Names.{is_name};
+    ghost use Rattle.std.specs.Prelude.{ℕ, List, length, take};
+    ghost use Rattle.span_tables.specs.near.NamePlaces.{name_places, HoldsName};
 
     ghost Value = { List ℕ };
 
-    ghost view = { λ name. name.text.items };
+    ghost view = { λ name. take name.len name.places };
 
-    ghost invariant = { λ name. is_name name.text.items ≡ true };
+    ghost invariant = { λ name. HoldsName name.places name.len };
 
-    ghost inverse = { λ text. record { text = record { items = text } } };
+    ghost inverse = { λ text. record { places = name_places text; len = length text } };
+
+    ghost inverse_ok = { λ name h i. record { places = h.blank i; len = h.long i } };
 }
 
 // Each byte of a name stands at its own place, and a point at every other one.
@@ -75,8 +79,11 @@ impl Name {
         requires { is_name text.now ≡ true }
         ensures { result ≡ text.now }
     {
+        let mut places = [0; 16];
+        places[..text.len()].copy_from_slice(text);
         Name {
-            text: ArrayVec::try_from(text).unwrap(),
+            places,
+            len: text.len() as u8,
         }
     }
 
@@ -85,7 +92,7 @@ impl Name {
         ensures value { result.now ≡ self.now }
         ensures is_name { is_name self.now ≡ true }
     {
-        self.text.as_slice()
+        &self.places[..usize::from(self.len)]
     }
 
     /// The name as a text.
@@ -102,7 +109,62 @@ impl Name {
     pub fn copied(&self) -> Name
         ensures { result ≡ self.now }
     {
-        Name::of(self.as_bytes())
+        Name {
+            places: self.places,
+            len: self.len,
+        }
+    }
+}
+
+impl PartialEq for Name {
+    ghost use Rattle.std.specs.Prelude.{bytes_eq};
+    ghost use Rattle.std.specs.Cmp.{partial_equiv_from_equiv};
+    ghost use Rattle.std.specs.Cmp.Lexicographic.{nat_list_eq_equiv};
+
+    ghost eq = { bytes_eq };
+
+    ghost laws = { partial_equiv_from_equiv nat_list_eq_equiv };
+
+    fn eq(&self, other: &Name) -> bool {
+        self.places == other.places
+    }
+}
+
+impl Eq for Name {
+    ghost use Rattle.std.specs.Cmp.Lexicographic.{nat_list_eq_equiv};
+
+    ghost laws = { nat_list_eq_equiv };
+}
+
+impl PartialOrd for Name {
+    ghost use Rattle.std.specs.Prelude.{Some};
+    ghost use Rattle.std.specs.Ordering.{nat_cmp};
+    ghost use Rattle.std.specs.Cmp.Lexicographic.{slice_cmp, texts_po};
+
+    ghost partial_cmp = { λ a b. Some (slice_cmp nat_cmp a b) };
+
+    ghost laws = { texts_po };
+
+    fn partial_cmp(&self, other: &Name) -> Option<Ordering> {
+        Some(self.cmp(other))
+    }
+}
+
+impl Ord for Name {
+    ghost use Rattle.std.specs.Prelude.{refl};
+    ghost use Rattle.std.specs.Ordering.{nat_cmp};
+    ghost use Rattle.std.specs.Cmp.Lexicographic.{slice_cmp, nat_list_cmp_total, texts_ties};
+
+    ghost cmp = { slice_cmp nat_cmp };
+
+    ghost total = { nat_list_cmp_total };
+
+    ghost matches_partial_cmp = { λ _ _. refl };
+
+    ghost matches_eq = { texts_ties };
+
+    fn cmp(&self, other: &Name) -> Ordering {
+        self.as_bytes().cmp(other.as_bytes())
     }
 }
 
@@ -110,14 +172,15 @@ impl Hash for Name {
     ghost use Rattle.std.specs.Prelude.{◌∷◌, []};
     ghost use Rattle.std.specs.Cmp.Rules.{hashing};
     ghost use Rattle.std.proofs.Common.{rules};
+    ghost use Rattle.span_tables.specs.near.NamePlaces.{name_places};
 
-    ghost hash_input = { λ name. name ∷ [] };
+    ghost hash_input = { λ name. name_places name ∷ [] };
 
     ghost respects_eq = { Prim.search (hashing, rules) };
 
-    // The bytes in one write, which the hasher of maps mixes by one multiplication.
+    // All places in one write of a fixed size, which the hasher of maps mixes by one multiplication.
     fn hash<H: Hasher>(&self, state: &mut H) {
-        state.write(self.as_bytes());
+        state.write(&self.places);
     }
 }
 
@@ -138,8 +201,6 @@ impl Default for Name {
 
     /// The name `-`, which stands in unused places of a list.
     fn default() -> Name {
-        let mut text = ArrayVec::new();
-        text.push(b'-');
-        Name { text }
+        Name::of(b"-")
     }
 }
