@@ -32,7 +32,7 @@ bytes_eq-flip a b = by (cases_Bool (bytes_eq a b)) (cases_Bool (bytes_eq b a))
     by (inr x) (inr y) = x ∙ sym y
 
 -- the name at a place stands at no other one
-not_before : (k : List ℕ) (ks : List (List ℕ)) (a : ℕ) (name : List ℕ) → list_any (bytes_eq k) ks ≡ false
+pub not_before : (k : List ℕ) (ks : List (List ℕ)) (a : ℕ) (name : List ℕ) → list_any (bytes_eq k) ks ≡ false
     → slice_get ks a ≡ Some name → bytes_eq name k ≡ false
 not_before k ks a name none at =
     elim (cases_Bool (bytes_eq name k)) [
@@ -71,7 +71,7 @@ module _ (g next : List ℕ → List Entry) (name : List ℕ) (e : Entry)
   stays : (b : List ℕ) → bytes_eq name b ≡ false → next b ≡ g b
   stays b h = grows b ∙ ap (λ t. cond t (g b ++ e ∷ []) (g b)) h
 
-  others_stay : (ks : List (List ℕ)) → list_any (bytes_eq name) ks ≡ false → map g ks ≡ map next ks
+  pub others_stay : (ks : List (List ℕ)) → list_any (bytes_eq name) ks ≡ false → map g ks ≡ map next ks
   others_stay [] h = refl
   others_stay (k ∷ ks) h =
       let parts = or_parts (bytes_eq name k) (list_any (bytes_eq name) ks) h in

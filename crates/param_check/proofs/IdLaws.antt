@@ -1,15 +1,17 @@
 -- Laws of the ids of contracts that stand apart.
-use Rattle.std.proofs.Common.{◌≡◌, ℕ, zero, suc, ◌+◌, ◌<◌, false, cond, List, []}
-use Rattle.std.proofs.Common.{◌∷◌, ◌++◌, length, get_or, take, refl, sym, ap, ◌∙◌, arith}
+use Rattle.std.proofs.Common.{◌≡◌, ℕ, zero, suc, ◌+◌, ◌<◌, ◌||◌, false, cond, List, []}
+use Rattle.std.proofs.Common.{◌∷◌, ◌++◌, ◌≤◌, length, get_or, take, refl, sym, ap, subst, ◌∙◌, arith}
 use Rattle.std.specs.Prelude.{bytes_eq}
 use Rattle.std.specs.List.{list_any}
 use Rattle.std.proofs.lemmas.Bool.{or_parts, or_from, true≢false, false_from_ne_true}
-use Rattle.std.proofs.lemmas.List.{map_more}
+use Rattle.std.proofs.lemmas.List.{length-map, map_more}
 use Rattle.std.proofs.lemmas.List.Folds.{list_any_at}
 use Rattle.indexmap.specs.IndexSet.{insert_key}
 use Rattle.span_tables.specs.Names.{has_repeat}
 use Rattle.span_tables.specs.declared.records.Contract.{Contract}
+use Rattle.span_tables.specs.declared.limits.TheConstants.{MAX_CONTRACTS}
 use Rattle.param_check.specs.near.Holdings.{ids_of}
+use Rattle.param_check.specs.near.Ledgers.{AreNumbers}
 use Rattle.param_check.proofs.AccountLaws.{bytes_eq-flip}
 
 -- no id before a contract is that contract's
@@ -37,3 +39,22 @@ next_id contracts i d keys h lt are =
     ∙ ap (λ b. cond b (ids_of (take i contracts)) (ids_of (take i contracts) ++ (get_or contracts i d).id ∷ []))
     (new_id contracts i d h lt)
     ∙ sym (map_more (λ (x : Contract). x.id) contracts i d lt)
+
+any_ids : (name : List ℕ) (contracts : List Contract)
+    → list_any (λ (y : Contract). bytes_eq name y.id) contracts ≡ list_any (bytes_eq name) (ids_of contracts)
+any_ids name [] = refl
+any_ids name (y ∷ contracts) = ap (λ b. bytes_eq name y.id || b) (any_ids name contracts)
+
+-- contracts stand apart by their ids just where the ids do
+pub ids_apart : (contracts : List Contract)
+    → has_repeat (λ x y. bytes_eq x.id y.id) contracts ≡ has_repeat bytes_eq (ids_of contracts)
+ids_apart [] = refl
+ids_apart (x ∷ contracts) = let here = any_ids x.id contracts in let rest = ids_apart contracts in λ i. here i || rest i
+
+-- the ids of contracts of tables are such as positions are bound to
+pub numbers_of : (contracts : List Contract) → has_repeat (λ x y. bytes_eq x.id y.id) contracts ≡ false
+    → length contracts ≤ MAX_CONTRACTS → AreNumbers (ids_of contracts)
+numbers_of contracts apart few = record {
+  apart = sym (ids_apart contracts) ∙ apart;
+  few = subst (λ n. n ≤ MAX_CONTRACTS) (sym (length-map contracts (λ x. x.id))) few;
+}

@@ -165,7 +165,7 @@ module _ (positions : List PositionRecord) (records : List NumberedPosition)
   apart = distinct_once (map (λ (p : PositionRecord). p.account) positions)
 
   -- the records up to the one at a place
-  taken_next : (i : ℕ) (r : NumberedPosition) → i < length records → r ≡ get_or records i r
+  pub taken_next : (i : ℕ) (r : NumberedPosition) → i < length records → r ≡ get_or records i r
       → take (i + 1) positions ≡ take i positions ++ named_position (accounts_of positions) r ∷ []
   taken_next i r lt at =
       take_more positions i (named_position (accounts_of positions) r) (omega (arith, lt, as_many))

@@ -26,6 +26,7 @@ pub mod PortfolioLaws
 pub mod RenumberLaws
 pub mod RuleLaws
 pub mod RulesTold
+pub mod SliceLaws
 pub mod ToldOnce
 pub mod UnfitLaws
 pub mod UnfitWalk

@@ -29,7 +29,7 @@ use Rattle.param_check.proofs.UnfitLaws.{unfit_same}
 
 -- ---- the place of a name
 
-within : (ks : List (List ℕ)) (name : List ℕ) → list_any (bytes_eq name) ks ≡ true
+pub within : (ks : List (List ℕ)) (name : List ℕ) → list_any (bytes_eq name) ks ≡ true
     → position_or_len (bytes_eq name) ks < length ks
 within [] name h = absurd (false≢true h)
 within (k ∷ ks) name h = by (bytes_eq name k) h (within ks name)
@@ -46,7 +46,7 @@ position_is ks name h =
     ap (λ b. cond b (Some (position_or_len (bytes_eq name) ks)) None)
     (lt-ltb (position_or_len (bytes_eq name) ks) (length ks) (within ks name h))
 
-position_none : (ks : List (List ℕ)) (name : List ℕ) → list_any (bytes_eq name) ks ≡ false → position (bytes_eq name) ks ≡ None
+pub position_none : (ks : List (List ℕ)) (name : List ℕ) → list_any (bytes_eq name) ks ≡ false → position (bytes_eq name) ks ≡ None
 position_none ks name h =
     let past = absent ks name h in
     ap (λ b. cond b (Some (position_or_len (bytes_eq name) ks)) None)

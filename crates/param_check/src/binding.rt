@@ -1,8 +1,9 @@
 //! The binding of positions to tables.
+pub mod binder;
 pub(crate) mod contract_ids;
 pub(crate) mod contract_sums;
 pub(crate) mod ledgers;
-pub(crate) mod nets;
+pub mod nets;
 pub(crate) mod over_limits;
 
 ghost use Rattle.std.specs.Prelude.{◌≡◌, false, None, length, bytes_eq, map, All, IfOk};
@@ -46,8 +47,8 @@ fn portfolios_from(
     Ok(Portfolios::new(all))
 }
 
-// The portfolios of accounts with these nets, or the fault in them.
-fn portfolios_or_fault(
+/// The portfolios of accounts with these nets, or the fault in them.
+pub(crate) fn portfolios_or_fault(
     alloc: Global,
     numbers: &IndexSet<Name>,
     nets: Vec<AccountNets>,

@@ -14,6 +14,7 @@ ghost use Rattle.std.specs.Prelude.{◌≡◌, IfOk, List};
 ghost use Rattle.std.specs.declared.alloc.Global.{Global};
 ghost use Rattle.std.specs.declared.sync.Arc.{Arc};
 
+use crate::binding::bind_together;
 use crate::faults::SpanFault;
 use crate::reading::read_together;
 use param_check::binding::bind;
@@ -72,6 +73,25 @@ pub(crate) fn portfolios_of(
     Ok(portfolios)
 }
 
+/// The portfolios of positions under a compiled set, or their fault, as [`portfolios_of`] has them. A large position file is bound in slices,
+/// side by side.
+#[tactic(auto, unfolding(crate::specs::Statement::portfolios_under))]
+pub(crate) fn portfolios_together<R: Threads + Sync>(
+    rt: &R,
+    alloc: Global,
+    set: &Arc<CompiledSet>,
+    positions: &RawPositions,
+    workers: usize,
+) -> Result<Portfolios, SpanFault>
+    ensures portfolios { Gives (λ (portfolios : List AccountHoldings). portfolios)
+        result (portfolios_under (arc_value set.now).tables positions.now) }
+    ensures fits { IfOk result (AllFit (arc_value set.now)) }
+    ensures once { IfOk result AreOnce }
+{
+    let portfolios = bind_together(rt, alloc, set.tables(), positions, workers)?;
+    Ok(portfolios)
+}
+
 /// What two accepted files say: a compiled set, the positions, and their portfolios under that set.
 #[derive(Drop)]
 pub struct Accepted {
@@ -83,24 +103,27 @@ pub struct Accepted {
     pub portfolios: Portfolios,
 }
 
-// What an accepted set and the positions of a file say, or the fault in binding the positions.
+// What an accepted set and the positions of a file say, whose portfolios under the set, or the fault in binding them, are these.
 #[tactic(auto, unfolding(crate::specs::Statement::statement_bound))]
 fn accept_positions(
-    alloc: Global,
     set: Arc<CompiledSet>,
     positions: RawPositions,
+    bound: Result<Portfolios, SpanFault>,
 ) -> Result<Accepted, SpanFault>
+    requires portfolios { Gives (λ (portfolios : List AccountHoldings). portfolios)
+        bound (portfolios_under (arc_value set).tables positions) }
+    requires fits { IfOk bound (AllFit (arc_value set)) }
+    requires once { IfOk bound AreOnce }
     ensures text { Gives (λ (a : Accepted). statement_text (arc_value a.set).tables a.portfolios)
         result (statement_bound (arc_value set).tables positions) }
     ensures tables { IfOk result (λ a. (arc_value a.set).tables ≡ (arc_value set).tables) }
     ensures positions { IfOk result (λ a. a.positions ≡ positions) }
     ensures bound { IfOk result IsBound }
 {
-    let portfolios = portfolios_of(alloc, &set, &positions)?;
     Ok(Accepted {
         set,
         positions,
-        portfolios,
+        portfolios: bound?,
     })
 }
 
@@ -114,12 +137,13 @@ pub fn accept(alloc: Global, params: &[u8], positions: &[u8]) -> Result<Accepted
 {
     let set = set_of(alloc, params)?;
     let positions = read_positions(alloc, positions)?;
-    accept_positions(alloc, set, positions)
+    let bound = portfolios_of(alloc, &set, &positions);
+    accept_positions(set, positions, bound)
 }
 
 /// What two files say, or the first fault, as [`accept`] has it. With two workers or more a thread of its own reads, checks and
-/// compiles the parameters beside reading the positions, and of a large position file pieces are read side by side; where no thread is
-/// started, one is done after the other. The order of the faults is the same.
+/// compiles the parameters beside reading the positions, and a large position file is read in pieces and bound in slices, side by side; where
+/// no thread is started, one is done after the other. The order of the faults is the same.
 #[tactic(auto, unfolding(crate::specs::Statement::statement_of, crate::specs::Statement::statement_under))]
 pub fn accept_together<R: Threads + Sync>(
     rt: &R,
@@ -140,5 +164,7 @@ pub fn accept_together<R: Threads + Sync>(
         || set_of(alloc, params),
         || read_together(rt, alloc, positions, workers),
     );
-    accept_positions(alloc, set?, positions?)
+    let (set, positions) = (set?, positions?);
+    let bound = portfolios_together(rt, alloc, &set, &positions, workers);
+    accept_positions(set, positions, bound)
 }

@@ -3,24 +3,29 @@ ghost use Rattle.plan_compiler.specs.Compiled.{SetView};
 ghost use Rattle.span_tables.specs.Net.{AccountHoldings};
 ghost use Rattle.worker_pool.specs.Batches.{AllFit};
 ghost use Rattle.statement.specs.near.Batches.{rows_of_accounts};
-ghost use Rattle.statement.specs.Statement.{statement_text};
+ghost use Rattle.statement.specs.Statement.{row_text, statement_text};
 ghost use Rattle.statement.specs.near.Rows.{AreRows};
 ghost use Rattle.std.specs.Arc.{arc_value};
-ghost use Rattle.std.specs.Prelude.{◌≡◌, ◌++◌, IfOk, List, OnOk, map};
+ghost use Rattle.std.specs.Prelude.{◌≡◌, ◌++◌, IfOk, List, OnOk, flat_map, map};
 ghost use Rattle.worker_pool.specs.Outcomes.{AreOutcomes};
 
 use crate::lines::{push_rows, write};
+use crate::slices::cut_at;
 use plan_compiler::set::CompiledSet;
 use result_book::rows::Row;
 use span_tables::portfolios::Portfolios;
 use std::alloc::{AllocError, Global};
 use std::sync::{Arc, Wait};
+use std::thread;
 use std::thread::Threads;
 use std::time::Clock;
 use worker_pool::gates::Gate;
 use worker_pool::outcomes::Outcome;
 use worker_pool::plain::run_plain;
 use worker_teams::teams::run_in_teams;
+
+// Rows are written in no more slices than they are so many.
+const SLICE_ROWS: usize = 128;
 
 // The rows of all outcomes; want of memory, where an account has none: a statement is whole, or not given.
 fn all_rows(alloc: Global, outcomes: Vec<Outcome>) -> Result<Vec<Arc<Row>>, AllocError>
@@ -76,6 +81,51 @@ pub fn rows_together<R: Threads + Wait + Clock + Sync, G: Gate>(
         Ok(outcomes) => rows_of(alloc, outcomes),
         Err(_) => Err(AllocError),
     }
+}
+
+// The lines of rows, of so many slices of them, each in a thread of its own where one can be started.
+#[cycle(write)]
+fn write_in_slices<R: Threads + Sync>(
+    rt: &R,
+    alloc: Global,
+    rows: &[Arc<Row>],
+    slices: usize,
+) -> Result<Vec<u8>, AllocError>
+    ensures { IfOk result (λ text. text.items ≡ flat_map (λ r. row_text r.set.tables r.portfolio) (map arc_value rows.now)) }
+{
+    if slices < 2 {
+        return write(alloc, rows);
+    }
+    let half = slices / 2;
+    let rest = slices - half;
+    let (front, back) = rows.split_at(cut_at(rows.len(), half, slices));
+    let (first, second) = thread::join(
+        rt,
+        || -> Result<Vec<u8>, AllocError>
+            ensures { IfOk result (λ text. text.items
+                ≡ flat_map (λ r. row_text r.set.tables r.portfolio) (map arc_value front.entry.now)) }
+        { write_in_slices(rt, alloc, front, half) },
+        || -> Result<Vec<u8>, AllocError>
+            ensures { IfOk result (λ text. text.items
+                ≡ flat_map (λ r. row_text r.set.tables r.portfolio) (map arc_value back.entry.now)) }
+        { write_in_slices(rt, alloc, back, rest) },
+    );
+    let mut text = first?;
+    text.append(&mut second?)?;
+    Ok(text)
+}
+
+/// The statement of the rows of a batch, which several workers write in slices where there are many.
+pub(crate) fn text_together<R: Threads + Sync>(
+    rt: &R,
+    alloc: Global,
+    rows: &[Arc<Row>],
+    workers: usize,
+) -> Result<Vec<u8>, AllocError>
+    ensures { (set : SetView) (portfolios : List AccountHoldings) → map arc_value rows.now ≡ rows_of_accounts set portfolios
+        → IfOk result (λ text. text.items ≡ statement_text set.tables portfolios) }
+{
+    write_in_slices(rt, alloc, rows, workers.min(rows.len() / SLICE_ROWS))
 }
 
 /// The statement of the rows of a batch.

@@ -9,11 +9,13 @@ ghost use Rattle.span_csv.specs.ParamFaults.{params_of};
 ghost use Rattle.span_csv.specs.PositionFaults.{position_faults, positions_of};
 ghost use Rattle.span_csv.specs.declared.faults.ParamFault.{ParamFault};
 ghost use Rattle.span_csv.specs.declared.faults.PositionFault.{PositionFault};
-ghost use Rattle.plan_ir.specs.Figures.{option_value_of};
+ghost use Rattle.plan_ir.specs.Figures.{option_value_of, value_to};
 ghost use Rattle.span_money.specs.LineFields.{line};
 ghost use Rattle.span_tables.specs.Faults.{first_of};
 ghost use Rattle.span_tables.specs.Net.{AccountHoldings};
-ghost use Rattle.span_tables.specs.Tables.{AcceptedTables};
+ghost use Rattle.span_tables.specs.Rules.{contracts_in};
+ghost use Rattle.span_tables.specs.Tables.{AcceptedTables, profile_in};
+ghost use Rattle.span_tables.specs.declared.portfolios.Holding.{Holding};
 ghost use Rattle.span_tables.specs.declared.records.PositionRecord.{PositionRecord};
 ghost use Rattle.span_tables.specs.declared.records.Record.{Record};
 ghost use Rattle.statement.specs.AllFaults.{faults_of, is_of_positions, is_of_reading_positions};
@@ -25,8 +27,8 @@ ghost use Rattle.statement.specs.Statement.{accepted_of, commodity_text, margin_
 ghost use Rattle.statement.specs.Statement.{statement_under, total_line, total_numbers, total_of};
 ghost use Rattle.statement.specs.declared.faults.SpanFault.{SpanFault};
 ghost use Rattle.statement.specs.declared.faults.SpanFault.TheVariants as fault;
-ghost use Rattle.std.specs.Prelude.{◌++◌, ◌≡◌, ◌<◌, ◌≤◌, ◌↔◌, ◌∷◌, Err, List, None, Ok, Some, [], filter, flat_map, is_ok};
-ghost use Rattle.std.specs.Prelude.{length, map, nat_eq, true, ℕ};
+ghost use Rattle.std.specs.Prelude.{◌++◌, ◌≡◌, ◌<◌, ◌≤◌, ◌↔◌, ◌∷◌, All, Err, List, None, Ok, Some, [], filter, flat_map, is_ok};
+ghost use Rattle.std.specs.Prelude.{length, map, nat_eq, pos, true, ℕ};
 ghost use Rattle.std.specs.List.{before_first, range_with_len};
 ghost use Rattle.std.specs.Result.{result_err};
 
@@ -124,4 +126,15 @@ pub fn positions_are_read_beside_every_parameter_file()
         ≡ map fault.Positions (position_faults positions) }
     ensures every { (params others positions : List ℕ) → filter is_of_reading_positions (faults_of params (Some positions))
         ≡ filter is_of_reading_positions (faults_of others (Some positions)) }
+{}
+
+/// Under profile 1 no option has a value: each contract's is 0, in the records of a file that is read and in the tables of one that is
+/// accepted; so their sum over what is held is 0, whatever that is.
+pub fn profile_1_has_no_option_values()
+    ensures read { (params : List ℕ) (records : List Record) → params_of params ≡ Ok records → profile_in records ≡ 1
+        → All (λ x. x.extras.option_value ≡ 0) (contracts_in records) }
+    ensures accepted { (params : List ℕ) (tables : AcceptedTables) → accepted_of params ≡ Ok tables → tables.profile ≡ 1
+        → All (λ x. x.extras.option_value ≡ 0) tables.contracts }
+    ensures sum { (params : List ℕ) (tables : AcceptedTables) (holdings : List Holding)
+        → accepted_of params ≡ Ok tables → tables.profile ≡ 1 → value_to tables holdings (length tables.commodities) ≡ pos 0 }
 {}

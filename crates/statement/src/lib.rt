@@ -4,6 +4,7 @@
 pub mod accepting;
 pub mod all_faults;
 pub mod batches;
+mod binding;
 pub mod counts;
 pub mod fault_lines;
 pub mod faults;
@@ -15,5 +16,6 @@ pub mod marked_writer;
 pub mod plans;
 mod reading;
 pub mod roll;
+mod slices;
 pub mod statuses;
 pub mod worked;

@@ -5,7 +5,7 @@ ghost use Rattle.std.specs.Prelude.{◌≡◌, ◌<◌, ◌⊎◌, ◌↔◌, Er
 ghost use Rattle.statement.specs.declared.faults.SpanFault.TheVariants as fault;
 
 use crate::accepting::{Accepted, accept, accept_together};
-use crate::batches::{rows_alone, rows_together, text_of};
+use crate::batches::{rows_alone, rows_together, text_of, text_together};
 use crate::faults::SpanFault;
 use std::alloc::Global;
 use std::sync::Wait;
@@ -54,6 +54,6 @@ pub fn margin<R: Threads + Wait + Clock + Sync, G: Gate>(
         ..
     } = accept_together(rt, alloc, params, positions, workers)?;
     let rows = rows_together(rt, alloc, &set, portfolios, workers, gate)?;
-    let text = text_of(alloc, &rows)?;
+    let text = text_together(rt, alloc, &rows, workers)?;
     Ok(text)
 }

@@ -13,10 +13,10 @@ ghost use Rattle.statement.specs.declared.faults.SpanFault.TheVariants as fault;
 ghost use Rattle.statement.specs.near.Seconds.{IsPublished, RefusesNext, RefusesSecond, RefusesUnder, Rolls};
 ghost use Rattle.statement.specs.near.Seconds.{RollsUnder};
 ghost use Rattle.std.specs.Arc.{arc_value};
-ghost use Rattle.std.specs.Prelude.{◌≡◌, ◌<◌, ◌∷◌, ◌⊎◌, ◌↔◌, [], Err, IfErr, IfOk, List, Ok};
+ghost use Rattle.std.specs.Prelude.{◌≡◌, ◌<◌, ◌∷◌, ◌⊎◌, ◌↔◌, [], Err, IfErr, IfOk, IfSome, List, Ok, Some};
 ghost use Rattle.std.specs.Prelude.{OnOk, length, map};
 
-use crate::accepting::{Accepted, accept_together, portfolios_of, set_of};
+use crate::accepting::{Accepted, accept_together, portfolios_together, set_of};
 use crate::batches::rows_together;
 use crate::faults::SpanFault;
 use crate::in_book::put_in_book;
@@ -113,6 +113,18 @@ fn first_rows_and_next_set<S: ShelfName + Send + Sync, R: Threads + Wait + Clock
     (rows, told)
 }
 
+// The set of the second publication, where that is the current one that a reader found.
+fn second_of(found: Option<(u64, Arc<CompiledSet>)>) -> Result<Arc<CompiledSet>, SpanFault>
+    ensures second { IfSome found (λ c. c.0 ≡ 2 → result ≡ Ok c.1) }
+    ensures set { IfOk result (λ set. found ≡ Some (2, set)) }
+    ensures fault { IfErr result (λ e. e ≡ fault.Shelf) }
+{
+    match found {
+        Some((NEXT_SET, set)) => Ok(set),
+        _ => Err(SpanFault::Shelf),
+    }
+}
+
 // The set that a reader finds once it has learned of the second publication.
 fn second_set<S: ShelfName, R: Wait>(
     rt: &R,
@@ -125,15 +137,13 @@ fn second_set<S: ShelfName, R: Wait>(
 {
     let mut reader = reader;
     reader.learn(told);
-    match reader.current(rt)? {
-        Some((NEXT_SET, set)) => Ok(set),
-        _ => Err(SpanFault::Shelf),
-    }
+    let found = reader.current(rt)?;
+    second_of(found)
 }
 
 // The portfolios of positions under the next set, or their fault under the name that it has there.
-fn portfolios_of_next(
-    alloc: Global,
+fn portfolios_of_next<R: Threads + Sync, G: Gate>(
+    lent: &Lent<'_, R, G>,
     set: &Arc<CompiledSet>,
     positions: &RawPositions,
 ) -> Result<Portfolios, SpanFault>
@@ -143,7 +153,7 @@ fn portfolios_of_next(
     ensures once { IfOk result AreOnce }
     ensures fault { IfErr result (λ e. RefusesUnder (arc_value set.now).tables positions.now e) }
 {
-    match portfolios_of(alloc, set, positions) {
+    match portfolios_together(lent.rt, lent.alloc, set, positions, lent.workers) {
         Ok(portfolios) => Ok(portfolios),
         Err(fault) => Err(fault.of_next_set()),
     }
@@ -159,7 +169,7 @@ fn second_statement<R: Threads + Wait + Clock + Sync, G: Gate>(
     ensures text { OnOk result (RollsUnder (arc_value set.now).tables positions.now out.old.items out.new.items) }
     ensures fault { IfErr result (λ e. RefusesUnder (arc_value set.now).tables positions.now e) }
 {
-    let portfolios = portfolios_of_next(lent.alloc, set, positions)?;
+    let portfolios = portfolios_of_next(lent, set, positions)?;
     let rows = rows_together(
         lent.rt,
         lent.alloc,

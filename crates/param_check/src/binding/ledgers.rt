@@ -1,9 +1,10 @@
 //! The entries of each account, gathered from the records of a position file.
-ghost use Rattle.std.specs.Prelude.{◌≡◌, ◌≤◌, ◌++◌, ◌∷◌, [], ⊤, Some, bytes_eq, map, true};
-ghost use Rattle.std.specs.Prelude.{nat_abs, replicate, All, IfOk, IfSome, OnOk, MatchBool, MatchResult};
+ghost use Rattle.std.specs.Prelude.{◌≡◌, ◌<◌, ◌≤◌, ◌+◌, ◌++◌, ◌∷◌, [], ⊤, Some, bytes_eq, drop, map, take, true};
+ghost use Rattle.std.specs.Prelude.{length, nat_abs, replicate, slice_index_or, All, IfOk, IfSome, OnOk, MatchBool, MatchResult};
 ghost use Rattle.span_tables.specs.declared.limits.TheConstants.{MAX_QUANTITY};
 ghost use Rattle.param_check.specs.Binding.{is_memory};
-ghost use Rattle.param_check.specs.near.Ledgers.{foreign_fault, foreign_faults, held_entries, known_entry, listed_records, AreLedgers};
+ghost use Rattle.param_check.specs.near.Ledgers.{contract_place, foreign_fault, foreign_faults, held_entries, known_entry};
+ghost use Rattle.param_check.specs.near.Ledgers.{listed_records, AreLedgers};
 ghost use Rattle.param_check.specs.near.Nets.{entries_of};
 ghost use Rattle.param_check.specs.near.Wanted.{is_first, wanted_of};
 ghost use Rattle.span_tables.specs.Net.{accounts_of};
@@ -20,7 +21,7 @@ use span_tables::records::NumberedPosition;
 use std::alloc::{AllocError, Global};
 use std::marker::Model;
 
-/// The entries of one account, in file order.
+/// The entries of one account, in file order. Contracts see the list of them.
 #[derive(Drop)]
 pub(crate) struct Ledger {
     entries: Vec<Entry>,
@@ -39,12 +40,12 @@ impl Model for Ledger {
 }
 
 impl Ledger {
-    fn new(alloc: Global) -> Ledger
-        ensures { result ≡ [] }
+    fn with_room(alloc: Global, room: usize) -> Result<Ledger, AllocError>
+        ensures { IfOk result (λ ledger. ledger ≡ []) }
     {
-        Ledger {
-            entries: Vec::new(alloc),
-        }
+        Ok(Ledger {
+            entries: Vec::with_capacity(alloc, room)?,
+        })
     }
 
     fn push(&mut self, entry: Entry) -> Result<(), AllocError>
@@ -108,13 +109,38 @@ fn known_entry(numbers: &IndexSet<Name>, position: &NumberedPosition) -> Option<
     })
 }
 
-// A number of ledgers without an entry.
-fn empty_ledgers(alloc: Global, count: usize) -> Result<Vec<Ledger>, AllocError>
+// How many records there are of each of so many accounts from one on: the room that its ledger needs.
+fn rooms(
+    alloc: Global,
+    positions: &RawPositions,
+    first: usize,
+    count: usize,
+) -> Result<Vec<usize>, AllocError>
+    ensures { IfOk result (λ rooms. length rooms.items ≡ count) }
+{
+    let mut rooms = vec![in alloc; 0usize; count]?;
+    for position in positions.records() {
+        let place = (position.account as usize).wrapping_sub(first);
+        if place < count {
+            rooms[place] = rooms[place].wrapping_add(1);
+        }
+    }
+    Ok(rooms)
+}
+
+// A ledger without an entry for each of so many accounts from one on, with room for its records.
+fn empty_ledgers(
+    alloc: Global,
+    positions: &RawPositions,
+    first: usize,
+    count: usize,
+) -> Result<Vec<Ledger>, AllocError>
     ensures { IfOk result (λ ledgers. ledgers.items ≡ replicate count []) }
 {
+    let rooms = rooms(alloc, positions, first, count)?;
     let mut ledgers = Vec::with_capacity(alloc, count)?;
-    for _ in 0..count {
-        ledgers.push(Ledger::new(alloc))?;
+    for room in &rooms {
+        ledgers.push(Ledger::with_room(alloc, *room)?)?;
     }
     Ok(ledgers)
 }
@@ -143,7 +169,7 @@ pub(crate) fn gather(
         ≡ map (entries_of numbers.now.keys (listed_records numbers.now.keys positions.now)) (accounts_of positions.now)) }
 {
     let accounts = positions.accounts();
-    let mut ledgers = empty_ledgers(alloc, accounts.len())?;
+    let mut ledgers = empty_ledgers(alloc, positions, 0, accounts.len())?;
     let mut unknown = Vec::new(alloc);
     for (number, position) in positions.records().iter().enumerate() {
         let account = position.account as usize;
@@ -177,4 +203,41 @@ pub(crate) fn ledgers_of(
         Some(fault) => Err(fault),
         None => Ok(gathered.ledgers),
     }
+}
+
+// The entry of the record of a number, from 0, where the places of the contracts of all records were found before.
+fn found_entry(found: &[u16], number: usize, position: &NumberedPosition) -> Entry
+    requires { number < length found.now }
+    ensures { result ≡ record { contract = slice_index_or found.now number 0; quantity = position.now.quantity } }
+{
+    Entry {
+        contract: usize::from(found[number]),
+        quantity: i64::from(position.quantity),
+    }
+}
+
+/// The ledgers of so many accounts from one on, where the places of the contracts of all records were found before; a contract that is not
+/// among the ids has the place behind them.
+pub(crate) fn ledgers_from(
+    alloc: Global,
+    numbers: &IndexSet<Name>,
+    found: &[u16],
+    positions: &RawPositions,
+    first: usize,
+    count: usize,
+) -> Result<Vec<Ledger>, AllocError>
+    requires found { found.now ≡ map (λ p. contract_place numbers.now.keys p.contract) positions.now }
+    requires within { first + count ≤ length (accounts_of positions.now) }
+    ensures { IfOk result (λ ledgers. ledgers.items
+        ≡ map (entries_of numbers.now.keys positions.now) (take count (drop first (accounts_of positions.now)))) }
+{
+    let mut ledgers = empty_ledgers(alloc, positions, first, count)?;
+    for (number, position) in positions.records().iter().enumerate() {
+        let account = position.account as usize;
+        if account < first || first + count <= account {
+            continue;
+        }
+        ledgers[account - first].push(found_entry(found, number, position))?;
+    }
+    Ok(ledgers)
 }

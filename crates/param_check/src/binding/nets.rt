@@ -24,7 +24,7 @@ pub(crate) struct Entry {
 /// What one account holds, whatever the sizes of its nets; one over the limit stands as the least that is. Contracts
 /// see the list.
 #[derive(Drop)]
-pub(crate) struct AccountNets {
+pub struct AccountNets {
     holdings: Vec<Holding>,
 }
 
