@@ -46,7 +46,7 @@ names_grow names (a ∷ more) =
     omega (arith, here, rest, all)
 
 -- how many accounts some records are of
-abbrev count : List Fields → ℕ
+abbrev pub count : List Fields → ℕ
 count rs = length (distinct (accounts_in rs))
 
 -- with one more record, with more records
@@ -71,11 +71,11 @@ count_behind rs more apart =
 -- ---- records without a fault
 
 -- the fault of a record behind earlier ones, which all count where none has a fault
-abbrev fault_of : List Fields → Fields → Option (ℕ → PositionFault)
+abbrev pub fault_of : List Fields → Fields → Option (ℕ → PositionFault)
 fault_of earlier r = fault_where_all_count earlier r
 
 -- where the accounts of these records and more are no more than there may be, none is one too many
-not_exceeded : (earlier more : List Fields) (r : Fields) → count (earlier ++ r ∷ more) ≤ MAX_ACCOUNTS
+pub not_exceeded : (earlier more : List Fields) (r : Fields) → count (earlier ++ r ∷ more) ≤ MAX_ACCOUNTS
     → exceeds_accounts earlier r ≡ false
 not_exceeded earlier more r within = by (is_among (accounts_in earlier) (text_at r 0)) refl where
   by : (b : Bool) → is_among (accounts_in earlier) (text_at r 0) ≡ b
@@ -167,7 +167,7 @@ one_more_within earlier r within none = by (is_among (accounts_in earlier) (text
       grind (arith, pushed, long, within, less)
 
 -- records without a fault are of no more accounts than there may be
-count_within : (earlier rs : List Fields) → count earlier ≤ MAX_ACCOUNTS → IsFaultFree fault_of earlier rs
+pub count_within : (earlier rs : List Fields) → count earlier ≤ MAX_ACCOUNTS → IsFaultFree fault_of earlier rs
     → count (earlier ++ rs) ≤ MAX_ACCOUNTS
 count_within earlier [] within free = rw (append-nil earlier) within
 count_within earlier (r ∷ rs) within free =
@@ -184,14 +184,14 @@ accounts_are [] = refl
 accounts_are (r ∷ rs) = ap (λ names. text_at r 0 ∷ names) (accounts_are rs)
 
 -- records that share no account say positions that share none
-positions_apart : (rs ss : List Fields) → ShareNoName (accounts_in rs) (accounts_in ss)
+pub positions_apart : (rs ss : List Fields) → ShareNoName (accounts_in rs) (accounts_in ss)
     → AreApart (map position_record rs) (map position_record ss)
 positions_apart rs ss apart = λ name among.
     ap (λ names. is_among names name) (accounts_are ss)
     ∙ apart name (ap (λ names. is_among names name) (sym (accounts_are rs)) ∙ among)
 
 -- a file that has a statement has no fault in its records, and it is theirs
-of_records : (t : AcceptedTables) (bytes text : List ℕ) → statement_under t bytes ≡ Ok text
+pub of_records : (t : AcceptedTables) (bytes text : List ℕ) → statement_under t bytes ≡ Ok text
     → IsFaultFree fault_of [] (records_of bytes) × (statement_bound t (map position_record (records_of bytes)) ≡ Ok text)
 unfolding statement_under positions_of position_faults
 of_records t bytes text is = by (first_fault record_fault (records_of bytes)) refl is where
@@ -203,7 +203,7 @@ of_records t bytes text is = by (first_fault record_fault (records_of bytes)) re
   by None e is = (free_where_all_count [] (records_of bytes) refl (first_fault_none record_fault [] (records_of bytes) e), is)
 
 -- records without a fault, with a statement of theirs, are those of a file with that statement
-of_file : (t : AcceptedTables) (bytes text : List ℕ) → IsFaultFree fault_of [] (records_of bytes)
+pub of_file : (t : AcceptedTables) (bytes text : List ℕ) → IsFaultFree fault_of [] (records_of bytes)
     → statement_bound t (map position_record (records_of bytes)) ≡ Ok text → statement_under t bytes ≡ Ok text
 unfolding statement_under positions_of position_faults
 of_file t bytes text free is =

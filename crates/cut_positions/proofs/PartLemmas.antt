@@ -37,7 +37,7 @@ or_left : (a b : Bool) → a ≡ true → (a || b) ≡ true
 or_left a b e = rw e refl
 
 -- the first of some names is among them
-first_among : (name : List ℕ) (names : List (List ℕ)) → is_among (name ∷ names) name ≡ true
+pub first_among : (name : List ℕ) (names : List (List ℕ)) → is_among (name ∷ names) name ≡ true
 first_among name names = rw (bytes_eq-refl name) refl
 
 -- what is among the rest is among all
@@ -45,7 +45,7 @@ rest_among : (x name : List ℕ) (names : List (List ℕ)) → is_among names na
 rest_among x name names e = or_right (bytes_eq name x) (is_among names name) e
 
 -- where none of the names is another one, that other one takes none away
-none_taken : (gone : List ℕ) (names : List (List ℕ)) → is_among names gone ≡ false
+pub none_taken : (gone : List ℕ) (names : List (List ℕ)) → is_among names gone ≡ false
     → filter (λ other. not (bytes_eq other gone)) names ≡ names
 none_taken gone [] new = refl
 none_taken gone (x ∷ names) new =
@@ -137,7 +137,7 @@ holdings_alone contracts ps qs account alike =
 -- ---- portfolios
 
 -- an account with what it holds
-abbrev portfolio : List Contract → List PositionRecord → List ℕ → AccountHoldings
+abbrev pub portfolio : List Contract → List PositionRecord → List ℕ → AccountHoldings
 portfolio contracts ps account = record { account = account; holdings = holdings_of contracts ps account }
 
 -- two lists with the same records of an account give the account the same portfolio
@@ -253,13 +253,13 @@ module _ (contracts : List Contract) (ps qs : List PositionRecord) (apart : AreA
 -- ---- statements
 
 -- the statement of records without a fault
-text_of_fit : (t : AcceptedTables) (ps : List PositionRecord) → IsFit t.contracts ps
+pub text_of_fit : (t : AcceptedTables) (ps : List PositionRecord) → IsFit t.contracts ps
     → statement_bound t ps ≡ Ok (statement_text t (portfolios_of t.contracts ps))
 unfolding statement_bound portfolios_under bindings_of
 text_of_fit t ps fit = rw (none_of_fit t.contracts ps fit) refl
 
 -- records that have a statement have no fault, and it is that of their portfolios
-fit_of_text : (t : AcceptedTables) (ps : List PositionRecord) (text : List ℕ) → statement_bound t ps ≡ Ok text
+pub fit_of_text : (t : AcceptedTables) (ps : List PositionRecord) (text : List ℕ) → statement_bound t ps ≡ Ok text
     → IsFit t.contracts ps × (text ≡ statement_text t (portfolios_of t.contracts ps))
 unfolding statement_bound portfolios_under bindings_of
 fit_of_text t ps text is = by (bind_fault t.contracts ps) refl is where

@@ -1,8 +1,11 @@
 -- Parts of a position file that have no account in common.
-use Rattle.std.specs.Prelude.{◌≡◌, ℕ, true, false, List, map, filter, bytes_eq}
-use Rattle.span_csv.specs.Records.{Fields, records_of, text_at}
+use Rattle.std.specs.Prelude.{◌≡◌, ℕ, true, false, List, map, filter, flat_map, bytes_eq}
+use Rattle.span_csv.specs.Records.{Fields, position_record, records_of, text_at}
 use Rattle.span_tables.specs.Names.{is_among}
+use Rattle.span_tables.specs.Net.{holdings_of}
+use Rattle.span_tables.specs.Tables.{AcceptedTables}
 use Rattle.span_tables.specs.declared.records.PositionRecord.{PositionRecord}
+use Rattle.statement.specs.Statement.{row_text}
 
 -- what is among these names is not among the others
 abbrev pub ShareNoName : List (List ℕ) → List (List ℕ) → Type 0
@@ -23,3 +26,15 @@ accounts_in rs = map (λ r. text_at r 0) rs
 -- no account has records in both files
 abbrev pub AreFilesApart : List ℕ → List ℕ → Type 0
 AreFilesApart first second = ShareNoName (accounts_in (records_of first)) (accounts_in (records_of second))
+
+-- the records of lists, one list behind the other
+abbrev pub records_joined : List (List PositionRecord) → List PositionRecord
+records_joined parts = flat_map (λ part. part) parts
+
+-- what the records of a file say
+abbrev pub positions_in : List ℕ → List PositionRecord
+positions_in bytes = map position_record (records_of bytes)
+
+-- the lines of an account, by its records among these
+abbrev pub lines_of : AcceptedTables → List PositionRecord → List ℕ → List ℕ
+lines_of t ps account = row_text t (record { account = account; holdings = holdings_of t.contracts ps account })

@@ -44,6 +44,17 @@ fn records_of_a_file_cut_inside_quotes()
     ensures second { records_of (codes "B,FA,1\n") ≡ (codes "B" ∷ codes "FA" ∷ codes "1" ∷ []) ∷ [] }
 {}
 
+// The records of two accounts, as they came, sorted by account with those of one account in their order, and without these in their
+// order: the accounts change places, and each has its lines.
+fn statements_of_records_in_three_orders()
+    ensures came { statement_of one_future (codes "X,FA,3\nB,FA,-1\nX,FA,-1\n")
+        ≡ Ok (two_long_of_x ++ short_of_b) }
+    ensures sorted { statement_of one_future (codes "B,FA,-1\nX,FA,3\nX,FA,-1\n")
+        ≡ Ok (short_of_b ++ two_long_of_x) }
+    ensures otherwise { statement_of one_future (codes "B,FA,-1\nX,FA,-1\nX,FA,3\n")
+        ≡ Ok (short_of_b ++ two_long_of_x) }
+{}
+
 // An account with records in both parts: it has a net of its own in each, and neither is that in the whole.
 fn account_in_both_parts()
     ensures first { holdings_of (contract_of (codes "FA") ∷ []) (position_of (codes "X") (codes "FA") (pos 3) ∷ []) (codes "X")
