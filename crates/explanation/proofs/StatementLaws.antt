@@ -23,7 +23,11 @@ use Rattle.statement.specs.Statement.{total_numbers, total_of}
 use Rattle.statement.specs.declared.faults.SpanFault.{SpanFault}
 use Rattle.statement.specs.declared.faults.SpanFault.TheVariants as fault
 use Rattle.explanation.specs.Explanation.{account_lines, account_text, commodity_lines, explained, explanation_of, reason_line}
-use Rattle.explanation.specs.Laws.{is_of_statement}
+use Rattle.explanation.specs.Laws.{is_of_statement, lines_read}
+use Rattle.explanation.proofs.AcceptedLemmas.{accounts_named, tables_read}
+use Rattle.explanation.proofs.FileLemmas.{accepted_explained}
+use Rattle.explanation.proofs.PlainLemmas.{accounts_plain}
+use Rattle.explanation.proofs.ReadLemmas.{lines_are_read}
 
 -- the text of the lines of some things is the texts of their lines
 pub texts_of : {A : Type 0} (f : A → List Line) (xs : List A) → flat_map line (flat_map f xs) ≡ flat_map (λ x. flat_map line (f x)) xs
@@ -138,40 +142,67 @@ unfolding statement_text
 accounts_contained t portfolios =
     of_statement-flat_map (account_lines t) portfolios ∙ (λ k. flat_map (λ p. account_contained t p k) portfolios)
 
--- an explanation has lines, of which those of the statement are this text
-abbrev pub Contains : Result (List ℕ) SpanFault → List ℕ → Type 0
-Contains explanation text =
-    (lines : List Line) × (explanation ≡ Ok (flat_map line lines)) × (flat_map line (of_statement lines) ≡ text)
+-- two files that have a statement: their tables, records and portfolios
+record HaveStatement (params positions text : List ℕ) : Type 0 where
+  tables : AcceptedTables
+  records : List PositionRecord
+  portfolios : List AccountHoldings
+  accepted : accepted_of params ≡ Ok tables
+  read : positions_of positions ≡ Ok records
+  bound : portfolios_under tables records ≡ Ok portfolios
+  is : statement_text tables portfolios ≡ text
 
-module _ (text : List ℕ) where
-  of_portfolios : (t : AcceptedTables) (r : Result (List AccountHoldings) SpanFault)
-      → and_then same r (λ portfolios. Ok (statement_text t portfolios)) ≡ Ok text
-      → Contains (and_then same r (λ portfolios. explained t portfolios None)) text
-  unfolding account_text
-  of_portfolios t (Ok portfolios) is = (
-    flat_map (account_lines t) portfolios,
-    ap Ok (sym (texts_of (account_lines t) portfolios)),
-    (let found : statement_text t portfolios ≡ text = cc in accounts_contained t portfolios ∙ found),
-  )
-  of_portfolios t (Err e) is = let none : ⊥ = cc in absurd none
+module _ (params positions text : List ℕ) where
+  of_portfolios : (t : AcceptedTables) (records : List PositionRecord) (r : Result (List AccountHoldings) SpanFault)
+      → accepted_of params ≡ Ok t → positions_of positions ≡ Ok records → portfolios_under t records ≡ r
+      → and_then same r (λ portfolios. Ok (statement_text t portfolios)) ≡ Ok text → HaveStatement params positions text
+  of_portfolios t records (Ok portfolios) a q b is = record {
+    tables = t;
+    records = records;
+    portfolios = portfolios;
+    accepted = a;
+    read = q;
+    bound = b;
+    is = (let found : statement_text t portfolios ≡ text = cc in found);
+  }
+  of_portfolios t records (Err e) a q b is = let none : ⊥ = cc in absurd none
 
   of_positions : (t : AcceptedTables) (r : Result (List PositionRecord) PositionFault)
-      → and_then fault.Positions r (λ records. statement_bound t records) ≡ Ok text
-      → Contains (and_then fault.Positions r (λ records.
-      and_then same (portfolios_under t records) (λ portfolios. explained t portfolios None))) text
+      → accepted_of params ≡ Ok t → positions_of positions ≡ r
+      → and_then fault.Positions r (λ records. statement_bound t records) ≡ Ok text → HaveStatement params positions text
   unfolding statement_bound
-  of_positions t (Ok records) is = of_portfolios t (portfolios_under t records) is
-  of_positions t (Err e) is = let none : ⊥ = cc in absurd none
+  of_positions t (Ok records) a q is = of_portfolios t records (portfolios_under t records) a q refl is
+  of_positions t (Err e) a q is = let none : ⊥ = cc in absurd none
 
-  of_tables : (positions : List ℕ) (r : Result AcceptedTables SpanFault)
-      → and_then same r (λ t. statement_under t positions) ≡ Ok text
-      → Contains (and_then same r (λ t. and_then fault.Positions (positions_of positions) (λ records.
-      and_then same (portfolios_under t records) (λ portfolios. explained t portfolios None)))) text
+  of_tables : (r : Result AcceptedTables SpanFault) → accepted_of params ≡ r
+      → and_then same r (λ t. statement_under t positions) ≡ Ok text → HaveStatement params positions text
   unfolding statement_under
-  of_tables positions (Ok t) is = of_positions t (positions_of positions) is
-  of_tables positions (Err e) is = let none : ⊥ = cc in absurd none
+  of_tables (Ok t) a is = of_positions t (positions_of positions) a refl is
+  of_tables (Err e) a is = let none : ⊥ = cc in absurd none
+
+  have_statement : statement_of params positions ≡ Ok text → HaveStatement params positions text
+  unfolding statement_of
+  have_statement is = of_tables (accepted_of params) refl is
+
+-- the text of all accounts
+all_explained : (t : AcceptedTables) (portfolios : List AccountHoldings)
+    → explained t portfolios None ≡ Ok (flat_map line (flat_map (account_lines t) portfolios))
+unfolding account_text
+all_explained t portfolios = ap Ok (sym (texts_of (account_lines t) portfolios))
 
 pub files_contained : (params positions text : List ℕ) → statement_of params positions ≡ Ok text
-    → Contains (explanation_of params positions None) text
-unfolding statement_of explanation_of
-files_contained params positions text is = of_tables text positions (accepted_of params) is
+    → (told : List ℕ) × (explanation_of params positions None ≡ Ok told) × (flat_map line (lines_read told) ≡ told)
+    × (flat_map line (of_statement (lines_read told)) ≡ text)
+files_contained params positions text is =
+    let files = have_statement params positions text is in
+    let t = files.tables in
+    let lines = flat_map (account_lines t) files.portfolios in
+    let read : lines_read (flat_map line lines) ≡ lines =
+    lines_are_read lines (accounts_plain t (tables_read params t files.accepted).named files.portfolios
+    (accounts_named t positions files.records files.portfolios files.read files.bound)) in (
+      flat_map line lines,
+      accepted_explained params positions None t files.records files.portfolios files.accepted files.read files.bound
+          ∙ all_explained t files.portfolios,
+      ap (flat_map line) read,
+      ap (λ ls. flat_map line (of_statement ls)) read ∙ accounts_contained t files.portfolios ∙ files.is,
+    )

@@ -1,2 +1,3 @@
 pub mod Explanation
 pub mod Laws
+pub mod near

@@ -1,9 +1,11 @@
 //! Laws: an explanation has the lines of the statement, and the sums of an account follow from its lines. Each is the contract
 //! of a function that does nothing.
-ghost use Rattle.explanation.specs.Explanation.{account_lines, explanation_of};
-ghost use Rattle.explanation.specs.Laws.{is_of_statement};
-ghost use Rattle.plan_ir.specs.Figures.{figures_of, option_value_of};
-ghost use Rattle.reasons.specs.Laws.{numbers_shown, values_shown_at};
+ghost use Rattle.explanation.specs.Explanation.{account_lines, commodity_lines, explanation_of};
+ghost use Rattle.explanation.specs.Laws.{behind_ids, is_of_statement, lines_read};
+ghost use Rattle.plan_ir.specs.Figures.{figures_of, is_commodity_held, option_value_of};
+ghost use Rattle.reasons.specs.Laws.{AreAccepted, numbers_shown, values_shown_at};
+ghost use Rattle.reasons.specs.Lines.{figures_by_lines, lines_of, number_at};
+ghost use Rattle.span_money.specs.ExactDecimals.{exact_value};
 ghost use Rattle.span_money.specs.LineFields.{Line, line};
 ghost use Rattle.span_money.specs.Numbers.{int_sum_by};
 ghost use Rattle.span_csv.specs.PositionFaults.{positions_of};
@@ -13,32 +15,70 @@ ghost use Rattle.span_tables.specs.declared.records.PositionRecord.{PositionReco
 ghost use Rattle.statement.specs.Statement.{accepted_of, portfolios_under, row_text, statement_of, total_of};
 ghost use Rattle.statement.specs.declared.faults.SpanFault.{SpanFault};
 ghost use Rattle.statement.specs.declared.faults.SpanFault.TheVariants as fault;
-ghost use Rattle.std.specs.Prelude.{◌≡◌, Err, List, None, Ok, Option, Some, bytes_eq, filter, find, flat_map, true, ℕ};
+ghost use Rattle.std.specs.Prelude.{[], ◌++◌, ◌<◌, ◌≡◌, ◌∷◌, All, Err, List, None, Ok, Option, Some, bytes_eq, codes, filter, find};
+ghost use Rattle.std.specs.Prelude.{flat_map, length, map, true, ℕ};
+
+use reasons::line_laws::{figures_follow_from_the_lines, held_lines_have_each_held_contract};
 
 /// Of an account's lines those with the word R or T are just the lines of its statement. Two files that have a statement have
-/// an explanation of all accounts, and of its lines those with the word R or T are that statement.
+/// an explanation of all accounts; it is the lines that are read of its text, cut at line feeds and commas, and of these lines those with
+/// the word R or T are that statement.
 pub fn explanations_contain_the_statement()
     ensures account { (t : AcceptedTables) (p : AccountHoldings)
         → flat_map line (filter is_of_statement (account_lines t p)) ≡ row_text t p }
     ensures files { (params positions text : List ℕ) → statement_of params positions ≡ Ok text
-        → (lines : List Line) × (explanation_of params positions None ≡ Ok (flat_map line lines))
-        × (flat_map line (filter is_of_statement lines) ≡ text) }
+        → (told : List ℕ) × (explanation_of params positions None ≡ Ok told) × (flat_map line (lines_read told) ≡ told)
+        × (flat_map line (filter is_of_statement (lines_read told)) ≡ text) }
 {}
 
-/// The explanation of one account is that account's lines, of which those with the word R or T are its lines of the statement,
-/// as said above; and the positions that do not have the account are refused for that alone.
+/// The explanation of one account is that account's lines, which are those that are read of its text, and of which those with the word R
+/// or T are its lines of the statement, as said above; and the positions that do not have the account are refused for that alone.
 pub fn an_account_is_explained_by_its_lines()
     ensures one { (params positions name : List ℕ) (t : AcceptedTables) (records : List PositionRecord)
         (portfolios : List AccountHoldings) (p : AccountHoldings) → accepted_of params ≡ Ok t
         → positions_of positions ≡ Ok records → portfolios_under t records ≡ Ok portfolios
         → find (λ q. bytes_eq q.account name) portfolios ≡ Some p
         → explanation_of params positions (Some name) ≡ Ok (flat_map line (account_lines t p)) }
+    ensures read { (params positions name : List ℕ) (t : AcceptedTables) (records : List PositionRecord)
+        (portfolios : List AccountHoldings) (p : AccountHoldings) → accepted_of params ≡ Ok t
+        → positions_of positions ≡ Ok records → portfolios_under t records ≡ Ok portfolios
+        → find (λ q. bytes_eq q.account name) portfolios ≡ Some p
+        → lines_read (flat_map line (account_lines t p)) ≡ account_lines t p }
     ensures none { (params positions name : List ℕ) (t : AcceptedTables) (records : List PositionRecord)
         (portfolios : List AccountHoldings) → accepted_of params ≡ Ok t
         → positions_of positions ≡ Ok records → portfolios_under t records ≡ Ok portfolios
         → find (λ q. bytes_eq q.account name) portfolios ≡ None
         → explanation_of params positions (Some name) ≡ Err (fault.UnknownAccount name) }
 {}
+
+/// Under accepted files each account has tables within their limits and holdings that fit them, of which the laws over lines speak.
+pub fn accounts_of_accepted_files_are_accepted()
+    ensures { (params : List ℕ) (t : AcceptedTables) (records : List PositionRecord) (portfolios : List AccountHoldings)
+        → accepted_of params ≡ Ok t → portfolios_under t records ≡ Ok portfolios → All (λ p. AreAccepted t p.holdings) portfolios }
+{}
+
+/// The lines of a commodity that an account holds end with its R line, whose numbers are those that follow from the lines in front of it.
+pub fn an_r_line_follows_from_the_lines_in_front()
+    ensures { (t : AcceptedTables) (p : AccountHoldings) (c : ℕ) → AreAccepted t p.holdings → c < length t.commodities
+        → is_commodity_held t p.holdings c ≡ true
+        → (front : List Line) × ((last : Line) × (commodity_lines t p c ≡ front ++ last ∷ []) × (last.word ≡ codes "R")
+        × (map (exact_value 0) (behind_ids last).fields ≡ figures_by_lines (map behind_ids front))) }
+{
+    figures_follow_from_the_lines();
+}
+
+/// The lines of an account end with its T line, whose total is the sum of the requirements of the R lines in front of it, and where
+/// options have a value, whose value is the sum of the values of the HELD lines.
+pub fn a_t_line_follows_from_the_lines_in_front()
+    ensures total { (t : AcceptedTables) (p : AccountHoldings) → AreAccepted t p.holdings
+        → (front : List Line) × ((last : Line) × (account_lines t p ≡ front ++ last ∷ []) × (last.word ≡ codes "T")
+        × (number_at 0 last 2 ≡ int_sum_by (λ l. number_at 0 l 9) (lines_of (codes "R") front))) }
+    ensures value { (t : AcceptedTables) (p : AccountHoldings) → AreAccepted t p.holdings → (facts_in t).options_have_value ≡ true
+        → (front : List Line) × ((last : Line) × (account_lines t p ≡ front ++ last ∷ []) × (last.word ≡ codes "T")
+        × (number_at 0 last 3 ≡ int_sum_by (λ l. number_at 0 l 7) (lines_of (codes "HELD") front))) }
+{
+    held_lines_have_each_held_contract();
+}
 
 /// Files that have no statement have no explanation, of whatever account, and are refused for the same fault.
 pub fn faults_of_the_statement_come_first()

@@ -4,3 +4,4 @@
 mod accounts;
 pub mod explaining;
 pub mod laws;
+mod worked;

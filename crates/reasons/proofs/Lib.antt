@@ -5,4 +5,9 @@ pub mod FigureLaws
 pub mod ChargeLaws
 pub mod CreditLaws
 pub mod SpreadLaws
+pub mod TurnLaws
+pub mod WordLaws
+pub mod FieldLaws
+pub mod SmallLaws
+pub mod AcceptedLaws
 pub mod TotalLaws

@@ -51,7 +51,8 @@ module _ (passes : ℕ → Bool) (f : ℕ → ℤ) (end : ℕ)
 
 -- ---- nothing held
 
-none_held : (held : List HeldContract) → not (length held == 0) ≡ false → held ≡ []
+-- no contract is held where their number is 0
+pub none_held : (held : List HeldContract) → not (length held == 0) ≡ false → held ≡ []
 none_held [] e = refl
 none_held (h ∷ held) e =
     let some : (length (h ∷ held) == 0) ≡ false = grind (arith, nat_tests) in
@@ -104,7 +105,7 @@ module _ (t : AcceptedTables) (holdings : List Holding) (c : ℕ) (none : held_a
       credit_shown t holdings c ∙ ap pos (credit_zero (state_after_all t holdings c) (ap nat_abs net))
 
   -- nothing is required for it
-  no_requirement : c < length t.commodities → (figures_of t holdings c).requirement ≡ pos 0
+  pub no_requirement : c < length t.commodities → (figures_of t holdings c).requirement ≡ pos 0
   no_requirement lt =
       requirement_shown t holdings c
       ∙ (λ k. requirement_of (no_scan k) (no_intra k) (no_delivery k) (no_credit lt k) (no_minimum k))

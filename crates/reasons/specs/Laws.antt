@@ -1,7 +1,9 @@
 -- What the laws speak of.
-use Rattle.std.specs.Prelude.{ℕ, ◌≡◌, ◌+◌, ◌++◌, max, List, filter, length, ℤ}
+use Rattle.std.specs.Prelude.{ℕ, ◌≡◌, ◌+◌, ◌++◌, max, true, List, filter, length, ℤ}
 use Rattle.std.specs.List.{range_with_len}
 use Rattle.span_money.specs.Numbers.{int_sum_by}
+use Rattle.span_tables.specs.Accepted.{IsWithinLimits}
+use Rattle.span_tables.specs.Holdings.{ArePortfolio, fits}
 use Rattle.span_tables.specs.Tables.{AcceptedTables}
 use Rattle.span_tables.specs.declared.portfolios.Holding.{Holding}
 use Rattle.span_tables.specs.declared.records.MinimumMethod.{MinimumMethod}
@@ -25,3 +27,9 @@ values_shown_at t holdings c = int_sum_by position_value (held_at t holdings c)
 -- a list stands in another, in one piece
 abbrev pub StandsIn : {A : Type 0} → List A → List A → Type 0
 StandsIn {A} part whole = (before : List A) × ((behind : List A) × (whole ≡ before ++ (part ++ behind)))
+
+-- what accepted files have: tables within their limits, and the holdings of an account, which are of contracts of these tables
+pub record AreAccepted (t : AcceptedTables) (holdings : List Holding) : Type 0 where
+  pub limits : IsWithinLimits t
+  pub portfolio : ArePortfolio holdings
+  pub known : fits (length t.contracts) holdings ≡ true

@@ -9,14 +9,17 @@ ghost use Rattle.reasons.specs.Shown.{inter_ways, shown_intra_charge, intra_ways
 ghost use Rattle.scan_risk.specs.Scenarios.{active_scenario, scan_risk, scenario_sums};
 ghost use Rattle.span_money.specs.Numbers.{int_sum_by};
 ghost use Rattle.span_tables.specs.Accepted.{IsWithinLimits};
-ghost use Rattle.span_tables.specs.Tables.{AcceptedTables, inters_of};
+ghost use Rattle.span_tables.specs.Laws.{IsRisingBy};
+ghost use Rattle.span_tables.specs.Tables.{AcceptedTables, inters_of, tables_of};
 ghost use Rattle.span_tables.specs.declared.portfolios.Holding.{Holding};
 ghost use Rattle.span_tables.specs.declared.records.Inter.{Inter};
 ghost use Rattle.span_tables.specs.declared.records.Intra.{Intra};
+ghost use Rattle.span_tables.specs.declared.records.Record.{Record};
 ghost use Rattle.spread_stage.specs.Spreads as months;
 ghost use Rattle.spread_stage.specs.Spreads.{spread_both_ways, unspread};
 ghost use Rattle.std.specs.Int.{div_ceil};
-ghost use Rattle.std.specs.Prelude.{◌*◌, ◌<◌, ◌^◌, ◌≡◌, List, Some, fold, length, pos, slice_get, sum_by, take, ℕ};
+ghost use Rattle.std.specs.List.{enumerate_from};
+ghost use Rattle.std.specs.Prelude.{◌*◌, ◌<◌, ◌^◌, ◌≡◌, All, List, Some, flat_map, fold, length, pos, slice_get, sum_by, take, ℕ};
 
 /// The scan risk is the largest of the sums shown, or 0, and the active scenario the first one that has the largest sum.
 #[tactic(auto, unfolding(plan_ir::specs::Figures::figures_of, scan_risk::specs::Scenarios::scan_of))]
@@ -34,13 +37,21 @@ pub fn intracommodity_charge_is_that_of_the_spreads_shown()
         ≡ pos (div_ceil (sum_by shown_intra_charge (intras_shown_at t holdings c)) (10 ^ 4)) }
 {}
 
-/// Each spread between months has its lines, one for each direction in which it forms more than 0, of as many as it forms from
-/// the rests that the spreads before it left.
+/// The spreads shown between months are those of each spread in its turn, and no others: one for each direction in which it forms more
+/// than 0, of as many as it forms from the rests that the spreads before it left. Under the tables of whatever records their priorities
+/// rise.
 pub fn each_spread_between_months_has_its_lines()
-    ensures { (t : AcceptedTables) (holdings : List Holding) (c k : ℕ) (spread : Intra)
+    ensures stands { (t : AcceptedTables) (holdings : List Holding) (c k : ℕ) (spread : Intra)
         → slice_get (intras_at t c) k ≡ Some spread → StandsIn (intra_ways spread (months.formed_both
         (fold spread_both_ways (unspread (deltas_at t holdings c)) (take k (intras_at t c))) spread))
         (intras_shown_at t holdings c) }
+    ensures in_turn { (t : AcceptedTables) (holdings : List Holding) (c : ℕ) → intras_shown_at t holdings c
+        ≡ flat_map (λ x. intra_ways x.1 (months.formed_both
+        (fold spread_both_ways (unspread (deltas_at t holdings c)) (take x.0 (intras_at t c))) x.1))
+        (enumerate_from 0 (intras_at t c)) }
+    ensures some { (t : AcceptedTables) (holdings : List Holding) (c : ℕ) → All (λ s. 0 < s.formed) (intras_shown_at t holdings c) }
+    ensures rising { (records : List Record) (holdings : List Holding) (c : ℕ)
+        → IsRisingBy (λ s. s.priority) (intras_shown_at (tables_of records) holdings c) }
 {}
 
 /// The delivery charge is the sum of the charges of the spot months shown, divided by 10^8 and rounded up: a spot month whose
@@ -68,13 +79,21 @@ pub fn weight_is_the_sum_of_the_spreads_shown()
         → (state_after_all t holdings c).weight ≡ sum_by weight_of (inters_shown_at t holdings c) }
 {}
 
-/// Each spread between commodities has its lines in those in which it has a leg, one for each direction in which it forms more
-/// than 0, of as many as it forms from the rests that the spreads before it left.
+/// The spreads shown between commodities are those of each spread in its turn that has a leg in the commodity, and no others: one for
+/// each direction in which it forms more than 0, of as many as it forms from the rests that the spreads before it left. Under the tables
+/// of whatever records their priorities rise.
 pub fn each_spread_between_commodities_has_its_lines()
-    ensures { (t : AcceptedTables) (holdings : List Holding) (c k : ℕ) (spread : Inter)
+    ensures stands { (t : AcceptedTables) (holdings : List Holding) (c k : ℕ) (spread : Inter)
         → slice_get (inters_of t) k ≡ Some spread → StandsIn (inter_ways spread (commodities.inter_formed_both
         (fold inter_both_ways (loaded_states t holdings) (take k (inters_of t))) spread) (ratio_in c spread.legs))
         (inters_shown_at t holdings c) }
+    ensures in_turn { (t : AcceptedTables) (holdings : List Holding) (c : ℕ) → inters_shown_at t holdings c
+        ≡ flat_map (λ x. inter_ways x.1 (commodities.inter_formed_both
+        (fold inter_both_ways (loaded_states t holdings) (take x.0 (inters_of t))) x.1) (ratio_in c (x.1).legs))
+        (enumerate_from 0 (inters_of t)) }
+    ensures some { (t : AcceptedTables) (holdings : List Holding) (c : ℕ) → All (λ s. 0 < s.formed) (inters_shown_at t holdings c) }
+    ensures rising { (records : List Record) (holdings : List Holding) (c : ℕ)
+        → IsRisingBy (λ s. s.priority) (inters_shown_at (tables_of records) holdings c) }
 {}
 
 /// The credit is that of the price risk, the net delta and the weight shown.

@@ -4,6 +4,7 @@
 mod commodities;
 mod held;
 pub mod laws;
+pub mod line_laws;
 mod months;
 pub mod shown;
 pub mod stages;

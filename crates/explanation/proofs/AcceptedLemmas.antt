@@ -1,0 +1,316 @@
+-- What accepted files have: tables within their limits with portfolios that fit them, and names whose bytes are above a comma.
+use Rattle.std.proofs.Common.{◌≡◌, ℕ, zero, suc, ◌≤◌, Bool, true, false, cond, not, ◌&&◌, List, [], ◌∷◌, ◌++◌, length, get_or, map}
+use Rattle.std.proofs.Common.{filter, Option, Some, None, Ok, Err, Result, refl, sym, ap, ◌∙◌, subst, arith}
+use Rattle.std.specs.Prelude.{◌==◌, All, MatchOption, bytes_eq, filter_map, find, nat_le, option_map, slice_get, unwrap_or, ℤ}
+use Rattle.std.specs.List.{AllByRecursion, cons_option, list_all, zip}
+use Rattle.std.proofs.lemmas.Bool.{and_parts, not-false}
+use Rattle.std.proofs.lemmas.Bool.Decides.{nat_tests}
+use Rattle.std.proofs.lemmas.List.Elements.{All-head, All-map, All-tail}
+use Rattle.std.proofs.lemmas.List.Folds.{list_any_at}
+use Rattle.span_tables.specs.Accepted.{IsWithinLimits}
+use Rattle.span_tables.specs.Faults.{first_of, ok_unless}
+use Rattle.span_tables.specs.Holdings.{ArePortfolio, fits}
+use Rattle.span_tables.specs.Laws.{IsFaultFree}
+use Rattle.span_tables.specs.Names.{distinct, is_among, is_name, is_name_byte}
+use Rattle.span_tables.specs.Net.{AccountHoldings, HeldContract, accounts_of, held_contracts, held_of, holdings_of}
+use Rattle.span_tables.specs.Net.{portfolios_of}
+use Rattle.span_tables.specs.Rules.{as_commodity, as_contract, as_set}
+use Rattle.span_tables.specs.Tables.{AcceptedTables, tables_of}
+use Rattle.span_tables.specs.near.Limits.{contract_in_range, in_range, is_readable}
+use Rattle.span_tables.specs.declared.portfolios.Holding.{Holding}
+use Rattle.span_tables.specs.declared.records.Commodity.{Commodity}
+use Rattle.span_tables.specs.declared.records.Contract.{Contract}
+use Rattle.span_tables.specs.declared.records.PositionRecord.{PositionRecord}
+use Rattle.span_tables.specs.declared.records.Record.{Record}
+use Rattle.span_tables.specs.declared.records.Record.TheVariants as record_of
+use Rattle.span_tables.specs.declared.records.SetRecord.{SetRecord}
+use Rattle.span_tables.proofs.FaultLaws.{first_fault_none}
+use Rattle.span_tables.proofs.KeptRules.{all_true, and_true, of_kind}
+use Rattle.span_tables.proofs.NameLemmas.{is_among-distinct}
+use Rattle.span_tables.proofs.Ranges.{by_recursion}
+use Rattle.span_tables.proofs.WithinLimits.{readable, within_limits}
+use Rattle.span_csv.specs.ParamFaults.{params_of}
+use Rattle.span_csv.specs.PositionFaults.{position_faults, positions_of, record_fault}
+use Rattle.span_csv.specs.Records.{Fields, a_quantity, all_have, has_word_form, position_forms, position_record, records_of}
+use Rattle.span_csv.specs.declared.faults.ParamFault.{ParamFault}
+use Rattle.span_csv.specs.declared.faults.PositionFault.{PositionFault}
+use Rattle.span_csv.specs.declared.faults.PositionFault.TheVariants as position_fault
+use Rattle.span_csv.specs.declared.grammar.FieldForm.{FieldForm}
+use Rattle.span_csv.specs.declared.grammar.FieldForm.TheVariants as form
+use Rattle.span_csv.proofs.ReadableLaws.{params_readable}
+use Rattle.param_check.specs.Binding.{bind_fault, bindings_of}
+use Rattle.param_check.specs.CheckFaults.{check_fault, checked}
+use Rattle.param_check.specs.declared.faults.BindFault.{BindFault}
+use Rattle.param_check.specs.declared.faults.CheckFault.{CheckFault}
+use Rattle.param_check.proofs.AcceptedLaws.{few_held, fit_of_none}
+use Rattle.param_check.proofs.AccountLaws.{bytes_eq-refl}
+use Rattle.param_check.proofs.PortfolioLaws.{portfolio_holds}
+use Rattle.param_check.proofs.RuleLaws.{rules_kept}
+use Rattle.statement.specs.Statement.{accepted_of, and_then, portfolios_under}
+use Rattle.statement.specs.declared.faults.SpanFault.TheVariants as fault
+use Rattle.statement.proofs.FitLemmas.{bound_fits}
+use Rattle.reasons.specs.Laws.{AreAccepted}
+use Rattle.explanation.proofs.ReadLemmas.{IsAbove}
+
+-- ---- names
+
+byte_above : (b : ℕ) → is_name_byte b ≡ true → 45 ≤ b
+byte_above b h = grind (arith, nat_tests, h)
+
+bytes_above : (bytes : List ℕ) → list_all is_name_byte bytes ≡ true → IsAbove bytes
+bytes_above [] h = tt
+bytes_above (b ∷ bs) h =
+    let parts = and_parts (is_name_byte b) (list_all is_name_byte bs) h in (byte_above b parts.0, bytes_above bs parts.1)
+
+-- the bytes of a name are above a comma
+name_above : (bytes : List ℕ) → is_name bytes ≡ true → IsAbove bytes
+name_above bytes h =
+    bytes_above bytes (and_parts (nat_le 1 (length bytes) && nat_le (length bytes) 16) (list_all is_name_byte bytes) h).1
+
+-- ---- tables
+
+-- the names of tables are above a comma
+pub record AreNamed (t : AcceptedTables) : Type 0 where
+  pub set_id : IsAbove t.set_id
+  pub commodities : All (λ c. IsAbove c.id) t.commodities
+  pub contracts : All (λ x. IsAbove x.id) t.contracts
+
+set_named : (r : Record) → in_range r ≡ true → MatchOption (as_set r) (Unit {0}) (λ s. IsAbove s.id)
+set_named (record_of.Set s) e = name_above s.id (and_true _ _ e).0
+set_named (record_of.Commodity c) e = tt
+set_named (record_of.Contract x) e = tt
+set_named (record_of.Tier t) e = tt
+set_named (record_of.Intra s) e = tt
+set_named (record_of.Spot s) e = tt
+set_named (record_of.Inter s) e = tt
+
+commodity_named : (r : Record) → in_range r ≡ true → MatchOption (as_commodity r) (Unit {0}) (λ c. IsAbove c.id)
+commodity_named (record_of.Set s) e = tt
+commodity_named (record_of.Commodity c) e = name_above c.id (and_true _ _ e).0
+commodity_named (record_of.Contract x) e = tt
+commodity_named (record_of.Tier t) e = tt
+commodity_named (record_of.Intra s) e = tt
+commodity_named (record_of.Spot s) e = tt
+commodity_named (record_of.Inter s) e = tt
+
+-- the first of the tests of a contract is that of its id
+contract_above : (x : Contract) → contract_in_range x ≡ true → IsAbove x.id
+contract_above x e = let last = all_true _ _ _ e in
+    let middle = all_true _ _ _ last.0 in
+    let first = all_true _ _ _ (and_true _ _ middle.0).0 in
+    name_above x.id first.0
+
+contract_named : (r : Record) → in_range r ≡ true → MatchOption (as_contract r) (Unit {0}) (λ x. IsAbove x.id)
+contract_named (record_of.Set s) e = tt
+contract_named (record_of.Commodity c) e = tt
+contract_named (record_of.Contract x) e = contract_above x e
+contract_named (record_of.Tier t) e = tt
+contract_named (record_of.Intra s) e = tt
+contract_named (record_of.Spot s) e = tt
+contract_named (record_of.Inter s) e = tt
+
+first_above : (ss : List SetRecord) → All (λ s. IsAbove s.id) ss
+    → IsAbove (unwrap_or (option_map (λ s. s.id) (find (λ s. true) ss)) [])
+first_above [] all = tt
+first_above (s ∷ ss) all = All-head (λ (x : SetRecord). IsAbove x.id) s ss all
+
+tables_named : (rs : List Record) → is_readable rs ≡ true → AreNamed (tables_of rs)
+unfolding tables_of
+tables_named rs e =
+    let ranges = by_recursion in_range rs (readable rs e).ranges in
+    record {
+      set_id = first_above (filter_map as_set rs)
+          (of_kind as_set (λ (s : SetRecord). IsAbove s.id) (λ r. in_range r ≡ true) set_named rs ranges);
+      commodities = of_kind as_commodity (λ (c : Commodity). IsAbove c.id) (λ r. in_range r ≡ true) commodity_named rs ranges;
+      contracts = of_kind as_contract (λ (x : Contract). IsAbove x.id) (λ r. in_range r ≡ true) contract_named rs ranges;
+    }
+
+-- what is known of accepted tables
+pub record IsRead (t : AcceptedTables) : Type 0 where
+  pub limits : IsWithinLimits t
+  pub named : AreNamed t
+
+checked_read : (records : List Record) (t : AcceptedTables) → is_readable records ≡ true
+    → and_then fault.Check (checked records) (λ tables. Ok tables) ≡ Ok t → IsRead t
+unfolding checked
+checked_read records t read e = by (check_fault records) refl e where
+  by : (o : Option CheckFault) → check_fault records ≡ o
+      → and_then fault.Check (ok_unless o (tables_of records)) (λ tables. Ok tables) ≡ Ok t → IsRead t
+  by (Some f) is e = cc
+  by None is e =
+      let same_tables : tables_of records ≡ t = cc in
+      subst IsRead same_tables (record {
+        limits = within_limits records read (rules_kept records is);
+        named = tables_named records read;
+      })
+
+pub tables_read : (params : List ℕ) (t : AcceptedTables) → accepted_of params ≡ Ok t → IsRead t
+unfolding accepted_of
+tables_read params t e = by (params_of params) refl e where
+  by : (r : Result (List Record) ParamFault) → params_of params ≡ r
+      → and_then fault.Params r (λ records. and_then fault.Check (checked records) (λ tables. Ok tables)) ≡ Ok t → IsRead t
+  by (Err f) is e = cc
+  by (Ok records) is e = checked_read records t (params_readable params records is) e
+
+-- ---- portfolios
+
+bound_are : (t : AcceptedTables) (positions : List PositionRecord) (portfolios : List AccountHoldings)
+    → portfolios_under t positions ≡ Ok portfolios
+    → (bind_fault t.contracts positions ≡ None) × (portfolios_of t.contracts positions ≡ portfolios)
+unfolding portfolios_under bindings_of
+bound_are t positions portfolios e = by (bind_fault t.contracts positions) refl e where
+  by : (o : Option BindFault) → bind_fault t.contracts positions ≡ o
+      → and_then fault.Bind (ok_unless o (portfolios_of t.contracts positions)) (λ found. Ok found) ≡ Ok portfolios
+      → (bind_fault t.contracts positions ≡ None) × (portfolios_of t.contracts positions ≡ portfolios)
+  by (Some f) is e = cc
+  by None is e = (is, cc)
+
+-- what each account holds by positions without a fault is a portfolio
+portfolios_hold : (contracts : List Contract) (positions : List PositionRecord) → bind_fault contracts positions ≡ None
+    → All (λ p. ArePortfolio p.holdings) (portfolios_of contracts positions)
+unfolding portfolios_of
+portfolios_hold contracts positions none =
+    let names = map (λ (p : PositionRecord). p.account) positions in
+    All-map (λ (p : AccountHoldings). ArePortfolio p.holdings)
+    (λ name. record { account = name; holdings = holdings_of contracts positions name }) (accounts_of positions) (λ k d lt.
+    let name = get_or (accounts_of positions) k d in
+    let among : is_among names name ≡ true =
+    sym (is_among-distinct names name) ∙ list_any_at (bytes_eq name) (accounts_of positions) k d lt (bytes_eq-refl name) in
+    portfolio_holds contracts positions name (fit_of_none contracts positions none).within
+    (few_held contracts positions none name among))
+
+fitted : (t : AcceptedTables) (positions : List PositionRecord) (portfolios : List AccountHoldings)
+    → bindings_of t.contracts positions ≡ Ok portfolios → All (λ p. fits (length t.contracts) p.holdings ≡ true) portfolios
+fitted t positions portfolios e = bound_fits t.contracts positions portfolios e
+
+bindings_are : (t : AcceptedTables) (positions : List PositionRecord) (portfolios : List AccountHoldings)
+    → portfolios_under t positions ≡ Ok portfolios → bindings_of t.contracts positions ≡ Ok portfolios
+unfolding portfolios_under
+bindings_are t positions portfolios e = by (bindings_of t.contracts positions) refl e where
+  by : (r : Result (List AccountHoldings) BindFault) → bindings_of t.contracts positions ≡ r
+      → and_then fault.Bind r (λ found. Ok found) ≡ Ok portfolios → bindings_of t.contracts positions ≡ Ok portfolios
+  by (Err f) is e = cc
+  by (Ok found) is e = let same_found : found ≡ portfolios = cc in is ∙ ap Ok same_found
+
+-- each portfolio of accepted files
+pub portfolios_accepted : (params : List ℕ) (t : AcceptedTables) (positions : List PositionRecord) (portfolios : List AccountHoldings)
+    → accepted_of params ≡ Ok t → portfolios_under t positions ≡ Ok portfolios → All (λ p. AreAccepted t p.holdings) portfolios
+portfolios_accepted params t positions portfolios a b =
+    let read = tables_read params t a in
+    let bound = bound_are t positions portfolios b in
+    let held : All (λ p. ArePortfolio p.holdings) portfolios =
+    subst (All (λ (p : AccountHoldings). ArePortfolio p.holdings)) bound.1 (portfolios_hold t.contracts positions bound.0) in
+    let fit = fitted t positions portfolios (bindings_are t positions portfolios b) in
+    λ k d lt. record { limits = read.limits; portfolio = held k d lt; known = fit k d lt }
+
+-- ---- accounts
+
+-- where none of two tests and others behind them holds, the second does not
+second_fails : {F : Type 0} (a b : Bool) (f g : F) (rest : Option F) → cond a (Some f) (cond b (Some g) rest) ≡ None → b ≡ false
+second_fails true b f g rest e = cc
+second_fails false true f g rest e = cc
+second_fails false false f g rest e = refl
+
+account_above : (earlier : List Fields) (r : Fields) → record_fault earlier r ≡ None → IsAbove (position_record r).account
+unfolding position_record
+account_above earlier [] e = tt
+account_above earlier (name ∷ fields) e =
+    let r = name ∷ fields in
+    let fails : not (all_have has_word_form position_forms r) ≡ false =
+    second_fails (not (length r == length position_forms)) (not (all_have has_word_form position_forms r)) position_fault.FieldCount
+    position_fault.BadName _ e in
+    let formed : all_have has_word_form position_forms r ≡ true = not-false (all_have has_word_form position_forms r) fails in
+    let others = list_all (λ (x : FieldForm × List ℕ). has_word_form x.0 x.1) (zip (form.Name ∷ a_quantity ∷ []) fields) in
+    name_above name (and_parts (is_name name) others formed).0
+
+accounts_above : (earlier rows : List Fields) → IsFaultFree record_fault earlier rows
+    → AllByRecursion (λ p. IsAbove p.account) (map position_record rows)
+accounts_above earlier [] free = tt
+accounts_above earlier (r ∷ rows) free = (account_above earlier r free.0, accounts_above (earlier ++ r ∷ []) rows free.1)
+
+records_above : (bytes : List ℕ) (records : List PositionRecord) → positions_of bytes ≡ Ok records
+    → AllByRecursion (λ p. IsAbove p.account) records
+unfolding positions_of position_faults
+records_above bytes records e = by (first_of (position_faults bytes)) refl e where
+  by : (o : Option PositionFault) → first_of (position_faults bytes) ≡ o
+      → ok_unless o (map position_record (records_of bytes)) ≡ Ok records → AllByRecursion (λ p. IsAbove p.account) records
+  by (Some f) is e = cc
+  by None is e =
+      let same_records : map position_record (records_of bytes) ≡ records = cc in
+      subst (AllByRecursion (λ (p : PositionRecord). IsAbove p.account)) same_records
+      (accounts_above [] (records_of bytes) (first_fault_none record_fault [] (records_of bytes) is))
+
+names_above : (ps : List PositionRecord) → AllByRecursion (λ p. IsAbove p.account) ps
+    → AllByRecursion IsAbove (map (λ (p : PositionRecord). p.account) ps)
+names_above [] h = tt
+names_above (p ∷ ps) h = (h.0, names_above ps h.1)
+
+all_kept : (p : List ℕ → Bool) (names : List (List ℕ)) → AllByRecursion IsAbove names → AllByRecursion IsAbove (filter p names)
+all_kept p [] h = tt
+all_kept p (x ∷ xs) h = by (p x) (all_kept p xs h.1) where
+  by : (b : Bool) → AllByRecursion IsAbove (filter p xs) → AllByRecursion IsAbove (cond b (x ∷ filter p xs) (filter p xs))
+  by true rest = (h.0, rest)
+  by false rest = rest
+
+distinct_above : (names : List (List ℕ)) → AllByRecursion IsAbove names → AllByRecursion IsAbove (distinct names)
+distinct_above [] h = tt
+distinct_above (name ∷ rest) h =
+    (h.0, all_kept (λ other. not (bytes_eq other name)) (distinct rest) (distinct_above rest h.1))
+
+of_names : (contracts : List Contract) (positions : List PositionRecord) (names : List (List ℕ)) → AllByRecursion IsAbove names
+    → AllByRecursion (λ (p : AccountHoldings). IsAbove p.account)
+    (map (λ (name : List ℕ). record { account = name; holdings = holdings_of contracts positions name }) names)
+of_names contracts positions [] h = tt
+of_names contracts positions (name ∷ names) h = (h.0, of_names contracts positions names h.1)
+
+-- the name of each account is above a comma
+pub accounts_named : (t : AcceptedTables) (positions : List ℕ) (records : List PositionRecord) (portfolios : List AccountHoldings)
+    → positions_of positions ≡ Ok records → portfolios_under t records ≡ Ok portfolios
+    → AllByRecursion (λ p. IsAbove p.account) portfolios
+unfolding portfolios_of
+accounts_named t positions records portfolios q b =
+    subst (AllByRecursion (λ (p : AccountHoldings). IsAbove p.account)) (bound_are t records portfolios b).1
+    (of_names t.contracts records (accounts_of records)
+    (distinct_above (map (λ (p : PositionRecord). p.account) records) (names_above records (records_above positions records q))))
+
+-- ---- held contracts
+
+found_above : (contracts : List Contract) (i : ℕ) (x : Contract) → slice_get contracts i ≡ Some x → All (λ y. IsAbove y.id) contracts
+    → IsAbove x.id
+found_above [] i x is all = cc
+found_above (y ∷ ys) zero x is all =
+    let same_one : y ≡ x = cc in subst (λ (z : Contract). IsAbove z.id) same_one (All-head (λ (z : Contract). IsAbove z.id) y ys all)
+found_above (y ∷ ys) (suc i) x is all = found_above ys i x is (All-tail (λ (z : Contract). IsAbove z.id) y ys all)
+
+-- a contract with a net quantity of it
+abbrev with_net : ℤ → Contract → HeldContract
+with_net net x = record { contract = x; net = net }
+
+-- the contracts that are held are of the tables
+contracts_above : (contracts : List Contract) (holdings : List Holding) → All (λ x. IsAbove x.id) contracts
+    → AllByRecursion (λ h. IsAbove (h.contract).id) (held_contracts contracts holdings)
+contracts_above contracts [] all = tt
+contracts_above contracts (h ∷ hs) all =
+    by (slice_get contracts h.contract) (found_above contracts h.contract) (contracts_above contracts hs all) where
+      by : (o : Option Contract) → ((x : Contract) → o ≡ Some x → All (λ y. IsAbove y.id) contracts → IsAbove x.id)
+          → AllByRecursion (λ x. IsAbove (x.contract).id) (held_contracts contracts hs)
+          → AllByRecursion (λ x. IsAbove (x.contract).id)
+          (cons_option (option_map (with_net h.net) o) (held_contracts contracts hs))
+      by None found rest = rest
+      by (Some x) found rest = (found x refl all, rest)
+
+-- of some held contracts those that pass a test
+passing_above : (p : HeldContract → Bool) (hs : List HeldContract) → AllByRecursion (λ h. IsAbove (h.contract).id) hs
+    → AllByRecursion (λ h. IsAbove (h.contract).id) (filter p hs)
+passing_above p [] all = tt
+passing_above p (h ∷ hs) all = by (p h) (passing_above p hs all.1) where
+  by : (b : Bool) → AllByRecursion (λ x. IsAbove (x.contract).id) (filter p hs)
+      → AllByRecursion (λ x. IsAbove (x.contract).id) (cond b (h ∷ filter p hs) (filter p hs))
+  by true rest = (all.0, rest)
+  by false rest = rest
+
+pub held_above : (contracts : List Contract) (holdings : List Holding) (id : List ℕ) → All (λ x. IsAbove x.id) contracts
+    → AllByRecursion (λ h. IsAbove (h.contract).id) (held_of contracts holdings id)
+unfolding held_of
+held_above contracts holdings id all =
+    passing_above (λ h. bytes_eq (h.contract).commodity id) (held_contracts contracts holdings) (contracts_above contracts holdings all)

@@ -1,0 +1,2 @@
+-- What no promise's words stand on: what worked values unfold.
+pub mod OnLiterals

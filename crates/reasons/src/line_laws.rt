@@ -1,0 +1,122 @@
+//! Laws: the figures of a commodity follow from its lines alone, by the numbers that the fields of these spell. Each is the contract
+//! of a function that does nothing.
+ghost use Rattle.plan_ir.specs.Figures.{deltas_at, figures_of, held_at, numbers_of, tiers_at};
+ghost use Rattle.reasons.specs.Laws.{AreAccepted, values_shown_at};
+ghost use Rattle.reasons.specs.Lines.{credit_by_lines, delivery_by_lines, figures_by_lines, intra_by_lines, line_of, lines_of};
+ghost use Rattle.reasons.specs.Lines.{minimum_by_lines, net_by_lines, number_at, sums_by_lines, text_at, value_by_lines};
+ghost use Rattle.reasons.specs.Lines.{weight_by_lines, words_in_order, words_of_one};
+ghost use Rattle.reasons.specs.Reasons.{reasons_of};
+ghost use Rattle.scan_risk.specs.Scenarios.{active_scenario, paired_scenario, price2, scan_risk, scenario_sums};
+ghost use Rattle.span_tables.specs.Tables.{AcceptedTables, facts_in};
+ghost use Rattle.span_tables.specs.declared.portfolios.Holding.{Holding};
+ghost use Rattle.spread_stage.specs.Deltas.{months_of};
+ghost use Rattle.std.specs.Fmt.{decimal};
+ghost use Rattle.std.specs.Prelude.{◌*◌, ◌*ℤ◌, ◌+ℤ◌, ◌<◌, ◌<ℤ◌, ◌≡◌, All, List, codes, flat_map, length, map, pos, true, ℕ};
+
+/// The lines of a commodity are those of each word in turn, in the order of docs/FORMATS.md, and no others; of `SUMS`, `SCAN`, `CREDIT`
+/// and `SHORT` there is one.
+pub fn lines_stand_in_the_order_of_their_words()
+    ensures order { (t : AcceptedTables) (holdings : List Holding) (c : ℕ)
+        → reasons_of t holdings c ≡ flat_map (λ word. lines_of word (reasons_of t holdings c)) words_in_order }
+    ensures one { (t : AcceptedTables) (holdings : List Holding) (c : ℕ)
+        → All (λ word. length (lines_of word (reasons_of t holdings c)) ≡ 1) words_of_one }
+{}
+
+/// The SUMS line has the sums. Scan risk and active scenario are those of the sums that it has, and the SCAN line says both, the paired
+/// scenario, and in tenths the price risk.
+pub fn scan_follows_from_the_sums_line()
+    ensures sums { (t : AcceptedTables) (holdings : List Holding) (c : ℕ) → AreAccepted t holdings
+        → sums_by_lines (reasons_of t holdings c) ≡ scenario_sums (held_at t holdings c) }
+    ensures risk { (t : AcceptedTables) (holdings : List Holding) (c : ℕ) → AreAccepted t holdings
+        → (figures_of t holdings c).scan ≡ scan_risk (sums_by_lines (reasons_of t holdings c)) }
+    ensures active { (t : AcceptedTables) (holdings : List Holding) (c : ℕ) → AreAccepted t holdings
+        → (figures_of t holdings c).active ≡ active_scenario (sums_by_lines (reasons_of t holdings c)) }
+    ensures risk_told { (t : AcceptedTables) (holdings : List Holding) (c : ℕ) → AreAccepted t holdings
+        → number_at 0 (line_of (codes "SCAN") (reasons_of t holdings c)) 0 ≡ scan_risk (sums_by_lines (reasons_of t holdings c)) }
+    ensures active_told { (t : AcceptedTables) (holdings : List Holding) (c : ℕ) → AreAccepted t holdings
+        → number_at 0 (line_of (codes "SCAN") (reasons_of t holdings c)) 1
+        ≡ pos (active_scenario (sums_by_lines (reasons_of t holdings c))) }
+    ensures paired_told { (t : AcceptedTables) (holdings : List Holding) (c : ℕ) → AreAccepted t holdings
+        → number_at 0 (line_of (codes "SCAN") (reasons_of t holdings c)) 2
+        ≡ pos (paired_scenario (active_scenario (sums_by_lines (reasons_of t holdings c)))) }
+    ensures price_risk_told { (t : AcceptedTables) (holdings : List Holding) (c : ℕ) → AreAccepted t holdings
+        → number_at 1 (line_of (codes "SCAN") (reasons_of t holdings c)) 3
+        ≡ pos (price2 (sums_by_lines (reasons_of t holdings c)) * 5) }
+{}
+
+/// The MONTH lines are those of the months of held contracts, each with its delta and with what is left of it.
+pub fn month_lines_have_each_held_month()
+    ensures months { (t : AcceptedTables) (holdings : List Holding) (c : ℕ)
+        → map (λ l. text_at l 0) (lines_of (codes "MONTH") (reasons_of t holdings c)) ≡ map decimal (months_of (held_at t holdings c)) }
+    ensures deltas { (t : AcceptedTables) (holdings : List Holding) (c : ℕ) → AreAccepted t holdings
+        → map (λ l. number_at 8 l 1) (lines_of (codes "MONTH") (reasons_of t holdings c)) ≡ map (λ m. m.units) (deltas_at t holdings c) }
+    ensures left { (t : AcceptedTables) (holdings : List Holding) (c : ℕ) → AreAccepted t holdings
+        → map (λ l. number_at 8 l 2) (lines_of (codes "MONTH") (reasons_of t holdings c))
+        ≡ map (λ m. m.units) (tiers_at t holdings c).rests }
+{}
+
+/// The intracommodity charge is the sum of the charges of the INTRA lines, rounded up; each of these is spreads, of which there are more
+/// than 0, times rate.
+pub fn intracommodity_charge_follows_from_the_intra_lines()
+    ensures charge { (t : AcceptedTables) (holdings : List Holding) (c : ℕ) → AreAccepted t holdings
+        → (figures_of t holdings c).intra ≡ intra_by_lines (reasons_of t holdings c) }
+    ensures each { (t : AcceptedTables) (holdings : List Holding) (c : ℕ) → AreAccepted t holdings
+        → All (λ l. number_at 4 l 4 ≡ number_at 4 l 2 *ℤ number_at 0 l 3) (lines_of (codes "INTRA") (reasons_of t holdings c)) }
+    ensures some { (t : AcceptedTables) (holdings : List Holding) (c : ℕ) → AreAccepted t holdings
+        → All (λ l. pos 0 <ℤ number_at 4 l 2) (lines_of (codes "INTRA") (reasons_of t holdings c)) }
+{}
+
+/// The delivery charge is the sum of the charges of the SPOT lines, rounded up; each of these is used times spread rate and left times
+/// outright rate.
+pub fn delivery_charge_follows_from_the_spot_lines()
+    ensures charge { (t : AcceptedTables) (holdings : List Holding) (c : ℕ) → AreAccepted t holdings
+        → (figures_of t holdings c).delivery ≡ delivery_by_lines (reasons_of t holdings c) }
+    ensures each { (t : AcceptedTables) (holdings : List Holding) (c : ℕ) → AreAccepted t holdings
+        → All (λ l. number_at 8 l 5 ≡ (number_at 8 l 1 *ℤ number_at 0 l 2) +ℤ (number_at 8 l 3 *ℤ number_at 0 l 4))
+        (lines_of (codes "SPOT") (reasons_of t holdings c)) }
+{}
+
+/// The CREDIT line has the price risk of the SCAN line, the sum of the deltas of the MONTH lines, and over the INTER lines the sum of what
+/// is used times the basis points; the credit is that of these three. Each INTER line is of more than 0 spreads.
+pub fn credit_follows_from_the_lines()
+    ensures price_risk { (t : AcceptedTables) (holdings : List Holding) (c : ℕ) → AreAccepted t holdings → c < length t.commodities
+        → number_at 1 (line_of (codes "CREDIT") (reasons_of t holdings c)) 0
+        ≡ number_at 1 (line_of (codes "SCAN") (reasons_of t holdings c)) 3 }
+    ensures net { (t : AcceptedTables) (holdings : List Holding) (c : ℕ) → AreAccepted t holdings → c < length t.commodities
+        → number_at 8 (line_of (codes "CREDIT") (reasons_of t holdings c)) 1 ≡ net_by_lines (reasons_of t holdings c) }
+    ensures weight { (t : AcceptedTables) (holdings : List Holding) (c : ℕ) → AreAccepted t holdings → c < length t.commodities
+        → number_at 8 (line_of (codes "CREDIT") (reasons_of t holdings c)) 2 ≡ weight_by_lines (reasons_of t holdings c) }
+    ensures credit { (t : AcceptedTables) (holdings : List Holding) (c : ℕ) → AreAccepted t holdings
+        → (figures_of t holdings c).credit ≡ credit_by_lines (reasons_of t holdings c) }
+    ensures some { (t : AcceptedTables) (holdings : List Holding) (c : ℕ) → AreAccepted t holdings
+        → All (λ l. pos 0 <ℤ number_at 4 l 2) (lines_of (codes "INTER") (reasons_of t holdings c)) }
+{}
+
+/// The minimum is the rate of the SHORT line times its counts, by the method that it tells.
+pub fn minimum_follows_from_the_short_line()
+    ensures { (t : AcceptedTables) (holdings : List Holding) (c : ℕ) → AreAccepted t holdings → c < length t.commodities
+        → (figures_of t holdings c).minimum ≡ minimum_by_lines (reasons_of t holdings c) }
+{}
+
+/// The HELD lines are those of the held contracts, each with its net quantity; and where options have a value, that of the commodity is
+/// the sum of those that the lines tell.
+pub fn held_lines_have_each_held_contract()
+    ensures contracts { (t : AcceptedTables) (holdings : List Holding) (c : ℕ)
+        → map (λ l. text_at l 0) (lines_of (codes "HELD") (reasons_of t holdings c)) ≡ map (λ h. (h.contract).id) (held_at t holdings c) }
+    ensures nets { (t : AcceptedTables) (holdings : List Holding) (c : ℕ) → AreAccepted t holdings
+        → map (λ l. number_at 0 l 3) (lines_of (codes "HELD") (reasons_of t holdings c)) ≡ map (λ h. h.net) (held_at t holdings c) }
+    ensures values { (t : AcceptedTables) (holdings : List Holding) (c : ℕ) → AreAccepted t holdings
+        → (facts_in t).options_have_value ≡ true → value_by_lines (reasons_of t holdings c) ≡ values_shown_at t holdings c }
+{}
+
+/// All figures of a commodity are those that follow from its lines: nothing else is wanted to compute the numbers of its R line.
+pub fn figures_follow_from_the_lines()
+    ensures { (t : AcceptedTables) (holdings : List Holding) (c : ℕ) → AreAccepted t holdings → c < length t.commodities
+        → numbers_of (figures_of t holdings c) ≡ figures_by_lines (reasons_of t holdings c) }
+{
+    scan_follows_from_the_sums_line();
+    intracommodity_charge_follows_from_the_intra_lines();
+    delivery_charge_follows_from_the_spot_lines();
+    credit_follows_from_the_lines();
+    minimum_follows_from_the_short_line();
+}
