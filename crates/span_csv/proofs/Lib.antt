@@ -29,5 +29,6 @@ mod StepLemmas
 mod TallyLemmas
 mod TellLemmas
 mod TestLemmas
+pub mod TogetherLaws
 mod ToldLemmas
 mod ValueLemmas

@@ -80,7 +80,7 @@ distinct_apart [] = tt
 distinct_apart (name ∷ rest) =
     IsDistinct-cons bytes_eq name _ (others_apart name (distinct rest)) (some_distinct _ (distinct rest) (distinct_apart rest))
 
-or_last : (a b : Bool) → b ≡ true → (a || b) ≡ true
+pub or_last : (a b : Bool) → b ≡ true → (a || b) ≡ true
 or_last true b e = refl
 or_last false b e = e
 

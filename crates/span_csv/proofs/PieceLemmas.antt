@@ -72,7 +72,7 @@ same_named keys name (r ∷ records) known =
     let rest = same_named keys name records (All-tail (λ (p : NumberedPosition). p.account < length keys) r records known) in
     λ i. record { account = here i; contract = r.contract; quantity = r.quantity } ∷ rest i
 
-longer : (keys : List (List ℕ)) (name : List ℕ) → length keys ≤ length (with_name keys name)
+pub longer : (keys : List (List ℕ)) (name : List ℕ) → length keys ≤ length (with_name keys name)
 longer keys name =
     elim (cases_Bool (is_among keys name)) [
       | inl old ↦ rw old (omega arith)

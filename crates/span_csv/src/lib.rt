@@ -18,5 +18,6 @@ pub mod position_laws;
 pub mod positions;
 mod rows;
 mod tally;
+pub mod together;
 mod worked;
 mod worked_pieces;

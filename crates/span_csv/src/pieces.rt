@@ -27,20 +27,23 @@ use std::marker::Model;
 /// What was read of a piece of a position file: its records in front of the first that has a fault by itself, and that fault.
 #[derive(Drop)]
 pub struct Piece {
-    accounts: IndexSet<Name>,
-    records: Vec<NumberedPosition>,
-    fault: Option<PositionFault>,
+    pub(crate) accounts: IndexSet<Name>,
+    pub(crate) records: Vec<NumberedPosition>,
+    pub(crate) fault: Option<PositionFault>,
 }
 
 impl Model for Piece {
+    ghost use Rattle.std.specs.Prelude.{◌≡◌, None};
     ghost use Rattle.span_csv.specs.near.Pieces.{AreOfAccounts, PieceRead};
+    ghost use Rattle.span_tables.specs.Net.{accounts_of};
     ghost use Rattle.span_tables.specs.near.Positions.{named_positions};
 
     ghost Value = { PieceRead };
 
     ghost view = { λ piece. record { records = named_positions piece.accounts.keys piece.records.items; fault = piece.fault } };
 
-    ghost invariant = { λ piece. AreOfAccounts piece.accounts.keys piece.records.items };
+    ghost invariant = { λ piece. AreOfAccounts piece.accounts.keys piece.records.items
+        × (piece.fault ≡ None → piece.accounts.keys ≡ accounts_of (named_positions piece.accounts.keys piece.records.items)) };
 }
 
 /// The records of a piece of a position file, up to the first that has a fault by itself: one of Q1 to Q4, or Q5 of the piece's accounts.

@@ -1,5 +1,8 @@
 -- A position file read in pieces: what is read of each by itself, and what the pieces say one behind the other.
-use Rattle.std.specs.Prelude.{◌≡◌, ℕ, ◌+◌, ◌<◌, ◌≤◌, All, if◌then◌else◌, List, [], ◌∷◌, ◌++◌, length, nat_abs}
+use Rattle.std.specs.Prelude.{◌≡◌, ℕ, ◌+◌, ◌<◌, ◌≤◌, All, true, if◌then◌else◌, List, [], ◌∷◌, ◌++◌, flat_map, fold, length, nat_abs}
+use Rattle.std.specs.Prelude.{bytes_eq, slice_index_or}
+use Rattle.std.specs.List.{position_or_len}
+use Rattle.span_tables.specs.Names.{is_among}
 use Rattle.std.specs.Prelude.{Option, Some, None, Result, Ok, Err, slice_get}
 use Rattle.span_tables.specs.Net.{accounts_of}
 use Rattle.span_tables.specs.near.Positions.{named_positions}
@@ -7,7 +10,7 @@ use Rattle.span_tables.specs.declared.records.NumberedPosition.{NumberedPosition
 use Rattle.span_tables.specs.declared.records.PositionRecord.{PositionRecord}
 use Rattle.span_tables.specs.declared.limits.TheConstants.{MAX_ACCOUNTS, MAX_QUANTITY}
 use Rattle.span_csv.specs.Records.{Fields, records_of}
-use Rattle.span_csv.specs.near.NumberedReading.{is_one_too_many, next_position}
+use Rattle.span_csv.specs.near.NumberedReading.{is_one_too_many, next_position, with_name}
 use Rattle.span_csv.specs.near.RecordReading.{go_on}
 use Rattle.span_csv.specs.declared.positions.TheConstants.{POSITION_NAMES}
 use Rattle.span_csv.specs.declared.faults.PositionFault.{PositionFault}
@@ -93,3 +96,36 @@ pieces_joined earlier (piece ∷ rest) = and_then (λ all. pieces_joined all res
 -- where accounts of a piece that were looked up stand among those of the whole
 abbrev pub ArePlaces : List (Option ℕ) → List (List ℕ) → List (List ℕ) → Type 0
 ArePlaces places names accounts = (i place : ℕ) → slice_get places i ≡ Some (Some place) → slice_get accounts place ≡ slice_get names i
+
+-- ---- pieces without a fault
+
+-- the records of pieces, one piece behind the other
+abbrev pub records_together : List PieceRead → List PositionRecord
+records_together pieces = flat_map (λ piece. piece.records) pieces
+
+-- the names with more behind them, each unless it is there
+abbrev pub with_names : List (List ℕ) → List (List ℕ) → List (List ℕ)
+with_names known names = fold with_name known names
+
+-- no piece has a fault, and their accounts are these, in the order of first appearance, which are no more than there may be
+pub record AreTogether (accounts : List (List ℕ)) (pieces : List PieceRead) : Type 0 where
+  pub faultless : All (λ piece. piece.fault ≡ None) pieces
+  pub accounts_are : accounts ≡ accounts_of (records_together pieces)
+  pub few : length accounts ≤ MAX_ACCOUNTS
+
+-- the account of each record is among these
+abbrev pub HasAccounts : List (List ℕ) → List PositionRecord → Type 0
+HasAccounts accounts records = All (λ p. is_among accounts p.account ≡ true) records
+
+-- the place of a name among these; that of one that is not among them is behind them
+abbrev pub place_among : List (List ℕ) → List ℕ → ℕ
+place_among accounts name = position_or_len (bytes_eq name) accounts
+
+-- a record under the number that stands at the place of its old one
+abbrev pub renumbered : List ℕ → NumberedPosition → NumberedPosition
+renumbered places p = record p { account = slice_index_or places p.account 0 }
+
+-- numbered records stand for these by these accounts
+pub record StandFor (accounts : List (List ℕ)) (records : List PositionRecord) (numbered : List NumberedPosition) : Type 0 where
+  pub named : named_positions accounts numbered ≡ records
+  pub of : AreOfAccounts accounts numbered

@@ -9,6 +9,6 @@ pub returns : goal.returns
 returns g c =
     let pieces = c.in_ok-pieces.pieces.items in
     let read = c.in_ok-read.ensures ∙ ap (map (λ piece. piece_of piece.now)) c.deref.ensures.value in
-    c.join_pieces.ensures c.args.bytes.now (map (λ piece. piece.now) pieces)
+    c.put_together.ensures c.args.bytes.now (map (λ piece. piece.now) pieces)
     (map-map piece_of (λ piece. piece.now) pieces ∙ sym read)
     (flat_map-map records_of (λ piece. piece.now) pieces ∙ c.in_ok-pieces.ensures.records)

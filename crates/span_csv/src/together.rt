@@ -1,0 +1,124 @@
+//! Pieces of a position file that have no fault: their records can be numbered side by side.
+ghost use Rattle.std.specs.Prelude.{◌≡◌, ◌<◌, ◌≤◌, All, IfOk, IfSome, None, OnOk, length, map};
+ghost use Rattle.span_csv.specs.near.Pieces.{place_among, renumbered, with_names, AreOfAccounts, AreTogether, HasAccounts, StandFor};
+ghost use Rattle.span_tables.specs.near.Positions.{named_positions, AreNumbered};
+ghost use Rattle.span_tables.specs.declared.limits.TheConstants.{MAX_ACCOUNTS};
+
+use crate::pieces::Piece;
+use indexmap::IndexSet;
+use span_tables::limits::MAX_ACCOUNTS;
+use span_tables::name::Name;
+use span_tables::raw::RawPositions;
+use span_tables::records::NumberedPosition;
+use std::alloc::{AllocError, Global};
+use std::marker::Model;
+
+/// The accounts of all pieces of a position file, in the order of first appearance, which are no more than there may be. Contracts see
+/// their names.
+#[derive(Drop)]
+pub struct AllAccounts {
+    accounts: IndexSet<Name>,
+}
+
+impl Model for AllAccounts {
+    ghost use Rattle.std.specs.Prelude.{◌≤◌, ℕ, List, length};
+    ghost use Rattle.span_tables.specs.declared.limits.TheConstants.{MAX_ACCOUNTS};
+
+    ghost Value = { List (List ℕ) };
+
+    ghost view = { λ all. all.accounts.keys };
+
+    ghost invariant = { λ all. length all.accounts.keys ≤ MAX_ACCOUNTS };
+}
+
+// Puts names behind the accounts, each unless it is there.
+fn add_names(names: &[Name], accounts: &mut IndexSet<Name>) -> Result<(), AllocError>
+    ensures { OnOk result (accounts.new.keys ≡ with_names accounts.old.keys names.now) }
+{
+    for name in names {
+        accounts.insert(name.copied())?;
+    }
+    Ok(())
+}
+
+// The place of an account among these; that of one that is not among them is behind them.
+fn place_of(accounts: &IndexSet<Name>, name: &Name) -> u32
+    requires { length accounts.now.keys ≤ MAX_ACCOUNTS }
+    ensures { result ≡ place_among accounts.now.keys name.now }
+{
+    match accounts.get_index_of(name) {
+        Some(place) => place as u32,
+        None => accounts.len() as u32,
+    }
+}
+
+// The places of names among these accounts.
+fn places_of(
+    alloc: Global,
+    accounts: &IndexSet<Name>,
+    names: &[Name],
+) -> Result<Vec<u32>, AllocError>
+    requires { length accounts.now.keys ≤ MAX_ACCOUNTS }
+    ensures { IfOk result (λ places. places.items ≡ map (place_among accounts.now.keys) names.now) }
+{
+    let mut places = Vec::with_capacity(alloc, names.len())?;
+    for name in names {
+        places.push(place_of(accounts, name))?;
+    }
+    Ok(places)
+}
+
+// Gives each record the number that stands at the place of its old one.
+fn renumber(places: &[u32], records: &mut [NumberedPosition])
+    requires { All (λ p. p.account < length places.now) records.old }
+    ensures { records.new ≡ map (renumbered places.now) records.old }
+{
+    for record in records.iter_mut() {
+        record.account = places[record.account as usize];
+    }
+}
+
+impl AllAccounts {
+    /// The accounts of these pieces; none where a piece has a fault or there are more accounts than there may be, so that only
+    /// [`join_pieces`](crate::pieces::join_pieces) can say what the fault of the file is.
+    pub fn of(alloc: Global, pieces: &[Piece]) -> Result<Option<AllAccounts>, AllocError>
+        ensures { IfOk result (λ found. IfSome found (λ all. AreTogether all pieces.now)) }
+    {
+        let mut accounts = IndexSet::new(alloc);
+        for piece in pieces {
+            if piece.fault.is_some() {
+                return Ok(None);
+            }
+            add_names(piece.accounts.as_slice(), &mut accounts)?;
+        }
+        if accounts.len() > MAX_ACCOUNTS {
+            return Ok(None);
+        }
+        Ok(Some(AllAccounts { accounts }))
+    }
+
+    /// The records of a piece without a fault, whose accounts are among these, each numbered by these.
+    pub fn numbered(&self, alloc: Global, piece: Piece) -> Result<Vec<NumberedPosition>, AllocError>
+        requires faultless { piece.fault ≡ None }
+        requires known { HasAccounts self.now piece.records }
+        ensures { IfOk result (λ records. StandFor self.now piece.records records.items) }
+    {
+        let Piece {
+            accounts: names,
+            records,
+            fault: _,
+        } = piece;
+        let places = places_of(alloc, &self.accounts, names.as_slice())?;
+        let mut records = records;
+        renumber(&places, &mut records);
+        Ok(records)
+    }
+
+    /// The records of the whole file, which these number.
+    pub fn positions(self, records: Vec<NumberedPosition>) -> RawPositions
+        requires { AreNumbered self records.items }
+        ensures { result ≡ named_positions self records.items }
+    {
+        RawPositions::new(self.accounts, records)
+    }
+}
