@@ -16,7 +16,7 @@ use worker_pool::gates::Gate;
 
 /// The steps of the plan of two commodities with a spread between them.
 const STEPS: usize = 23;
-/// Their order on one worker (docs/PLAN.md): those of each commodity but its figures, those between commodities, the figures, the
+/// Their order on one worker (docs/ARCHITECTURE.md): those of each commodity but its figures, those between commodities, the figures, the
 /// totals.
 const IN_ORDER: [usize; STEPS] = [
     0, 1, 2, 3, 4, 5, 6, 8, 9, 10, 11, 12, 13, 14, 16, 17, 18, 19, 7, 15, 20, 21, 22,

@@ -126,7 +126,7 @@ fn whole_boards_beside_boards_by_steps(rt: HostRuntime) {
     }
 }
 
-/// The order of the steps of two commodities with a spread between them (docs/PLAN.md): those of each commodity but its figures,
+/// The order of the steps of two commodities with a spread between them (docs/ARCHITECTURE.md): those of each commodity but its figures,
 /// those between commodities, the figures, the totals.
 const OF_TWO_COMMODITIES: [usize; 23] = [
     0, 1, 2, 3, 4, 5, 6, 8, 9, 10, 11, 12, 13, 14, 16, 17, 18, 19, 7, 15, 20, 21, 22,

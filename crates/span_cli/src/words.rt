@@ -124,7 +124,7 @@ const PLAN: CommandRow = CommandRow {
 Prints a line for each step: its number, its operation, and the numbers of its inputs:
   7 Final(0) 2 4 5 6 19
 A file that is no valid set is refused as by `check`.
-docs/PLAN.md describes the steps.",
+docs/ARCHITECTURE.md describes the steps.",
     files: &[PARAMS],
     option: None,
 };
