@@ -34,7 +34,7 @@ use worker_pool::batch::MAX_WORKERS;
 use worker_pool::gates::Gate;
 
 /// The program's version, and the profiles of the method that it follows (docs/METHOD.md).
-const VERSION: &str = "1.1.0 (profile 1 and profile 2)";
+const VERSION: &str = "1.2.0 (profile 1 and profile 2)";
 
 const SPAN_MORE: &str = "\
 docs/FORMATS.md describes the files, what is printed, faults and statuses.
@@ -163,7 +163,7 @@ account, the set and, but for T, the commodity. Behind them stand:
   CREDIT  price risk,net delta,weight
   SHORT   short calls,short puts,method,rate
   R, T    as `margin` prints them
-docs/FORMATS.md describes the lines, docs/METHOD.md the figures; docs/EXPLAIN.md reads them for one account.",
+docs/FORMATS.md describes the lines, docs/METHOD.md the figures; docs/GUIDE.md reads them for one account.",
     files: &[PARAMS, POSITIONS],
     option: Some(OptionArg::Account),
 };
@@ -174,7 +174,7 @@ const ROLL: CommandRow = CommandRow {
     more: "\
 Prints the statement under PARAMS, as `margin` does, and after it that under NEXT, for the same positions.
 NEXT is made ready beside the first batch. The lines of the two statements have the ids of their sets.
-docs/ROLL.md has a day's roll in commands.",
+docs/GUIDE.md has a day's roll in commands.",
     files: &[PARAMS, NEXT, POSITIONS],
     option: Some(OptionArg::Workers),
 };
