@@ -17,3 +17,4 @@ pub mod Counted
 pub mod RunOnce
 pub mod RunOrder
 pub mod FoundLemmas
+pub mod AtRest

@@ -1,13 +1,14 @@
 //! Runs of a set's plan that are made once for a set.
-ghost use Rattle.std.specs.Prelude.{◌≡◌, IfOk, length};
+ghost use Rattle.std.specs.Prelude.{◌≡◌, IfOk, OnOk, false, length};
 ghost use Rattle.std.specs.Arc.{arc_value};
+ghost use Rattle.step_scheduler.specs.Boards.{IsComplete};
 ghost use Rattle.step_scheduler.specs.Runs.{AllFinished, IsRun};
 ghost use Rattle.step_scheduler.specs.near.Parts.{IsBlank};
-ghost use Rattle.step_scheduler.specs.near.Whole.{IsCourse};
+ghost use Rattle.step_scheduler.specs.near.Whole.{IsAtRest, IsCourse};
 
 use crate::blank::Blank;
 use crate::boards::Board;
-use crate::evaluation::evaluate;
+use crate::evaluation::evaluated;
 use crate::events::Event;
 use crate::jobs::Job;
 use plan_compiler::set::CompiledSet;
@@ -41,17 +42,20 @@ impl Model for Course {
         × IsBlank (length (arc_value c.set).tables.commodities) c.blank };
 }
 
-// Runs a board until no step can be handed out.
+// Runs a board until it is complete, one step after another. Without memory it ends at once.
 fn run(alloc: Global, board: &mut Board) -> Result<(), AllocError>
-    ensures { board.new.job ≡ board.old.job }
+    requires live { board.old.failed ≡ false }
+    requires at_rest { IsAtRest board.old.history }
+    ensures same_job { board.new.job ≡ board.old.job }
+    ensures complete { OnOk result (IsComplete board.new) }
 {
-    for _ in 0..board.job().plan().len() {
+    while !board.is_complete() {
         let Some(task) = board.take_ready()? else {
-            return Ok(());
+            // A board that is not complete has a step that can go on, and no step is under way.
+            unreachable!();
         };
-        // The board does not refuse its own task. Without memory for the value the board has failed, and hands out no further
-        // step.
-        let _taken = board.finish(evaluate(alloc, task));
+        // The board does not refuse the step that it handed out.
+        let _kept = board.finish(evaluated(alloc, task)?);
     }
     Ok(())
 }
@@ -66,9 +70,6 @@ impl Course {
         let job = Job::new(Arc::try_clone(set)?, nobody, 0);
         let mut board = Board::new(alloc, Arc::new(alloc, job)?)?;
         run(alloc, &mut board)?;
-        if !board.is_complete() {
-            return Err(AllocError);
-        }
         let events = Vec::from_slice(alloc, board.history())?;
         Course::with_events(alloc, Arc::try_clone(set)?, events)
     }

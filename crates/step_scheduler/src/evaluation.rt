@@ -1,5 +1,5 @@
 //! The values of tasks' steps.
-ghost use Rattle.std.specs.Prelude.{◌≡◌, List, IfOk, IfSome, map};
+ghost use Rattle.std.specs.Prelude.{◌≡◌, List, IfOk, IfSome, IsSome, map};
 ghost use Rattle.std.specs.Arc.{arc_value};
 ghost use Rattle.span_tables.specs.declared.portfolios.Holding.{Holding};
 ghost use Rattle.plan_ir.specs.Apply.{Takes, value_on};
@@ -25,6 +25,21 @@ pub fn evaluate(alloc: Global, task: Task) -> Finished
     let Task { job, given, step } = task;
     let value = value_of(alloc, &job, step, given).ok();
     Finished { job, value, step }
+}
+
+// The value of a task's step.
+pub(crate) fn evaluated(alloc: Global, task: Task) -> Result<Finished, AllocError>
+    ensures job { IfOk result (λ finished. finished.job ≡ task.job) }
+    ensures step { IfOk result (λ finished. finished.step ≡ task.step) }
+    ensures value { IfOk result (λ finished. IsSome finished.value) }
+{
+    let Task { job, given, step } = task;
+    let value = value_of(alloc, &job, step, given)?;
+    Ok(Finished {
+        job,
+        value: Some(value),
+        step,
+    })
 }
 
 // The value of a step, from what its task is given: a further hold on one that is there already, or a new one.

@@ -2,3 +2,4 @@ pub mod OutcomeLemmas
 pub mod BalanceLemmas
 pub mod QueueLemmas
 pub mod PlaceLemmas
+pub mod TurnLemmas

@@ -1,6 +1,7 @@
 //! The thread that opens the boards of a batch, hands out and takes back their steps, and keeps the outcomes.
 ghost use Rattle.std.specs.Arc.{arc_value};
-ghost use Rattle.std.specs.Prelude.{◌≡◌, Some, slice_get};
+ghost use Rattle.std.specs.Prelude.{◌≡◌, IfOk, IfSome, Some, slice_get};
+ghost use Rattle.worker_pool.specs.Batches.{job_at};
 ghost use Rattle.worker_pool.specs.near.Places.{AreOutcomesOf};
 
 use crate::accounts::{Outcomes, Waiting};
@@ -11,6 +12,7 @@ use crate::laws::Batch;
 use crate::open_boards::OpenBoard;
 use crate::outcomes::Outcome;
 use crate::workers::Worker;
+use result_book::rows::Row;
 use std::alloc::AllocError;
 use std::sync::{Arc, Wait};
 use std::time::Clock;
@@ -90,27 +92,30 @@ impl<'a, B: Batch, G: Gate> Coordinator<'a, B, G> {
                 return;
             }
             match self.waiting.next_job(self.worker.alloc) {
-                Ok(Some(job)) => self.open_board(job),
+                Ok(Some(job)) => {
+                    let place = job.place();
+                    let opened = self.open_board(job);
+                    self.end_account(place, opened);
+                }
                 Ok(None) => return,
-                Err(_) => self.outcomes.count_ended(),
+                Err(AllocError) => self.outcomes.count_ended(),
             }
         }
     }
 
-    // Opens the board of a job, and pushes all that it hands out.
-    fn open_board(&mut self, job: Arc<Job>)
+    // Opens the board of a job, and pushes all that it hands out. The row of its account, if the board is complete then.
+    fn open_board(&mut self, job: Arc<Job>) -> Result<Option<Arc<Row>>, AllocError>
         requires { slice_get B.jobs (arc_value job).place ≡ Some (arc_value job) }
+        ensures { IfOk result (λ r. IfSome r (λ row. slice_get B.jobs (arc_value job).place
+            ≡ Some (job_at (arc_value row).set (arc_value row).portfolio (arc_value job).place))) }
     {
-        let Ok(mut board) = OpenBoard::new(self.worker.alloc, job) else {
-            self.outcomes.count_ended();
-            return;
-        };
-        board.hand_out(&mut self.worker);
-        if board.has_ended() {
-            self.end_account(board);
-        } else if let Err(refused) = self.boards.push(board) {
-            self.end_account(refused.value);
+        let mut board = OpenBoard::new(self.worker.alloc, job)?;
+        board.hand_out(&mut self.worker)?;
+        let row = board.row(self.worker.alloc)?;
+        if row.is_none() {
+            self.boards.push(board)?;
         }
+        Ok(row)
     }
 
     // Gives a result to the board of its place, and pushes all that this makes ready. A result of no open board is dropped.
@@ -119,18 +124,22 @@ impl<'a, B: Batch, G: Gate> Coordinator<'a, B, G> {
         let Some(at) = self.boards.iter().position(|board| board.place() == place) else {
             return;
         };
-        self.boards[at].finish(done);
-        self.boards[at].hand_out(&mut self.worker);
-        if self.boards[at].has_ended() {
-            let ended = self.boards.swap_remove(at);
-            self.end_account(ended);
+        let went = self.boards[at].go_on(done, &mut self.worker);
+        if !matches!(went, Ok(None)) {
+            let _ = self.boards.swap_remove(at);
         }
+        self.end_account(place, went);
     }
 
-    // Ends the account of a board, with its row where it has one.
-    fn end_account(&mut self, board: OpenBoard<B>) {
-        if let Some(row) = board.row(self.worker.alloc) {
-            self.outcomes.set(board.place(), row);
+    // Ends the account at a place, with its row, or for want of memory. `None` ends no account.
+    fn end_account(&mut self, place: usize, went: Result<Option<Arc<Row>>, AllocError>)
+        requires { IfOk went (λ r. IfSome r (λ row. slice_get B.jobs place
+            ≡ Some (job_at (arc_value row).set (arc_value row).portfolio place))) }
+    {
+        match went {
+            Ok(None) => return,
+            Ok(Some(row)) => self.outcomes.set(place, row),
+            Err(AllocError) => {}
         }
         self.outcomes.count_ended();
     }

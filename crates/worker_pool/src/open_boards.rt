@@ -1,6 +1,10 @@
 //! Boards that are open: the runs of a batch's accounts that have not ended.
 ghost use Rattle.std.specs.Arc.{arc_value};
-ghost use Rattle.std.specs.Prelude.{◌≡◌, IfOk, IfSome, Some, slice_get};
+ghost use Rattle.std.specs.Prelude.{◌≡◌, ◌↔◌, ◌++◌, ◌∷◌, [], ℕ, IfNone, IfOk, IfSome, IsSome, None, OnErr, OnOk, Some, false};
+ghost use Rattle.std.specs.Prelude.{slice_get};
+ghost use Rattle.step_scheduler.specs.Boards.{IfHanded, IsComplete};
+ghost use Rattle.step_scheduler.specs.Runs.{CanGoOn, IsReady, IsUnderWay, is_taken};
+ghost use Rattle.step_scheduler.specs.declared.events.Event.TheVariants.{Finish, Take};
 ghost use Rattle.worker_pool.specs.Batches.{job_at};
 
 use crate::ends::{FinishedOf, TaskOf};
@@ -14,25 +18,24 @@ use std::sync::Arc;
 use step_scheduler::boards::Board;
 use step_scheduler::jobs::Job;
 
-/// The board of an account of the batch.
+/// The board of an account of the batch, which has not failed: where memory is wanting, the account ends, and the board is let go.
 #[derive(Drop)]
 pub(crate) struct OpenBoard<B: Batch> {
     board: Board,
-    // Whether the board has failed, or was refused memory for a task.
-    lacks_memory: bool,
     batch: PhantomData<B>,
     ghost of_batch: { slice_get B.jobs board.job.place ≡ Some board.job },
+    ghost live: { board.failed ≡ false },
 }
 
 impl<B: Batch> OpenBoard<B> {
     /// The board of a job.
     pub(crate) fn new(alloc: Global, job: Arc<Job>) -> Result<OpenBoard<B>, AllocError>
         requires { slice_get B.jobs (arc_value job).place ≡ Some (arc_value job) }
+        ensures { IfOk result (λ board. board.board.job ≡ arc_value job) }
     {
         let board = Board::new(alloc, job)?;
         Ok(OpenBoard {
             board,
-            lacks_memory: false,
             batch: PhantomData,
         })
     }
@@ -44,62 +47,92 @@ impl<B: Batch> OpenBoard<B> {
         self.board.job().place()
     }
 
-    /// Whether the board is complete, has failed or was refused memory.
-    pub(crate) fn has_ended(&self) -> bool {
-        self.lacks_memory || self.board.is_complete()
+    /// Keeps a result of the board's account, and pushes all that this makes ready. The row of the account, if the board is
+    /// complete then.
+    pub(crate) fn go_on<G: Gate>(
+        &mut self,
+        done: FinishedOf<B>,
+        worker: &mut Worker<B, G>,
+    ) -> Result<Option<Arc<Row>>, AllocError>
+        requires { done.finished.job.place ≡ self.old.board.job.place }
+        ensures { IfOk result (λ r. IfSome r (λ row. slice_get B.jobs done.finished.job.place
+            ≡ Some (job_at (arc_value row).set (arc_value row).portfolio done.finished.job.place))) }
+    {
+        self.finish(done)?;
+        self.hand_out(worker)?;
+        self.row(worker.alloc)
     }
 
     /// Pushes all that is ready on a worker's deque. The result of what that worker evaluates at once is kept.
-    pub(crate) fn hand_out<G: Gate>(&mut self, worker: &mut Worker<B, G>)
-        ensures { self.new.board.job ≡ self.old.board.job }
+    pub(crate) fn hand_out<G: Gate>(&mut self, worker: &mut Worker<B, G>) -> Result<(), AllocError>
+        ensures same_job { self.new.board.job ≡ self.old.board.job }
+        ensures all { OnOk result ((k : ℕ) → IsReady self.new.board.job.set.plan self.new.board.history k → ⊥) }
     {
-        for _ in 0..=self.board.job().plan().len() {
-            let Some(task) = self.take() else {
-                return;
-            };
-            if let Some(done) = worker.push(task) {
-                self.finish(done);
-            }
+        while let Some(task) = self.take()? {
+            let done = worker.push(task);
+            self.finish_if_done(done)?;
+        }
+        Ok(())
+    }
+
+    // Keeps the result of a task that was evaluated at once, where there is one.
+    fn finish_if_done(&mut self, done: Option<FinishedOf<B>>) -> Result<(), AllocError>
+        requires { IfSome done (λ done. done.finished.job.place ≡ self.old.board.job.place) }
+        ensures same_job { self.new.board.job ≡ self.old.board.job }
+        ensures taken { (k : ℕ) → is_taken self.new.board.history k ≡ is_taken self.old.board.history k }
+    {
+        match done {
+            Some(done) => self.finish(done),
+            None => Ok(()),
         }
     }
 
-    /// Keeps the result of a step. The result is of this board's job, since both are of the batch and of one place.
+    /// Keeps the result of a step that is under way. The result is of this board's job, since both are of the batch and of one
+    /// place.
     ///
-    /// A board refuses only results that it has no use for.
-    pub(crate) fn finish(&mut self, done: FinishedOf<B>)
+    /// A board refuses only results that it has no use for. It fails just where the result is the mark that there was no memory
+    /// for the value.
+    pub(crate) fn finish(&mut self, done: FinishedOf<B>) -> Result<(), AllocError>
         requires { done.finished.job.place ≡ self.old.board.job.place }
-        ensures { self.new.board.job ≡ self.old.board.job }
+        ensures same_job { self.new.board.job ≡ self.old.board.job }
+        ensures taken { (k : ℕ) → is_taken self.new.board.history k ≡ is_taken self.old.board.history k }
+        ensures kept { OnOk result (IsUnderWay self.old.board.history done.finished.step
+            → self.new.board ≡ record self.old.board { history = self.old.board.history ++ Finish done.finished.step ∷ [] }) }
+        ensures no_memory { OnErr result (done.finished.value ≡ None) }
     {
         let finished = done.into_finished();
-        if finished.value().is_none() {
-            self.lacks_memory = true;
-        }
+        let _value = finished.value().ok_or(AllocError)?;
         let _ = self.board.finish(finished);
+        Ok(())
     }
 
-    /// The row of the board's account, if the board is complete and memory allows.
-    pub(crate) fn row(&self, alloc: Global) -> Option<Arc<Row>>
-        ensures { IfSome result (λ row. slice_get B.jobs self.now.board.job.place
-            ≡ Some (job_at (arc_value row).set (arc_value row).portfolio self.now.board.job.place)) }
+    /// The row of the board's account, once the board is complete. `None` before that, and then a step can go on.
+    pub(crate) fn row(&self, alloc: Global) -> Result<Option<Arc<Row>>, AllocError>
+        ensures row { IfOk result (λ r. IfSome r (λ row. slice_get B.jobs self.now.board.job.place
+            ≡ Some (job_at (arc_value row).set (arc_value row).portfolio self.now.board.job.place))) }
+        ensures complete { IfOk result (λ r. IsSome r ↔ IsComplete self.now.board) }
+        ensures goes_on { IfOk result (λ r. IfNone r
+            ((k : ℕ) × CanGoOn self.now.board.job.set.plan self.now.board.history k)) }
     {
         if !self.board.is_complete() {
-            return None;
+            return Ok(None);
         }
-        Row::of(alloc, &self.board).ok()
+        Ok(Some(Row::of(alloc, &self.board)?))
     }
 
     // Takes a step that is ready.
-    fn take(&mut self) -> Option<TaskOf<B>>
-        ensures same { self.new.board.job ≡ self.old.board.job }
-        ensures job { IfSome result (λ task. task.task.job ≡ self.old.board.job) }
+    fn take(&mut self) -> Result<Option<TaskOf<B>>, AllocError>
+        ensures same_job { self.new.board.job ≡ self.old.board.job }
+        ensures ready { IfHanded result (λ task. IsReady self.old.board.job.set.plan self.old.board.history task.task.step) }
+        ensures job { IfHanded result (λ task. task.task.job ≡ self.old.board.job) }
+        ensures taken { IfHanded result (λ task.
+            self.new.board ≡ record self.old.board { history = self.old.board.history ++ Take task.task.step ∷ [] }) }
+        ensures none { IfOk result (λ r. IfNone r ((k : ℕ)
+            → IsReady self.new.board.job.set.plan self.new.board.history k → ⊥)) }
     {
-        match self.board.take_ready() {
-            Ok(Some(task)) => Some(TaskOf::new(task)),
-            Ok(None) => None,
-            Err(_) => {
-                self.lacks_memory = true;
-                None
-            }
+        match self.board.take_ready()? {
+            Some(task) => Ok(Some(TaskOf::new(task))),
+            None => Ok(None),
         }
     }
 }

@@ -1,6 +1,10 @@
 //! What a batch gives for each of its accounts.
+ghost use Rattle.std.specs.Prelude.{◌≡◌, MatchResult};
+ghost use Rattle.worker_pool.specs.declared.outcomes.Outcome.TheVariants.{Margined, NoMemory};
+
 use result_book::rows::Row;
 use span_tables::name::Name;
+use std::alloc::AllocError;
 use std::sync::Arc;
 
 /// What a batch gives for an account.
@@ -10,4 +14,16 @@ pub enum Outcome {
     Margined(Arc<Row>),
     /// The name of an account that ended for want of memory.
     NoMemory(Name),
+}
+
+impl Outcome {
+    /// The outcome of an account: its row, or its name where there was no memory for the row.
+    pub(crate) fn of(account: Name, row: Result<Arc<Row>, AllocError>) -> Outcome
+        ensures { MatchResult row (λ row. result ≡ Margined row) (λ _. result ≡ NoMemory account) }
+    {
+        match row {
+            Ok(row) => Outcome::Margined(row),
+            Err(AllocError) => Outcome::NoMemory(account),
+        }
+    }
 }

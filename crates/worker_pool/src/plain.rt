@@ -77,10 +77,7 @@ impl<'a, G: Gate> Runs<'a, G> {
         ensures { IsOutcome (arc_value self.now.set.now) portfolio result }
     {
         let account = portfolio.account().copied();
-        match self.row(portfolio, place) {
-            Ok(row) => Outcome::Margined(row),
-            Err(_) => Outcome::NoMemory(account),
-        }
+        Outcome::of(account, self.row(portfolio, place))
     }
 }
 

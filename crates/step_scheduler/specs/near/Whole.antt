@@ -1,12 +1,16 @@
 -- What runs keep in which every step is taken and finished.
-use Rattle.std.specs.Prelude.{◌≡◌, List, length}
+use Rattle.std.specs.Prelude.{◌≡◌, ℕ, List, length}
 use Rattle.plan_ir.specs.Figures.{option_value_of, total_to}
 use Rattle.plan_compiler.specs.Compiled.{Fits, IsCompiled, SetView}
 use Rattle.step_scheduler.specs.Jobs.{JobView}
-use Rattle.step_scheduler.specs.Runs.{AllFinished, IsRun}
+use Rattle.step_scheduler.specs.Runs.{AllFinished, IsRun, is_finished, is_taken}
 use Rattle.step_scheduler.specs.declared.events.Event.{Event}
 use Rattle.step_scheduler.specs.declared.whole.Whole.{Whole}
 use Rattle.step_scheduler.specs.near.Figures.{AreAllFigures}
+
+-- no step is under way: those that were taken are those that are finished
+abbrev pub IsAtRest : List Event → Type 0
+IsAtRest history = (k : ℕ) → is_taken history k ≡ is_finished history k
 
 -- a run of the set's plan in which every step is finished
 pub record IsCourse (set : SetView) (events : List Event) : Type 0 where

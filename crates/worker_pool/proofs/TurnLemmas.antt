@@ -1,0 +1,21 @@
+-- What a result leaves of the board that it is given to.
+use Rattle.std.specs.Prelude.{IfSome, IsSome, OnErr, OnOk, Err, Ok, None, Option, Result, Some}
+use Rattle.std.proofs.Common.{◌≡◌, ℕ, false, [], ◌∷◌, ◌++◌, ap, ◌∙◌}
+use Rattle.std.proofs.Math.Bool.{or-false}
+use Rattle.std.proofs.lemmas.Bool.{false≢true}
+use Rattle.step_scheduler.specs.Boards.{BoardView}
+use Rattle.step_scheduler.specs.Runs.{is_taken}
+use Rattle.step_scheduler.specs.declared.boards.Refused.{Refused}
+use Rattle.step_scheduler.specs.declared.events.Event.TheVariants.{Finish}
+use Rattle.step_scheduler.proofs.Histories.{is_taken-push}
+
+-- no step is taken by it
+pub taken_stays : {V : Type 0} (old new : BoardView) (k : ℕ) (value : Option V) (r : Result (Unit {0}) Refused)
+    → IsSome value → OnErr r (new ≡ old)
+    → OnOk r (IfSome value (λ v. new ≡ record old { history = old.history ++ Finish k ∷ [] }))
+    → (j : ℕ) → is_taken new.history j ≡ is_taken old.history j
+taken_stays old new k None r some refused ok j = absurd (false≢true some)
+taken_stays old new k (Some v) (Ok u) some refused ok j =
+    ap (λ (b : BoardView). is_taken b.history j) ok
+    ∙ is_taken-push old.history (Finish k) j ∙ or-false (is_taken old.history j)
+taken_stays old new k (Some v) (Err e) some refused ok j = ap (λ (b : BoardView). is_taken b.history j) refused
