@@ -10,9 +10,10 @@ use std::process::Abort;
 use std::sync::{Arc, Wait};
 use std::thread::Threads;
 use std::time::Clock;
-use worker_pool::batch::run_batch;
+use worker_pool::batch::{MAX_WORKERS, run_batch, run_by_team};
 use worker_pool::gates::OpenGate;
 use worker_pool::plain::{run_account, run_plain};
+use worker_pool::teams::Team;
 
 // One account, which is long one future and loses 1200 at most.
 fn of_one(rt: &impl Abort, alloc: Global, set: &Arc<CompiledSet>) {
@@ -39,6 +40,21 @@ fn of_two_workers<R: Threads + Wait + Clock + Sync + Abort>(
     assert!(rt; are_rows_of_both(&outcomes));
 }
 
+// Two accounts by a team whose workers have the last two numbers.
+fn of_a_team<R: Threads + Wait + Clock + Sync + Abort>(
+    rt: &R,
+    alloc: Global,
+    set: &Arc<CompiledSet>,
+) {
+    let accounts = accounts_of(alloc, set, TWO_ACCOUNTS).expect(rt, "accounts");
+    let team = Team {
+        first: MAX_WORKERS - 2,
+        workers: 2,
+    };
+    let outcomes = run_by_team(rt, alloc, set, accounts, team, &OpenGate).expect(rt, "outcomes");
+    assert!(rt; are_rows_of_both(&outcomes));
+}
+
 #[test]
 fn calls_succeed(rt: HostRuntime) {
     let alloc = rt.alloc();
@@ -46,4 +62,5 @@ fn calls_succeed(rt: HostRuntime) {
     of_one(&rt, alloc, &set);
     of_two(&rt, alloc, &set);
     of_two_workers(&rt, alloc, &set);
+    of_a_team(&rt, alloc, &set);
 }

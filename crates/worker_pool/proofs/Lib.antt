@@ -3,3 +3,4 @@ pub mod BalanceLemmas
 pub mod QueueLemmas
 pub mod PlaceLemmas
 pub mod TurnLemmas
+pub mod TeamLemmas

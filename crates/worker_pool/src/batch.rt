@@ -1,10 +1,10 @@
 //! Batches on many workers, which steal steps from one another.
 ghost use Rattle.std.specs.Arc.{arc_value};
-ghost use Rattle.std.specs.Prelude.{◌≡◌, ◌<◌, ◌≤◌, ◌⊎◌, ◌↔◌, Err, IfOk};
+ghost use Rattle.std.specs.Prelude.{◌≡◌, ◌+◌, ◌<◌, ◌⊎◌, ◌↔◌, ◌∷◌, Err, IfOk, map, vec_len};
+ghost use Rattle.std.specs.List.{range_with_len};
 ghost use Rattle.worker_pool.specs.Batches.{AllFit, jobs_of};
 ghost use Rattle.worker_pool.specs.Outcomes.{AreOutcomes};
 ghost use Rattle.worker_pool.specs.declared.batch.PoolFault.TheVariants as fault;
-ghost use Rattle.worker_pool.specs.declared.batch.TheConstants.{MAX_WORKERS};
 ghost use Rattle.worker_pool.specs.near.Places.{AreOutcomesOf};
 
 use crate::accounts::{Outcomes, Waiting};
@@ -15,6 +15,7 @@ use crate::laws::{Batch, new_queue};
 use crate::outcomes::Outcome;
 use crate::plain::{COORDINATOR, run_on_one};
 use crate::queue_ends::{ResultEnd, open_results};
+use crate::teams::Team;
 use crate::workers::Worker;
 use plan_compiler::set::CompiledSet;
 use span_tables::portfolios::Portfolio;
@@ -42,32 +43,36 @@ pub enum PoolFault {
     OutOfMemory,
 }
 
-// The helpers of a batch, numbered from 1. The thieves' ends of each helper's deque go onto `left`, in the order of the helpers.
+// The helpers of a team, with the numbers behind the coordinator's. The thieves' ends of each helper's deque go onto `left`, in
+// the order of the helpers.
 fn open_helpers<'a, B: Batch, G: Gate>(
     alloc: Global,
     gate: &'a G,
-    helpers: usize,
+    team: Team,
     results: Vec<ResultEnd<'a, B>>,
     left: &mut Vec<Vec<ThiefEnd<B>>>,
 ) -> Result<Vec<Worker<'a, B, G>>, AllocError>
-    requires { helpers < MAX_WORKERS }
+    requires { vec_len results < team.workers }
+    ensures { IfOk result (λ helpers. map (λ h. h.number) helpers.items ≡ range_with_len (team.first + 1) (vec_len results.entry)) }
 {
-    let mut all = Vec::with_capacity(alloc, helpers)?;
+    let mut all = Vec::with_capacity(alloc, results.len())?;
     for results in results {
-        let number = all.len().saturating_add(1);
-        let (helper, thieves) = Worker::open(alloc, gate, number, results, helpers)?;
+        let number = team.number(all.len() + 1);
+        let (helper, thieves) = Worker::open(alloc, gate, number, results, team.helpers())?;
         left.push(thieves)?;
         all.push(helper)?;
     }
     Ok(all)
 }
 
-// Gives each helper but the owner of a deque a thief's end of it.
+// Gives each helper but the owner of a deque a thief's end of it. The owner is known by its number.
 fn share_out<B: Batch, G: Gate>(
     thieves: Vec<ThiefEnd<B>>,
     owner: usize,
     helpers: &mut Vec<Worker<B, G>>,
-) -> Result<(), AllocError> {
+) -> Result<(), AllocError>
+    ensures { IfOk result (λ _. map (λ h. h.number) helpers.new.items ≡ map (λ h. h.number) helpers.old.items) }
+{
     let mut thieves = thieves;
     for helper in helpers.iter_mut() {
         if helper.number != owner {
@@ -84,8 +89,11 @@ fn share_out_all<B: Batch, G: Gate>(
     left: Vec<Vec<ThiefEnd<B>>>,
     coordinator: &mut Worker<B, G>,
     helpers: &mut Vec<Worker<B, G>>,
-) -> Result<(), AllocError> {
-    let mut owner = COORDINATOR;
+) -> Result<(), AllocError>
+    ensures coordinator { IfOk result (λ _. coordinator.new.number ≡ coordinator.old.number) }
+    ensures helpers { IfOk result (λ _. map (λ h. h.number) helpers.new.items ≡ map (λ h. h.number) helpers.old.items) }
+{
+    let mut owner = coordinator.number;
     for mut thieves in left {
         owner = owner.saturating_add(1);
         if let Some(thief) = thieves.pop() {
@@ -97,19 +105,22 @@ fn share_out_all<B: Batch, G: Gate>(
 }
 
 // The coordinator's worker and the helpers, from their ends of the queue. Each has a thief's end of each other worker's deque.
+// Their numbers are those of the team, each one's its own.
 fn open_workers<'a, B: Batch, G: Gate>(
     alloc: Global,
     gate: &'a G,
-    helpers: usize,
+    team: Team,
     results: ResultEnd<'a, B>,
     results_of_helpers: Vec<ResultEnd<'a, B>>,
 ) -> Result<(Worker<'a, B, G>, Vec<Worker<'a, B, G>>), AllocError>
-    requires { helpers < MAX_WORKERS }
+    requires { vec_len results_of_helpers + 1 ≡ team.workers }
+    ensures { IfOk result (λ all. all.0.number ∷ map (λ h. h.number) all.1.items ≡ range_with_len team.first team.workers) }
 {
     let mut left = Vec::new(alloc);
-    let mut crew = open_helpers(alloc, gate, helpers, results_of_helpers, &mut left)?;
-    let (mut coordinator, thieves) = Worker::open(alloc, gate, COORDINATOR, results, helpers)?;
-    share_out(thieves, COORDINATOR, &mut crew)?;
+    let mut crew = open_helpers(alloc, gate, team, results_of_helpers, &mut left)?;
+    let number = team.number(COORDINATOR);
+    let (mut coordinator, thieves) = Worker::open(alloc, gate, number, results, team.helpers())?;
+    share_out(thieves, coordinator.number, &mut crew)?;
     share_out_all(left, &mut coordinator, &mut crew)?;
     Ok((coordinator, crew))
 }
@@ -141,35 +152,56 @@ fn run_all<'a, B: Batch + Send + Sync, R: Threads + Wait + Clock + Sync, G: Gate
     )
 }
 
-// The batch on more than one worker. Its type names the jobs, and no type of the signature does.
+// The batch by a team of more than one worker. Its type names the jobs, and no type of the signature does.
 fn run_on_many<B: Batch + Send + Sync, R: Threads + Wait + Clock + Sync, G: Gate>(
     rt: &R,
     alloc: Global,
     set: &Arc<CompiledSet>,
     portfolios: Vec<Portfolio>,
-    workers: usize,
+    team: Team,
     gate: &G,
 ) -> Result<Vec<Outcome>, AllocError>
     requires jobs { B.jobs ≡ jobs_of (arc_value set.now) portfolios.items }
-    requires workers { (0 < workers) × (workers ≤ MAX_WORKERS) }
     requires fits { AllFit (arc_value set.now) portfolios.items }
     ensures { IfOk result (λ outcomes. AreOutcomes (arc_value set.now) portfolios.items outcomes.items) }
 {
-    let helpers = workers - 1;
     let outcomes = Outcomes::<B>::new(alloc, set, portfolios.as_slice())?;
     let waiting = Waiting::<B>::new(Arc::try_clone(set)?, portfolios);
     let (queue, pass) = new_queue::<B>(alloc)?;
-    let (results, theirs) = open_results(alloc, &queue, pass, helpers)?;
-    let (worker, crew) = open_workers(alloc, gate, helpers, results, theirs)?;
+    let (results, theirs) = open_results(alloc, &queue, pass, team.helpers())?;
+    let (worker, crew) = open_workers(alloc, gate, team, results, theirs)?;
     let coordinator = Coordinator::new(worker, waiting, outcomes)?;
     Ok(run_all(rt, coordinator, crew))
 }
 
+/// The outcomes of accounts under a set, in their order, by a team, whose workers pass the gate under their numbers. The portfolios
+/// fit the set's tables.
+///
+/// It fails where the deques, the queue, their passes or the lists of the batch have no memory. An account has `NoMemory` where its
+/// job, its board, a step or its row has no memory. For one worker no thread is started: all goes as in
+/// [`run_plain`](crate::plain::run_plain), past the gate.
+pub fn run_by_team<R: Threads + Wait + Clock + Sync, G: Gate>(
+    rt: &R,
+    alloc: Global,
+    set: &Arc<CompiledSet>,
+    portfolios: Vec<Portfolio>,
+    team: Team,
+    gate: &G,
+) -> Result<Vec<Outcome>, AllocError>
+    requires { AllFit (arc_value set.now) portfolios.items }
+    ensures { IfOk result (λ outcomes. AreOutcomes (arc_value set.now) portfolios.items outcomes.items) }
+{
+    if team.helpers() == 0 {
+        run_on_one(alloc, set, portfolios, team, gate)
+    } else {
+        run_on_many::<Brand, R, G>(rt, alloc, set, portfolios, team, gate)
+    }
+}
+
 /// The outcomes of accounts under a set, in their order, on 1 to 16 workers. The portfolios fit the set's tables.
 ///
-/// A number of workers that is 0 or over 16 is refused before anything is made. `OutOfMemory` is for the deques, the queue,
-/// their passes and the lists of the batch. An account has `NoMemory` where its job, its board, a step or its row has no memory.
-/// With one worker no thread is started: all goes as in [`run_plain`](crate::plain::run_plain), past the gate.
+/// A number of workers that is 0 or over 16 is refused before anything is made. Else all goes as in [`run_by_team`], by one team
+/// whose numbers begin with 0. `OutOfMemory` is where that fails.
 pub fn run_batch<R: Threads + Wait + Clock + Sync, G: Gate>(
     rt: &R,
     alloc: Global,
@@ -185,10 +217,6 @@ pub fn run_batch<R: Threads + Wait + Clock + Sync, G: Gate>(
     if workers == 0 || workers > MAX_WORKERS {
         return Err(PoolFault::Workers);
     }
-    let outcomes = if workers == 1 {
-        run_on_one(alloc, set, portfolios, gate)
-    } else {
-        run_on_many::<Brand, R, G>(rt, alloc, set, portfolios, workers, gate)
-    };
-    outcomes.map_err(|_| PoolFault::OutOfMemory)
+    let team = Team { first: 0, workers };
+    run_by_team(rt, alloc, set, portfolios, team, gate).map_err(|_| PoolFault::OutOfMemory)
 }

@@ -75,14 +75,15 @@ impl<'a, B: Batch, G: Gate> Coordinator<'a, B, G> {
     // A result that waits in the queue. Where none waits, the result of a task that the coordinator pops or steals, and
     // evaluates itself.
     fn find_result<R: Wait>(&mut self, rt: &R) -> Option<FinishedOf<B>> {
-        if let Some(done) = self.worker.results.pop(rt) {
+        let worker = &mut self.worker;
+        if let Some(done) = worker.results.pop(rt) {
             return Some(done);
         }
-        let task = match self.worker.own.pop() {
+        let task = match worker.own.pop() {
             Some(task) => task,
-            None => self.worker.steal()?,
+            None => worker.steal()?,
         };
-        Some(self.worker.evaluate(task))
+        Some(worker.evaluate(task))
     }
 
     // Opens boards in account order, while accounts wait and no more boards are open than may be.

@@ -45,6 +45,7 @@ impl<B: Batch> TaskOf<B> {
 
     /// The task's result, once the worker of a number has passed the gate with the task.
     pub(crate) fn evaluate<G: Gate>(self, alloc: Global, gate: &G, worker: usize) -> FinishedOf<B>
+        requires { worker < MAX_WORKERS }
         ensures { result.finished.job ≡ self.task.job }
     {
         let TaskOf { task, .. } = self;

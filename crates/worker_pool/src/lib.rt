@@ -13,4 +13,5 @@ pub mod outcomes;
 pub mod passes;
 pub mod plain;
 mod queue_ends;
+pub mod teams;
 mod workers;

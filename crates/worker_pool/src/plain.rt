@@ -6,6 +6,7 @@ ghost use Rattle.worker_pool.specs.Outcomes.{AreOutcomes, IsOutcome};
 
 use crate::gates::{Gate, OpenGate};
 use crate::outcomes::Outcome;
+use crate::teams::Team;
 use plan_compiler::set::CompiledSet;
 use result_book::rows::Row;
 use span_tables::name::Name;
@@ -17,34 +18,42 @@ use step_scheduler::courses::Course;
 use step_scheduler::jobs::Job;
 use step_scheduler::watches::Watch;
 
-/// The number of the worker that hands out steps, which is the only one where there are no helpers.
+/// The place in its team of the worker that hands out steps, which is the only one where there are no helpers.
 pub(crate) const COORDINATOR: usize = 0;
 
 // The steps of an account, as a gate knows them.
 #[derive(Drop)]
 struct StepsOf<'a, G: Gate> {
     gate: &'a G,
+    team: Team,
     account: &'a Name,
 }
 
 impl<G: Gate> Watch for StepsOf<'_, G> {
     fn pass(&self, step: usize) {
-        self.gate.pass(COORDINATOR, self.account, step);
+        self.gate
+            .pass(self.team.number(COORDINATOR), self.account, step);
     }
 }
 
-// What the runs of a batch on one thread share: the set with its course, and the gate.
+// What the runs of a batch on one thread share: the set with its course, the gate, and the team that has the one worker.
 #[derive(Drop)]
 struct Runs<'a, G: Gate> {
     alloc: Global,
     set: &'a Arc<CompiledSet>,
     course: Course,
+    team: Team,
     gate: &'a G,
     ghost of_set: { course.set ≡ arc_value set.now },
 }
 
 impl<'a, G: Gate> Runs<'a, G> {
-    fn new(alloc: Global, set: &'a Arc<CompiledSet>, gate: &'a G) -> Result<Runs<'a, G>, AllocError>
+    fn new(
+        alloc: Global,
+        set: &'a Arc<CompiledSet>,
+        team: Team,
+        gate: &'a G,
+    ) -> Result<Runs<'a, G>, AllocError>
         ensures { IfOk result (λ runs. runs.set.now ≡ set.now) }
     {
         let course = Course::of(alloc, set)?;
@@ -52,6 +61,7 @@ impl<'a, G: Gate> Runs<'a, G> {
             alloc,
             set,
             course,
+            team,
             gate,
         })
     }
@@ -65,6 +75,7 @@ impl<'a, G: Gate> Runs<'a, G> {
         let job = Arc::new(self.alloc, Job::new(set, portfolio, place))?;
         let steps = StepsOf {
             gate: self.gate,
+            team: self.team,
             account: job.portfolio().account(),
         };
         let board = Board::whole(self.alloc, Arc::try_clone(&job)?, &self.course, &steps)?;
@@ -90,21 +101,22 @@ pub fn run_account(
     requires { FitsSet (arc_value set.now) portfolio }
     ensures { IfOk result (λ row. arc_value row ≡ record { set = arc_value set.now; portfolio = portfolio }) }
 {
-    Runs::new(alloc, set, &OpenGate)?.row(portfolio, 0)
+    Runs::new(alloc, set, Team::ALONE, &OpenGate)?.row(portfolio, 0)
 }
 
-/// The outcomes of accounts under a set, on one worker, which passes a gate before each evaluation. All else is as in
-/// [`run_plain`].
+/// The outcomes of accounts under a set, on the coordinator of a team, which passes a gate before each evaluation. All else is as
+/// in [`run_plain`].
 pub(crate) fn run_on_one<G: Gate>(
     alloc: Global,
     set: &Arc<CompiledSet>,
     portfolios: Vec<Portfolio>,
+    team: Team,
     gate: &G,
 ) -> Result<Vec<Outcome>, AllocError>
     requires { AllFit (arc_value set.now) portfolios.items }
     ensures { IfOk result (λ outcomes. AreOutcomes (arc_value set.now) portfolios.items outcomes.items) }
 {
-    let runs = Runs::new(alloc, set, gate)?;
+    let runs = Runs::new(alloc, set, team, gate)?;
     let mut outcomes = Vec::with_capacity(alloc, portfolios.len())?;
     for portfolio in portfolios {
         let place = outcomes.len();
@@ -126,5 +138,5 @@ pub fn run_plain(
     requires { AllFit (arc_value set.now) portfolios.items }
     ensures { IfOk result (λ outcomes. AreOutcomes (arc_value set.now) portfolios.items outcomes.items) }
 {
-    run_on_one(alloc, set, portfolios, &OpenGate)
+    run_on_one(alloc, set, portfolios, Team::ALONE, &OpenGate)
 }

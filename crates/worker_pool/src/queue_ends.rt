@@ -1,6 +1,6 @@
 //! What a worker holds of the result queue of a batch.
 ghost use Rattle.crossbeam_queue.specs.Passes.{IsPassOf, view};
-ghost use Rattle.std.specs.Prelude.{◌≡◌, ◌<◌, []};
+ghost use Rattle.std.specs.Prelude.{◌≡◌, ◌<◌, [], IfOk, vec_len};
 ghost use Rattle.worker_pool.specs.Balance.{ALL_PARTS, knows};
 ghost use Rattle.worker_pool.specs.declared.batch.TheConstants.{MAX_WORKERS};
 
@@ -38,6 +38,7 @@ pub(crate) fn open_results<'a, B: Batch>(
     requires queue { IsPassOf queue.now pass }
     requires view { view pass ≡ knows B.jobs ALL_PARTS [] [] }
     requires helpers { helpers < MAX_WORKERS }
+    ensures { IfOk result (λ ends. vec_len ends.1 ≡ helpers) }
 {
     let mut pass = pass;
     let mut ends = Vec::with_capacity(alloc, helpers)?;

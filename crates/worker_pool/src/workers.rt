@@ -1,5 +1,5 @@
 //! What each worker of a batch works with, the coordinator among them, and how a helper helps it.
-ghost use Rattle.std.specs.Prelude.{◌≡◌, ◌<◌, IfSome};
+ghost use Rattle.std.specs.Prelude.{◌≡◌, ◌<◌, IfOk, IfSome};
 ghost use Rattle.worker_pool.specs.declared.batch.TheConstants.{MAX_WORKERS};
 
 use crate::ends::{FinishedOf, OwnEnd, TaskOf, ThiefEnd, open_deque};
@@ -19,8 +19,8 @@ const DEQUE_PLACES: usize = 256;
 /// How many tasks a helper steals at once, at most.
 const MOST_STOLEN: usize = 4;
 
-/// A worker: its number, its end of the result queue, a deque of its own, and a thief's end of each other worker's deque. The
-/// numbers of helpers begin with 1.
+/// A worker: the number under which it passes the gate, its end of the result queue, a deque of its own, and a thief's end of each
+/// other worker's deque.
 #[derive(Drop)]
 pub(crate) struct Worker<'a, B: Batch, G: Gate> {
     pub(crate) alloc: Global,
@@ -29,6 +29,7 @@ pub(crate) struct Worker<'a, B: Batch, G: Gate> {
     pub(crate) results: ResultEnd<'a, B>,
     pub(crate) own: OwnEnd<B>,
     pub(crate) thieves: Vec<ThiefEnd<B>>,
+    pub(crate) ghost below: { number < MAX_WORKERS },
 }
 
 impl<'a, B: Batch, G: Gate> Worker<'a, B, G> {
@@ -40,7 +41,9 @@ impl<'a, B: Batch, G: Gate> Worker<'a, B, G> {
         results: ResultEnd<'a, B>,
         others: usize,
     ) -> Result<(Worker<'a, B, G>, Vec<ThiefEnd<B>>), AllocError>
-        requires { others < MAX_WORKERS }
+        requires number { number < MAX_WORKERS }
+        requires others { others < MAX_WORKERS }
+        ensures { IfOk result (λ opened. opened.0.number ≡ number) }
     {
         let (own, thieves) = open_deque::<B>(alloc, DEQUE_PLACES, others)?;
         let worker = Worker {
@@ -54,7 +57,7 @@ impl<'a, B: Batch, G: Gate> Worker<'a, B, G> {
         Ok((worker, thieves))
     }
 
-    /// The result of a task, evaluated here.
+    /// The result of a task, evaluated here under the worker's number.
     pub(crate) fn evaluate(&self, task: TaskOf<B>) -> FinishedOf<B>
         ensures { result.finished.job ≡ task.task.job }
     {

@@ -1,8 +1,8 @@
 //! Batches of accounts that are margined by teams of workers, side by side.
 #![tactic(auto)]
 
+mod crews;
 mod cuts;
-mod gates;
 pub mod laws;
 pub mod teams;
 mod worked;

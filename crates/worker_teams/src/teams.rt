@@ -1,12 +1,12 @@
 //! Batches on many workers, in teams: each margins a slice of the accounts in a thread of its own.
 ghost use Rattle.std.specs.Arc.{arc_value};
-ghost use Rattle.std.specs.Prelude.{◌≡◌, ◌-◌, ◌<◌, ◌≤◌, ◌⊎◌, ◌↔◌, Err, IfOk, vec_len};
+ghost use Rattle.std.specs.Prelude.{◌≡◌, ◌<◌, ◌≤◌, ◌⊎◌, ◌↔◌, Err, IfOk, vec_len};
 ghost use Rattle.worker_pool.specs.Batches.{AllFit};
 ghost use Rattle.worker_pool.specs.Outcomes.{AreOutcomes};
 ghost use Rattle.worker_pool.specs.declared.batch.PoolFault.TheVariants as fault;
 
+use crate::crews::Crew;
 use crate::cuts::last_slice;
-use crate::gates::TeamGate;
 use plan_compiler::set::CompiledSet;
 use span_tables::portfolios::Portfolio;
 use std::alloc::{AllocError, Global};
@@ -14,32 +14,26 @@ use std::sync::{Arc, Wait};
 use std::thread;
 use std::thread::Threads;
 use std::time::Clock;
-use worker_pool::batch::{MAX_WORKERS, PoolFault, run_batch};
+use worker_pool::batch::{MAX_WORKERS, PoolFault, run_batch, run_by_team};
 use worker_pool::gates::Gate;
 use worker_pool::outcomes::Outcome;
+use worker_pool::teams::Team;
 
-// How many workers a batch has, and how many teams they make.
-#[derive(Clone, Copy)]
-struct Crew {
-    workers: usize,
-    teams: usize,
-}
-
-// The outcomes of a slice, by a team that passes the gate with numbers of its own. The team counts holds on a set of its own,
+// The outcomes of a slice, by a team, whose workers pass the gate under their numbers. The team counts holds on a set of its own,
 // and so waits for no other.
 fn run_team<R: Threads + Wait + Clock + Sync, G: Gate>(
     rt: &R,
     alloc: Global,
     set: &Arc<CompiledSet>,
     slice: Vec<Portfolio>,
-    workers: usize,
-    gate: &TeamGate<G>,
+    team: Team,
+    gate: &G,
 ) -> Result<Vec<Outcome>, AllocError>
     requires { AllFit (arc_value set.now) slice.items }
     ensures { IfOk result (λ outcomes. AreOutcomes (arc_value set.now) slice.items outcomes.items) }
 {
     let own = Arc::new(alloc, set.with_own_constants(alloc)?)?;
-    run_batch(rt, alloc, &own, slice, workers, gate).map_err(|_| AllocError)
+    run_by_team(rt, alloc, &own, slice, team, gate)
 }
 
 // The outcomes of accounts by a crew: the last slice by a team in a thread of its own, the slices before it by the other teams,
@@ -53,45 +47,27 @@ fn run_slices<R: Threads + Wait + Clock + Sync, G: Gate>(
     crew: Crew,
     gate: &G,
 ) -> Result<Vec<Outcome>, AllocError>
-    requires some { 0 < crew.teams }
     requires enough { crew.teams ≤ vec_len portfolios }
-    requires workers { crew.teams ≤ crew.workers }
     requires fits { AllFit (arc_value set.now) portfolios.items }
     ensures { IfOk result (λ outcomes. AreOutcomes (arc_value set.now) portfolios.items outcomes.items) }
 {
-    let Crew { workers, teams } = crew;
-    if teams == 1 {
-        let gate = TeamGate { gate, first: 0 };
-        return run_team(rt, alloc, set, portfolios, workers, &gate);
+    if crew.teams == 1 {
+        return run_team(rt, alloc, set, portfolios, crew.whole(), gate);
     }
     let mut portfolios = portfolios;
-    let own = workers / teams;
-    let before = workers - own;
-    let start = last_slice(set.plan().len(), &portfolios, teams);
+    let start = last_slice(set.plan().len(), &portfolios, crew.teams);
+    let (rest, team) = crew.cut();
     let slice = portfolios.split_off(start)?;
     let (last, others) = thread::join(
         rt,
         move || -> Result<Vec<Outcome>, AllocError>
             requires { AllFit (arc_value set.now) slice.items }
             ensures { IfOk result (λ outcomes. AreOutcomes (arc_value set.entry.now) slice.items outcomes.items) }
-        {
-            let gate = TeamGate {
-                gate,
-                first: before,
-            };
-            run_team(rt, alloc, set, slice, own, &gate)
-        },
+        { run_team(rt, alloc, set, slice, team, gate) },
         move || -> Result<Vec<Outcome>, AllocError>
-            requires { (0 < teams - 1) × (teams - 1 ≤ vec_len portfolios) × (teams - 1 ≤ before)
-                × AllFit (arc_value set.now) portfolios.items }
+            requires { (rest.teams ≤ vec_len portfolios) × AllFit (arc_value set.now) portfolios.items }
             ensures { IfOk result (λ outcomes. AreOutcomes (arc_value set.entry.now) portfolios.items outcomes.items) }
-        {
-            let crew = Crew {
-                workers: before,
-                teams: teams - 1,
-            };
-            run_slices(rt, alloc, set, portfolios, crew, gate)
-        },
+        { run_slices(rt, alloc, set, portfolios, rest, gate) },
     );
     let mut outcomes = others?;
     outcomes.append(&mut last?)?;
