@@ -4,12 +4,14 @@ use crate::builders::run_on;
 use sample_files::calendar::{COUNTS, PARAMS};
 use span_cli::disk::Disk;
 use span_cli::memory::InMemory;
-use span_cli::reading::{Turns, read_within};
+use span_cli::reading::{Turns, read_file, read_within};
 use span_cli::serving::{Request, serve};
 use span_cli::sources::{ReadFault, Sources};
+use span_cli::streams::Streams;
 use span_cli::words::request;
 use statement::marked_writer::MarkedWriter;
 use std::alloc::Global;
+use std::fs::Metadata;
 use std::process::Abort;
 use std::rt::Files;
 use std::sync::Wait;
@@ -32,11 +34,25 @@ fn of_sources<R: Files + Abort>(rt: &R, alloc: Global) {
     assert!(rt; read.is_empty());
 }
 
-// A reader that is read to its end.
+// A reader that is read to its end, by turns and as a file.
 fn of_readers(rt: &impl Abort, alloc: Global) {
     let mut turns = Turns::new(b"abc".as_slice(), 4);
     let read = read_within(alloc, &mut turns, 3).expect(rt, "bytes");
     assert_eq!(rt; read.as_slice(), b"abc".as_slice());
+    let read = read_file(alloc, b"abc".as_slice()).expect(rt, "a file");
+    assert_eq!(rt; read.as_slice(), b"abc".as_slice());
+}
+
+// The name of a stream that is kept.
+fn of_streams(rt: &impl Abort, alloc: Global) {
+    let mut streams = Streams::new(alloc);
+    streams.keep(alloc, "/dev/stdin").expect(rt, "room");
+    let file = Metadata::of_file(3);
+    streams
+        .keep_unless_file(alloc, "params.csv", &file)
+        .expect(rt, "room");
+    assert!(rt; !streams.may_read("/dev/stdin"));
+    assert!(rt; streams.may_read("params.csv"));
 }
 
 // What words ask for.
@@ -46,9 +62,9 @@ fn of_words(rt: &impl Abort, alloc: Global) {
     assert!(rt;
         matches!(
             asked,
-            Some(Request::Check {
+            Request::Check {
                 params: "params.csv"
-            })
+            }
         )
     );
 }
@@ -86,6 +102,7 @@ fn calls_succeed(rt: HostRuntime) {
     let alloc = rt.alloc();
     of_sources(&rt, alloc);
     of_readers(&rt, alloc);
+    of_streams(&rt, alloc);
     of_words(&rt, alloc);
     of_lines(&rt, alloc);
     of_requests(&rt, alloc);

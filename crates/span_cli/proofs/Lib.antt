@@ -1,6 +1,10 @@
 pub mod AccountWords
+pub mod AskedLemmas
+pub mod FaultFree
 pub mod JoinLemmas
 pub mod NumberLemmas
 pub mod ParseLemmas
 pub mod ServingLemmas
+pub mod StreamLemmas
+pub mod TakenRows
 pub mod WordsLaws

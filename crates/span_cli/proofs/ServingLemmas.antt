@@ -1,5 +1,5 @@
 -- What is told of an answer.
-use Rattle.std.proofs.Common.{◌≡◌, ◌⊎◌, ◌++◌, ℕ, List, [], ◌∷◌, false, Option, Some, None, Result, Ok, Err}
+use Rattle.std.proofs.Common.{◌≡◌, ◌⊎◌, ◌++◌, ℕ, List, [], ◌∷◌, false, true, is_some, Option, Some, None, Result, Ok, Err}
 use Rattle.std.proofs.Common.{◌+◌, ◌<◌, refl, sym, subst, ap, append_assoc, inl, inr, length, get_or, map, drop, Bor}
 use Rattle.std.proofs.lemmas.List.{append-nil, at_drop_more}
 use Rattle.std.specs.Prelude.{IfSome}
@@ -14,7 +14,7 @@ use Rattle.statement.specs.declared.faults.SpanFault.TheVariants as fault
 use Rattle.span_cli.specs.Serving.{Answer, Asked, Found, IsAnswer, IsAnswered, IsOfRoll, all_read, answer_of, answered, memory}
 use Rattle.span_cli.specs.Serving.{done, read_before, refused}
 use Rattle.span_cli.specs.Sources.{File}
-use Rattle.span_cli.specs.Telling.{AnswersWords, RefusesWordsBy, Serves, Tells}
+use Rattle.span_cli.specs.Telling.{AnswersWords, RefusesWordsBy, Serves, ServesAsked, Tells}
 use Rattle.span_cli.specs.Telling as telling
 use Rattle.span_cli.specs.near.Refusals.{Loads, MayGive, read_then, refusal_answer, refusal_line, refusal_status}
 use Rattle.span_cli.specs.declared.serving.Refusal.{Refusal}
@@ -144,10 +144,12 @@ pub fault_answer : (file : List ℕ → Option File) (asked : Asked) (files : Li
 fault_answer file asked files e h (inl memory) = inl (ap refusal.Fault memory)
 fault_answer file asked files e h (inr holds) = inr (read_answer file asked files _ h holds)
 
--- what holds of each holds of one that there may be
-pub IfSome-each : {X : Type 0} (o : Option X) (P : X → Type 0) → ((x : X) → P x) → IfSome o P
-IfSome-each None P f = tt
-IfSome-each (Some x) P f = f x
+-- words that ask for something may be answered with want of memory
+pub memory_serves : (file : List ℕ → Option File) (o : Option Asked) (given : ℕ) (old_out new_out old_err new_err : Stream)
+    → is_some o ≡ true → Tells memory given old_out new_out old_err new_err
+    → ServesAsked file o given old_out new_out old_err new_err
+memory_serves file None given old_out new_out old_err new_err some told = cc
+memory_serves file (Some asked) given old_out new_out old_err new_err some told = inr told
 
 -- ---- words
 
@@ -176,10 +178,10 @@ words_answered (k ∷ ks) answered given old_out new_out old_err new_err none ho
 -- words that may be refused, where what is told is want of memory or the kind's
 pub words_refused : (kinds : Kinds) (answered : Type 0) (e : Error) (given : ℕ) (old_out new_out old_err new_err : Stream)
     → HasKind kinds e → telling.RefusesWords (kind_of e) given old_out new_out old_err new_err
-    → (Tells memory given old_out new_out old_err new_err → answered)
+    → (kinds ≡ [] → Tells memory given old_out new_out old_err new_err → answered)
     → AnswersWords kinds answered given old_out new_out old_err new_err
 words_refused [] answered e given old_out new_out old_err new_err (inl wanted) told holds =
-    holds (subst (λ (k : ErrorKind). telling.RefusesWords k given old_out new_out old_err new_err) wanted told)
+    holds refl (subst (λ (k : ErrorKind). telling.RefusesWords k given old_out new_out old_err new_err) wanted told)
 words_refused [] answered e given old_out new_out old_err new_err (inr among) told holds = absurd among
 words_refused (k ∷ ks) answered e given old_out new_out old_err new_err h told holds =
     refused_by (k ∷ ks) e given old_out new_out old_err new_err h told

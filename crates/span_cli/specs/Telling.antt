@@ -1,5 +1,5 @@
 -- What is told of an answer, over two writers that remember a failed write.
-use Rattle.std.specs.Prelude.{◌≡◌, ◌⊎◌, ℕ, Bool, true, List, [], ◌∷◌, Option, codes, if◌then◌else◌}
+use Rattle.std.specs.Prelude.{◌≡◌, ◌⊎◌, ℕ, Bool, true, List, [], ◌∷◌, Option, Some, None, codes, if◌then◌else◌}
 use Rattle.clap.specs.Words.{Kinds}
 use Rattle.clap.specs.declared.error.kind.ErrorKind.{ErrorKind}
 use Rattle.clap.specs.declared.error.kind.ErrorKind.TheVariants as kind
@@ -38,6 +38,11 @@ pub record TellsAnswer (file : List ℕ → Option File) (asked : Asked) (given 
 abbrev pub Serves : (List ℕ → Option File) → Asked → ℕ → Stream → Stream → Stream → Stream → Type 0
 Serves file asked given old_out new_out old_err new_err =
     TellsAnswer file asked given old_out new_out old_err new_err ⊎ Tells memory given old_out new_out old_err new_err
+
+-- what words ask for was answered, or want of memory was told; of words that ask for nothing that never holds
+abbrev pub ServesAsked : (List ℕ → Option File) → Option Asked → ℕ → Stream → Stream → Stream → Stream → Type 0
+ServesAsked file None given old_out new_out old_err new_err = ⊥
+ServesAsked file (Some asked) given old_out new_out old_err new_err = Serves file asked given old_out new_out old_err new_err
 
 -- A mistake of usage was told: nothing went to the output. The text on the error stream is the reader's of the words.
 pub record IsMistake (given : ℕ) (old_out new_out : Stream) : Type 0 where

@@ -1,12 +1,14 @@
 //! Files of the system.
-use crate::reading::{Turns, read_within};
-use crate::sources::{FILE_CAP, ReadFault, Sources};
-use std::alloc::Global;
-use std::fs::OpenFile;
-use std::rt::Files;
+ghost use Rattle.span_cli.specs.Sources.{is_among};
+ghost use Rattle.std.specs.Fs.{IsFile, file_type};
+ghost use Rattle.std.specs.Prelude.{[], ◌∷◌, ◌≡◌, ◌++◌, Err, IfErr, IfOk, true};
 
-/// How many turns a reading of a file has: one for each byte that it may have, and one for its end.
-const MAX_TURNS: u32 = FILE_CAP as u32 + 1;
+use crate::reading::read_file;
+use crate::sources::{ReadFault, Sources};
+use crate::streams::Streams;
+use std::alloc::Global;
+use std::fs::{Metadata, OpenFile};
+use std::rt::Files;
 
 /// The files of a runtime.
 ///
@@ -14,43 +16,45 @@ const MAX_TURNS: u32 = FILE_CAP as u32 + 1;
 #[derive(Drop)]
 pub struct Disk<'a, R: Files> {
     rt: &'a R,
-    streams: Vec<String>,
+    streams: Streams,
 }
 
 impl<'a, R: Files> Disk<'a, R> {
     /// The files that this runtime opens by their names.
-    pub fn new(alloc: Global, rt: &'a R) -> Disk<'a, R> {
+    pub fn new(alloc: Global, rt: &'a R) -> Disk<'a, R>
+        ensures { result.streams ≡ [] }
+    {
         Disk {
             rt,
-            streams: Vec::new(alloc),
+            streams: Streams::new(alloc),
         }
     }
 
-    // Whether a stream of this name was read.
-    fn has_read(&self, name: &str) -> bool {
-        self.streams.iter().any(|stream| stream.as_str() == name)
-    }
-
-    // Keeps the name of a stream that is about to be read.
-    fn note(&mut self, alloc: Global, name: &str) -> Result<(), ReadFault> {
-        let name = String::from_str(alloc, name).map_err(|_| ReadFault::OutOfMemory)?;
-        self.streams.push(name).map_err(|_| ReadFault::OutOfMemory)
-    }
-}
-
-impl<'a, R: Files> Sources for Disk<'a, R> {
-    fn read(&mut self, alloc: Global, name: &str) -> Result<Vec<u8>, ReadFault> {
-        if self.has_read(name) {
+    // Opens the file of a name, unless it is a stream that was read, and keeps the name of a stream. The metadata say which it is.
+    fn open(&mut self, alloc: Global, name: &str) -> Result<(R::File, Metadata), ReadFault>
+        ensures once { is_among name.now self.old.streams ≡ true → result ≡ Err ReadFault.Failed }
+        ensures stream { IfOk result (λ opened. (IsFile (file_type opened.1) → ⊥)
+            → self.new.streams ≡ self.old.streams ++ name.now ∷ []) }
+        ensures file { IfOk result (λ opened. IsFile (file_type opened.1) → self.new.streams ≡ self.old.streams) }
+        ensures same { IfErr result (λ _. self.new.streams ≡ self.old.streams) }
+    {
+        if !self.streams.may_read(name) {
             return Err(ReadFault::Failed);
         }
         let Ok(file) = std::fs::open(self.rt, name) else {
             return Err(ReadFault::Failed);
         };
-        match file.metadata() {
-            Ok(metadata) if metadata.is_file() => {}
-            Ok(_) => self.note(alloc, name)?,
-            Err(_) => return Err(ReadFault::Failed),
-        }
-        read_within(alloc, &mut Turns::new(file, MAX_TURNS), FILE_CAP)
+        let Ok(metadata) = file.metadata() else {
+            return Err(ReadFault::Failed);
+        };
+        self.streams.keep_unless_file(alloc, name, &metadata)?;
+        Ok((file, metadata))
+    }
+}
+
+impl<'a, R: Files> Sources for Disk<'a, R> {
+    fn read(&mut self, alloc: Global, name: &str) -> Result<Vec<u8>, ReadFault> {
+        let (file, _) = self.open(alloc, name)?;
+        read_file(alloc, file)
     }
 }

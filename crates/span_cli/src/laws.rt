@@ -2,13 +2,14 @@
 ghost use Rattle.clap.specs.Words.{subcommand_of};
 ghost use Rattle.span_cli.specs.Serving.{Answer, answer_of, answer_of_faults, done, file_line, refused};
 ghost use Rattle.span_cli.specs.Telling.{Tells};
-ghost use Rattle.span_cli.specs.Words.{is_request, span_app};
+ghost use Rattle.span_cli.specs.Sources.{is_among};
+ghost use Rattle.span_cli.specs.Words.{asked_in, is_request, kinds_of, span_app};
 ghost use Rattle.statement.specs.AllFaults.{faults_status, faults_text};
 ghost use Rattle.statement.specs.Streams.{Stream};
 ghost use Rattle.statement.specs.FaultLines.{fault_line, fault_status};
 ghost use Rattle.statement.specs.declared.faults.SpanFault.{SpanFault};
 ghost use Rattle.std.specs.Io.KnownBytes.{Appends};
-ghost use Rattle.std.specs.Prelude.{◌≡◌, ◌≢◌, Err, List, [], codes, false, is_some, true, ℕ};
+ghost use Rattle.std.specs.Prelude.{◌≡◌, ◌≢◌, ◌∷◌, ◌++◌, Err, List, [], codes, false, is_some, true, ℕ};
 
 /// Where an answer that is done was told and no write failed, the status is 0, just its bytes went to the output, and
 /// nothing to the error stream.
@@ -60,4 +61,23 @@ pub fn status_stands()
 /// Words that are taken name a command.
 pub fn taken_words_name_a_command()
     ensures { (words : List (List ℕ)) → is_request words ≡ true → is_some (subcommand_of span_app words) ≡ true }
+{}
+
+/// Words that are taken ask for something: each file that has to be given is, and what their options are given has a value.
+pub fn taken_words_ask_for_something()
+    ensures { (words : List (List ℕ)) → is_request words ≡ true → is_some (asked_in words) ≡ true }
+{}
+
+/// Words that may be refused for no kind of reason are taken.
+pub fn words_that_nothing_refuses_are_taken()
+    ensures { (words : List (List ℕ)) → kinds_of words ≡ [] → is_request words ≡ true }
+{}
+
+/// A stream whose name was kept is not read again, whatever is kept after it.
+pub fn kept_streams_are_not_read_again()
+    ensures kept { (names : List (List ℕ)) (name : List ℕ) → is_among name (names ++ name ∷ []) ≡ true }
+    ensures stays { (names : List (List ℕ)) (name other : List ℕ) → is_among name names ≡ true
+        → is_among name (names ++ other ∷ []) ≡ true }
+    ensures others { (names : List (List ℕ)) (name other : List ℕ) → is_among name (names ++ other ∷ []) ≡ true
+        → other ≢ name → is_among name names ≡ true }
 {}

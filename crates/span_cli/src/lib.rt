@@ -8,5 +8,6 @@ pub mod memory;
 pub mod reading;
 pub mod serving;
 pub mod sources;
+pub mod streams;
 pub mod words;
 pub mod worked;

@@ -1,11 +1,12 @@
 //! Reading to the end, within a limit.
+ghost use Rattle.span_cli.specs.declared.sources.TheConstants.{FILE_CAP};
 ghost use Rattle.std.specs.Io.KnownBytes.{IsAtEnd, ReadConsumes};
 ghost use Rattle.std.specs.Io.{ReadsAtMost};
 ghost use Rattle.std.specs.IoError.{error_kind};
 ghost use Rattle.std.specs.Prelude.{◌+◌, ◌<◌, ◌≡◌, ◌≢◌, ◌≤◌, ◌⊎◌, Err, IfErr, IfOk};
 ghost use Rattle.std.specs.Prelude.{IfSome, OnOk, false, length, true, vec_len};
 
-use crate::sources::ReadFault;
+use crate::sources::{FILE_CAP, ReadFault};
 use std::alloc::{AllocError, Global};
 use std::io;
 use std::io::{ErrorKind, Read};
@@ -13,6 +14,9 @@ use std::marker::Model;
 
 // How many bytes a turn asks for.
 const PIECE: usize = 65_536;
+
+// How many turns a reading of a file has: one for each byte that it may have, and one for its end.
+const MAX_TURNS: u32 = FILE_CAP as u32 + 1;
 
 /// A reader that gives so many turns, and remembers whether one of them failed. A turn that was interrupted has not
 /// failed.
@@ -150,4 +154,13 @@ pub fn read_within<R: Read>(
         Ok(mut buffer) => read_pieces(alloc, reader, buffer.as_mut_slice(), cap),
         Err(_) => Err(ReadFault::OutOfMemory),
     }
+}
+
+/// The bytes of a file, of which there are at most `FILE_CAP`. One that has more is too long.
+pub fn read_file<R: Read + Drop>(alloc: Global, reader: R) -> Result<Vec<u8>, ReadFault>
+    ensures whole { IfOk result (λ bytes. IfSome (R.remaining reader) (λ all. bytes.items ≡ all)) }
+    ensures within { IfOk result (λ bytes. vec_len bytes ≤ FILE_CAP) }
+    ensures too_long { result ≡ Err ReadFault.TooLong → IfSome (R.remaining reader) (λ all. FILE_CAP < length all) }
+{
+    read_within(alloc, &mut Turns::new(reader, MAX_TURNS), FILE_CAP)
 }

@@ -3,7 +3,7 @@ ghost use Rattle.clap.specs.Words.{FailsBy, app_of, first_of, found_of, kind_of,
 ghost use Rattle.clap.specs.Words.{subcommand_of, subcommand_rows_of, with_rule, with_subcommand};
 ghost use Rattle.clap.specs.declared.builder.command.Command.TheViews.{out-Command as fields_of};
 ghost use Rattle.span_cli.specs.Serving.{asked_by, memory};
-ghost use Rattle.span_cli.specs.Telling.{AnswersWords, IsMistake, IsShown, RefusesWords, Serves, Tells, no_text_line};
+ghost use Rattle.span_cli.specs.Telling.{AnswersWords, IsMistake, IsShown, RefusesWords, ServesAsked, Tells, no_text_line};
 ghost use Rattle.span_cli.specs.Words.{account_in, account_rule, app_without_commands, asked_among, asked_in, commands, form_kinds};
 ghost use Rattle.span_cli.specs.Words.{has_form, is_request, joined_words, kinds_of, misnames_in, number_in, span_app};
 ghost use Rattle.span_cli.specs.Words.{with_commands, with_rules, workers_in, workers_rule};
@@ -12,7 +12,7 @@ ghost use Rattle.statement.specs.Streams.{Says};
 ghost use Rattle.statement.specs.FaultLines.{memory_line};
 ghost use Rattle.std.specs.IoError.{error_kind};
 ghost use Rattle.std.specs.declared.io.ErrorKind.TheVariants as kind;
-ghost use Rattle.std.specs.Prelude.{◌≡◌, ◌≢◌, ◌⊎◌, IfErr, IfOk, IfSome, codes, false, map, option_map, true};
+ghost use Rattle.std.specs.Prelude.{◌≡◌, ◌≢◌, ◌⊎◌, IfErr, IfOk, Some, codes, false, map, option_map, true};
 
 use crate::joining::join_words;
 use crate::serving::{Lent, Request, serve};
@@ -447,8 +447,8 @@ fn parse<'a, S: AsStr>(alloc: Global, words: &'a [S]) -> Result<ArgMatches<'a>, 
 }
 
 /// What the words ask for, of which the first is the program's name. An account and its option are one word.
-pub fn request<'a, S: AsStr>(alloc: Global, words: &'a [S]) -> Result<Option<Request<'a>>, Error>
-    ensures ok { IfOk result (λ found. option_map asked_by found ≡ asked_in (map S.text words.entry.now)) }
+pub fn request<'a, S: AsStr>(alloc: Global, words: &'a [S]) -> Result<Request<'a>, Error>
+    ensures ok { IfOk result (λ request. asked_in (map S.text words.entry.now) ≡ Some (asked_by request)) }
     ensures err { IfErr result (λ e. is_request (map S.text words.entry.now) ≡ true → kind_of e ≡ ErrorKind.OutOfMemory) }
     ensures kinds { FailsBy (kinds_of (map S.text words.entry.now)) result }
 {
@@ -458,9 +458,13 @@ pub fn request<'a, S: AsStr>(alloc: Global, words: &'a [S]) -> Result<Option<Req
             if misnames(name, found) {
                 return Err(refuse_account(alloc));
             }
-            Ok(request_under(name, found))
+            match request_under(name, found) {
+                Some(request) => Ok(request),
+                // Words that are taken ask for something (`taken_words_ask_for_something`).
+                None => unreachable!(),
+            }
         }
-        None => Ok(None),
+        None => unreachable!(),
     }
 }
 
@@ -487,14 +491,6 @@ fn say_mistake<E: Write>(error: &Error, err: &mut MarkedWriter<E>) -> u8
     ensures { result ≡ USAGE }
 {
     let _ = write!(err, "{error}");
-    USAGE
-}
-
-// Says that the words ask for nothing, and gives the status.
-fn say_nothing_asked<E: Write>(err: &mut MarkedWriter<E>) -> u8
-    ensures { result ≡ USAGE }
-{
-    let _ = writeln!(err, "error: nothing is asked for");
     USAGE
 }
 
@@ -539,15 +535,14 @@ fn answer_words<
     err: &mut MarkedWriter<E>,
 ) -> u8
     requires { out.old.failed ≡ false }
-    ensures taken { is_request (map T.text words.now) ≡ true → IfSome (asked_in (map T.text words.now)) (λ asked.
-        Serves (S.file sources.old) asked result out.old out.new err.old err.new) }
-    ensures words { AnswersWords (kinds_of (map T.text words.now)) (IfSome (asked_in (map T.text words.now)) (λ asked.
-        Serves (S.file sources.old) asked result out.old out.new err.old err.new))
+    ensures taken { is_request (map T.text words.now) ≡ true
+        → ServesAsked (S.file sources.old) (asked_in (map T.text words.now)) result out.old out.new err.old err.new }
+    ensures words { AnswersWords (kinds_of (map T.text words.now))
+        (ServesAsked (S.file sources.old) (asked_in (map T.text words.now)) result out.old out.new err.old err.new)
         result out.old out.new err.old err.new }
 {
     match request(lent.alloc, words) {
-        Ok(Some(request)) => serve(lent.rt, lent.alloc, request, sources, lent.gate, out, err),
-        Ok(None) => say_nothing_asked(err),
+        Ok(request) => serve(lent.rt, lent.alloc, request, sources, lent.gate, out, err),
         Err(error) => refuse(error, out, err),
     }
 }
@@ -573,12 +568,11 @@ pub fn run_words<
 ) -> u8
     requires { out.old.failed ≡ false }
     ensures taken { is_request (joined_words (map T.text words.now)) ≡ true
-        → IfSome (asked_in (joined_words (map T.text words.now))) (λ asked.
-        Serves (S.file sources.old) asked result out.old out.new err.old err.new) }
+        → ServesAsked (S.file sources.old) (asked_in (joined_words (map T.text words.now))) result
+        out.old out.new err.old err.new }
     ensures words { AnswersWords (kinds_of (joined_words (map T.text words.now)))
-        (IfSome (asked_in (joined_words (map T.text words.now))) (λ asked.
-        Serves (S.file sources.old) asked result out.old out.new err.old err.new))
-        result out.old out.new err.old err.new }
+        (ServesAsked (S.file sources.old) (asked_in (joined_words (map T.text words.now))) result
+        out.old out.new err.old err.new) result out.old out.new err.old err.new }
 {
     let lent = Lent { rt, alloc, gate };
     match join_words(alloc, words) {

@@ -1,7 +1,8 @@
 use Rattle.std.proofs.Common.{◌≡◌, ◌∙◌, Err, Some, None, true, false, map, rules}
 use Rattle.clap.specs.Words.{found_of, rows_of, subcommand_of}
-use Rattle.span_cli.specs.Words.{misnames_in, span_app}
+use Rattle.span_cli.specs.Words.{asked_among, commands, misnames_in, span_app}
 use Rattle.span_cli.proofs.AccountWords.{form_mistake, misnamed_mistake, misnamed_not_taken, misnames_read, no_mistake, taken_form}
+use Rattle.span_cli.proofs.AskedLemmas.{asks_some, names_some}
 use Rattle.span_cli.proofs.words.request.Goals as goal
 
 pub returns-in_err-matches-clause-err : goal.returns-in_err-matches-clause-err
@@ -27,16 +28,25 @@ returns-then-misnames g c =
       kinds = misnamed_mistake words c.refuse_account.result c.in_ok-matches.ensures.kinds is c.refuse_account.ensures;
     }
 
-pub returns-in-Some-clause-kinds : goal.returns-in-Some-clause-kinds
-returns-in-Some-clause-kinds g c =
+pub returns-clause-kinds : goal.returns-clause-kinds
+returns-clause-kinds g c =
     let words = map g.S.AsStr.text c.args.words.now in
     let found : subcommand_of span_app words
     ≡ Some (c.in-Some.name.now, rows_of (found_of c.in-Some.found.now)) = search rules in
     let named : misnames_in c.in-Some.name.now (rows_of (found_of c.in-Some.found.now)) ≡ false = search rules in
     no_mistake words c.in_ok-matches.ensures.kinds (misnames_read words _ found ∙ named)
 
-pub returns-clause-kinds : goal.returns-clause-kinds
-returns-clause-kinds g c =
+pub unreachable-requires : goal.unreachable-requires
+unreachable-requires g c =
+    let words = map g.S.AsStr.text c.args.words.now in
+    let found : subcommand_of span_app words
+    ≡ Some (c.in-Some.name.now, rows_of (found_of c.in-Some.found.now)) = search rules in
+    let named : misnames_in c.in-Some.name.now (rows_of (found_of c.in-Some.found.now)) ≡ false = search rules in
+    let asked : asked_among commands c.in-Some.name.now (rows_of (found_of c.in-Some.found.now)) ≡ None = search rules in
+    asks_some words c.in-Some.name.now (rows_of (found_of c.in-Some.found.now)) c.in_ok-matches.ensures.kinds found named asked
+
+pub unreachable-requires-in-None : goal.unreachable-requires-in-None
+unreachable-requires-in-None g c =
     let words = map g.S.AsStr.text c.args.words.now in
     let found : subcommand_of span_app words ≡ None = search rules in
-    no_mistake words c.in_ok-matches.ensures.kinds (misnames_read words _ found)
+    names_some words c.in_ok-matches.ensures.kinds found

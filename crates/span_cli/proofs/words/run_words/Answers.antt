@@ -1,10 +1,11 @@
-use Rattle.std.proofs.Common.{◌≡◌, inl, inr, map, subst, rules}
+use Rattle.std.proofs.Common.{◌≡◌, inl, map, subst, rules}
 use Rattle.clap.specs.Words.{kind_of}
 use Rattle.clap.specs.declared.error.kind.ErrorKind.{ErrorKind}
 use Rattle.clap.specs.declared.error.kind.ErrorKind.TheVariants.{OutOfMemory}
-use Rattle.span_cli.specs.Telling.{RefusesWords, Serves}
+use Rattle.span_cli.specs.Telling.{RefusesWords}
 use Rattle.span_cli.specs.Words.{asked_in, joined_words, kinds_of}
-use Rattle.span_cli.proofs.ServingLemmas.{IfSome-each, words_refused}
+use Rattle.span_cli.proofs.AskedLemmas.{taken_asks, unrefused_asks}
+use Rattle.span_cli.proofs.ServingLemmas.{memory_serves, words_refused}
 use Rattle.span_cli.proofs.words.run_words.Goals as goal
 
 pub returns-in-Ok-clause-taken : goal.returns-in-Ok-clause-taken
@@ -15,18 +16,15 @@ returns-in-Ok-clause-words g c = rw (← c.in-Ok.ensures, ← c.deref.ensures.va
 
 pub returns-in-Err-clause-words : goal.returns-in-Err-clause-words
 returns-in-Err-clause-words g c =
+    let words = joined_words (map g.T.AsStr.text c.args.words.now) in
     let wanted : kind_of c.from.result ≡ OutOfMemory = search rules in
-    words_refused (kinds_of (joined_words (map g.T.AsStr.text c.args.words.now))) _ c.from.result _ _ _ _ _
-    (inl wanted) c.refuse.ensures (λ told.
-    IfSome-each (asked_in (joined_words (map g.T.AsStr.text c.args.words.now)))
-    (λ asked. Serves (g.S.Sources.file c.args.sources.now) asked c.refuse.result c.args.out.now c.refuse.new.out
-    c.args.err.now c.refuse.new.err) (λ a. inr told))
+    words_refused (kinds_of words) _ c.from.result _ _ _ _ _ (inl wanted) c.refuse.ensures (λ none told.
+    memory_serves (g.S.Sources.file c.args.sources.now) (asked_in words) _ _ _ _ _ (unrefused_asks words none) told)
 
 pub returns-in-Err-clause-taken : goal.returns-in-Err-clause-taken
 returns-in-Err-clause-taken g c = λ taken.
+    let words = joined_words (map g.T.AsStr.text c.args.words.now) in
     let wanted : kind_of c.from.result ≡ OutOfMemory = search rules in
     let told = subst (λ (k : ErrorKind). RefusesWords k c.refuse.result c.args.out.now c.refuse.new.out c.args.err.now c.refuse.new.err)
     wanted c.refuse.ensures in
-    IfSome-each (asked_in (joined_words (map g.T.AsStr.text c.args.words.now)))
-    (λ asked. Serves (g.S.Sources.file c.args.sources.now) asked c.refuse.result c.args.out.now c.refuse.new.out
-    c.args.err.now c.refuse.new.err) (λ a. inr told)
+    memory_serves (g.S.Sources.file c.args.sources.now) (asked_in words) _ _ _ _ _ (taken_asks words taken) told

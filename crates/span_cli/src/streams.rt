@@ -1,0 +1,79 @@
+//! Streams, each of which is read once.
+ghost use Rattle.span_cli.specs.Sources.{is_among};
+ghost use Rattle.std.specs.Fs.{IsFile, file_type};
+ghost use Rattle.std.specs.Prelude.{[], ◌∷◌, ◌≡◌, ◌++◌, IfErr, List, OnOk, map, not, string_bytes, ℕ};
+
+use crate::sources::ReadFault;
+use std::alloc::Global;
+use std::fs::Metadata;
+use std::marker::Model;
+
+/// The names of the streams that were read. A stream, as a pipe, gives its bytes once, so that none is read a second time.
+#[derive(Drop)]
+pub struct Streams {
+    names: Vec<String>,
+}
+
+impl Model for Streams {
+    ghost Value = { List (List ℕ) };
+
+    ghost view = { λ s. map string_bytes s.names.items };
+}
+
+// Whether a name is one of these.
+fn has_name(names: &[String], name: &str) -> bool
+    ensures { result ≡ is_among name.now (map string_bytes names.now) }
+{
+    for other in names {
+        if other.as_str() == name {
+            return true;
+        }
+    }
+    false
+}
+
+impl Streams {
+    /// No streams.
+    pub fn new(alloc: Global) -> Streams
+        ensures { result ≡ [] }
+    {
+        Streams {
+            names: Vec::new(alloc),
+        }
+    }
+
+    /// Whether the file of a name may be read: unless it is a stream that was read.
+    pub fn may_read(&self, name: &str) -> bool
+        ensures { result ≡ not (is_among name.now self.now) }
+    {
+        !has_name(&self.names, name)
+    }
+
+    /// Keeps the name of a stream that is about to be read.
+    pub fn keep(&mut self, alloc: Global, name: &str) -> Result<(), ReadFault>
+        ensures kept { OnOk result (self.new ≡ self.old ++ name.now ∷ []) }
+        ensures same { IfErr result (λ _. self.new ≡ self.old) }
+        ensures memory { IfErr result (λ e. e ≡ ReadFault.OutOfMemory) }
+    {
+        let name = String::from_str(alloc, name).map_err(|_| ReadFault::OutOfMemory)?;
+        self.names.push(name).map_err(|_| ReadFault::OutOfMemory)
+    }
+
+    /// Keeps the name of what is about to be read, if that is a stream and no file of a known length.
+    pub fn keep_unless_file(
+        &mut self,
+        alloc: Global,
+        name: &str,
+        metadata: &Metadata,
+    ) -> Result<(), ReadFault>
+        ensures file { IsFile (file_type metadata.now) → self.new ≡ self.old }
+        ensures stream { (IsFile (file_type metadata.now) → ⊥) → OnOk result (self.new ≡ self.old ++ name.now ∷ []) }
+        ensures same { IfErr result (λ _. self.new ≡ self.old) }
+        ensures memory { IfErr result (λ e. e ≡ ReadFault.OutOfMemory) }
+    {
+        if metadata.is_file() {
+            return Ok(());
+        }
+        self.keep(alloc, name)
+    }
+}
