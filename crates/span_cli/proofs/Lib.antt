@@ -4,6 +4,7 @@ pub mod FaultFree
 pub mod JoinLemmas
 pub mod NumberLemmas
 pub mod ParseLemmas
+pub mod ReadLemmas
 pub mod ServingLemmas
 pub mod StreamLemmas
 pub mod TakenRows

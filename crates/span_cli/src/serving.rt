@@ -1,11 +1,12 @@
 //! Requests, and the bytes that answer them.
+ghost use Rattle.span_cli.specs.Reads.{ReadsInOrder};
 ghost use Rattle.span_cli.specs.Serving.{IsAnswer, IsOfRoll, all_read, answer_of_faults, answered, asked_by, done};
 ghost use Rattle.span_cli.specs.Telling.{Serves, Tells};
 ghost use Rattle.span_cli.specs.near.Refusals.{Loads, LoadsAll, MayGive, Runs, given_answer, refusal_line, refusal_status};
 ghost use Rattle.span_cli.specs.declared.serving.Refusal.TheVariants as refusal;
 ghost use Rattle.statement.specs.AllFaults.{faults_of};
 ghost use Rattle.statement.specs.Streams.{Says};
-ghost use Rattle.std.specs.Prelude.{◌≡◌, ◌≤◌, IfOk, IfSome, List, false, length, map, option_map, ℕ};
+ghost use Rattle.std.specs.Prelude.{◌≡◌, ◌≤◌, IfOk, IfSome, List, false, is_ok, length, map, option_map, ℕ};
 
 use crate::sources::{ReadFault, Sources};
 use arrayvec::ArrayVec;
@@ -149,6 +150,7 @@ fn load<'a, S: Sources>(
     ensures known { IfSome (S.file sources.old name.entry.now) (λ file.
         Loads (λ bytes. bytes.items) name.entry.now file result) }
     ensures same { (n : List ℕ) → S.file sources.new n ≡ S.file sources.old n }
+    ensures noted { S.reads sources.old name.entry.now (is_ok result) sources.new }
 {
     match sources.read(alloc, name) {
         Ok(bytes) => Ok(bytes),
@@ -167,6 +169,7 @@ fn load_all<'a, S: Sources>(
     ensures count { IfOk result (λ files. length files.items ≡ length names.now) }
     ensures known { IfSome (all_read (S.file sources.old) (map (λ name. name.now) names.now)) (λ found.
         LoadsAll (λ files. map (λ file. file.items) files.items) found result) }
+    ensures reads { ReadsInOrder S.reads sources.old (map (λ name. name.now) names.now) sources.new }
 {
     let mut files = ArrayVec::new_in(alloc);
     for name in names {
@@ -269,7 +272,8 @@ fn run<'a, S: Sources, R: Threads + Wait + Clock + Sync, G: Gate>(
     request: &Request<'a>,
     sources: &mut S,
 ) -> Result<Given, Refusal<'a>>
-    ensures { Runs given_answer result (IsAnswer (S.file sources.old) (asked_by request.now)) }
+    ensures answer { Runs given_answer result (IsAnswer (S.file sources.old) (asked_by request.now)) }
+    ensures reads { ReadsInOrder S.reads sources.old (asked_by request.now).1 sources.new }
 {
     let files = load_all(lent.alloc, sources, &request.files())?;
     let given = answer(lent, request, &files)?;
@@ -325,11 +329,11 @@ fn give<W: Write, E: Write>(
     }
 }
 
-/// Answers a request and gives the status. Its files are read in their order, and the first that cannot be read is named,
-/// whatever those behind it are. Where no write fails, just the bytes of the answer go to each stream and the
-/// status is the answer's; where a write of the output fails, the status is that of a file that failed and the line on
-/// `err` is `file: output`; where a write of the line fails, the status stands. To `out` no write may have failed
-/// before. The workers of a statement pass the gate before each step.
+/// Answers a request and gives the status. Its files are read each once and in their order, as far as the first that cannot be
+/// read, which is named, whatever those behind it are. Where no write fails, just the bytes of the answer go to each stream and the
+/// status is the answer's; where a write of the output fails, the status is that of a file that failed and the line on `err` is
+/// `file: output`; where a write of the line fails, the status stands. To `out` no write may have failed before. The workers of a
+/// statement pass the gate before each step.
 pub fn serve<S: Sources, W: Write, E: Write, R: Threads + Wait + Clock + Sync, G: Gate>(
     rt: &R,
     alloc: Global,
@@ -340,7 +344,8 @@ pub fn serve<S: Sources, W: Write, E: Write, R: Threads + Wait + Clock + Sync, G
     err: &mut MarkedWriter<E>,
 ) -> u8
     requires { out.old.failed ≡ false }
-    ensures { Serves (S.file sources.old) (asked_by request.entry) result out.old out.new err.old err.new }
+    ensures answer { Serves (S.file sources.old) (asked_by request.entry) result out.old out.new err.old err.new }
+    ensures reads { ReadsInOrder S.reads sources.old (asked_by request.entry).1 sources.new }
 {
     let lent = Lent { rt, alloc, gate };
     match run(&lent, &request, sources) {

@@ -2,6 +2,7 @@ use Rattle.std.proofs.Common.{◌≡◌, ◌∙◌, Vec, ℕ, Global, map, rules
 use Rattle.std.proofs.lemmas.List.{drop_all, map-append}
 use Rattle.std.specs.Prelude.{Err}
 use Rattle.span_cli.specs.Serving.{all_read}
+use Rattle.span_cli.proofs.ReadLemmas.{ends, goes_on, stops}
 use Rattle.span_cli.proofs.ServingLemmas.{last_read, next_of_names, unread_of_names}
 use Rattle.span_cli.proofs.serving.load_all.Goals as goal
 
@@ -10,6 +11,14 @@ returns-clause-known g c =
     last_read (all_read (g.S.Sources.file c.args.sources.now) (map (λ name. name.now) c.args.names.now))
     (map (λ file. file.items) c.loop-name.files.items)
     (rw (drop_all c.loop-name.name-index c.args.names.now c.loop-name-test.false) at c.loop-name.invariant.known)
+
+pub returns-clause-reads : goal.returns-clause-reads
+returns-clause-reads g c =
+    ends g.S.Sources.reads _ _ _ c.args.names.now _ c.loop-name-test.false c.loop-name.invariant.reads
+
+pub returns-in_err-load-clause-reads : goal.returns-in_err-load-clause-reads
+returns-in_err-load-clause-reads g c = stops g.S.Sources.reads _ _ _ _ c.args.names.now _ _ c.loop-name-test.true
+    c.loop-name.invariant.reads c.in_err-load.ensures.noted
 
 pub returns-in_err-load-clause-known : goal.returns-in_err-load-clause-known
 returns-in_err-load-clause-known g c =
@@ -23,4 +32,6 @@ loop-name-preserved g c = record {
   same = λ name. c.load.ensures.same name ∙ c.loop-name.invariant.same name;
   known = rw (c.push.ensures.items, map-append) (next_of_names (g.S.Sources.file c.args.sources.now) _ _ _ c.args.names.now _ _ _
       c.loop-name-test.true c.loop-name.invariant.same c.in_ok-load.ensures.known c.loop-name.invariant.known);
+  reads = goes_on g.S.Sources.reads _ _ _ _ c.args.names.now _ _ c.loop-name-test.true c.loop-name.invariant.reads
+      c.in_ok-load.ensures.noted;
 }

@@ -20,7 +20,7 @@ returns-in-Err-clause-taken g c = λ taken.
     memory_serves (g.S.Sources.file c.args.sources.now) (asked_in words) _ _ _ _ _ (taken_asks words taken) told
 
 pub returns-in-Ok-clause-words : goal.returns-in-Ok-clause-words
-returns-in-Ok-clause-words g c = rw (c.in-Ok.ensures.kinds, c.in-Ok.ensures.ok) c.serve.ensures
+returns-in-Ok-clause-words g c = rw (c.in-Ok.ensures.kinds, c.in-Ok.ensures.ok) c.serve.ensures.answer
 
 pub returns-in-Ok-clause-taken : goal.returns-in-Ok-clause-taken
-returns-in-Ok-clause-taken g c = λ taken. rw (c.in-Ok.ensures.ok) c.serve.ensures
+returns-in-Ok-clause-taken g c = λ taken. rw (c.in-Ok.ensures.ok) c.serve.ensures.answer
