@@ -1,4 +1,5 @@
 //! What the tests share: a writer that breaks, and what a command line gives.
+use span_cli::outputs::{ErrorStream, OutputStream};
 use span_cli::sources::Sources;
 use span_cli::words::run_words;
 use statement::marked_writer::MarkedWriter;
@@ -62,3 +63,7 @@ impl Write for Breaking {
         Ok(())
     }
 }
+
+impl OutputStream for Breaking {}
+
+impl ErrorStream for Breaking {}

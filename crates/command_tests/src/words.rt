@@ -2,12 +2,13 @@
 use crate::builders::{Breaking, run_on};
 use sample_files::one_future::{PARAMS, POSITIONS, STATEMENT};
 use span_cli::memory::InMemory;
+use span_cli::outputs::{ErrorStream, OutputStream};
 use span_cli::sources::{ReadFault, Sources};
 use span_cli::words::{refuse_words, run_words};
 use statement::marked_writer::MarkedWriter;
 use std::alloc::Global;
 use std::io;
-use std::io::{ErrorKind, Write};
+use std::io::ErrorKind;
 use std::sync::Wait;
 use std::thread::Threads;
 use std::time::Clock;
@@ -69,7 +70,7 @@ fn refuses_what_cannot_be_read(rt: HostRuntime) {
 }
 
 // The status of a command line over `FILES`, and what a writer of the output and one of the lines hold in the end.
-fn run_into<W: Write, E: Write, R: Threads + Wait + Clock + Sync>(
+fn run_into<W: OutputStream, E: ErrorStream, R: Threads + Wait + Clock + Sync>(
     rt: &R,
     alloc: Global,
     words: &[&str],

@@ -5,6 +5,7 @@ pub mod disk;
 mod joining;
 pub mod laws;
 pub mod memory;
+pub mod outputs;
 pub mod reading;
 pub mod serving;
 pub mod sources;

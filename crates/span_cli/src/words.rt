@@ -15,6 +15,7 @@ ghost use Rattle.std.specs.declared.io.ErrorKind.TheVariants as kind;
 ghost use Rattle.std.specs.Prelude.{◌≡◌, ◌≢◌, ◌⊎◌, IfErr, IfOk, Some, codes, false, map, option_map, true};
 
 use crate::joining::join_words;
+use crate::outputs::{ErrorStream, OutputStream};
 use crate::serving::{Lent, Request, serve};
 use crate::sources::Sources;
 use clap::builder::ValueParser;
@@ -548,13 +549,14 @@ fn answer_words<
 }
 
 /// Answers a command line, of which the first word is the program's name, and gives the status. A request is answered
-/// as by `serve`; help and the version go to `out` alone and a mistake to `err` alone. The word behind `--account` is its
-/// value, whatever it begins with. To `out` no write may have failed before.
+/// as by `serve`; help and the version go to `out` alone and a mistake to `err` alone. The bounds of the two differ, so that the
+/// standard streams cannot be exchanged. The word behind `--account` is its value, whatever it begins with. To `out` no write may
+/// have failed before.
 pub fn run_words<
     T: AsStr,
     S: Sources,
-    W: Write,
-    E: Write,
+    W: OutputStream,
+    E: ErrorStream,
     R: Threads + Wait + Clock + Sync,
     G: Gate,
 >(
@@ -583,7 +585,7 @@ pub fn run_words<
 
 /// Answers words that cannot be read, and gives the status: a word that is no text is a mistake of usage, and else
 /// want of memory.
-pub fn refuse_words<E: Write>(error: &io::Error, err: &mut MarkedWriter<E>) -> u8
+pub fn refuse_words<E: ErrorStream>(error: &io::Error, err: &mut MarkedWriter<E>) -> u8
     ensures no_text { error_kind error.now ≡ kind.InvalidData → result ≡ USAGE }
     ensures memory { error_kind error.now ≢ kind.InvalidData → result ≡ OUT_OF_MEMORY }
     ensures no_text_line { error_kind error.now ≡ kind.InvalidData → Says err.old err.new no_text_line }
