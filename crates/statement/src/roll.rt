@@ -4,6 +4,7 @@ ghost use Rattle.plan_shelf.specs.Publications.{IsLast};
 ghost use Rattle.result_book.specs.Books.{HasNoAccountTwice};
 ghost use Rattle.result_book.specs.declared.books.BookFault.TheVariants as book_fault;
 ghost use Rattle.span_tables.specs.Net.{AccountHoldings};
+ghost use Rattle.span_tables.specs.declared.records.PositionRecord.{PositionRecord};
 ghost use Rattle.statement.specs.near.Accepting.{IsBound};
 ghost use Rattle.worker_pool.specs.Batches.{AllFit};
 ghost use Rattle.statement.specs.near.Batches.{AreOnce, rows_of_accounts};
@@ -230,6 +231,29 @@ fn first_statement<R: Wait>(
     Ok(text)
 }
 
+// The first statement, whose rows are put in the book, and the next set, which was published meanwhile.
+fn first_statement_and_next_set<
+    S: ShelfName + Send + Sync,
+    R: Threads + Wait + Clock + Sync,
+    G: Gate,
+>(
+    lent: &Lent<'_, R, G>,
+    publisher: &mut Publisher<S, &R>,
+    set: &Arc<CompiledSet>,
+    portfolios: Portfolios,
+    next: &[u8],
+) -> Result<(Vec<u8>, Told<S>), SpanFault>
+    requires fits { AllFit (arc_value set.now) portfolios }
+    requires once { AreOnce portfolios }
+    ensures text { IfOk result (λ made. made.0.items ≡ statement_text (arc_value set.now).tables portfolios) }
+    ensures told { IfOk result (λ made. IsPublished next.now publisher.old made.1) }
+    ensures fault { IfErr result (λ e. (records : List PositionRecord) → RefusesSecond next.now records e) }
+{
+    let (rows, told) = first_rows_and_next_set(lent, publisher, set, portfolios, next);
+    let text = first_statement(lent.rt, lent.alloc, rows?, lent.book)?;
+    Ok((text, told?))
+}
+
 // The roll on a shelf whose only publication is the set of the first statement.
 fn roll_on_shelf<S: ShelfName + Send + Sync, R: Threads + Wait + Clock + Sync, G: Gate>(
     lent: &Lent<'_, R, G>,
@@ -249,9 +273,8 @@ fn roll_on_shelf<S: ShelfName + Send + Sync, R: Threads + Wait + Clock + Sync, G
         positions,
         portfolios,
     } = today;
-    let (rows, told) = first_rows_and_next_set(lent, publisher, &set, portfolios, next);
-    let mut text = first_statement(lent.rt, lent.alloc, rows?, lent.book)?;
-    let second = second_set(lent.rt, reader, told?)?;
+    let (mut text, told) = first_statement_and_next_set(lent, publisher, &set, portfolios, next)?;
+    let second = second_set(lent.rt, reader, told)?;
     second_statement(lent, &second, &positions, &mut text)?;
     Ok(text)
 }
