@@ -1,5 +1,5 @@
 //! Pieces of a position file that have no fault: their records can be numbered side by side.
-ghost use Rattle.std.specs.Prelude.{◌≡◌, ◌<◌, ◌≤◌, All, IfOk, IfSome, None, OnOk, length, map};
+ghost use Rattle.std.specs.Prelude.{◌≡◌, ◌<◌, ◌≤◌, ℕ, All, IfOk, IfSome, List, None, OnOk, length, map};
 ghost use Rattle.span_csv.specs.near.Pieces.{place_among, renumbered, with_names, AreOfAccounts, AreTogether, HasAccounts, StandFor};
 ghost use Rattle.span_tables.specs.near.Positions.{named_positions, AreNumbered};
 ghost use Rattle.span_tables.specs.declared.limits.TheConstants.{MAX_ACCOUNTS};
@@ -79,10 +79,11 @@ fn renumber(places: &[u32], records: &mut [NumberedPosition])
 }
 
 impl AllAccounts {
-    /// The accounts of these pieces; none where a piece has a fault or there are more accounts than there may be, so that only
+    /// The accounts of these pieces; none just where a piece has a fault or there are more accounts than there may be, so that only
     /// [`join_pieces`](crate::pieces::join_pieces) can say what the fault of the file is.
     pub fn of(alloc: Global, pieces: &[Piece]) -> Result<Option<AllAccounts>, AllocError>
-        ensures { IfOk result (λ found. IfSome found (λ all. AreTogether all pieces.now)) }
+        ensures found { IfOk result (λ found. IfSome found (λ all. AreTogether all pieces.now)) }
+        ensures none { IfOk result (λ found. found ≡ None → (all : List (List ℕ)) → AreTogether all pieces.now → ⊥) }
     {
         let mut accounts = IndexSet::new(alloc);
         for piece in pieces {
