@@ -1,5 +1,6 @@
 -- Words that are taken ask for something, and words that nothing refuses are taken.
-use Rattle.std.proofs.Common.{◌≡◌, ◌∙◌, ◌&&◌, ◌||◌, ◌++◌, ℕ, Bool, true, false, not, List, [], ◌∷◌, Option, Some, None, refl, arith, codes, bytes_eq}
+use Rattle.std.proofs.Common.{◌≡◌, ◌∙◌, ◌&&◌, ◌||◌, ◌++◌, ℕ, Bool, true, false, not, List, [], ◌∷◌, Option, Some, None}
+use Rattle.std.proofs.Common.{refl, arith, codes, bytes_eq}
 use Rattle.std.specs.Prelude.{IfSome, find, if◌then◌else◌, is_some, option_and_then, option_map}
 use Rattle.std.specs.List.{AllByRecursion, list_all}
 use Rattle.std.specs.Option.{option_map_or}
@@ -43,7 +44,8 @@ files_read : (c : List Rule) (rows : List Row) → Fit c rows → (files : List 
 files_read c rows fit [] given = refl
 files_read c rows fit (f ∷ files) given =
     let parts = both (not f.required || is_given f.id rows) (all_given files rows) given in
-    file_read (first_of f.id rows) f.required (files_in files rows) (by_required f.required parts.0) (files_read c rows fit files parts.1) where
+    file_read (first_of f.id rows) f.required (files_in files rows) (by_required f.required parts.0)
+    (files_read c rows fit files parts.1) where
       by_required : (b : Bool) → (not b || is_given f.id rows) ≡ true → b ≡ true → is_some (first_of f.id rows) ≡ true
       by_required true given is =
           let first = first_fits c f.id rows fit (given_row f.id rows given) in

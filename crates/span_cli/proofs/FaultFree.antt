@@ -99,7 +99,8 @@ use_free : (again : Bool) (a : Rule) (vs : List Text) (rows : List Row) → Free
 use_free again a vs rows none =
     let least = (unwrap_or_range a.range).start_inclusive in
     let parts = none_of (range_kinds least (most_values a) (length vs)) _ none in
-    let within = both (nat_le least (length vs)) (nat_le (length vs) (most_values a)) (range_free least (most_values a) (length vs) parts.0) in
+    let within = both (nat_le least (length vs)) (nat_le (length vs) (most_values a))
+    (range_free least (most_values a) (length vs) parts.0) in
     rw (within.0, within.1) (action_free (action_of a) again a (values_or_missing a vs) rows parts.1)
 
 -- ---- the walk
@@ -129,7 +130,8 @@ module _ (c : List Rule) (again : Bool) where
       if_free (takes_values a) _ _ _ _ (valued_free a v h) (flag_free a v h) none
 
   short_free : (o : Option Rule) (rest : Text) (h : Held) (faults : Held → Kinds) (passes : Held → Bool)
-      → ((held : Held) → Free (faults held) (passes held)) → Free (short_fault c again o rest h faults) (short_passes c again o rest h passes)
+      → ((held : Held) → Free (faults held) (passes held))
+      → Free (short_fault c again o rest h faults) (short_passes c again o rest h passes)
   short_free None rest h faults passes later none = cc
   short_free (Some a) rest h faults passes later none =
       if_free (takes_values a) _ _ _ _ (valued_free a (attached_value rest) h)
@@ -141,7 +143,8 @@ module _ (c : List Rule) (again : Bool) where
   flags_free (suc k) flags skip h none = by_first (slice_get (chars flags) 0) skip (flags_free k) none where
     by_first : (o : Option ℕ) (skip : ℕ)
         → ((flags : Text) (skip : ℕ) (h : Held) → Free (flags_fault c again k flags skip h) (flags_pass c again k flags skip h))
-        → Free (bundle_step_fault c again o flags skip h (flags_fault c again k)) (bundle_step_passes c again o flags skip h (flags_pass c again k))
+        → Free (bundle_step_fault c again o flags skip h (flags_fault c again k))
+        (bundle_step_passes c again o flags skip h (flags_pass c again k))
     by_first None skip later none = refl
     by_first (Some x) zero later none =
         let rest = drop (length (encode_utf8 x)) flags in

@@ -10,14 +10,15 @@ use Rattle.clap.specs.Facts.{explicit_source, unwrap_or_range}
 use Rattle.clap.specs.Lexer.{long_of, short_of}
 use Rattle.clap.specs.Values.{is_request}
 use Rattle.clap.specs.Simple.{Shape}
-use Rattle.clap.specs.Takes.{action_passes, bundle_step_passes, default_passes, flag_word_passes, flags_pass, is_given, is_valid, level_passes}
-use Rattle.clap.specs.Takes.{option_passes, other_passes, positional_passes, react_passes, settle_passes, short_passes, step_passes}
-use Rattle.clap.specs.Takes.{turn_passes, use_passes, value_passes, values_pass, walk_passes, word_passes, long_passes}
+use Rattle.clap.specs.Takes.{action_passes, bundle_step_passes, default_passes, flag_word_passes, flags_pass, is_given, is_valid}
+use Rattle.clap.specs.Takes.{level_passes, option_passes, other_passes, positional_passes, react_passes, settle_passes, short_passes}
+use Rattle.clap.specs.Takes.{step_passes, turn_passes, use_passes, value_passes, values_pass, walk_passes, word_passes, long_passes}
 use Rattle.clap.specs.Walk.{Held, Names, Outcome, Row, Rule, Step, Text, Waiting, Walk, action_of, after_flag, after_step}
 use Rattle.clap.specs.Walk.{arg_by_id, arg_by_index, arg_by_long, arg_by_short, at_row, attached_value, bundle, bundle_met}
-use Rattle.clap.specs.Walk.{bundle_step, default_rows, done, finished, first_of, flag_met, has_long, has_row, has_short, idle, is_empty, is_pending, long_met, long_or_other, more_values, next}
-use Rattle.clap.specs.Walk.{nothing_held, option, option_met, option_word, plain, plain_word, positional, pushed, reacted, reading_by, refused, rows_after}
-use Rattle.clap.specs.Walk.{settled, settled_rows, short_met, short_or_plain, subcommand, subcommand_met, subcommand_or_other, takes_several}
+use Rattle.clap.specs.Walk.{bundle_step, default_rows, done, finished, first_of, flag_met, has_long, has_row, has_short, idle, is_empty}
+use Rattle.clap.specs.Walk.{is_pending, long_met, long_or_other, more_values, next, nothing_held, option, option_met, option_word, plain}
+use Rattle.clap.specs.Walk.{plain_word, positional, pushed, reacted, reading_by, refused, rows_after, settled, settled_rows, short_met}
+use Rattle.clap.specs.Walk.{short_or_plain, subcommand, subcommand_met, subcommand_or_other, takes_several}
 use Rattle.clap.specs.Walk.{takes_values, to_positional, trailing, used, used_as, used_by_id, value, values_or_missing, waits, walk}
 use Rattle.clap.specs.Walk.{walk_from, walked, walked_from, with_default, with_values, without, word_met}
 use Rattle.clap.specs.declared.builder.action.ArgAction.{ArgAction}
@@ -218,7 +219,8 @@ defaulted id (a ∷ rules) rows some =
       by_test true is later some =
           let parts = both (bytes_eq a.id id) (not (is_empty a.defaults)) is in
           defaults_keep id rules (with_default rows a)
-          (subst (λ (t : Text). has_row t (with_default rows a) ≡ true) ((bytes_eq-Decides a.id id).0 parts.0) (default_adds a rows parts.1))
+          (subst (λ (t : Text). has_row t (with_default rows a) ≡ true) ((bytes_eq-Decides a.id id).0 parts.0)
+          (default_adds a rows parts.1))
       by_test false is later some = later some
 
 -- ---- the walk
@@ -462,7 +464,8 @@ first_fits c id (r ∷ rows) fit has = by_test (bytes_eq r.id id) refl (first_fi
   by_test : (b : Bool) → bytes_eq r.id id ≡ b
       → (has_row id rows ≡ true → (v : Text) × (first_of id rows ≡ Some v) × (fits c id (v ∷ []) ≡ true))
       → (b || has_row id rows) ≡ true
-      → (v : Text) × (option_and_then (λ (x : Row). slice_get x.values 0) (if b then Some r else find (λ x. bytes_eq x.id id) rows) ≡ Some v)
+      → (v : Text)
+      × (option_and_then (λ (x : Row). slice_get x.values 0) (if b then Some r else find (λ x. bytes_eq x.id id) rows) ≡ Some v)
       × (fits c id (v ∷ []) ≡ true)
   by_test true is later has = of r.values fit.0 ((bytes_eq-Decides r.id id).0 is)
   by_test false is later has = later has

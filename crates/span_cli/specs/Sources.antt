@@ -1,6 +1,5 @@
 -- What a source of files says of a file.
-use Rattle.std.specs.Prelude.{◌≡◌, ℕ, Bool, List, Result, Ok, Err, bytes_eq, ⊤}
-use Rattle.std.specs.List.{list_any}
+use Rattle.std.specs.Prelude.{◌≡◌, ℕ, List, Result, Ok, Err, ⊤}
 use Rattle.span_cli.specs.declared.sources.ReadFault.{ReadFault}
 use Rattle.span_cli.specs.declared.sources.ReadFault.TheVariants as fault
 
@@ -14,7 +13,3 @@ ReadGives view file (Ok bytes) = file ≡ Ok (view bytes)
 ReadGives view file (Err fault.OutOfMemory) = ⊤
 ReadGives view file (Err fault.Failed) = file ≡ Err fault.Failed
 ReadGives view file (Err fault.TooLong) = file ≡ Err fault.TooLong
-
--- the name is one of these
-abbrev pub is_among : List ℕ → List (List ℕ) → Bool
-is_among name names = list_any (λ other. bytes_eq other name) names

@@ -1,5 +1,5 @@
 //! Files of the system.
-ghost use Rattle.span_cli.specs.Sources.{is_among};
+ghost use Rattle.span_tables.specs.Names.{is_among};
 ghost use Rattle.std.specs.Fs.{IsFile, file_type};
 ghost use Rattle.std.specs.Prelude.{[], ◌∷◌, ◌≡◌, ◌++◌, Err, IfErr, IfOk, true};
 
@@ -32,7 +32,7 @@ impl<'a, R: Files> Disk<'a, R> {
 
     // Opens the file of a name, unless it is a stream that was read, and keeps the name of a stream. The metadata say which it is.
     fn open(&mut self, alloc: Global, name: &str) -> Result<(R::File, Metadata), ReadFault>
-        ensures once { is_among name.now self.old.streams ≡ true → result ≡ Err ReadFault.Failed }
+        ensures once { is_among self.old.streams name.now ≡ true → result ≡ Err ReadFault.Failed }
         ensures stream { IfOk result (λ opened. (IsFile (file_type opened.1) → ⊥)
             → self.new.streams ≡ self.old.streams ++ name.now ∷ []) }
         ensures file { IfOk result (λ opened. IsFile (file_type opened.1) → self.new.streams ≡ self.old.streams) }

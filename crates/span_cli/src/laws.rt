@@ -2,8 +2,8 @@
 ghost use Rattle.clap.specs.Words.{subcommand_of};
 ghost use Rattle.span_cli.specs.Serving.{Answer, answer_of, answer_of_faults, done, file_line, refused};
 ghost use Rattle.span_cli.specs.Telling.{Tells};
-ghost use Rattle.span_cli.specs.Sources.{is_among};
 ghost use Rattle.span_cli.specs.Words.{asked_in, is_request, kinds_of, span_app};
+ghost use Rattle.span_tables.specs.Names.{is_among};
 ghost use Rattle.statement.specs.AllFaults.{faults_status, faults_text};
 ghost use Rattle.statement.specs.Streams.{Stream};
 ghost use Rattle.statement.specs.FaultLines.{fault_line, fault_status};
@@ -75,9 +75,9 @@ pub fn words_that_nothing_refuses_are_taken()
 
 /// A stream whose name was kept is not read again, whatever is kept after it.
 pub fn kept_streams_are_not_read_again()
-    ensures kept { (names : List (List ℕ)) (name : List ℕ) → is_among name (names ++ name ∷ []) ≡ true }
-    ensures stays { (names : List (List ℕ)) (name other : List ℕ) → is_among name names ≡ true
-        → is_among name (names ++ other ∷ []) ≡ true }
-    ensures others { (names : List (List ℕ)) (name other : List ℕ) → is_among name (names ++ other ∷ []) ≡ true
-        → other ≢ name → is_among name names ≡ true }
+    ensures kept { (names : List (List ℕ)) (name : List ℕ) → is_among (names ++ name ∷ []) name ≡ true }
+    ensures stays { (names : List (List ℕ)) (name other : List ℕ) → is_among names name ≡ true
+        → is_among (names ++ other ∷ []) name ≡ true }
+    ensures others { (names : List (List ℕ)) (name other : List ℕ) → is_among (names ++ other ∷ []) name ≡ true
+        → other ≢ name → is_among names name ≡ true }
 {}

@@ -1,5 +1,5 @@
 //! Streams, each of which is read once.
-ghost use Rattle.span_cli.specs.Sources.{is_among};
+ghost use Rattle.span_tables.specs.Names.{is_among};
 ghost use Rattle.std.specs.Fs.{IsFile, file_type};
 ghost use Rattle.std.specs.Prelude.{[], ◌∷◌, ◌≡◌, ◌++◌, IfErr, List, OnOk, map, not, string_bytes, ℕ};
 
@@ -22,10 +22,10 @@ impl Model for Streams {
 
 // Whether a name is one of these.
 fn has_name(names: &[String], name: &str) -> bool
-    ensures { result ≡ is_among name.now (map string_bytes names.now) }
+    ensures { result ≡ is_among (map string_bytes names.now) name.now }
 {
     for other in names {
-        if other.as_str() == name {
+        if name == other.as_str() {
             return true;
         }
     }
@@ -44,7 +44,7 @@ impl Streams {
 
     /// Whether the file of a name may be read: unless it is a stream that was read.
     pub fn may_read(&self, name: &str) -> bool
-        ensures { result ≡ not (is_among name.now self.now) }
+        ensures { result ≡ not (is_among self.now name.now) }
     {
         !has_name(&self.names, name)
     }

@@ -4,7 +4,8 @@ use Rattle.std.proofs.Common.{◌&&◌, ◌||◌, ◌==◌, List, [], ◌∷◌,
 use Rattle.std.specs.Prelude.{All, bytes_eq, filter, nat_abs}
 use Rattle.std.proofs.lemmas.Bool.{cases_Bool, eqb-true}
 use Rattle.std.proofs.Math.Seq.{drop-append_seam, drop-cons, take-append_seam}
-use Rattle.std.proofs.lemmas.List.{append-nil, drop-set-lt, flat_map_more, length-append, map-append, take-append-drop, take_more, take_more_set}
+use Rattle.std.proofs.lemmas.List.{append-nil, drop-set-lt, flat_map_more, length-append, map-append, take-append-drop}
+use Rattle.std.proofs.lemmas.List.{take_more, take_more_set}
 use Rattle.std.proofs.lemmas.Grind.{flat_map-append}
 use Rattle.std.proofs.lemmas.List.Elements.{All-append, All-cons, All-drop, All-head, All-push, All-tail, All-take}
 use Rattle.std.proofs.lemmas.List.Folds.{list_any-append}
@@ -233,7 +234,8 @@ module _ (accounts names : List (List ℕ)) where
   stand_for [] of has = stand_none accounts
   stand_for (r ∷ rs) of has =
       let within = All-head (λ (q : NumberedPosition). q.account < length names) r rs of.known in
-      let there = All-head (λ (p : PositionRecord). is_among accounts p.account ≡ true) (named_position names r) (named_positions names rs) has in
+      let there = All-head (λ (p : PositionRecord). is_among accounts p.account ≡ true) (named_position names r)
+      (named_positions names rs) has in
       let rest = stand_for rs (of_others names r rs of)
       (All-tail (λ (p : PositionRecord). is_among accounts p.account ≡ true) (named_position names r) (named_positions names rs) has) in
       record {

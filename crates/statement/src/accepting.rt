@@ -73,8 +73,8 @@ pub(crate) fn portfolios_of(
     Ok(portfolios)
 }
 
-/// The portfolios of positions under a compiled set, or their fault, as [`portfolios_of`] has them. A large position file is bound in slices,
-/// side by side.
+/// The portfolios of positions under a compiled set, or their fault, as [`portfolios_of`] has them. A large position file is bound in
+/// slices, side by side.
 #[tactic(auto, unfolding(crate::specs::Statement::portfolios_under))]
 pub(crate) fn portfolios_together<R: Threads + Sync>(
     rt: &R,
@@ -142,8 +142,8 @@ pub fn accept(alloc: Global, params: &[u8], positions: &[u8]) -> Result<Accepted
 }
 
 /// What two files say, or the first fault, as [`accept`] has it. With two workers or more a thread of its own reads, checks and
-/// compiles the parameters beside reading the positions, and a large position file is read in pieces and bound in slices, side by side; where
-/// no thread is started, one is done after the other. The order of the faults is the same.
+/// compiles the parameters beside reading the positions, and a large position file is read in pieces and bound in slices, side by
+/// side; where no thread is started, one is done after the other. The order of the faults is the same.
 #[tactic(auto, unfolding(crate::specs::Statement::statement_of, crate::specs::Statement::statement_under))]
 pub fn accept_together<R: Threads + Sync>(
     rt: &R,

@@ -16,5 +16,7 @@ bound-requires g c = record {
   all_known = none_foreign _ _ (c.knows_all.ensures c.args.positions.now
       (found_of_records c.in_ok-binder.binder c.args.positions.now c.records.result.now c.deref.result.now c.records.ensures.value
       (c.deref.ensures.value ∙ c.in_ok-found.ensures))) c.if-not-knows_all.false;
-  nets_are = c.in_ok-nets.ensures ∙ ap (λ (xs : List (List ℕ)). slice_nets c.in_ok-binder.binder c.args.positions.now 0 (length xs)) c.accounts-accounts.ensures.value;
+  nets_are = c.in_ok-nets.ensures
+      ∙ ap (λ (xs : List (List ℕ)). slice_nets c.in_ok-binder.binder c.args.positions.now 0 (length xs))
+      c.accounts-accounts.ensures.value;
 }
