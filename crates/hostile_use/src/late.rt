@@ -1,5 +1,5 @@
 //! A result that comes when its account has its outcome already, because another of its steps ended for want of memory.
-use crate::memory::{TwoAccounts, words_of_two};
+use crate::memory::{TwoAccounts, words_of_two, words_or_no_batch};
 use sample_files::three_commodities::PARAMS;
 use span_tables::name::Name;
 use statement::faults::SpanFault;
@@ -105,11 +105,7 @@ fn two_accounts<R: Threads + Wait + Clock + Sync + Abort>(
 fn result_after_the_outcome(rt: HostRuntime) -> Result<(), Fail> {
     let alloc = rt.alloc();
     let gate = HeldStep::new();
-    let words = match two_accounts(&rt, alloc, &gate) {
-        Ok(words) => words,
-        Err(SpanFault::Memory) => ("no batch", "no batch"),
-        Err(fault) => return Err(Fail::from(fault)),
-    };
+    let words = words_or_no_batch(two_accounts(&rt, alloc, &gate))?;
     let (first, second) = words;
     let step = if gate.was_held() { "held" } else { "not held" };
     let _ = rt.stdout().println(format_args!("a step of X {step}, X: {first}, Z: {second}"));

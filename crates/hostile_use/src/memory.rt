@@ -6,7 +6,7 @@ ghost use Rattle.span_tables.specs.Holdings.{fits};
 
 use param_check::binding::bind;
 use param_check::check::check;
-use param_check::orders::bind_orders;
+use param_check::orders::{Orders, bind_orders};
 use plan_compiler::set::{CompiledSet, compile};
 use plan_shelf::faults::ShelfFault;
 use plan_shelf::history::{History, ShelfName};
@@ -23,7 +23,8 @@ use span_csv::orders::read_orders;
 use span_csv::params::read_params;
 use span_csv::positions::read_positions;
 use span_tables::name::Name;
-use span_tables::portfolios::Portfolio;
+use span_tables::portfolios::{Portfolio, Portfolios};
+use span_tables::tables::Tables;
 use statement::all_faults::{faults, faults_text};
 use statement::faults::SpanFault;
 use statement::margin::{margin, margin_plain};
@@ -54,19 +55,44 @@ fn was_refused(answer: Result<(), SpanFault>) -> Result<bool, SpanFault> {
     }
 }
 
-// Reading, checking, binding, trying and compiling.
-fn each_stage<R: Abort>(rt: &R, alloc: Global) -> Result<(), SpanFault> {
-    let tables = check(alloc, read_params(alloc, PARAMS)?)?;
+// Reading and binding the positions, of one account.
+fn positions_bound<R: Abort>(
+    rt: &R,
+    alloc: Global,
+    tables: &Tables,
+) -> Result<Portfolios, SpanFault> {
     let positions = read_positions(alloc, POSITIONS)?;
-    let portfolios = bind(alloc, &tables, &positions)?;
+    let portfolios = bind(alloc, tables, &positions)?;
     assert_eq!(rt; portfolios.as_slice().len(), 1);
+    Ok(portfolios)
+}
+
+// Reading and binding two orders, one of that account.
+fn orders_bound(
+    alloc: Global,
+    tables: &Tables,
+    portfolios: Portfolios,
+) -> Result<Orders, SpanFault> {
     let orders = read_orders(alloc, b"BUY,X,FA,1\nBUY,X,FB,1\nBUY,X,FA,2\nNEW,Y,FC,1\n")?;
-    let orders = bind_orders(alloc, &tables, portfolios, &orders)?;
+    let orders = bind_orders(alloc, tables, portfolios, &orders)?;
+    Ok(orders)
+}
+
+// What the accounts hold with an order each.
+fn orders_tried<R: Abort>(rt: &R, alloc: Global, orders: &Orders) -> Result<(), SpanFault> {
     assert_eq!(rt; orders.len(), 2);
     let after = orders
         .portfolios_with(alloc, 0, 2)
         .map_err(|_| SpanFault::Memory)?;
     assert_eq!(rt; after.len(), 2);
+    Ok(())
+}
+
+// Reading and checking the parameters, each stage of positions and of orders under them, and compiling.
+fn each_stage<R: Abort>(rt: &R, alloc: Global) -> Result<(), SpanFault> {
+    let tables = check(alloc, read_params(alloc, PARAMS)?)?;
+    let portfolios = positions_bound(rt, alloc, &tables)?;
+    orders_tried(rt, alloc, &orders_bound(alloc, &tables, portfolios)?)?;
     let set = compile(alloc, tables)?;
     assert_eq!(rt; set.plan().len(), 34);
     Ok(())
@@ -256,6 +282,17 @@ fn words_of(
     }
 }
 
+/// The words for the outcomes of a batch, or for one that was refused memory.
+pub(crate) fn words_or_no_batch(
+    answer: Result<(&'static str, &'static str), SpanFault>,
+) -> Result<(&'static str, &'static str), SpanFault> {
+    match answer {
+        Ok(words) => Ok(words),
+        Err(SpanFault::Memory) => Ok(("no batch", "no batch")),
+        Err(fault) => Err(fault),
+    }
+}
+
 /// What a batch of two accounts gives for each of them.
 pub(crate) fn words_of_two<R: Threads + Wait + Clock + Sync + Abort, G: Gate>(
     rt: &R,
@@ -291,11 +328,7 @@ fn two_accounts<R: Threads + Wait + Clock + Sync + Abort>(
 #[test]
 fn batch_of_two_accounts(rt: HostRuntime) -> Result<(), Fail> {
     let alloc = rt.alloc();
-    let words = match two_accounts(&rt, alloc) {
-        Ok(words) => words,
-        Err(SpanFault::Memory) => ("no batch", "no batch"),
-        Err(fault) => return Err(Fail::from(fault)),
-    };
+    let words = words_or_no_batch(two_accounts(&rt, alloc))?;
     let (first, second) = words;
     let _ = rt.stdout().println(format_args!("Y: {first}, X: {second}"));
     if words != ("a row", "a row") {
@@ -410,8 +443,26 @@ fn publish(rt: HostRuntime) -> Result<(), Fail> {
     Ok(())
 }
 
-// Two statements, or the rows that were put before want of memory. A shelf that cannot be read for want of memory is
-// answered as a shelf without the set.
+// Two statements, or want of memory after the rows that were put before it, which have these totals. A shelf that cannot be read for
+// want of memory is answered as a shelf without the set.
+fn is_roll<R: Abort>(
+    rt: &R,
+    totals: [Option<i128>; 2],
+    answer: Result<Vec<u8>, SpanFault>,
+) -> Result<(), SpanFault> {
+    assert!(rt; totals[0] == Some(1740) || totals == [None, None]);
+    assert!(rt; totals[1] == Some(1840) || totals[1] == None);
+    match answer {
+        Ok(text) => {
+            assert_eq!(rt; text.as_slice(), calendar::BOTH_STATEMENTS);
+            assert!(rt; totals == [Some(1740), Some(1840)]);
+            Ok(())
+        }
+        Err(SpanFault::Shelf) => Err(SpanFault::Memory),
+        Err(fault) => Err(fault),
+    }
+}
+
 fn roll_once<R: Threads + Wait + Clock + Sync + Abort>(
     rt: &R,
     alloc: Global,
@@ -428,18 +479,7 @@ fn roll_once<R: Threads + Wait + Clock + Sync + Abort>(
         &book,
     );
     let book = book.into_inner();
-    let totals = [total_in(&book, 1), total_in(&book, 2)];
-    assert!(rt; totals[0] == Some(1740) || totals == [None, None]);
-    assert!(rt; totals[1] == Some(1840) || totals[1] == None);
-    match answer {
-        Ok(text) => {
-            assert_eq!(rt; text.as_slice(), calendar::BOTH_STATEMENTS);
-            assert!(rt; totals == [Some(1740), Some(1840)]);
-            Ok(())
-        }
-        Err(SpanFault::Shelf) => Err(SpanFault::Memory),
-        Err(fault) => Err(fault),
-    }
+    is_roll(rt, [total_in(&book, 1), total_in(&book, 2)], answer)
 }
 
 #[test]

@@ -111,17 +111,23 @@ fn expect_equal(rt: &impl Abort, one: &Board, other: &Board) {
     assert!(rt; one.total() == other.total() && one.value() == other.value());
 }
 
+// The whole board of a job, whose history is the course that its watch was told.
+fn whole_board(rt: &impl Abort, alloc: Global, job: &Arc<Job>) -> Board {
+    let course = Course::of(alloc, job.set()).expect(rt, "a course");
+    let watch = InOrder::of_takes(rt, alloc, course.events());
+    let hold = Arc::try_clone(job).expect(rt, "a hold on the job");
+    let whole = Board::whole(alloc, hold, &course, &watch).expect(rt, "a whole board");
+    assert!(rt; watch.was_told_all() && whole.history() == course.events());
+    whole
+}
+
 // A whole board of each account, watched, beside one that goes by steps.
 #[test]
 fn whole_boards_beside_boards_by_steps(rt: HostRuntime) {
     let alloc = rt.alloc();
     for (params, positions) in ACCOUNTS {
         let job = job_of(alloc, params, positions).expect(&rt, "a job");
-        let course = Course::of(alloc, job.set()).expect(&rt, "a course");
-        let watch = InOrder::of_takes(&rt, alloc, course.events());
-        let hold = Arc::try_clone(&job).expect(&rt, "a hold on the job");
-        let whole = Board::whole(alloc, hold, &course, &watch).expect(&rt, "a whole board");
-        assert!(rt; watch.was_told_all() && whole.history() == course.events());
+        let whole = whole_board(&rt, alloc, &job);
         expect_equal(&rt, &whole, &run_by_steps(&rt, alloc, &job));
     }
 }

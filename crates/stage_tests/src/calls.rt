@@ -6,9 +6,10 @@ ghost use Rattle.std.specs.Prelude.{◌≡◌, IfOk, length, true};
 use crate::credits::{loaded, two_commodities};
 use inter_credit::credit::credit;
 use inter_credit::spreads::inter_spread;
+use inter_credit::state::InterState;
 use param_check::binding::{bind, bind_positions};
 use param_check::check::check;
-use param_check::orders::bind_orders;
+use param_check::orders::{Orders, bind_orders};
 use sample_files::calendar::{PARAMS, POSITIONS};
 use span_csv::orders::read_orders;
 use span_csv::params::read_params;
@@ -32,6 +33,7 @@ fn calls_succeed(rt: HostRuntime) -> Result<(), Fail> {
     fields(&rt, alloc)?;
     lists(&rt, alloc)?;
     let tables = tables_read(&rt, alloc)?;
+    contracts_bound(&rt, alloc, &tables)?;
     let account = account_read(&rt, alloc, &tables)?;
     orders_read(&rt, alloc, &tables)?;
     let held = held_of(&rt, alloc, &tables, &account)?;
@@ -82,15 +84,28 @@ fn is_calendar(portfolios: &Portfolios) -> bool {
     }
 }
 
-// `span_csv` and `param_check`: the account of a file of two records.
+// `span_csv` and `param_check`: what the one account of a file of two records holds.
+fn portfolios_read(rt: &impl Abort, alloc: Global, tables: &Tables) -> Result<Portfolios, Fail> {
+    let positions = read_positions(alloc, POSITIONS)?;
+    assert_eq!(rt; positions.records().len(), 2);
+    let portfolios = bind(alloc, tables, &positions)?;
+    assert!(rt; is_calendar(&portfolios));
+    Ok(portfolios)
+}
+
+// `param_check`: the same by the contracts alone.
+fn contracts_bound(rt: &impl Abort, alloc: Global, tables: &Tables) -> Result<(), Fail> {
+    let positions = read_positions(alloc, POSITIONS)?;
+    let portfolios = bind_positions(alloc, tables.contracts(), &positions)?;
+    assert!(rt; is_calendar(&portfolios));
+    Ok(())
+}
+
+// The account, which fits the tables.
 fn account_read(rt: &impl Abort, alloc: Global, tables: &Tables) -> Result<Portfolio, Fail>
     ensures { IfOk result (λ account. fits (length tables.now.contracts) account.holdings ≡ true) }
 {
-    let positions = read_positions(alloc, POSITIONS)?;
-    assert_eq!(rt; positions.records().len(), 2);
-    assert!(rt; is_calendar(&bind_positions(alloc, tables.contracts(), &positions)?));
-    let portfolios = bind(alloc, tables, &positions)?;
-    assert!(rt; is_calendar(&portfolios));
+    let portfolios = portfolios_read(rt, alloc, tables)?;
     let account = portfolios.into_vec().pop().ok_or("an account")?;
     assert!(rt; account.fits(tables));
     Ok(account)
@@ -105,14 +120,27 @@ fn holds(account: &Portfolio, contract: usize, net: i64) -> bool {
 }
 
 // `span_csv` and `param_check`: an order that closes the short contract and sells one of the other, and one of a new account.
-fn orders_read(rt: &impl Abort, alloc: Global, tables: &Tables) -> Result<(), Fail> {
-    let positions = read_positions(alloc, POSITIONS)?;
-    let portfolios = bind(alloc, tables, &positions)?;
+fn orders_bound(rt: &impl Abort, alloc: Global, tables: &Tables) -> Result<Orders, Fail> {
+    let portfolios = portfolios_read(rt, alloc, tables)?;
     let raw = read_orders(alloc, b"CLOSE,X,FA2,2\nOPEN,Y,FA,4\nCLOSE,X,FA,-1\n")?;
     let orders = bind_orders(alloc, tables, portfolios, &raw)?;
+    Ok(orders)
+}
+
+// Whether the first of two orders is of the one account that holds something, and the second is of none.
+fn are_close_and_open(orders: &Orders) -> bool
+    requires { length orders.now.orders ≡ 2 }
+{
+    orders.name(0).as_bytes() == b"CLOSE".as_slice()
+        && orders.place(0) == Some(0)
+        && orders.place(1).is_none()
+}
+
+// `param_check`: what such orders tell, and what is held with each.
+fn orders_read(rt: &impl Abort, alloc: Global, tables: &Tables) -> Result<(), Fail> {
+    let orders = orders_bound(rt, alloc, tables)?;
     assert_eq!(rt; orders.len(), 2);
-    assert_eq!(rt; orders.name(0).as_bytes(), b"CLOSE".as_slice());
-    assert_eq!(rt; (orders.place(0), orders.place(1)), (Some(0), None));
+    assert!(rt; are_close_and_open(&orders));
     let after = orders.portfolios_with(alloc, 0, 2)?;
     assert_eq!(rt; after.len(), 2);
     assert!(rt; holds(&after[0], 0, 2) && holds(&after[1], 0, 4));
@@ -174,18 +202,30 @@ fn spreads_of_months(
 }
 
 // `inter_credit`: one spread of one against one, of a price risk doubled of 2400 and of 3600, at half of them.
-fn spreads_of_commodities(rt: &impl Abort, alloc: Global) -> Result<(), Fail> {
-    let tables = two_commodities(rt, alloc)?;
+fn spread_once(alloc: Global, tables: &Tables) -> Result<InterState, Fail>
+    requires { length tables.now.commodities ≡ 2 }
+{
     let inter = tables.inters().first().ok_or("a spread")?;
     let state = loaded(alloc, (100_000_000, 2400), (-200_000_000, 3600))?;
     let state = state.copied(alloc)?;
     let state = inter_spread(alloc, &state, inter)?;
-    assert_eq!(rt; state.len(), 2);
+    Ok(state)
+}
+
+// Whether two commodities have the rests and the credits of that spread.
+fn are_spread_once(state: &InterState) -> bool
+    requires { length state.now ≡ 2 }
+{
     let rests = (state.states()[0].rest.get(), state.states()[1].rest.get());
-    assert_eq!(rt; rests, (0, -100_000_000));
-    assert_eq!(rt;
-        (credit(&state, 0).get(), credit(&state, 1).get()),
-        (600, 450)
-    );
+    let credits = (credit(state, 0).get(), credit(state, 1).get());
+    rests == (0, -100_000_000) && credits == (600, 450)
+}
+
+// What such a spread leaves, and what it earns.
+fn spreads_of_commodities(rt: &impl Abort, alloc: Global) -> Result<(), Fail> {
+    let tables = two_commodities(rt, alloc)?;
+    let state = spread_once(alloc, &tables)?;
+    assert_eq!(rt; state.len(), 2);
+    assert!(rt; are_spread_once(&state));
     Ok(())
 }
