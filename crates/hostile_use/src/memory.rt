@@ -88,11 +88,17 @@ fn orders_tried<R: Abort>(rt: &R, alloc: Global, orders: &Orders) -> Result<(), 
     Ok(())
 }
 
-// Reading and checking the parameters, each stage of positions and of orders under them, and compiling.
+// Each stage of positions and of orders under these tables.
+fn under_tables<R: Abort>(rt: &R, alloc: Global, tables: &Tables) -> Result<(), SpanFault> {
+    let portfolios = positions_bound(rt, alloc, tables)?;
+    let orders = orders_bound(alloc, tables, portfolios)?;
+    orders_tried(rt, alloc, &orders)
+}
+
+// Reading and checking the parameters, what comes under them, and compiling.
 fn each_stage<R: Abort>(rt: &R, alloc: Global) -> Result<(), SpanFault> {
     let tables = check(alloc, read_params(alloc, PARAMS)?)?;
-    let portfolios = positions_bound(rt, alloc, &tables)?;
-    orders_tried(rt, alloc, &orders_bound(alloc, &tables, portfolios)?)?;
+    under_tables(rt, alloc, &tables)?;
     let set = compile(alloc, tables)?;
     assert_eq!(rt; set.plan().len(), 34);
     Ok(())

@@ -36,6 +36,7 @@ fn calls_succeed(rt: HostRuntime) -> Result<(), Fail> {
     contracts_bound(&rt, alloc, &tables)?;
     let account = account_read(&rt, alloc, &tables)?;
     orders_read(&rt, alloc, &tables)?;
+    lists_held(&rt, alloc, &tables, &account)?;
     let held = held_of(&rt, alloc, &tables, &account)?;
     spreads_of_months(&rt, alloc, &tables, &held)?;
     spreads_of_commodities(&rt, alloc)
@@ -147,6 +148,24 @@ fn orders_read(rt: &impl Abort, alloc: Global, tables: &Tables) -> Result<(), Fa
     Ok(())
 }
 
+// `span_tables`: what is held of all commodities, and of those of which something is held.
+fn lists_held(
+    rt: &impl Abort,
+    alloc: Global,
+    tables: &Tables,
+    account: &Portfolio,
+) -> Result<(), AllocError>
+    requires { fits (length tables.now.contracts) account.now.holdings ≡ true }
+{
+    let all = gather_all(alloc, tables, account)?;
+    assert_eq!(rt; all.len(), 1);
+    assert_eq!(rt; all[0].len(), 2);
+    let list = gather_held(alloc, tables, account)?;
+    assert_eq!(rt; list.len(), 1);
+    assert_eq!(rt; (list[0].commodity, list[0].held.len()), (0, 2));
+    Ok(())
+}
+
 // `span_tables`: what is held of the one commodity, and nothing.
 fn held_of(
     rt: &impl Abort,
@@ -158,12 +177,6 @@ fn held_of(
 {
     assert!(rt; Held::none(alloc, tables)?.is_empty());
     assert_eq!(rt; tables.commodities().len(), 1);
-    let all = gather_all(alloc, tables, account)?;
-    assert_eq!(rt; all.len(), 1);
-    assert_eq!(rt; all[0].len(), 2);
-    let list = gather_held(alloc, tables, account)?;
-    assert_eq!(rt; list.len(), 1);
-    assert_eq!(rt; (list[0].commodity, list[0].held.len()), (0, 2));
     let held = gather(alloc, tables, account, 0)?;
     assert_eq!(rt; held.len(), 2);
     assert_eq!(rt; (held.net(0), held.net(1)), (3, -2));
