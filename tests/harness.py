@@ -1,0 +1,110 @@
+"""What the test suites in Python share: counting checks, running commands, and small disks.
+
+A suite is a script `tests/NAME PROGRAM`. It makes one `Suite`, runs its tests with `Suite.test`, and ends with
+`sys.exit(suite.result())`, which prints `N passed, M failed` as the last line.
+"""
+import contextlib
+import os
+import pathlib
+import shutil
+import subprocess
+import sys
+import tempfile
+import traceback
+from typing import NamedTuple
+
+ROOT = pathlib.Path(__file__).resolve().parent.parent
+TIMEOUT = 120  # seconds that one command may take
+
+
+class Answer(NamedTuple):
+    """The exit status of a command and what it printed. A signal N gives the status -N."""
+
+    status: int
+    stdout: bytes
+    stderr: bytes
+
+
+class Skipped(Exception):
+    """Raised by a test that cannot run on this machine. Its text says what is missing."""
+
+
+class Suite:
+    """Counts the checks of a suite and prints each one that fails."""
+
+    def __init__(self):
+        self.passed, self.failed, self.skipped = 0, 0, 0
+
+    def check(self, name, holds, found=""):
+        """Counts one check. `found` is printed if it does not hold."""
+        if holds:
+            self.passed += 1
+        else:
+            self.failed += 1
+            print(f"FAILED: {name}" + (f": {found}" if found != "" else ""), flush=True)
+
+    def equal(self, name, found, expected):
+        """Checks that two values are equal, and prints both if they are not."""
+        self.check(name, found == expected, f"{shown(found)}, expected {shown(expected)}")
+
+    def test(self, function, *arguments):
+        """Runs one test. An exception that leaves it is one failed check, and `Skipped` is counted apart."""
+        try:
+            function(self, *arguments)
+        except Skipped as reason:
+            self.skipped += 1
+            print(f"SKIPPED: {function.__name__}: {reason}", flush=True)
+        except Exception as error:  # a test that breaks off must not end the suite
+            line = traceback.extract_tb(error.__traceback__)[-1].lineno
+            self.check(function.__name__, False, f"line {line}: {type(error).__name__}: {error}")
+
+    def result(self):
+        """Prints the last line and returns the exit status of the suite."""
+        if self.skipped:
+            print(f"{self.skipped} skipped")
+        print(f"{self.passed} passed, {self.failed} failed")
+        return 1 if self.failed or not self.passed else 0
+
+
+def shown(value):
+    """A value in printed form, shortened to 400 characters."""
+    text = repr(value)
+    return text if len(text) <= 400 else text[:200] + " .. " + text[-200:]
+
+
+def program_of(arguments):
+    """The path of PROGRAM, the first argument of a suite. Ends the suite with status 2 if it is not a program."""
+    if len(arguments) < 2 or not os.path.isfile(arguments[1]) or not os.access(arguments[1], os.X_OK):
+        print(f"usage: tests/{os.path.basename(arguments[0])} PROGRAM, a built program", file=sys.stderr)
+        sys.exit(2)
+    return pathlib.Path(arguments[1]).resolve()
+
+
+def run(command, given=b"", timeout=TIMEOUT, **options):
+    """Runs a command to its end, with `given` on its standard input. `options` are those of `subprocess.run`."""
+    options.setdefault("stdout", subprocess.PIPE)
+    options.setdefault("stderr", subprocess.PIPE)
+    if "stdin" not in options:
+        options["input"] = given
+    done = subprocess.run([os.fspath(word) for word in command], timeout=timeout, check=False, **options)
+    return Answer(done.returncode, done.stdout or b"", done.stderr or b"")
+
+
+def needs(*commands):
+    """Skips the test if one of these commands is missing."""
+    for command in commands:
+        if not shutil.which(command):
+            raise Skipped(f"there is no {command}")
+
+
+@contextlib.contextmanager
+def small_disk(size):
+    """A directory on a file system of its own with `size` bytes. Skips the test if none can be mounted."""
+    needs("mount", "umount")
+    with tempfile.TemporaryDirectory() as place:
+        if run(["mount", "-t", "tmpfs", "-o", f"size={size}", "tmpfs", place]).status != 0:
+            raise Skipped("no tmpfs can be mounted, which usually takes root")
+        try:
+            yield pathlib.Path(place)
+        finally:
+            run(["umount", place])
