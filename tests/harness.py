@@ -81,7 +81,7 @@ def program_of(arguments):
 
 
 def run(command, given=b"", timeout=TIMEOUT, **options):
-    """Runs a command to its end, with `given` on its standard input. `options` are those of `subprocess.run`."""
+    """Runs a command to its end, with `given` on its standard input and the other options of `subprocess.run`."""
     options.setdefault("stdout", subprocess.PIPE)
     options.setdefault("stderr", subprocess.PIPE)
     if "stdin" not in options:
