@@ -8,10 +8,11 @@ use Rattle.std.specs.List.{list_all, repeat}
 use Rattle.std.specs.Option.{option_map_or}
 use Rattle.std.proofs.Math.Nat.{suc-mul}
 use Rattle.std.proofs.lemmas.List.{get_or_past}
-use Rattle.std.proofs.lemmas.Bool.{and_parts, and_from, leb-true, le-leb, eqb-true, ne_eqb}
+use Rattle.std.proofs.lemmas.Bool.{and_parts, and_from, leb-true, le-leb, eqb-true, ne_eqb, not-false}
 use Rattle.span_money.specs.Numbers.{positive_part, whole_number, month_number, are_digits, digits_value, is_month}
 use Rattle.span_tables.specs.near.Limits.{lies_within}
-use Rattle.span_csv.specs.Records.{Fields, count_at, text_at, all_have, is_within, is_in_range}
+use Rattle.span_csv.specs.ParamFaults.{some_fail}
+use Rattle.span_csv.specs.Records.{Fields, count_at, layout_of, text_at, all_have, is_within, is_in_range}
 use Rattle.span_csv.specs.declared.grammar.FieldForm.{FieldForm}
 use Rattle.span_csv.specs.declared.grammar.FieldForm.TheVariants as form
 
@@ -76,6 +77,14 @@ pub month_within : (text : List ℕ) → is_in_range form.Month text ≡ true
 month_within text h = month_from text (month_number text) refl h
 
 -- ---- fields
+
+-- no field fails a test where some_fail does not hold
+pub all_pass : (test : FieldForm → List ℕ → Bool) (profile : ℕ) (word : List ℕ) (fields : Fields) (forms : List FieldForm)
+    → layout_of profile (word ∷ fields) ≡ Some forms
+    → some_fail test profile (word ∷ fields) ≡ false → all_have test forms fields ≡ true
+all_pass test profile word fields forms found e =
+    let h = rw found at e in
+    not-false (all_have test forms fields) h
 
 -- each field passes the test of its form
 pub passes_at : (test : FieldForm → List ℕ → Bool) (forms : List FieldForm) (fields : Fields) (i : ℕ) (f : FieldForm)

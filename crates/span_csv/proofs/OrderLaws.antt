@@ -10,7 +10,7 @@ use Rattle.span_tables.specs.Faults.{first_that_holds}
 use Rattle.span_tables.specs.Laws.{IsFaultFree}
 use Rattle.span_tables.specs.Orders.{account_of_order}
 use Rattle.span_tables.specs.declared.records.OrderRecord.{OrderRecord}
-use Rattle.span_tables.proofs.FaultLaws.{first_fault_none}
+use Rattle.span_tables.proofs.FaultLaws.{first_fault_none, ok_parts}
 use Rattle.span_tables.proofs.NameLemmas.{same_name}
 use Rattle.span_tables.proofs.Places as places
 use Rattle.span_csv.specs.OrderFaults.{order_fault, order_faults, orders_of}
@@ -19,7 +19,6 @@ use Rattle.span_csv.specs.near.OrderReading.{has_another_account}
 use Rattle.span_csv.specs.declared.faults.OrderFault.{OrderFault}
 use Rattle.span_csv.proofs.LowestLaws.{all_fail}
 use Rattle.span_csv.proofs.OrderLemmas.{record_changes}
-use Rattle.span_csv.proofs.ReadableLaws.{ok_parts}
 
 -- a record whose order has no other account has that of its order's first record
 of_first : (earlier : List OrderRecord) (r : OrderRecord) (later : List OrderRecord)

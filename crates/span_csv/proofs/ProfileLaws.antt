@@ -13,15 +13,14 @@ use Rattle.span_tables.specs.Tables.{profile_in}
 use Rattle.span_tables.specs.declared.records.Contract.{Contract}
 use Rattle.span_tables.specs.declared.records.ProductKind.{ProductKind}
 use Rattle.span_tables.specs.declared.records.Record.{Record}
-use Rattle.span_tables.proofs.FaultLaws.{first_fault_none}
+use Rattle.span_tables.proofs.FaultLaws.{first_fault_none, ok_parts}
 use Rattle.span_csv.specs.ParamFaults.{faults_in, is_set, param_faults, params_of, profile_of, record_fault}
 use Rattle.span_csv.specs.Records.{Fields, a_version, all_have, contract_back, contract_record}
 use Rattle.span_csv.specs.Records.{count_at, exactly, extras_place, is_in_range, kind_of}
 use Rattle.span_csv.specs.Records.{layout_of, param_record, product_at, record_of_kind, records_of, set_forms, text_at}
 use Rattle.span_csv.proofs.CountLemmas.{IsClean, clean, clean_kind, param_record-kind, some_of, word_named}
-use Rattle.span_csv.proofs.FormLemmas.{count_past, passes_at}
+use Rattle.span_csv.proofs.FormLemmas.{all_pass, count_past, passes_at}
 use Rattle.span_csv.proofs.RangeLemmas.{contract_with, exact}
-use Rattle.span_csv.proofs.ReadableLaws.{all_pass, ok_parts}
 use Rattle.span_csv.specs.declared.grammar.FieldForm.{FieldForm}
 use Rattle.span_csv.specs.declared.grammar.Kind.{Kind}
 use Rattle.span_csv.specs.declared.grammar.Kind.TheVariants as kind

@@ -1,40 +1,37 @@
 -- The records of a parameter file without a fault are in their ranges, and no more of a kind than there may be.
 use Rattle.std.proofs.Common.{◌≡◌, ◌∙◌, refl, sym, ap, subst, arith, ℕ, ◌-◌, ◌<◌, Bool, true, false, not}
-use Rattle.std.proofs.Common.{◌&&◌, ◌==◌, List, [], ◌∷◌, ◌++◌, length, length-append, map, Option, Some, None, Ok}
-use Rattle.std.specs.Prelude.{nat_le, count_by, filter_map, is_some, bytes_eq}
+use Rattle.std.proofs.Common.{◌&&◌, ◌||◌, ◌==◌, List, [], ◌∷◌, ◌++◌, length, length-append, map, Option, Some, None, Ok}
+use Rattle.std.specs.Prelude.{All, nat_le, count_by, filter_map, is_some, bytes_eq}
 use Rattle.std.specs.List.{list_all}
-use Rattle.std.proofs.lemmas.Bool.{and_parts, and_from, le-leb, ne_eqb, not-false, both_ways}
+use Rattle.std.proofs.lemmas.Bool.{and_parts, and_from, eq-eqb, le-leb, ne_eqb, not-false, both_ways}
+use Rattle.std.proofs.lemmas.List.Elements.{All-head, All-tail}
 use Rattle.std.proofs.lemmas.List.Sums.{sum_by-cons}
-use Rattle.span_tables.specs.Faults.{first_of, ok_unless}
+use Rattle.span_tables.specs.Faults.{first_of}
 use Rattle.span_tables.specs.Laws.{IsFaultFree}
-use Rattle.span_tables.specs.Rules.{as_set, as_commodity, as_contract, as_tier, as_intra, as_spot, as_inter}
-use Rattle.span_tables.specs.near.Limits.{in_range, at_most_each, keeps_counts, is_readable}
+use Rattle.span_tables.specs.Profiles.{facts_of}
+use Rattle.span_tables.specs.Rules.{as_set, as_commodity, as_contract, as_tier, as_intra, as_spot, as_inter, contracts_in}
+use Rattle.span_tables.specs.near.Limits.{in_range, at_most_each, keeps_counts, keeps_profile, is_readable}
+use Rattle.span_tables.specs.Tables.{profile_in}
 use Rattle.span_tables.specs.declared.limits.TheConstants.{MAX_COMMODITIES, MAX_CONTRACTS, MAX_TIERS}
 use Rattle.span_tables.specs.declared.limits.TheConstants.{MAX_INTRA_SPREADS, MAX_SPOT_MONTHS, MAX_INTER_SPREADS}
+use Rattle.span_tables.specs.declared.records.Contract.{Contract}
 use Rattle.span_tables.specs.declared.records.Record.{Record}
-use Rattle.span_tables.proofs.FaultLaws.{first_fault_none}
+use Rattle.span_tables.proofs.FaultLaws.{first_fault_none, ok_parts}
 use Rattle.span_tables.proofs.NameLemmas.{same_name}
 use Rattle.span_csv.specs.Records.{Fields}
-use Rattle.span_csv.specs.Records.{records_of, all_have, has_word_form, is_in_range}
+use Rattle.span_csv.specs.Records.{records_of, has_word_form, is_in_range}
 use Rattle.span_csv.specs.Records.{forms_of, kind_of, layout_of, product_at, text_at, record_of_kind, param_record}
-use Rattle.span_csv.specs.ParamFaults.{is_set, profile_of, some_fail, exceeds_limit, count_of_kind, count_of_commodity}
+use Rattle.span_csv.specs.ParamFaults.{is_set, profile_of, exceeds_limit, count_of_kind, count_of_commodity}
 use Rattle.span_csv.specs.ParamFaults.{counted, faults_in, param_faults, params_of, record_fault}
+use Rattle.span_csv.proofs.FormLemmas.{all_pass}
+use Rattle.span_csv.proofs.ProfileLaws.{params_values}
 use Rattle.span_csv.proofs.RangeLemmas.{kept}
 use Rattle.span_csv.proofs.CountLemmas.{IsClean, clean, clean_kind, param_record-kind, has_kind, word_of}
 use Rattle.span_csv.proofs.CountLemmas.{named_word, some_of, word_named, IsPicked, count_picked, never_more}
-use Rattle.span_csv.specs.declared.grammar.FieldForm.{FieldForm}
 use Rattle.span_csv.specs.declared.grammar.Kind.{Kind}
 use Rattle.span_csv.specs.declared.grammar.Kind.TheVariants as kind
 
 -- ---- ranges
-
--- no field fails a test where some_fail does not hold
-pub all_pass : (test : FieldForm → List ℕ → Bool) (profile : ℕ) (word : List ℕ) (fields : Fields) (forms : List FieldForm)
-    → layout_of profile (word ∷ fields) ≡ Some forms
-    → some_fail test profile (word ∷ fields) ≡ false → all_have test forms fields ≡ true
-all_pass test profile word fields forms found e =
-    let h = rw found at e in
-    not-false (all_have test forms fields) h
 
 -- a record without a fault is in its ranges
 clean_in_range : (earlier : List Fields) (r : Fields) → IsClean earlier r → in_range (param_record r) ≡ true
@@ -197,30 +194,48 @@ counts_kept rows free =
     (few_of_each kind.Intra MAX_INTRA_SPREADS as_intra (λ s. s.commodity) (λ earlier r. refl) intra_picked rows free))
     (few_of_each kind.Spot MAX_SPOT_MONTHS as_spot (λ s. s.commodity) (λ earlier r. refl) spot_picked rows free)
 
+-- ---- option values
+
+all_zero : (xs : List Contract) → All (λ x. x.extras.option_value ≡ 0) xs → list_all (λ x. x.extras.option_value == 0) xs ≡ true
+all_zero [] all = refl
+all_zero (x ∷ xs) all =
+    and_from _ _ (eq-eqb x.extras.option_value 0 (All-head (λ (y : Contract). y.extras.option_value ≡ 0) x xs all))
+    (all_zero xs (All-tail (λ (y : Contract). y.extras.option_value ≡ 0) x xs all))
+
+value_or : (has : Bool) (xs : List Contract) → (has ≡ false → All (λ x. x.extras.option_value ≡ 0) xs)
+    → (has || list_all (λ x. x.extras.option_value == 0) xs) ≡ true
+value_or true xs zero = refl
+value_or false xs zero = all_zero xs (zero refl)
+
+profile_kept : (rs : List Record)
+    → ((facts_of (profile_in rs)).options_have_value ≡ false → All (λ x. x.extras.option_value ≡ 0) (contracts_in rs))
+    → keeps_profile rs ≡ true
+profile_kept rs zero = value_or (facts_of (profile_in rs)).options_have_value (contracts_in rs) zero
+
 -- ---- all
 
 free_readable : (r : Fields) (rows : List Fields) → IsFaultFree record_fault [] (r ∷ rows)
-    → is_readable (map param_record (r ∷ rows)) ≡ true
+    → keeps_profile (map param_record (r ∷ rows)) ≡ true → is_readable (map param_record (r ∷ rows)) ≡ true
 unfolding is_readable
-free_readable r rows free =
+free_readable r rows free profile =
     and_from _ _
+    (and_from _ _
     (and_from _ _
     (and_from _ _ (first_set r (clean [] r free.0)) (no_more_sets (r ∷ []) rows (omega arith) free.1))
     (all_in_range [] (r ∷ rows) free))
-    (counts_kept (r ∷ rows) free)
+    (counts_kept (r ∷ rows) free))
+    profile
 
-rows_readable : (rows : List Fields) → first_of (faults_in rows) ≡ None → is_readable (map param_record rows) ≡ true
+rows_readable : (rows : List Fields) → first_of (faults_in rows) ≡ None → keeps_profile (map param_record rows) ≡ true
+    → is_readable (map param_record rows) ≡ true
 unfolding faults_in
-rows_readable [] e = cc
-rows_readable (r ∷ rows) e = free_readable r rows (first_fault_none record_fault [] (r ∷ rows) e)
-
-pub ok_parts : {A F : Type 0} (o : Option F) (x y : A) → ok_unless o x ≡ Ok y → (o ≡ None) × (x ≡ y)
-ok_parts None x y e = (refl, cc)
-ok_parts (Some f) x y e = cc
+rows_readable [] e profile = cc
+rows_readable (r ∷ rows) e profile = free_readable r rows (first_fault_none record_fault [] (r ∷ rows) e) profile
 
 -- the records of a parameter file without a fault are readable
 pub params_readable : (bytes : List ℕ) (records : List Record) → params_of bytes ≡ Ok records → is_readable records ≡ true
 unfolding params_of param_faults
 params_readable bytes records e =
     let parts = ok_parts (first_of (faults_in (records_of bytes))) (map param_record (records_of bytes)) records e in
-    subst (λ rs. is_readable rs ≡ true) parts.1 (rows_readable (records_of bytes) parts.0)
+    let profile = profile_kept records (params_values bytes records e) in
+    subst (λ rs. keeps_profile rs ≡ true → is_readable rs ≡ true) parts.1 (rows_readable (records_of bytes) parts.0) profile

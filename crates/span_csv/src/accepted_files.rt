@@ -4,8 +4,8 @@ ghost use Rattle.span_csv.specs.ParamFaults.{params_of};
 ghost use Rattle.span_tables.specs.near.Limits.{is_readable};
 ghost use Rattle.span_tables.specs.declared.records.Record.{Record};
 
-/// The records of a parameter file without a fault begin with its one SET, are in their ranges, and are no more of a
-/// kind than there may be.
+/// The records of a parameter file without a fault begin with its one SET, are in their ranges, are no more of a kind
+/// than there may be, and have option values only under a profile that has them.
 #[tactic(auto, using(crate::proofs::ReadableLaws::params_readable))]
 pub fn accepted_files_are_readable()
     ensures { (bytes : List ℕ) (records : List Record) → params_of bytes ≡ Ok records

@@ -1,12 +1,17 @@
 -- The answer of `first_fault` is that of the first element with a fault, and `all_faults` tells the fault of each element that has one.
-use Rattle.std.proofs.Common.{◌≡◌, ℕ, ◌+◌, ◌<◌, List, [], ◌∷◌, ◌++◌, length, Option, Some, None, refl, sym, ap, ◌∙◌, subst, arith}
+use Rattle.std.proofs.Common.{◌≡◌, ℕ, ◌+◌, ◌<◌, List, [], ◌∷◌, ◌++◌, length, Option, Some, None, Ok, refl, sym, ap, ◌∙◌, subst, arith}
 use Rattle.std.proofs.lemmas.List.{append_assoc, append-nil, length-append}
 use Rattle.std.proofs.lemmas.List.Elements.{Contains-append_left, Contains-append_right}
 use Rattle.std.specs.Prelude.{Contains, option_map}
 use Rattle.std.specs.List.{AllByRecursion}
 use Rattle.std.specs.Option.{option_or, option_to_list}
-use Rattle.span_tables.specs.Faults.{faults_after, first_fault_after, first_of}
+use Rattle.span_tables.specs.Faults.{faults_after, first_fault_after, first_of, ok_unless}
 use Rattle.span_tables.specs.Laws.{IsFaultFree, IsFaultOfSome, IsFirstFault, IsStrictlyRisingBy}
+
+-- what is given where there is no fault
+pub ok_parts : {A F : Type 0} (o : Option F) (x y : A) → ok_unless o x ≡ Ok y → (o ≡ None) × (x ≡ y)
+ok_parts None x y e = (refl, cc)
+ok_parts (Some f) x y e = cc
 
 -- the first of two lists' faults is that of the first list, if it has one
 pub first_of_both : {F : Type 0} (xs ys : List F) → first_of (xs ++ ys) ≡ option_or (first_of xs) (first_of ys)

@@ -42,7 +42,7 @@ pub record IsReadable (rs : List Record) : Type 0 where
 pub readable : (rs : List Record) → is_readable rs ≡ true → IsReadable rs
 unfolding is_readable
 readable rs e =
-    let parts = all_true _ _ _ e in
+    let parts = all_true _ _ _ (and_true _ _ e).0 in
     let by_commodity = all_true _ _ _ parts.2 in
     let counts = all_true _ _ _ (and_true _ _ by_commodity.0).0 in
     record {

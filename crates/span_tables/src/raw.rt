@@ -33,7 +33,8 @@ impl Model for RawTables {
 }
 
 impl RawTables {
-    /// The records of a file, each in its ranges and no more of a kind than there may be.
+    /// The records of a file, each in its ranges, no more of a kind than there may be, and with option values only under
+    /// a profile that has them.
     pub fn new(records: Vec<Record>) -> RawTables
         requires { is_readable records.items ≡ true }
         ensures { result ≡ records.items }

@@ -11,7 +11,7 @@ use Rattle.span_money.specs.Numbers.{int_sum_by}
 use Rattle.span_csv.specs.ParamFaults.{params_of}
 use Rattle.span_csv.specs.declared.faults.ParamFault.{ParamFault}
 use Rattle.span_csv.proofs.ProfileLaws.{params_values}
-use Rattle.span_csv.proofs.ReadableLaws.{ok_parts}
+use Rattle.span_tables.proofs.FaultLaws.{ok_parts}
 use Rattle.span_tables.proofs.SumLaws.{int_sum_by-cons}
 use Rattle.span_tables.specs.Net.{HeldContract, held_contracts, held_of}
 use Rattle.span_tables.specs.Profiles.{facts_of}

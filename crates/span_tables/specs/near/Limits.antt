@@ -1,5 +1,5 @@
--- What the records of a parameter file without a fault keep: their ranges and their numbers.
-use Rattle.std.specs.Prelude.{ℕ, Bool, false, not, ◌&&◌, ◌==◌, nat_le, List, []}
+-- What the records of a parameter file without a fault keep: their ranges, their numbers, and what their set's profile has.
+use Rattle.std.specs.Prelude.{ℕ, Bool, false, not, ◌&&◌, ◌||◌, ◌==◌, nat_le, List, []}
 use Rattle.std.specs.Prelude.{◌∷◌, length, count_by, is_some, bytes_eq, nat_abs}
 use Rattle.std.specs.List.{list_all}
 use Rattle.span_tables.specs.Names.{is_name}
@@ -21,7 +21,8 @@ use Rattle.span_tables.specs.declared.limits.TheConstants.{MAX_TIER_NUMBER, MAX_
 use Rattle.span_tables.specs.declared.limits.TheConstants.{MAX_LEGS, SCENARIOS, MAX_PROFILE}
 use Rattle.span_tables.specs.declared.records.ProductKind.{ProductKind}
 use Rattle.span_tables.specs.declared.records.SetRecord.{SetRecord}
-use Rattle.span_tables.specs.Tables.{most_option_value}
+use Rattle.span_tables.specs.Profiles.{facts_of}
+use Rattle.span_tables.specs.Tables.{most_option_value, profile_in}
 
 -- n lies from low to high
 abbrev pub lies_within : ℕ → ℕ → ℕ → Bool
@@ -115,6 +116,12 @@ keeps_counts rs =
     && at_most_each MAX_INTRA_SPREADS (λ s. s.commodity) (intras_in rs)
     && at_most_each MAX_SPOT_MONTHS (λ s. s.commodity) (spots_in rs)
 
+-- ---- what their profile has
+
+-- contracts have an option value only under a profile whose options have one: under another each is 0
+abbrev pub keeps_profile : List Record → Bool
+keeps_profile rs = (facts_of (profile_in rs)).options_have_value || list_all (λ x. x.extras.option_value == 0) (contracts_in rs)
+
 -- the records are such as a parameter file without a fault has
 unfoldable pub is_readable : List Record → Bool
-is_readable rs = begins_with_set rs && list_all in_range rs && keeps_counts rs
+is_readable rs = begins_with_set rs && list_all in_range rs && keeps_counts rs && keeps_profile rs
