@@ -10,7 +10,7 @@ use Rattle.span_tables.specs.Accepted.{IsInter}
 use Rattle.span_tables.specs.Holdings.{AreHeld}
 use Rattle.span_tables.specs.Net.{HeldContract}
 use Rattle.span_tables.specs.Sides.{IsLeftOf}
-use Rattle.span_tables.specs.declared.limits.TheConstants.{MAX_BASIS_POINTS, MAX_HELD, MAX_NET, MAX_PRICE2, MAX_RATE}
+use Rattle.span_tables.specs.declared.limits.TheConstants.{MAX_BASIS_POINTS, MAX_HELD, MAX_NET, MAX_PRICE2, MAX_RATE, MAX_UNITS}
 use Rattle.span_tables.specs.declared.records.Inter.{Inter}
 use Rattle.span_tables.specs.declared.records.MinimumMethod.{MinimumMethod}
 use Rattle.span_tables.specs.declared.records.MinimumMethod.TheVariants as method
@@ -159,6 +159,18 @@ length-after_inter_spreads (s ∷ spreads) states =
     length-after_inter_spreads spreads (inter_both_ways states s) ∙ length-inter_both_ways states s
 
 -- ---- the credit
+
+-- the product that a credit is divided from fits a signed number of 128 bits
+pub product_small : (state : CommodityState) → IsCommodityState state → state.price2 * state.weight < 2 ^ 127
+product_small state is =
+    let weight : state.weight ≤ MAX_BASIS_POINTS * MAX_UNITS = omega (arith, is.weight, is.net) in
+    let most : state.price2 * state.weight ≤ MAX_PRICE2 * (MAX_BASIS_POINTS * MAX_UNITS) = mul-le-mul is.price2 weight in
+    omega (arith, most)
+
+-- that of the commodity of a number
+pub products_small : (states : List CommodityState) (k : ℕ) → All IsCommodityState states
+    → (state_at states k).price2 * (state_at states k).weight < 2 ^ 127
+products_small states k all = product_small (state_at states k) (each_state states all k)
 
 -- twice a quotient by twice the divisor
 half : (g n price2 weight : ℕ) → n ≢ 0 → g * (2 * 10 ^ 4 * n) ≤ price2 * weight → weight ≤ 10 ^ 4 * n → 2 * g ≤ price2

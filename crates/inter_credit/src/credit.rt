@@ -1,6 +1,6 @@
 //! The credit of a commodity (docs/METHOD.md, Intercommodity spreads).
-ghost use Rattle.std.specs.Prelude.{◌≡◌, ◌<◌, ◌≤◌, ◌*◌, length, pos, nat_abs};
-ghost use Rattle.inter_credit.specs.Credits.{credit_of, credit_at};
+ghost use Rattle.std.specs.Prelude.{◌≡◌, ◌<◌, ◌≤◌, ◌*◌, ◌^◌, length, pos, nat_abs};
+ghost use Rattle.inter_credit.specs.Credits.{credit_of, credit_at, state_at};
 ghost use Rattle.inter_credit.specs.near.CommodityStates.{IsCommodityState};
 ghost use Rattle.span_tables.specs.declared.limits.TheConstants.{MAX_PRICE2};
 
@@ -14,9 +14,11 @@ const WHOLE: u128 = 10_000;
 const DOUBLED_WHOLE: u128 = 2 * WHOLE;
 
 // Price risk doubled times the weight, in minor units times 10^-8 deltas times basis points.
+#[tactic(auto, using(crate::proofs::BoundLaws::product_small))]
 fn product(state: &CommodityState) -> u128
     requires { IsCommodityState state.now }
-    ensures { result ≡ state.now.price2 * state.now.weight }
+    ensures value { result ≡ state.now.price2 * state.now.weight }
+    ensures bound { result < 2 ^ 127 }
 {
     u128::from(state.price2) * state.weight
 }
@@ -36,10 +38,13 @@ fn credit_of(state: &CommodityState) -> u128
 }
 
 /// The intercommodity credit of the commodity of a number, in minor units, rounded down once; 0 where its net delta is 0.
+/// The product that is divided, of price risk doubled and weight, fits a signed number of 128 bits.
+#[tactic(auto, using(crate::proofs::BoundLaws::products_small))]
 pub fn credit(state: &InterState, commodity: usize) -> Money
     requires { commodity < length state.now }
     ensures value { result ≡ pos (credit_at state.now commodity) }
     ensures bound { 2 * nat_abs result ≤ MAX_PRICE2 }
+    ensures product { (state_at state.now commodity).price2 * (state_at state.now commodity).weight < 2 ^ 127 }
 {
     Money::new(credit_of(&state.states()[commodity]) as i128)
 }
