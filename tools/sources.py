@@ -1,4 +1,4 @@
-"""What the tools read: the crates, and the items of files of definitions (.antt) and of code (.rt)."""
+"""What the tools read: pages, the crates, and the items of files of definitions (.antt) and of code (.rt)."""
 import os
 import re
 import sys
@@ -30,6 +30,22 @@ def write_or_check(path, text, tool, words):
         print(f"{path} is not what {tool} writes: call it, and commit the page")
     print("1 passed, 0 failed" if same else "0 passed, 1 failed")
     return 0 if same else 1
+
+
+def prose_of(text):
+    """A page without its blocks of code. The lines keep their numbers."""
+    text = re.sub(r"^```.*?^```", lambda it: re.sub(r"[^\n]", " ", it.group()), text, flags=re.M | re.S)
+    return re.sub(r"^ {4}.*$", "", text, flags=re.M)
+
+
+def headings_of(text):
+    """The headings of a page: how many `#` begin each one, its words, and what a link has behind `#` to lead to it."""
+    found, seen = [], {}
+    for level, words in re.findall(r"^(#+) +(.*)$", prose_of(text), re.M):
+        anchor = re.sub(r"[^\w -]", "", words.strip().lower()).replace(" ", "-")
+        seen[anchor] = seen.get(anchor, 0) + 1
+        found.append((len(level), words.strip(), anchor if seen[anchor] == 1 else f"{anchor}-{seen[anchor] - 1}"))
+    return found
 
 
 def crates(in_file_order=False):
