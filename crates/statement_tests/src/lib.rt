@@ -12,3 +12,5 @@ mod faults;
 mod marked_writer;
 #[cfg(test)]
 mod rolls;
+#[cfg(test)]
+mod workers;
