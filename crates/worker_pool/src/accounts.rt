@@ -1,8 +1,8 @@
 //! The accounts of a batch: those that have no board yet, and what has come of each.
 ghost use Rattle.std.specs.Arc.{arc_value};
-ghost use Rattle.std.specs.Prelude.{◌≡◌, IfOk, IfSome, Some, map, slice_get};
+ghost use Rattle.std.specs.Prelude.{◌≡◌, IfOk, IfSome, Some, map, slice_get, slice_set};
 ghost use Rattle.worker_pool.specs.Batches.{AllFit, job_at, jobs_of};
-ghost use Rattle.worker_pool.specs.declared.outcomes.Outcome.TheVariants.{NoMemory};
+ghost use Rattle.worker_pool.specs.declared.outcomes.Outcome.TheVariants.{Margined, NoMemory};
 ghost use Rattle.worker_pool.specs.near.Places.{AreOutcomesOf};
 
 use crate::laws::Batch;
@@ -83,6 +83,30 @@ fn all_without_memory(alloc: Global, portfolios: &[Portfolio]) -> Result<Vec<Out
         .collect(alloc)
 }
 
+/// The row of an account of the batch, with the account's place.
+///
+/// It is not `Drop`, and its fields are private: only [`Outcomes::set`] takes one apart, so none is lost.
+pub(crate) struct RowOf<B: Batch> {
+    row: Arc<Row>,
+    place: usize,
+    batch: PhantomData<B>,
+    ghost of_batch: { slice_get B.jobs place ≡ Some (job_at (arc_value row).set (arc_value row).portfolio place) },
+}
+
+impl<B: Batch> RowOf<B> {
+    pub(crate) fn new(row: Arc<Row>, place: usize) -> RowOf<B>
+        requires { slice_get B.jobs place ≡ Some (job_at (arc_value row).set (arc_value row).portfolio place) }
+        ensures row { result.row ≡ row }
+        ensures place { result.place ≡ place }
+    {
+        RowOf {
+            row,
+            place,
+            batch: PhantomData,
+        }
+    }
+}
+
 /// What has come of each account, in the order of the accounts: `NoMemory` at first.
 #[derive(Drop)]
 pub(crate) struct Outcomes<B: Batch> {
@@ -93,11 +117,13 @@ pub(crate) struct Outcomes<B: Batch> {
 }
 
 impl<B: Batch> Model for Outcomes<B> {
+    ghost use Rattle.std.specs.Prelude.{List};
+    ghost use Rattle.worker_pool.specs.declared.outcomes.Outcome.{Outcome};
     ghost use Rattle.worker_pool.specs.near.Places.{AreOutcomesOf};
 
-    ghost Value = { Unit {0} };
+    ghost Value = { List Outcome };
 
-    ghost view = { λ _. tt };
+    ghost view = { λ o. o.list.items };
 
     ghost invariant = { λ o. AreOutcomesOf B.jobs o.list.items };
 }
@@ -109,6 +135,7 @@ impl<B: Batch> Outcomes<B> {
         portfolios: &[Portfolio],
     ) -> Result<Outcomes<B>, AllocError>
         requires { B.jobs ≡ jobs_of (arc_value set.now) portfolios.now }
+        ensures { IfOk result (λ outcomes. outcomes ≡ map (λ p. NoMemory p.account) portfolios.now) }
     {
         Ok(Outcomes {
             list: all_without_memory(alloc, portfolios)?,
@@ -123,20 +150,28 @@ impl<B: Batch> Outcomes<B> {
     }
 
     /// One account more has ended.
-    pub(crate) fn count_ended(&mut self) {
+    pub(crate) fn count_ended(&mut self)
+        ensures { self.new ≡ self.old }
+    {
         self.left = self.left.saturating_sub(1);
     }
 
-    /// Gives the account at a place its row.
-    pub(crate) fn set(&mut self, place: usize, row: Arc<Row>)
-        requires { slice_get B.jobs place ≡ Some (job_at (arc_value row).set (arc_value row).portfolio place) }
+    /// Gives an account its row.
+    pub(crate) fn set(&mut self, row: RowOf<B>)
+        ensures { self.new ≡ slice_set self.old row.place (Margined row.row) }
     {
+        let RowOf {
+            row,
+            place,
+            batch: _,
+        } = row;
         self.list[place] = Outcome::Margined(row);
     }
 
     /// The outcomes, in the order of the accounts.
     pub(crate) fn into_vec(self) -> Vec<Outcome>
-        ensures { AreOutcomesOf B.jobs result.items }
+        ensures list { result.items ≡ self }
+        ensures of_jobs { AreOutcomesOf B.jobs result.items }
     {
         let Outcomes { list, .. } = self;
         list

@@ -1,10 +1,10 @@
 //! The thread that opens the boards of a batch, hands out and takes back their steps, and keeps the outcomes.
 ghost use Rattle.std.specs.Arc.{arc_value};
-ghost use Rattle.std.specs.Prelude.{◌≡◌, IfOk, IfSome, Some, slice_get};
-ghost use Rattle.worker_pool.specs.Batches.{job_at};
+ghost use Rattle.std.specs.Prelude.{◌≡◌, IfOk, IfSome, MatchOption, MatchResult, Some, slice_get, slice_set};
+ghost use Rattle.worker_pool.specs.declared.outcomes.Outcome.TheVariants.{Margined};
 ghost use Rattle.worker_pool.specs.near.Places.{AreOutcomesOf};
 
-use crate::accounts::{Outcomes, Waiting};
+use crate::accounts::{Outcomes, RowOf, Waiting};
 use crate::ends::FinishedOf;
 use crate::gates::Gate;
 use crate::idle::Patience;
@@ -66,7 +66,8 @@ impl<'a, B: Batch, G: Gate> Coordinator<'a, B, G> {
 
     /// The outcomes, in the order of the accounts.
     pub(crate) fn into_outcomes(self) -> Vec<Outcome>
-        ensures { AreOutcomesOf B.jobs result.items }
+        ensures list { result.items ≡ self.entry.outcomes }
+        ensures of_jobs { AreOutcomesOf B.jobs result.items }
     {
         let Coordinator { outcomes, .. } = self;
         outcomes.into_vec()
@@ -94,9 +95,8 @@ impl<'a, B: Batch, G: Gate> Coordinator<'a, B, G> {
             }
             match self.waiting.next_job(self.worker.alloc) {
                 Ok(Some(job)) => {
-                    let place = job.place();
                     let opened = self.open_board(job);
-                    self.end_account(place, opened);
+                    self.end_account(opened);
                 }
                 Ok(None) => return,
                 Err(AllocError) => self.outcomes.count_ended(),
@@ -105,18 +105,19 @@ impl<'a, B: Batch, G: Gate> Coordinator<'a, B, G> {
     }
 
     // Opens the board of a job, and pushes all that it hands out. The row of its account, if the board is complete then.
-    fn open_board(&mut self, job: Arc<Job>) -> Result<Option<Arc<Row>>, AllocError>
+    fn open_board(&mut self, job: Arc<Job>) -> Result<Option<RowOf<B>>, AllocError>
         requires { slice_get B.jobs (arc_value job).place ≡ Some (arc_value job) }
-        ensures { IfOk result (λ r. IfSome r (λ row. slice_get B.jobs (arc_value job).place
-            ≡ Some (job_at (arc_value row).set (arc_value row).portfolio (arc_value job).place))) }
+        ensures { IfOk result (λ r. IfSome r (λ row. row.place ≡ (arc_value job).place)) }
     {
         let mut board = OpenBoard::new(self.worker.alloc, job)?;
         board.hand_out(&mut self.worker)?;
-        let row = board.row(self.worker.alloc)?;
-        if row.is_none() {
-            self.boards.push(board)?;
+        match board.row(self.worker.alloc)? {
+            Some(row) => Ok(Some(row)),
+            None => {
+                self.boards.push(board)?;
+                Ok(None)
+            }
         }
-        Ok(row)
     }
 
     // Gives a result to the board of its place, and pushes all that this makes ready. A result of no open board is dropped.
@@ -129,17 +130,19 @@ impl<'a, B: Batch, G: Gate> Coordinator<'a, B, G> {
         if !matches!(went, Ok(None)) {
             let _ = self.boards.swap_remove(at);
         }
-        self.end_account(place, went);
+        self.end_account(went);
     }
 
-    // Ends the account at a place, with its row, or for want of memory. `None` ends no account.
-    fn end_account(&mut self, place: usize, went: Result<Option<Arc<Row>>, AllocError>)
-        requires { IfOk went (λ r. IfSome r (λ row. slice_get B.jobs place
-            ≡ Some (job_at (arc_value row).set (arc_value row).portfolio place))) }
+    // Ends an account, with its row, or for want of memory. `None` ends no account.
+    fn end_account(&mut self, went: Result<Option<RowOf<B>>, AllocError>)
+        ensures { MatchResult went
+            (λ r. MatchOption r (self.new.outcomes ≡ self.old.outcomes)
+            (λ row. self.new.outcomes ≡ slice_set self.old.outcomes row.place (Margined row.row)))
+            (λ _. self.new.outcomes ≡ self.old.outcomes) }
     {
         match went {
             Ok(None) => return,
-            Ok(Some(row)) => self.outcomes.set(place, row),
+            Ok(Some(row)) => self.outcomes.set(row),
             Err(AllocError) => {}
         }
         self.outcomes.count_ended();

@@ -5,8 +5,8 @@ ghost use Rattle.std.specs.Prelude.{slice_get};
 ghost use Rattle.step_scheduler.specs.Boards.{IfHanded, IsComplete};
 ghost use Rattle.step_scheduler.specs.Runs.{CanGoOn, IsReady, IsUnderWay, is_taken};
 ghost use Rattle.step_scheduler.specs.declared.events.Event.TheVariants.{Finish, Take};
-ghost use Rattle.worker_pool.specs.Batches.{job_at};
 
+use crate::accounts::RowOf;
 use crate::ends::{FinishedOf, TaskOf};
 use crate::gates::Gate;
 use crate::laws::Batch;
@@ -53,10 +53,9 @@ impl<B: Batch> OpenBoard<B> {
         &mut self,
         done: FinishedOf<B>,
         worker: &mut Worker<B, G>,
-    ) -> Result<Option<Arc<Row>>, AllocError>
+    ) -> Result<Option<RowOf<B>>, AllocError>
         requires { done.finished.job.place ≡ self.old.board.job.place }
-        ensures { IfOk result (λ r. IfSome r (λ row. slice_get B.jobs done.finished.job.place
-            ≡ Some (job_at (arc_value row).set (arc_value row).portfolio done.finished.job.place))) }
+        ensures { IfOk result (λ r. IfSome r (λ row. row.place ≡ done.finished.job.place)) }
     {
         self.finish(done)?;
         self.hand_out(worker)?;
@@ -107,9 +106,8 @@ impl<B: Batch> OpenBoard<B> {
     }
 
     /// The row of the board's account, once the board is complete. `None` before that, and then a step can go on.
-    pub(crate) fn row(&self, alloc: Global) -> Result<Option<Arc<Row>>, AllocError>
-        ensures row { IfOk result (λ r. IfSome r (λ row. slice_get B.jobs self.now.board.job.place
-            ≡ Some (job_at (arc_value row).set (arc_value row).portfolio self.now.board.job.place))) }
+    pub(crate) fn row(&self, alloc: Global) -> Result<Option<RowOf<B>>, AllocError>
+        ensures place { IfOk result (λ r. IfSome r (λ row. row.place ≡ self.now.board.job.place)) }
         ensures complete { IfOk result (λ r. IsSome r ↔ IsComplete self.now.board) }
         ensures goes_on { IfOk result (λ r. IfNone r
             ((k : ℕ) × CanGoOn self.now.board.job.set.plan self.now.board.history k)) }
@@ -117,7 +115,8 @@ impl<B: Batch> OpenBoard<B> {
         if !self.board.is_complete() {
             return Ok(None);
         }
-        Ok(Some(Row::of(alloc, &self.board)?))
+        let row = Row::of(alloc, &self.board)?;
+        Ok(Some(RowOf::new(row, self.place())))
     }
 
     // Takes a step that is ready.
