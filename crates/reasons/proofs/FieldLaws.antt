@@ -1,5 +1,6 @@
 -- What the fields of lines are read as, and the sums of what is read.
-use Rattle.std.proofs.Common.{◌≡◌, ℕ, suc, ◌+◌, ◌/◌, ◌%◌, ◌^◌, ◌<◌, List, [], ◌∷◌, ◌++◌, map, refl, sym, ap, ◌∙◌, arith, sum_by}
+use Rattle.std.proofs.Common.{◌≡◌, ℕ, suc, ◌+◌, ◌/◌, ◌%◌, ◌^◌, ◌<◌, Bool, true, false, cond, List, [], ◌∷◌, ◌++◌, filter, map, refl, sym}
+use Rattle.std.proofs.Common.{ap, ◌∙◌, arith, sum_by}
 use Rattle.std.specs.Prelude.{All, fold, ℤ, pos, negsuc, ◌+ℤ◌, nat_abs}
 use Rattle.std.specs.Fmt.{decimal, signed_decimal}
 use Rattle.std.proofs.lemmas.List.{append-nil}
@@ -49,6 +50,18 @@ each_read write read is (x ∷ xs) same =
     let first : read (write x) ≡ is x = All-head (λ y. read (write y) ≡ is y) x xs same in
     let rest = each_read write read is xs (All-tail (λ y. read (write y) ≡ is y) x xs same) in
     λ k. first k ∷ rest k
+
+-- the lines that pass a test are what passes it before it is written
+pub kept_written : {A B : Type 0} (p : B → Bool) (write : A → B) (xs : List A)
+    → filter p (map write xs) ≡ map write (filter (λ x. p (write x)) xs)
+kept_written p write [] = refl
+kept_written p write (x ∷ xs) =
+    let all = filter p (map write xs) in
+    let kept = filter (λ y. p (write y)) xs in
+    elim (p (write x)) as (λ b. cond b (write x ∷ all) all ≡ map write (cond b (x ∷ kept) kept)) [
+      | true ↦ ap (λ others. write x ∷ others) (kept_written p write xs)
+      | false ↦ kept_written p write xs
+    ]
 
 -- ---- sums
 

@@ -6,12 +6,38 @@ use Rattle.std.proofs.lemmas.List.Elements.{filter-append}
 use Rattle.span_money.specs.LineFields.{Line}
 use Rattle.span_tables.specs.Tables.{AcceptedTables}
 use Rattle.span_tables.specs.declared.portfolios.Holding.{Holding}
+use Rattle.span_tables.specs.declared.records.ProductKind.{ProductKind}
+use Rattle.span_tables.specs.declared.records.ProductKind.TheVariants as product
+use Rattle.span_tables.specs.declared.records.Side.{Side}
+use Rattle.span_tables.specs.declared.records.Side.TheVariants as side
+use Rattle.span_tables.specs.declared.sides.Direction.{Direction}
+use Rattle.span_tables.specs.declared.sides.Direction.TheVariants.{ALong, AShort}
 use Rattle.scan_risk.specs.Scenarios.{scan_of, scenario_sums}
+use Rattle.inter_credit.specs.Requirement.{is_call, is_put}
 use Rattle.plan_ir.specs.Figures.{commodity_at, held_at}
+use Rattle.reasons.specs.Laws.{is_long_in, side_letter}
 use Rattle.reasons.specs.Lines.{line_of, lines_of, words_in_order}
 use Rattle.reasons.specs.Reasons.{credit_reason, held_reason, held_reasons, inter_reason, inters_shown_at, intra_reason}
-use Rattle.reasons.specs.Reasons.{intras_shown_at, month_reason, months_shown_at, reasons_of, scan_reason, short_reason}
-use Rattle.reasons.specs.Reasons.{spot_reason, spots_shown_at, state_after_all, sums_reason}
+use Rattle.reasons.specs.Reasons.{intras_shown_at, kind_letter, long_side, month_reason, months_shown_at, reasons_of, scan_reason}
+use Rattle.reasons.specs.Reasons.{short_reason, spot_reason, spots_shown_at, state_after_all, sums_reason}
+
+-- ---- letters
+
+pub letter_of_calls : (kind : ProductKind) → bytes_eq (kind_letter kind) (codes "C") ≡ is_call kind
+letter_of_calls product.Future = refl
+letter_of_calls product.Call = refl
+letter_of_calls product.Put = refl
+
+pub letter_of_puts : (kind : ProductKind) → bytes_eq (kind_letter kind) (codes "P") ≡ is_put kind
+letter_of_puts product.Future = refl
+letter_of_puts product.Call = refl
+letter_of_puts product.Put = refl
+
+pub letter_of_sides : (d : Direction) (x : Side) → bytes_eq (long_side d) (side_letter x) ≡ is_long_in d x
+letter_of_sides ALong side.A = refl
+letter_of_sides ALong side.B = refl
+letter_of_sides AShort side.A = refl
+letter_of_sides AShort side.B = refl
 
 -- ---- lines of one word
 

@@ -1,15 +1,23 @@
 -- What the laws speak of.
-use Rattle.std.specs.Prelude.{ℕ, ◌≡◌, ◌+◌, ◌++◌, max, true, List, filter, length, ℤ}
+use Rattle.std.specs.Prelude.{ℕ, ◌≡◌, ◌+◌, ◌++◌, ◌==◌, max, Bool, true, false, not, List, filter, length, codes, ℤ, nat_abs}
 use Rattle.std.specs.List.{range_with_len}
 use Rattle.span_money.specs.Numbers.{int_sum_by}
 use Rattle.span_tables.specs.Accepted.{IsWithinLimits}
 use Rattle.span_tables.specs.Holdings.{ArePortfolio, fits}
+use Rattle.span_tables.specs.Sides.{market_side}
 use Rattle.span_tables.specs.Tables.{AcceptedTables}
 use Rattle.span_tables.specs.declared.portfolios.Holding.{Holding}
 use Rattle.span_tables.specs.declared.records.MinimumMethod.{MinimumMethod}
 use Rattle.span_tables.specs.declared.records.MinimumMethod.TheVariants as method
+use Rattle.span_tables.specs.declared.records.Side.{Side}
+use Rattle.span_tables.specs.declared.records.Side.TheVariants as side
+use Rattle.span_tables.specs.declared.records.Spot.{Spot}
+use Rattle.span_tables.specs.declared.sides.Direction.{Direction}
+use Rattle.span_tables.specs.declared.sides.MarketSide.{MarketSide}
+use Rattle.span_tables.specs.declared.sides.MarketSide.TheVariants.{Long, Short}
+use Rattle.spread_stage.specs.Deltas.{units_at}
 use Rattle.inter_credit.specs.OptionValue.{position_value}
-use Rattle.plan_ir.specs.Figures.{held_at, is_commodity_held}
+use Rattle.plan_ir.specs.Figures.{deltas_at, held_at, is_commodity_held, spots_at}
 
 -- short calls and short puts as a method counts them: both together, or the larger of the two
 abbrev pub counted : MinimumMethod → ℕ → ℕ → ℕ
@@ -23,6 +31,24 @@ numbers_shown t holdings = filter (is_commodity_held t holdings) (range_with_len
 -- the sum of the values of the positions in the commodity of a number
 abbrev pub values_shown_at : AcceptedTables → List Holding → ℕ → ℤ
 values_shown_at t holdings c = int_sum_by position_value (held_at t holdings c)
+
+-- the letter of a side
+abbrev pub side_letter : Side → List ℕ
+side_letter side.A = codes "A"
+side_letter side.B = codes "B"
+
+-- a market side is the long one
+abbrev pub is_long : MarketSide → Bool
+is_long Long = true
+is_long Short = false
+
+-- the legs of a side are long in a direction
+abbrev pub is_long_in : Direction → Side → Bool
+is_long_in d s = is_long (market_side d s)
+
+-- the SPOT records of the commodity of a number whose month has a delta other than 0
+abbrev pub spots_with_delta : AcceptedTables → List Holding → ℕ → List Spot
+spots_with_delta t holdings c = filter (λ s. not (nat_abs (units_at (deltas_at t holdings c) s.month) == 0)) (spots_at t c)
 
 -- a list stands in another, in one piece
 abbrev pub StandsIn : {A : Type 0} → List A → List A → Type 0

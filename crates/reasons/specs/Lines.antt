@@ -4,7 +4,7 @@ use Rattle.std.specs.Prelude.{ℤ, pos, ◌+ℤ◌, ◌*ℤ◌, nat_abs}
 use Rattle.std.specs.Int.{div_ceil, int_max}
 use Rattle.span_money.specs.ExactDecimals.{exact_value}
 use Rattle.span_money.specs.LineFields.{Line}
-use Rattle.span_money.specs.Numbers.{int_sum_by, positive_part}
+use Rattle.span_money.specs.Numbers.{int_sum_by, negative_part, positive_part}
 use Rattle.scan_risk.specs.Scenarios.{active_scenario, scan_risk}
 use Rattle.inter_credit.specs.Requirement.{requirement_of}
 
@@ -78,6 +78,11 @@ credit_from tenths net weight =
 abbrev pub credit_by_lines : List Line → ℤ
 credit_by_lines lines =
     let l = line_of (codes "CREDIT") lines in credit_from (number_at 1 l 0) (number_at 8 l 1) (number_at 8 l 2)
+
+-- the short contracts of the type of a letter: over the HELD lines of this type, the sum of the sizes of the net quantities below 0
+abbrev pub short_by_lines : List ℕ → List Line → ℤ
+short_by_lines letter lines =
+    int_sum_by (λ l. pos (negative_part (number_at 0 l 3))) (filter (λ l. bytes_eq (text_at l 1) letter) (lines_of (codes "HELD") lines))
 
 -- short calls and short puts as a method's word says that they are counted: both together, or the larger of the two
 abbrev pub counted_by : List ℕ → ℤ → ℤ → ℤ

@@ -1,17 +1,20 @@
 //! Laws: the figures of a commodity follow from its lines alone, by the numbers that the fields of these spell. Each is the contract
 //! of a function that does nothing.
+ghost use Rattle.inter_credit.specs.OptionValue.{position_value};
+ghost use Rattle.inter_credit.specs.Requirement.{is_call, is_put};
 ghost use Rattle.plan_ir.specs.Figures.{deltas_at, figures_of, held_at, numbers_of, tiers_at};
-ghost use Rattle.reasons.specs.Laws.{AreAccepted, values_shown_at};
+ghost use Rattle.reasons.specs.Laws.{AreAccepted, is_long_in, side_letter, spots_with_delta, values_shown_at};
 ghost use Rattle.reasons.specs.Lines.{credit_by_lines, delivery_by_lines, figures_by_lines, intra_by_lines, line_of, lines_of};
-ghost use Rattle.reasons.specs.Lines.{minimum_by_lines, net_by_lines, number_at, sums_by_lines, text_at, value_by_lines};
-ghost use Rattle.reasons.specs.Lines.{weight_by_lines, words_in_order, words_of_one};
-ghost use Rattle.reasons.specs.Reasons.{reasons_of};
+ghost use Rattle.reasons.specs.Lines.{minimum_by_lines, net_by_lines, number_at, short_by_lines, sums_by_lines, text_at};
+ghost use Rattle.reasons.specs.Lines.{value_by_lines, weight_by_lines, words_in_order, words_of_one};
+ghost use Rattle.reasons.specs.Reasons.{inters_shown_at, intras_shown_at, reasons_of};
 ghost use Rattle.scan_risk.specs.Scenarios.{active_scenario, paired_scenario, price2, scan_risk, scenario_sums};
 ghost use Rattle.span_tables.specs.Tables.{AcceptedTables, facts_in};
 ghost use Rattle.span_tables.specs.declared.portfolios.Holding.{Holding};
+ghost use Rattle.span_tables.specs.declared.records.Side.{Side};
 ghost use Rattle.spread_stage.specs.Deltas.{months_of};
 ghost use Rattle.std.specs.Fmt.{decimal};
-ghost use Rattle.std.specs.Prelude.{◌*◌, ◌*ℤ◌, ◌+ℤ◌, ◌<◌, ◌<ℤ◌, ◌≡◌, All, List, codes, flat_map, length, map, pos, true, ℕ};
+ghost use Rattle.std.specs.Prelude.{◌*◌, ◌*ℤ◌, ◌+ℤ◌, ◌<◌, ◌<ℤ◌, ◌≡◌, All, List, bytes_eq, codes, flat_map, length, map, pos, true, ℕ};
 
 /// The lines of a commodity are those of each word in turn, in the order of docs/FORMATS.md, and no others; of `SUMS`, `SCAN`, `CREDIT`
 /// and `SHORT` there is one.
@@ -66,6 +69,37 @@ pub fn intracommodity_charge_follows_from_the_intra_lines()
         → All (λ l. pos 0 <ℤ number_at 4 l 2) (lines_of (codes "INTRA") (reasons_of t holdings c)) }
 {}
 
+/// The INTRA lines and the INTER lines are the spreads shown, each with its priority. The long side of a line is `A` exactly if the legs of
+/// side A are long in the direction of its spread, and `B` exactly if the legs of side B are.
+pub fn spread_lines_have_each_spread()
+    ensures intra_priorities { (t : AcceptedTables) (holdings : List Holding) (c : ℕ)
+        → map (λ l. text_at l 0) (lines_of (codes "INTRA") (reasons_of t holdings c))
+        ≡ map (λ s. decimal s.priority) (intras_shown_at t holdings c) }
+    ensures intra_sides { (t : AcceptedTables) (holdings : List Holding) (c : ℕ) (side : Side)
+        → map (λ l. bytes_eq (text_at l 1) (side_letter side)) (lines_of (codes "INTRA") (reasons_of t holdings c))
+        ≡ map (λ s. is_long_in s.direction side) (intras_shown_at t holdings c) }
+    ensures inter_priorities { (t : AcceptedTables) (holdings : List Holding) (c : ℕ)
+        → map (λ l. text_at l 0) (lines_of (codes "INTER") (reasons_of t holdings c))
+        ≡ map (λ s. decimal s.priority) (inters_shown_at t holdings c) }
+    ensures inter_sides { (t : AcceptedTables) (holdings : List Holding) (c : ℕ) (side : Side)
+        → map (λ l. bytes_eq (text_at l 1) (side_letter side)) (lines_of (codes "INTER") (reasons_of t holdings c))
+        ≡ map (λ s. is_long_in s.direction side) (inters_shown_at t holdings c) }
+{}
+
+/// The SPOT lines are the SPOT records of the commodity, in their order, whose month has a delta other than 0. Each has the month, the
+/// spread rate and the outright rate of its record.
+pub fn spot_lines_have_each_spot_month()
+    ensures months { (t : AcceptedTables) (holdings : List Holding) (c : ℕ)
+        → map (λ l. text_at l 0) (lines_of (codes "SPOT") (reasons_of t holdings c))
+        ≡ map (λ s. decimal s.month) (spots_with_delta t holdings c) }
+    ensures spread_rates { (t : AcceptedTables) (holdings : List Holding) (c : ℕ)
+        → map (λ l. text_at l 2) (lines_of (codes "SPOT") (reasons_of t holdings c))
+        ≡ map (λ s. decimal s.spread_rate) (spots_with_delta t holdings c) }
+    ensures outright_rates { (t : AcceptedTables) (holdings : List Holding) (c : ℕ)
+        → map (λ l. text_at l 4) (lines_of (codes "SPOT") (reasons_of t holdings c))
+        ≡ map (λ s. decimal s.outright_rate) (spots_with_delta t holdings c) }
+{}
+
 /// The delivery charge is the sum of the charges of the SPOT lines, rounded up; each of these is used times spread rate and left times
 /// outright rate.
 pub fn delivery_charge_follows_from_the_spot_lines()
@@ -98,13 +132,35 @@ pub fn minimum_follows_from_the_short_line()
         → (figures_of t holdings c).minimum ≡ minimum_by_lines (reasons_of t holdings c) }
 {}
 
-/// The HELD lines are those of the held contracts, each with its net quantity; and where options have a value, that of the commodity is
-/// the sum of those that the lines tell.
+/// The SHORT line has the short calls in front of the short puts: over the HELD lines of type `C`, and over those of type `P`, the sum of
+/// the sizes of the net quantities below 0.
+pub fn short_line_has_the_short_calls_and_puts()
+    ensures calls { (t : AcceptedTables) (holdings : List Holding) (c : ℕ) → AreAccepted t holdings
+        → number_at 0 (line_of (codes "SHORT") (reasons_of t holdings c)) 0 ≡ short_by_lines (codes "C") (reasons_of t holdings c) }
+    ensures puts { (t : AcceptedTables) (holdings : List Holding) (c : ℕ) → AreAccepted t holdings
+        → number_at 0 (line_of (codes "SHORT") (reasons_of t holdings c)) 1 ≡ short_by_lines (codes "P") (reasons_of t holdings c) }
+{}
+
+/// The HELD lines are the held contracts, each with its month and its net quantity. The type is `C` exactly if the contract is a call, and
+/// `P` exactly if it is a put. If options have a value, each line has the value of its position, and the value of the commodity is the sum
+/// of these.
 pub fn held_lines_have_each_held_contract()
     ensures contracts { (t : AcceptedTables) (holdings : List Holding) (c : ℕ)
         → map (λ l. text_at l 0) (lines_of (codes "HELD") (reasons_of t holdings c)) ≡ map (λ h. (h.contract).id) (held_at t holdings c) }
+    ensures calls { (t : AcceptedTables) (holdings : List Holding) (c : ℕ)
+        → map (λ l. bytes_eq (text_at l 1) (codes "C")) (lines_of (codes "HELD") (reasons_of t holdings c))
+        ≡ map (λ h. is_call (h.contract).kind) (held_at t holdings c) }
+    ensures puts { (t : AcceptedTables) (holdings : List Holding) (c : ℕ)
+        → map (λ l. bytes_eq (text_at l 1) (codes "P")) (lines_of (codes "HELD") (reasons_of t holdings c))
+        ≡ map (λ h. is_put (h.contract).kind) (held_at t holdings c) }
+    ensures months { (t : AcceptedTables) (holdings : List Holding) (c : ℕ)
+        → map (λ l. text_at l 2) (lines_of (codes "HELD") (reasons_of t holdings c))
+        ≡ map (λ h. decimal (h.contract).month) (held_at t holdings c) }
     ensures nets { (t : AcceptedTables) (holdings : List Holding) (c : ℕ) → AreAccepted t holdings
         → map (λ l. number_at 0 l 3) (lines_of (codes "HELD") (reasons_of t holdings c)) ≡ map (λ h. h.net) (held_at t holdings c) }
+    ensures each_value { (t : AcceptedTables) (holdings : List Holding) (c : ℕ) → AreAccepted t holdings
+        → (facts_in t).options_have_value ≡ true → map (λ l. number_at 0 l 4) (lines_of (codes "HELD") (reasons_of t holdings c))
+        ≡ map position_value (held_at t holdings c) }
     ensures values { (t : AcceptedTables) (holdings : List Holding) (c : ℕ) → AreAccepted t holdings
         → (facts_in t).options_have_value ≡ true → value_by_lines (reasons_of t holdings c) ≡ values_shown_at t holdings c }
 {}
