@@ -1,7 +1,11 @@
--- Files that are read one behind another.
-use Rattle.std.proofs.Common.{◌+◌, ◌<◌, ◌≤◌, ℕ, Bool, true, false, List, refl, sym, subst, inl, inr, length, get_or, map, drop, Bor}
+-- Files that are read one behind another, and command lines for which none is read.
+use Rattle.std.proofs.Common.{◌≡◌, ◌⊎◌, ◌+◌, ◌<◌, ◌≤◌, ℕ, Bool, true, false, List, None, refl, sym, subst, inl, inr, length, get_or, map}
+use Rattle.std.proofs.Common.{drop, Bor}
 use Rattle.std.proofs.lemmas.List.{at_drop_all, at_drop_more}
-use Rattle.span_cli.specs.Reads.{ReadsInOrder}
+use Rattle.std.specs.Prelude.{if◌then◌else◌}
+use Rattle.clap.specs.Words.{Text}
+use Rattle.span_cli.specs.Reads.{ReadsAsked, ReadsInOrder}
+use Rattle.span_cli.specs.Words.{asked_in, is_request, request_in}
 
 -- the texts of names
 abbrev pub texts : List (Bor (List ℕ)) → List (List ℕ)
@@ -33,3 +37,12 @@ module _ {S : Type 0} (reads : S → List ℕ → Bool → S → Type 0) where
       → GoesOn old whole now (texts (drop i names)) → ReadsInOrder reads old whole now
   ends old now whole names i over held =
       held now (subst (λ (xs : List (List ℕ)). ReadsInOrder reads now xs now) (sym (at_drop_all texts names i over)) refl)
+
+  -- nothing was read, and a call that was asked for something gave up
+  pub nothing_read : (now : S) (words : List Text) (gave_up : Type 0) → (is_request words ≡ true → gave_up)
+      → ReadsAsked reads now (request_in words) now ⊎ ((now ≡ now) × gave_up)
+  nothing_read now words gave_up told = of_request (is_request words) refl where
+    of_request : (taken : Bool) → is_request words ≡ taken
+        → ReadsAsked reads now (if taken then asked_in words else None) now ⊎ ((now ≡ now) × gave_up)
+    of_request true is = inr (refl, told is)
+    of_request false is = inl refl

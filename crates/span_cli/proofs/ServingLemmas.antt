@@ -7,6 +7,7 @@ use Rattle.std.specs.Io.KnownBytes.{Appends}
 use Rattle.clap.specs.Words.{HasKind, IsAmong, Kinds, kind_of}
 use Rattle.clap.specs.declared.error.Error.{Error}
 use Rattle.clap.specs.declared.error.kind.ErrorKind.{ErrorKind}
+use Rattle.clap.specs.declared.error.kind.ErrorKind.TheVariants as kind
 use Rattle.statement.specs.Streams.{Says, Stream}
 use Rattle.statement.specs.Rolls.{GivesRoll}
 use Rattle.statement.specs.declared.faults.SpanFault.{SpanFault}
@@ -153,15 +154,18 @@ memory_serves file (Some asked) given old_out new_out old_err new_err some told 
 
 -- ---- words
 
+-- words that are refused for out of memory
+pub memory_told : (e : Error) (given : ℕ) (old_out new_out old_err new_err : Stream) → kind_of e ≡ kind.OutOfMemory
+    → telling.RefusesWords (kind_of e) given old_out new_out old_err new_err → Tells memory given old_out new_out old_err new_err
+memory_told e given old_out new_out old_err new_err wanted told =
+    subst (λ (k : ErrorKind). telling.RefusesWords k given old_out new_out old_err new_err) wanted told
+
 -- words that are refused for one of these kinds of reason, or for want of memory
 refused_by : (kinds : Kinds) (e : Error) (given : ℕ) (old_out new_out old_err new_err : Stream) → HasKind kinds e
     → telling.RefusesWords (kind_of e) given old_out new_out old_err new_err → RefusesWordsBy kinds given old_out new_out old_err new_err
 refused_by kinds e given old_out new_out old_err new_err (inl wanted) told = of_memory kinds where
-  memory_told : Tells memory given old_out new_out old_err new_err
-  memory_told = subst (λ (k : ErrorKind). telling.RefusesWords k given old_out new_out old_err new_err) wanted told
-
   of_memory : (ks : Kinds) → RefusesWordsBy ks given old_out new_out old_err new_err
-  of_memory [] = memory_told
+  of_memory [] = memory_told e _ _ _ _ _ wanted told
   of_memory (k ∷ ks) = inr (of_memory ks)
 refused_by kinds e given old_out new_out old_err new_err (inr among) told = of_kind kinds among where
   of_kind : (ks : Kinds) → IsAmong (kind_of e) ks → RefusesWordsBy ks given old_out new_out old_err new_err
@@ -181,7 +185,7 @@ pub words_refused : (kinds : Kinds) (answered : Type 0) (e : Error) (given : ℕ
     → (kinds ≡ [] → Tells memory given old_out new_out old_err new_err → answered)
     → AnswersWords kinds answered given old_out new_out old_err new_err
 words_refused [] answered e given old_out new_out old_err new_err (inl wanted) told holds =
-    holds refl (subst (λ (k : ErrorKind). telling.RefusesWords k given old_out new_out old_err new_err) wanted told)
+    holds refl (memory_told e _ _ _ _ _ wanted told)
 words_refused [] answered e given old_out new_out old_err new_err (inr among) told holds = absurd among
 words_refused (k ∷ ks) answered e given old_out new_out old_err new_err h told holds =
     refused_by (k ∷ ks) e given old_out new_out old_err new_err h told

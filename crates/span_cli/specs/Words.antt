@@ -177,6 +177,10 @@ misnames words = option_map_or (λ p. misnames_in p.0 p.1) (subcommand_of span_a
 unfoldable pub is_request : List Text → Bool
 is_request words = has_form words && not (misnames words)
 
+-- what the words ask for if they are a command line of the program, and else nothing
+abbrev pub request_in : List Text → Option Asked
+request_in words = if is_request words then asked_in words else None
+
 -- the kinds of mistake that they may be refused by
 unfoldable pub kinds_of : List Text → Kinds
 kinds_of words = or_else (form_kinds words) (if misnames words then kind.ValueValidation ∷ [] else [])

@@ -1,12 +1,12 @@
 //! Requests, and the bytes that answer them.
-ghost use Rattle.span_cli.specs.Reads.{ReadsInOrder};
+ghost use Rattle.span_cli.specs.Reads.{ReadsAsked, ReadsInOrder};
 ghost use Rattle.span_cli.specs.Serving.{IsAnswer, IsOfRoll, all_read, answer_of_faults, answered, asked_by, done};
 ghost use Rattle.span_cli.specs.Telling.{Serves, Tells};
 ghost use Rattle.span_cli.specs.near.Refusals.{Loads, LoadsAll, MayGive, Runs, given_answer, refusal_line, refusal_status};
 ghost use Rattle.span_cli.specs.declared.serving.Refusal.TheVariants as refusal;
 ghost use Rattle.statement.specs.AllFaults.{faults_of};
 ghost use Rattle.statement.specs.Streams.{Says};
-ghost use Rattle.std.specs.Prelude.{◌≡◌, ◌≤◌, IfOk, IfSome, List, false, is_ok, length, map, option_map, ℕ};
+ghost use Rattle.std.specs.Prelude.{◌≡◌, ◌≤◌, IfOk, IfSome, List, Some, false, is_ok, length, map, option_map, ℕ};
 
 use crate::sources::{ReadFault, Sources};
 use arrayvec::ArrayVec;
@@ -345,7 +345,7 @@ pub fn serve<S: Sources, W: Write, E: Write, R: Threads + Wait + Clock + Sync, G
 ) -> u8
     requires { out.old.failed ≡ false }
     ensures answer { Serves (S.file sources.old) (asked_by request.entry) result out.old out.new err.old err.new }
-    ensures reads { ReadsInOrder S.reads sources.old (asked_by request.entry).1 sources.new }
+    ensures reads { ReadsAsked S.reads sources.old (Some (asked_by request.entry)) sources.new }
 {
     let lent = Lent { rt, alloc, gate };
     match run(&lent, &request, sources) {

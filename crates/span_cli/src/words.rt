@@ -2,10 +2,11 @@
 ghost use Rattle.clap.specs.Words.{FailsBy, app_of, first_of, found_of, kind_of, new_app, rows_of, rule_of};
 ghost use Rattle.clap.specs.Words.{subcommand_of, subcommand_rows_of, with_rule, with_subcommand};
 ghost use Rattle.clap.specs.declared.builder.command.Command.TheViews.{out-Command as fields_of};
+ghost use Rattle.span_cli.specs.Reads.{ReadsAsked};
 ghost use Rattle.span_cli.specs.Serving.{asked_by, memory};
 ghost use Rattle.span_cli.specs.Telling.{AnswersWords, IsMistake, IsShown, RefusesWords, ServesAsked, Tells, no_text_line};
 ghost use Rattle.span_cli.specs.Words.{account_in, account_rule, app_without_commands, asked_among, asked_in, commands, form_kinds};
-ghost use Rattle.span_cli.specs.Words.{has_form, is_request, joined_words, kinds_of, misnames_in, number_in, span_app};
+ghost use Rattle.span_cli.specs.Words.{has_form, is_request, joined_words, kinds_of, misnames_in, number_in, request_in, span_app};
 ghost use Rattle.span_cli.specs.Words.{with_commands, with_rules, workers_in, workers_rule};
 ghost use Rattle.span_cli.specs.near.Rows.{file_rule_of, option_rule, row_app};
 ghost use Rattle.statement.specs.Streams.{Says};
@@ -541,6 +542,8 @@ fn answer_words<
     ensures words { AnswersWords (kinds_of (map T.text words.now))
         (ServesAsked (S.file sources.old) (asked_in (map T.text words.now)) result out.old out.new err.old err.new)
         result out.old out.new err.old err.new }
+    ensures reads { ReadsAsked S.reads sources.old (request_in (map T.text words.now)) sources.new
+        ⊎ ((sources.new ≡ sources.old) × Tells memory result out.old out.new err.old err.new) }
 {
     match request(lent.alloc, words) {
         Ok(request) => serve(lent.rt, lent.alloc, request, sources, lent.gate, out, err),
@@ -550,8 +553,9 @@ fn answer_words<
 
 /// Answers a command line, of which the first word is the program's name, and gives the status. A request is answered
 /// as by `serve`; help and the version go to `out` alone and a mistake to `err` alone. The bounds of the two differ, so that the
-/// standard streams cannot be exchanged. The word behind `--account` is its value, whatever it begins with. To `out` no write may
-/// have failed before.
+/// standard streams cannot be exchanged. The word behind `--account` is its value, whatever it begins with. Files are read as by
+/// `serve`. None is read for a command line that is no request, nor when memory runs out before the request is known. To `out` no
+/// write may have failed before.
 pub fn run_words<
     T: AsStr,
     S: Sources,
@@ -575,6 +579,8 @@ pub fn run_words<
     ensures words { AnswersWords (kinds_of (joined_words (map T.text words.now)))
         (ServesAsked (S.file sources.old) (asked_in (joined_words (map T.text words.now))) result
         out.old out.new err.old err.new) result out.old out.new err.old err.new }
+    ensures reads { ReadsAsked S.reads sources.old (request_in (joined_words (map T.text words.now))) sources.new
+        ⊎ ((sources.new ≡ sources.old) × Tells memory result out.old out.new err.old err.new) }
 {
     let lent = Lent { rt, alloc, gate };
     match join_words(alloc, words) {

@@ -1,9 +1,8 @@
-use Rattle.std.proofs.Common.{map, subst}
+use Rattle.std.proofs.Common.{inl, map}
 use Rattle.span_cli.specs.Words.{asked_in, kinds_of}
-use Rattle.clap.specs.declared.error.kind.ErrorKind.{ErrorKind}
-use Rattle.span_cli.specs.Telling.{RefusesWords}
-use Rattle.span_cli.proofs.AskedLemmas.{taken_asks, unrefused_asks}
-use Rattle.span_cli.proofs.ServingLemmas.{memory_serves, words_refused}
+use Rattle.span_cli.proofs.AskedLemmas.{taken_asks, unrefused_asks, unrefused_taken}
+use Rattle.span_cli.proofs.ReadLemmas.{nothing_read}
+use Rattle.span_cli.proofs.ServingLemmas.{memory_serves, memory_told, words_refused}
 use Rattle.span_cli.proofs.words.answer_words.Goals as goal
 
 pub returns-in-Err-clause-words : goal.returns-in-Err-clause-words
@@ -15,12 +14,21 @@ returns-in-Err-clause-words g c =
 pub returns-in-Err-clause-taken : goal.returns-in-Err-clause-taken
 returns-in-Err-clause-taken g c = λ taken.
     let words = map g.T.AsStr.text c.args.words.now in
-    let told = subst (λ (k : ErrorKind). RefusesWords k c.refuse.result c.args.out.now c.refuse.new.out c.args.err.now c.refuse.new.err)
-    (c.in-Err.ensures.err taken) c.refuse.ensures in
-    memory_serves (g.S.Sources.file c.args.sources.now) (asked_in words) _ _ _ _ _ (taken_asks words taken) told
+    memory_serves (g.S.Sources.file c.args.sources.now) (asked_in words) _ _ _ _ _ (taken_asks words taken)
+    (memory_told c.in-Err.error _ _ _ _ _ (c.in-Err.ensures.err taken) c.refuse.ensures)
+
+pub returns-in-Err-clause-reads : goal.returns-in-Err-clause-reads
+returns-in-Err-clause-reads g c =
+    nothing_read g.S.Sources.reads _ (map g.T.AsStr.text c.args.words.now) _ (λ taken.
+    memory_told c.in-Err.error _ _ _ _ _ (c.in-Err.ensures.err taken) c.refuse.ensures)
 
 pub returns-in-Ok-clause-words : goal.returns-in-Ok-clause-words
 returns-in-Ok-clause-words g c = rw (c.in-Ok.ensures.kinds, c.in-Ok.ensures.ok) c.serve.ensures.answer
 
 pub returns-in-Ok-clause-taken : goal.returns-in-Ok-clause-taken
 returns-in-Ok-clause-taken g c = λ taken. rw (c.in-Ok.ensures.ok) c.serve.ensures.answer
+
+pub returns-in-Ok-clause-reads : goal.returns-in-Ok-clause-reads
+returns-in-Ok-clause-reads g c =
+    let words = map g.T.AsStr.text c.args.words.now in
+    inl (rw (unrefused_taken words c.in-Ok.ensures.kinds, c.in-Ok.ensures.ok) c.serve.ensures.reads)

@@ -1,11 +1,10 @@
-use Rattle.std.proofs.Common.{◌≡◌, inl, map, subst, rules}
+use Rattle.std.proofs.Common.{◌≡◌, inl, map, rules}
 use Rattle.clap.specs.Words.{kind_of}
-use Rattle.clap.specs.declared.error.kind.ErrorKind.{ErrorKind}
 use Rattle.clap.specs.declared.error.kind.ErrorKind.TheVariants.{OutOfMemory}
-use Rattle.span_cli.specs.Telling.{RefusesWords}
 use Rattle.span_cli.specs.Words.{asked_in, joined_words, kinds_of}
 use Rattle.span_cli.proofs.AskedLemmas.{taken_asks, unrefused_asks}
-use Rattle.span_cli.proofs.ServingLemmas.{memory_serves, words_refused}
+use Rattle.span_cli.proofs.ReadLemmas.{nothing_read}
+use Rattle.span_cli.proofs.ServingLemmas.{memory_serves, memory_told, words_refused}
 use Rattle.span_cli.proofs.words.run_words.Goals as goal
 
 pub returns-in-Ok-clause-taken : goal.returns-in-Ok-clause-taken
@@ -13,6 +12,9 @@ returns-in-Ok-clause-taken g c = rw (← c.in-Ok.ensures, ← c.deref.ensures.va
 
 pub returns-in-Ok-clause-words : goal.returns-in-Ok-clause-words
 returns-in-Ok-clause-words g c = rw (← c.in-Ok.ensures, ← c.deref.ensures.value) c.answer_words.ensures.words
+
+pub returns-in-Ok-clause-reads : goal.returns-in-Ok-clause-reads
+returns-in-Ok-clause-reads g c = rw (← c.in-Ok.ensures, ← c.deref.ensures.value) c.answer_words.ensures.reads
 
 pub returns-in-Err-clause-words : goal.returns-in-Err-clause-words
 returns-in-Err-clause-words g c =
@@ -25,6 +27,11 @@ pub returns-in-Err-clause-taken : goal.returns-in-Err-clause-taken
 returns-in-Err-clause-taken g c = λ taken.
     let words = joined_words (map g.T.AsStr.text c.args.words.now) in
     let wanted : kind_of c.from.result ≡ OutOfMemory = search rules in
-    let told = subst (λ (k : ErrorKind). RefusesWords k c.refuse.result c.args.out.now c.refuse.new.out c.args.err.now c.refuse.new.err)
-    wanted c.refuse.ensures in
-    memory_serves (g.S.Sources.file c.args.sources.now) (asked_in words) _ _ _ _ _ (taken_asks words taken) told
+    memory_serves (g.S.Sources.file c.args.sources.now) (asked_in words) _ _ _ _ _ (taken_asks words taken)
+    (memory_told c.from.result _ _ _ _ _ wanted c.refuse.ensures)
+
+pub returns-in-Err-clause-reads : goal.returns-in-Err-clause-reads
+returns-in-Err-clause-reads g c =
+    let wanted : kind_of c.from.result ≡ OutOfMemory = search rules in
+    nothing_read g.S.Sources.reads _ (joined_words (map g.T.AsStr.text c.args.words.now)) _ (λ taken.
+    memory_told c.from.result _ _ _ _ _ wanted c.refuse.ensures)
