@@ -1,25 +1,55 @@
 //! Files of the system.
+ghost use Rattle.span_cli.specs.Sources.{IsOpened};
+ghost use Rattle.span_cli.specs.declared.sources.TheConstants.{FILE_CAP};
 ghost use Rattle.span_tables.specs.Names.{is_among};
-ghost use Rattle.std.specs.Fs.{IsFile, file_type};
-ghost use Rattle.std.specs.Prelude.{[], ◌∷◌, ◌≡◌, ◌++◌, Err, IfErr, IfOk, true};
+ghost use Rattle.std.specs.Prelude.{[], ◌∷◌, ◌≡◌, ◌≢◌, ◌<◌, ◌≤◌, ◌⊎◌, ◌++◌, Err, IfErr, IfOk, IfSome, length, true, vec_len};
 
 use crate::reading::read_file;
 use crate::sources::{ReadFault, Sources};
 use crate::streams::Streams;
 use std::alloc::Global;
 use std::fs::{Metadata, OpenFile};
+use std::io;
+use std::io::Read;
 use std::rt::Files;
+
+/// Something that opens files by their names, as each runtime with [`Files`] does.
+pub trait OpenByName {
+    ghost use Rattle.std.specs.Prelude.{IfOk, List, ℕ};
+    ghost use Rattle.std.specs.declared.fs.attrs.Metadata.{Metadata};
+
+    /// An open file.
+    type File: Read + Drop;
+
+    // That the file of a name was opened, and what its metadata are. Code that is generic over this trait knows it by a call of
+    // `open_by_name` alone.
+    ghost opens: { Self → List ℕ → Self.File → Metadata → Type 0 } = { λ _ _ _ _. Unit {0} };
+
+    /// Opens the file of a name for reading, and asks for its metadata.
+    fn open_by_name(&self, name: &str) -> io::Result<(Self::File, Metadata)>
+        ensures { IfOk result (λ opened. opens self.now name.now opened.0 opened.1) };
+}
+
+impl<R: Files> OpenByName for R {
+    type File = R::File;
+
+    fn open_by_name(&self, name: &str) -> io::Result<(R::File, Metadata)> {
+        let file = std::fs::open(self, name)?;
+        let metadata = file.metadata()?;
+        Ok((file, metadata))
+    }
+}
 
 /// The files of a runtime.
 ///
-/// A stream, as a pipe, gives its bytes once. So the names of those that were read are kept, and none is read a second time.
+/// A stream, such as a pipe, gives its bytes once. So the names of those that were read are kept, and none is read a second time.
 #[derive(Drop)]
-pub struct Disk<'a, R: Files> {
+pub struct Disk<'a, R: OpenByName> {
     rt: &'a R,
     streams: Streams,
 }
 
-impl<'a, R: Files> Disk<'a, R> {
+impl<'a, R: OpenByName> Disk<'a, R> {
     /// The files that this runtime opens by their names.
     pub fn new(alloc: Global, rt: &'a R) -> Disk<'a, R>
         ensures { result.streams ≡ [] }
@@ -31,30 +61,38 @@ impl<'a, R: Files> Disk<'a, R> {
     }
 
     // Opens the file of a name, unless it is a stream that was read, and keeps the name of a stream. The metadata say which it is.
-    fn open(&mut self, alloc: Global, name: &str) -> Result<(R::File, Metadata), ReadFault>
+    fn open(&mut self, alloc: Global, name: &str) -> Result<R::File, ReadFault>
         ensures once { is_among self.old.streams name.now ≡ true → result ≡ Err ReadFault.Failed }
-        ensures stream { IfOk result (λ opened. (IsFile (file_type opened.1) → ⊥)
-            → self.new.streams ≡ self.old.streams ++ name.now ∷ []) }
-        ensures file { IfOk result (λ opened. IsFile (file_type opened.1) → self.new.streams ≡ self.old.streams) }
+        ensures opened { IfOk result (λ opened. IsOpened (R.opens self.old.rt.now name.now)
+            self.old.streams name.now self.new.streams (λ file. file ≡ opened)) }
         ensures same { IfErr result (λ _. self.new.streams ≡ self.old.streams) }
+        ensures fault { result ≢ Err ReadFault.TooLong }
     {
         if !self.streams.may_read(name) {
             return Err(ReadFault::Failed);
         }
-        let Ok(file) = std::fs::open(self.rt, name) else {
-            return Err(ReadFault::Failed);
-        };
-        let Ok(metadata) = file.metadata() else {
+        let Ok((file, metadata)) = self.rt.open_by_name(name) else {
             return Err(ReadFault::Failed);
         };
         self.streams.keep_unless_file(alloc, name, &metadata)?;
-        Ok((file, metadata))
+        Ok(file)
     }
 }
 
-impl<'a, R: Files> Sources for Disk<'a, R> {
-    fn read(&mut self, alloc: Global, name: &str) -> Result<Vec<u8>, ReadFault> {
-        let (file, _) = self.open(alloc, name)?;
+impl<'a, R: OpenByName> Sources for Disk<'a, R> {
+    /// The bytes of the file of a name. The name of a stream is kept when the stream is opened, also if reading it then fails; a name that
+    /// was kept is refused as one that cannot be read.
+    fn read(&mut self, alloc: Global, name: &str) -> Result<Vec<u8>, ReadFault>
+        ensures once { is_among self.old.streams name.now ≡ true → result ≡ Err ReadFault.Failed }
+        ensures kept { (self.new.streams ≡ self.old.streams) ⊎ (self.new.streams ≡ self.old.streams ++ name.now ∷ []) }
+        // What is read of the file that was opened, as `read_file` has it.
+        ensures whole { IfOk result (λ bytes. IsOpened (R.opens self.old.rt.now name.now) self.old.streams name.now self.new.streams
+            (λ file. IfSome (R.File.remaining file) (λ all. bytes.items ≡ all))) }
+        ensures within { IfOk result (λ bytes. vec_len bytes ≤ FILE_CAP) }
+        ensures too_long { result ≡ Err ReadFault.TooLong → IsOpened (R.opens self.old.rt.now name.now)
+            self.old.streams name.now self.new.streams (λ file. IfSome (R.File.remaining file) (λ all. FILE_CAP < length all)) }
+    {
+        let file = self.open(alloc, name)?;
         read_file(alloc, file)
     }
 }
