@@ -324,7 +324,8 @@ class CodeFile:
             signature, header = (
                 re.sub(rf"(?m)^{indent}", "", self.text[begin:last].rstrip()) for last in (head, end)
             )
-            public = match.group(2) == "pub " or (owner or "").startswith("pub trait ")
+            # clauses in the impl of a trait are a method's own, in place of the trait's
+            public = match.group(2) == "pub " or re.match(r"pub trait |impl.* for " if clauses else "pub trait ", owner or "")
             doc = doc_of(above(self.text, match.start()))
             yield Function(begin, match.group(3), doc, signature, header, clauses, public, owner)
 
