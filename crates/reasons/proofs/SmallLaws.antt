@@ -39,7 +39,7 @@ use Rattle.reasons.specs.declared.shown.ShownMonth.{ShownMonth}
 use Rattle.reasons.specs.declared.shown.ShownSpot.{ShownSpot}
 
 -- what is shown where a number is more than 0
-in_if : {A : Type 0} (P : A → Type 0) (b : Bool) (n : ℕ) (x : A) → (n == 0) ≡ b → (0 < n → P x) → All P (cond b [] (x ∷ []))
+pub in_if : {A : Type 0} (P : A → Type 0) (b : Bool) (n : ℕ) (x : A) → (n == 0) ≡ b → (0 < n → P x) → All P (cond b [] (x ∷ []))
 in_if P true n x e is = All-nil P
 in_if P false n x e is = All-cons P x [] (is (grind (arith, nat_tests, e))) (All-nil P)
 
@@ -171,19 +171,23 @@ inter_in_small s leg d n fits points =
     (record { priority = s.priority; direction = d; formed = n; used = n * leg.ratio; basis_points = s.basis_points }) refl
     (λ some. record { some = some; formed = few; used = fits.used; basis_points = points })
 
--- what is found is one of all
-pub found_is : {A : Type 0} (P : A → Type 0) (p : A → Bool) (xs : List A) (x : A) → find p xs ≡ Some x → All P xs → P x
-found_is P p [] x e all = cc
-found_is P p (y ∷ ys) x e all =
-    by_test (p y) refl (λ later. found_is P p ys x later (All-tail P y ys all)) where
+-- what is found is one of all that pass the test
+pub found_has : {A : Type 0} (P : A → Type 0) (p : A → Bool) (xs : List A) (x : A) → find p xs ≡ Some x
+    → All (λ y. p y ≡ true → P y) xs → P x
+found_has P p [] x e all = cc
+found_has P p (y ∷ ys) x e all =
+    by_test (p y) refl (λ later. found_has P p ys x later (All-tail (λ z. p z ≡ true → P z) y ys all)) where
       by_test : (b : Bool) → p y ≡ b → (find p ys ≡ Some x → P x) → P x
       by_test true is behind =
           let at : cond (p y) (Some y) (find p ys) ≡ Some y = ap (λ b. cond b (Some y) (find p ys)) is in
           let same : y ≡ x = cc in
-          subst P same (All-head P y ys all)
+          subst P same (All-head (λ z. p z ≡ true → P z) y ys all is)
       by_test false is behind =
           let at : cond (p y) (Some y) (find p ys) ≡ find p ys = ap (λ b. cond b (Some y) (find p ys)) is in
           behind (sym at ∙ e)
+
+pub found_is : {A : Type 0} (P : A → Type 0) (p : A → Bool) (xs : List A) (x : A) → find p xs ≡ Some x → All P xs → P x
+found_is P p xs x e all = found_has P p xs x e (λ k d lt passes. all k d lt)
 
 -- the rests of all commodities are within their limit
 abbrev pub AreSmallRests : List CommodityState → Type 0

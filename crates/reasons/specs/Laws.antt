@@ -1,12 +1,17 @@
 -- What the laws speak of.
-use Rattle.std.specs.Prelude.{ℕ, ◌≡◌, ◌+◌, ◌++◌, ◌==◌, max, Bool, true, false, not, List, filter, length, codes, ℤ, nat_abs}
+use Rattle.std.specs.Prelude.{ℕ, ◌≡◌, ◌+◌, ◌++◌, ◌==◌, max, Bool, true, false, not, Contains, List, filter, length, codes}
+use Rattle.std.specs.Prelude.{ℤ, pos, ◌+ℤ◌, ◌*ℤ◌, nat_abs}
+use Rattle.std.specs.Fmt.{decimal}
 use Rattle.std.specs.List.{range_with_len}
+use Rattle.span_money.specs.LineFields.{Line}
 use Rattle.span_money.specs.Numbers.{int_sum_by}
 use Rattle.span_tables.specs.Accepted.{IsWithinLimits}
 use Rattle.span_tables.specs.Holdings.{ArePortfolio, fits}
 use Rattle.span_tables.specs.Sides.{market_side}
-use Rattle.span_tables.specs.Tables.{AcceptedTables}
+use Rattle.span_tables.specs.Tables.{AcceptedTables, inters_of}
 use Rattle.span_tables.specs.declared.portfolios.Holding.{Holding}
+use Rattle.span_tables.specs.declared.records.CommodityLeg.{CommodityLeg}
+use Rattle.span_tables.specs.declared.records.Inter.{Inter}
 use Rattle.span_tables.specs.declared.records.MinimumMethod.{MinimumMethod}
 use Rattle.span_tables.specs.declared.records.MinimumMethod.TheVariants as method
 use Rattle.span_tables.specs.declared.records.Side.{Side}
@@ -18,6 +23,7 @@ use Rattle.span_tables.specs.declared.sides.MarketSide.TheVariants.{Long, Short}
 use Rattle.spread_stage.specs.Deltas.{units_at}
 use Rattle.inter_credit.specs.OptionValue.{position_value}
 use Rattle.plan_ir.specs.Figures.{deltas_at, held_at, is_commodity_held, spots_at}
+use Rattle.reasons.specs.Lines.{lines_of, number_at, text_at}
 
 -- short calls and short puts as a method counts them: both together, or the larger of the two
 abbrev pub counted : MinimumMethod → ℕ → ℕ → ℕ
@@ -49,6 +55,27 @@ is_long_in d s = is_long (market_side d s)
 -- the SPOT records of the commodity of a number whose month has a delta other than 0
 abbrev pub spots_with_delta : AcceptedTables → List Holding → ℕ → List Spot
 spots_with_delta t holdings c = filter (λ s. not (nat_abs (units_at (deltas_at t holdings c) s.month) == 0)) (spots_at t c)
+
+-- An INTER line is of a record with a leg in the commodity of a number: it has the record's priority and basis points, and the delta
+-- used is its spreads times the ratio of this leg.
+pub record IsOfRecord (t : AcceptedTables) (c : ℕ) (l : Line) : Type 0 where
+  pub spread : Inter
+  pub leg : CommodityLeg
+  pub recorded : Contains (inters_of t) spread
+  pub has_leg : Contains spread.legs leg
+  pub of_commodity : leg.commodity ≡ c
+  pub priority : text_at l 0 ≡ decimal spread.priority
+  pub used : number_at 8 l 3 ≡ number_at 4 l 2 *ℤ pos leg.ratio
+  pub basis_points : number_at 0 l 4 ≡ pos spread.basis_points
+
+-- A SPOT line agrees with the MONTH line of its month: left is the size of what this has left, and used and left together are the size
+-- of its delta.
+pub record AgreesWithItsMonth (lines : List Line) (l : Line) : Type 0 where
+  pub month_line : Line
+  pub shown : Contains (lines_of (codes "MONTH") lines) month_line
+  pub month : text_at l 0 ≡ text_at month_line 0
+  pub left : number_at 8 l 3 ≡ pos (nat_abs (number_at 8 month_line 2))
+  pub all : number_at 8 l 1 +ℤ number_at 8 l 3 ≡ pos (nat_abs (number_at 8 month_line 1))
 
 -- a list stands in another, in one piece
 abbrev pub StandsIn : {A : Type 0} → List A → List A → Type 0

@@ -3,7 +3,8 @@
 ghost use Rattle.inter_credit.specs.OptionValue.{position_value};
 ghost use Rattle.inter_credit.specs.Requirement.{is_call, is_put};
 ghost use Rattle.plan_ir.specs.Figures.{deltas_at, figures_of, held_at, numbers_of, tiers_at};
-ghost use Rattle.reasons.specs.Laws.{AreAccepted, is_long_in, side_letter, spots_with_delta, values_shown_at};
+ghost use Rattle.reasons.specs.Laws.{AgreesWithItsMonth, AreAccepted, IsOfRecord, is_long_in, side_letter, spots_with_delta};
+ghost use Rattle.reasons.specs.Laws.{values_shown_at};
 ghost use Rattle.reasons.specs.Lines.{credit_by_lines, delivery_by_lines, figures_by_lines, intra_by_lines, line_of, lines_of};
 ghost use Rattle.reasons.specs.Lines.{minimum_by_lines, net_by_lines, number_at, short_by_lines, sums_by_lines, text_at};
 ghost use Rattle.reasons.specs.Lines.{value_by_lines, weight_by_lines, words_in_order, words_of_one};
@@ -69,8 +70,10 @@ pub fn intracommodity_charge_follows_from_the_intra_lines()
         → All (λ l. pos 0 <ℤ number_at 4 l 2) (lines_of (codes "INTRA") (reasons_of t holdings c)) }
 {}
 
-/// The INTRA lines and the INTER lines are the spreads shown, each with its priority. The long side of a line is `A` exactly if the legs of
-/// side A are long in the direction of its spread, and `B` exactly if the legs of side B are.
+/// The INTRA lines and the INTER lines are the spreads shown, each with its priority and with as many spreads as form. The long side of a
+/// line is `A` exactly if the legs of side A are long in the direction of its spread, and `B` exactly if the legs of side B are. An INTRA
+/// line has the rate of its spread. The delta used of an INTER line is its spreads times the ratio of a leg that its record has in the
+/// commodity.
 pub fn spread_lines_have_each_spread()
     ensures intra_priorities { (t : AcceptedTables) (holdings : List Holding) (c : ℕ)
         → map (λ l. text_at l 0) (lines_of (codes "INTRA") (reasons_of t holdings c))
@@ -78,16 +81,27 @@ pub fn spread_lines_have_each_spread()
     ensures intra_sides { (t : AcceptedTables) (holdings : List Holding) (c : ℕ) (side : Side)
         → map (λ l. bytes_eq (text_at l 1) (side_letter side)) (lines_of (codes "INTRA") (reasons_of t holdings c))
         ≡ map (λ s. is_long_in s.direction side) (intras_shown_at t holdings c) }
+    ensures intra_spreads { (t : AcceptedTables) (holdings : List Holding) (c : ℕ) → AreAccepted t holdings
+        → map (λ l. number_at 4 l 2) (lines_of (codes "INTRA") (reasons_of t holdings c))
+        ≡ map (λ s. pos s.formed) (intras_shown_at t holdings c) }
+    ensures intra_rates { (t : AcceptedTables) (holdings : List Holding) (c : ℕ)
+        → map (λ l. text_at l 3) (lines_of (codes "INTRA") (reasons_of t holdings c))
+        ≡ map (λ s. decimal s.rate) (intras_shown_at t holdings c) }
     ensures inter_priorities { (t : AcceptedTables) (holdings : List Holding) (c : ℕ)
         → map (λ l. text_at l 0) (lines_of (codes "INTER") (reasons_of t holdings c))
         ≡ map (λ s. decimal s.priority) (inters_shown_at t holdings c) }
     ensures inter_sides { (t : AcceptedTables) (holdings : List Holding) (c : ℕ) (side : Side)
         → map (λ l. bytes_eq (text_at l 1) (side_letter side)) (lines_of (codes "INTER") (reasons_of t holdings c))
         ≡ map (λ s. is_long_in s.direction side) (inters_shown_at t holdings c) }
+    ensures inter_spreads { (t : AcceptedTables) (holdings : List Holding) (c : ℕ) → AreAccepted t holdings
+        → map (λ l. number_at 4 l 2) (lines_of (codes "INTER") (reasons_of t holdings c))
+        ≡ map (λ s. pos s.formed) (inters_shown_at t holdings c) }
+    ensures inter_records { (t : AcceptedTables) (holdings : List Holding) (c : ℕ) → AreAccepted t holdings
+        → All (IsOfRecord t c) (lines_of (codes "INTER") (reasons_of t holdings c)) }
 {}
 
 /// The SPOT lines are the SPOT records of the commodity, in their order, whose month has a delta other than 0. Each has the month, the
-/// spread rate and the outright rate of its record.
+/// spread rate and the outright rate of its record. It agrees with the MONTH line of this month.
 pub fn spot_lines_have_each_spot_month()
     ensures months { (t : AcceptedTables) (holdings : List Holding) (c : ℕ)
         → map (λ l. text_at l 0) (lines_of (codes "SPOT") (reasons_of t holdings c))
@@ -98,6 +112,8 @@ pub fn spot_lines_have_each_spot_month()
     ensures outright_rates { (t : AcceptedTables) (holdings : List Holding) (c : ℕ)
         → map (λ l. text_at l 4) (lines_of (codes "SPOT") (reasons_of t holdings c))
         ≡ map (λ s. decimal s.outright_rate) (spots_with_delta t holdings c) }
+    ensures month_lines { (t : AcceptedTables) (holdings : List Holding) (c : ℕ) → AreAccepted t holdings
+        → All (AgreesWithItsMonth (reasons_of t holdings c)) (lines_of (codes "SPOT") (reasons_of t holdings c)) }
 {}
 
 /// The delivery charge is the sum of the charges of the SPOT lines, rounded up; each of these is used times spread rate and left times
