@@ -1,7 +1,7 @@
 -- What is read of an account's lines: the numbers of an R line, and the sums that its T line has.
 use Rattle.std.proofs.Common.{◌≡◌, ℕ, ◌^◌, ◌<◌, Bool, true, false, cond, List, [], ◌∷◌, ◌++◌, length, get_or, flat_map, map}
 use Rattle.std.proofs.Common.{refl, sym, ap, ◌∙◌, arith}
-use Rattle.std.specs.Prelude.{All, ℤ, pos, ◌+ℤ◌, bytes_eq, codes, fold, nat_abs, slice_index_or}
+use Rattle.std.specs.Prelude.{All, ℤ, pos, negsuc, ◌+ℤ◌, ◌-ℤ◌, bytes_eq, codes, fold, nat_abs, slice_index_or}
 use Rattle.std.specs.Fmt.{signed_decimal}
 use Rattle.std.specs.List.{range_with_len}
 use Rattle.std.proofs.lemmas.Int.{ints}
@@ -11,7 +11,7 @@ use Rattle.std.proofs.lemmas.List.FromFn.{get_or-range_with_len, length-range_wi
 use Rattle.std.proofs.lemmas.List.Sums.{fold-append}
 use Rattle.span_money.specs.ExactDecimals.{exact_value}
 use Rattle.span_money.specs.LineFields.{Line}
-use Rattle.span_money.specs.Numbers.{int_sum_by}
+use Rattle.span_money.specs.Numbers.{int_sum_by, positive_part}
 use Rattle.span_tables.specs.Net.{AccountHoldings}
 use Rattle.span_tables.specs.Tables.{AcceptedTables, facts_in}
 use Rattle.span_tables.proofs.SumLaws.{int_sum_from}
@@ -160,11 +160,18 @@ module _ (t : AcceptedTables) (p : AccountHoldings) (c : ℕ) where
 
 -- ---- a T line
 
+-- what is due, or in excess, of amounts that are not too large
+part_small : (a b : ℤ) → nat_abs a < 10 ^ 63 → nat_abs b < 10 ^ 63 → positive_part (a -ℤ b) < 10 ^ 64
+part_small a b few less = of_difference (a -ℤ b) (omega (arith, ints, few, less)) where
+  of_difference : (z : ℤ) → nat_abs z < 10 ^ 64 → positive_part z < 10 ^ 64
+  of_difference (pos n) few = few
+  of_difference (negsuc n) few = omega arith
+
 module _ (t : AcceptedTables) (p : AccountHoldings) where
-  abbrev in_front : List Line
+  abbrev pub in_front : List Line
   in_front = flat_map (commodity_lines t p) (range_with_len 0 (length t.commodities))
 
-  abbrev t_line : Line
+  abbrev pub t_line : Line
   t_line = total_line p.account t.set_id (total_numbers t (total_of t p) (option_value_of t p.holdings))
 
   pub t_word : t_line.word ≡ codes "T"
@@ -173,13 +180,15 @@ module _ (t : AcceptedTables) (p : AccountHoldings) where
 
   total_read : AreAccepted t p.holdings → number_at 0 t_line 2 ≡ total_of t p
   unfolding total_line
-  total_read ok = by (facts_in t).options_have_value ∙ whole_read (total_of t p) (total_is_small t p.holdings ok) where
-    by : (b : Bool) → exact_value 0 (slice_index_or (p.account ∷ t.set_id ∷ map signed_decimal
-        (cond b (total_of t p ∷ option_value_of t p.holdings ∷ pos (due_of (total_of t p) (option_value_of t p.holdings))
-        ∷ pos (excess_of (total_of t p) (option_value_of t p.holdings)) ∷ []) (total_of t p ∷ []))) 2 [])
-        ≡ exact_value 0 (signed_decimal (total_of t p))
-    by true = refl
-    by false = refl
+  total_read ok =
+      by (facts_in t).options_have_value
+      ∙ whole_read (total_of t p) (let few = total_is_small t p.holdings ok in omega (arith, few)) where
+        by : (b : Bool) → exact_value 0 (slice_index_or (p.account ∷ t.set_id ∷ map signed_decimal
+            (cond b (total_of t p ∷ option_value_of t p.holdings ∷ pos (due_of (total_of t p) (option_value_of t p.holdings))
+            ∷ pos (excess_of (total_of t p) (option_value_of t p.holdings)) ∷ []) (total_of t p ∷ []))) 2 [])
+            ≡ exact_value 0 (signed_decimal (total_of t p))
+        by true = refl
+        by false = refl
 
   pub total_told : AreAccepted t p.holdings
       → number_at 0 t_line 2 ≡ int_sum_by (λ l. number_at 0 l 9) (lines_of (codes "R") in_front)
@@ -195,17 +204,35 @@ module _ (t : AcceptedTables) (p : AccountHoldings) where
       requirement_told t p (get_or numbers k d) ok (omega (arith, at, lt, long))))
 
   module _ (has : (facts_in t).options_have_value ≡ true) where
-    worth_of : option_value_of t p.holdings ≡ value_to t p.holdings (length t.commodities)
-    worth_of = ap (λ b. cond b (value_to t p.holdings (length t.commodities)) (pos 0)) has
+    abbrev worth : ℤ
+    worth = value_to t p.holdings (length t.commodities)
 
-    value_read : AreAccepted t p.holdings → number_at 0 t_line 3 ≡ value_to t p.holdings (length t.commodities)
+    fields_are : t_line.fields ≡ p.account ∷ t.set_id ∷ map signed_decimal
+        (total_of t p ∷ worth ∷ pos (due_of (total_of t p) worth) ∷ pos (excess_of (total_of t p) worth) ∷ [])
     unfolding total_line
+    fields_are =
+        ap (λ b. let value = cond b worth (pos 0) in p.account ∷ t.set_id ∷ map signed_decimal
+        (cond b (total_of t p ∷ value ∷ pos (due_of (total_of t p) value) ∷ pos (excess_of (total_of t p) value) ∷ [])
+        (total_of t p ∷ []))) has
+
+    value_read : AreAccepted t p.holdings → number_at 0 t_line 3 ≡ worth
     value_read ok =
-        ap (λ b. exact_value 0 (slice_index_or (p.account ∷ t.set_id ∷ map signed_decimal
-        (cond b (total_of t p ∷ option_value_of t p.holdings ∷ pos (due_of (total_of t p) (option_value_of t p.holdings))
-        ∷ pos (excess_of (total_of t p) (option_value_of t p.holdings)) ∷ []) (total_of t p ∷ []))) 3 [])) has
-        ∙ ap (λ z. exact_value 0 (signed_decimal z)) worth_of
-        ∙ whole_read (value_to t p.holdings (length t.commodities)) (value_is_small t p.holdings ok)
+        ap (λ fields. exact_value 0 (slice_index_or fields 3 [])) fields_are
+        ∙ whole_read worth (let few = value_is_small t p.holdings ok in omega (arith, few))
+
+    pub due_told : AreAccepted t p.holdings → number_at 0 t_line 4 ≡ pos (due_of (number_at 0 t_line 2) (number_at 0 t_line 3))
+    due_told ok =
+        ap (λ fields. exact_value 0 (slice_index_or fields 4 [])) fields_are
+        ∙ whole_read (pos (due_of (total_of t p) worth))
+        (part_small (total_of t p) worth (total_is_small t p.holdings ok) (value_is_small t p.holdings ok))
+        ∙ (λ i. pos (due_of (sym (total_read ok) i) (sym (value_read ok) i)))
+
+    pub excess_told : AreAccepted t p.holdings → number_at 0 t_line 5 ≡ pos (excess_of (number_at 0 t_line 2) (number_at 0 t_line 3))
+    excess_told ok =
+        ap (λ fields. exact_value 0 (slice_index_or fields 5 [])) fields_are
+        ∙ whole_read (pos (excess_of (total_of t p) worth))
+        (part_small worth (total_of t p) (value_is_small t p.holdings ok) (total_is_small t p.holdings ok))
+        ∙ (λ i. pos (excess_of (sym (total_read ok) i) (sym (value_read ok) i)))
 
     pub value_summed : AreAccepted t p.holdings
         → ((c : ℕ) → value_by_lines (reasons_of t p.holdings c) ≡ values_shown_at t p.holdings c)

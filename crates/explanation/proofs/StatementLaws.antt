@@ -22,7 +22,7 @@ use Rattle.statement.specs.Statement.{row_text, same, statement_bound, statement
 use Rattle.statement.specs.Statement.{total_numbers, total_of}
 use Rattle.statement.specs.declared.faults.SpanFault.{SpanFault}
 use Rattle.statement.specs.declared.faults.SpanFault.TheVariants as fault
-use Rattle.explanation.specs.Explanation.{account_lines, account_text, commodity_lines, explained, explanation_of, reason_line}
+use Rattle.explanation.specs.Explanation.{account_lines, account_text, commodity_lines, explanation_of, reason_line}
 use Rattle.explanation.specs.Laws.{is_of_statement, lines_read}
 use Rattle.explanation.proofs.AcceptedLemmas.{accounts_named, tables_read}
 use Rattle.explanation.proofs.FileLemmas.{accepted_explained}
@@ -184,11 +184,23 @@ module _ (params positions text : List ℕ) where
   unfolding statement_of
   have_statement is = of_tables (accepted_of params) refl is
 
--- the text of all accounts
-all_explained : (t : AcceptedTables) (portfolios : List AccountHoldings)
-    → explained t portfolios None ≡ Ok (flat_map line (flat_map (account_lines t) portfolios))
-unfolding account_text
-all_explained t portfolios = ap Ok (sym (texts_of (account_lines t) portfolios))
+-- ---- of all accounts
+
+module _ (params positions : List ℕ) (t : AcceptedTables) (records : List PositionRecord) (portfolios : List AccountHoldings)
+    (accepted : accepted_of params ≡ Ok t) (read : positions_of positions ≡ Ok records) (bound : portfolios_under t records ≡ Ok portfolios)
+  where
+    -- the explanation of all accounts is the lines of each, one account after the other
+    pub all_explained : explanation_of params positions None ≡ Ok (flat_map line (flat_map (account_lines t) portfolios))
+    unfolding account_text
+    all_explained =
+        accepted_explained params positions None t records portfolios accepted read bound
+        ∙ ap Ok (sym (texts_of (account_lines t) portfolios))
+
+    -- these are the lines that are read of it
+    pub all_read : lines_read (flat_map line (flat_map (account_lines t) portfolios)) ≡ flat_map (account_lines t) portfolios
+    all_read =
+        lines_are_read (flat_map (account_lines t) portfolios)
+        (accounts_plain t (tables_read params t accepted).named portfolios (accounts_named t positions records portfolios read bound))
 
 pub files_contained : (params positions text : List ℕ) → statement_of params positions ≡ Ok text
     → (told : List ℕ) × (explanation_of params positions None ≡ Ok told) × (flat_map line (lines_read told) ≡ told)
@@ -196,13 +208,9 @@ pub files_contained : (params positions text : List ℕ) → statement_of params
 files_contained params positions text is =
     let files = have_statement params positions text is in
     let t = files.tables in
-    let lines = flat_map (account_lines t) files.portfolios in
-    let read : lines_read (flat_map line lines) ≡ lines =
-    lines_are_read lines (accounts_plain t (tables_read params t files.accepted).named files.portfolios
-    (accounts_named t positions files.records files.portfolios files.read files.bound)) in (
-      flat_map line lines,
-      accepted_explained params positions None t files.records files.portfolios files.accepted files.read files.bound
-          ∙ all_explained t files.portfolios,
+    let read = all_read params positions t files.records files.portfolios files.accepted files.read files.bound in (
+      flat_map line (flat_map (account_lines t) files.portfolios),
+      all_explained params positions t files.records files.portfolios files.accepted files.read files.bound,
       ap (flat_map line) read,
       ap (λ ls. flat_map line (of_statement ls)) read ∙ accounts_contained t files.portfolios ∙ files.is,
     )

@@ -2,6 +2,7 @@
 //! of a function that does nothing.
 ghost use Rattle.explanation.specs.Explanation.{account_lines, commodity_lines, explanation_of};
 ghost use Rattle.explanation.specs.Laws.{behind_ids, is_of_statement, lines_read};
+ghost use Rattle.inter_credit.specs.OptionValue.{due_of, excess_of};
 ghost use Rattle.plan_ir.specs.Figures.{figures_of, is_commodity_held, option_value_of};
 ghost use Rattle.reasons.specs.Laws.{AreAccepted, numbers_shown, values_shown_at};
 ghost use Rattle.reasons.specs.Lines.{figures_by_lines, lines_of, number_at};
@@ -16,7 +17,7 @@ ghost use Rattle.statement.specs.Statement.{accepted_of, portfolios_under, row_t
 ghost use Rattle.statement.specs.declared.faults.SpanFault.{SpanFault};
 ghost use Rattle.statement.specs.declared.faults.SpanFault.TheVariants as fault;
 ghost use Rattle.std.specs.Prelude.{[], ◌++◌, ◌<◌, ◌≡◌, ◌∷◌, All, Err, List, None, Ok, Option, Some, bytes_eq, codes, filter, find};
-ghost use Rattle.std.specs.Prelude.{flat_map, length, map, true, ℕ};
+ghost use Rattle.std.specs.Prelude.{flat_map, length, map, pos, true, ℕ};
 
 use reasons::line_laws::{figures_follow_from_the_lines, held_lines_have_each_held_contract};
 
@@ -51,6 +52,17 @@ pub fn an_account_is_explained_by_its_lines()
         → explanation_of params positions (Some name) ≡ Err (fault.UnknownAccount name) }
 {}
 
+/// The explanation of all accounts is the lines of each account, one account after the other; and these are the lines that are read of its
+/// text, cut at line feeds and commas.
+pub fn all_accounts_are_explained_by_their_lines()
+    ensures all { (params positions : List ℕ) (t : AcceptedTables) (records : List PositionRecord) (portfolios : List AccountHoldings)
+        → accepted_of params ≡ Ok t → positions_of positions ≡ Ok records → portfolios_under t records ≡ Ok portfolios
+        → explanation_of params positions None ≡ Ok (flat_map line (flat_map (account_lines t) portfolios)) }
+    ensures read { (params positions : List ℕ) (t : AcceptedTables) (records : List PositionRecord) (portfolios : List AccountHoldings)
+        → accepted_of params ≡ Ok t → positions_of positions ≡ Ok records → portfolios_under t records ≡ Ok portfolios
+        → lines_read (flat_map line (flat_map (account_lines t) portfolios)) ≡ flat_map (account_lines t) portfolios }
+{}
+
 /// Under accepted files each account has tables within their limits and holdings that fit them, of which the laws over lines speak.
 pub fn accounts_of_accepted_files_are_accepted()
     ensures { (params : List ℕ) (t : AcceptedTables) (records : List PositionRecord) (portfolios : List AccountHoldings)
@@ -67,8 +79,9 @@ pub fn an_r_line_follows_from_the_lines_in_front()
     figures_follow_from_the_lines();
 }
 
-/// The lines of an account end with its T line, whose total is the sum of the requirements of the R lines in front of it, and where
-/// options have a value, whose value is the sum of the values of the HELD lines.
+/// The lines of an account end with its T line, whose total is the sum of the requirements of the R lines in front of it. If options have
+/// a value, its value is the sum of the values of the HELD lines, its due is its total less its value, and its excess is its value less its
+/// total, each 0 if that is negative.
 pub fn a_t_line_follows_from_the_lines_in_front()
     ensures total { (t : AcceptedTables) (p : AccountHoldings) → AreAccepted t p.holdings
         → (front : List Line) × ((last : Line) × (account_lines t p ≡ front ++ last ∷ []) × (last.word ≡ codes "T")
@@ -76,6 +89,12 @@ pub fn a_t_line_follows_from_the_lines_in_front()
     ensures value { (t : AcceptedTables) (p : AccountHoldings) → AreAccepted t p.holdings → (facts_in t).options_have_value ≡ true
         → (front : List Line) × ((last : Line) × (account_lines t p ≡ front ++ last ∷ []) × (last.word ≡ codes "T")
         × (number_at 0 last 3 ≡ int_sum_by (λ l. number_at 0 l 7) (lines_of (codes "HELD") front))) }
+    ensures due { (t : AcceptedTables) (p : AccountHoldings) → AreAccepted t p.holdings → (facts_in t).options_have_value ≡ true
+        → (front : List Line) × ((last : Line) × (account_lines t p ≡ front ++ last ∷ []) × (last.word ≡ codes "T")
+        × (number_at 0 last 4 ≡ pos (due_of (number_at 0 last 2) (number_at 0 last 3)))) }
+    ensures excess { (t : AcceptedTables) (p : AccountHoldings) → AreAccepted t p.holdings → (facts_in t).options_have_value ≡ true
+        → (front : List Line) × ((last : Line) × (account_lines t p ≡ front ++ last ∷ []) × (last.word ≡ codes "T")
+        × (number_at 0 last 5 ≡ pos (excess_of (number_at 0 last 2) (number_at 0 last 3)))) }
 {
     held_lines_have_each_held_contract();
 }

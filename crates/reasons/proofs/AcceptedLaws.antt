@@ -173,7 +173,7 @@ module _ (t : AcceptedTables) (holdings : List Holding) (ok : AreAccepted t hold
 
 -- the total of an account
 pub total_is_small : (t : AcceptedTables) (holdings : List Holding) → AreAccepted t holdings
-    → nat_abs (total_to t holdings (length t.commodities)) < 10 ^ 64
+    → nat_abs (total_to t holdings (length t.commodities)) < 10 ^ 63
 unfolding total_to
 total_is_small t holdings ok =
     let n = length t.commodities in
@@ -187,7 +187,7 @@ total_is_small t holdings ok =
 
 -- the option value of an account
 pub value_is_small : (t : AcceptedTables) (holdings : List Holding) → AreAccepted t holdings
-    → nat_abs (value_to t holdings (length t.commodities)) < 10 ^ 64
+    → nat_abs (value_to t holdings (length t.commodities)) < 10 ^ 63
 unfolding value_to
 value_is_small t holdings ok =
     let n = length t.commodities in
