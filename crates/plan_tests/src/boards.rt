@@ -2,9 +2,10 @@
 ghost use Rattle.std.specs.Prelude.{◌≡◌, IfSome};
 ghost use Rattle.std.specs.Arc.{arc_value};
 
-use sample_files::{one_future, three_commodities};
+use sample_files::{one_future, three_commodities, two_commodities};
 use sample_sets::boards::{board_of, next_task};
 use sample_sets::files::job_of;
+use span_money::amounts::Money;
 use span_tables::portfolios::Portfolio;
 use std::alloc::Global;
 use std::process::Abort;
@@ -15,7 +16,14 @@ use step_scheduler::finished::Finished;
 use step_scheduler::jobs::Job;
 use step_scheduler::tasks::Task;
 
-// The task of the first step, of the three that a new board of one future hands out.
+// Expects that a board hands nothing out.
+fn expect_none_ready(rt: &impl Abort, board: &mut Board)
+    ensures { board.new.job ≡ board.old.job }
+{
+    assert!(rt; board.take_ready().expect(rt, "an answer").is_none());
+}
+
+// The task of the first step, of the three that a new board of one future hands out. It hands out no fourth one.
 fn first_task(rt: &impl Abort, board: &mut Board) -> Task
     ensures board { board.new.job ≡ board.old.job }
     ensures task { result.job ≡ board.old.job }
@@ -27,6 +35,7 @@ fn first_task(rt: &impl Abort, board: &mut Board) -> Task
             first = Some(task);
         }
     }
+    expect_none_ready(rt, board);
     first.expect(rt, "the first step")
 }
 
@@ -46,14 +55,20 @@ fn result_of(rt: &impl Abort, alloc: Global, job: &Arc<Job>, step: usize) -> Fin
     finished
 }
 
-// Offers a board a result that it does not take, for this reason: nothing happens to the board.
-fn expect_refused(rt: &impl Abort, board: &mut Board, finished: Finished, reason: Refused)
+// Offers a board a result that it does not take, for this reason: its history stays the same.
+fn expect_refused(
+    rt: &impl Abort,
+    alloc: Global,
+    board: &mut Board,
+    finished: Finished,
+    reason: Refused,
+)
     requires { finished.job ≡ board.old.job }
     ensures { board.new.job ≡ board.old.job }
 {
-    let before = board.history().len();
+    let before = Vec::from_slice(alloc, board.history()).expect(rt, "a history");
     assert!(rt; board.finish(finished) == Err(reason));
-    assert!(rt; board.history().len() == before);
+    assert!(rt; board.history() == before.as_slice());
 }
 
 // Two boards of one job, each with the task of its first step.
@@ -66,20 +81,13 @@ fn results_on_other_boards(rt: HostRuntime) {
     let mut b = board_of(alloc, &job).expect(&rt, "a board");
     let of_b = first_task(&rt, &mut b);
     assert!(rt; a.finish(evaluate(alloc, of_a)) == Ok(()));
-    expect_refused(&rt, &mut a, evaluate(alloc, of_b), Refused::NotTaken);
-    expect_refused(
-        &rt,
-        &mut b,
-        result_of(&rt, alloc, &job, 1),
-        Refused::NotTaken,
-    );
+    expect_refused(&rt, alloc, &mut a, evaluate(alloc, of_b), Refused::NotTaken);
+    let of_c = result_of(&rt, alloc, &job, 1);
+    expect_refused(&rt, alloc, &mut b, of_c, Refused::NotTaken);
     a.fail();
-    expect_refused(
-        &rt,
-        &mut a,
-        result_of(&rt, alloc, &job, 10),
-        Refused::Failed,
-    );
+    let of_c = result_of(&rt, alloc, &job, 10);
+    expect_refused(&rt, alloc, &mut a, of_c, Refused::Failed);
+    expect_none_ready(&rt, &mut a);
     assert!(rt; a.history().len() == 4 && b.history().len() == 3);
 }
 
@@ -100,12 +108,8 @@ fn offer_strangers(rt: &impl Abort, alloc: Global, board: &mut Board, equal: &Ar
     ensures { board.new.job ≡ board.old.job }
 {
     for step in 0..equal.plan().len() {
-        expect_refused(
-            rt,
-            board,
-            result_of(rt, alloc, equal, step),
-            Refused::NotTaken,
-        );
+        let result = result_of(rt, alloc, equal, step);
+        expect_refused(rt, alloc, board, result, Refused::NotTaken);
     }
 }
 
@@ -119,24 +123,12 @@ fn run_among_strangers(rt: &impl Abort, alloc: Global, board: &mut Board, equal:
         assert!(rt; board.finish(evaluate(alloc, task)) == Ok(()));
     }
     offer_strangers(rt, alloc, board, equal);
+    expect_none_ready(rt, board);
 }
 
-// Whether a commodity of a board has this scan risk, this credit and this requirement.
-fn has_figures(
-    board: &Board,
-    commodity: usize,
-    scan: i128,
-    credit: i128,
-    requirement: i128,
-) -> bool {
-    match board.figures(commodity) {
-        Some(figures) => {
-            figures.scan.get() == scan
-                && figures.credit.get() == credit
-                && figures.requirement.get() == requirement
-        }
-        None => false,
-    }
+// The seven figures of a commodity, in the order of an R line.
+fn numbers_of(board: &Board, commodity: usize) -> Option<[i128; 7]> {
+    Some(board.figures(commodity)?.numbers())
 }
 
 // Between its own steps, a board takes no result of another: not of a step that waits, nor of one that is finished.
@@ -152,7 +144,18 @@ fn results_of_strangers(rt: HostRuntime) {
     let equal = equal_job(&rt, alloc, &job);
     let mut board = board_of(alloc, &job).expect(&rt, "a board");
     run_among_strangers(&rt, alloc, &mut board, &equal);
-    assert!(rt; has_figures(&board, 0, 3600, 840, 2760));
-    assert!(rt; has_figures(&board, 1, 900, 450, 450));
-    assert!(rt; has_figures(&board, 2, 300, 60, 240));
+    assert!(rt; numbers_of(&board, 0) == Some([3600, 13, 0, 0, 840, 0, 2760]));
+    assert!(rt; numbers_of(&board, 1) == Some([900, 11, 0, 0, 450, 0, 450]));
+    assert!(rt; numbers_of(&board, 2) == Some([300, 11, 0, 0, 60, 0, 240]));
+    assert!(rt; board.total() == Some(Money::new(3450)));
+}
+
+// On a new board the figures of a commodity miss all five of their inputs.
+#[test]
+fn inputs_of_a_new_board(rt: HostRuntime) {
+    let alloc = rt.alloc();
+    let job = job_of(alloc, two_commodities::PARAMS, two_commodities::POSITIONS);
+    let board = board_of(alloc, &job.expect(&rt, "a job")).expect(&rt, "a board");
+    assert!(rt; board.job().plan().len() == 23);
+    assert!(rt; board.missing(7) == 5);
 }

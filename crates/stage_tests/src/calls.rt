@@ -7,18 +7,25 @@ use crate::credits::{loaded, two_commodities};
 use inter_credit::credit::credit;
 use inter_credit::spreads::inter_spread;
 use inter_credit::state::InterState;
-use param_check::binding::{bind, bind_positions};
-use param_check::check::check;
+use param_check::binding::{bind, bind_faults, bind_positions};
+use param_check::check::{check, check_faults};
+use param_check::faults::{BindFault, CheckFault};
 use param_check::orders::{Orders, bind_orders};
 use sample_files::calendar::{PARAMS, POSITIONS};
+use span_csv::cuts::cut_at_lines;
+use span_csv::faults::{ParamFault, PositionFault};
 use span_csv::orders::read_orders;
-use span_csv::params::read_params;
-use span_csv::positions::read_positions;
+use span_csv::params::{param_faults, read_params};
+use span_csv::pieces::{join_pieces, read_piece};
+use span_csv::positions::{position_faults, read_positions};
+use span_csv::together::AllAccounts;
 use span_money::exact::push_exact;
-use span_money::line_fields::{Field, push_line, push_line_of_numbers};
+use span_money::line_fields::{Field, push_line, push_line_of_numbers, push_number, push_start};
 use span_tables::groups::{empty_lists, push_at};
 use span_tables::held::{Held, gather, gather_all, gather_held};
+use span_tables::name::Name;
 use span_tables::portfolios::{Portfolio, Portfolios};
+use span_tables::raw::RawPositions;
 use span_tables::tables::Tables;
 use spread_stage::deltas::month_deltas;
 use spread_stage::months::MonthUnits;
@@ -32,8 +39,11 @@ fn calls_succeed(rt: HostRuntime) -> Result<(), Fail> {
     let alloc = rt.alloc();
     fields(&rt, alloc)?;
     lists(&rt, alloc)?;
+    faults_read(&rt, alloc)?;
     let tables = tables_read(&rt, alloc)?;
+    pieces_read(&rt, alloc, &tables)?;
     contracts_bound(&rt, alloc, &tables)?;
+    faults_found(&rt, alloc, &tables)?;
     let account = account_read(&rt, alloc, &tables)?;
     orders_read(&rt, alloc, &tables)?;
     lists_held(&rt, alloc, &tables, &account)?;
@@ -42,16 +52,18 @@ fn calls_succeed(rt: HostRuntime) -> Result<(), Fail> {
     spreads_of_commodities(&rt, alloc)
 }
 
-// `span_money`: a decimal, a line of fields and a line of numbers.
+// `span_money`: a decimal, a line of fields, a line of numbers, and a line in parts.
 fn fields(rt: &impl Abort, alloc: Global) -> Result<(), AllocError> {
     let mut line = Vec::new(alloc);
     push_exact(&mut line, 50_000_000, 8)?;
     let ids = [Field::Bytes(b"AA".as_slice())];
     push_line(&mut line, "X", &ids, &[Field::Half(3), Field::Text("A")])?;
     push_line_of_numbers(&mut line, "Y", &ids, &[-12, 1740])?;
+    push_start(&mut line, "Z", &ids)?;
+    push_number(&mut line, -7)?;
     assert_eq!(rt;
         line.as_slice(),
-        b"0.5X,AA,1.5,A\nY,AA,-12,1740\n".as_slice()
+        b"0.5X,AA,1.5,A\nY,AA,-12,1740\nZ,AA,-7".as_slice()
     );
     Ok(())
 }
@@ -62,6 +74,23 @@ fn lists(rt: &impl Abort, alloc: Global) -> Result<(), AllocError> {
     push_at(&mut lists, 1, 7)?;
     let lengths = lists.iter().map(|list| list.len());
     assert!(rt; lengths.eq([0, 1]));
+    Ok(())
+}
+
+// `span_csv`: all faults of reading a parameter file and a position file, two records each.
+fn faults_read(rt: &impl Abort, alloc: Global) -> Result<(), AllocError> {
+    let found = param_faults(alloc, b"SET,D1,1\nCOMMODITY,AA,x,SUM\n")?;
+    let expected = [
+        ParamFault::FieldCount { at: 1 },
+        ParamFault::BadNumber { at: 2 },
+    ];
+    assert!(rt; found.as_slice() == expected.as_slice());
+    let found = position_faults(alloc, b"X,FA\nX,FA,y\n")?;
+    let expected = [
+        PositionFault::FieldCount { at: 1 },
+        PositionFault::BadNumber { at: 2 },
+    ];
+    assert!(rt; found.as_slice() == expected.as_slice());
     Ok(())
 }
 
@@ -94,11 +123,55 @@ fn portfolios_read(rt: &impl Abort, alloc: Global, tables: &Tables) -> Result<Po
     Ok(portfolios)
 }
 
+// `span_csv`: the same position file in one piece, whose records are joined to a file, and numbered by the accounts of all pieces.
+fn pieces_read(rt: &impl Abort, alloc: Global, tables: &Tables) -> Result<(), Fail> {
+    let pieces = cut_at_lines(alloc, POSITIONS, 2)?;
+    assert!(rt; pieces.as_slice() == [POSITIONS].as_slice());
+    let mut read = Vec::new(alloc);
+    read.push(read_piece(alloc, POSITIONS)?)?;
+    let joined = join_pieces(alloc, read)?;
+    assert!(rt; is_calendar(&bind(alloc, tables, &joined)?));
+    let numbered = piece_numbered(alloc, POSITIONS)?.ok_or("accounts")?;
+    assert!(rt; is_calendar(&bind(alloc, tables, &numbered)?));
+    Ok(())
+}
+
+// The records of a position file in one piece, numbered by its accounts. `None` if it has a fault.
+fn piece_numbered(alloc: Global, bytes: &[u8]) -> Result<Option<RawPositions>, AllocError> {
+    let pieces = [read_piece(alloc, bytes)?];
+    let Some(accounts) = AllAccounts::of(alloc, &pieces)? else {
+        return Ok(None);
+    };
+    let records = accounts.numbered(alloc, read_piece(alloc, bytes)?)?;
+    Ok(Some(accounts.positions(records)))
+}
+
 // `param_check`: the same by the contracts alone.
 fn contracts_bound(rt: &impl Abort, alloc: Global, tables: &Tables) -> Result<(), Fail> {
     let positions = read_positions(alloc, POSITIONS)?;
     let portfolios = bind_positions(alloc, tables.contracts(), &positions)?;
     assert!(rt; is_calendar(&portfolios));
+    Ok(())
+}
+
+// `param_check`: all faults of the records of a parameter file, and of those of a position file.
+fn faults_found(rt: &impl Abort, alloc: Global, tables: &Tables) -> Result<(), Fail> {
+    let twice = b"SET,D1,1,USD\nCOMMODITY,AA,0,SUM\nCOMMODITY,AA,0,SUM\n";
+    let found = check_faults(alloc, &read_params(alloc, twice)?)?;
+    assert!(rt; found.as_slice() == [CheckFault::DuplicateCommodity { at: 3 }].as_slice());
+    let positions = read_positions(alloc, b"X,FZ,1\nX,FA,100000\nX,FA,1\n")?;
+    let found = bind_faults(alloc, tables, &positions)?;
+    let expected = [
+        BindFault::UnknownContract {
+            at: 1,
+            account: Name::new(b"X").ok_or("a name")?,
+        },
+        BindFault::NetOutOfRange {
+            at: 2,
+            account: Name::new(b"X").ok_or("a name")?,
+        },
+    ];
+    assert!(rt; found.as_slice() == expected.as_slice());
     Ok(())
 }
 
