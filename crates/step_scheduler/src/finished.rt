@@ -9,7 +9,8 @@ use plan_ir::values::Value;
 use std::marker::Model;
 use std::sync::Arc;
 
-/// A step with its value, or with the mark that there was no memory for it. Only `evaluate` makes it.
+/// A step with its value, or with the mark that there was no memory for it.
+/// [`evaluate`](crate::evaluation::evaluate) makes it; so does the run of one account on one thread, with a value.
 #[derive(Drop)]
 pub struct Finished {
     pub(crate) job: Arc<Job>,

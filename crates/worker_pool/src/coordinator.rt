@@ -133,7 +133,7 @@ impl<'a, B: Batch, G: Gate> Coordinator<'a, B, G> {
         self.end_account(went);
     }
 
-    // Ends an account, with its row, or for want of memory. `None` ends no account.
+    // Ends an account, with its row, or as out of memory. `None` ends no account.
     fn end_account(&mut self, went: Result<Option<RowOf<B>>, AllocError>)
         ensures { MatchResult went
             (λ r. MatchOption r (self.new.outcomes ≡ self.old.outcomes)

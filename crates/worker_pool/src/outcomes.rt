@@ -12,7 +12,7 @@ use std::sync::Arc;
 pub enum Outcome {
     /// The account's row.
     Margined(Arc<Row>),
-    /// The name of an account that ended for want of memory.
+    /// The name of an account whose run ran out of memory.
     NoMemory(Name),
 }
 
