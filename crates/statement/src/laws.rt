@@ -28,9 +28,11 @@ ghost use Rattle.statement.specs.Statement.{statement_under, total_line, total_n
 ghost use Rattle.statement.specs.declared.faults.SpanFault.{SpanFault};
 ghost use Rattle.statement.specs.declared.faults.SpanFault.TheVariants as fault;
 ghost use Rattle.std.specs.Prelude.{◌++◌, ◌≡◌, ◌<◌, ◌≤◌, ◌↔◌, ◌∷◌, All, Err, List, None, Ok, Some, [], filter, flat_map, is_ok};
-ghost use Rattle.std.specs.Prelude.{length, map, nat_eq, pos, true, ℕ};
+ghost use Rattle.std.specs.Prelude.{length, map, nat_eq, pos, true, ℕ, ℤ, ◌+ℤ◌, ◌-ℤ◌};
 ghost use Rattle.std.specs.List.{before_first, range_with_len};
 ghost use Rattle.std.specs.Result.{result_err};
+
+use inter_credit::laws::due_and_excess_settle_the_value;
 
 /// An account's lines are those of the commodities of which it holds a contract, and end with the line of its total.
 #[tactic(auto, unfolding(crate::specs::Statement::row_text))]
@@ -39,6 +41,15 @@ pub fn lines_end_with_the_total()
         ≡ flat_map (commodity_text t p) (range_with_len 0 (length t.commodities))
         ++ line (total_line p.account t.set_id (total_numbers t (total_of t p) (option_value_of t p.holdings))) }
 {}
+
+/// If a T line has an option value, its total is the value, more by what is due and less by what is in excess (docs/FORMATS.md, Statement).
+#[tactic(auto, unfolding(crate::specs::Statement::total_numbers))]
+pub fn a_total_line_settles_the_value()
+    ensures { (t : AcceptedTables) (total value due excess : ℤ)
+        → total_numbers t total value ≡ total ∷ value ∷ due ∷ excess ∷ [] → total ≡ (value +ℤ due) -ℤ excess }
+{
+    due_and_excess_settle_the_value();
+}
 
 /// No accounts give no bytes, and neither does an empty position file; the lines of some accounts do not depend on the
 /// others, and stand in the order of the accounts.

@@ -8,15 +8,15 @@ use param_check::binding::bind;
 use reasons::stages::{push_reasons, stages_of};
 use result_book::books::ResultBook;
 use result_book::rows::Row;
-use sample_files::{calendar, two_commodities};
+use sample_files::{calendar, one_future, two_commodities};
 use sample_sets::files::tables_of;
 use span_csv::positions::read_positions;
 use span_money::line_fields::Field;
 use span_tables::portfolios::{Portfolio, Portfolios};
 use span_tables::tables::Tables;
-use statement::accepting::{Accepted, accept};
+use statement::accepting::{Accepted, accept, accept_together};
 use statement::all_faults::{faults, faults_status, faults_text};
-use statement::batches::rows_alone;
+use statement::batches::{rows_alone, rows_together};
 use statement::counts::{check_plain, write_counts};
 use statement::fault_lines::{tell_fault, write_fault};
 use statement::faults::SpanFault;
@@ -125,6 +125,20 @@ fn of_rows(rt: &impl Abort, alloc: Global) {
     assert_eq!(rt; out.as_slice(), two_commodities::STATEMENT);
 }
 
+// The statement of two files that two workers read, bind and margin.
+fn of_rows_together<R: Threads + Wait + Clock + Sync + Abort>(rt: &R, alloc: Global) {
+    let params = two_commodities::PARAMS;
+    let positions = two_commodities::POSITIONS;
+    let Accepted {
+        set,
+        portfolios,
+        ..
+    } = accept_together(rt, alloc, params, positions, 2).expect(rt, "files");
+    let rows = rows_together(rt, alloc, &set, portfolios, 2, &OpenGate).expect(rt, "rows");
+    let text = write(alloc, &rows).expect(rt, "a statement");
+    assert_eq!(rt; text.as_slice(), two_commodities::STATEMENT);
+}
+
 // The total of an outcome that has a row.
 fn total_of(outcome: &Outcome) -> Option<i128> {
     match outcome {
@@ -158,6 +172,20 @@ fn of_reasons(rt: &impl Abort, alloc: Global) {
     );
     let text = text.expect(rt, "an explanation");
     assert_eq!(rt; text.as_slice(), two_commodities::EXPLANATION);
+}
+
+// The explanations of two accounts, in the order in which the accounts first appear.
+fn of_two_accounts(rt: &impl Abort, alloc: Global) {
+    let positions = b"Y,FA,-3\nX,FA,1\nY,FA,4\n";
+    let text = explain(alloc, one_future::PARAMS, positions, None).expect(rt, "explanations");
+    let mut expected = Vec::new(alloc);
+    assert!(rt;
+        expected
+            .extend_from_slice(one_future::EXPLANATION_OF_Y)
+            .is_ok()
+    );
+    assert!(rt; expected.extend_from_slice(one_future::EXPLANATION).is_ok());
+    assert_eq!(rt; text.as_slice(), expected.as_slice());
 }
 
 // What two orders change, alone and on workers.
@@ -243,8 +271,10 @@ fn calls_succeed(rt: HostRuntime) {
     of_two_files(&rt, alloc);
     of_two_sets(&rt, alloc);
     of_rows(&rt, alloc);
+    of_rows_together(&rt, alloc);
     of_teams(&rt, alloc);
     of_reasons(&rt, alloc);
+    of_two_accounts(&rt, alloc);
     of_orders(&rt, alloc);
     of_stages(&rt, alloc);
     of_all_faults(&rt, alloc);
