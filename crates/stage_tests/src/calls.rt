@@ -7,6 +7,7 @@ use crate::credits::{loaded, two_commodities};
 use inter_credit::credit::credit;
 use inter_credit::spreads::inter_spread;
 use inter_credit::state::InterState;
+use param_check::binding::binder::Binder;
 use param_check::binding::{bind, bind_faults, bind_positions};
 use param_check::check::{check, check_faults};
 use param_check::faults::{BindFault, CheckFault};
@@ -43,6 +44,7 @@ fn calls_succeed(rt: HostRuntime) -> Result<(), Fail> {
     let tables = tables_read(&rt, alloc)?;
     pieces_read(&rt, alloc, &tables)?;
     contracts_bound(&rt, alloc, &tables)?;
+    steps_bound(&rt, alloc, &tables)?;
     faults_found(&rt, alloc, &tables)?;
     let account = account_read(&rt, alloc, &tables)?;
     orders_read(&rt, alloc, &tables)?;
@@ -152,6 +154,31 @@ fn contracts_bound(rt: &impl Abort, alloc: Global, tables: &Tables) -> Result<()
     let portfolios = bind_positions(alloc, tables.contracts(), &positions)?;
     assert!(rt; is_calendar(&portfolios));
     Ok(())
+}
+
+// `param_check`: the same in the steps that several threads take side by side.
+fn steps_bound(rt: &impl Abort, alloc: Global, tables: &Tables) -> Result<(), Fail> {
+    let positions = read_positions(alloc, POSITIONS)?;
+    let portfolios = bound_in_steps(alloc, tables, &positions)?;
+    assert!(rt; is_calendar(&portfolios));
+    Ok(())
+}
+
+// What each account holds, bound in steps, each over all records or all accounts.
+fn bound_in_steps(
+    alloc: Global,
+    tables: &Tables,
+    positions: &RawPositions,
+) -> Result<Portfolios, Fail> {
+    let binder = Binder::new(alloc, tables)?;
+    let found = binder.find(alloc, positions.records())?;
+    if !binder.knows_all(&found) {
+        return Err("a contract".into());
+    }
+    let accounts = positions.accounts().len();
+    let nets = binder.nets(alloc, &found, positions, 0, accounts)?;
+    let portfolios = binder.bound(alloc, nets, positions)?;
+    Ok(portfolios)
 }
 
 // `param_check`: all faults of the records of a parameter file, and of those of a position file.
