@@ -28,7 +28,7 @@ fault_where_all_count earlier r = first_that_holds (form_faults r ++ (exceeds_ac
 pub free_formed : (earlier : List Fields) (r : Fields) → fault_where_all_count earlier r ≡ None → is_formed r ≡ true
 free_formed earlier r e = ap is_none (front_none (form_faults r) ((exceeds_accounts earlier r, fault.TooManyAccounts) ∷ []) e)
 
-all_count : (earlier : List Fields) (r : Fields) → counted earlier ≡ earlier → is_formed r ≡ true
+pub all_count : (earlier : List Fields) (r : Fields) → counted earlier ≡ earlier → is_formed r ≡ true
     → counted (earlier ++ r ∷ []) ≡ earlier ++ r ∷ []
 all_count earlier r all formed = push_formed earlier r formed ∙ ap (λ zs. zs ++ r ∷ []) all
 

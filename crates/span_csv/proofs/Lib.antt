@@ -16,7 +16,6 @@ pub mod OrderLaws
 mod OrderLemmas
 mod OrderSteps
 pub mod PieceLaws
-mod PieceLemmas
 mod PositionLemmas
 pub mod ProfileLaws
 mod RangeLemmas

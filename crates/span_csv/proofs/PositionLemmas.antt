@@ -25,7 +25,7 @@ abbrev pub names_of : List Fields → List (List ℕ)
 names_of before = map (λ r. text_at r 0) before
 
 -- the accounts of records are the texts of their first fields
-record_accounts : (before : List Fields) → map (λ (p : PositionRecord). p.account) (map position_record before) ≡ names_of before
+pub record_accounts : (before : List Fields) → map (λ (p : PositionRecord). p.account) (map position_record before) ≡ names_of before
 unfolding position_record
 record_accounts [] = refl
 record_accounts (r ∷ before) = ap (λ rest. text_at r 0 ∷ rest) (record_accounts before)

@@ -1,13 +1,13 @@
--- Pieces of a position file that have no fault, one behind the other: their accounts, their records, and what numbers them.
+-- Pieces of a position file, one behind the other: their accounts, their records, and what numbers them.
 use Rattle.std.proofs.Common.{◌≡◌, ◌∙◌, refl, sym, ap, subst, inl, inr, arith, ℕ, zero, suc, ◌+◌, ◌<◌, ◌≤◌, Bool, true, false, not, cond}
-use Rattle.std.proofs.Common.{◌&&◌, ◌||◌, ◌==◌, List, [], ◌∷◌, ◌++◌, length, get_or, map, None, Ok, append_assoc, drop, set, take}
+use Rattle.std.proofs.Common.{◌&&◌, ◌||◌, ◌==◌, List, [], ◌∷◌, ◌++◌, length, get_or, map, append_assoc, drop, set, take}
 use Rattle.std.specs.Prelude.{All, bytes_eq, filter, nat_abs}
 use Rattle.std.proofs.lemmas.Bool.{cases_Bool, eqb-true}
 use Rattle.std.proofs.Math.Seq.{drop-append_seam, drop-cons, take-append_seam}
 use Rattle.std.proofs.lemmas.List.{append-nil, drop-set-lt, flat_map_more, length-append, map-append, take-append-drop}
 use Rattle.std.proofs.lemmas.List.{take_more, take_more_set}
 use Rattle.std.proofs.lemmas.Grind.{flat_map-append}
-use Rattle.std.proofs.lemmas.List.Elements.{All-append, All-cons, All-drop, All-head, All-push, All-tail, All-take}
+use Rattle.std.proofs.lemmas.List.Elements.{All-append, All-cons, All-drop, All-head, All-tail, All-take}
 use Rattle.std.proofs.lemmas.List.Folds.{list_any-append}
 use Rattle.std.proofs.lemmas.List.Sums.{passes_at_first}
 use Rattle.std.proofs.lemmas.Slice.Eq.{bytes_eq-Decides}
@@ -20,16 +20,19 @@ use Rattle.span_tables.specs.declared.records.PositionRecord.{PositionRecord}
 use Rattle.span_tables.proofs.GroupLemmas.{at_map}
 use Rattle.span_tables.proofs.NameLemmas.{is_among-distinct, same_name}
 use Rattle.span_tables.proofs.NumberedLaws.{accounts_of-push}
-use Rattle.span_csv.specs.PositionFaults.{positions_of}
-use Rattle.span_csv.specs.Records.{records_of}
-use Rattle.std.specs.Prelude.{flat_map}
 use Rattle.span_csv.specs.near.NumberedReading.{is_one_too_many, with_name}
-use Rattle.span_csv.specs.near.Pieces.{PieceRead, piece_joined, piece_of, pieces_joined, place_among, positions_joined, records_together}
+use Rattle.span_csv.specs.near.Pieces.{place_among, records_together}
 use Rattle.span_csv.specs.near.Pieces.{renumbered, with_names, AreOfAccounts, AreTogether, HasAccounts, StandFor}
-use Rattle.span_csv.proofs.PieceLaws.{joined_are, or_last}
-use Rattle.span_csv.proofs.PieceLemmas.{longer, of_others, pieces_ok}
 
 -- ---- names behind others
+
+-- no name is lost
+longer : (keys : List (List ℕ)) (name : List ℕ) → length keys ≤ length (with_name keys name)
+longer keys name =
+    elim (cases_Bool (is_among keys name)) [
+      | inl old ↦ rw old (omega arith)
+      | inr new ↦ rw new (let e = length-append keys (name ∷ []) in omega (arith, e))
+    ]
 
 -- a name stays where more come
 among_more : (known : List (List ℕ)) (x name : List ℕ) → is_among known name ≡ true → is_among (with_name known x) name ≡ true
@@ -101,7 +104,7 @@ full true n e = let bad : false ≡ true = e in cc
 full false n e = (refl, eqb-true n MAX_ACCOUNTS e)
 
 -- a record whose account is one too many has more accounts with it than there may be
-too_many : (whole ps : List PositionRecord) (p : PositionRecord) → length (accounts_of ((whole ++ p ∷ []) ++ ps)) ≤ MAX_ACCOUNTS
+pub too_many : (whole ps : List PositionRecord) (p : PositionRecord) → length (accounts_of ((whole ++ p ∷ []) ++ ps)) ≤ MAX_ACCOUNTS
     → is_one_too_many MAX_ACCOUNTS (accounts_of whole) p.account ≡ true → ⊥
 too_many whole ps p few over =
     let h = full (is_among (accounts_of whole) p.account) (length (accounts_of whole)) over in
@@ -112,51 +115,8 @@ too_many whole ps p few over =
     let size = h.1 in
     omega (arith, count, long, most, size)
 
-positions_all : (ps whole : List PositionRecord) → length (accounts_of (whole ++ ps)) ≤ MAX_ACCOUNTS
-    → positions_joined whole ps ≡ Ok (whole ++ ps)
-unfolding positions_joined
-positions_all [] whole few = ap Ok (sym (append-nil whole))
-positions_all (p ∷ ps) whole few =
-    by (is_one_too_many MAX_ACCOUNTS (accounts_of whole) p.account) refl (positions_all ps (whole ++ p ∷ []))
-  where
-    same : (whole ++ p ∷ []) ++ ps ≡ whole ++ p ∷ ps
-    same = append_assoc whole (p ∷ []) ps
-
-    fewer : length (accounts_of ((whole ++ p ∷ []) ++ ps)) ≤ MAX_ACCOUNTS
-    fewer = subst (λ all. length (accounts_of all) ≤ MAX_ACCOUNTS) (sym same) few
-
-    by : (b : Bool) → is_one_too_many MAX_ACCOUNTS (accounts_of whole) p.account ≡ b
-        → (length (accounts_of ((whole ++ p ∷ []) ++ ps)) ≤ MAX_ACCOUNTS
-        → positions_joined (whole ++ p ∷ []) ps ≡ Ok ((whole ++ p ∷ []) ++ ps))
-        → positions_joined whole (p ∷ ps) ≡ Ok (whole ++ p ∷ ps)
-    by true over later = absurd (too_many whole ps p fewer over)
-    by false room later = rw room (later fewer ∙ ap Ok same)
-
-pieces_all : (pieces : List PieceRead) (whole : List PositionRecord) → All (λ (piece : PieceRead). piece.fault ≡ None) pieces
-    → length (accounts_of (whole ++ records_together pieces)) ≤ MAX_ACCOUNTS
-    → pieces_joined whole pieces ≡ Ok (whole ++ records_together pieces)
-unfolding pieces_joined
-pieces_all [] whole none few = ap Ok (sym (append-nil whole))
-pieces_all (piece ∷ rest) whole none few =
-    let same = append_assoc whole piece.records (records_together rest) in
-    let fewer = subst (λ all. length (accounts_of all) ≤ MAX_ACCOUNTS) (sym same) few in
-    let here = fewer_in_front (whole ++ piece.records) (records_together rest) fewer in
-    let sound = All-head (λ (one : PieceRead). one.fault ≡ None) piece rest none in
-    let one : piece_joined whole piece ≡ Ok (whole ++ piece.records) = rw (positions_all piece.records whole here, sound) refl in
-    sym (pieces_ok whole piece rest (whole ++ piece.records) one)
-    ∙ pieces_all rest (whole ++ piece.records) (All-tail (λ (other : PieceRead). other.fault ≡ None) piece rest none) fewer
-    ∙ ap Ok same
-
--- the pieces of a file, if none has a fault and their accounts are not too many, have the positions that the file says
-pub together_are : (bytes : List ℕ) (parts : List (List ℕ)) (pieces : List PieceRead) (accounts : List (List ℕ))
-    → map piece_of parts ≡ pieces → flat_map records_of parts ≡ records_of bytes → AreTogether accounts pieces
-    → positions_of bytes ≡ Ok (records_together pieces)
-together_are bytes parts pieces accounts are same together =
-    sym (joined_are bytes parts pieces are same)
-    ∙ pieces_all pieces [] together.faultless (subst (λ ks. length ks ≤ MAX_ACCOUNTS) together.accounts_are together.few)
-
 -- records that stand for those of all pieces by their accounts are numbered by them
-pub together_numbered : (pieces : List PieceRead) (accounts : List (List ℕ)) (numbered : List NumberedPosition)
+pub together_numbered : (pieces : List (List PositionRecord)) (accounts : List (List ℕ)) (numbered : List NumberedPosition)
     → AreTogether accounts pieces → StandFor accounts (records_together pieces) numbered → AreNumbered accounts numbered
 together_numbered pieces accounts numbered together stand = record {
   accounts_are = together.accounts_are ∙ ap accounts_of (sym stand.named);
@@ -164,6 +124,10 @@ together_numbered pieces accounts numbered together stand = record {
   known = stand.of.known;
   small = stand.of.small;
 }
+
+or_last : (a b : Bool) → b ≡ true → (a || b) ≡ true
+or_last true b e = refl
+or_last false b e = e
 
 any_at : (ps : List PositionRecord) (k : ℕ) (d : PositionRecord) → k < length ps
     → is_among (map (λ (p : PositionRecord). p.account) ps) (get_or ps k d).account ≡ true
@@ -174,7 +138,7 @@ any_at (p ∷ ps) (suc k) d lt =
     (any_at ps k d (omega (arith, lt)))
 
 -- the accounts of all pieces have that of each of their records
-pub together_known : (pieces : List PieceRead) (accounts : List (List ℕ)) → AreTogether accounts pieces
+pub together_known : (pieces : List (List PositionRecord)) (accounts : List (List ℕ)) → AreTogether accounts pieces
     → HasAccounts accounts (records_together pieces)
 together_known pieces accounts together =
     let ps = records_together pieces in
@@ -236,7 +200,10 @@ module _ (accounts names : List (List ℕ)) where
       let within = All-head (λ (q : NumberedPosition). q.account < length names) r rs of.known in
       let there = All-head (λ (p : PositionRecord). is_among accounts p.account ≡ true) (named_position names r)
       (named_positions names rs) has in
-      let rest = stand_for rs (of_others names r rs of)
+      let rest = stand_for rs (record {
+        known = All-tail (λ (q : NumberedPosition). q.account < length names) r rs of.known;
+        small = All-tail (λ (q : NumberedPosition). nat_abs q.quantity ≤ MAX_QUANTITY) r rs of.small;
+      })
       (All-tail (λ (p : PositionRecord). is_among accounts p.account ≡ true) (named_position names r) (named_positions names rs) has) in
       record {
         named = λ i. one_named r within there i ∷ rest.named i;
@@ -250,7 +217,7 @@ module _ (accounts names : List (List ℕ)) where
 
 -- ---- halves
 
-module _ (accounts : List (List ℕ)) (pieces : List PieceRead) (n : ℕ) where
+module _ (accounts : List (List ℕ)) (pieces : List (List PositionRecord)) (n : ℕ) where
   abbrev front : List PositionRecord
   front = records_together (take n pieces)
 
@@ -263,7 +230,7 @@ module _ (accounts : List (List ℕ)) (pieces : List PieceRead) (n : ℕ) where
   halves : records_together pieces ≡ front ++ back
   halves =
       ap records_together (sym (take-append-drop n pieces))
-      ∙ flat_map-append (λ (piece : PieceRead). piece.records) (take n pieces) (drop n pieces)
+      ∙ flat_map-append (λ (piece : List PositionRecord). piece) (take n pieces) (drop n pieces)
 
   -- what holds of the accounts of pieces holds of those of the first n, and of those of the others
   pub known_front : HasAccounts accounts (records_together pieces) → HasAccounts accounts (records_together (take n pieces))
@@ -312,22 +279,16 @@ left_behind P xs i y d lt all =
     subst (All P) (sym (drop-set-lt (i + 1) xs i y (omega arith)))
     (All-tail P (get_or xs i d) (drop (i + 1) xs) (subst (All P) (drop_is xs i d lt) all))
 
-module _ (pieces : List PieceRead) (i : ℕ) (piece : PieceRead) (lt : i < length pieces) (is : piece ≡ get_or pieces i piece) where
+module _ (pieces : List (List PositionRecord)) (i : ℕ) (piece : List PositionRecord) (lt : i < length pieces)
+    (is : piece ≡ get_or pieces i piece) where
   taken_more : take (i + 1) pieces ≡ take i pieces ++ piece ∷ []
   taken_more = take_more pieces i piece lt ∙ ap (λ one. take i pieces ++ one ∷ []) (sym is)
 
-  pub faultless_more : All (λ (one : PieceRead). one.fault ≡ None) (take i pieces) → piece.fault ≡ None
-      → All (λ (one : PieceRead). one.fault ≡ None) (take (i + 1) pieces)
-  faultless_more none sound =
-      subst (All (λ (one : PieceRead). one.fault ≡ None)) (sym taken_more)
-      (All-push (λ (one : PieceRead). one.fault ≡ None) (take i pieces) piece none sound)
-
   pub accounts_more : (known names now : List (List ℕ)) → known ≡ accounts_of (records_together (take i pieces))
-      → names ≡ accounts_of piece.records → now ≡ with_names known names → now ≡ accounts_of (records_together (take (i + 1) pieces))
+      → names ≡ accounts_of piece → now ≡ with_names known names → now ≡ accounts_of (records_together (take (i + 1) pieces))
   accounts_more known names now are of with =
       with
       ∙ ap (λ ks. with_names ks names) are
       ∙ ap (with_names (accounts_of (records_together (take i pieces)))) of
-      ∙ sym (accounts_behind (records_together (take i pieces)) piece.records)
-      ∙ ap accounts_of (flat_map_more (λ (one : PieceRead). one.records) [] (take i pieces) piece
-      ∙ ap (flat_map (λ (one : PieceRead). one.records)) (sym taken_more))
+      ∙ sym (accounts_behind (records_together (take i pieces)) piece)
+      ∙ ap accounts_of (flat_map_more (λ (one : List PositionRecord). one) [] (take i pieces) piece ∙ ap records_together (sym taken_more))

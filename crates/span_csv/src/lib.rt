@@ -20,4 +20,3 @@ mod rows;
 mod tally;
 pub mod together;
 mod worked;
-mod worked_pieces;

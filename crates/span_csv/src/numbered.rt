@@ -1,6 +1,6 @@
 //! Records with a name in front that numbers them: a position's account, or an order, which stands in place of an account.
 ghost use Rattle.std.specs.Prelude.{◌≡◌, ◌+◌, ◌<◌, ◌++◌, ◌∷◌, [], ◌≤◌, ⊤, ℕ, IfOk, IsTrue, ◌↔◌, MatchBool};
-ghost use Rattle.std.specs.Prelude.{IfErr, MatchResult, OnOk, Ok, Err, Some, false, length, nat_abs, slice_get, true};
+ghost use Rattle.std.specs.Prelude.{MatchResult, OnOk, Ok, Err, Some, false, length, nat_abs, slice_get, true};
 ghost use Rattle.csv.specs.Records.{fields_of};
 ghost use Rattle.span_money.specs.Numbers.{whole_number};
 ghost use Rattle.span_csv.specs.PositionFaults.{is_memory};
@@ -8,7 +8,6 @@ ghost use Rattle.span_csv.specs.Records.{text_at};
 ghost use Rattle.span_csv.specs.declared.faults.PositionFault.TheVariants as fault;
 ghost use Rattle.span_csv.specs.near.NumberedReading.{are_names, is_one_too_many, is_quantity, next_position};
 ghost use Rattle.span_csv.specs.near.NumberedReading.{quantity_alone, quantity_from, with_name};
-ghost use Rattle.span_csv.specs.near.Pieces.{KeepsNumbers};
 ghost use Rattle.span_tables.specs.Names.{is_name};
 ghost use Rattle.span_tables.specs.near.Positions.{named_position, named_positions, AreNumbered};
 ghost use Rattle.span_tables.specs.declared.limits.TheConstants.{MAX_ORDERS, MAX_QUANTITY};
@@ -178,7 +177,6 @@ pub(crate) fn next_position(
     ensures few { OnOk result (length known.new.keys ≤ most) }
     ensures fields { OnOk result (length (fields_of row.now) ≡ names + 1) }
     ensures names { OnOk result ((i : ℕ) → i < names → is_name (text_at (fields_of row.now) i) ≡ true) }
-    ensures kept { IfErr result (λ e. MatchBool (is_memory e) ⊤ (KeepsNumbers known.old.keys known.new.keys earlier.now)) }
 {
     let at = earlier.len() + 1;
     let last = last_place(earlier);

@@ -1,11 +1,10 @@
 //! The reader of position files.
-ghost use Rattle.std.specs.Prelude.{◌≡◌, ◌≤◌, ◌<◌, ◌+◌, ◌^◌, [], List, ⊤, IfErr, IfOk, MatchBool, MatchResult};
-ghost use Rattle.std.specs.Prelude.{OnOk, Ok, Err, Some, length};
+ghost use Rattle.std.specs.Prelude.{◌≡◌, ◌≤◌, ◌<◌, ◌+◌, ◌^◌, [], List, ⊤, IfOk, MatchBool, MatchResult};
+ghost use Rattle.std.specs.Prelude.{OnOk, Ok, Err, length};
 ghost use Rattle.csv.specs.Records.{fields_of};
 ghost use Rattle.span_csv.specs.PositionFaults.{is_memory, position_faults, positions_of, record_fault};
 ghost use Rattle.span_csv.specs.Records.{Fields};
 ghost use Rattle.span_csv.specs.near.NumberedReading.{next_position};
-ghost use Rattle.span_csv.specs.near.Pieces.{in_front, rows_read, AreOfAccounts};
 ghost use Rattle.span_csv.specs.near.RecordReading.{records_after};
 ghost use Rattle.span_csv.specs.near.Telling.{accounts_counted, CheckIs, Tells};
 ghost use Rattle.span_tables.specs.Faults.{all_faults};
@@ -27,8 +26,7 @@ use std::alloc::{AllocError, Global};
 // The names of a record, in front of its quantity: an account's and a contract's.
 const POSITION_NAMES: usize = 2;
 
-/// Reads each row that is left of a file onto `records`, and its account, where it is new, into `accounts`. Where a row has a fault, the
-/// records in front of it are there.
+/// Reads each row that is left of a file onto `records`, and its account, where it is new, into `accounts`.
 pub(crate) fn read_rows(
     rows: &mut Rows,
     row: &mut ByteRecord,
@@ -44,11 +42,6 @@ pub(crate) fn read_rows(
         (records_after (next_position POSITION_NAMES MAX_ACCOUNTS) (named_positions accounts.old.keys records.old.items) rows.old
         ≡ Err e)) }
     ensures numbered { OnOk result (AreNumbered accounts.new.keys records.new.items) }
-    ensures stopped { IfErr result (λ e. MatchBool (is_memory e) ⊤
-        (in_front (named_positions accounts.old.keys records.old.items)
-        (rows_read (named_positions accounts.old.keys records.old.items) rows.old)
-        ≡ record { records = named_positions accounts.new.keys records.new.items; fault = Some e })) }
-    ensures known { IfErr result (λ e. MatchBool (is_memory e) ⊤ (AreOfAccounts accounts.new.keys records.new.items)) }
 {
     while rows.next(row)? {
         let position = next_position(POSITION_NAMES, MAX_ACCOUNTS, records, accounts, row)?;

@@ -1,4 +1,4 @@
-//! Pieces of a position file that have no fault: their records can be numbered side by side.
+//! Pieces of a position file without a fault: their records are numbered side by side.
 ghost use Rattle.std.specs.Prelude.{◌≡◌, ◌<◌, ◌≤◌, ℕ, All, IfOk, IfSome, List, None, OnOk, length, map};
 ghost use Rattle.span_csv.specs.near.Pieces.{place_among, renumbered, with_names, AreOfAccounts, AreTogether, HasAccounts, StandFor};
 ghost use Rattle.span_tables.specs.near.Positions.{named_positions, AreNumbered};
@@ -79,17 +79,14 @@ fn renumber(places: &[u32], records: &mut [NumberedPosition])
 }
 
 impl AllAccounts {
-    /// The accounts of these pieces; none just where a piece has a fault or there are more accounts than there may be, so that only
-    /// [`join_pieces`](crate::pieces::join_pieces) can say what the fault of the file is.
+    /// The accounts of these pieces; `None` exactly if there are more than there may be. Then the file has a fault, which
+    /// [`read_positions`](crate::positions::read_positions) of the whole file finds.
     pub fn of(alloc: Global, pieces: &[Piece]) -> Result<Option<AllAccounts>, AllocError>
         ensures found { IfOk result (λ found. IfSome found (λ all. AreTogether all pieces.now)) }
         ensures none { IfOk result (λ found. found ≡ None → (all : List (List ℕ)) → AreTogether all pieces.now → ⊥) }
     {
         let mut accounts = IndexSet::new(alloc);
         for piece in pieces {
-            if piece.fault.is_some() {
-                return Ok(None);
-            }
             add_names(piece.accounts.as_slice(), &mut accounts)?;
         }
         if accounts.len() > MAX_ACCOUNTS {
@@ -98,16 +95,14 @@ impl AllAccounts {
         Ok(Some(AllAccounts { accounts }))
     }
 
-    /// The records of a piece without a fault, whose accounts are among these, each numbered by these.
+    /// The records of a piece, whose accounts are among these, each numbered by these.
     pub fn numbered(&self, alloc: Global, piece: Piece) -> Result<Vec<NumberedPosition>, AllocError>
-        requires faultless { piece.fault ≡ None }
-        requires known { HasAccounts self.now piece.records }
-        ensures { IfOk result (λ records. StandFor self.now piece.records records.items) }
+        requires { HasAccounts self.now piece }
+        ensures { IfOk result (λ records. StandFor self.now piece records.items) }
     {
         let Piece {
             accounts: names,
             records,
-            fault: _,
         } = piece;
         let places = places_of(alloc, &self.accounts, names.as_slice())?;
         let mut records = records;

@@ -17,7 +17,7 @@ use span_csv::cuts::cut_at_lines;
 use span_csv::faults::{ParamFault, PositionFault};
 use span_csv::orders::read_orders;
 use span_csv::params::{param_faults, read_params};
-use span_csv::pieces::{join_pieces, read_piece};
+use span_csv::pieces::read_piece;
 use span_csv::positions::{position_faults, read_positions};
 use span_csv::together::AllAccounts;
 use span_money::exact::push_exact;
@@ -125,14 +125,11 @@ fn portfolios_read(rt: &impl Abort, alloc: Global, tables: &Tables) -> Result<Po
     Ok(portfolios)
 }
 
-// `span_csv`: the same position file in one piece, whose records are joined to a file, and numbered by the accounts of all pieces.
+// `span_csv`: the same position file in one piece, whose records are numbered by the accounts of all pieces, and a piece with a fault.
 fn pieces_read(rt: &impl Abort, alloc: Global, tables: &Tables) -> Result<(), Fail> {
     let pieces = cut_at_lines(alloc, POSITIONS, 2)?;
     assert!(rt; pieces.as_slice() == [POSITIONS].as_slice());
-    let mut read = Vec::new(alloc);
-    read.push(read_piece(alloc, POSITIONS)?)?;
-    let joined = join_pieces(alloc, read)?;
-    assert!(rt; is_calendar(&bind(alloc, tables, &joined)?));
+    assert!(rt; read_piece(alloc, b"X,FA\n")?.is_none());
     let numbered = piece_numbered(alloc, POSITIONS)?.ok_or("accounts")?;
     assert!(rt; is_calendar(&bind(alloc, tables, &numbered)?));
     Ok(())
@@ -140,11 +137,15 @@ fn pieces_read(rt: &impl Abort, alloc: Global, tables: &Tables) -> Result<(), Fa
 
 // The records of a position file in one piece, numbered by its accounts. `None` if it has a fault.
 fn piece_numbered(alloc: Global, bytes: &[u8]) -> Result<Option<RawPositions>, AllocError> {
-    let pieces = [read_piece(alloc, bytes)?];
+    let Some(piece) = read_piece(alloc, bytes)? else {
+        return Ok(None);
+    };
+    let pieces = [piece];
     let Some(accounts) = AllAccounts::of(alloc, &pieces)? else {
         return Ok(None);
     };
-    let records = accounts.numbered(alloc, read_piece(alloc, bytes)?)?;
+    let [piece] = pieces;
+    let records = accounts.numbered(alloc, piece)?;
     Ok(Some(accounts.positions(records)))
 }
 

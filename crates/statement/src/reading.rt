@@ -3,11 +3,11 @@ ghost use Rattle.span_csv.specs.PositionFaults.{is_memory, positions_of};
 ghost use Rattle.span_csv.specs.near.Pieces.{piece_of, records_together, HasAccounts, StandFor};
 ghost use Rattle.span_tables.specs.Gives.{Gives};
 ghost use Rattle.span_csv.specs.Records.{records_of};
-ghost use Rattle.std.specs.Prelude.{◌≡◌, All, IfOk, List, None, flat_map, map, option_to_list, ℕ};
+ghost use Rattle.std.specs.Prelude.{◌≡◌, IfOk, IfSome, List, Ok, Some, flat_map, map, option_to_list, ℕ};
 
 use span_csv::cuts::cut_at_lines;
 use span_csv::faults::PositionFault;
-use span_csv::pieces::{Piece, join_pieces, read_piece};
+use span_csv::pieces::{Piece, read_piece};
 use span_csv::positions::read_positions;
 use span_csv::together::AllAccounts;
 use span_tables::raw::RawPositions;
@@ -16,25 +16,28 @@ use std::alloc::{AllocError, Global};
 use std::thread;
 use std::thread::Threads;
 
-// What is read of each of these pieces, one after the other.
-fn read_in_turn(alloc: Global, pieces: &[&[u8]]) -> Result<Vec<Piece>, AllocError>
-    ensures { IfOk result (λ read. read.items ≡ map (λ piece. piece_of piece.now) pieces.now) }
+// What is read of each of these pieces, one after the other. `None` if one of them has a fault.
+fn read_in_turn(alloc: Global, pieces: &[&[u8]]) -> Result<Option<Vec<Piece>>, AllocError>
+    ensures { IfOk result (λ answer. IfSome answer (λ read. map Some read.items ≡ map (λ piece. piece_of piece.now) pieces.now)) }
 {
     let mut read = Vec::with_capacity(alloc, pieces.len())?;
     for piece in pieces {
-        read.push(read_piece(alloc, piece)?)?;
+        let Some(piece) = read_piece(alloc, piece)? else {
+            return Ok(None);
+        };
+        read.push(piece)?;
     }
-    Ok(read)
+    Ok(Some(read))
 }
 
-// What is read of each of these pieces, in a thread of its own where one can be started.
+// What is read of each of these pieces, in a thread of its own where one can be started. `None` if one of them has a fault.
 #[cycle(pieces)]
 fn read_pieces<R: Threads + Sync>(
     rt: &R,
     alloc: Global,
     pieces: &[&[u8]],
-) -> Result<Vec<Piece>, AllocError>
-    ensures { IfOk result (λ read. read.items ≡ map (λ piece. piece_of piece.now) pieces.now) }
+) -> Result<Option<Vec<Piece>>, AllocError>
+    ensures { IfOk result (λ answer. IfSome answer (λ read. map Some read.items ≡ map (λ piece. piece_of piece.now) pieces.now)) }
 {
     if pieces.len() < 2 {
         return read_in_turn(alloc, pieces);
@@ -42,16 +45,23 @@ fn read_pieces<R: Threads + Sync>(
     let (front, back) = pieces.split_at(pieces.len() / 2);
     let (first, second) = thread::join(
         rt,
-        || -> Result<Vec<Piece>, AllocError>
-            ensures { IfOk result (λ read. read.items ≡ map (λ piece. piece_of piece.now) front.entry.now) }
+        || -> Result<Option<Vec<Piece>>, AllocError>
+            ensures { IfOk result (λ answer. IfSome answer (λ read.
+                map Some read.items ≡ map (λ piece. piece_of piece.now) front.entry.now)) }
         { read_pieces(rt, alloc, front) },
-        || -> Result<Vec<Piece>, AllocError>
-            ensures { IfOk result (λ read. read.items ≡ map (λ piece. piece_of piece.now) back.entry.now) }
+        || -> Result<Option<Vec<Piece>>, AllocError>
+            ensures { IfOk result (λ answer. IfSome answer (λ read.
+                map Some read.items ≡ map (λ piece. piece_of piece.now) back.entry.now)) }
         { read_pieces(rt, alloc, back) },
     );
-    let mut read = first?;
-    read.append(&mut second?)?;
-    Ok(read)
+    let Some(mut read) = first? else {
+        return Ok(None);
+    };
+    let Some(mut rest) = second? else {
+        return Ok(None);
+    };
+    read.append(&mut rest)?;
+    Ok(Some(read))
 }
 
 // The records of the piece, if there is one, numbered by the accounts of all.
@@ -60,8 +70,7 @@ fn number_one(
     accounts: &AllAccounts,
     piece: Option<Piece>,
 ) -> Result<Vec<NumberedPosition>, AllocError>
-    requires faultless { All (λ one. one.fault ≡ None) (option_to_list piece) }
-    requires known { HasAccounts accounts.now (records_together (option_to_list piece)) }
+    requires { HasAccounts accounts.now (records_together (option_to_list piece)) }
     ensures { IfOk result (λ records. StandFor accounts.now (records_together (option_to_list piece)) records.items) }
 {
     match piece {
@@ -70,8 +79,8 @@ fn number_one(
     }
 }
 
-// The records of pieces without a fault, one piece behind the other, numbered by the accounts of all: of each piece in a thread of its own
-// where one can be started.
+// The records of pieces, one piece behind the other, numbered by the accounts of all: of each piece in a thread of its own where one can be
+// started.
 #[cycle(numbering)]
 fn number_pieces<R: Threads + Sync>(
     rt: &R,
@@ -79,8 +88,7 @@ fn number_pieces<R: Threads + Sync>(
     accounts: &AllAccounts,
     pieces: Vec<Piece>,
 ) -> Result<Vec<NumberedPosition>, AllocError>
-    requires faultless { All (λ piece. piece.fault ≡ None) pieces.items }
-    requires known { HasAccounts accounts.now (records_together pieces.items) }
+    requires { HasAccounts accounts.now (records_together pieces.items) }
     ensures { IfOk result (λ records. StandFor accounts.now (records_together pieces.items) records.items) }
 {
     let mut pieces = pieces;
@@ -91,11 +99,11 @@ fn number_pieces<R: Threads + Sync>(
     let (front, rear) = thread::join(
         rt,
         move || -> Result<Vec<NumberedPosition>, AllocError>
-            requires { All (λ piece. piece.fault ≡ None) pieces.items × HasAccounts accounts.now (records_together pieces.items) }
+            requires { HasAccounts accounts.now (records_together pieces.items) }
             ensures { IfOk result (λ records. StandFor accounts.entry.now (records_together pieces.items) records.items) }
         { number_pieces(rt, alloc, accounts, pieces) },
         move || -> Result<Vec<NumberedPosition>, AllocError>
-            requires { All (λ piece. piece.fault ≡ None) back.items × HasAccounts accounts.now (records_together back.items) }
+            requires { HasAccounts accounts.now (records_together back.items) }
             ensures { IfOk result (λ records. StandFor accounts.entry.now (records_together back.items) records.items) }
         { number_pieces(rt, alloc, accounts, back) },
     );
@@ -104,25 +112,29 @@ fn number_pieces<R: Threads + Sync>(
     Ok(records)
 }
 
-// The records of a position file that was read in pieces, which have its records, in their order, or its first fault. Where no piece has a
-// fault, nor the whole too many accounts, the records are numbered anew side by side.
+// The records of a position file that is cut into these pieces, which have its records, in their order: read, and then numbered by the
+// accounts of all, side by side. `None` if a piece has a fault, or if all have more accounts than there may be.
 fn put_together<R: Threads + Sync>(
     rt: &R,
     alloc: Global,
-    pieces: Vec<Piece>,
-) -> Result<RawPositions, PositionFault>
-    ensures { (bytes : List ℕ) (parts : List (List ℕ)) → map piece_of parts ≡ pieces.items
-        → flat_map records_of parts ≡ records_of bytes → Gives is_memory result (positions_of bytes) }
+    pieces: &[&[u8]],
+) -> Result<Option<RawPositions>, AllocError>
+    ensures { IfOk result (λ answer. IfSome answer (λ positions. (bytes : List ℕ)
+        → flat_map (λ piece. records_of piece.now) pieces.now ≡ records_of bytes → positions_of bytes ≡ Ok positions)) }
 {
-    let Some(accounts) = AllAccounts::of(alloc, &pieces)? else {
-        return join_pieces(alloc, pieces);
+    let Some(read) = read_pieces(rt, alloc, pieces)? else {
+        return Ok(None);
     };
-    let records = number_pieces(rt, alloc, &accounts, pieces)?;
-    Ok(accounts.positions(records))
+    let Some(accounts) = AllAccounts::of(alloc, &read)? else {
+        return Ok(None);
+    };
+    let records = number_pieces(rt, alloc, &accounts, read)?;
+    Ok(Some(accounts.positions(records)))
 }
 
 /// The records of a position file, or its first fault, as [`read_positions`] reads it. A large file without a double quote is read in as
-/// many pieces as there are workers, or fewer, each in a thread of its own where one can be started.
+/// many pieces as there are workers, or fewer, each in a thread of its own where one can be started. If it has a fault, what was read is
+/// dropped, and the whole file is read again on one thread.
 pub(crate) fn read_together<R: Threads + Sync>(
     rt: &R,
     alloc: Global,
@@ -135,6 +147,8 @@ pub(crate) fn read_together<R: Threads + Sync>(
     if pieces.len() < 2 {
         return read_positions(alloc, bytes);
     }
-    let read = read_pieces(rt, alloc, &pieces)?;
-    put_together(rt, alloc, read)
+    match put_together(rt, alloc, &pieces)? {
+        Some(positions) => Ok(positions),
+        None => read_positions(alloc, bytes),
+    }
 }

@@ -3,8 +3,6 @@ use Rattle.std.specs.Prelude.{⊤}
 use Rattle.csv.specs.Machine.{next_record}
 use Rattle.csv.specs.Reading.{records_from, strip_bom}
 use Rattle.span_csv.specs.Records.{records_of, order_record, param_record, position_record}
-use Rattle.span_csv.specs.near.NumberedReading.{next_position, quantity_alone}
-use Rattle.span_csv.specs.near.Pieces.{pieces_joined, positions_joined, rows_read}
 use Rattle.span_csv.specs.ParamFaults.{faults_in, param_faults, params_of}
 use Rattle.span_csv.specs.OrderFaults.{order_fault, orders_of}
 use Rattle.span_csv.specs.PositionFaults.{position_faults, positions_of}
@@ -14,9 +12,3 @@ unfoldable pub reading_on_literals : ⊤
 unfolding next_record records_from strip_bom records_of order_record param_record position_record
     order_fault orders_of faults_in param_faults params_of position_faults positions_of
 reading_on_literals = tt
-
--- what computing the pieces of a literal file unfolds besides
-unfoldable pub pieces_on_literals : ⊤
-unfolding next_record records_from strip_bom records_of position_record position_faults positions_of
-    next_position quantity_alone pieces_joined positions_joined rows_read
-pieces_on_literals = tt

@@ -8,7 +8,6 @@ use Rattle.span_tables.proofs.NumberedLaws.{named_more, numbered_more}
 use Rattle.span_csv.specs.PositionFaults.{is_memory}
 use Rattle.span_csv.specs.Records.{text_at}
 use Rattle.span_csv.proofs.NumberedLemmas.{next_full, next_read, next_refused, stands_there, still_few}
-use Rattle.span_csv.proofs.PieceLemmas.{kept_same, kept_with}
 use Rattle.span_csv.proofs.RecordLemmas.{told, told_by}
 use Rattle.span_csv.proofs.numbered.next_position.Goals as goal
 
@@ -108,22 +107,3 @@ pub returns-clause-few : goal.returns-clause-few
 returns-clause-few c =
     rw (c.in_ok-account.ensures.taken)
     (still_few c.args.most c.args.known.now.keys c.field-2.result.now c.requires.few c.in_ok-account.ensures.room)
-
--- ---- the numbers of the earlier positions
-
-pub returns-in_err-quantity-clause-kept : goal.returns-in_err-quantity-clause-kept
-returns-in_err-quantity-clause-kept c =
-    let p = err_from_is_err_and c.from_residual.result c.from_residual.ensures.1 in
-    rw (p.1, p.2) (told (is_memory c.in_err-quantity.field-0.0) (kept_same c.args.known.now.keys c.args.earlier.now))
-
-pub returns-in_err-quantity-2-clause-kept : goal.returns-in_err-quantity-2-clause-kept
-returns-in_err-quantity-2-clause-kept c =
-    let p = err_from_is_err_and c.from_residual-in_err-quantity-2.result c.from_residual-in_err-quantity-2.ensures.1 in
-    rw (p.1, p.2) (told (is_memory c.in_err-quantity-2.field-0.0) (kept_same c.args.known.now.keys c.args.earlier.now))
-
-pub returns-in_err-account-clause-kept : goal.returns-in_err-account-clause-kept
-returns-in_err-account-clause-kept c =
-    let p = err_from_is_err_and c.from_residual-in_err-account.result c.from_residual-in_err-account.ensures.1 in
-    let e = c.in_err-account.field-0.0 in
-    rw (p.1, p.2) (told_by (is_memory e) c.in_err-account.ensures.room
-    (λ h. kept_with c.args.known.now.keys c.place.new.known.keys c.field-2.result.now c.args.earlier.now c.requires.numbered h.2))

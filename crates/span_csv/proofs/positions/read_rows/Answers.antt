@@ -7,8 +7,7 @@ use Rattle.span_csv.specs.near.NumberedReading.{next_position}
 use Rattle.span_csv.specs.declared.positions.TheConstants.{POSITION_NAMES}
 use Rattle.span_tables.specs.declared.limits.TheConstants.{MAX_ACCOUNTS}
 use Rattle.span_tables.specs.near.Positions.{named_position, named_positions}
-use Rattle.span_csv.proofs.PieceLemmas.{rows_read-ok, still_of, stopped}
-use Rattle.span_csv.proofs.RecordLemmas.{records_after-ok, records_after-refused, records_after-end, told_by}
+use Rattle.span_csv.proofs.RecordLemmas.{records_after-ok, records_after-refused, records_after-end}
 use Rattle.span_csv.proofs.positions.read_rows.Goals as goal
 
 pub returns-in_err-position-clause-read : goal.returns-in_err-position-clause-read
@@ -19,25 +18,6 @@ returns-in_err-position-clause-read c =
     rw (p.1, p.2, ← c.loop-records.invariant.rest, next)
     (records_after-refused (next_position POSITION_NAMES MAX_ACCOUNTS) is_memory earlier (fields_of c.next.new.row) c.next.new.self
     _ (rw c.deref.ensures.value at c.in_err-position.ensures.found))
-
-pub returns-in_err-position-clause-stopped : goal.returns-in_err-position-clause-stopped
-returns-in_err-position-clause-stopped c =
-    let p = err_from_is_err_and c.from_residual-in_err-position.result c.from_residual-in_err-position.ensures.1 in
-    let next = rw c.if-branch.true at c.in_ok-next.ensures.found in
-    let e = c.in_err-position.field-0.0 in
-    rw (p.1, p.2)
-    (stopped (is_memory e) c.loop-records.accounts.keys c.next_position.new.known.keys c.loop-records.records.items c.loop-records.rows
-    c.next.new.self (fields_of c.next.new.row) e _ c.loop-records.invariant.whole next
-    (rw c.deref.ensures.value at c.in_err-position.ensures.found) (rw c.deref.ensures.value at c.in_err-position.ensures.kept))
-
-pub returns-in_err-position-clause-known : goal.returns-in_err-position-clause-known
-returns-in_err-position-clause-known c =
-    let p = err_from_is_err_and c.from_residual-in_err-position.result c.from_residual-in_err-position.ensures.1 in
-    let e = c.in_err-position.field-0.0 in
-    rw (p.1, p.2)
-    (told_by (is_memory e) (rw c.deref.ensures.value at c.in_err-position.ensures.kept)
-    (λ kept. still_of c.loop-records.accounts.keys c.next_position.new.known.keys c.loop-records.records.items
-    c.loop-records.invariant.numbered kept))
 
 pub loop-records-preserved : goal.loop-records-preserved
 loop-records-preserved c =
@@ -54,9 +34,6 @@ loop-records-preserved c =
       few = c.in_ok-position.ensures.few;
       rest = rw (items, named) (sym (records_after-ok (next_position POSITION_NAMES MAX_ACCOUNTS) earlier (fields_of c.next.new.row)
           c.next.new.self position read) ∙ rest);
-      whole = rw (items, named)
-          (sym (rows_read-ok earlier (fields_of c.next.new.row) c.next.new.self position read)
-          ∙ (rw next at c.loop-records.invariant.whole));
     }
 
 pub returns-clause-read : goal.returns-clause-read

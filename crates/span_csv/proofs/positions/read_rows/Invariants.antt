@@ -1,6 +1,5 @@
 use Rattle.std.proofs.Common.{◌≡◌, ◌≤◌, length}
 use Rattle.span_csv.specs.near.NumberedReading.{next_position}
-use Rattle.span_csv.specs.near.Pieces.{in_front, rows_read}
 use Rattle.span_csv.specs.near.RecordReading.{records_after}
 use Rattle.span_csv.specs.declared.positions.TheConstants.{POSITION_NAMES}
 use Rattle.span_tables.specs.declared.limits.TheConstants.{MAX_ACCOUNTS}
@@ -14,10 +13,6 @@ invariant-loop-records l = record {
   rest : records_after (next_position POSITION_NAMES MAX_ACCOUNTS) (named_positions l.accounts.keys l.records.items) l.rows
       ≡ records_after (next_position POSITION_NAMES MAX_ACCOUNTS)
       (named_positions l.initial.accounts.keys l.initial.records.items) l.initial.rows;
-  whole : in_front (named_positions l.accounts.keys l.records.items)
-      (rows_read (named_positions l.accounts.keys l.records.items) l.rows)
-      ≡ in_front (named_positions l.initial.accounts.keys l.initial.records.items)
-      (rows_read (named_positions l.initial.accounts.keys l.initial.records.items) l.initial.rows);
 }
 
 abbrev pub decreases-loop-records : goal.decreases-loop-records

@@ -1,7 +1,7 @@
-use Rattle.std.proofs.Common.{rules, ◌≡◌, sym, subst, take, drop, ◌/◌, List, All, None}
-use Rattle.std.proofs.lemmas.List.Elements.{All-drop, All-take}
+use Rattle.std.proofs.Common.{rules, ◌≡◌, sym, subst, take, drop, ◌/◌, List}
 use Rattle.std.proofs.lemmas.Result.{IfOk-at_ok}
-use Rattle.span_csv.specs.near.Pieces.{PieceRead, records_together, HasAccounts, StandFor}
+use Rattle.span_csv.specs.near.Pieces.{records_together, HasAccounts, StandFor}
+use Rattle.span_tables.specs.declared.records.PositionRecord.{PositionRecord}
 use Rattle.span_csv.proofs.TogetherLaws.{known_back, known_front, stand_both}
 use Rattle.statement.proofs.reading.+numbering.Goals as goal
 
@@ -20,12 +20,8 @@ join-front-requires-after_bounds g t c κs within =
         (
           (λ a m. m),
           (
-            (
-              subst (All (λ (piece : PieceRead). piece.fault ≡ None)) (sym front_is)
-                  (All-take (λ (piece : PieceRead). piece.fault ≡ None) n pieces c.requires.faultless),
-              subst (λ (ps : List PieceRead). HasAccounts accounts (records_together ps)) (sym front_is)
-                  (known_front accounts pieces n c.requires.known),
-            ),
+            subst (λ (ps : List (List PositionRecord)). HasAccounts accounts (records_together ps)) (sym front_is)
+                (known_front accounts pieces n c.requires),
             search rules,
           ),
         ),
@@ -35,12 +31,8 @@ join-front-requires-after_bounds g t c κs within =
         (
           (λ a m. m),
           (
-            (
-              subst (All (λ (piece : PieceRead). piece.fault ≡ None)) (sym back_is)
-                  (All-drop (λ (piece : PieceRead). piece.fault ≡ None) n pieces c.requires.faultless),
-              subst (λ (ps : List PieceRead). HasAccounts accounts (records_together ps)) (sym back_is)
-                  (known_back accounts pieces n c.requires.known),
-            ),
+            subst (λ (ps : List (List PositionRecord)). HasAccounts accounts (records_together ps)) (sym back_is)
+                (known_back accounts pieces n c.requires),
             search rules,
           ),
         ),
@@ -60,5 +52,5 @@ returns g t c =
     let second = IfOk-at_ok (λ records. StandFor accounts (records_together c.in_ok-back.back.items) records.items) c.in_ok-rear.was
     c.join-front.ensures.second in
     rw c.in_ok-append.ensures.items (stand_both accounts pieces n front back
-    (subst (λ (ps : List PieceRead). StandFor accounts (records_together ps) front) cut.items first)
-    (subst (λ (ps : List PieceRead). StandFor accounts (records_together ps) back) cut.tail second))
+    (subst (λ (ps : List (List PositionRecord)). StandFor accounts (records_together ps) front) cut.items first)
+    (subst (λ (ps : List (List PositionRecord)). StandFor accounts (records_together ps) back) cut.tail second))

@@ -1,15 +1,22 @@
-use Rattle.std.proofs.Common.{rules, ◌≡◌, ◌∙◌, Ok, ap, sym, subst}
-use Rattle.span_csv.specs.near.Pieces.{AreTogether, HasAccounts, records_together}
-use Rattle.span_csv.proofs.TogetherLaws.{together_are, together_known}
+use Rattle.std.proofs.Common.{rules, ◌≡◌, ◌∙◌, Ok, ap, map, sym}
+use Rattle.std.proofs.lemmas.List.Folds.{flat_map-map}
+use mathlib.Core.List.{map-map}
+use Rattle.span_csv.specs.Records.{records_of}
+use Rattle.span_csv.specs.near.Pieces.{piece_of, AreTogether}
+use Rattle.span_csv.proofs.PieceLaws.{together_are}
+use Rattle.span_csv.proofs.TogetherLaws.{together_known}
 use Rattle.statement.proofs.reading.put_together.Goals as goal
 
-pub number_pieces-requires-clause-known : goal.number_pieces-requires-clause-known
-number_pieces-requires-clause-known g c κs within =
-    let together : AreTogether c.in-Some.accounts c.args.pieces.items = search rules in
-    together_known c.args.pieces.items c.in-Some.accounts together
+pub number_pieces-requires : goal.number_pieces-requires
+number_pieces-requires g c κs within =
+    let together : AreTogether c.in-Some-2.accounts c.in-Some.read.items = search rules in
+    together_known c.in-Some.read.items c.in-Some-2.accounts together
 
 pub returns : goal.returns
-returns g c = λ bytes parts are same.
-    let together : AreTogether c.in-Some.accounts c.args.pieces.items = search rules in
-    together_are bytes parts c.args.pieces.items c.in-Some.accounts are same together
+returns g c = λ bytes same.
+    let together : AreTogether c.in-Some-2.accounts c.in-Some.read.items = search rules in
+    let pieces = c.args.pieces.now in
+    together_are bytes (map (λ piece. piece.now) pieces) c.in-Some.read.items c.in-Some-2.accounts
+    (map-map piece_of (λ piece. piece.now) pieces ∙ sym c.in-Some.ensures)
+    (flat_map-map records_of (λ piece. piece.now) pieces ∙ same) together
     ∙ ap Ok (sym (c.positions.ensures ∙ c.in_ok-records.ensures.named))

@@ -2,7 +2,7 @@ use Rattle.std.proofs.Common.{◌≡◌, ◌∙◌, ap, subst, sym, length, map,
 use Rattle.std.proofs.lemmas.List.{length-map, with_items_is}
 use Rattle.std.specs.Vec.{with_items}
 use Rattle.span_tables.specs.near.Positions.{named_positions}
-use Rattle.span_csv.specs.near.Pieces.{PieceRead, place_among, renumbered, HasAccounts, StandFor}
+use Rattle.span_csv.specs.near.Pieces.{place_among, renumbered, HasAccounts, StandFor}
 use Rattle.span_csv.proofs.TogetherLaws.{stand_for}
 use Rattle.span_csv.proofs.together.AllAccounts.numbered.Goals as goal
 
@@ -16,13 +16,13 @@ returns c =
     c.renumber.ensures
     ∙ ap (map (renumbered c.deref.result.now)) c.deref_mut.ensures.value
     ∙ ap (λ ps. map (renumbered ps) rs) placed in
-    let of : named_positions names rs ≡ c.args.piece.records = ap (λ (one : PieceRead). one.records) c.piece.view_is in
+    let of : named_positions names rs ≡ c.args.piece = c.piece.view_is in
     let long : length c.renumber.new.records ≡ c.piece.inside.records.len =
     ap length new ∙ length-map rs (renumbered (map (place_among keys) names)) ∙ (search rules) in
     let items = with_items_is c.piece.inside.records c.renumber.new.records long in
     let out = (with_items c.piece.inside.records c.renumber.new.records).items in
-    subst (λ all. StandFor all c.args.piece.records out) c.self.view_is
+    subst (λ all. StandFor all c.args.piece out) c.self.view_is
     (subst (λ ps. StandFor keys ps out) of
     (subst (StandFor keys (named_positions names rs)) (sym (items ∙ new))
-    (stand_for keys names rs c.piece.invariant.0
-    (subst (HasAccounts keys) (sym of) (subst (λ all. HasAccounts all c.args.piece.records) (sym c.self.view_is) c.requires.known)))))
+    (stand_for keys names rs (record { known = c.piece.invariant.known; small = c.piece.invariant.small })
+    (subst (HasAccounts keys) (sym of) (subst (λ all. HasAccounts all c.args.piece) (sym c.self.view_is) c.requires)))))
