@@ -1,11 +1,7 @@
-pub mod AccountWords
-pub mod AskedLemmas
-pub mod FaultFree
 pub mod JoinLemmas
 pub mod NumberLemmas
 pub mod ParseLemmas
 pub mod ReadLemmas
 pub mod ServingLemmas
 pub mod StreamLemmas
-pub mod TakenRows
 pub mod WordsLaws

@@ -1,20 +1,11 @@
 -- What `clap` says of a command, said of the program's own.
-use Rattle.std.proofs.Common.{◌≡◌, subst, refl, List, true, Result, Ok, Err, IfErr, IfOk}
-use Rattle.clap.specs.Words.{App, FailsBy, HasMatchesOf, Text, fault_of, is_simple_and_free, kind_of}
-use Rattle.clap.specs.Words.{subcommand_of, subcommand_rows_of, takes}
+use Rattle.std.proofs.Common.{◌≡◌, subst, refl, List, true, Result, Ok, Err, IfOk}
+use Rattle.clap.specs.Words.{App, FailsBy, HasMatchesOf, Text, fault_of, is_simple_and_free, subcommand_of, subcommand_rows_of}
 use Rattle.clap.specs.declared.error.Error.{Error}
-use Rattle.clap.specs.declared.error.kind.ErrorKind.TheVariants.{OutOfMemory}
 use Rattle.clap.specs.declared.parser.matches.ArgMatches.{ArgMatches}
-use Rattle.span_cli.specs.Words.{form_kinds, has_form, span_app}
+use Rattle.span_cli.specs.Words.{form_kinds, span_app}
 
--- words that have the form are refused only for want of memory
-pub taken_fails : {T : Type 0} (a : App) (words : List Text) (r : Result T Error) → a ≡ span_app
-    → IfErr r (λ e. takes a words ≡ true → kind_of e ≡ OutOfMemory)
-    → IfErr r (λ e. has_form words ≡ true → kind_of e ≡ OutOfMemory)
-unfolding has_form
-taken_fails a words r same h = subst (λ (x : App). IfErr r (λ e. takes x words ≡ true → kind_of e ≡ OutOfMemory)) same h
-
--- words that have not the form are refused for a mistake that they have
+-- words are refused only for a mistake in their form, or for want of memory
 pub mistaken_fails : {T : Type 0} (a : App) (words : List Text) (r : Result T Error) → a ≡ span_app
     → (is_simple_and_free a ≡ true → FailsBy (fault_of a words) r) → FailsBy (form_kinds words) r
 unfolding form_kinds

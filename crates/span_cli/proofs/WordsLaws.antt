@@ -1,42 +1,90 @@
--- Words that are taken name a command.
-use Rattle.std.proofs.Common.{◌≡◌, ◌&&◌, Bool, true, false, not, ℕ, List, refl}
-use Rattle.std.specs.Prelude.{is_some}
-use Rattle.std.specs.List.{list_all}
-use Rattle.clap.specs.Simple.{argument_words, built, entered, is_simple, names_of, subcommand_of}
-use Rattle.clap.specs.Takes.{default_passes, entered_passes, is_valid, level_passes, settle_passes, walk_passes}
-use Rattle.clap.specs.Walk.{finished, nothing_held, stop_after, walk, walk_from}
-use Rattle.span_cli.specs.Words.{has_form, is_request, misnames, span_app}
+-- Words that are taken, and the kinds of mistake of words that are not.
+use Rattle.std.proofs.Common.{◌≡◌, ◌&&◌, Bool, true, false, List, [], ◌∷◌, Option, Some, None, length, refl, arith, eqb-true, inl, inr}
+use Rattle.std.specs.Prelude.{◌⊎◌, is_some, option_and_then, if◌then◌else◌}
+use Rattle.clap.specs.Kinds.{or_else}
+use Rattle.clap.specs.Walk.{is_empty}
+use Rattle.clap.specs.Words.{HasKind, IsAmong, Kinds, Row, Text, kind_of, subcommand_of}
+use Rattle.clap.specs.declared.error.Error.{Error}
+use Rattle.clap.specs.declared.error.kind.ErrorKind.{ErrorKind}
+use Rattle.clap.specs.declared.error.kind.ErrorKind.TheVariants as kind
+use Rattle.clap.proofs.WalkLemmas.{both}
+use Rattle.span_cli.specs.Serving.{Asked}
+use Rattle.span_cli.specs.Words.{asked_among, asked_in, commands, form_kinds, is_request, kinds_of, span_app}
 
--- what holds of two tests holds of each
-pub left : (x y : Bool) → (x && y) ≡ true → x ≡ true
-left true y h = refl
-left false y h = cc
+-- ---- kinds and what is asked
 
-pub right : (x y : Bool) → (x && y) ≡ true → y ≡ true
-right true y h = h
-right false y h = cc
+-- the kinds of a value that nothing is asked by
+abbrev value_kinds : Option Asked → Kinds
+value_kinds o = if is_some o then [] else kind.ValueValidation ∷ []
 
-form_names : (words : List (List ℕ)) → has_form words ≡ true → is_some (subcommand_of span_app words) ≡ true
-unfolding has_form
-form_names words h =
-    let top = (built span_app).top in
-    let names = names_of (built span_app) in
-    let given = argument_words span_app words in
-    let stop = stop_after top.rules names given in
-    let end = (walk top.rules names nothing_held given).held in
-    let has = is_some (entered (built span_app) stop) in
-    let valid = is_valid top (finished top.rules end) has in
-    let takes : (entered_passes (built span_app) stop && level_passes top names nothing_held given has) ≡ true =
-    right (is_simple span_app) _ h in
-    let level : (walk_passes top names (walk_from nothing_held) given && (settle_passes top.rules top.args_override_self end
-    && (list_all default_passes top.rules && valid))) ≡ true = right (entered_passes (built span_app) stop) _ takes in
-    let after : (settle_passes top.rules top.args_override_self end && (list_all default_passes top.rules && valid)) ≡ true =
-    right (walk_passes top names (walk_from nothing_held) given) _ level in
-    let last : (list_all default_passes top.rules && valid) ≡ true =
-    right (settle_passes top.rules top.args_override_self end) _ after in
-    let is_valid_here : valid ≡ true = right (list_all default_passes top.rules) valid last in
-    left has _ is_valid_here
+empty_none : (ks : Kinds) → is_empty ks ≡ true → ks ≡ []
+empty_none [] empty = refl
+empty_none (k ∷ ks) empty = let none : length (k ∷ ks) ≡ 0 = eqb-true (length (k ∷ ks)) 0 empty in absurd (omega arith)
 
-pub taken_names : (words : List (List ℕ)) → is_request words ≡ true → is_some (subcommand_of span_app words) ≡ true
+taken_has : (ks : Kinds) (o : Option Asked) → (is_empty ks && is_some o) ≡ true → (ks ≡ []) × (is_some o ≡ true)
+taken_has ks o taken = let parts = both (is_empty ks) (is_some o) taken in (empty_none ks parts.0, parts.1)
+
+none_taken : (ks : Kinds) (o : Option Asked) → or_else ks (value_kinds o) ≡ [] → (is_empty ks && is_some o) ≡ true
+none_taken [] (Some asked) none = refl
+none_taken [] None none = cc
+none_taken (k ∷ ks) o none = cc
+
+taken_none : (ks : Kinds) (o : Option Asked) → (ks ≡ []) × (is_some o ≡ true) → or_else ks (value_kinds o) ≡ []
+taken_none ks o (well, some) = rw (well, some) refl
+
+more_kinds : (kinds more : Kinds) (k : ErrorKind) → IsAmong k kinds → IsAmong k (or_else kinds more)
+more_kinds [] more k among = absurd among
+more_kinds (x ∷ kinds) more k among = among
+
+-- ---- words that are taken
+
+-- they ask for something
+pub taken_asks : (words : List Text) → is_request words ≡ true → is_some (asked_in words) ≡ true
 unfolding is_request
-taken_names words h = form_names words (left (has_form words) (not (misnames words)) h)
+taken_asks words taken = (taken_has (form_kinds words) (asked_in words) taken).1
+
+-- what names nothing asks for nothing
+named : {X Y : Type 0} (f : X → Option Y) (o : Option X) → is_some (option_and_then f o) ≡ true → is_some o ≡ true
+named f None some = cc
+named f (Some x) some = refl
+
+-- they name a command
+pub taken_names : (words : List Text) → is_request words ≡ true → is_some (subcommand_of span_app words) ≡ true
+taken_names words taken =
+    named (λ (p : Text × List Row). asked_among commands p.0 p.1) (subcommand_of span_app words) (taken_asks words taken)
+
+-- words that nothing refuses are taken
+pub unrefused_taken : (words : List Text) → kinds_of words ≡ [] → is_request words ≡ true
+unfolding is_request kinds_of
+unrefused_taken words none = none_taken (form_kinds words) (asked_in words) none
+
+pub unrefused_asks : (words : List Text) → kinds_of words ≡ [] → is_some (asked_in words) ≡ true
+unrefused_asks words none = taken_asks words (unrefused_taken words none)
+
+-- words without a mistake in the form, which ask for something, are refused by nothing
+pub no_mistake : (words : List Text) (asked : Asked) → form_kinds words ≡ [] → asked_in words ≡ Some asked → kinds_of words ≡ []
+unfolding kinds_of
+no_mistake words asked well is = rw (well, is) refl
+
+-- words that are taken are refused only for want of memory
+pub taken_fails : (words : List Text) (e : Error) → HasKind (kinds_of words) e → is_request words ≡ true → kind_of e ≡ kind.OutOfMemory
+unfolding is_request kinds_of
+taken_fails words e (inl memory) taken = memory
+taken_fails words e (inr among) taken =
+    let none = taken_none (form_kinds words) (asked_in words) (taken_has (form_kinds words) (asked_in words) taken) in
+    absurd (rw (none) at among)
+
+-- ---- words that are refused
+
+-- a mistake in the form is one of the words
+pub form_mistake : (words : List Text) (e : Error) → HasKind (form_kinds words) e → HasKind (kinds_of words) e
+unfolding kinds_of
+form_mistake words e (inl memory) = inl memory
+form_mistake words e (inr among) = inr (more_kinds (form_kinds words) (value_kinds (asked_in words)) (kind_of e) among)
+
+-- words without a mistake in the form, which ask for nothing
+pub value_mistake : (words : List Text) (e : Error) → form_kinds words ≡ [] → asked_in words ≡ None
+    → (kind_of e ≡ kind.OutOfMemory) ⊎ (kind_of e ≡ kind.ValueValidation) → HasKind (kinds_of words) e
+unfolding kinds_of
+value_mistake words e well nothing (inl memory) = inl memory
+value_mistake words e well nothing (inr is) = inr (rw (well, nothing) (inl is))

@@ -1,12 +1,12 @@
 -- What the words of a command line ask for.
-use Rattle.std.specs.Prelude.{ℕ, Bool, true, false, not, List, [], ◌∷◌, ◌++◌, ◌&&◌, Option, Some, None, codes, bytes_eq}
+use Rattle.std.specs.Prelude.{ℕ, Bool, true, false, List, [], ◌∷◌, ◌++◌, ◌&&◌, Option, Some, None, codes, bytes_eq}
 use Rattle.std.specs.Prelude.{if◌then◌else◌, is_some, map, option_map, option_and_then}
-use Rattle.std.specs.Option.{option_map_or}
 use Rattle.std.specs.Str.Parse.{digits_value, without_leading_plus}
 use Rattle.clap.specs.Kinds.{or_else}
 use Rattle.clap.specs.Lexer.{usize_max}
 use Rattle.clap.specs.ValueTests.{is_unsigned_in}
-use Rattle.clap.specs.Words.{App, Kinds, Row, Rule, Text, first_of, new_app, new_rule, fault_of, subcommand_of, takes}
+use Rattle.clap.specs.Walk.{is_empty}
+use Rattle.clap.specs.Words.{App, Kinds, Row, Rule, Text, first_of, new_app, new_rule, fault_of, subcommand_of}
 use Rattle.clap.specs.Words.{with_rule, with_subcommand}
 use Rattle.clap.specs.declared.builder.value_parser.ValueParser.TheVariants as value_parser
 use Rattle.clap.specs.declared.error.kind.ErrorKind.TheVariants as kind
@@ -157,30 +157,19 @@ asked_among (command ∷ others) name rows =
 abbrev pub asked_in : List Text → Option Asked
 asked_in words = option_and_then (λ p. asked_among commands p.0 p.1) (subcommand_of span_app words)
 
--- whether the words have the form of a command line of the program
-unfoldable pub has_form : List Text → Bool
-has_form words = takes span_app words
-
--- the kinds of mistake that there may be in their form
+-- the kinds of mistake that there may be in the form of the words
 unfoldable pub form_kinds : List Text → Kinds
 form_kinds words = fault_of span_app words
 
--- a command of this name has an account that is no name
-abbrev pub misnames_in : Text → List Row → Bool
-misnames_in command rows = bytes_eq command (codes "explain") && not (is_some (account_in rows))
-
--- the words have one
-abbrev pub misnames : List Text → Bool
-misnames words = option_map_or (λ p. misnames_in p.0 p.1) (subcommand_of span_app words) false
-
--- whether the words are a command line of the program
+-- whether the words are a command line of the program: their form has no mistake, and they ask for something
 unfoldable pub is_request : List Text → Bool
-is_request words = has_form words && not (misnames words)
+is_request words = is_empty (form_kinds words) && is_some (asked_in words)
 
 -- what the words ask for if they are a command line of the program, and else nothing
 abbrev pub request_in : List Text → Option Asked
 request_in words = if is_request words then asked_in words else None
 
--- the kinds of mistake that they may be refused by
+-- The kinds of mistake that they may be refused by. If their form has no mistake and they ask for nothing, an option has a value that is
+-- not valid, such as an account that is no name.
 unfoldable pub kinds_of : List Text → Kinds
-kinds_of words = or_else (form_kinds words) (if misnames words then kind.ValueValidation ∷ [] else [])
+kinds_of words = or_else (form_kinds words) (if is_some (asked_in words) then [] else kind.ValueValidation ∷ [])

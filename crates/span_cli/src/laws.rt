@@ -2,7 +2,7 @@
 ghost use Rattle.clap.specs.Words.{subcommand_of};
 ghost use Rattle.span_cli.specs.Serving.{Answer, answer_of, answer_of_faults, done, file_line, refused};
 ghost use Rattle.span_cli.specs.Telling.{Tells};
-ghost use Rattle.span_cli.specs.Words.{asked_in, is_request, kinds_of, span_app};
+ghost use Rattle.span_cli.specs.Words.{is_request, kinds_of, span_app};
 ghost use Rattle.span_tables.specs.Names.{is_among};
 ghost use Rattle.statement.specs.AllFaults.{faults_status, faults_text};
 ghost use Rattle.statement.specs.Streams.{Stream};
@@ -61,11 +61,6 @@ pub fn status_stands()
 /// Words that are taken name a command.
 pub fn taken_words_name_a_command()
     ensures { (words : List (List ℕ)) → is_request words ≡ true → is_some (subcommand_of span_app words) ≡ true }
-{}
-
-/// Words that are taken ask for something: each file that has to be given is, and what their options are given has a value.
-pub fn taken_words_ask_for_something()
-    ensures { (words : List (List ℕ)) → is_request words ≡ true → is_some (asked_in words) ≡ true }
 {}
 
 /// Words that may be refused for no kind of reason are taken.

@@ -6,14 +6,14 @@ ghost use Rattle.span_cli.specs.Reads.{ReadsAsked};
 ghost use Rattle.span_cli.specs.Serving.{asked_by, memory};
 ghost use Rattle.span_cli.specs.Telling.{AnswersWords, IsMistake, IsShown, RefusesWords, ServesAsked, Tells, no_text_line};
 ghost use Rattle.span_cli.specs.Words.{account_in, account_rule, app_without_commands, asked_among, asked_in, commands, form_kinds};
-ghost use Rattle.span_cli.specs.Words.{has_form, is_request, joined_words, kinds_of, misnames_in, number_in, request_in, span_app};
+ghost use Rattle.span_cli.specs.Words.{is_request, joined_words, kinds_of, number_in, request_in, span_app};
 ghost use Rattle.span_cli.specs.Words.{with_commands, with_rules, workers_in, workers_rule};
 ghost use Rattle.span_cli.specs.near.Rows.{file_rule_of, option_rule, row_app};
 ghost use Rattle.statement.specs.Streams.{Says};
 ghost use Rattle.statement.specs.FaultLines.{memory_line};
 ghost use Rattle.std.specs.IoError.{error_kind};
 ghost use Rattle.std.specs.declared.io.ErrorKind.TheVariants as kind;
-ghost use Rattle.std.specs.Prelude.{◌≡◌, ◌≢◌, ◌⊎◌, IfErr, IfOk, Some, codes, false, map, option_map, true};
+ghost use Rattle.std.specs.Prelude.{◌≡◌, ◌≢◌, ◌⊎◌, IfErr, IfOk, Some, codes, false, map, option_and_then, option_map, true};
 
 use crate::joining::join_words;
 use crate::outputs::{ErrorStream, OutputStream};
@@ -413,11 +413,13 @@ fn request_under<'a>(name: &str, matches: &ArgMatches<'a>) -> Option<Request<'a>
     }
 }
 
-// Whether a command of this name has an account that is no name.
-fn misnames(name: &str, matches: &ArgMatches<'_>) -> bool
-    ensures { result ≡ misnames_in name.now (rows_of (found_of matches.now)) }
+// What the matches ask for, if anything.
+fn request_of<'a>(matches: &ArgMatches<'a>) -> Option<Request<'a>>
+    ensures { option_map asked_by result
+        ≡ option_and_then (λ p. asked_among commands p.0 p.1) (subcommand_rows_of matches.now) }
 {
-    name == "explain" && account_asked(matches).is_none()
+    let (name, found) = matches.subcommand()?;
+    request_under(name, found)
 }
 
 // What is said of an account that is no name, with the usage of `explain`.
@@ -441,7 +443,6 @@ fn refuse_account(alloc: Global) -> Error
 // The matches of the words.
 fn parse<'a, S: AsStr>(alloc: Global, words: &'a [S]) -> Result<ArgMatches<'a>, Error>
     ensures ok { IfOk result (λ m. subcommand_rows_of m ≡ subcommand_of span_app (map S.text words.entry.now)) }
-    ensures err { IfErr result (λ e. has_form (map S.text words.entry.now) ≡ true → kind_of e ≡ ErrorKind.OutOfMemory) }
     ensures kinds { FailsBy (form_kinds (map S.text words.entry.now)) result }
 {
     let command = span(alloc)?;
@@ -455,18 +456,10 @@ pub fn request<'a, S: AsStr>(alloc: Global, words: &'a [S]) -> Result<Request<'a
     ensures kinds { FailsBy (kinds_of (map S.text words.entry.now)) result }
 {
     let matches = parse(alloc, words)?;
-    match matches.subcommand() {
-        Some((name, found)) => {
-            if misnames(name, found) {
-                return Err(refuse_account(alloc));
-            }
-            match request_under(name, found) {
-                Some(request) => Ok(request),
-                // Words that are taken ask for something (`taken_words_ask_for_something`).
-                None => unreachable!(),
-            }
-        }
-        None => unreachable!(),
+    match request_of(&matches) {
+        Some(request) => Ok(request),
+        // `clap` has checked all else, so this is an account that is no name.
+        None => Err(refuse_account(alloc)),
     }
 }
 

@@ -43,6 +43,7 @@ fn explain_of_an_account()
     ensures taken { is_request (codes "span" ∷ codes "explain" ∷ codes "--account=X-1" ∷ codes "p" ∷ codes "q" ∷ []) ≡ true }
     ensures before { asked_in (codes "span" ∷ codes "explain" ∷ codes "--account=X-1" ∷ codes "p" ∷ codes "q" ∷ [])
         ≡ Some (Explain (Some (codes "X-1")), codes "p" ∷ codes "q" ∷ []) }
+    ensures minus_taken { is_request (codes "span" ∷ codes "explain" ∷ codes "p" ∷ codes "q" ∷ codes "--account=-X" ∷ []) ≡ true }
     ensures minus { asked_in (codes "span" ∷ codes "explain" ∷ codes "p" ∷ codes "q" ∷ codes "--account=-X" ∷ [])
         ≡ Some (Explain (Some (codes "-X")), codes "p" ∷ codes "q" ∷ []) }
 {}
@@ -86,6 +87,8 @@ fn roll_of_three_files()
     ensures taken { is_request (codes "span" ∷ codes "roll" ∷ codes "p" ∷ codes "n" ∷ codes "q" ∷ []) ≡ true }
     ensures asked { asked_in (codes "span" ∷ codes "roll" ∷ codes "p" ∷ codes "n" ∷ codes "q" ∷ [])
         ≡ Some (Roll 1, codes "p" ∷ codes "n" ∷ codes "q" ∷ []) }
+    ensures workers_taken { is_request (codes "span" ∷ codes "roll" ∷ codes "p" ∷ codes "n" ∷ codes "--workers=3" ∷ codes "q" ∷ [])
+        ≡ true }
     ensures workers { asked_in (codes "span" ∷ codes "roll" ∷ codes "p" ∷ codes "n" ∷ codes "--workers=3" ∷ codes "q" ∷ [])
         ≡ Some (Roll 3, codes "p" ∷ codes "n" ∷ codes "q" ∷ []) }
     ensures no_next { kinds_of (codes "span" ∷ codes "roll" ∷ codes "p" ∷ codes "q" ∷ []) ≡ kind.MissingRequiredArgument ∷ [] }
@@ -96,6 +99,8 @@ fn whatif_of_three_files()
     ensures taken { is_request (codes "span" ∷ codes "whatif" ∷ codes "p" ∷ codes "q" ∷ codes "o" ∷ []) ≡ true }
     ensures asked { asked_in (codes "span" ∷ codes "whatif" ∷ codes "p" ∷ codes "q" ∷ codes "o" ∷ [])
         ≡ Some (WhatIf 1, codes "p" ∷ codes "q" ∷ codes "o" ∷ []) }
+    ensures workers_taken { is_request (codes "span" ∷ codes "whatif" ∷ codes "--workers=2" ∷ codes "p" ∷ codes "q" ∷ codes "o" ∷ [])
+        ≡ true }
     ensures workers { asked_in (codes "span" ∷ codes "whatif" ∷ codes "--workers=2" ∷ codes "p" ∷ codes "q" ∷ codes "o" ∷ [])
         ≡ Some (WhatIf 2, codes "p" ∷ codes "q" ∷ codes "o" ∷ []) }
     ensures no_orders { kinds_of (codes "span" ∷ codes "whatif" ∷ codes "p" ∷ codes "q" ∷ []) ≡ kind.MissingRequiredArgument ∷ [] }

@@ -1,6 +1,6 @@
 use Rattle.std.proofs.Common.{inl, map}
 use Rattle.span_cli.specs.Words.{asked_in, kinds_of}
-use Rattle.span_cli.proofs.AskedLemmas.{taken_asks, unrefused_asks, unrefused_taken}
+use Rattle.span_cli.proofs.WordsLaws.{taken_asks, unrefused_asks, unrefused_taken}
 use Rattle.span_cli.proofs.ReadLemmas.{nothing_read}
 use Rattle.span_cli.proofs.ServingLemmas.{memory_serves, memory_told, words_refused}
 use Rattle.span_cli.proofs.words.answer_words.Goals as goal

@@ -2,7 +2,7 @@ use Rattle.std.proofs.Common.{◌≡◌, inl, map, rules}
 use Rattle.clap.specs.Words.{kind_of}
 use Rattle.clap.specs.declared.error.kind.ErrorKind.TheVariants.{OutOfMemory}
 use Rattle.span_cli.specs.Words.{asked_in, joined_words, kinds_of}
-use Rattle.span_cli.proofs.AskedLemmas.{taken_asks, unrefused_asks}
+use Rattle.span_cli.proofs.WordsLaws.{taken_asks, unrefused_asks}
 use Rattle.span_cli.proofs.ReadLemmas.{nothing_read}
 use Rattle.span_cli.proofs.ServingLemmas.{memory_serves, memory_told, words_refused}
 use Rattle.span_cli.proofs.words.run_words.Goals as goal
