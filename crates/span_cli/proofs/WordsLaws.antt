@@ -1,5 +1,5 @@
 -- Words that are taken, and the kinds of mistake of words that are not.
-use Rattle.std.proofs.Common.{◌≡◌, ◌&&◌, Bool, true, false, List, [], ◌∷◌, Option, Some, None, length, refl, arith, eqb-true, inl, inr}
+use Rattle.std.proofs.Common.{◌≡◌, ◌&&◌, true, List, [], ◌∷◌, Option, Some, None, length, refl, arith, eqb-true, inl, inr}
 use Rattle.std.specs.Prelude.{◌⊎◌, is_some, option_and_then, if◌then◌else◌}
 use Rattle.clap.specs.Kinds.{or_else}
 use Rattle.clap.specs.Walk.{is_empty}

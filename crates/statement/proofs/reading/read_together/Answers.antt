@@ -5,5 +5,5 @@ use Rattle.statement.proofs.reading.read_together.Goals as goal
 
 pub returns-in-Some : goal.returns-in-Some
 returns-in-Some g c =
-    c.in-Some.ensures c.args.bytes.now
+    (rw c.in-Some.is at c.in_ok-positions.ensures) c.args.bytes.now
     (ap (flat_map (λ piece. records_of piece.now)) c.deref.ensures.value ∙ c.in_ok-pieces.ensures.records)
