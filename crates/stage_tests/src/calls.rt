@@ -144,7 +144,9 @@ fn piece_numbered(alloc: Global, bytes: &[u8]) -> Result<Option<RawPositions>, A
     let Some(accounts) = AllAccounts::of(alloc, &pieces)? else {
         return Ok(None);
     };
-    let [piece] = pieces;
+    let Some(piece) = read_piece(alloc, bytes)? else {
+        return Ok(None);
+    };
     let records = accounts.numbered(alloc, piece)?;
     Ok(Some(accounts.positions(records)))
 }
