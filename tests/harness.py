@@ -4,6 +4,7 @@ A suite is a script `tests/NAME PROGRAM`. It makes one `Suite`, runs its tests w
 `sys.exit(suite.result())`, which prints `N passed, M failed` as the last line.
 """
 import contextlib
+import io
 import os
 import pathlib
 import shutil
@@ -15,12 +16,26 @@ import traceback
 from typing import NamedTuple
 
 ROOT = pathlib.Path(__file__).resolve().parent.parent
+SHARED = ROOT / "tests"  # the directory of limits, order.awk, told.awk and refuse-growth.c
 TIMEOUT = 120  # seconds that one command may take
 
-# A command inherits the signals that are ignored, such as HUP under nohup, and a shell cannot catch these.
-for ignored in (signal.SIGHUP, signal.SIGINT, signal.SIGQUIT, signal.SIGTERM):
-    if signal.getsignal(ignored) == signal.SIG_IGN:
-        signal.signal(ignored, signal.SIG_DFL)
+
+def leave_with(status):
+    """Ends the suite with this exit status on HUP, INT and TERM: what it has made is removed, and the next signal does not stop that."""
+
+    def leave(*_):
+        for number in (signal.SIGHUP, signal.SIGINT, signal.SIGTERM):
+            signal.signal(number, signal.SIG_IGN)
+        sys.exit(status)
+
+    for number in (signal.SIGHUP, signal.SIGINT, signal.SIGTERM):
+        signal.signal(number, leave)
+
+
+# A command inherits the signals that are ignored, such as HUP under nohup, and a shell cannot catch these. It does not inherit a handler.
+leave_with(2)
+if signal.getsignal(signal.SIGQUIT) == signal.SIG_IGN:
+    signal.signal(signal.SIGQUIT, signal.SIG_DFL)
 
 
 class Answer(NamedTuple):
@@ -53,6 +68,17 @@ class Suite:
         """Checks that two values are equal, and prints both if they are not."""
         self.check(name, found == expected, f"{shown(found)}, expected {shown(expected)}")
 
+    def flawless(self, name, flaws):
+        """Counts one check, which holds if the generator `flaws` yields nothing. An exception that leaves it is a flaw, too."""
+        found = []
+        try:
+            for flaw in flaws:
+                found.append(flaw)
+        except Exception as error:  # a check that breaks off must not end the suite
+            line = traceback.extract_tb(error.__traceback__)[-1].lineno
+            found.append(f"line {line}: {type(error).__name__}: {error}")
+        self.check(name, not found, "; ".join(found))
+
     def test(self, function, *arguments):
         """Runs one test. An exception that leaves it is one failed check, and `Skipped` is counted apart."""
         try:
@@ -70,6 +96,11 @@ class Suite:
             print(f"{self.skipped} skipped")
         print(f"{self.passed} passed, {self.failed} failed")
         return 1 if self.failed or not self.passed else 0
+
+
+def lines_of(data):
+    """The lines of bytes, each with its end. Only a newline ends one."""
+    return list(io.BytesIO(data))
 
 
 def shown(value):
@@ -94,6 +125,16 @@ def run(command, given=b"", timeout=TIMEOUT, **options):
         options["input"] = given
     done = subprocess.run([os.fspath(word) for word in command], timeout=timeout, check=False, **options)
     return Answer(done.returncode, done.stdout or b"", done.stderr or b"")
+
+
+@contextlib.contextmanager
+def started(command, **options):
+    """A command that runs beside the test with the options of `subprocess.Popen`, and is stopped when the block ends."""
+    with subprocess.Popen([os.fspath(word) for word in command], **options) as process:
+        try:
+            yield process
+        finally:
+            process.terminate()
 
 
 def needs(*commands):
