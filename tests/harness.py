@@ -1,6 +1,6 @@
 """What the test suites in Python share: counting checks, running commands, and small disks.
 
-A suite is a script `tests/NAME PROGRAM`. It makes one `Suite`, runs its tests with `Suite.test`, and ends with
+A suite is a script `tests/NAME PROGRAM`. It makes one `Suite`, runs its tests with `Suite.test` or `Suite.single`, and ends with
 `sys.exit(suite.result())`, which prints `N passed, M failed` as the last line.
 """
 import contextlib
@@ -50,6 +50,10 @@ class Skipped(Exception):
     """Raised by a test that cannot run on this machine. Its text says what is missing."""
 
 
+class Different(Exception):
+    """Raised by `same`. Its text shows both values."""
+
+
 class Suite:
     """Counts the checks of a suite and prints each one that fails."""
 
@@ -81,14 +85,26 @@ class Suite:
 
     def test(self, function, *arguments):
         """Runs one test. An exception that leaves it is one failed check, and `Skipped` is counted apart."""
+        self.ends(function, self, *arguments)
+
+    def single(self, function, *arguments):
+        """Runs one test that is a single check: it holds if no exception leaves it."""
+        if self.ends(function, *arguments):
+            self.passed += 1
+
+    def ends(self, function, *arguments):
+        """Runs a function, counts an exception that leaves it, and returns whether there was none."""
         try:
-            function(self, *arguments)
+            function(*arguments)
+            return True
         except Skipped as reason:
             self.skipped += 1
             print(f"SKIPPED: {function.__name__}: {reason}", flush=True)
         except Exception as error:  # a test that breaks off must not end the suite
-            line = traceback.extract_tb(error.__traceback__)[-1].lineno
-            self.check(function.__name__, False, f"line {line}: {type(error).__name__}: {error}")
+            trace, file = traceback.extract_tb(error.__traceback__), function.__code__.co_filename
+            lines = ", ".join(str(frame.lineno) for frame in trace if frame.filename == file)
+            self.check(function.__name__, False, f"line {lines}: {type(error).__name__}: {error}")
+        return False
 
     def result(self):
         """Prints the last line and returns the exit status of the suite."""
@@ -96,6 +112,12 @@ class Suite:
             print(f"{self.skipped} skipped")
         print(f"{self.passed} passed, {self.failed} failed")
         return 1 if self.failed or not self.passed else 0
+
+
+def same(found, expected):
+    """Ends a test that is a single check if two values differ."""
+    if found != expected:
+        raise Different(f"{shown(found)}, expected {shown(expected)}")
 
 
 def lines_of(data):
