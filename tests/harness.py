@@ -115,14 +115,31 @@ class Suite:
 
 
 def same(found, expected):
-    """Ends a test that is a single check if two values differ."""
+    """Ends a test that is a single check if two values differ. Bytes are shown from the first that differs."""
     if found != expected:
-        raise Different(f"{shown(found)}, expected {shown(expected)}")
+        at = len(os.path.commonprefix((found, expected))) if isinstance(found, bytes) and isinstance(expected, bytes) else 0
+        raise Different(f"from byte {at}: {shown(found[at:])}, expected {shown(expected[at:])}" if at else
+                        f"{shown(found)}, expected {shown(expected)}")
 
 
 def lines_of(data):
     """The lines of bytes, each with its end. Only a newline ends one."""
     return list(io.BytesIO(data))
+
+
+def read(name):
+    return pathlib.Path(name).read_bytes()
+
+
+def write(name, *parts):
+    """Writes a file of these parts, and returns its name."""
+    pathlib.Path(name).write_bytes(b"".join(parts))
+    return name
+
+
+def account(record):
+    """The first field of a record."""
+    return record.rstrip(b"\n").split(b",")[0]
 
 
 def shown(value):
@@ -147,6 +164,18 @@ def run(command, given=b"", timeout=TIMEOUT, **options):
         options["input"] = given
     done = subprocess.run([os.fspath(word) for word in command], timeout=timeout, check=False, **options)
     return Answer(done.returncode, done.stdout or b"", done.stderr or b"")
+
+
+@contextlib.contextmanager
+def room():
+    """Makes a temporary directory, which is the working directory until it is removed."""
+    before = os.getcwd()
+    with tempfile.TemporaryDirectory() as place:
+        os.chdir(place)
+        try:
+            yield
+        finally:
+            os.chdir(before)
 
 
 @contextlib.contextmanager
