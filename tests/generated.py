@@ -2,12 +2,10 @@
 
 All files are in the working directory, which `room` makes, so that no path has a character that is special for awk.
 """
-import contextlib
 import os
 import re
 import subprocess
 import sys
-import tempfile
 from pathlib import Path
 
 from harness import ROOT, SHARED, TIMEOUT, Answer, lines_of, run, shown
@@ -21,18 +19,6 @@ STEPS = 2, 4, 16  # numbers of workers for long files, and for one account
 ACCEPTED = {0: b""}
 OF_FILES = {**ACCEPTED, 3: rb"parameters: [PC]\d+ [A-Za-z]+ at record \d+\n",
             4: rb"positions: [QB]\d+ [A-Za-z]+ at record \d+( account .+)?\n"}
-
-
-@contextlib.contextmanager
-def room():
-    """Makes a temporary directory, which is the working directory until it is removed."""
-    before = os.getcwd()
-    with tempfile.TemporaryDirectory() as place:
-        os.chdir(place)
-        try:
-            yield
-        finally:
-            os.chdir(before)
 
 
 def number(word):
