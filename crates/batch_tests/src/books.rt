@@ -1,6 +1,6 @@
 //! A book behind no lock: what it refuses and what it keeps.
 use result_book::books::{BookFault, PutRefused, ResultBook};
-use result_book::rows::Row;
+use step_scheduler::rows::Row;
 use sample_files::one_future::{PARAMS, POSITIONS};
 use sample_sets::files::{account_of, set_of};
 use span_tables::name::Name;

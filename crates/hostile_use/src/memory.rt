@@ -14,7 +14,7 @@ use plan_shelf::publishers::{Publisher, Told};
 use plan_shelf::readers::Reader;
 use plan_shelf::shelves::shelf;
 use result_book::books::{BookFault, ResultBook};
-use result_book::rows::Row;
+use step_scheduler::rows::Row;
 use sample_files::three_commodities::{PARAMS, POSITIONS, STATEMENT};
 use sample_files::{calendar, one_future, two_commodities};
 use sample_sets::boards::board_of;

@@ -15,7 +15,7 @@ use plan_ir::ops::Op;
 use plan_ir::plans::Plan;
 use plan_ir::values::Value;
 use result_book::books::ResultBook;
-use result_book::rows::Row;
+use step_scheduler::rows::Row;
 use sample_files::one_future::{PARAMS, POSITIONS};
 use sample_sets::boards::{board_of, next_task};
 use sample_sets::files::{account_of, tables_of};

@@ -8,7 +8,7 @@ use Rattle.std.specs.Option.{option_map}
 use Rattle.indexmap.specs.IndexMap.{IndexMap, insert_entry}
 use Rattle.indexmap.proofs.CallerLemmas.{insert_entry-new}
 use Rattle.result_book.specs.Books.{HasNoAccountTwice, account_of_row, row_for}
-use Rattle.result_book.specs.Rows.{RowView}
+use Rattle.step_scheduler.specs.Rows.{RowView}
 use Rattle.result_book.specs.near.Batches.{AreUnderAccounts, kept_rows}
 
 chosen : {A B : Type 0} (f : A → B) (b : Bool) (x : A) (y : Option A)

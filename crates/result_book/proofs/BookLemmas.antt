@@ -6,7 +6,7 @@ use Rattle.std.proofs.lemmas.Slice.Eq.{bytes_eq-Decides}
 use Rattle.std.specs.Cmp.{decided}
 use Rattle.std.specs.List.{IsDistinct, list_any}
 use Rattle.result_book.specs.Books.{IsBook, account_of_row, row_for}
-use Rattle.result_book.specs.Rows.{RowView}
+use Rattle.step_scheduler.specs.Rows.{RowView}
 
 pub book-without_rows : (opened : ℕ) → opened < 2 ^ 64 → IsBook (record { opened = opened; batches = [] })
 unfolding IsDistinct

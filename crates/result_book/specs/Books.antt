@@ -4,7 +4,7 @@ use Rattle.std.specs.Prelude.{Option, None, Some, bytes_eq, if◌then◌else◌,
 use Rattle.std.specs.List.{IsDistinct, find}
 use Rattle.std.specs.Map.{lookup}
 use Rattle.std.specs.Option.{unwrap_or}
-use Rattle.result_book.specs.Rows.{RowView}
+use Rattle.step_scheduler.specs.Rows.{RowView}
 use Rattle.result_book.specs.declared.books.BookFault.{BookFault}
 use Rattle.result_book.specs.declared.books.BookFault.TheVariants as fault
 

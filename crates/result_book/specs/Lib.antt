@@ -1,4 +1,3 @@
 pub mod Books
-pub mod Rows
 pub mod BookFaults
 pub mod near

@@ -3,12 +3,12 @@ ghost use Rattle.std.specs.Prelude.{◌≡◌, ◌++◌, ◌∷◌, [], map, Non
 ghost use Rattle.std.specs.Arc.{arc_value};
 ghost use Rattle.result_book.specs.Books.{HasNoAccountTwice, account_of_row, row_for};
 
-use crate::rows::Row;
 use indexmap::IndexMap;
 use span_tables::name::Name;
 use std::alloc::{AllocError, Global};
 use std::marker::Model;
 use std::sync::Arc;
+use step_scheduler::rows::Row;
 
 /// The rows of a batch, in the order in which they were put, and found by their accounts.
 #[derive(Drop)]
@@ -19,7 +19,7 @@ pub(crate) struct BatchRows {
 impl Model for BatchRows {
     ghost use Rattle.std.specs.Prelude.{List};
     ghost use Rattle.std.specs.Arc.{arc_value};
-    ghost use Rattle.result_book.specs.Rows.{RowView};
+    ghost use Rattle.step_scheduler.specs.Rows.{RowView};
     ghost use Rattle.result_book.specs.near.Batches.{AreUnderAccounts, kept_rows};
 
     ghost Value = { List RowView };

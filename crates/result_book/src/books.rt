@@ -6,12 +6,12 @@ ghost use Rattle.std.specs.Arc.{arc_value};
 ghost use Rattle.result_book.specs.Books.{HasNoAccountTwice, IsBook, account_of_row, put_fault, row_for, rows_of, rows_under};
 
 use crate::batches::BatchRows;
-use crate::rows::Row;
 use indexmap::IndexMap;
 use span_tables::name::Name;
 use std::alloc::{AllocError, Global};
 use std::marker::Model;
 use std::sync::Arc;
+use step_scheduler::rows::Row;
 use thiserror::Error;
 
 /// Why a book does not do what was asked.

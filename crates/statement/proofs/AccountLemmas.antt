@@ -14,7 +14,7 @@ use Rattle.span_tables.specs.declared.records.Contract.{Contract}
 use Rattle.span_tables.specs.declared.records.PositionRecord.{PositionRecord}
 use Rattle.plan_compiler.specs.Compiled.{SetView}
 use Rattle.result_book.specs.Books.{HasNoAccountTwice, account_of_row, row_for}
-use Rattle.result_book.specs.Rows.{RowView}
+use Rattle.step_scheduler.specs.Rows.{RowView}
 use Rattle.statement.specs.near.Batches.{AreOnce, rows_of_accounts}
 
 -- the name is none of the others

@@ -6,7 +6,7 @@ use Rattle.std.specs.declared.alloc.Global.{Global}
 use Rattle.std.specs.declared.sync.Arc.{Arc}
 use Rattle.span_tables.specs.Net.{AccountHoldings}
 use Rattle.plan_compiler.specs.Compiled.{SetView}
-use Rattle.result_book.specs.Rows.{RowView}
+use Rattle.step_scheduler.specs.Rows.{RowView}
 use Rattle.worker_pool.specs.Outcomes.{AreOutcomes}
 use Rattle.worker_pool.specs.declared.outcomes.Outcome.{Outcome}
 use Rattle.worker_pool.specs.declared.outcomes.Outcome.TheVariants.{Margined, NoMemory}

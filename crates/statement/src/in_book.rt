@@ -12,10 +12,10 @@ ghost use Rattle.std.specs.Prelude.{Err, IfErr, IfOk, List, OnOk, map, ℕ};
 
 use crate::batches::{append_text, text_of};
 use result_book::books::{BookFault, ResultBook};
-use result_book::rows::Row;
 use std::alloc::{AllocError, Global};
 use std::marker::Model;
 use std::sync::Arc;
+use step_scheduler::rows::Row;
 
 /// The rows of a batch, which a book has. Only [`put_in_book`] makes them.
 #[derive(Drop)]
@@ -24,7 +24,7 @@ pub(crate) struct RowsInBook {
 }
 
 impl Model for RowsInBook {
-    ghost use Rattle.result_book.specs.Rows.{RowView};
+    ghost use Rattle.step_scheduler.specs.Rows.{RowView};
     ghost use Rattle.std.specs.Arc.{arc_value};
     ghost use Rattle.std.specs.Prelude.{List, map};
 

@@ -9,12 +9,12 @@ ghost use Rattle.span_money.specs.declared.amounts.TheConstants.{MAX_MONEY};
 ghost use Rattle.std.specs.Prelude.{[], ◌++◌, ◌∷◌, ◌≡◌, ◌*◌, ◌<◌, ◌≤◌, IfOk, OnOk, flat_map, length, map, pos};
 
 use plan_ir::figures::Figures;
-use result_book::rows::Row;
 use span_money::amounts::Money;
 use span_money::line_fields::{Field, push_line_of_numbers};
 use span_tables::name::Name;
 use std::alloc::{AllocError, Global};
 use std::sync::Arc;
+use step_scheduler::rows::Row;
 
 /// The ids behind the word of each line of a commodity: those of the account, the set and the commodity.
 pub fn ids_of<'a>(account: &'a Name, set_id: &'a Name, commodity: &'a Name) -> [Field<'a>; 3]

@@ -27,7 +27,6 @@ use plan_shelf::publishers::{Publisher, Told};
 use plan_shelf::readers::Reader;
 use plan_shelf::shelves::shelf;
 use result_book::books::ResultBook;
-use result_book::rows::Row;
 use span_tables::portfolios::Portfolios;
 use span_tables::raw::RawPositions;
 use std::alloc::{AllocError, Global};
@@ -36,6 +35,7 @@ use std::sync::{Arc, Mutex, Wait};
 use std::thread;
 use std::thread::Threads;
 use std::time::Clock;
+use step_scheduler::rows::Row;
 use worker_pool::batch::MAX_WORKERS;
 use worker_pool::gates::Gate;
 

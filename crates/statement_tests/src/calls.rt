@@ -7,7 +7,7 @@ use explanation::explaining::explain;
 use param_check::binding::bind;
 use reasons::stages::{push_reasons, stages_of};
 use result_book::books::ResultBook;
-use result_book::rows::Row;
+use step_scheduler::rows::Row;
 use sample_files::{calendar, one_future, two_commodities};
 use sample_sets::files::tables_of;
 use span_csv::positions::read_positions;

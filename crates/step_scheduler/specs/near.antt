@@ -8,3 +8,4 @@ pub mod Parts
 pub mod Steps
 pub mod Tasks
 pub mod Whole
+pub mod Rows

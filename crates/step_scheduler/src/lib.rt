@@ -1,4 +1,4 @@
-//! Jobs, their tasks, and boards that run a compiled plan step by step.
+//! Jobs, their tasks, boards that run a compiled plan step by step, and the rows of complete boards.
 #![tactic(auto)]
 
 mod blank;
@@ -14,6 +14,7 @@ pub mod laws;
 mod opening;
 mod parts;
 pub mod progress;
+pub mod rows;
 mod stepped;
 pub mod tasks;
 pub mod watches;

@@ -11,13 +11,13 @@ use crate::befores::{Befores, befores_of};
 use crate::lines::Trial;
 use param_check::orders::Orders;
 use plan_compiler::set::CompiledSet;
-use result_book::rows::Row;
 use span_tables::portfolios::{Portfolio, Portfolios};
 use statement::batches::rows_together;
 use std::alloc::{AllocError, Global};
 use std::sync::{Arc, Wait};
 use std::thread::Threads;
 use std::time::Clock;
+use step_scheduler::rows::Row;
 use worker_pool::gates::Gate;
 
 /// How many portfolios a batch has, at most.

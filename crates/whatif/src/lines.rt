@@ -8,7 +8,6 @@ ghost use Rattle.whatif.specs.near.Numbers.{IsTried, change_text, changed_text, 
 
 use crate::numbers::Numbers;
 use param_check::orders::Orders;
-use result_book::rows::Row;
 use span_money::amounts::Money;
 use span_money::line_fields::{Field, push_line_of_numbers};
 use span_tables::name::Name;
@@ -16,6 +15,7 @@ use span_tables::tables::Tables;
 use statement::lines::due;
 use std::alloc::AllocError;
 use std::marker::Model;
+use step_scheduler::rows::Row;
 
 /// An order that is tried: its number among the orders, the numbers of its account before it, and the row after it. Contracts see the
 /// tables and the order.

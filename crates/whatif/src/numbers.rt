@@ -4,10 +4,10 @@ ghost use Rattle.std.specs.List.{AllZip};
 ghost use Rattle.std.specs.Prelude.{◌≡◌, ◌<◌, IfOk, length, map};
 ghost use Rattle.whatif.specs.near.Numbers.{AreFirstRequirements, AreNumbers};
 
-use result_book::rows::Row;
 use span_money::amounts::Money;
 use std::alloc::{AllocError, Global};
 use std::sync::Arc;
+use step_scheduler::rows::Row;
 
 /// What a portfolio is margined at: the requirement of each commodity, the total and the option value.
 #[derive(Drop)]

@@ -8,13 +8,13 @@ ghost use Rattle.worker_pool.specs.near.Places.{AreOutcomesOf};
 use crate::laws::Batch;
 use crate::outcomes::Outcome;
 use plan_compiler::set::CompiledSet;
-use result_book::rows::Row;
 use span_tables::portfolios::Portfolio;
 use std::alloc::{AllocError, Global};
 use std::collections::VecDeque;
 use std::marker::{Model, PhantomData};
 use std::sync::Arc;
 use step_scheduler::jobs::Job;
+use step_scheduler::rows::Row;
 
 /// The portfolios that have no board yet, in the order of their accounts.
 #[derive(Drop)]

@@ -12,11 +12,11 @@ use crate::laws::Batch;
 use crate::open_boards::OpenBoard;
 use crate::outcomes::Outcome;
 use crate::workers::Worker;
-use result_book::rows::Row;
 use std::alloc::AllocError;
 use std::sync::{Arc, Wait};
 use std::time::Clock;
 use step_scheduler::jobs::Job;
+use step_scheduler::rows::Row;
 
 /// How many boards are open at one moment, at most.
 const MOST_OPEN: usize = 64;

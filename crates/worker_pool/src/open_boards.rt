@@ -11,12 +11,12 @@ use crate::ends::{FinishedOf, TaskOf};
 use crate::gates::Gate;
 use crate::laws::Batch;
 use crate::workers::Worker;
-use result_book::rows::Row;
 use std::alloc::{AllocError, Global};
 use std::marker::PhantomData;
 use std::sync::Arc;
 use step_scheduler::boards::Board;
 use step_scheduler::jobs::Job;
+use step_scheduler::rows::Row;
 
 /// The board of an account of the batch, which has not failed: where memory is wanting, the account ends, and the board is let go.
 #[derive(Drop)]

@@ -2,10 +2,10 @@
 ghost use Rattle.std.specs.Prelude.{◌≡◌, MatchResult};
 ghost use Rattle.worker_pool.specs.declared.outcomes.Outcome.TheVariants.{Margined, NoMemory};
 
-use result_book::rows::Row;
 use span_tables::name::Name;
 use std::alloc::AllocError;
 use std::sync::Arc;
+use step_scheduler::rows::Row;
 
 /// What a batch gives for an account.
 #[derive(Drop)]

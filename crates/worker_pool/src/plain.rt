@@ -8,7 +8,6 @@ use crate::gates::{Gate, OpenGate};
 use crate::outcomes::Outcome;
 use crate::teams::Team;
 use plan_compiler::set::CompiledSet;
-use result_book::rows::Row;
 use span_tables::name::Name;
 use span_tables::portfolios::Portfolio;
 use std::alloc::{AllocError, Global};
@@ -16,6 +15,7 @@ use std::sync::Arc;
 use step_scheduler::boards::Board;
 use step_scheduler::courses::Course;
 use step_scheduler::jobs::Job;
+use step_scheduler::rows::Row;
 use step_scheduler::watches::Watch;
 
 /// The place in its team of the worker that hands out steps, which is the only one where there are no helpers.

@@ -2,7 +2,7 @@
 use Rattle.std.specs.Prelude.{◌∷◌, [], codes}
 use Rattle.plan_compiler.specs.Compiled.{SetView}
 use Rattle.result_book.specs.Books.{BookView}
-use Rattle.result_book.specs.Rows.{RowView}
+use Rattle.step_scheduler.specs.Rows.{RowView}
 
 -- the row of an account X that holds nothing
 abbrev pub row_of_x : SetView → RowView

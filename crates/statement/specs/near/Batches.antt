@@ -3,7 +3,7 @@ use Rattle.std.specs.Prelude.{List, bytes_eq, map}
 use Rattle.std.specs.List.{IsDistinct}
 use Rattle.span_tables.specs.Net.{AccountHoldings}
 use Rattle.plan_compiler.specs.Compiled.{SetView}
-use Rattle.result_book.specs.Rows.{RowView}
+use Rattle.step_scheduler.specs.Rows.{RowView}
 
 -- the row of each portfolio under a set
 abbrev pub rows_of_accounts : SetView → List AccountHoldings → List RowView

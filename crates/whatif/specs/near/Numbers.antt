@@ -7,7 +7,7 @@ use Rattle.span_tables.specs.Tables.{AcceptedTables}
 use Rattle.span_tables.specs.declared.portfolios.Holding.{Holding}
 use Rattle.param_check.specs.OrderBinding.{TriedOrder, TriedOrders}
 use Rattle.plan_ir.specs.Figures.{figures_of, option_value_of, total_to}
-use Rattle.result_book.specs.Rows.{RowView}
+use Rattle.step_scheduler.specs.Rows.{RowView}
 use Rattle.whatif.specs.Whatif.{change_line, change_of, changes}
 use Rattle.whatif.specs.declared.numbers.Numbers.{Numbers}
 

@@ -2,7 +2,7 @@
 use Rattle.std.specs.Prelude.{◌<◌, ℕ, length}
 use Rattle.span_tables.specs.Tables.{AcceptedTables}
 use Rattle.param_check.specs.OrderBinding.{TriedOrder, TriedOrders}
-use Rattle.result_book.specs.Rows.{RowView}
+use Rattle.step_scheduler.specs.Rows.{RowView}
 use Rattle.whatif.specs.near.Numbers.{IsTried, order_at}
 use Rattle.whatif.specs.declared.numbers.Numbers.{Numbers}
 

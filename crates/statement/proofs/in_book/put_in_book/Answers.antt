@@ -4,7 +4,7 @@ use Rattle.std.specs.Arc.{arc_value}
 use Rattle.std.proofs.lemmas.Bool.Decides.{nat_tests}
 use Rattle.std.proofs.lemmas.List.{take-map}
 use Rattle.result_book.specs.Books.{BookView, put_fault, row_for}
-use Rattle.result_book.specs.Rows.{RowView}
+use Rattle.step_scheduler.specs.Rows.{RowView}
 use Rattle.result_book.specs.declared.books.BookFault.TheVariants as fault
 use Rattle.statement.proofs.AccountLemmas.{none_before}
 use Rattle.statement.proofs.in_book.put_in_book.Invariants.{AreInBook}

@@ -1,7 +1,7 @@
 use Rattle.std.proofs.Common.{◌≡◌, ◌≢◌, ◌+◌, ℕ, List, map, take}
 use Rattle.std.specs.Arc.{arc_value}
 use Rattle.result_book.specs.Books.{BookView, rows_of}
-use Rattle.result_book.specs.Rows.{RowView}
+use Rattle.step_scheduler.specs.Rows.{RowView}
 use Rattle.statement.proofs.in_book.put_in_book.Given as goal
 
 -- the rows so far are those of the new batch, and all other batches are as they were

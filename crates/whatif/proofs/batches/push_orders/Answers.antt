@@ -1,6 +1,6 @@
 use Rattle.std.proofs.Common.{◌≡◌, ◌∙◌, ◌+◌, ◌-◌, ◌++◌, ℕ, List, ap, arith, subst, sym}
 use Rattle.std.specs.Arc.{arc_value}
-use Rattle.result_book.specs.Rows.{RowView}
+use Rattle.step_scheduler.specs.Rows.{RowView}
 use Rattle.whatif.specs.Whatif.{order_text}
 use Rattle.whatif.specs.near.Numbers.{AreNumbers, order_at}
 use Rattle.whatif.proofs.BatchLemmas.{row_there}

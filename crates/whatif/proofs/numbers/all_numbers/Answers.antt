@@ -2,7 +2,7 @@ use Rattle.std.proofs.Common.{◌∙◌, ◌∷◌, [], ◌++◌, ap, arith, map
 use Rattle.std.specs.Arc.{arc_value}
 use Rattle.std.specs.List.{AllZip}
 use Rattle.std.proofs.lemmas.List.{map_more}
-use Rattle.result_book.specs.Rows.{RowView}
+use Rattle.step_scheduler.specs.Rows.{RowView}
 use Rattle.whatif.specs.near.Numbers.{AreNumbers}
 use Rattle.whatif.specs.declared.numbers.Numbers.{Numbers}
 use Rattle.whatif.proofs.TextLemmas.{AllZip-last}

@@ -4,9 +4,11 @@ ghost use Rattle.std.specs.Arc.{arc_value};
 ghost use Rattle.plan_ir.specs.Figures.{figures_of, is_commodity_held, option_value_of, total_to};
 ghost use Rattle.step_scheduler.specs.Boards.{IsComplete};
 ghost use Rattle.step_scheduler.specs.near.Figures.{AreAllFigures};
-ghost use Rattle.result_book.specs.Rows.{row_of};
-ghost use Rattle.result_book.specs.near.Kept.{AreTotals};
+ghost use Rattle.step_scheduler.specs.Rows.{row_of};
+ghost use Rattle.step_scheduler.specs.near.Rows.{AreTotals};
 
+use crate::boards::Board;
+use crate::jobs::Job;
 use plan_compiler::set::CompiledSet;
 use plan_ir::figures::Figures;
 use span_money::amounts::Money;
@@ -17,8 +19,6 @@ use span_tables::portfolios::Portfolio;
 use std::alloc::{AllocError, Global};
 use std::marker::Model;
 use std::sync::Arc;
-use step_scheduler::boards::Board;
-use step_scheduler::jobs::Job;
 
 /// What a complete run gave for an account: its figures in each commodity of the set, its total and its option value.
 ///
@@ -34,8 +34,8 @@ pub struct Row {
 
 impl Model for Row {
     ghost use Rattle.std.specs.Arc.{arc_value};
-    ghost use Rattle.result_book.specs.Rows.{RowView, row_of};
-    ghost use Rattle.result_book.specs.near.Kept.{IsRow};
+    ghost use Rattle.step_scheduler.specs.Rows.{RowView, row_of};
+    ghost use Rattle.step_scheduler.specs.near.Rows.{IsRow};
 
     ghost Value = { RowView };
 

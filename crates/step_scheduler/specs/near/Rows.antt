@@ -7,7 +7,7 @@ use Rattle.plan_ir.specs.Figures.{is_commodity_held, option_value_of, total_to}
 use Rattle.plan_ir.specs.declared.figures.Figures.{Figures}
 use Rattle.step_scheduler.specs.Jobs.{JobView}
 use Rattle.step_scheduler.specs.near.Figures.{AreAllFigures}
-use Rattle.result_book.specs.declared.rows.Totals.{Totals}
+use Rattle.step_scheduler.specs.declared.rows.Totals.{Totals}
 
 -- the total and the option value of an account with these holdings
 pub record AreTotals (t : AcceptedTables) (holdings : List Holding) (totals : Totals) : Type 0 where
