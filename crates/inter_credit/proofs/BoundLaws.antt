@@ -20,7 +20,7 @@ use Rattle.inter_credit.specs.Credits.{after_inter_spreads, credit_at, credit_of
 use Rattle.inter_credit.specs.Requirement.{is_call, is_put, minimum_of, requirement_of, short_count, short_options}
 use Rattle.inter_credit.specs.States.{UsesState}
 use Rattle.inter_credit.specs.near.CommodityStates.{IsCommodityState}
-use Rattle.inter_credit.specs.declared.state.CommodityState.{CommodityState}
+use Rattle.inter_credit.specs.declared.commodity_state.CommodityState.{CommodityState}
 use Rattle.inter_credit.proofs.CreditLaws.{credit_greatest, credit_zero}
 use Rattle.inter_credit.proofs.MinimumLaws.{by_test}
 use Rattle.inter_credit.proofs.OpenLemmas.{loaded_state}

@@ -7,7 +7,7 @@ use Rattle.std.proofs.lemmas.Bool.Decides.{nat_tests}
 use Rattle.span_money.proofs.NumberLaws.{div_greatest}
 use Rattle.inter_credit.specs.Credits.{after_inter_spreads, credit_of, credit_at}
 use Rattle.inter_credit.specs.States.{IsUnspread}
-use Rattle.inter_credit.specs.declared.state.CommodityState.{CommodityState}
+use Rattle.inter_credit.specs.declared.commodity_state.CommodityState.{CommodityState}
 
 -- with a net delta of 0 there is no credit
 pub credit_zero : (state : CommodityState) → nat_abs state.net ≡ 0 → credit_of state ≡ 0

@@ -10,7 +10,7 @@ use Rattle.span_tables.specs.declared.records.Side.{Side}
 use Rattle.span_tables.specs.declared.records.Side.TheVariants as side
 use Rattle.span_tables.specs.declared.sides.Direction.TheVariants.{ALong, AShort}
 use Rattle.inter_credit.specs.Credits.{commodity_rooms, inter_formed_both, inter_formed_in, inter_one_way, rest_at}
-use Rattle.inter_credit.specs.declared.state.CommodityState.{CommodityState}
+use Rattle.inter_credit.specs.declared.commodity_state.CommodityState.{CommodityState}
 use Rattle.inter_credit.proofs.StateLemmas.{rest_of_state}
 use Rattle.inter_credit.proofs.OpenLemmas.{some_of_some}
 use Rattle.inter_credit.proofs.RestLaws.{one_way_uses}

@@ -8,7 +8,7 @@ use Rattle.span_tables.specs.declared.sides.Direction.{Direction}
 use Rattle.span_tables.specs.declared.sides.Direction.TheVariants.{ALong, AShort}
 use Rattle.span_tables.specs.declared.sides.MarketSide.{MarketSide}
 use Rattle.inter_credit.specs.Credits.{change_at, inter_formed_in, inter_both_ways, inter_one_way, state_after, states_after, state_at}
-use Rattle.inter_credit.specs.declared.state.CommodityState.{CommodityState}
+use Rattle.inter_credit.specs.declared.commodity_state.CommodityState.{CommodityState}
 
 -- what is read of a state, and using a part of its rest keeps it
 module _ {A : Type 0} (of : CommodityState → A)

@@ -15,7 +15,7 @@ use Rattle.span_tables.specs.declared.records.Inter.{Inter}
 use Rattle.inter_credit.specs.Credits.{change_at, commodity_rooms, inter_one_way, leg_side, state_after, state_at}
 use Rattle.inter_credit.specs.Credits.{states_after, rest_at}
 use Rattle.inter_credit.specs.near.Rooms.{HaveRoom}
-use Rattle.inter_credit.specs.declared.state.CommodityState.{CommodityState}
+use Rattle.inter_credit.specs.declared.commodity_state.CommodityState.{CommodityState}
 use Rattle.inter_credit.proofs.StateLemmas.{HaveRoom-rest, state_at-change_at, not_equal, or_left, or_right, rest_at-change_at}
 use Rattle.inter_credit.proofs.SpreadLemmas.{formed_have_room}
 

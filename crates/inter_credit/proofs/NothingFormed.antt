@@ -9,7 +9,7 @@ use Rattle.span_tables.specs.declared.sides.MarketSide.TheVariants.{Long, Short}
 use Rattle.span_tables.specs.declared.records.CommodityLeg.{CommodityLeg}
 use Rattle.span_tables.specs.declared.records.Inter.{Inter}
 use Rattle.inter_credit.specs.Credits.{change_at, commodity_rooms, inter_one_way, state_after, states_after}
-use Rattle.inter_credit.specs.declared.state.CommodityState.{CommodityState}
+use Rattle.inter_credit.specs.declared.commodity_state.CommodityState.{CommodityState}
 
 none_used : (on : MarketSide) (z : ℤ) → less_used on z 0 ≡ z
 none_used Long z = let e : z -ℤ pos 0 ≡ z = omega (arith, ints) in e

@@ -15,7 +15,7 @@ use Rattle.span_tables.specs.declared.slots.OpenSides.{OpenSides}
 use Rattle.inter_credit.specs.Credits.{commodity_rooms, inter_one_way, state_at, rest_at, unspread_state}
 use Rattle.inter_credit.specs.States.{IsNotLoaded, IsUnspread, IsUnspreadState}
 use Rattle.inter_credit.specs.near.CommodityStates.{IsCommodityState}
-use Rattle.inter_credit.specs.declared.state.CommodityState.{CommodityState}
+use Rattle.inter_credit.specs.declared.commodity_state.CommodityState.{CommodityState}
 use Rattle.inter_credit.specs.near.Open.{AreOpen}
 use Rattle.span_tables.specs.declared.limits.TheConstants.{MAX_PRICE2, MAX_UNITS}
 use Rattle.inter_credit.proofs.StateLemmas.{rest_of_state}

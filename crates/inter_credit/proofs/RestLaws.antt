@@ -14,7 +14,7 @@ use Rattle.inter_credit.specs.Credits.{change_at, commodity_rooms, inter_both_wa
 use Rattle.inter_credit.specs.Credits.{rest_at, state_at}
 use Rattle.inter_credit.specs.near.Rooms.{HaveRoom}
 use Rattle.inter_credit.specs.States.{UsesState}
-use Rattle.inter_credit.specs.declared.state.CommodityState.{CommodityState}
+use Rattle.inter_credit.specs.declared.commodity_state.CommodityState.{CommodityState}
 use Rattle.inter_credit.proofs.StateLemmas.{HaveRoom-rest, length-change_at}
 use Rattle.inter_credit.proofs.SpreadLemmas.{formed_have_room}
 

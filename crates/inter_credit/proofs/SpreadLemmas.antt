@@ -10,7 +10,7 @@ use Rattle.span_tables.specs.declared.records.CommodityLeg.{CommodityLeg}
 use Rattle.span_tables.specs.declared.records.Inter.{Inter}
 use Rattle.inter_credit.specs.Credits.{commodity_rooms, rest_at}
 use Rattle.inter_credit.specs.near.Rooms.{HaveRoom}
-use Rattle.inter_credit.specs.declared.state.CommodityState.{CommodityState}
+use Rattle.inter_credit.specs.declared.commodity_state.CommodityState.{CommodityState}
 
 room_of : Direction → List CommodityState → CommodityLeg → Room
 room_of d states leg = record { side = part_on (market_side d leg.side) (rest_at states leg.commodity); ratio = leg.ratio }

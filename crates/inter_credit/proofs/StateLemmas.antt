@@ -10,7 +10,7 @@ use Rattle.span_tables.specs.declared.sides.Direction.{Direction}
 use Rattle.span_tables.specs.declared.records.CommodityLeg.{CommodityLeg}
 use Rattle.inter_credit.specs.Credits.{change_at, state_at, rest_at}
 use Rattle.inter_credit.specs.near.Rooms.{HaveRoom}
-use Rattle.inter_credit.specs.declared.state.CommodityState.{CommodityState}
+use Rattle.inter_credit.specs.declared.commodity_state.CommodityState.{CommodityState}
 
 -- a change at a place is a write
 change_at_set : {A : Type 0} (f : A → A) (i : ℕ) (xs : List A) (d : A) → set xs i (f (get_or xs i d)) ≡ change_at f i xs

@@ -11,7 +11,7 @@ use Rattle.span_tables.specs.declared.records.CommodityLeg.{CommodityLeg}
 use Rattle.span_tables.specs.declared.records.Inter.{Inter}
 use Rattle.inter_credit.specs.Credits.{change_at, inter_formed_both, inter_formed_in, inter_both_ways, inter_one_way}
 use Rattle.inter_credit.specs.Credits.{state_after, state_at, states_after}
-use Rattle.inter_credit.specs.declared.state.CommodityState.{CommodityState}
+use Rattle.inter_credit.specs.declared.commodity_state.CommodityState.{CommodityState}
 use Rattle.inter_credit.proofs.StateLemmas.{length-change_at, state_at-change_at}
 use Rattle.inter_credit.proofs.MinimumLaws.{by_test}
 use Rattle.inter_credit.proofs.RestLaws.{length-states_after}

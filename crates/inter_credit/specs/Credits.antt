@@ -8,7 +8,7 @@ use Rattle.span_tables.specs.declared.sides.MarketSide.{MarketSide}
 use Rattle.span_tables.specs.declared.sides.SpreadsFormed.{SpreadsFormed}
 use Rattle.span_tables.specs.declared.records.CommodityLeg.{CommodityLeg}
 use Rattle.span_tables.specs.declared.records.Inter.{Inter}
-use Rattle.inter_credit.specs.declared.state.CommodityState.{CommodityState}
+use Rattle.inter_credit.specs.declared.commodity_state.CommodityState.{CommodityState}
 
 -- a commodity before any spread: its rest is its full net delta
 abbrev pub unspread_state : ℤ → ℕ → CommodityState

@@ -1,7 +1,7 @@
 -- What the states of commodities keep.
 use Rattle.std.specs.Prelude.{◌≡◌, ℕ, ◌+◌, ◌*◌, List, slice_get, IfSome, All, pos, nat_abs}
 use Rattle.span_tables.specs.Sides.{IsLeftOf}
-use Rattle.inter_credit.specs.declared.state.CommodityState.{CommodityState}
+use Rattle.inter_credit.specs.declared.commodity_state.CommodityState.{CommodityState}
 
 -- a commodity of which units were used, each at so many basis points: net delta and price risk stay, the rest is what is
 -- left, and the weight grows by what was used times the basis points

@@ -4,7 +4,8 @@ ghost use Rattle.inter_credit.specs.Credits.{credit_of, credit_at, state_at};
 ghost use Rattle.inter_credit.specs.near.CommodityStates.{IsCommodityState};
 ghost use Rattle.span_tables.specs.declared.limits.TheConstants.{MAX_PRICE2};
 
-use crate::state::{CommodityState, InterState};
+use crate::commodity_state::CommodityState;
+use crate::state::InterState;
 use span_money::amounts::Money;
 use span_money::division::floor_div;
 

@@ -14,7 +14,7 @@ ghost use Rattle.inter_credit.specs.OptionValue.{due_of, excess_of};
 ghost use Rattle.inter_credit.specs.Requirement.{is_call, is_put, minimum_of, requirement_of, short_count};
 ghost use Rattle.inter_credit.specs.States.{IsUnspread, UsesState};
 ghost use Rattle.inter_credit.specs.declared.requirement.TheConstants.{MAX_PART};
-ghost use Rattle.inter_credit.specs.declared.state.CommodityState.{CommodityState};
+ghost use Rattle.inter_credit.specs.declared.commodity_state.CommodityState.{CommodityState};
 
 /// Each part of a requirement is at most 10^26 minor units either way.
 pub fn part_has_these_digits()

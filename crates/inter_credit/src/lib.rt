@@ -2,7 +2,9 @@
 //! account's options (docs/METHOD.md, Intercommodity spreads; Minimum and requirement; Option value).
 #![tactic(auto)]
 
+pub mod commodity_state;
 pub mod credit;
+mod forming;
 pub mod laws;
 pub mod option_value;
 pub mod requirement;

@@ -7,25 +7,14 @@ ghost use Rattle.inter_credit.specs.States.{IsNotLoaded, IsUnspread};
 ghost use Rattle.inter_credit.specs.near.CommodityStates.{IsCommodityState};
 ghost use Rattle.span_tables.specs.declared.limits.TheConstants.{MAX_PRICE2, MAX_UNITS};
 
-use crate::spreads::{count_both_ways, may_form_either, spread_both_ways};
+use crate::commodity_state::CommodityState;
+use crate::forming::{count_both_ways, may_form_either, spread_both_ways};
 use span_money::amounts::Units;
 use span_tables::records::Inter;
 use span_tables::sides::SpreadsFormed;
 use span_tables::slots::OpenSides;
 use std::alloc::{AllocError, Global};
 use std::marker::Model;
-
-/// A commodity in the intercommodity stage.
-///
-/// `net` is its net delta (in 10^-8 deltas, at most `MAX_UNITS` either way) and `rest` what spreads have left of it, `price2`
-/// is price risk doubled (in minor units, at most `MAX_PRICE2`), and `weight` is the sum of units used times basis points.
-#[derive(Clone, Copy, Debug, PartialEq, Eq)]
-pub struct CommodityState {
-    pub weight: u128,
-    pub net: Units,
-    pub rest: Units,
-    pub price2: u64,
-}
 
 /// The commodities of a set, by their numbers. Contracts see the list of their states.
 #[derive(Drop)]
@@ -38,7 +27,7 @@ pub struct InterState {
 impl Model for InterState {
     ghost use Rattle.std.specs.Prelude.{List, All};
     ghost use Rattle.inter_credit.specs.near.Open.{AreStates};
-    ghost use Rattle.inter_credit.specs.declared.state.CommodityState.{CommodityState};
+    ghost use Rattle.inter_credit.specs.declared.commodity_state.CommodityState.{CommodityState};
 
     ghost Value = { List CommodityState };
 

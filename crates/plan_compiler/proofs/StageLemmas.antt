@@ -14,7 +14,7 @@ use Rattle.span_tables.specs.declared.sides.MarketSide.{MarketSide}
 use Rattle.spread_stage.specs.Spreads.{TierRests, after_spreads, spread_both_ways, unspread}
 use Rattle.spread_stage.specs.declared.months.MonthUnits.{MonthUnits}
 use Rattle.inter_credit.specs.Credits.{after_inter_spreads, inter_both_ways, state_after, unspread_state, state_at}
-use Rattle.inter_credit.specs.declared.state.CommodityState.{CommodityState}
+use Rattle.inter_credit.specs.declared.commodity_state.CommodityState.{CommodityState}
 use Rattle.inter_credit.proofs.KeptLemmas.{kept}
 use Rattle.plan_ir.specs.Figures.{deltas_at, held_at, inter_states, intras_at, state_of, loaded_states, no_commodity, tiers_at}
 use Rattle.plan_compiler.specs.Meaning.{states_loaded}

@@ -7,7 +7,7 @@ use Rattle.span_tables.specs.declared.portfolios.Holding.{Holding}
 use Rattle.scan_risk.specs.Scenarios.{scenario_sums}
 use Rattle.spread_stage.specs.Spreads.{TierRests, after_spreads, unspread}
 use Rattle.inter_credit.specs.Credits.{after_inter_spreads, unspread_state}
-use Rattle.inter_credit.specs.declared.state.CommodityState.{CommodityState}
+use Rattle.inter_credit.specs.declared.commodity_state.CommodityState.{CommodityState}
 use Rattle.plan_ir.specs.Figures.{deltas_at, delivery_at, figures_of, held_at, intras_at, state_of, loaded_states, minimum_at}
 use Rattle.plan_ir.specs.Figures.{net_value_at, scan_at, total_to, value_to}
 use Rattle.plan_ir.specs.declared.ops.Op.{Op}

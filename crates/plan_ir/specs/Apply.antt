@@ -14,7 +14,7 @@ use Rattle.inter_credit.specs.OptionValue.{net_value_of}
 use Rattle.inter_credit.specs.Requirement.{minimum_of}
 use Rattle.inter_credit.specs.States.{IsNotLoaded, IsUnspread}
 use Rattle.inter_credit.specs.declared.requirement.TheConstants.{MAX_PART}
-use Rattle.inter_credit.specs.declared.state.CommodityState.{CommodityState}
+use Rattle.inter_credit.specs.declared.commodity_state.CommodityState.{CommodityState}
 use Rattle.span_tables.specs.declared.portfolios.Holding.{Holding}
 use Rattle.span_tables.specs.declared.records.Inter.{Inter}
 use Rattle.span_tables.specs.declared.records.Intra.{Intra}

@@ -4,7 +4,7 @@ use Rattle.span_tables.specs.Net.{HeldContract}
 use Rattle.scan_risk.specs.declared.Scan.{Scan}
 use Rattle.spread_stage.specs.Spreads.{TierRests, unspread}
 use Rattle.spread_stage.specs.declared.months.MonthUnits.{MonthUnits}
-use Rattle.inter_credit.specs.declared.state.CommodityState.{CommodityState}
+use Rattle.inter_credit.specs.declared.commodity_state.CommodityState.{CommodityState}
 use Rattle.plan_ir.specs.Figures.{figures_with}
 use Rattle.plan_ir.specs.declared.figures.Figures.{Figures}
 use Rattle.plan_ir.specs.declared.values.Value.{Value}

@@ -13,7 +13,7 @@ ghost use Rattle.spread_stage.specs.Deltas.{net_delta};
 ghost use Rattle.inter_credit.specs.Credits.{unspread_state};
 ghost use Rattle.inter_credit.specs.Requirement.{minimum_of};
 ghost use Rattle.inter_credit.specs.States.{IsNotLoaded, IsUnspread};
-ghost use Rattle.inter_credit.specs.declared.state.CommodityState.{CommodityState};
+ghost use Rattle.inter_credit.specs.declared.commodity_state.CommodityState.{CommodityState};
 ghost use Rattle.plan_ir.specs.Apply.{Takes, TakesFinal, final_figures, inter_at, intra_at, value_on};
 ghost use Rattle.plan_ir.specs.Figures.{commodity_at, intras_at};
 ghost use Rattle.plan_ir.specs.near.Copying.{IsChangeable, IsInPlace};

@@ -24,7 +24,7 @@ use Rattle.spread_stage.proofs.FallLemmas.{spreads_shrink}
 use Rattle.inter_credit.specs.Credits.{credit_at, state_at}
 use Rattle.inter_credit.specs.Requirement.{is_call, is_put, minimum_of, short_count}
 use Rattle.inter_credit.specs.near.CommodityStates.{IsCommodityState}
-use Rattle.inter_credit.specs.declared.state.CommodityState.{CommodityState}
+use Rattle.inter_credit.specs.declared.commodity_state.CommodityState.{CommodityState}
 use Rattle.inter_credit.specs.declared.option_value.TheConstants.{MAX_NET_VALUE}
 use Rattle.inter_credit.proofs.BoundLaws.{minimum_small, requirement_small}
 use Rattle.inter_credit.proofs.OpenLemmas.{loaded_state}

@@ -23,7 +23,7 @@ use Rattle.spread_stage.specs.Deltas.{units_at}
 use Rattle.spread_stage.specs.declared.months.MonthUnits.{MonthUnits}
 use Rattle.inter_credit.specs.Credits.{after_inter_spreads, inter_formed_both, inter_both_ways}
 use Rattle.inter_credit.specs.Credits.{state_at}
-use Rattle.inter_credit.specs.declared.state.CommodityState.{CommodityState}
+use Rattle.inter_credit.specs.declared.commodity_state.CommodityState.{CommodityState}
 use Rattle.inter_credit.proofs.StateLemmas.{or_left, or_right}
 use Rattle.inter_credit.proofs.RestLaws.{length-inter_both_ways}
 use Rattle.inter_credit.proofs.WeightLaws.{weight-inter_both_ways}

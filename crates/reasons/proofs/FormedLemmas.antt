@@ -13,7 +13,7 @@ use Rattle.spread_stage.specs.Spreads.{TierRests, spread_both_ways}
 use Rattle.spread_stage.specs.Spreads as months
 use Rattle.inter_credit.specs.Credits.{inter_both_ways}
 use Rattle.inter_credit.specs.Credits as commodities
-use Rattle.inter_credit.specs.declared.state.CommodityState.{CommodityState}
+use Rattle.inter_credit.specs.declared.commodity_state.CommodityState.{CommodityState}
 use Rattle.reasons.specs.Shown.{inter_ways, inters_shown, intra_ways, intras_shown, ratio_in}
 use Rattle.reasons.specs.near.Stages.{inters_formed}
 use Rattle.reasons.specs.declared.shown.ShownInter.{ShownInter}

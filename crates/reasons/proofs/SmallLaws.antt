@@ -28,7 +28,7 @@ use Rattle.inter_credit.specs.Credits.{inter_both_ways, inter_formed_both, inter
 use Rattle.inter_credit.specs.Credits.{rest_at, state_at}
 use Rattle.inter_credit.specs.States.{UsesState}
 use Rattle.inter_credit.specs.near.Rooms.{HaveRoom}
-use Rattle.inter_credit.specs.declared.state.CommodityState.{CommodityState}
+use Rattle.inter_credit.specs.declared.commodity_state.CommodityState.{CommodityState}
 use Rattle.inter_credit.proofs.RestLaws.{length-inter_both_ways, length-states_after, one_way_uses}
 use Rattle.inter_credit.proofs.SpreadLemmas.{formed_have_room}
 use Rattle.reasons.specs.Shown.{inter_in, inter_ways, inters_shown, intra_in, intra_ways, intras_shown, months_shown, ratio_in}

@@ -16,7 +16,7 @@ use Rattle.spread_stage.specs.Spreads.{TierRests, spread_both_ways, unspread}
 use Rattle.spread_stage.specs.declared.months.MonthUnits.{MonthUnits}
 use Rattle.inter_credit.specs.Credits.{unspread_state}
 use Rattle.inter_credit.specs.Credits.{state_at}
-use Rattle.inter_credit.specs.declared.state.CommodityState.{CommodityState}
+use Rattle.inter_credit.specs.declared.commodity_state.CommodityState.{CommodityState}
 use Rattle.plan_ir.specs.Figures.{commodity_at, deltas_at, held_at, intras_at, loaded_states, spots_at}
 use Rattle.plan_ir.specs.Figures.{tiers_at}
 use Rattle.plan_compiler.proofs.StageLemmas.{tiers_are}

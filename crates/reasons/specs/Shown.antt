@@ -16,7 +16,7 @@ use Rattle.spread_stage.specs.Spreads as months
 use Rattle.spread_stage.specs.declared.months.MonthUnits.{MonthUnits}
 use Rattle.inter_credit.specs.Credits.{inter_both_ways}
 use Rattle.inter_credit.specs.Credits as commodities
-use Rattle.inter_credit.specs.declared.state.CommodityState.{CommodityState}
+use Rattle.inter_credit.specs.declared.commodity_state.CommodityState.{CommodityState}
 use Rattle.reasons.specs.declared.shown.ShownInter.{ShownInter}
 use Rattle.reasons.specs.declared.shown.ShownIntra.{ShownIntra}
 use Rattle.reasons.specs.declared.shown.ShownMonth.{ShownMonth}

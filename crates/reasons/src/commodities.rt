@@ -4,14 +4,15 @@ ghost use Rattle.std.specs.Prelude.{find, fold, length, map, option_copied};
 ghost use Rattle.span_tables.specs.Accepted.{IsInter};
 ghost use Rattle.inter_credit.specs.Credits.{inter_both_ways};
 ghost use Rattle.inter_credit.specs.near.CommodityStates.{IsCommodityState};
-ghost use Rattle.inter_credit.specs.declared.state.CommodityState.{CommodityState};
+ghost use Rattle.inter_credit.specs.declared.commodity_state.CommodityState.{CommodityState};
 ghost use Rattle.reasons.specs.Reasons.{credit_reason, inter_reason};
 ghost use Rattle.reasons.specs.Shown.{inter_in, inter_ways, inters_shown, ratio_in};
 ghost use Rattle.reasons.specs.near.Stages.{inters_formed};
 ghost use Rattle.reasons.specs.near.Fields.{reason_text, reasons_text};
 
 use crate::words::long_side;
-use inter_credit::state::{CommodityState, InterState};
+use inter_credit::commodity_state::CommodityState;
+use inter_credit::state::InterState;
 use span_money::line_fields::{Field, push_line};
 use span_tables::records::{CommodityLeg, Inter};
 use span_tables::sides::{Direction, SpreadsFormed};

@@ -7,7 +7,7 @@ ghost use Rattle.spread_stage.specs.Deltas.{units_at};
 ghost use Rattle.spread_stage.specs.Months.{Shrinks, total_size};
 
 use crate::months::{MonthUnits, Months};
-use crate::tiers::TierState;
+use crate::tiers::{TierState, at_rate};
 use span_money::amounts::{Money, Units};
 use span_money::division::ceil_div;
 use span_tables::limits::{MAX_RATE, MAX_SPOT_MONTHS, MAX_UNITS};
@@ -80,16 +80,6 @@ fn size_at(months: &[MonthUnits], month: u32) -> u64
     ensures bound { result ≤ MAX_UNITS }
 {
     units_at(months, month).get().unsigned_abs()
-}
-
-// What a number costs at a rate: of units in 10^-8 minor units, of 10^-4 spreads in 10^-4 minor units.
-pub(crate) fn at_rate(units: u64, rate: u32) -> u128
-    requires units { units ≤ MAX_UNITS }
-    requires rate { rate ≤ MAX_RATE }
-    ensures value { result ≡ units * rate }
-    ensures bound { result ≤ MAX_RATE * units }
-{
-    u128::from(units) * u128::from(rate)
 }
 
 // The charge of a spot month, in 10^-8 minor units.

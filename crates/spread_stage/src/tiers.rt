@@ -13,7 +13,6 @@ ghost use Rattle.spread_stage.specs.near.Places.{IsTierAt};
 ghost use Rattle.spread_stage.specs.near.Uses.{used_in_turn};
 ghost use Rattle.spread_stage.specs.declared.months.MonthUnits.{MonthUnits};
 
-use crate::charges::at_rate;
 use crate::months::{MonthUnits, Months};
 use crate::open_months::open_sides;
 use span_money::division::greatest_fit;
@@ -279,6 +278,16 @@ fn form(rests: &mut [MonthUnits], direction: Direction, legs: &[MonthLeg]) -> u6
         use_legs(rests, direction, legs, formed);
     }
     formed
+}
+
+// What a number costs at a rate: of units in 10^-8 minor units, of 10^-4 spreads in 10^-4 minor units.
+pub(crate) fn at_rate(units: u64, rate: u32) -> u128
+    requires units { units ≤ MAX_UNITS }
+    requires rate { rate ≤ MAX_RATE }
+    ensures value { result ≡ units * rate }
+    ensures bound { result ≤ MAX_RATE * units }
+{
+    u128::from(units) * u128::from(rate)
 }
 
 /// The state before any spread: each month's rest is its delta, and nothing is charged.

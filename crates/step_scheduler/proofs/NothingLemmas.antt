@@ -12,7 +12,7 @@ use Rattle.inter_credit.specs.Credits.{credit_of, unspread_state}
 use Rattle.inter_credit.specs.OptionValue.{net_value_of}
 use Rattle.inter_credit.specs.Requirement.{minimum_of, requirement_of}
 use Rattle.inter_credit.specs.Credits.{credit_at, state_at}
-use Rattle.inter_credit.specs.declared.state.CommodityState.{CommodityState}
+use Rattle.inter_credit.specs.declared.commodity_state.CommodityState.{CommodityState}
 use Rattle.inter_credit.proofs.CreditLaws.{credit_zero}
 use Rattle.plan_ir.specs.Figures.{commodity_at, deltas_at, delivery_at, figures_from, figures_of, held_at, inter_states}
 use Rattle.plan_ir.specs.Figures.{intras_at, state_of, minimum_at, net_value_at, scan_at, spots_at, tiers_at}

@@ -6,7 +6,7 @@ use Rattle.span_tables.specs.Tables.{AcceptedTables}
 use Rattle.span_tables.specs.declared.portfolios.Holding.{Holding}
 use Rattle.spread_stage.proofs.BoundLaws.{net_small}
 use Rattle.inter_credit.specs.States.{IsNotLoaded, IsUnspread}
-use Rattle.inter_credit.specs.declared.state.CommodityState.{CommodityState}
+use Rattle.inter_credit.specs.declared.commodity_state.CommodityState.{CommodityState}
 use Rattle.plan_ir.specs.Figures.{deltas_at, inter_states}
 use Rattle.plan_ir.proofs.BoundLaws.{deltas_at_are, delivery_at_small, minimum_at_small, price2_at_small, risk_at_small, tiers_at_are}
 use Rattle.plan_ir.proofs.BoundLaws.{length-inter_states}

@@ -8,7 +8,7 @@ use Rattle.std.proofs.lemmas.List.FromFn.{map-range_with_len_more}
 use Rattle.span_tables.specs.Tables.{AcceptedTables, facts_in}
 use Rattle.span_tables.specs.declared.portfolios.Holding.{Holding}
 use Rattle.inter_credit.specs.Credits.{unspread_state}
-use Rattle.inter_credit.specs.declared.state.CommodityState.{CommodityState}
+use Rattle.inter_credit.specs.declared.commodity_state.CommodityState.{CommodityState}
 use Rattle.plan_ir.specs.Figures.{held_at, state_of, net_value_at, value_to}
 use Rattle.plan_compiler.specs.Meaning.{states_loaded}
 use Rattle.plan_compiler.proofs.Meanings.{load_more, value_more}

@@ -2,7 +2,7 @@
 use Rattle.std.specs.Prelude.{◌+◌, ◌*◌, ◌≤◌, nat_abs}
 use Rattle.span_tables.specs.declared.limits.TheConstants.{MAX_BASIS_POINTS, MAX_PRICE2, MAX_UNITS}
 use Rattle.span_tables.specs.Sides.{IsLeftOf}
-use Rattle.inter_credit.specs.declared.state.CommodityState.{CommodityState}
+use Rattle.inter_credit.specs.declared.commodity_state.CommodityState.{CommodityState}
 
 -- a commodity's net delta and price risk lie in their ranges, its rest is left of its net delta, and its weight has no
 -- more than all basis points of what was used

@@ -4,7 +4,7 @@ use Rattle.span_tables.specs.Slots.{IsOpenAt}
 use Rattle.span_tables.specs.declared.slots.OpenSides.{OpenSides}
 use Rattle.inter_credit.specs.Credits.{rest_at}
 use Rattle.inter_credit.specs.near.CommodityStates.{IsCommodityState}
-use Rattle.inter_credit.specs.declared.state.CommodityState.{CommodityState}
+use Rattle.inter_credit.specs.declared.commodity_state.CommodityState.{CommodityState}
 
 -- the rest of each commodity lies on a side of the market that is marked for the commodity
 abbrev pub AreOpen : OpenSides → List CommodityState → Type 0

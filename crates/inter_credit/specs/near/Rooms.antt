@@ -4,7 +4,7 @@ use Rattle.span_tables.specs.Names.{has_repeat}
 use Rattle.span_tables.specs.declared.sides.Direction.{Direction}
 use Rattle.span_tables.specs.declared.records.CommodityLeg.{CommodityLeg}
 use Rattle.inter_credit.specs.Credits.{leg_side}
-use Rattle.inter_credit.specs.declared.state.CommodityState.{CommodityState}
+use Rattle.inter_credit.specs.declared.commodity_state.CommodityState.{CommodityState}
 
 -- the commodity of each leg has room for n spreads in a direction, and no two legs are of one commodity
 pub record HaveRoom (d : Direction) (n : ℕ) (legs : List CommodityLeg) (states : List CommodityState) : Type 0 where

@@ -10,7 +10,7 @@ use Rattle.span_tables.specs.declared.records.ProductKind.{ProductKind}
 use Rattle.span_tables.specs.declared.records.ProductKind.TheVariants as product
 use Rattle.span_tables.specs.declared.records.Side.TheVariants as side
 use Rattle.inter_credit.specs.Credits.{after_inter_spreads, credit_of, unspread_state}
-use Rattle.inter_credit.specs.declared.state.CommodityState.{CommodityState}
+use Rattle.inter_credit.specs.declared.commodity_state.CommodityState.{CommodityState}
 
 -- a spread of one commodity against another, with their ratios
 abbrev pub spread_of : ℕ → ℕ → ℕ → ℕ → ℕ → Inter

@@ -8,7 +8,7 @@ use Rattle.spread_stage.specs.Deltas.{net_delta}
 use Rattle.inter_credit.specs.Credits.{unspread_state}
 use Rattle.inter_credit.specs.States.{IsNotLoaded, IsUnspread}
 use Rattle.inter_credit.specs.declared.requirement.TheConstants.{MAX_PART}
-use Rattle.inter_credit.specs.declared.state.CommodityState.{CommodityState}
+use Rattle.inter_credit.specs.declared.commodity_state.CommodityState.{CommodityState}
 use Rattle.plan_ir.specs.Figures.{delivery_at, deltas_at, figures_from, figures_of, held_at, minimum_at, net_value_at, scan_at, tiers_at}
 use Rattle.plan_ir.specs.Values.{no_figures}
 use Rattle.plan_ir.specs.declared.figures.Figures.{Figures}

@@ -8,7 +8,7 @@ use Rattle.span_money.specs.LineFields.{Line}
 use Rattle.span_money.specs.Numbers.{int_sum_by}
 use Rattle.span_money.proofs.ExactLaws.{exact_read_back}
 use Rattle.inter_credit.specs.Credits.{credit_of}
-use Rattle.inter_credit.specs.declared.state.CommodityState.{CommodityState}
+use Rattle.inter_credit.specs.declared.commodity_state.CommodityState.{CommodityState}
 use Rattle.reasons.specs.Lines.{credit_from, number_at}
 use Rattle.reasons.specs.Reasons.{half, inter_reason, inters_shown_at, month_reason, months_shown_at, state_after_all}
 use Rattle.reasons.specs.Shown.{weight_of}

@@ -13,7 +13,7 @@ use Rattle.span_tables.specs.declared.sides.Direction.{Direction}
 use Rattle.span_tables.specs.declared.sides.Direction.TheVariants.{ALong, AShort}
 use Rattle.span_tables.specs.declared.sides.SpreadsFormed.{SpreadsFormed}
 use Rattle.inter_credit.specs.Credits.{inter_both_ways, inter_formed_both}
-use Rattle.inter_credit.specs.declared.state.CommodityState.{CommodityState}
+use Rattle.inter_credit.specs.declared.commodity_state.CommodityState.{CommodityState}
 use Rattle.plan_ir.specs.Figures.{loaded_states}
 use Rattle.reasons.specs.Laws.{IsOfRecord, is_long_in, side_letter}
 use Rattle.reasons.specs.Lines.{number_at, text_at}

@@ -2,10 +2,10 @@ use Rattle.std.proofs.Common.{◌*◌, List, take, sym, ap, ◌∙◌}
 use Rattle.std.proofs.lemmas.List.Sums.{fold_more}
 use Rattle.span_tables.specs.Sides.{market_side}
 use Rattle.inter_credit.specs.Credits.{change_at, state_after, states_after}
-use Rattle.inter_credit.specs.declared.state.CommodityState.{CommodityState}
+use Rattle.inter_credit.specs.declared.commodity_state.CommodityState.{CommodityState}
 use Rattle.span_tables.specs.declared.records.CommodityLeg.{CommodityLeg}
 use Rattle.inter_credit.proofs.StateLemmas.{HaveRoom-drop, HaveRoom-first}
-use Rattle.inter_credit.proofs.spreads.use_legs.Goals as goal
+use Rattle.inter_credit.proofs.forming.use_legs.Goals as goal
 
 pub use_leg-requires-clause-room : goal.use_leg-requires-clause-room
 use_leg-requires-clause-room c =

@@ -1,6 +1,6 @@
 use Rattle.std.proofs.Common.{sym}
 use Rattle.inter_credit.proofs.OpenLemmas.{closed_way, open_after}
-use Rattle.inter_credit.proofs.spreads.spread_one_way.Goals as goal
+use Rattle.inter_credit.proofs.forming.spread_one_way.Goals as goal
 
 pub returns-then-may_form-clause-sides : goal.returns-then-may_form-clause-sides
 returns-then-may_form-clause-sides c =

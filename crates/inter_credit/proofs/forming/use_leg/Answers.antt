@@ -2,7 +2,7 @@ use Rattle.std.proofs.Common.{◌*◌}
 use Rattle.span_tables.specs.Sides.{market_side}
 use Rattle.inter_credit.specs.Credits.{state_after}
 use Rattle.inter_credit.proofs.StateLemmas.{change_from_set}
-use Rattle.inter_credit.proofs.spreads.use_leg.Goals as goal
+use Rattle.inter_credit.proofs.forming.use_leg.Goals as goal
 
 pub returns-clause-value : goal.returns-clause-value
 returns-clause-value c =

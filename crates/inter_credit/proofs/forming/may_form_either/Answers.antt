@@ -2,7 +2,7 @@ use Rattle.std.proofs.Common.{ap, ◌∙◌}
 use Rattle.span_tables.specs.declared.sides.Direction.TheVariants.{ALong, AShort}
 use Rattle.inter_credit.specs.Credits.{inter_both_ways, inter_one_way}
 use Rattle.inter_credit.proofs.OpenLemmas.{closed_way}
-use Rattle.inter_credit.proofs.spreads.may_form_either.Goals as goal
+use Rattle.inter_credit.proofs.forming.may_form_either.Goals as goal
 
 pub returns-else-may_form : goal.returns-else-may_form
 unfolding inter_both_ways

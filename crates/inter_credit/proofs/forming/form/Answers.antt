@@ -1,7 +1,7 @@
 use Rattle.std.proofs.Common.{◌≡◌, refl, sym, ◌∙◌, arith}
 use Rattle.inter_credit.proofs.NothingFormed.{nothing_formed}
 use Rattle.inter_credit.proofs.SpreadLemmas.{formed_have_room}
-use Rattle.inter_credit.proofs.spreads.form.Goals as goal
+use Rattle.inter_credit.proofs.forming.form.Goals as goal
 
 pub use_legs-requires-clause-room : goal.use_legs-requires-clause-room
 use_legs-requires-clause-room c =

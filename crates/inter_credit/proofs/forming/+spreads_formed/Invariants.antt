@@ -1,5 +1,5 @@
 use Rattle.std.proofs.Common.{length}
-use Rattle.inter_credit.proofs.spreads.+spreads_formed.Given as goal
+use Rattle.inter_credit.proofs.forming.+spreads_formed.Given as goal
 
 abbrev pub decreases-spreads_formed : goal.decreases-spreads_formed
 decreases-spreads_formed l = length l.legs.now

@@ -2,7 +2,7 @@ use Rattle.std.proofs.Common.{◌≡◌, take, drop, All}
 use Rattle.inter_credit.specs.Credits.{states_after}
 use Rattle.inter_credit.specs.near.Rooms.{HaveRoom}
 use Rattle.inter_credit.specs.near.CommodityStates.{IsCommodityState}
-use Rattle.inter_credit.proofs.spreads.use_legs.Given as goal
+use Rattle.inter_credit.proofs.forming.use_legs.Given as goal
 
 abbrev pub invariant-loop-leg : goal.invariant-loop-leg
 invariant-loop-leg l = record {

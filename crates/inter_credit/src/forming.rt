@@ -1,0 +1,207 @@
+//! Intercommodity spreads: how many are formed in a direction, and what they use of each commodity (docs/METHOD.md,
+//! Intercommodity spreads).
+ghost use Rattle.std.specs.Prelude.{◌≡◌, ◌<◌, ◌≤◌, ◌*◌, ◌/◌, ◌+◌, length, false, List, All};
+ghost use Rattle.span_tables.specs.Accepted.{IsInter};
+ghost use Rattle.span_tables.specs.Sides.{market_side, part_on, spreads_formed};
+ghost use Rattle.span_tables.specs.declared.limits.TheConstants.{MAX_BASIS_POINTS};
+ghost use Rattle.inter_credit.specs.Credits.{change_at, commodity_rooms, inter_formed_both, inter_formed_in, inter_both_ways};
+ghost use Rattle.inter_credit.specs.Credits.{inter_one_way, leg_side, state_after, states_after};
+ghost use Rattle.inter_credit.specs.near.Rooms.{HaveRoom};
+ghost use Rattle.inter_credit.specs.near.CommodityStates.{IsCommodityState};
+ghost use Rattle.inter_credit.specs.near.Open.{AreOpen};
+ghost use Rattle.inter_credit.specs.declared.commodity_state.CommodityState.{CommodityState};
+
+use crate::commodity_state::CommodityState;
+use span_money::division::greatest_fit;
+use span_tables::records::{CommodityLeg, Inter};
+use span_tables::sides::{Direction, MarketSide, SpreadsFormed, less_used, market_side, part_on};
+use span_tables::slots::OpenSides;
+
+// How many spreads a leg's commodity has room for, in 10^-4 spreads.
+fn room(states: &[CommodityState], leg: &CommodityLeg, direction: Direction) -> u64
+    requires known { leg.now.commodity < length states.now }
+    requires ratio { 0 < leg.now.ratio }
+    ensures { result ≡ leg_side direction leg.now states.now / leg.now.ratio }
+{
+    let on = market_side(direction, leg.side);
+    let side = part_on(on, states[leg.commodity].rest);
+    if side == 0 {
+        return 0;
+    }
+    greatest_fit(side, leg.ratio)
+}
+
+// How many spreads are formed in a direction, in 10^-4 spreads: what each leg has room for.
+fn spreads_formed(states: &[CommodityState], legs: &[CommodityLeg], direction: Direction) -> u64
+    requires known { All (λ leg. leg.commodity < length states.now) legs.now }
+    requires ratios { All (λ leg. 0 < leg.ratio) legs.now }
+    ensures { result ≡ spreads_formed (commodity_rooms direction legs.now states.now) }
+{
+    match legs {
+        [] => 0,
+        [leg] => room(states, leg, direction),
+        [leg, others @ ..] => {
+            let formed = room(states, leg, direction);
+            if formed == 0 {
+                return 0;
+            }
+            formed.min(spreads_formed(states, others, direction))
+        }
+    }
+}
+
+// A commodity of which some units of 10^-8 deltas on a market side were used, at so many basis points.
+fn state_after(
+    state: CommodityState,
+    on: MarketSide,
+    used: u64,
+    basis_points: u32,
+) -> CommodityState
+    requires state { IsCommodityState state }
+    requires used { used ≤ part_on on state.rest }
+    requires basis_points { basis_points ≤ MAX_BASIS_POINTS }
+    ensures value { result ≡ state_after on used basis_points state }
+    ensures state { IsCommodityState result }
+{
+    CommodityState {
+        rest: less_used(on, state.rest, used),
+        weight: state.weight + u128::from(used) * u128::from(basis_points),
+        ..state
+    }
+}
+
+// The commodities after a leg's use of so many spreads.
+fn use_leg(
+    states: &mut [CommodityState],
+    leg: &CommodityLeg,
+    direction: Direction,
+    formed: u64,
+    basis_points: u32,
+)
+    requires known { leg.now.commodity < length states.old }
+    requires states { All IsCommodityState states.old }
+    requires room { formed * leg.now.ratio ≤ leg_side direction leg.now states.old }
+    requires basis_points { basis_points ≤ MAX_BASIS_POINTS }
+    ensures value { states.new ≡ change_at
+        (state_after (market_side direction leg.now.side) (formed * leg.now.ratio) basis_points) leg.now.commodity states.old }
+    ensures states { All IsCommodityState states.new }
+{
+    let on = market_side(direction, leg.side);
+    let used = formed * u64::from(leg.ratio.get());
+    states[leg.commodity] = state_after(states[leg.commodity], on, used, basis_points);
+}
+
+// The commodities after each leg's use of so many spreads.
+fn use_legs(
+    states: &mut [CommodityState],
+    legs: &[CommodityLeg],
+    direction: Direction,
+    formed: u64,
+    basis_points: u32,
+)
+    requires states { All IsCommodityState states.old }
+    requires room { HaveRoom direction formed legs.now states.old }
+    requires basis_points { basis_points ≤ MAX_BASIS_POINTS }
+    ensures value { states.new ≡ states_after direction formed basis_points legs.now states.old }
+    ensures states { All IsCommodityState states.new }
+{
+    for leg in legs {
+        use_leg(states, leg, direction, formed, basis_points);
+    }
+}
+
+// A spread in one direction.
+fn form(states: &mut [CommodityState], spread: &Inter, direction: Direction)
+    requires states { All IsCommodityState states.old }
+    requires spread { IsInter (length states.old) spread.now }
+    ensures value { states.new ≡ inter_one_way spread.now direction states.old }
+    ensures states { All IsCommodityState states.new }
+{
+    let legs = spread.legs();
+    let formed = spreads_formed(states, legs, direction);
+    if formed > 0 {
+        use_legs(states, legs, direction, formed, spread.basis_points());
+    }
+}
+
+// A spread in one direction, which is looked at where rests lie on the sides of the market that it needs.
+fn spread_one_way(
+    states: &mut [CommodityState],
+    sides: &OpenSides,
+    spread: &Inter,
+    direction: Direction,
+)
+    requires states { All IsCommodityState states.old }
+    requires sides { AreOpen sides.now states.old }
+    requires spread { IsInter (length states.old) spread.now }
+    ensures value { states.new ≡ inter_one_way spread.now direction states.old }
+    ensures states { All IsCommodityState states.new }
+    ensures sides { AreOpen sides.now states.new }
+{
+    if spread.may_form(direction, sides) {
+        form(states, spread, direction);
+    }
+}
+
+// A spread in both directions, with A long first, where rests lie on these sides of the market.
+#[tactic(auto, unfolding(crate::specs::Credits::inter_both_ways))]
+pub(crate) fn spread_both_ways(states: &mut [CommodityState], sides: &OpenSides, spread: &Inter)
+    requires states { All IsCommodityState states.old }
+    requires sides { AreOpen sides.now states.old }
+    requires spread { IsInter (length states.old) spread.now }
+    ensures value { states.new ≡ inter_both_ways states.old spread.now }
+    ensures states { All IsCommodityState states.new }
+    ensures sides { AreOpen sides.now states.new }
+{
+    spread_one_way(states, sides, spread, Direction::ALong);
+    spread_one_way(states, sides, spread, Direction::AShort);
+}
+
+// A spread in one direction, and how many it forms.
+fn count_one_way(
+    states: &mut [CommodityState],
+    sides: &OpenSides,
+    spread: &Inter,
+    direction: Direction,
+) -> u64
+    requires states { All IsCommodityState states.old }
+    requires sides { AreOpen sides.now states.old }
+    requires spread { IsInter (length states.old) spread.now }
+    ensures value { states.new ≡ inter_one_way spread.now direction states.old }
+    ensures formed { result ≡ inter_formed_in spread.now direction states.old }
+    ensures states { All IsCommodityState states.new }
+    ensures sides { AreOpen sides.now states.new }
+{
+    let formed = spreads_formed(states, spread.legs(), direction);
+    spread_one_way(states, sides, spread, direction);
+    formed
+}
+
+// A spread in both directions, with A long first, and how many it forms in each.
+#[tactic(auto, unfolding(crate::specs::Credits::inter_both_ways))]
+pub(crate) fn count_both_ways(
+    states: &mut [CommodityState],
+    sides: &OpenSides,
+    spread: &Inter,
+) -> SpreadsFormed
+    requires states { All IsCommodityState states.old }
+    requires sides { AreOpen sides.now states.old }
+    requires spread { IsInter (length states.old) spread.now }
+    ensures value { states.new ≡ inter_both_ways states.old spread.now }
+    ensures formed { result ≡ inter_formed_both states.old spread.now }
+    ensures states { All IsCommodityState states.new }
+    ensures sides { AreOpen sides.now states.new }
+{
+    let a_long = count_one_way(states, sides, spread, Direction::ALong);
+    let a_short = count_one_way(states, sides, spread, Direction::AShort);
+    SpreadsFormed { a_long, a_short }
+}
+
+// Whether a spread may be formed in one of the directions. `false` says that none is, `true` nothing.
+#[tactic(auto, unfolding(crate::specs::Credits::inter_both_ways))]
+pub(crate) fn may_form_either(sides: &OpenSides, spread: &Inter) -> bool
+    ensures { (states : List CommodityState) → AreOpen sides.now states → result ≡ false
+        → inter_both_ways states spread.now ≡ states }
+{
+    spread.may_form(Direction::ALong, sides) || spread.may_form(Direction::AShort, sides)
+}
