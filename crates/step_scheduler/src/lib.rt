@@ -4,6 +4,7 @@
 mod blank;
 pub mod boards;
 mod counters;
+mod course_runs;
 pub mod courses;
 pub mod evaluation;
 pub mod events;

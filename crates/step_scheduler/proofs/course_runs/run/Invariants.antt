@@ -1,7 +1,7 @@
 use Rattle.std.proofs.Common.{◌≡◌, false, length}
 use Rattle.step_scheduler.specs.near.Whole.{IsAtRest}
 use Rattle.step_scheduler.proofs.AtRest.{untaken}
-use Rattle.step_scheduler.proofs.courses.run.Given as goal
+use Rattle.step_scheduler.proofs.course_runs.run.Given as goal
 
 abbrev pub invariant-loop-alloc : goal.invariant-loop-alloc
 invariant-loop-alloc l = record {

@@ -1,7 +1,7 @@
 use Rattle.std.proofs.Common.{◌≡◌, length}
 use Rattle.step_scheduler.proofs.AtRest.{after_step, fewer_untaken, still_at_rest, with_step}
-use Rattle.step_scheduler.proofs.courses.run.Goals as goal
-use Rattle.step_scheduler.proofs.courses.run.Goals.{After-finish-kept}
+use Rattle.step_scheduler.proofs.course_runs.run.Goals as goal
+use Rattle.step_scheduler.proofs.course_runs.run.Goals.{After-finish-kept}
 
 -- the board after a turn: one step more was taken and finished
 after_turn : (c : After-finish-kept)
