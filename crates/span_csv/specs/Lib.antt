@@ -4,4 +4,5 @@ pub mod ParamFaults
 pub mod PositionFaults
 pub mod OrderFaults
 pub mod Laws
+pub mod FaultTexts
 pub mod near

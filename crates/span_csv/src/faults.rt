@@ -5,88 +5,132 @@ ghost use Rattle.span_csv.specs.declared.faults.PositionFault.TheVariants as pos
 ghost use Rattle.std.specs.Prelude.{◌≡◌};
 
 use std::alloc::{AllocError, AllocFailed};
-use thiserror::Error;
+use std::error::Error;
+use std::fmt;
+use std::fmt::Display;
 
 /// Why a parameter file is not read.
-#[derive(Clone, Copy, Debug, Drop, PartialEq, Eq, Error)]
+#[derive(Clone, Copy, Debug, Drop, PartialEq, Eq)]
 pub enum ParamFault {
     /// P1: the first record is no SET, or there is none (`at` is then 0).
-    #[error("P1 NoSet at record {at}")]
     NoSet { at: usize },
     /// P2: a SET that is not the first record.
-    #[error("P2 SecondSet at record {at}")]
     SecondSet { at: usize },
     /// P3: none of the kinds.
-    #[error("P3 UnknownKind at record {at}")]
     UnknownKind { at: usize },
     /// P4: a number of fields that its kind does not have.
-    #[error("P4 FieldCount at record {at}")]
     FieldCount { at: usize },
     /// P5: a name, currency, method, type or side that is none.
-    #[error("P5 BadName at record {at}")]
     BadName { at: usize },
     /// P6: a whole number, decimal or month that is none.
-    #[error("P6 BadNumber at record {at}")]
     BadNumber { at: usize },
     /// P7: a number or month outside its range.
-    #[error("P7 OutOfRange at record {at}")]
     OutOfRange { at: usize },
     /// P8: one record more than the limit.
-    #[error("P8 TooMany at record {at}")]
     TooMany { at: usize },
     /// Want of memory.
-    #[error("memory")]
     OutOfMemory,
 }
 
 /// Why a position file is not read.
-#[derive(Clone, Copy, Debug, Drop, PartialEq, Eq, Error)]
+#[derive(Clone, Copy, Debug, Drop, PartialEq, Eq)]
 pub enum PositionFault {
     /// Q1: not three fields.
-    #[error("Q1 FieldCount at record {at}")]
     FieldCount { at: usize },
     /// Q2: an account or contract that is no name.
-    #[error("Q2 BadName at record {at}")]
     BadName { at: usize },
     /// Q3: a quantity that is no whole number.
-    #[error("Q3 BadNumber at record {at}")]
     BadNumber { at: usize },
     /// Q4: a quantity outside its range.
-    #[error("Q4 OutOfRange at record {at}")]
     OutOfRange { at: usize },
     /// Q5: the first record of one account too many.
-    #[error("Q5 TooManyAccounts at record {at}")]
     TooManyAccounts { at: usize },
     /// Want of memory.
-    #[error("memory")]
     OutOfMemory,
 }
 
 /// Why an order file is not read.
-#[derive(Clone, Copy, Debug, Drop, PartialEq, Eq, Error)]
+#[derive(Clone, Copy, Debug, Drop, PartialEq, Eq)]
 pub enum OrderFault {
     /// O1: not four fields.
-    #[error("O1 FieldCount at record {at}")]
     FieldCount { at: usize },
     /// O2: an order, account or contract that is no name.
-    #[error("O2 BadName at record {at}")]
     BadName { at: usize },
     /// O3: a quantity that is no whole number.
-    #[error("O3 BadNumber at record {at}")]
     BadNumber { at: usize },
     /// O4: a quantity outside its range.
-    #[error("O4 OutOfRange at record {at}")]
     OutOfRange { at: usize },
     /// O5: the first record of one order too many.
-    #[error("O5 TooManyOrders at record {at}")]
     TooManyOrders { at: usize },
     /// O6: another account than that of the first record of its order.
-    #[error("O6 SecondAccount at record {at}")]
     SecondAccount { at: usize },
     /// Want of memory.
-    #[error("memory")]
     OutOfMemory,
 }
+
+impl Display for ParamFault {
+    ghost use Rattle.span_csv.specs.FaultTexts.{param_text};
+    ghost use Rattle.std.specs.Prelude.{Some};
+
+    ghost output = { λ fault. Some (param_text fault) };
+
+    fn fmt<W: fmt::Write>(&self, f: &mut fmt::Formatter<W>) -> fmt::Result {
+        match self {
+            ParamFault::NoSet { at } => write!(f, "P1 NoSet at record {at}"),
+            ParamFault::SecondSet { at } => write!(f, "P2 SecondSet at record {at}"),
+            ParamFault::UnknownKind { at } => write!(f, "P3 UnknownKind at record {at}"),
+            ParamFault::FieldCount { at } => write!(f, "P4 FieldCount at record {at}"),
+            ParamFault::BadName { at } => write!(f, "P5 BadName at record {at}"),
+            ParamFault::BadNumber { at } => write!(f, "P6 BadNumber at record {at}"),
+            ParamFault::OutOfRange { at } => write!(f, "P7 OutOfRange at record {at}"),
+            ParamFault::TooMany { at } => write!(f, "P8 TooMany at record {at}"),
+            ParamFault::OutOfMemory => write!(f, "memory"),
+        }
+    }
+}
+
+impl Error for ParamFault {}
+
+impl Display for PositionFault {
+    ghost use Rattle.span_csv.specs.FaultTexts.{position_text};
+    ghost use Rattle.std.specs.Prelude.{Some};
+
+    ghost output = { λ fault. Some (position_text fault) };
+
+    fn fmt<W: fmt::Write>(&self, f: &mut fmt::Formatter<W>) -> fmt::Result {
+        match self {
+            PositionFault::FieldCount { at } => write!(f, "Q1 FieldCount at record {at}"),
+            PositionFault::BadName { at } => write!(f, "Q2 BadName at record {at}"),
+            PositionFault::BadNumber { at } => write!(f, "Q3 BadNumber at record {at}"),
+            PositionFault::OutOfRange { at } => write!(f, "Q4 OutOfRange at record {at}"),
+            PositionFault::TooManyAccounts { at } => write!(f, "Q5 TooManyAccounts at record {at}"),
+            PositionFault::OutOfMemory => write!(f, "memory"),
+        }
+    }
+}
+
+impl Error for PositionFault {}
+
+impl Display for OrderFault {
+    ghost use Rattle.span_csv.specs.FaultTexts.{order_text};
+    ghost use Rattle.std.specs.Prelude.{Some};
+
+    ghost output = { λ fault. Some (order_text fault) };
+
+    fn fmt<W: fmt::Write>(&self, f: &mut fmt::Formatter<W>) -> fmt::Result {
+        match self {
+            OrderFault::FieldCount { at } => write!(f, "O1 FieldCount at record {at}"),
+            OrderFault::BadName { at } => write!(f, "O2 BadName at record {at}"),
+            OrderFault::BadNumber { at } => write!(f, "O3 BadNumber at record {at}"),
+            OrderFault::OutOfRange { at } => write!(f, "O4 OutOfRange at record {at}"),
+            OrderFault::TooManyOrders { at } => write!(f, "O5 TooManyOrders at record {at}"),
+            OrderFault::SecondAccount { at } => write!(f, "O6 SecondAccount at record {at}"),
+            OrderFault::OutOfMemory => write!(f, "memory"),
+        }
+    }
+}
+
+impl Error for OrderFault {}
 
 impl From<AllocError> for ParamFault {
     ghost from_gives = { λ _ e. e ≡ param.OutOfMemory };
