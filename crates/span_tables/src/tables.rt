@@ -161,6 +161,13 @@ impl Tables {
         facts_of(self.profile())
     }
 
+    /// Does nothing, and tells a proof that the tables are within their limits.
+    pub fn known(&self)
+        ensures { IsWithinLimits self.now }
+    {
+        let _ = &self.commodities;
+    }
+
     /// The commodities by their numbers.
     pub fn commodities(&self) -> &[Commodity]
         ensures value { result.now ≡ self.now.commodities }
