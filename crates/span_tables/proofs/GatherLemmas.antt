@@ -1,21 +1,14 @@
 -- The holdings of each commodity, in one pass over an account's holdings.
-use Rattle.std.proofs.Common.{◌≡◌, ℕ, suc, zero, ◌+◌, ◌<◌, Bool, true, false, cond, List, [], ◌∷◌}
-use Rattle.std.proofs.Common.{◌++◌, length, map, set, get_or, take, replicate, refl, sym, ap, ◌∙◌, subst, arith}
-use Rattle.std.specs.Prelude.{All, IfSome, bytes_eq, nat_lt, option_map, slice_get, unwrap_or}
+use Rattle.std.proofs.Common.{◌≡◌, ℕ, suc, zero, ◌<◌, true, List, [], ◌∷◌}
+use Rattle.std.proofs.Common.{length, map, get_or, sym, ap, ◌∙◌, subst, arith}
+use Rattle.std.specs.Prelude.{All, IfSome, nat_lt, option_map, slice_get, unwrap_or}
 use Rattle.std.specs.List.{list_all}
-use Rattle.std.proofs.lemmas.List.{append-nil, take_more}
-use Rattle.std.proofs.lemmas.List.Elements.{All-head, All-tail, filter_more}
+use Rattle.std.proofs.lemmas.List.Elements.{All-head, All-tail}
 use Rattle.span_tables.specs.Accepted.{IsWithinLimits, commodity_number}
-use Rattle.span_tables.specs.Holdings.{AreHoldings, ArePortfolio}
-use Rattle.span_tables.specs.Names.{has_repeat}
-use Rattle.span_tables.specs.Net.{held_contracts, held_of}
 use Rattle.span_tables.specs.Tables.{AcceptedTables}
 use Rattle.span_tables.specs.declared.portfolios.Holding.{Holding}
-use Rattle.span_tables.specs.declared.records.Commodity.{Commodity}
 use Rattle.span_tables.specs.declared.records.Contract.{Contract}
-use Rattle.span_tables.specs.near.Gathered.{commodity_held, holdings_in}
-use Rattle.span_tables.proofs.GroupLemmas.{copies_none, copies_push}
-use Rattle.span_tables.proofs.HeldLemmas.{all_known, are_holdings, held_in}
+use Rattle.span_tables.proofs.HeldLemmas.{all_known}
 
 -- a number made of the element at k
 told_is : {X : Type 0} (f : X → ℕ) (xs : List X) (k n : ℕ) → k < length xs → n ≡ get_or (map f xs) k n
@@ -64,42 +57,3 @@ module _ (contracts : List Contract) where
   known_holding hs gs i d same lt all =
       let lt_h : i < length hs = subst (λ (zs : List Holding). i < length zs) same lt in
       subst (λ (zs : List Holding). (get_or zs i d).contract < length contracts) (sym same) (all_known (length contracts) hs all i d lt_h)
-
-  -- one holding more of an account, of which those of a commodity are kept
-  gathered_more : (hs gs : List Holding) (i : ℕ) (d : Holding) (commodity : List ℕ) (b : Bool) (held : List Holding)
-      → gs ≡ hs → i < length gs → list_all (λ h. nat_lt h.contract (length contracts)) hs ≡ true
-      → held ≡ holdings_in contracts (take i hs) commodity
-      → IfSome (slice_get contracts (get_or gs i d).contract) (λ x. b ≡ bytes_eq x.commodity commodity)
-      → held ++ cond b (get_or gs i d ∷ []) [] ≡ holdings_in contracts (take (i + 1) hs) commodity
-  gathered_more hs gs i d commodity b held same lt all so_far tells =
-      let lt_h : i < length hs = subst (λ (zs : List Holding). i < length zs) same lt in
-      let told : b ≡ bytes_eq (commodity_held contracts (get_or gs i d)) commodity =
-      known_at contracts (get_or gs i d).contract (λ x. x.commodity) (λ name. b ≡ bytes_eq name commodity)
-      (known_holding hs gs i d same lt all) tells in
-      ap (λ c. held ++ cond c (get_or gs i d ∷ []) []) told
-      ∙ ap (λ (g : Holding). held ++ cond (bytes_eq (commodity_held contracts g) commodity) (g ∷ []) [])
-      (ap (λ (zs : List Holding). get_or zs i d) same)
-      ∙ ap (λ (zs : List Holding). zs ++ cond (bytes_eq (commodity_held contracts (get_or hs i d)) commodity) (get_or hs i d ∷ []) [])
-      so_far
-      ∙ sym (filter_more (λ h. bytes_eq (commodity_held contracts h) commodity) hs i d lt_h)
-
-  -- the next holding is of the commodity, or is not
-  pub gathered_some : (hs gs : List Holding) (i : ℕ) (d : Holding) (commodity : List ℕ) (b : Bool) (held next : List Holding)
-      → gs ≡ hs → i < length gs → list_all (λ h. nat_lt h.contract (length contracts)) hs ≡ true
-      → held ≡ holdings_in contracts (take i hs) commodity
-      → IfSome (slice_get contracts (get_or gs i d).contract) (λ x. b ≡ bytes_eq x.commodity commodity)
-      → b ≡ true → next ≡ held ++ get_or gs i d ∷ []
-      → next ≡ holdings_in contracts (take (i + 1) hs) commodity
-  gathered_some hs gs i d commodity b held next same lt all so_far tells is pushed =
-      pushed ∙ ap (λ c. held ++ cond c (get_or gs i d ∷ []) []) (sym is)
-      ∙ gathered_more hs gs i d commodity b held same lt all so_far tells
-
-  pub gathered_none : (hs gs : List Holding) (i : ℕ) (d : Holding) (commodity : List ℕ) (b : Bool) (held : List Holding)
-      → gs ≡ hs → i < length gs → list_all (λ h. nat_lt h.contract (length contracts)) hs ≡ true
-      → held ≡ holdings_in contracts (take i hs) commodity
-      → IfSome (slice_get contracts (get_or gs i d).contract) (λ x. b ≡ bytes_eq x.commodity commodity)
-      → b ≡ false
-      → held ≡ holdings_in contracts (take (i + 1) hs) commodity
-  gathered_none hs gs i d commodity b held same lt all so_far tells is =
-      sym (append-nil held) ∙ ap (λ c. held ++ cond c (get_or gs i d ∷ []) []) (sym is)
-      ∙ gathered_more hs gs i d commodity b held same lt all so_far tells

@@ -8,7 +8,7 @@ use Rattle.std.specs.List.Sorted.{IsNonDecreasingBy}
 use Rattle.std.proofs.lemmas.Bool.{cases_eq, cases_lt}
 use Rattle.std.proofs.lemmas.Bool.Decides.{nat_tests}
 use Rattle.std.proofs.lemmas.List.{append-nil, drop-take, get_or-map, get_or-replicate, get_or_default, length-map}
-use Rattle.std.proofs.lemmas.List.{length-replicate, take-append-drop, take-take}
+use Rattle.std.proofs.lemmas.List.{length-replicate, take-append-drop, take-take, take_more}
 use Rattle.std.proofs.lemmas.List.Edits.{get_or-between, get_or-insert_above, get_or-insert_at, get_or-insert_below}
 use Rattle.std.proofs.lemmas.List.Edits.{length-between, length-insert}
 use Rattle.std.proofs.lemmas.List.Elements.{All-append, All-cons, All-drop, All-head, All-map, All-nil, All-tail}
@@ -256,6 +256,18 @@ module _ (t : AcceptedTables) (limits : IsWithinLimits t) (hs run : List Holding
                 there c lt other
                 ∙ before.others c lt (left_of_insert (λ l. l.commodity ≢ c) lists p y le none);
           }
+
+-- one holding more, of the commodity of number n, which is number c or is not
+pub one_more : (t : AcceptedTables) (gs : List Holding) (i n : ℕ) (d : Holding) → IsWithinLimits t → i < length gs
+    → (get_or gs i d).contract < length t.contracts
+    → IfSome (slice_get t.contracts (get_or gs i d).contract) (λ x. n ≡ commodity_number t.commodities x.commodity)
+    → (c : ℕ) (b : Bool) → c < length t.commodities → eqb n c ≡ b
+    → holdings_in t.contracts (take (i + 1) gs) (commodity_id t c)
+    ≡ holdings_in t.contracts (take i gs) (commodity_id t c) ++ cond b (get_or gs i d ∷ []) []
+one_more t gs i n d limits lt known told c b below is =
+    let of = is_of_number t gs i n n d d lt known told refl in
+    ap (λ hs. holdings_in t.contracts hs (commodity_id t c)) (take_more gs i d lt)
+    ∙ with_run t limits (take i gs) (get_or gs i d ∷ []) n (All-cons (IsOf t n) (get_or gs i d) [] of (All-nil (IsOf t n))) c b below is
 
 -- the gathered holdings are within the limits, and with their records they are what is held
 module _ (t : AcceptedTables) (hs : List Holding) (lists : List HoldingsOf) (limits : IsWithinLimits t) (portfolio : ArePortfolio hs)

@@ -109,9 +109,10 @@ pub fn gather(
     requires commodity { commodity < length tables.now.commodities }
     ensures { IfOk result (λ held. held ≡ held_of tables.now.contracts portfolio.now.holdings (commodity_id tables.now commodity)) }
 {
+    tables.known();
     let mut held = Vec::new(alloc);
     for holding in portfolio.holdings() {
-        if tables.is_of(holding.contract, commodity) {
+        if tables.commodity_of(holding.contract) == commodity {
             held.push(*holding)?;
         }
     }

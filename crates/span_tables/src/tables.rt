@@ -192,16 +192,6 @@ impl Tables {
         Arc::try_clone(&self.contracts)
     }
 
-    // Whether the contract of a number is of the commodity of a number: their numbers are compared, and no names.
-    #[tactic(auto, using(crate::proofs::HeldLemmas::number_tells))]
-    pub(crate) fn is_of(&self, contract: usize, commodity: usize) -> bool
-        requires contract { contract < length self.now.contracts }
-        requires commodity { commodity < length self.now.commodities }
-        ensures { IfSome (slice_get self.now.contracts contract) (λ x. result ≡ bytes_eq x.commodity (commodity_id self.now commodity)) }
-    {
-        self.commodity_numbers[contract] == commodity
-    }
-
     // The number of the commodity of the contract of a number.
     #[tactic(auto, using(crate::proofs::GatherLemmas::number_is, crate::proofs::GatherLemmas::number_known))]
     pub(crate) fn commodity_of(&self, contract: usize) -> usize
