@@ -1,21 +1,14 @@
 -- The holdings of each commodity, in one pass over an account's holdings.
-use Rattle.std.proofs.Common.{◌≡◌, ℕ, suc, zero, ◌+◌, ◌<◌, Bool, true, false, cond, List, [], ◌∷◌}
-use Rattle.std.proofs.Common.{◌++◌, length, map, set, get_or, take, replicate, refl, sym, ap, ◌∙◌, subst, arith}
-use Rattle.std.specs.Prelude.{All, IfSome, bytes_eq, nat_lt, option_map, slice_get, unwrap_or}
+use Rattle.std.proofs.Common.{◌≡◌, ℕ, suc, zero, ◌<◌, true, List, [], ◌∷◌}
+use Rattle.std.proofs.Common.{length, map, get_or, sym, ap, ◌∙◌, subst, arith}
+use Rattle.std.specs.Prelude.{All, IfSome, nat_lt, option_map, slice_get, unwrap_or}
 use Rattle.std.specs.List.{list_all}
-use Rattle.std.proofs.lemmas.List.{append-nil, take_more}
-use Rattle.std.proofs.lemmas.List.Elements.{All-head, All-tail, filter_more}
+use Rattle.std.proofs.lemmas.List.Elements.{All-head, All-tail}
 use Rattle.span_tables.specs.Accepted.{IsWithinLimits, commodity_number}
-use Rattle.span_tables.specs.Holdings.{AreHoldings, ArePortfolio}
-use Rattle.span_tables.specs.Names.{has_repeat}
-use Rattle.span_tables.specs.Net.{held_contracts, held_of}
 use Rattle.span_tables.specs.Tables.{AcceptedTables}
 use Rattle.span_tables.specs.declared.portfolios.Holding.{Holding}
-use Rattle.span_tables.specs.declared.records.Commodity.{Commodity}
 use Rattle.span_tables.specs.declared.records.Contract.{Contract}
-use Rattle.span_tables.specs.near.Gathered.{commodity_held, holdings_in}
-use Rattle.span_tables.proofs.GroupLemmas.{copies_none, copies_push}
-use Rattle.span_tables.proofs.HeldLemmas.{all_known, are_holdings, held_in}
+use Rattle.span_tables.proofs.HeldLemmas.{all_known}
 
 -- a number made of the element at k
 told_is : {X : Type 0} (f : X → ℕ) (xs : List X) (k n : ℕ) → k < length xs → n ≡ get_or (map f xs) k n
@@ -64,95 +57,3 @@ module _ (contracts : List Contract) where
   known_holding hs gs i d same lt all =
       let lt_h : i < length hs = subst (λ (zs : List Holding). i < length zs) same lt in
       subst (λ (zs : List Holding). (get_or zs i d).contract < length contracts) (sym same) (all_known (length contracts) hs all i d lt_h)
-
-  -- one holding more of an account, of which those of a commodity are kept
-  gathered_more : (hs gs : List Holding) (i : ℕ) (d : Holding) (commodity : List ℕ) (b : Bool) (held : List Holding)
-      → gs ≡ hs → i < length gs → list_all (λ h. nat_lt h.contract (length contracts)) hs ≡ true
-      → held ≡ holdings_in contracts (take i hs) commodity
-      → IfSome (slice_get contracts (get_or gs i d).contract) (λ x. b ≡ bytes_eq x.commodity commodity)
-      → held ++ cond b (get_or gs i d ∷ []) [] ≡ holdings_in contracts (take (i + 1) hs) commodity
-  gathered_more hs gs i d commodity b held same lt all so_far tells =
-      let lt_h : i < length hs = subst (λ (zs : List Holding). i < length zs) same lt in
-      let told : b ≡ bytes_eq (commodity_held contracts (get_or gs i d)) commodity =
-      known_at contracts (get_or gs i d).contract (λ x. x.commodity) (λ name. b ≡ bytes_eq name commodity)
-      (known_holding hs gs i d same lt all) tells in
-      ap (λ c. held ++ cond c (get_or gs i d ∷ []) []) told
-      ∙ ap (λ (g : Holding). held ++ cond (bytes_eq (commodity_held contracts g) commodity) (g ∷ []) [])
-      (ap (λ (zs : List Holding). get_or zs i d) same)
-      ∙ ap (λ (zs : List Holding). zs ++ cond (bytes_eq (commodity_held contracts (get_or hs i d)) commodity) (get_or hs i d ∷ []) [])
-      so_far
-      ∙ sym (filter_more (λ h. bytes_eq (commodity_held contracts h) commodity) hs i d lt_h)
-
-  -- the next holding is of the commodity, or is not
-  pub gathered_some : (hs gs : List Holding) (i : ℕ) (d : Holding) (commodity : List ℕ) (b : Bool) (held next : List Holding)
-      → gs ≡ hs → i < length gs → list_all (λ h. nat_lt h.contract (length contracts)) hs ≡ true
-      → held ≡ holdings_in contracts (take i hs) commodity
-      → IfSome (slice_get contracts (get_or gs i d).contract) (λ x. b ≡ bytes_eq x.commodity commodity)
-      → b ≡ true → next ≡ held ++ get_or gs i d ∷ []
-      → next ≡ holdings_in contracts (take (i + 1) hs) commodity
-  gathered_some hs gs i d commodity b held next same lt all so_far tells is pushed =
-      pushed ∙ ap (λ c. held ++ cond c (get_or gs i d ∷ []) []) (sym is)
-      ∙ gathered_more hs gs i d commodity b held same lt all so_far tells
-
-  pub gathered_none : (hs gs : List Holding) (i : ℕ) (d : Holding) (commodity : List ℕ) (b : Bool) (held : List Holding)
-      → gs ≡ hs → i < length gs → list_all (λ h. nat_lt h.contract (length contracts)) hs ≡ true
-      → held ≡ holdings_in contracts (take i hs) commodity
-      → IfSome (slice_get contracts (get_or gs i d).contract) (λ x. b ≡ bytes_eq x.commodity commodity)
-      → b ≡ false
-      → held ≡ holdings_in contracts (take (i + 1) hs) commodity
-  gathered_none hs gs i d commodity b held same lt all so_far tells is =
-      sym (append-nil held) ∙ ap (λ c. held ++ cond c (get_or gs i d ∷ []) []) (sym is)
-      ∙ gathered_more hs gs i d commodity b held same lt all so_far tells
-
-  -- the holdings of each commodity
-  abbrev lists_of : List Commodity → List Holding → List (List Holding)
-  lists_of cs hs = map (λ c. holdings_in contracts hs c.id) cs
-
-  pub gathered_of_none : (cs : List Commodity) → replicate (length cs) [] ≡ lists_of cs []
-  gathered_of_none = copies_none (λ c. c.id) (commodity_held contracts)
-
-  -- the next holding goes to its commodity
-  pub gathered_next : (cs : List Commodity) (hs gs : List Holding) (i n : ℕ) (d : Holding) (now next : List (List Holding))
-      → has_repeat (λ c d. bytes_eq c.id d.id) cs ≡ false → gs ≡ hs → i < length gs
-      → list_all (λ h. nat_lt h.contract (length contracts)) hs ≡ true
-      → IfSome (slice_get contracts (get_or gs i d).contract) (λ x. n ≡ commodity_number cs x.commodity) → n < length cs
-      → now ≡ lists_of cs (take i hs) → next ≡ set now n (get_or now n [] ++ get_or gs i d ∷ [])
-      → next ≡ lists_of cs (take (i + 1) hs)
-  gathered_next cs hs gs i n d now next apart same lt all place known so_far step =
-      let lt_h : i < length hs = subst (λ (zs : List Holding). i < length zs) same lt in
-      let there : n ≡ commodity_number cs (commodity_held contracts (get_or gs i d)) =
-      known_at contracts (get_or gs i d).contract (λ x. x.commodity) (λ name. n ≡ commodity_number cs name)
-      (known_holding hs gs i d same lt all) place in
-      let more : take (i + 1) hs ≡ take i hs ++ get_or gs i d ∷ [] = take_more hs i d lt_h
-      ∙ ap (λ (zs : List Holding). take i hs ++ get_or zs i d ∷ []) (sym same) in
-      copies_push (λ c. c.id) (commodity_held contracts) cs (take i hs) (take (i + 1) hs) now next n (get_or gs i d)
-      (get_or gs i d) apart known there so_far more refl step
-
--- each list is within the limits
-pub all_are_holdings : {V : Type 0} (items : V → List Holding) (t : AcceptedTables) (hs : List Holding) (lists : List V)
-    (cs : List Commodity)
-    → IsWithinLimits t → ArePortfolio hs → list_all (λ h. nat_lt h.contract (length t.contracts)) hs ≡ true
-    → map items lists ≡ map (λ c. holdings_in t.contracts hs c.id) cs → All (λ v. AreHoldings t.contracts (items v)) lists
-all_are_holdings items t hs [] cs limits portfolio known are k d lt = absurd (omega arith)
-all_are_holdings items t hs (v ∷ vs) [] limits portfolio known are k d lt = cc
-all_are_holdings items t hs (v ∷ vs) (c ∷ cs) limits portfolio known are zero d lt =
-    let here : items v ≡ holdings_in t.contracts hs c.id = cc in
-    subst (AreHoldings t.contracts) (sym here) (are_holdings t hs c.id limits portfolio known)
-all_are_holdings items t hs (v ∷ vs) (c ∷ cs) limits portfolio known are (suc k) d lt =
-    let more : map items vs ≡ map (λ (x : Commodity). holdings_in t.contracts hs x.id) cs = cc in
-    all_are_holdings items t hs vs cs limits portfolio known more k d (omega arith)
-
--- the lists of holdings, each with its records, are what is held of each
-pub all_held_in : {V : Type 0} (items : V → List Holding) (contracts : List Contract) (hs : List Holding) (lists : List V)
-    (cs : List Commodity)
-    → map items lists ≡ map (λ c. holdings_in contracts hs c.id) cs
-    → map (λ v. held_contracts contracts (items v)) lists ≡ map (λ c. held_of contracts hs c.id) cs
-all_held_in items contracts hs [] [] are = refl
-all_held_in items contracts hs [] (c ∷ cs) are = cc
-all_held_in items contracts hs (v ∷ vs) [] are = cc
-all_held_in items contracts hs (v ∷ vs) (c ∷ cs) are =
-    let here : items v ≡ holdings_in contracts hs c.id = cc in
-    let more : map items vs ≡ map (λ (x : Commodity). holdings_in contracts hs x.id) cs = cc in
-    let first = ap (held_contracts contracts) here ∙ held_in contracts hs c.id in
-    let rest = all_held_in items contracts hs vs cs more in
-    λ i. first i ∷ rest i

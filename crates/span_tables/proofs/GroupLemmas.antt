@@ -150,20 +150,5 @@ module _ {C X : Type 0} (id : C → List ℕ) (key : X → List ℕ) where
       (there ∙ ap (λ z. place id cs (key z)) at) (is ∙ at) step
       ∙ copies_are cs (take (i + 1) xs)
 
-  -- one more goes to its place; ys is what xs became
-  pub copies_push : (cs : List C) (xs ys : List X) (now next : List (List X)) (n : ℕ) (x y : X)
-      → has_repeat (λ c d. bytes_eq (id c) (id d)) cs ≡ false
-      → n < length cs → n ≡ place id cs (key x) → now ≡ map (λ c. filter (λ x. bytes_eq (key x) (id c)) xs) cs
-      → ys ≡ xs ++ x ∷ [] → y ≡ x → next ≡ set now n (get_or now n [] ++ y ∷ [])
-      → next ≡ map (λ c. filter (λ x. bytes_eq (key x) (id c)) ys) cs
-  copies_push cs xs ys now next n x y apart lt there so_far more is step =
-      let within : place id cs (key x) < length cs = omega (arith, lt, there) in
-      step ∙ ap (λ m. set now m (get_or now m [] ++ y ∷ [])) there
-      ∙ ap (λ z. set now (place id cs (key x)) (get_or now (place id cs (key x)) [] ++ z ∷ [])) is
-      ∙ ap (λ lists. set lists (place id cs (key x)) (get_or lists (place id cs (key x)) [] ++ x ∷ []))
-      (so_far ∙ sym (copies_are cs xs))
-      ∙ sym (groups_push id key (λ x. x) cs xs x apart within) ∙ copies_are cs (xs ++ x ∷ [])
-      ∙ ap (λ zs. map (copies zs) cs) (sym more)
-
   pub copies_none : (cs : List C) → replicate (length cs) [] ≡ map (λ c. filter (λ x. bytes_eq (key x) (id c)) []) cs
   copies_none cs = groups_none id key (λ x. x) cs

@@ -1,21 +1,19 @@
 -- Which commodities are held, in one pass over an account's holdings.
 use Rattle.std.proofs.Common.{◌≡◌, ◌≢◌, ℕ, ◌+◌, ◌<◌, Bool, true, false, eqb, List, [], ◌∷◌, ◌++◌, length, length-append}
-use Rattle.std.proofs.Common.{set, get_or, get_or-set_other, get_or-set_same, take, refl, sym, ap, ◌∙◌, arith, Option}
-use Rattle.std.proofs.Common.{Some, None}
-use Rattle.std.specs.Prelude.{IfSome, bytes_eq, nat_lt, not, slice_get}
+use Rattle.std.proofs.Common.{set, get_or, get_or-set_other, get_or-set_same, take, refl, sym, ap, ◌∙◌, arith}
+use Rattle.std.specs.Prelude.{IfSome, nat_lt, not, slice_get}
 use Rattle.std.specs.List.{list_all}
 use Rattle.std.proofs.lemmas.Bool.Decides.{nat_tests}
+use Rattle.std.proofs.lemmas.List.{append-nil}
 use Rattle.span_tables.specs.Accepted.{IsWithinLimits, commodity_number}
 use Rattle.span_tables.specs.Tables.{commodity_id}
 use Rattle.span_tables.specs.Holdings.{ArePortfolio}
 use Rattle.span_tables.specs.Net.{held_of}
 use Rattle.span_tables.specs.Tables.{AcceptedTables}
 use Rattle.span_tables.specs.declared.portfolios.Holding.{Holding}
-use Rattle.span_tables.specs.declared.records.Commodity.{Commodity}
 use Rattle.span_tables.specs.near.Gathered.{holdings_in}
-use Rattle.span_tables.proofs.GatherLemmas.{gathered_none, gathered_some}
 use Rattle.span_tables.proofs.HeldLemmas.{are_holdings, held_in, length_held}
-use Rattle.span_tables.proofs.Places.{place_names}
+use Rattle.span_tables.proofs.RunLemmas.{one_more}
 
 -- the list has something
 abbrev pub has_some : {X : Type 0} → List X → Bool
@@ -32,39 +30,25 @@ abbrev pub AreFlags : AcceptedTables → List Holding → List Bool → Type 0
 AreFlags t hs flags =
     (c : ℕ) → c < length t.commodities → get_or flags c false ≡ has_some (holdings_in t.contracts hs (commodity_id t c))
 
-if_some : {X : Type 0} (P Q : X → Type 0) (o : Option X) → ((x : X) → P x → Q x) → IfSome o P → IfSome o Q
-if_some P Q None step is = is
-if_some P Q (Some x) step is = step x is
-
 -- one holding more, of the commodity of number n
-module _ (t : AcceptedTables) (limits : IsWithinLimits t) (hs gs : List Holding) (i n : ℕ) (d : Holding) (same : gs ≡ hs)
-    (lt : i < length gs) (known : list_all (λ h. nat_lt h.contract (length t.contracts)) hs ≡ true)
-    (place : IfSome (slice_get t.contracts (get_or gs i d).contract) (λ x. n ≡ commodity_number t.commodities x.commodity))
-    (flags : List Bool) (inside : n < length flags) (now : AreFlags t (take i hs) flags) where
-  tells : (c : ℕ) → c < length t.commodities
-      → IfSome (slice_get t.contracts (get_or gs i d).contract) (λ x. eqb n c ≡ bytes_eq x.commodity (commodity_id t c))
-  tells c below =
-      if_some (λ x. n ≡ commodity_number t.commodities x.commodity) (λ x. eqb n c ≡ bytes_eq x.commodity (commodity_id t c))
-      (slice_get t.contracts (get_or gs i d).contract)
-      (λ x is. ap (λ m. eqb m c) is
-      ∙ place_names (λ (z : Commodity). z.id) t.commodities x.commodity c limits.commodities_apart below) place
-
+module _ (t : AcceptedTables) (limits : IsWithinLimits t) (gs : List Holding) (i n : ℕ) (d : Holding) (lt : i < length gs)
+    (known : (get_or gs i d).contract < length t.contracts)
+    (told : IfSome (slice_get t.contracts (get_or gs i d).contract) (λ x. n ≡ commodity_number t.commodities x.commodity))
+    (flags : List Bool) (inside : n < length flags) (now : AreFlags t (take i gs) flags) where
   flag_after : (c : ℕ) (b : Bool) → c < length t.commodities → eqb n c ≡ b
-      → get_or (set flags n true) c false ≡ has_some (holdings_in t.contracts (take (i + 1) hs) (commodity_id t c))
+      → get_or (set flags n true) c false ≡ has_some (holdings_in t.contracts (take (i + 1) gs) (commodity_id t c))
   flag_after c true below is =
       let here : n ≡ c = grind (arith, nat_tests) in
-      let held = holdings_in t.contracts (take i hs) (commodity_id t c) in
-      let more = gathered_some t.contracts hs gs i d (commodity_id t c) (eqb n c) held (held ++ get_or gs i d ∷ []) same lt known
-      refl (tells c below) is refl in
       ap (λ m. get_or (set flags n true) m false) (sym here) ∙ get_or-set_same flags n true false inside
-      ∙ sym (has_some-push held (get_or gs i d)) ∙ ap has_some more
+      ∙ sym (has_some-push (holdings_in t.contracts (take i gs) (commodity_id t c)) (get_or gs i d))
+      ∙ ap has_some (sym (one_more t gs i n d limits lt known told c true below is))
   flag_after c false below is =
       let apart : c ≢ n = grind (arith, nat_tests) in
-      let held = holdings_in t.contracts (take i hs) (commodity_id t c) in
-      let more = gathered_none t.contracts hs gs i d (commodity_id t c) (eqb n c) held same lt known refl (tells c below) is in
-      get_or-set_other flags n c true false apart ∙ now c below ∙ ap has_some more
+      get_or-set_other flags n c true false apart ∙ now c below
+      ∙ ap has_some (sym (one_more t gs i n d limits lt known told c false below is
+      ∙ append-nil (holdings_in t.contracts (take i gs) (commodity_id t c))))
 
-  pub flags_after : AreFlags t (take (i + 1) hs) (set flags n true)
+  pub flags_after : AreFlags t (take (i + 1) gs) (set flags n true)
   flags_after c below = flag_after c (eqb n c) below refl
 
 -- the flags of all holdings

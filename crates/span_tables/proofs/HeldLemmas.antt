@@ -1,13 +1,12 @@
 -- What an account holds of a commodity: holdings of contracts that there are, with their whole records, and within the limits.
 use Rattle.std.proofs.Common.{◌≡◌, ℕ, ℤ, suc, zero, ◌<◌, ◌≤◌, Bool, true, false}
-use Rattle.std.proofs.Common.{cond, eqb, ltb, List, [], ◌∷◌, length, map}
+use Rattle.std.proofs.Common.{cond, ltb, List, [], ◌∷◌, length}
 use Rattle.std.proofs.Common.{filter, get_or, Option, Some, None, refl, sym, ap, ◌∙◌, subst, arith}
 use Rattle.std.specs.Prelude.{◌&&◌, All, IfSome, bytes_eq, nat_abs, nat_lt, option_map, slice_get, unwrap_or}
 use Rattle.std.specs.List.{cons_option, list_all}
 use Rattle.std.proofs.lemmas.Bool.Decides.{nat_tests}
 use Rattle.std.proofs.lemmas.List.Elements.{All-nil, All-cons, All-head, All-tail, All-filter}
-use Rattle.span_tables.specs.Accepted.{IsContract, IsWithinLimits, commodity_number}
-use Rattle.span_tables.specs.Tables.{commodity_id}
+use Rattle.span_tables.specs.Accepted.{IsContract, IsWithinLimits}
 use Rattle.span_tables.specs.Holdings.{AreHeld, AreHoldings, ArePortfolio}
 use Rattle.span_tables.specs.Net.{HeldContract, held_contracts, held_of}
 use Rattle.span_tables.specs.Tables.{AcceptedTables}
@@ -15,27 +14,6 @@ use Rattle.span_tables.specs.declared.limits.TheConstants.{MAX_HELD, MAX_NET}
 use Rattle.span_tables.specs.declared.portfolios.Holding.{Holding}
 use Rattle.span_tables.specs.declared.records.Contract.{Contract}
 use Rattle.span_tables.specs.near.Gathered.{commodity_held, holdings_in}
-use Rattle.span_tables.proofs.Places.{place_names}
-
--- a number made of the element at k passes as the element does
-told : {X : Type 0} (f : X → ℕ) (g : X → Bool) (c : ℕ) → ((x : X) → eqb (f x) c ≡ g x)
-    → (xs : List X) (k n : ℕ) → k < length xs → n ≡ get_or (map f xs) k n → IfSome (slice_get xs k) (λ x. eqb n c ≡ g x)
-told f g c same [] k n lt is = absurd (omega arith)
-told f g c same (x ∷ xs) zero n lt is = ap (λ m. eqb m c) is ∙ same x
-told f g c same (x ∷ xs) (suc k) n lt is = told f g c same xs k n (omega arith) is
-
--- a contract's commodity number is that of the commodities it is of; s is how t is kept
-pub number_tells : (s t : AcceptedTables) (numbers : List ℕ) → s ≡ t → IsWithinLimits s
-    → numbers ≡ map (λ x. commodity_number s.commodities x.commodity) s.contracts
-    → (k c n : ℕ) → k < length t.contracts → c < length t.commodities → n ≡ get_or numbers k n
-    → IfSome (slice_get t.contracts k) (λ x. eqb n c ≡ bytes_eq x.commodity (commodity_id t c))
-number_tells s t numbers same kept are k c n lt lc is =
-    let limits : IsWithinLimits t = subst IsWithinLimits same kept in
-    let all : numbers ≡ map (λ (x : Contract). commodity_number t.commodities x.commodity) t.contracts =
-    subst (λ (u : AcceptedTables). numbers ≡ map (λ (x : Contract). commodity_number u.commodities x.commodity) u.contracts) same are in
-    told (λ (x : Contract). commodity_number t.commodities x.commodity) (λ (x : Contract). bytes_eq x.commodity (commodity_id t c)) c
-    (λ x. place_names (λ d. d.id) t.commodities x.commodity c limits.commodities_apart lc) t.contracts k n lt
-    (is ∙ ap (λ ns. get_or ns k n) all)
 
 and_true : (a b : Bool) → (a && b) ≡ true → (a ≡ true) × (b ≡ true)
 and_true true b e = (refl, e)

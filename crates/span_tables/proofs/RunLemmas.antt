@@ -1,24 +1,24 @@
 -- The holdings of the commodities that are held, gathered by runs of one commodity.
 use Rattle.std.proofs.Common.{◌≡◌, ◌≢◌, ℕ, suc, zero, ◌+◌, ◌-◌, ◌<◌, ◌≤◌, Bool, true, false, cond, eqb, List, [], ◌∷◌}
 use Rattle.std.proofs.Common.{◌++◌, length, length-append, length-set, map, filter, get_or, get_or-set_other}
-use Rattle.std.proofs.Common.{get_or-set_same, set, take, drop, refl, sym, ap, ◌∙◌, subst, arith, inl, inr}
-use Rattle.std.specs.Prelude.{All, IfSome, bytes_eq, slice_get}
+use Rattle.std.proofs.Common.{get_or-set_same, replicate, set, take, drop, refl, sym, ap, ◌∙◌, subst, arith, inl, inr}
+use Rattle.std.specs.Prelude.{All, IfSome, bytes_eq, option_map, slice_get, unwrap_or}
 use Rattle.std.specs.List.{AllPairs, AllWithin, insert, slice_range}
 use Rattle.std.specs.List.Sorted.{IsNonDecreasingBy}
 use Rattle.std.proofs.lemmas.Bool.{cases_eq, cases_lt}
 use Rattle.std.proofs.lemmas.Bool.Decides.{nat_tests}
-use Rattle.std.proofs.lemmas.List.{append-nil, drop-take, get_or-map, get_or_default, length-map, take-append-drop}
-use Rattle.std.proofs.lemmas.List.{take-take}
+use Rattle.std.proofs.lemmas.List.{append-nil, drop-take, get_or-map, get_or-replicate, get_or_default, length-map}
+use Rattle.std.proofs.lemmas.List.{length-replicate, take-append-drop, take-take, take_more}
 use Rattle.std.proofs.lemmas.List.Edits.{get_or-between, get_or-insert_above, get_or-insert_at, get_or-insert_below}
 use Rattle.std.proofs.lemmas.List.Edits.{length-between, length-insert}
-use Rattle.std.proofs.lemmas.List.Elements.{All-append, All-cons, All-drop, All-head, All-map, All-tail, All-take}
-use Rattle.std.proofs.lemmas.List.Elements.{filter-append}
+use Rattle.std.proofs.lemmas.List.Elements.{All-append, All-cons, All-drop, All-head, All-map, All-nil, All-tail}
+use Rattle.std.proofs.lemmas.List.Elements.{All-take, filter-append}
 use Rattle.std.proofs.lemmas.List.Kept.{AllPairs-cons}
 use Rattle.span_tables.specs.Accepted.{IsWithinLimits, commodity_number}
 use Rattle.span_tables.specs.Tables.{commodity_id}
 use Rattle.span_tables.specs.near.HeldCommodities.{AreHeldCommodities}
 use Rattle.span_tables.specs.Holdings.{AreHoldings, ArePortfolio, fits}
-use Rattle.span_tables.specs.Net.{held_contracts, held_of}
+use Rattle.span_tables.specs.Net.{HeldContract, held_contracts, held_of}
 use Rattle.span_tables.specs.Tables.{AcceptedTables}
 use Rattle.span_tables.specs.declared.held.CommodityHeld.{CommodityHeld}
 use Rattle.span_tables.specs.declared.held.HoldingsOf.{HoldingsOf}
@@ -257,6 +257,18 @@ module _ (t : AcceptedTables) (limits : IsWithinLimits t) (hs run : List Holding
                 ∙ before.others c lt (left_of_insert (λ l. l.commodity ≢ c) lists p y le none);
           }
 
+-- one holding more, of the commodity of number n, which is number c or is not
+pub one_more : (t : AcceptedTables) (gs : List Holding) (i n : ℕ) (d : Holding) → IsWithinLimits t → i < length gs
+    → (get_or gs i d).contract < length t.contracts
+    → IfSome (slice_get t.contracts (get_or gs i d).contract) (λ x. n ≡ commodity_number t.commodities x.commodity)
+    → (c : ℕ) (b : Bool) → c < length t.commodities → eqb n c ≡ b
+    → holdings_in t.contracts (take (i + 1) gs) (commodity_id t c)
+    ≡ holdings_in t.contracts (take i gs) (commodity_id t c) ++ cond b (get_or gs i d ∷ []) []
+one_more t gs i n d limits lt known told c b below is =
+    let of = is_of_number t gs i n n d d lt known told refl in
+    ap (λ hs. holdings_in t.contracts hs (commodity_id t c)) (take_more gs i d lt)
+    ∙ with_run t limits (take i gs) (get_or gs i d ∷ []) n (All-cons (IsOf t n) (get_or gs i d) [] of (All-nil (IsOf t n))) c b below is
+
 -- the gathered holdings are within the limits, and with their records they are what is held
 module _ (t : AcceptedTables) (hs : List Holding) (lists : List HoldingsOf) (limits : IsWithinLimits t) (portfolio : ArePortfolio hs)
     (known : fits (length t.contracts) hs ≡ true) (gathered : AreGathered t hs lists) where
@@ -285,3 +297,56 @@ gathered_held t hs lists in_range gathered =
           subst (λ (h : CommodityHeld). h.commodity ≢ c) (get_or-map f lists k d (f d) below)
           (none k (f d) (omega (arith, below, length-map lists f)))));
     }
+
+-- what is held of each commodity, where that of the rest is still to be put at its number
+pub record ArePlaced (t : AcceptedTables) (hs : List Holding) (rest : List CommodityHeld) (held : List (List HeldContract)) : Type 0 where
+  pub size : length held ≡ length t.commodities
+  pub in_range : All (λ h. h.commodity < length t.commodities) rest
+  pub each : All (λ h. h.held ≡ held_of t.contracts hs (commodity_id t h.commodity)) rest
+  pub others : (c : ℕ) → c < length t.commodities → All (λ h. h.commodity ≢ c) rest
+      → get_or held c [] ≡ held_of t.contracts hs (commodity_id t c)
+
+named_each : {X Y : Type 0} (f : List ℕ → Y) (name : X → List ℕ) (e : Y) (xs : List X) (ys : List Y) → length ys ≡ length xs
+    → ((c : ℕ) → c < length xs → get_or ys c e ≡ f (unwrap_or (option_map name (slice_get xs c)) []))
+    → ys ≡ map (λ x. f (name x)) xs
+named_each f name e [] [] long each = refl
+named_each f name e [] (y ∷ ys) long each = cc
+named_each f name e (x ∷ xs) [] long each = cc
+named_each f name e (x ∷ xs) (y ∷ ys) long each =
+    let first : y ≡ f (name x) = each 0 (omega arith) in
+    let rest = named_each f name e xs ys (omega (arith, long)) (λ c lt. each (suc c) (omega (arith, lt))) in
+    λ i. first i ∷ rest i
+
+module _ (t : AcceptedTables) (hs : List Holding) where
+  pub placed_none : (list : List CommodityHeld) → AreHeldCommodities t hs list
+      → ArePlaced t hs list (replicate (length t.commodities) [])
+  placed_none list are = record {
+    size = length-replicate (length t.commodities) [];
+    in_range = are.in_range;
+    each = are.each;
+    others = λ c lt none. get_or-replicate (length t.commodities) c [] [] lt ∙ sym (are.others c lt none);
+  }
+
+  pub placed_next : (h : CommodityHeld) (rest : List CommodityHeld) (held : List (List HeldContract)) → ArePlaced t hs (h ∷ rest) held
+      → ArePlaced t hs rest (set held h.commodity h.held)
+  placed_next h rest held are =
+      let inside = All-head (λ x. x.commodity < length t.commodities) h rest are.in_range in
+      let is = All-head (λ x. x.held ≡ held_of t.contracts hs (commodity_id t x.commodity)) h rest are.each in
+      record {
+        size = length-set held h.commodity h.held ∙ are.size;
+        in_range = All-tail (λ x. x.commodity < length t.commodities) h rest are.in_range;
+        each = All-tail (λ x. x.held ≡ held_of t.contracts hs (commodity_id t x.commodity)) h rest are.each;
+        others = λ c lt none. elim (cases_eq c h.commodity) [
+          | inl same ↦ ap (λ (j : ℕ). get_or (set held h.commodity h.held) j []) same
+              ∙ get_or-set_same held h.commodity h.held [] (omega (arith, are.size, inside)) ∙ is
+              ∙ ap (λ (j : ℕ). held_of t.contracts hs (commodity_id t j)) (sym same)
+          | inr other ↦ get_or-set_other held h.commodity c h.held [] other
+              ∙ are.others c lt (All-cons (λ x. x.commodity ≢ c) h rest (λ e. other (sym e)) none)
+        ];
+      }
+
+  pub placed_all : (held : List (List HeldContract)) → ArePlaced t hs [] held
+      → held ≡ map (λ c. held_of t.contracts hs c.id) t.commodities
+  placed_all held are =
+      named_each (held_of t.contracts hs) (λ (c : Commodity). c.id) [] t.commodities held are.size
+      (λ c lt. are.others c lt (All-nil (λ (h : CommodityHeld). h.commodity ≢ c)))

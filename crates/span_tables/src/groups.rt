@@ -66,20 +66,6 @@ pub fn empty_lists<T: Drop>(alloc: Global, count: usize) -> Result<Vec<Vec<T>>, 
     Ok(lists)
 }
 
-// An empty list for each of these numbers, with room for so many values.
-pub(crate) fn lists_with_room<T: Drop>(
-    alloc: Global,
-    rooms: &[usize],
-) -> Result<Vec<Vec<T>>, AllocError>
-    ensures { IfOk result (λ lists. map (λ v. v.items) lists.items ≡ replicate (length rooms.now) []) }
-{
-    let mut lists = Vec::with_capacity(alloc, rooms.len())?;
-    for room in rooms {
-        lists.push(Vec::with_capacity(alloc, *room)?)?;
-    }
-    Ok(lists)
-}
-
 /// Appends a value to the list at a place.
 pub fn push_at<T: Drop>(lists: &mut Vec<Vec<T>>, place: usize, value: T) -> Result<(), AllocError>
     requires { place < length lists.old.items }

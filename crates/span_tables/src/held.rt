@@ -1,6 +1,6 @@
 //! The contracts of one commodity that an account holds (docs/METHOD.md, "Positions").
 ghost use Rattle.std.specs.Prelude.{[], ◌++◌, ◌≡◌, ◌==◌, ◌<◌, ◌≤◌, ℕ, List, false, true, not};
-ghost use Rattle.std.specs.Prelude.{length, map, nat_abs, slice_get, slice_index_or};
+ghost use Rattle.std.specs.Prelude.{length, map, nat_abs, replicate, slice_get, slice_index_or};
 ghost use Rattle.std.specs.Prelude.{All, IfOk, IfSome, OnOk};
 ghost use Rattle.std.specs.List.{AllWithin};
 ghost use Rattle.std.specs.Arc.{arc_value};
@@ -12,9 +12,8 @@ ghost use Rattle.span_tables.specs.Net.{held_contracts, held_of};
 ghost use Rattle.span_tables.specs.declared.limits.TheConstants.{MAX_HELD, MAX_NET};
 ghost use Rattle.span_tables.specs.Tables.{AcceptedTables};
 ghost use Rattle.span_tables.specs.declared.portfolios.Holding.{Holding};
-ghost use Rattle.span_tables.specs.near.Gathered.{AreGathered, IsOf, commodity_held_of, holdings_in};
+ghost use Rattle.span_tables.specs.near.Gathered.{AreGathered, IsOf, commodity_held_of};
 
-use crate::groups::{lists_with_room, push_at};
 use crate::limits::MAX_COMMODITIES;
 use crate::portfolios::{Holding, Portfolio};
 use crate::records::Contract;
@@ -110,78 +109,14 @@ pub fn gather(
     requires commodity { commodity < length tables.now.commodities }
     ensures { IfOk result (λ held. held ≡ held_of tables.now.contracts portfolio.now.holdings (commodity_id tables.now commodity)) }
 {
+    tables.known();
     let mut held = Vec::new(alloc);
     for holding in portfolio.holdings() {
-        if tables.is_of(holding.contract, commodity) {
+        if tables.commodity_of(holding.contract) == commodity {
             held.push(*holding)?;
         }
     }
     Ok(Held::new(tables.share_contracts()?, held))
-}
-
-// How many holdings there are of each commodity: the room that their lists need.
-fn rooms(tables: &Tables, portfolio: &Portfolio) -> [usize; MAX_COMMODITIES]
-    requires limits { IsWithinLimits tables.now }
-    requires fits { fits (length tables.now.contracts) portfolio.now.holdings ≡ true }
-{
-    let mut rooms = [0usize; MAX_COMMODITIES];
-    for holding in portfolio.holdings() {
-        let place = tables.commodity_of(holding.contract);
-        rooms[place] = rooms[place].saturating_add(1);
-    }
-    rooms
-}
-
-// The holdings of each commodity.
-fn holdings_by_commodity(
-    alloc: Global,
-    tables: &Tables,
-    portfolio: &Portfolio,
-) -> Result<Vec<Vec<Holding>>, AllocError>
-    requires { fits (length tables.now.contracts) portfolio.now.holdings ≡ true }
-    ensures value { IfOk result (λ lists. map (λ v. v.items) lists.items
-        ≡ map (λ c. holdings_in tables.now.contracts portfolio.now.holdings c.id) tables.now.commodities) }
-    ensures in_range { IfOk result (λ lists. All (λ v. AreHoldings tables.now.contracts v.items) lists.items) }
-{
-    let commodities = tables.commodities().len();
-    let rooms = rooms(tables, portfolio);
-    let mut lists = lists_with_room(alloc, &rooms[..commodities])?;
-    for holding in portfolio.holdings() {
-        let place = tables.commodity_of(holding.contract);
-        push_at(&mut lists, place, *holding)?;
-    }
-    Ok(lists)
-}
-
-// The held contracts of each of these lists of holdings.
-fn as_held(
-    alloc: Global,
-    tables: &Tables,
-    lists: Vec<Vec<Holding>>,
-) -> Result<Vec<Held>, AllocError>
-    requires { All (λ v. AreHoldings tables.now.contracts v.items) lists.items }
-    ensures { IfOk result (λ held. held.items ≡ map (λ v. held_contracts tables.now.contracts v.items) lists.items) }
-{
-    let mut held = Vec::with_capacity(alloc, lists.len())?;
-    for holdings in lists {
-        held.push(Held::new(tables.share_contracts()?, holdings))?;
-    }
-    Ok(held)
-}
-
-/// The contracts of each commodity that an account holds, by the commodities' numbers: what `gather` gives for each, in
-/// one pass over the holdings.
-pub fn gather_all(
-    alloc: Global,
-    tables: &Tables,
-    portfolio: &Portfolio,
-) -> Result<Vec<Held>, AllocError>
-    requires { fits (length tables.now.contracts) portfolio.now.holdings ≡ true }
-    ensures { IfOk result (λ held. held.items
-        ≡ map (λ c. held_of tables.now.contracts portfolio.now.holdings c.id) tables.now.commodities) }
-{
-    let lists = holdings_by_commodity(alloc, tables, portfolio)?;
-    as_held(alloc, tables, lists)
 }
 
 /// The contracts of a commodity that an account holds, with the commodity's number.
@@ -251,8 +186,7 @@ fn held_by_commodity(
     ensures gathered { IfOk result (λ lists. AreGathered tables.now portfolio.now.holdings lists.items) }
     ensures in_range { IfOk result (λ lists. All (λ l. AreHoldings tables.now.contracts l.holdings.items) lists.items) }
 {
-    // Called for its clause: the tables are within their limits.
-    let _limits = tables.commodities();
+    tables.known();
     let holdings = portfolio.holdings();
     let mut lists = Vec::new(alloc);
     let mut done = 0;
@@ -299,6 +233,37 @@ pub fn gather_held(
     with_records(alloc, tables, lists)
 }
 
+// No held contracts of each commodity.
+fn nothing_held(alloc: Global, tables: &Tables) -> Result<Vec<Held>, AllocError>
+    ensures { IfOk result (λ held. held.items ≡ replicate (length tables.now.commodities) []) }
+{
+    let commodities = tables.commodities().len();
+    let mut held = Vec::with_capacity(alloc, commodities)?;
+    for _ in 0..commodities {
+        held.push(Held::none(alloc, tables)?)?;
+    }
+    Ok(held)
+}
+
+/// The contracts of each commodity that an account holds, by the commodities' numbers: what `gather` gives for each, in
+/// one pass over the holdings.
+pub fn gather_all(
+    alloc: Global,
+    tables: &Tables,
+    portfolio: &Portfolio,
+) -> Result<Vec<Held>, AllocError>
+    requires { fits (length tables.now.contracts) portfolio.now.holdings ≡ true }
+    ensures { IfOk result (λ held. held.items
+        ≡ map (λ c. held_of tables.now.contracts portfolio.now.holdings c.id) tables.now.commodities) }
+{
+    let some = gather_held(alloc, tables, portfolio)?;
+    let mut held = nothing_held(alloc, tables)?;
+    for of in some {
+        held[of.commodity] = of.held;
+    }
+    Ok(held)
+}
+
 /// Which commodities an account holds a contract of, by the commodities' numbers, in one pass over the holdings, without
 /// taking memory.
 pub fn held_commodities(tables: &Tables, portfolio: &Portfolio) -> [bool; MAX_COMMODITIES]
@@ -306,7 +271,7 @@ pub fn held_commodities(tables: &Tables, portfolio: &Portfolio) -> [bool; MAX_CO
     ensures { (c : ℕ) → c < length tables.now.commodities → slice_index_or result c false
         ≡ not (length (held_of tables.now.contracts portfolio.now.holdings (commodity_id tables.now c)) == 0) }
 {
-    let _limits = tables.commodities();
+    tables.known();
     let mut held = [false; MAX_COMMODITIES];
     for holding in portfolio.holdings() {
         held[tables.commodity_of(holding.contract)] = true;

@@ -59,6 +59,13 @@ impl Portfolio {
         &self.holdings
     }
 
+    /// Does nothing, and tells a proof what the holdings keep.
+    pub fn known(&self)
+        ensures { ArePortfolio self.now.holdings }
+    {
+        let _ = &self.holdings;
+    }
+
     /// Whether every holding is of a contract of these tables.
     pub fn fits(&self, tables: &Tables) -> bool
         ensures { result ≡ fits (length tables.now.contracts) self.now.holdings }

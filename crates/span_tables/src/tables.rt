@@ -161,6 +161,13 @@ impl Tables {
         facts_of(self.profile())
     }
 
+    /// Does nothing, and tells a proof that the tables are within their limits.
+    pub fn known(&self)
+        ensures { IsWithinLimits self.now }
+    {
+        let _ = &self.commodities;
+    }
+
     /// The commodities by their numbers.
     pub fn commodities(&self) -> &[Commodity]
         ensures value { result.now ≡ self.now.commodities }
@@ -183,16 +190,6 @@ impl Tables {
         ensures limits { IsWithinLimits self.now }
     {
         Arc::try_clone(&self.contracts)
-    }
-
-    // Whether the contract of a number is of the commodity of a number: their numbers are compared, and no names.
-    #[tactic(auto, using(crate::proofs::HeldLemmas::number_tells))]
-    pub(crate) fn is_of(&self, contract: usize, commodity: usize) -> bool
-        requires contract { contract < length self.now.contracts }
-        requires commodity { commodity < length self.now.commodities }
-        ensures { IfSome (slice_get self.now.contracts contract) (λ x. result ≡ bytes_eq x.commodity (commodity_id self.now commodity)) }
-    {
-        self.commodity_numbers[contract] == commodity
     }
 
     // The number of the commodity of the contract of a number.

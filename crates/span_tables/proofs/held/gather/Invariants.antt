@@ -5,4 +5,4 @@ use Rattle.span_tables.proofs.held.gather.Given as goal
 
 abbrev pub invariant-loop-holding : goal.invariant-loop-holding
 invariant-loop-holding l =
-    l.held.items ≡ holdings_in l.tables.contracts (take l.holding-index l.portfolio.holdings) (commodity_id l.tables l.commodity)
+    l.held.items ≡ holdings_in l.tables.contracts (take l.holding-index l.holding-items) (commodity_id l.tables l.commodity)

@@ -16,7 +16,7 @@ loop-done-preserved c =
     record {
       inside = omega arith;
       gathered = subst (λ (gs : List Holding). AreGathered t gs c.add_run.new.lists.items) (sym (take_range hs done end (omega arith)))
-          (c.in_ok-add_run.ensures t (take done hs) c.commodities-limits.ensures.limits c.commodity_of-commodity.ensures.known
+          (c.in_ok-add_run.ensures t (take done hs) c.known.ensures c.commodity_of-commodity.ensures.known
           (all_between (IsOf t n) hs done end c.end_of_run-end.ensures.inside
           (λ d. is_of_number t hs done n n _ d c.loop-done-test.true
           (known_holding t.contracts c.args.portfolio.now.holdings hs done _ c.holdings-holdings.ensures.value c.loop-done-test.true
@@ -29,6 +29,6 @@ loop-done-preserved c =
 pub returns-clause-in_range : goal.returns-clause-in_range
 returns-clause-in_range c =
     let all : take c.loop-done.done c.holdings-holdings.result.now ≡ c.args.portfolio.now.holdings = grind (arith, common_steps) in
-    gathered_in_range c.args.tables.now c.args.portfolio.now.holdings c.loop-done.lists.items c.commodities-limits.ensures.limits
+    gathered_in_range c.args.tables.now c.args.portfolio.now.holdings c.loop-done.lists.items c.known.ensures
     c.holdings-holdings.ensures.kept c.requires
     (subst (λ (hs : List Holding). AreGathered c.args.tables.now hs c.loop-done.lists.items) all c.loop-done.invariant.gathered)

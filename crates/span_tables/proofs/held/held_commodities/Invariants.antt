@@ -5,4 +5,4 @@ use Rattle.span_tables.proofs.held.held_commodities.Given as goal
 
 abbrev pub invariant-loop-holding : goal.invariant-loop-holding
 invariant-loop-holding l =
-    (length l.held ≡ MAX_COMMODITIES) × AreFlags l.tables (take l.holding-index l.portfolio.holdings) l.held
+    (length l.held ≡ MAX_COMMODITIES) × AreFlags l.tables (take l.holding-index l.holding-items) l.held
