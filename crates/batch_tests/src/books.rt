@@ -1,12 +1,12 @@
 //! A book behind no lock: what it refuses and what it keeps.
 use result_book::books::{BookFault, PutRefused, ResultBook};
-use step_scheduler::rows::Row;
 use sample_files::one_future::{PARAMS, POSITIONS};
 use sample_sets::files::{account_of, set_of};
 use span_tables::name::Name;
 use std::alloc::Global;
 use std::process::Abort;
 use std::sync::Arc;
+use step_scheduler::rows::Row;
 use worker_pool::plain::run_account;
 
 // The row of the account that is long one future.

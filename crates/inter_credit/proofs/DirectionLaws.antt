@@ -6,8 +6,8 @@ use Rattle.span_tables.specs.Accepted.{IsInter}
 use Rattle.span_tables.specs.Sides.{IsLeftOf, market_side, part_on, spreads_formed}
 use Rattle.span_tables.specs.declared.records.CommodityLeg.{CommodityLeg}
 use Rattle.span_tables.specs.declared.records.Inter.{Inter}
-use Rattle.span_tables.specs.declared.records.Side.{Side}
-use Rattle.span_tables.specs.declared.records.Side.TheVariants as side
+use Rattle.span_tables.specs.declared.sides.Side.{Side}
+use Rattle.span_tables.specs.declared.sides.Side.TheVariants as side
 use Rattle.span_tables.specs.declared.sides.Direction.TheVariants.{ALong, AShort}
 use Rattle.inter_credit.specs.Credits.{commodity_rooms, inter_formed_both, inter_formed_in, inter_one_way, rest_at}
 use Rattle.inter_credit.specs.declared.commodity_state.CommodityState.{CommodityState}

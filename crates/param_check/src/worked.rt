@@ -11,7 +11,7 @@ ghost use Rattle.param_check.specs.declared.faults.BindFault.TheVariants as bind
 ghost use Rattle.param_check.specs.declared.faults.CheckFault.TheVariants as check;
 ghost use Rattle.span_tables.specs.near.Samples.{commodity};
 ghost use Rattle.span_tables.specs.declared.limits.TheConstants.{MAX_HELD, MAX_NET};
-ghost use Rattle.span_tables.specs.declared.records.Side.TheVariants as side;
+ghost use Rattle.span_tables.specs.declared.sides.Side.TheVariants as side;
 
 // ---- positions
 

@@ -15,7 +15,6 @@ use plan_ir::ops::Op;
 use plan_ir::plans::Plan;
 use plan_ir::values::Value;
 use result_book::books::ResultBook;
-use step_scheduler::rows::Row;
 use sample_files::one_future::{PARAMS, POSITIONS};
 use sample_sets::boards::{board_of, next_task};
 use sample_sets::files::{account_of, tables_of};
@@ -28,6 +27,7 @@ use step_scheduler::boards::Board;
 use step_scheduler::courses::Course;
 use step_scheduler::evaluation::evaluate;
 use step_scheduler::jobs::Job;
+use step_scheduler::rows::Row;
 use step_scheduler::watches::NoWatch;
 
 #[test]

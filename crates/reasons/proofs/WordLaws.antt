@@ -8,8 +8,8 @@ use Rattle.span_tables.specs.Tables.{AcceptedTables}
 use Rattle.span_tables.specs.declared.portfolios.Holding.{Holding}
 use Rattle.span_tables.specs.declared.records.ProductKind.{ProductKind}
 use Rattle.span_tables.specs.declared.records.ProductKind.TheVariants as product
-use Rattle.span_tables.specs.declared.records.Side.{Side}
-use Rattle.span_tables.specs.declared.records.Side.TheVariants as side
+use Rattle.span_tables.specs.declared.sides.Side.{Side}
+use Rattle.span_tables.specs.declared.sides.Side.TheVariants as side
 use Rattle.span_tables.specs.declared.sides.Direction.{Direction}
 use Rattle.span_tables.specs.declared.sides.Direction.TheVariants.{ALong, AShort}
 use Rattle.scan_risk.specs.Scenarios.{scan_of, scenario_sums}

@@ -12,7 +12,7 @@ ghost use Rattle.reasons.specs.Reasons.{inters_shown_at, intras_shown_at, reason
 ghost use Rattle.scan_risk.specs.Scenarios.{active_scenario, paired_scenario, price2, scan_risk, scenario_sums};
 ghost use Rattle.span_tables.specs.Tables.{AcceptedTables, facts_in};
 ghost use Rattle.span_tables.specs.declared.portfolios.Holding.{Holding};
-ghost use Rattle.span_tables.specs.declared.records.Side.{Side};
+ghost use Rattle.span_tables.specs.declared.sides.Side.{Side};
 ghost use Rattle.spread_stage.specs.Deltas.{months_of};
 ghost use Rattle.std.specs.Fmt.{decimal};
 ghost use Rattle.std.specs.Prelude.{◌*◌, ◌*ℤ◌, ◌+ℤ◌, ◌<◌, ◌<ℤ◌, ◌≡◌, All, List, bytes_eq, codes, flat_map, length, map, pos, true, ℕ};

@@ -10,7 +10,8 @@ use csv::ByteRecord;
 use span_money::amounts::{Delta, Ratio, Scale};
 use span_money::texts::{parse_decimal, parse_whole};
 use span_tables::name::Name;
-use span_tables::records::{MinimumMethod, ProductKind, Side};
+use span_tables::records::{MinimumMethod, ProductKind};
+use span_tables::sides::Side;
 
 /// The name at a place.
 pub(crate) fn name_at(row: &ByteRecord, i: usize) -> Name

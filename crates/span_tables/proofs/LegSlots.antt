@@ -4,8 +4,8 @@ use Rattle.std.specs.List.{All}
 use Rattle.span_tables.specs.Rules.{same_side}
 use Rattle.span_tables.specs.Slots.{IsMarked, has_all, with_slot}
 use Rattle.span_tables.specs.declared.records.CommodityLeg.{CommodityLeg}
-use Rattle.span_tables.specs.declared.records.Side.{Side}
-use Rattle.span_tables.specs.declared.records.Side.TheVariants as side
+use Rattle.span_tables.specs.declared.sides.Side.{Side}
+use Rattle.span_tables.specs.declared.sides.Side.TheVariants as side
 use Rattle.span_tables.specs.near.Legs.{slots_on}
 use Rattle.span_tables.proofs.SlotLemmas.{Within, none_within, with_within, within_has_all}
 

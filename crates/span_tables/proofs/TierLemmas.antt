@@ -6,8 +6,8 @@ use Rattle.std.proofs.lemmas.Bool.Decides.{nat_tests}
 use Rattle.std.specs.Int.{bit_at}
 use Rattle.std.proofs.lemmas.Nat.Bits.{bit_at-zero, bit_at_and, bit_at_ones}
 use Rattle.span_tables.specs.Slots.{IsMarked, IsTierMarked, meets, month_count, with_slot}
-use Rattle.span_tables.specs.declared.records.MonthLeg.{MonthLeg}
-use Rattle.span_tables.specs.declared.records.Side.{Side}
+use Rattle.span_tables.specs.declared.legs.MonthLeg.{MonthLeg}
+use Rattle.span_tables.specs.declared.sides.Side.{Side}
 use Rattle.span_tables.specs.declared.slots.TheConstants.{SLOTS}
 use Rattle.span_tables.specs.near.Tiers.{HasMonths, IsOfSide, may_have}
 use Rattle.span_tables.proofs.SlotLemmas.{marked_kept, marked_new}

@@ -1,8 +1,8 @@
 -- The sides of a spread in a direction, and how many spreads they form.
 use Rattle.std.specs.Prelude.{ℕ, ◌/◌, ◌≤◌, min, List, [], ◌∷◌, ℤ, pos, ◌+ℤ◌, ◌-ℤ◌}
 use Rattle.span_money.specs.Numbers.{positive_part, negative_part}
-use Rattle.span_tables.specs.declared.records.Side.{Side}
-use Rattle.span_tables.specs.declared.records.Side.TheVariants as side
+use Rattle.span_tables.specs.declared.sides.Side.{Side}
+use Rattle.span_tables.specs.declared.sides.Side.TheVariants as side
 use Rattle.span_tables.specs.declared.sides.Direction.{Direction}
 use Rattle.span_tables.specs.declared.sides.Direction.TheVariants.{ALong, AShort}
 use Rattle.span_tables.specs.declared.sides.MarketSide.{MarketSide}

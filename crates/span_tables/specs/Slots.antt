@@ -4,7 +4,7 @@ use Rattle.std.specs.Prelude.{◌<◌, ◌≤◌, ◌==◌, min, Bool, not, ℤ,
 use Rattle.std.specs.Int.{bit_at}
 use Rattle.std.specs.Int.RustNames.{bit_or}
 use Rattle.span_tables.specs.Sides.{part_on}
-use Rattle.span_tables.specs.declared.records.MonthLeg.{MonthLeg}
+use Rattle.span_tables.specs.declared.legs.MonthLeg.{MonthLeg}
 use Rattle.span_tables.specs.declared.sides.MarketSide.{MarketSide}
 use Rattle.span_tables.specs.declared.sides.MarketSide.TheVariants.{Long, Short}
 use Rattle.span_tables.specs.declared.slots.OpenSides.{OpenSides}

@@ -1,7 +1,7 @@
 -- Accepted spreads, as contracts see them.
 use Rattle.std.specs.Prelude.{ℕ, List}
 use Rattle.span_tables.specs.declared.records.CommodityLeg.{CommodityLeg}
-use Rattle.span_tables.specs.declared.records.MonthLeg.{MonthLeg}
+use Rattle.span_tables.specs.declared.legs.MonthLeg.{MonthLeg}
 
 -- an intercommodity spread: its priority, its credit rate in basis points, and its legs
 pub record InterSpread : Type 0 where

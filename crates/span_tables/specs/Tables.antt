@@ -15,7 +15,7 @@ use Rattle.span_tables.specs.declared.records.Spot.{Spot}
 use Rattle.span_tables.specs.declared.records.InterLeg.{InterLeg}
 use Rattle.span_tables.specs.declared.records.InterRecord.{InterRecord}
 use Rattle.span_tables.specs.declared.records.Record.{Record}
-use Rattle.span_tables.specs.declared.records.MonthLeg.{MonthLeg}
+use Rattle.span_tables.specs.declared.legs.MonthLeg.{MonthLeg}
 use Rattle.span_tables.specs.declared.records.Intra.{Intra}
 use Rattle.span_tables.specs.declared.records.CommodityLeg.{CommodityLeg}
 use Rattle.span_tables.specs.declared.records.Inter.{Inter}

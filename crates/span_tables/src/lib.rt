@@ -5,6 +5,7 @@ pub mod groups;
 pub mod held;
 mod kinds;
 pub mod laws;
+pub mod legs;
 pub mod limit_digits;
 pub mod limits;
 pub mod name;

@@ -3,9 +3,10 @@
 ghost use Rattle.std.specs.Prelude.{◌≡◌};
 ghost use Rattle.span_tables.specs.near.Legs.{slots_on};
 
+use crate::legs::MonthLeg;
 use crate::limits::SCENARIOS;
 use crate::name::Name;
-use crate::sides::{Direction, market_side};
+use crate::sides::{Direction, Side, market_side};
 use crate::slots::{OpenSides, Slots};
 use crate::tier_slots::{may_have, months_on};
 use arrayvec::ArrayVec;
@@ -25,14 +26,6 @@ pub enum ProductKind {
 pub enum MinimumMethod {
     Sum,
     Max,
-}
-
-/// The side of a spread that a leg is on.
-#[derive(Clone, Copy, Debug, Default, PartialEq, Eq)]
-pub enum Side {
-    #[default]
-    A,
-    B,
 }
 
 /// The set of parameters: its id, its profile and its currency.
@@ -226,15 +219,6 @@ pub struct OrderRecord {
     pub account: Name,
     pub contract: Name,
     pub quantity: i32,
-}
-
-/// A leg of an accepted intracommodity spread: the months of its tier, a side and a ratio.
-#[derive(Clone, Copy, Default)]
-pub struct MonthLeg {
-    pub first: u32,
-    pub last: u32,
-    pub side: Side,
-    pub ratio: Ratio,
 }
 
 /// An accepted intracommodity spread: its priority, its rate in minor units a spread, and its legs, with the months of

@@ -1,11 +1,18 @@
-//! The directions of a spread, the market sides of its legs in them, and how much of a rest is on a market side
+//! The sides and directions of a spread, the market sides of its legs in them, and how much of a rest is on a market side
 //! (docs/METHOD.md, "Intracommodity spreads" and "Intercommodity spreads").
 ghost use Rattle.std.specs.Prelude.{◌≡◌, ◌+◌, ◌≤◌, nat_abs};
 ghost use Rattle.span_tables.specs.Sides.{IsLeftOf, less_used, market_side, part_on};
 ghost use Rattle.span_tables.specs.declared.limits.TheConstants.{MAX_UNITS};
 
-use crate::records::Side;
 use span_money::amounts::Units;
+
+/// The side of a spread that a leg is on.
+#[derive(Clone, Copy, Debug, Default, PartialEq, Eq)]
+pub enum Side {
+    #[default]
+    A,
+    B,
+}
 
 /// The direction of a spread: side A long and B short, or side A short and B long.
 #[derive(Clone, Copy, Debug, PartialEq, Eq)]

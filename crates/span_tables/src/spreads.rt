@@ -6,10 +6,10 @@ ghost use Rattle.span_tables.specs.Names.{has_repeat};
 ghost use Rattle.span_tables.specs.Tables.{commodity_leg, inter_spread, intra_spread, month_leg};
 
 use crate::groups::{empty_lists, number_near, number_of, push_at, tiers_by_commodity};
+use crate::legs::MonthLeg;
 use crate::name::Name;
 use crate::records::{
-    Commodity, CommodityLeg, Inter, InterLeg, InterRecord, Intra, IntraLeg, IntraRecord, MonthLeg,
-    Tier,
+    Commodity, CommodityLeg, Inter, InterLeg, InterRecord, Intra, IntraLeg, IntraRecord, Tier,
 };
 use arrayvec::ArrayVec;
 use std::alloc::{AllocError, Global};

@@ -3,7 +3,8 @@ ghost use Rattle.std.specs.Prelude.{◌≡◌};
 ghost use Rattle.span_tables.specs.Slots.{month_count};
 ghost use Rattle.span_tables.specs.near.Tiers.{HasMonths, IsOfSide, may_have};
 
-use crate::records::{MonthLeg, Side};
+use crate::legs::MonthLeg;
+use crate::sides::Side;
 use crate::slots::{SLOTS, Slots};
 
 /// The place of a month (`yyyymm`) among all months.

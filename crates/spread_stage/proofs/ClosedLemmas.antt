@@ -15,7 +15,7 @@ use Rattle.span_tables.specs.declared.sides.Direction.TheVariants.{ALong, AShort
 use Rattle.span_tables.specs.declared.sides.MarketSide.{MarketSide}
 use Rattle.span_tables.specs.declared.sides.MarketSide.TheVariants.{Long, Short}
 use Rattle.span_tables.specs.declared.records.Intra.{Intra}
-use Rattle.span_tables.specs.declared.records.MonthLeg.{MonthLeg}
+use Rattle.span_tables.specs.declared.legs.MonthLeg.{MonthLeg}
 use Rattle.span_tables.specs.declared.records.Spot.{Spot}
 use Rattle.span_tables.specs.declared.limits.TheConstants.{MAX_RATE}
 use Rattle.spread_stage.specs.Charges.{delivery_charge, spot_charge}

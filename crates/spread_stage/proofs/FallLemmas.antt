@@ -10,7 +10,7 @@ use Rattle.span_tables.specs.declared.sides.Direction.TheVariants.{ALong, AShort
 use Rattle.span_tables.specs.declared.sides.MarketSide.{MarketSide}
 use Rattle.span_tables.specs.declared.sides.MarketSide.TheVariants.{Long, Short}
 use Rattle.span_tables.specs.declared.records.Intra.{Intra}
-use Rattle.span_tables.specs.declared.records.MonthLeg.{MonthLeg}
+use Rattle.span_tables.specs.declared.legs.MonthLeg.{MonthLeg}
 use Rattle.spread_stage.specs.Months.{MonthsRise, Shrinks}
 use Rattle.spread_stage.specs.Spreads.{is_in_tier, tier_side, side_before, used_of_month, rests_after_leg, tier_rooms, TierRests}
 use Rattle.spread_stage.specs.Spreads.{spread_one_way, spread_both_ways, after_spreads, unspread}

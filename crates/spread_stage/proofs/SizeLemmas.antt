@@ -12,7 +12,7 @@ use Rattle.span_tables.specs.declared.sides.MarketSide.TheVariants.{Long, Short}
 use Rattle.spread_stage.specs.Deltas.{units_at}
 use Rattle.spread_stage.specs.Spreads.{is_in_tier, tier_side}
 use Rattle.spread_stage.specs.Months.{MonthsRise, total_size, IsPartOf, Shrinks}
-use Rattle.span_tables.specs.declared.records.MonthLeg.{MonthLeg}
+use Rattle.span_tables.specs.declared.legs.MonthLeg.{MonthLeg}
 use Rattle.spread_stage.specs.declared.months.MonthUnits.{MonthUnits}
 
 -- a part is at most the size

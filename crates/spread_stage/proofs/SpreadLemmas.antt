@@ -11,7 +11,7 @@ use Rattle.span_tables.specs.declared.sides.MarketSide.TheVariants.{Long, Short}
 use Rattle.span_tables.specs.Laws.{FitsRooms}
 use Rattle.span_tables.proofs.SpreadLaws.{formed_fit}
 use Rattle.span_tables.specs.declared.records.Intra.{Intra}
-use Rattle.span_tables.specs.declared.records.MonthLeg.{MonthLeg}
+use Rattle.span_tables.specs.declared.legs.MonthLeg.{MonthLeg}
 use Rattle.spread_stage.specs.Months.{MonthsRise, total_size, Shrinks}
 use Rattle.spread_stage.specs.Spreads.{is_in_tier, tier_side, side_before, used_of_month, rests_after_leg, rests_after, tier_rooms}
 use Rattle.spread_stage.specs.Spreads.{TierRests, formed_both, spread_both_ways}

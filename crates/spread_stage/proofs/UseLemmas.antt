@@ -10,7 +10,7 @@ use Rattle.span_tables.specs.declared.sides.MarketSide.{MarketSide}
 use Rattle.spread_stage.specs.Spreads.{is_in_tier, tier_side, used_of_month, rests_after_leg}
 use Rattle.spread_stage.specs.near.Uses.{used_in_turn}
 use Rattle.spread_stage.specs.Months.{MonthsRise}
-use Rattle.span_tables.specs.declared.records.MonthLeg.{MonthLeg}
+use Rattle.span_tables.specs.declared.legs.MonthLeg.{MonthLeg}
 use Rattle.spread_stage.specs.declared.months.MonthUnits.{MonthUnits}
 use Rattle.spread_stage.proofs.SpreadLemmas.{none_used}
 use Rattle.spread_stage.proofs.UseLaws.{side_before_is, side-append, side-cons, weight}

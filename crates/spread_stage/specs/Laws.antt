@@ -2,7 +2,7 @@
 use Rattle.std.specs.Prelude.{◌≡◌, Bool, true, not, ◌||◌, nat_lt, List, [], ◌∷◌, ⊤}
 use Rattle.std.specs.List.{AllByRecursion}
 use Rattle.span_tables.specs.Rules.{same_side}
-use Rattle.span_tables.specs.declared.records.MonthLeg.{MonthLeg}
+use Rattle.span_tables.specs.declared.legs.MonthLeg.{MonthLeg}
 
 -- two legs draw on different rests: they are on different sides, or one's tier ends before the other's begins
 abbrev pub draw_apart : MonthLeg → MonthLeg → Bool

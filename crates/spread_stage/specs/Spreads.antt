@@ -6,7 +6,7 @@ use Rattle.span_tables.specs.declared.sides.Direction.TheVariants.{ALong, AShort
 use Rattle.span_tables.specs.declared.sides.MarketSide.{MarketSide}
 use Rattle.span_tables.specs.declared.sides.SpreadsFormed.{SpreadsFormed}
 use Rattle.spread_stage.specs.declared.months.MonthUnits.{MonthUnits}
-use Rattle.span_tables.specs.declared.records.MonthLeg.{MonthLeg}
+use Rattle.span_tables.specs.declared.legs.MonthLeg.{MonthLeg}
 use Rattle.span_tables.specs.declared.records.Intra.{Intra}
 
 -- the month is one of the leg's tier

@@ -5,7 +5,7 @@ ghost use Rattle.span_money.specs.Numbers.{int_sum_by};
 ghost use Rattle.span_tables.specs.Sides.{market_side};
 ghost use Rattle.span_tables.specs.Net.{HeldContract};
 ghost use Rattle.span_tables.specs.declared.records.Intra.{Intra};
-ghost use Rattle.span_tables.specs.declared.records.MonthLeg.{MonthLeg};
+ghost use Rattle.span_tables.specs.declared.legs.MonthLeg.{MonthLeg};
 ghost use Rattle.span_tables.specs.declared.records.Spot.{Spot};
 ghost use Rattle.span_tables.specs.declared.sides.Direction.{Direction};
 ghost use Rattle.span_tables.specs.declared.sides.MarketSide.{MarketSide};

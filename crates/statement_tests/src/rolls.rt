@@ -1,7 +1,6 @@
 //! Rolls: the bytes of both statements, the thread beside the first batch, and what stays in the book.
 use param_check::faults::BindFault;
 use result_book::books::ResultBook;
-use step_scheduler::rows::Row;
 use sample_files::calendar::{BOTH_STATEMENTS, NEXT, NEXT_WITHOUT_A_CONTRACT, PARAMS, POSITIONS};
 use span_csv::faults::ParamFault;
 use span_tables::name::Name;
@@ -15,6 +14,7 @@ use std::sync::{Arc, Mutex, Wait};
 use std::thread;
 use std::thread::Threads;
 use std::time::Clock;
+use step_scheduler::rows::Row;
 use worker_pool::batch::MAX_WORKERS;
 use worker_pool::gates::{Gate, OpenGate};
 

@@ -8,7 +8,7 @@ use Rattle.span_tables.specs.declared.limits.TheConstants.{SCENARIOS}
 use Rattle.span_tables.specs.declared.records.Inter.{Inter}
 use Rattle.span_tables.specs.declared.records.ProductKind.{ProductKind}
 use Rattle.span_tables.specs.declared.records.ProductKind.TheVariants as product
-use Rattle.span_tables.specs.declared.records.Side.TheVariants as side
+use Rattle.span_tables.specs.declared.sides.Side.TheVariants as side
 use Rattle.inter_credit.specs.Credits.{after_inter_spreads, credit_of, unspread_state}
 use Rattle.inter_credit.specs.declared.commodity_state.CommodityState.{CommodityState}
 

@@ -12,7 +12,8 @@ use crate::check::keys::{Identity, Key, all_keys, name_key};
 use crate::wanted::{Wanted, take_number};
 use indexmap::IndexSet;
 use span_tables::name::Name;
-use span_tables::records::{InterLeg, IntraLeg, Record, Side};
+use span_tables::records::{InterLeg, IntraLeg, Record};
+use span_tables::sides::Side;
 use std::alloc::{AllocError, Global};
 
 /// A rule that a record breaks by itself, or by what it names among the keys of the file.

@@ -3,8 +3,8 @@ use Rattle.std.specs.Prelude.{◌≡◌, ℕ, if◌then◌else◌, List, fold}
 use Rattle.span_tables.specs.Rules.{same_side}
 use Rattle.span_tables.specs.Slots.{with_slot}
 use Rattle.span_tables.specs.declared.records.CommodityLeg.{CommodityLeg}
-use Rattle.span_tables.specs.declared.records.Side.{Side}
-use Rattle.span_tables.specs.declared.records.Side.TheVariants as side
+use Rattle.span_tables.specs.declared.sides.Side.{Side}
+use Rattle.span_tables.specs.declared.sides.Side.TheVariants as side
 
 -- the word with the slots of the commodities of the legs on a side
 abbrev pub slots_on : Side → List CommodityLeg → ℕ

@@ -1,9 +1,9 @@
 -- The months of legs' tiers, in a word for each side of a spread.
 use Rattle.std.specs.Prelude.{◌≡◌, ◌⊎◌, ℕ, ◌≤◌, ◌==◌, ◌||◌, Bool, Contains, List}
 use Rattle.span_tables.specs.Slots.{IsMarked, meets, month_count}
-use Rattle.span_tables.specs.declared.records.MonthLeg.{MonthLeg}
-use Rattle.span_tables.specs.declared.records.Side.{Side}
-use Rattle.span_tables.specs.declared.records.Side.TheVariants as side
+use Rattle.span_tables.specs.declared.legs.MonthLeg.{MonthLeg}
+use Rattle.span_tables.specs.declared.sides.Side.{Side}
+use Rattle.span_tables.specs.declared.sides.Side.TheVariants as side
 
 -- each month from the first to the last is marked
 abbrev pub HasMonths : ℕ → ℕ → ℕ → Type 0

@@ -3,7 +3,7 @@ use Rattle.std.specs.Prelude.{ℕ, [], ◌∷◌, codes, ℤ, pos}
 use Rattle.std.specs.List.{repeat}
 use Rattle.span_tables.specs.near.Samples.{contract}
 use Rattle.span_tables.specs.declared.records.ProductKind.TheVariants as product
-use Rattle.span_tables.specs.declared.records.Side.TheVariants as side
+use Rattle.span_tables.specs.declared.sides.Side.TheVariants as side
 use Rattle.span_tables.specs.declared.records.Contract.{Contract}
 use Rattle.span_tables.specs.Net.{HeldContract}
 use Rattle.span_tables.specs.declared.limits.TheConstants.{MAX_DELTA, MAX_SCALE}

@@ -1,7 +1,7 @@
 use Rattle.std.proofs.Common.{◌≡◌, ◌<◌, ◌*◌, sym, ap, ◌∙◌, subst, arith, List, take, length}
 use Rattle.std.proofs.lemmas.List.Sums.{fold_more}
 use Rattle.span_tables.specs.Sides.{market_side}
-use Rattle.span_tables.specs.declared.records.MonthLeg.{MonthLeg}
+use Rattle.span_tables.specs.declared.legs.MonthLeg.{MonthLeg}
 use Rattle.spread_stage.specs.Months.{MonthsRise, total_size}
 use Rattle.spread_stage.specs.Spreads.{rests_after, rests_after_leg}
 use Rattle.spread_stage.specs.declared.months.MonthUnits.{MonthUnits}

@@ -2,8 +2,8 @@ use Rattle.std.proofs.Common.{◌≡◌, ap, ◌∙◌, ℕ}
 use Rattle.span_tables.specs.Sides.{market_side}
 use Rattle.span_tables.specs.Slots.{has_all, numbers_on}
 use Rattle.span_tables.specs.Spreads.{InterSpread}
-use Rattle.span_tables.specs.declared.records.Side.{Side}
-use Rattle.span_tables.specs.declared.records.Side.TheVariants as side
+use Rattle.span_tables.specs.declared.sides.Side.{Side}
+use Rattle.span_tables.specs.declared.sides.Side.TheVariants as side
 use Rattle.span_tables.specs.near.Legs.{slots_on}
 use Rattle.span_tables.proofs.LegSlots.{legs_marked}
 use Rattle.span_tables.proofs.records.Inter.may_form.Goals as goal

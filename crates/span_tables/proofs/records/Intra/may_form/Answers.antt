@@ -2,9 +2,9 @@ use Rattle.std.proofs.Common.{◌≡◌, ap, ◌∙◌, ℕ, subst, List}
 use Rattle.span_tables.specs.Sides.{market_side}
 use Rattle.span_tables.specs.Slots.{numbers_on}
 use Rattle.span_tables.specs.Spreads.{IntraSpread}
-use Rattle.span_tables.specs.declared.records.MonthLeg.{MonthLeg}
-use Rattle.span_tables.specs.declared.records.Side.{Side}
-use Rattle.span_tables.specs.declared.records.Side.TheVariants as side
+use Rattle.span_tables.specs.declared.legs.MonthLeg.{MonthLeg}
+use Rattle.span_tables.specs.declared.sides.Side.{Side}
+use Rattle.span_tables.specs.declared.sides.Side.TheVariants as side
 use Rattle.span_tables.specs.near.Tiers.{IsOfSide, may_have}
 use Rattle.span_tables.proofs.TierLemmas.{side_marked}
 use Rattle.span_tables.proofs.records.Intra.may_form.Goals as goal
