@@ -7,7 +7,7 @@ ghost use Rattle.explanation.specs.Explanation.{account_text, commodity_lines};
 
 use reasons::stages::{Stages, push_reasons, stages_of};
 use result_book::rows::Row;
-use statement::lines::{ids_of, push_commodity_of, push_total_of};
+use statement_text::lines::{ids_of, push_commodity_of, push_total_of};
 use std::alloc::{AllocError, Global};
 
 // Appends the lines of an account for the commodity of a number, where it holds a contract of it.
