@@ -46,9 +46,9 @@ use Rattle.param_check.proofs.AcceptedLaws.{few_held, fit_of_none}
 use Rattle.param_check.proofs.AccountLaws.{bytes_eq-refl}
 use Rattle.param_check.proofs.PortfolioLaws.{portfolio_holds}
 use Rattle.param_check.proofs.RuleLaws.{rules_kept}
-use Rattle.statement.specs.Statement.{accepted_of, and_then, portfolios_under}
-use Rattle.statement.specs.declared.faults.SpanFault.TheVariants as fault
-use Rattle.statement.proofs.FitLemmas.{bound_fits}
+use Rattle.statement_text.specs.Statement.{accepted_of, and_then, portfolios_under}
+use Rattle.statement_text.specs.declared.faults.SpanFault.TheVariants as fault
+use Rattle.acceptance.proofs.FitLemmas.{bound_fits}
 use Rattle.reasons.specs.Laws.{AreAccepted}
 use Rattle.explanation.proofs.ReadLemmas.{IsAbove}
 

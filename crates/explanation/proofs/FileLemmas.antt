@@ -8,10 +8,10 @@ use Rattle.span_csv.specs.PositionFaults.{positions_of}
 use Rattle.span_tables.specs.Net.{AccountHoldings}
 use Rattle.span_tables.specs.Tables.{AcceptedTables}
 use Rattle.span_tables.specs.declared.records.PositionRecord.{PositionRecord}
-use Rattle.statement.specs.Statement.{accepted_of, portfolios_under, same, statement_bound, statement_of, statement_under}
-use Rattle.statement.specs.declared.faults.SpanFault.{SpanFault}
-use Rattle.statement.specs.declared.faults.SpanFault.TheVariants as fault
-use Rattle.statement.proofs.FaultLemmas.{fault_stays}
+use Rattle.statement_text.specs.Statement.{accepted_of, portfolios_under, same, statement_bound, statement_of, statement_under}
+use Rattle.statement_text.specs.declared.faults.SpanFault.{SpanFault}
+use Rattle.statement_text.specs.declared.faults.SpanFault.TheVariants as fault
+use Rattle.statement_text.proofs.FaultLemmas.{fault_stays}
 use Rattle.explanation.specs.Explanation.{account_lines, account_text, explained, explanation_of, named_text}
 
 module _ (params positions : List ℕ) (account : Option (List ℕ)) where

@@ -25,7 +25,7 @@ use Rattle.reasons.proofs.AcceptedLaws.{figures_are_small, total_is_small, value
 use Rattle.reasons.proofs.FieldLaws.{sum_same, whole_read, wholes_read}
 use Rattle.reasons.proofs.TotalLaws.{no_requirement, none_held}
 use Rattle.reasons.proofs.WordLaws.{no_lines}
-use Rattle.statement.specs.Statement.{figures_line, total_line, total_numbers, total_of}
+use Rattle.statement_text.specs.Statement.{figures_line, total_line, total_numbers, total_of}
 use Rattle.explanation.specs.Explanation.{commodity_lines, reason_line}
 use Rattle.explanation.specs.Laws.{behind_ids}
 

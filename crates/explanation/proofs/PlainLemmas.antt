@@ -22,7 +22,7 @@ use Rattle.plan_ir.specs.declared.figures.Figures.{Figures}
 use Rattle.reasons.specs.Reasons.{credit_reason, credit_reasons, held_reason, held_reasons, inter_reason, inters_shown_at, intra_reason}
 use Rattle.reasons.specs.Reasons.{intras_shown_at, kind_letter, long_side, method_word, month_reason, month_reasons, months_shown_at}
 use Rattle.reasons.specs.Reasons.{reasons_of, scan_reasons, short_reason, spot_reason, spots_shown_at, state_after_all}
-use Rattle.statement.specs.Statement.{figures_line, total_line, total_numbers, total_of}
+use Rattle.statement_text.specs.Statement.{figures_line, total_line, total_numbers, total_of}
 use Rattle.explanation.specs.Explanation.{account_lines, commodity_lines, reason_line}
 use Rattle.explanation.proofs.AcceptedLemmas.{AreNamed, held_above}
 use Rattle.explanation.proofs.ReadLemmas.{IsAbove, IsPlain, decimal_above, exact_above, signed_above}

@@ -17,11 +17,11 @@ use Rattle.plan_ir.specs.Figures.{commodity_at, figures_of, held_at, is_commodit
 use Rattle.reasons.specs.Reasons.{credit_reasons, held_reason, held_reasons, inter_reason, inters_shown_at, intra_reason}
 use Rattle.reasons.specs.Reasons.{intras_shown_at, month_reason, month_reasons, months_shown_at, reasons_of, scan_reasons}
 use Rattle.reasons.specs.Reasons.{credit_reason, state_after_all, short_reason, spot_reason, spots_shown_at}
-use Rattle.statement.specs.Statement.{accepted_of, and_then, commodity_text, figures_line, portfolios_under}
-use Rattle.statement.specs.Statement.{row_text, same, statement_bound, statement_of, statement_text, statement_under, total_line}
-use Rattle.statement.specs.Statement.{total_numbers, total_of}
-use Rattle.statement.specs.declared.faults.SpanFault.{SpanFault}
-use Rattle.statement.specs.declared.faults.SpanFault.TheVariants as fault
+use Rattle.statement_text.specs.Statement.{accepted_of, and_then, commodity_text, figures_line, portfolios_under, row_text, same}
+use Rattle.statement_text.specs.Statement.{statement_bound, statement_of, statement_text, statement_under, total_line, total_numbers}
+use Rattle.statement_text.specs.Statement.{total_of}
+use Rattle.statement_text.specs.declared.faults.SpanFault.{SpanFault}
+use Rattle.statement_text.specs.declared.faults.SpanFault.TheVariants as fault
 use Rattle.explanation.specs.Explanation.{account_lines, account_text, commodity_lines, explanation_of, reason_line}
 use Rattle.explanation.specs.Laws.{is_of_statement, lines_read}
 use Rattle.explanation.proofs.AcceptedLemmas.{accounts_named, tables_read}

@@ -7,10 +7,9 @@ use Rattle.span_csv.specs.PositionFaults.{positions_of}
 use Rattle.span_tables.specs.Net.{AccountHoldings}
 use Rattle.span_tables.specs.Tables.{AcceptedTables}
 use Rattle.plan_ir.specs.Figures.{commodity_at, figures_of, is_commodity_held, option_value_of}
-use Rattle.statement.specs.Statement.{accepted_of, and_then, figures_line, portfolios_under, same, total_line, total_numbers}
-use Rattle.statement.specs.Statement.{total_of}
-use Rattle.statement.specs.declared.faults.SpanFault.{SpanFault}
-use Rattle.statement.specs.declared.faults.SpanFault.TheVariants as fault
+use Rattle.statement_text.specs.Statement.{accepted_of, and_then, figures_line, portfolios_under, same, total_line, total_numbers, total_of}
+use Rattle.statement_text.specs.declared.faults.SpanFault.{SpanFault}
+use Rattle.statement_text.specs.declared.faults.SpanFault.TheVariants as fault
 use Rattle.reasons.specs.Reasons.{reasons_of}
 
 -- ---- the lines of an account

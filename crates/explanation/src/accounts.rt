@@ -6,7 +6,7 @@ ghost use Rattle.reasons.specs.near.Stages.{stages_of};
 ghost use Rattle.explanation.specs.Explanation.{account_text, commodity_lines};
 
 use reasons::stages::{Stages, push_reasons, stages_of};
-use statement::lines::{ids_of, push_commodity_of, push_total_of};
+use statement_text::lines::{ids_of, push_commodity_of, push_total_of};
 use std::alloc::{AllocError, Global};
 use step_scheduler::rows::Row;
 

@@ -13,9 +13,9 @@ ghost use Rattle.span_csv.specs.PositionFaults.{positions_of};
 ghost use Rattle.span_tables.specs.Net.{AccountHoldings};
 ghost use Rattle.span_tables.specs.Tables.{AcceptedTables, facts_in};
 ghost use Rattle.span_tables.specs.declared.records.PositionRecord.{PositionRecord};
-ghost use Rattle.statement.specs.Statement.{accepted_of, portfolios_under, row_text, statement_of, total_of};
-ghost use Rattle.statement.specs.declared.faults.SpanFault.{SpanFault};
-ghost use Rattle.statement.specs.declared.faults.SpanFault.TheVariants as fault;
+ghost use Rattle.statement_text.specs.Statement.{accepted_of, portfolios_under, row_text, statement_of, total_of};
+ghost use Rattle.statement_text.specs.declared.faults.SpanFault.{SpanFault};
+ghost use Rattle.statement_text.specs.declared.faults.SpanFault.TheVariants as fault;
 ghost use Rattle.std.specs.Prelude.{[], ◌++◌, ◌<◌, ◌≡◌, ◌∷◌, All, Err, List, None, Ok, Option, Some, bytes_eq, codes, filter, find};
 ghost use Rattle.std.specs.Prelude.{flat_map, length, map, pos, true, ℕ};
 

@@ -2,8 +2,8 @@
 #![tactic(auto, unfolding(crate::specs::near::OnLiterals::on_literals))]
 
 ghost use Rattle.explanation.specs.Explanation.{explanation_of};
-ghost use Rattle.statement.specs.declared.faults.SpanFault.TheVariants as fault;
-ghost use Rattle.statement.specs.near.Samples.{ca, fa, one_future, spread_and_spot, two_commodities};
+ghost use Rattle.statement_text.specs.declared.faults.SpanFault.TheVariants as fault;
+ghost use Rattle.statement_text.specs.near.Samples.{ca, fa, one_future, spread_and_spot, two_commodities};
 ghost use Rattle.std.specs.Prelude.{◌++◌, ◌≡◌, Err, None, Ok, Some, codes};
 
 // A spread between two months forms twice, and uses two of the three deltas of a spot month.

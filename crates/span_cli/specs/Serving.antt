@@ -5,11 +5,11 @@ use Rattle.explanation.specs.Explanation.{explanation_of}
 use Rattle.statement.specs.AllFaults.{faults_of, faults_status, faults_text}
 use Rattle.statement.specs.Counts.{counts_of}
 use Rattle.statement.specs.Listing.{listing_of}
-use Rattle.statement.specs.FaultLines.{fault_line, fault_status, memory_line}
+use Rattle.statement_text.specs.FaultLines.{fault_line, fault_status, memory_line}
 use Rattle.statement.specs.Rolls.{GivesRoll}
-use Rattle.statement.specs.Statement.{margin_of}
-use Rattle.statement.specs.declared.faults.SpanFault.{SpanFault}
-use Rattle.statement.specs.declared.statuses.TheConstants.{DONE, FILE_FAILED, OUT_OF_MEMORY}
+use Rattle.statement.specs.Margin.{margin_of}
+use Rattle.statement_text.specs.declared.faults.SpanFault.{SpanFault}
+use Rattle.statement_text.specs.declared.statuses.TheConstants.{DONE, FILE_FAILED, OUT_OF_MEMORY}
 use Rattle.whatif.specs.Whatif.{whatif_of}
 use Rattle.span_cli.specs.Sources.{File}
 use Rattle.span_cli.specs.declared.sources.ReadFault.{ReadFault}

@@ -3,8 +3,8 @@ use Rattle.std.specs.Prelude.{◌≡◌, ◌⊎◌, ℕ, Bool, true, List, [], �
 use Rattle.clap.specs.Words.{Kinds}
 use Rattle.clap.specs.declared.error.kind.ErrorKind.{ErrorKind}
 use Rattle.clap.specs.declared.error.kind.ErrorKind.TheVariants as kind
-use Rattle.statement.specs.Streams.{Says, Stream}
-use Rattle.statement.specs.declared.statuses.TheConstants.{FILE_FAILED, USAGE}
+use Rattle.statement_text.specs.Streams.{Says, Stream}
+use Rattle.statement_text.specs.declared.statuses.TheConstants.{FILE_FAILED, USAGE}
 use Rattle.span_cli.specs.Serving.{Answer, Asked, IsAnswer, done, file_line, memory, refused}
 use Rattle.span_cli.specs.Sources.{File}
 

@@ -5,7 +5,7 @@ ghost use Rattle.span_cli.specs.Telling.{Serves, Tells};
 ghost use Rattle.span_cli.specs.near.Refusals.{Loads, LoadsAll, MayGive, Runs, given_answer, refusal_line, refusal_status};
 ghost use Rattle.span_cli.specs.declared.serving.Refusal.TheVariants as refusal;
 ghost use Rattle.statement.specs.AllFaults.{faults_of};
-ghost use Rattle.statement.specs.Streams.{Says};
+ghost use Rattle.statement_text.specs.Streams.{Says};
 ghost use Rattle.std.specs.Prelude.{◌≡◌, ◌≤◌, IfOk, IfSome, List, Some, false, is_ok, length, map, option_map, ℕ};
 
 use crate::sources::{ReadFault, Sources};
@@ -15,13 +15,13 @@ use result_book::books::ResultBook;
 use span_tables::name::Name;
 use statement::all_faults::{faults, faults_status, faults_text};
 use statement::counts::check_plain;
-use statement::fault_lines::tell_fault;
-use statement::faults::{SpanFault, status};
 use statement::margin::margin;
-use statement::marked_writer::MarkedWriter;
 use statement::plans::plan_plain;
 use statement::roll::roll;
-use statement::statuses::{DONE, FILE_FAILED};
+use statement_text::fault_lines::tell_fault;
+use statement_text::faults::{SpanFault, status};
+use statement_text::marked_writer::MarkedWriter;
+use statement_text::statuses::{DONE, FILE_FAILED};
 use std::alloc::{AllocError, Global};
 use std::io::Write;
 use std::sync::{Mutex, Wait};
@@ -180,7 +180,7 @@ fn load_all<'a, S: Sources>(
 
 // What a request is lent: a runtime, an allocator, and the gate that workers pass.
 #[derive(Drop)]
-pub(crate) struct Lent<'a, R, G: Gate> {
+pub(crate) struct ServingMeans<'a, R, G: Gate> {
     pub(crate) rt: &'a R,
     pub(crate) alloc: Global,
     pub(crate) gate: &'a G,
@@ -214,7 +214,7 @@ fn faults_told(alloc: Global, params: &[u8], positions: Option<&[u8]>) -> Result
 
 // What a roll of these bytes gives. The book of its two batches is a new one, which nobody reads.
 fn rolled<R: Threads + Wait + Clock + Sync, G: Gate>(
-    lent: &Lent<'_, R, G>,
+    lent: &ServingMeans<'_, R, G>,
     params: &[u8],
     next: &[u8],
     positions: &[u8],
@@ -230,7 +230,7 @@ fn rolled<R: Threads + Wait + Clock + Sync, G: Gate>(
 
 // What a request gives of the bytes of its files.
 fn answer<R: Threads + Wait + Clock + Sync, G: Gate>(
-    lent: &Lent<'_, R, G>,
+    lent: &ServingMeans<'_, R, G>,
     request: &Request<'_>,
     files: &[Vec<u8>],
 ) -> Result<Given, SpanFault>
@@ -268,7 +268,7 @@ fn answer<R: Threads + Wait + Clock + Sync, G: Gate>(
 
 // What a request gives.
 fn run<'a, S: Sources, R: Threads + Wait + Clock + Sync, G: Gate>(
-    lent: &Lent<'_, R, G>,
+    lent: &ServingMeans<'_, R, G>,
     request: &Request<'a>,
     sources: &mut S,
 ) -> Result<Given, Refusal<'a>>
@@ -347,7 +347,7 @@ pub fn serve<S: Sources, W: Write, E: Write, R: Threads + Wait + Clock + Sync, G
     ensures answer { Serves (S.file sources.old) (asked_by request.entry) result out.old out.new err.old err.new }
     ensures reads { ReadsAsked S.reads sources.old (Some (asked_by request.entry)) sources.new }
 {
-    let lent = Lent { rt, alloc, gate };
+    let lent = ServingMeans { rt, alloc, gate };
     match run(&lent, &request, sources) {
         Ok(given) => give(given, out, err),
         Err(refusal) => refuse(refusal, err),

@@ -9,22 +9,22 @@ ghost use Rattle.span_cli.specs.Words.{account_in, account_rule, app_without_com
 ghost use Rattle.span_cli.specs.Words.{is_request, joined_words, kinds_of, number_in, request_in, span_app};
 ghost use Rattle.span_cli.specs.Words.{with_commands, with_rules, workers_in, workers_rule};
 ghost use Rattle.span_cli.specs.near.Rows.{file_rule_of, option_rule, row_app};
-ghost use Rattle.statement.specs.Streams.{Says};
-ghost use Rattle.statement.specs.FaultLines.{memory_line};
+ghost use Rattle.statement_text.specs.Streams.{Says};
+ghost use Rattle.statement_text.specs.FaultLines.{memory_line};
 ghost use Rattle.std.specs.IoError.{error_kind};
 ghost use Rattle.std.specs.declared.io.ErrorKind.TheVariants as kind;
 ghost use Rattle.std.specs.Prelude.{◌≡◌, ◌≢◌, ◌⊎◌, IfErr, IfOk, Some, codes, false, map, option_and_then, option_map, true};
 
 use crate::joining::join_words;
 use crate::outputs::{ErrorStream, OutputStream};
-use crate::serving::{Lent, Request, serve};
+use crate::serving::{Request, ServingMeans, serve};
 use crate::sources::Sources;
 use clap::builder::ValueParser;
 use clap::error::ErrorKind;
 use clap::{Arg, ArgMatches, Command, Error};
 use span_tables::name::Name;
-use statement::marked_writer::MarkedWriter;
-use statement::statuses::{DONE, FILE_FAILED, OUT_OF_MEMORY, USAGE};
+use statement_text::marked_writer::MarkedWriter;
+use statement_text::statuses::{DONE, FILE_FAILED, OUT_OF_MEMORY, USAGE};
 use std::alloc::{AllocError, Global};
 use std::convert::AsStr;
 use std::io;
@@ -523,7 +523,7 @@ fn answer_words<
     R: Threads + Wait + Clock + Sync,
     G: Gate,
 >(
-    lent: &Lent<'_, R, G>,
+    lent: &ServingMeans<'_, R, G>,
     words: &[T],
     sources: &mut S,
     out: &mut MarkedWriter<W>,
@@ -575,7 +575,7 @@ pub fn run_words<
     ensures reads { ReadsAsked S.reads sources.old (request_in (joined_words (map T.text words.now))) sources.new
         ⊎ ((sources.new ≡ sources.old) × Tells memory result out.old out.new err.old err.new) }
 {
-    let lent = Lent { rt, alloc, gate };
+    let lent = ServingMeans { rt, alloc, gate };
     match join_words(alloc, words) {
         Ok(joined) => answer_words(&lent, &joined, sources, out, err),
         Err(error) => refuse(Error::from(error), out, err),

@@ -23,10 +23,10 @@ use Rattle.span_tables.specs.declared.records.PositionRecord.{PositionRecord}
 use Rattle.span_tables.specs.declared.records.Record.{Record}
 use Rattle.statement.specs.AllFaults.{broken_rules, faults_of, faults_of_params, faults_of_positions, is_of_positions}
 use Rattle.statement.specs.AllFaults.{is_of_reading_positions, unbound_positions, unread_params, unread_positions}
-use Rattle.statement.specs.Statement.{accepted_of, and_then, portfolios_under, same, statement_bound, statement_of, statement_text}
-use Rattle.statement.specs.Statement.{statement_under}
-use Rattle.statement.specs.declared.faults.SpanFault.{SpanFault}
-use Rattle.statement.specs.declared.faults.SpanFault.TheVariants as fault
+use Rattle.statement_text.specs.Statement.{accepted_of, and_then, portfolios_under, same, statement_bound, statement_of, statement_text}
+use Rattle.statement_text.specs.Statement.{statement_under}
+use Rattle.statement_text.specs.declared.faults.SpanFault.{SpanFault}
+use Rattle.statement_text.specs.declared.faults.SpanFault.TheVariants as fault
 
 -- ---- faults of a stage, and what it says where it has none
 

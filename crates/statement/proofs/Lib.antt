@@ -1,8 +1,3 @@
-pub mod BindingLemmas
-pub mod AccountLemmas
 pub mod AllFaultLemmas
-pub mod FitLemmas
-pub mod OutcomeLemmas
 pub mod RollLemmas
-pub mod FaultLemmas
-pub mod ProfileLemmas
+pub mod BatchRowLemmas

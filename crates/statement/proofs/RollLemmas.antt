@@ -9,21 +9,20 @@ use Rattle.plan_compiler.specs.Compiled.{SetView}
 use Rattle.plan_shelf.specs.Publications.{IsLast}
 use Rattle.span_tables.specs.Tables.{AcceptedTables}
 use Rattle.span_tables.specs.declared.records.PositionRecord.{PositionRecord}
-use Rattle.statement.specs.Gives.{is_memory}
+use Rattle.statement_text.specs.Gives.{is_memory}
 use Rattle.result_book.specs.declared.books.BookFault.{BookFault}
 use Rattle.result_book.specs.declared.books.BookFault.TheVariants as book
 use Rattle.span_tables.specs.Net.{AccountHoldings}
-use Rattle.statement.specs.Rolls.{GivesRoll, Refuses, RefusesRoll, is_ok, roll_of}
-use Rattle.statement.specs.near.SpanFaults.{of_book}
-use Rattle.statement.specs.Rolls.{of_next_set}
-use Rattle.statement.specs.Statement.{accepted_of, and_then, margin_of, portfolios_under, same}
-use Rattle.statement.specs.Statement.{statement_bound, statement_of, statement_text, statement_under}
-use Rattle.statement.specs.near.Seconds.{IsPublished, RefusesNext, RefusesSecond, RefusesUnder, Rolls, RollsUnder}
-use Rattle.statement.specs.near.Seconds.{second_of}
-use Rattle.statement.specs.declared.faults.SpanFault.{SpanFault}
-use Rattle.statement.specs.declared.faults.SpanFault.TheVariants as fault
-use Rattle.statement.proofs.FaultLemmas.{accepted_of_files, bound_of_files, each_of_files, is_of_files, portfolios_of_files}
-use Rattle.statement.proofs.FaultLemmas.{statement_of_files}
+use Rattle.statement.specs.Rolls.{GivesRoll, Refuses, RefusesRoll, is_ok, roll_of, of_next_set}
+use Rattle.statement_text.specs.near.SpanFaults.{of_book}
+use Rattle.statement_text.specs.Statement.{accepted_of, and_then, portfolios_under, same, statement_bound, statement_of, statement_text}
+use Rattle.statement_text.specs.Statement.{statement_under}
+use Rattle.statement.specs.Margin.{margin_of}
+use Rattle.statement.specs.near.Seconds.{IsPublished, RefusesNext, RefusesSecond, RefusesUnder, Rolls, RollsUnder, second_of}
+use Rattle.statement_text.specs.declared.faults.SpanFault.{SpanFault}
+use Rattle.statement_text.specs.declared.faults.SpanFault.TheVariants as fault
+use Rattle.statement_text.proofs.FaultLemmas.{accepted_of_files, bound_of_files, each_of_files, is_of_files, portfolios_of_files}
+use Rattle.statement_text.proofs.FaultLemmas.{statement_of_files}
 
 -- ---- what refuses
 

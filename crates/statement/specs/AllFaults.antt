@@ -8,11 +8,11 @@ use Rattle.param_check.specs.CheckFaults.{check_faults}
 use Rattle.span_tables.specs.Tables.{AcceptedTables}
 use Rattle.span_tables.specs.declared.records.PositionRecord.{PositionRecord}
 use Rattle.span_tables.specs.declared.records.Record.{Record}
-use Rattle.statement.specs.FaultLines.{fault_line, fault_status}
-use Rattle.statement.specs.Statement.{accepted_of}
-use Rattle.statement.specs.declared.faults.SpanFault.{SpanFault}
-use Rattle.statement.specs.declared.faults.SpanFault.TheVariants as fault
-use Rattle.statement.specs.declared.statuses.TheConstants.{DONE}
+use Rattle.statement_text.specs.FaultLines.{fault_line, fault_status}
+use Rattle.statement_text.specs.Statement.{accepted_of}
+use Rattle.statement_text.specs.declared.faults.SpanFault.{SpanFault}
+use Rattle.statement_text.specs.declared.faults.SpanFault.TheVariants as fault
+use Rattle.statement_text.specs.declared.statuses.TheConstants.{DONE}
 
 -- ---- the parameters
 

@@ -2,8 +2,8 @@
 use Rattle.std.specs.Prelude.{ℕ, List, [], ◌∷◌, codes, decimal, length, Result, Ok}
 use Rattle.span_money.specs.LineFields.{Line, line}
 use Rattle.span_tables.specs.Tables.{AcceptedTables}
-use Rattle.statement.specs.Statement.{accepted_of, and_then, same}
-use Rattle.statement.specs.declared.faults.SpanFault.{SpanFault}
+use Rattle.statement_text.specs.Statement.{accepted_of, and_then, same}
+use Rattle.statement_text.specs.declared.faults.SpanFault.{SpanFault}
 
 -- the line of accepted tables: the id of the set, and how many records of each kind they have
 unfoldable pub counts_line : AcceptedTables → Line

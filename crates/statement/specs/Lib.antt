@@ -1,9 +1,6 @@
 pub mod AllFaults
-pub mod Gives
 pub mod Counts
 pub mod Listing
-pub mod FaultLines
 pub mod Rolls
-pub mod Statement
-pub mod Streams
 pub mod near
+pub mod Margin

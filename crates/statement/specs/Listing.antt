@@ -2,8 +2,8 @@
 use Rattle.std.specs.Prelude.{ℕ, List, Result, Ok}
 use Rattle.plan_ir.specs.Listing.{plan_text}
 use Rattle.plan_compiler.specs.Places.{plan_of}
-use Rattle.statement.specs.Statement.{accepted_of, and_then, same}
-use Rattle.statement.specs.declared.faults.SpanFault.{SpanFault}
+use Rattle.statement_text.specs.Statement.{accepted_of, and_then, same}
+use Rattle.statement_text.specs.declared.faults.SpanFault.{SpanFault}
 
 -- the text of the plan of a parameter file, or the first fault: in reading it, in checking it
 unfoldable pub listing_of : List ℕ → Result (List ℕ) SpanFault

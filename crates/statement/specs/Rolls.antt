@@ -1,10 +1,11 @@
 -- What a roll answers: two statements for the same positions, under a set and under the next.
 use Rattle.std.specs.Prelude.{◌≡◌, ⊤, ℕ, List, ◌++◌, ◌&&◌, Bool, true, false, Result, Ok, Err}
 use Rattle.result_book.specs.declared.books.BookFault.TheVariants as book
-use Rattle.statement.specs.Gives.{is_memory}
-use Rattle.statement.specs.Statement.{accepted_of, and_then, margin_of, same, statement_of}
-use Rattle.statement.specs.declared.faults.SpanFault.{SpanFault}
-use Rattle.statement.specs.declared.faults.SpanFault.TheVariants as fault
+use Rattle.statement_text.specs.Gives.{is_memory}
+use Rattle.statement_text.specs.Statement.{accepted_of, and_then, same, statement_of}
+use Rattle.statement.specs.Margin.{margin_of}
+use Rattle.statement_text.specs.declared.faults.SpanFault.{SpanFault}
+use Rattle.statement_text.specs.declared.faults.SpanFault.TheVariants as fault
 
 -- a fault that arises under the next set has a name of its own
 abbrev pub of_next_set : SpanFault → SpanFault

@@ -1,9 +1,4 @@
--- What no promise's words stand on: forms near to the code, what types keep, samples.
-pub mod Accepting
-pub mod Batches
-pub mod LineParts
+-- What no promise's words stand on: forms near to the code, what types keep.
 pub mod OnLiterals
-pub mod Rows
-pub mod Samples
 pub mod Seconds
-pub mod SpanFaults
+pub mod InBook

@@ -3,15 +3,12 @@ ghost use Rattle.param_check.specs.CheckFaults.{checked};
 ghost use Rattle.span_csv.specs.ParamFaults as param;
 ghost use Rattle.span_csv.specs.PositionFaults as position;
 ghost use Rattle.span_csv.specs.PositionFaults.{positions_of};
-ghost use Rattle.statement.specs.AllFaults.{broken_rules, faults_of, faults_of_params, faults_status, faults_text};
-ghost use Rattle.statement.specs.AllFaults.{unbound_positions, unread_params, unread_positions};
-ghost use Rattle.statement.specs.Statement.{accepted_of};
+ghost use Rattle.statement.specs.AllFaults.{broken_rules, faults_of, faults_of_params, faults_status, faults_text, unbound_positions};
+ghost use Rattle.statement.specs.AllFaults.{unread_params, unread_positions};
+ghost use Rattle.statement_text.specs.Statement.{accepted_of};
 ghost use Rattle.std.specs.Prelude.{◌≡◌, ◌++◌, IfOk, option_map};
 ghost use Rattle.std.specs.Result.{result_ok};
 
-use crate::fault_lines::write_fault;
-use crate::faults::{SpanFault, status};
-use crate::statuses::DONE;
 use param_check::binding::bind_faults;
 use param_check::check::{check, check_faults};
 use span_csv::faults::{ParamFault, PositionFault};
@@ -19,6 +16,9 @@ use span_csv::params::{param_faults, read_params};
 use span_csv::positions::{position_faults, read_positions};
 use span_tables::raw::{RawPositions, RawTables};
 use span_tables::tables::Tables;
+use statement_text::fault_lines::write_fault;
+use statement_text::faults::{SpanFault, status};
+use statement_text::statuses::DONE;
 use std::alloc::{AllocError, Global};
 
 // Whether a parameter file is not read for want of memory.
@@ -100,7 +100,7 @@ fn judge_records(alloc: Global, records: RawTables) -> Result<JudgedParams, Allo
 }
 
 // What a parameter file says, if it is accepted, and all its faults. A file that is accepted is read once.
-#[tactic(auto, unfolding(crate::specs::AllFaults::faults_of_params, crate::specs::Statement::accepted_of))]
+#[tactic(auto, unfolding(crate::specs::AllFaults::faults_of_params, statement_text::specs::Statement::accepted_of))]
 fn judge_params(alloc: Global, params: &[u8]) -> Result<JudgedParams, AllocError>
     ensures tables { IfOk result (λ judged. judged.tables ≡ result_ok (accepted_of params.now)) }
     ensures faults { IfOk result (λ judged. judged.faults.items ≡ faults_of_params params.now) }

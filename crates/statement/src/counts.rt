@@ -1,13 +1,13 @@
 //! What is said of a parameter file by itself.
 ghost use Rattle.span_money.specs.LineFields.{line};
-ghost use Rattle.statement.specs.Gives.{Gives};
+ghost use Rattle.statement_text.specs.Gives.{Gives};
 ghost use Rattle.statement.specs.Counts.{counts_line, counts_of};
 ghost use Rattle.std.specs.Prelude.{◌≡◌, IfOk};
 
-use crate::accepting::tables_of;
-use crate::faults::SpanFault;
+use acceptance::accepting::tables_of;
 use span_money::line_fields::{Field, push_line_of_numbers};
 use span_tables::tables::Tables;
+use statement_text::faults::SpanFault;
 use std::alloc::{AllocError, Global};
 
 /// The line of accepted tables: `OK`, the id of the set, and how many commodities, contracts, tiers, intracommodity

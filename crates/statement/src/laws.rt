@@ -1,91 +1,27 @@
 //! Laws of the definitions, in the formats' own words: each is the contract of a function that does nothing.
 #![tactic(auto, unfolding(crate::specs::near::OnLiterals::on_literals))]
 
-ghost use Rattle.param_check.specs.Binding.{bindings_of};
-ghost use Rattle.param_check.specs.CheckFaults.{checked};
-ghost use Rattle.param_check.specs.declared.faults.BindFault.{BindFault};
-ghost use Rattle.param_check.specs.declared.faults.CheckFault.{CheckFault};
-ghost use Rattle.span_csv.specs.ParamFaults.{params_of};
-ghost use Rattle.span_csv.specs.PositionFaults.{position_faults, positions_of};
-ghost use Rattle.span_csv.specs.declared.faults.ParamFault.{ParamFault};
-ghost use Rattle.span_csv.specs.declared.faults.PositionFault.{PositionFault};
-ghost use Rattle.plan_ir.specs.Figures.{option_value_of, value_to};
-ghost use Rattle.span_money.specs.LineFields.{line};
+ghost use Rattle.span_csv.specs.PositionFaults.{position_faults};
 ghost use Rattle.span_tables.specs.Faults.{first_of};
-ghost use Rattle.span_tables.specs.Net.{AccountHoldings};
-ghost use Rattle.span_tables.specs.Rules.{contracts_in};
-ghost use Rattle.span_tables.specs.Tables.{AcceptedTables, profile_in};
-ghost use Rattle.span_tables.specs.declared.portfolios.Holding.{Holding};
-ghost use Rattle.span_tables.specs.declared.records.PositionRecord.{PositionRecord};
-ghost use Rattle.span_tables.specs.declared.records.Record.{Record};
 ghost use Rattle.statement.specs.AllFaults.{faults_of, is_of_positions, is_of_reading_positions};
-ghost use Rattle.statement.specs.Gives.{is_memory};
-ghost use Rattle.statement.specs.FaultLines.{fault_line, fault_status, memory_line};
-ghost use Rattle.statement.specs.Rolls.{roll_of};
-ghost use Rattle.statement.specs.Rolls.{of_next_set};
-ghost use Rattle.statement.specs.Statement.{accepted_of, commodity_text, margin_of, row_text, statement_of, statement_text};
-ghost use Rattle.statement.specs.Statement.{statement_under, total_line, total_numbers, total_of};
-ghost use Rattle.statement.specs.declared.faults.SpanFault.{SpanFault};
-ghost use Rattle.statement.specs.declared.faults.SpanFault.TheVariants as fault;
-ghost use Rattle.std.specs.Prelude.{◌++◌, ◌≡◌, ◌<◌, ◌≤◌, ◌↔◌, ◌∷◌, All, Err, List, None, Ok, Some, [], filter, flat_map, is_ok};
-ghost use Rattle.std.specs.Prelude.{length, map, nat_eq, pos, true, ℕ, ℤ, ◌+ℤ◌, ◌-ℤ◌};
-ghost use Rattle.std.specs.List.{before_first, range_with_len};
+ghost use Rattle.statement.specs.Rolls.{roll_of, of_next_set};
+ghost use Rattle.statement_text.specs.Statement.{accepted_of, statement_of};
+ghost use Rattle.statement.specs.Margin.{margin_of};
+ghost use Rattle.statement_text.specs.declared.faults.SpanFault.{SpanFault};
+ghost use Rattle.statement_text.specs.declared.faults.SpanFault.TheVariants as fault;
+ghost use Rattle.std.specs.Prelude.{◌++◌, ◌≡◌, ◌<◌, ◌≤◌, ◌↔◌, Err, List, None, Ok, Some, [], filter, is_ok};
+ghost use Rattle.std.specs.Prelude.{map, true, ℕ};
+ghost use Rattle.std.specs.List.{before_first};
 ghost use Rattle.std.specs.Result.{result_err};
 
-use inter_credit::laws::due_and_excess_settle_the_value;
-
-/// An account's lines are those of the commodities of which it holds a contract, and end with the line of its total.
-#[tactic(auto, unfolding(crate::specs::Statement::row_text))]
-pub fn lines_end_with_the_total()
-    ensures { (t : AcceptedTables) (p : AccountHoldings) → row_text t p
-        ≡ flat_map (commodity_text t p) (range_with_len 0 (length t.commodities))
-        ++ line (total_line p.account t.set_id (total_numbers t (total_of t p) (option_value_of t p.holdings))) }
-{}
-
-/// If a T line has an option value, its total is the value, more by what is due and less by what is in excess (docs/FORMATS.md, Statement).
-#[tactic(auto, unfolding(crate::specs::Statement::total_numbers))]
-pub fn a_total_line_settles_the_value()
-    ensures { (t : AcceptedTables) (total value due excess : ℤ)
-        → total_numbers t total value ≡ total ∷ value ∷ due ∷ excess ∷ [] → total ≡ (value +ℤ due) -ℤ excess }
-{
-    due_and_excess_settle_the_value();
-}
-
-/// No accounts give no bytes, and neither does an empty position file; the lines of some accounts do not depend on the
-/// others, and stand in the order of the accounts.
-pub fn accounts_stand_by_themselves()
-    ensures none { (tables : AcceptedTables) → statement_text tables [] ≡ [] }
-    ensures no_positions { (tables : AcceptedTables) → statement_under tables [] ≡ Ok [] }
-    ensures one { (tables : AcceptedTables) (p : AccountHoldings) → statement_text tables (p ∷ []) ≡ row_text tables p }
-    ensures in_order { (tables : AcceptedTables) (ps qs : List AccountHoldings)
-        → statement_text tables (ps ++ qs) ≡ statement_text tables ps ++ statement_text tables qs }
-{}
-
-/// The fault is that of reading the parameters; else of checking them; else of reading the positions; else of binding
-/// them. Where there is none, the answer is the statement.
-pub fn faults_come_in_order()
-    ensures params { (params positions : List ℕ) (e : ParamFault) → params_of params ≡ Err e
-        → statement_of params positions ≡ Err (fault.Params e) }
-    ensures check { (params positions : List ℕ) (records : List Record) (e : CheckFault)
-        → params_of params ≡ Ok records → checked records ≡ Err e
-        → statement_of params positions ≡ Err (fault.Check e) }
-    ensures positions { (params positions : List ℕ) (records : List Record) (tables : AcceptedTables) (e : PositionFault)
-        → params_of params ≡ Ok records → checked records ≡ Ok tables → positions_of positions ≡ Err e
-        → statement_of params positions ≡ Err (fault.Positions e) }
-    ensures bind { (params positions : List ℕ) (records : List Record) (tables : AcceptedTables)
-        (held : List PositionRecord) (e : BindFault)
-        → params_of params ≡ Ok records → checked records ≡ Ok tables → positions_of positions ≡ Ok held
-        → bindings_of tables.contracts held ≡ Err e → statement_of params positions ≡ Err (fault.Bind e) }
-    ensures statement { (params positions : List ℕ) (records : List Record) (tables : AcceptedTables)
-        (held : List PositionRecord) (accounts : List AccountHoldings)
-        → params_of params ≡ Ok records → checked records ≡ Ok tables → positions_of positions ≡ Ok held
-        → bindings_of tables.contracts held ≡ Ok accounts
-        → statement_of params positions ≡ Ok (statement_text tables accounts) }
-{}
+pub use statement_text::laws::{
+    a_total_line_settles_the_value, accounts_stand_by_themselves, faults_come_in_order,
+    lines_end_with_the_total, profile_1_has_no_option_values, want_of_memory_is_told_apart,
+};
 
 /// A number of workers that is 0 or over 16 is refused, whatever the files hold; on any other the statement, or the fault, is
 /// that of the two files.
-#[tactic(auto, unfolding(crate::specs::Statement::margin_of))]
+#[tactic(auto, unfolding(crate::specs::Margin::margin_of))]
 pub fn workers_change_nothing()
     ensures none { (params positions : List ℕ) → margin_of 0 params positions ≡ Err fault.Workers }
     ensures many { (workers : ℕ) (params positions : List ℕ) → 16 < workers
@@ -106,12 +42,6 @@ pub fn a_roll_is_two_statements()
     ensures both { (workers : ℕ) (params next positions first second : List ℕ)
         → margin_of workers params positions ≡ Ok first → statement_of next positions ≡ Ok second
         → roll_of workers params next positions ≡ Ok (first ++ second) }
-{}
-
-/// Want of memory has one line and one status, wherever it arises; and no other fault has that status.
-pub fn want_of_memory_is_told_apart()
-    ensures line { (e : SpanFault) → is_memory e ≡ true → fault_line e ≡ memory_line }
-    ensures status { (e : SpanFault) → nat_eq (fault_status e) 5 ≡ is_memory e }
 {}
 
 /// The list of all faults is empty exactly where the files are accepted, and else its first is the fault that they are refused for; so
@@ -137,15 +67,4 @@ pub fn positions_are_read_beside_every_parameter_file()
         ≡ map fault.Positions (position_faults positions) }
     ensures every { (params others positions : List ℕ) → filter is_of_reading_positions (faults_of params (Some positions))
         ≡ filter is_of_reading_positions (faults_of others (Some positions)) }
-{}
-
-/// Under profile 1 no option has a value: each contract's is 0, in the records of a file that is read and in the tables of one that is
-/// accepted; so their sum over what is held is 0, whatever that is.
-pub fn profile_1_has_no_option_values()
-    ensures read { (params : List ℕ) (records : List Record) → params_of params ≡ Ok records → profile_in records ≡ 1
-        → All (λ x. x.extras.option_value ≡ 0) (contracts_in records) }
-    ensures accepted { (params : List ℕ) (tables : AcceptedTables) → accepted_of params ≡ Ok tables → tables.profile ≡ 1
-        → All (λ x. x.extras.option_value ≡ 0) tables.contracts }
-    ensures sum { (params : List ℕ) (tables : AcceptedTables) (holdings : List Holding)
-        → accepted_of params ≡ Ok tables → tables.profile ≡ 1 → value_to tables holdings (length tables.commodities) ≡ pos 0 }
 {}

@@ -1,18 +1,20 @@
 //! From the bytes of both files to the bytes of a statement.
-ghost use Rattle.statement.specs.Gives.{Gives};
-ghost use Rattle.statement.specs.Statement.{margin_of, statement_of};
+ghost use Rattle.statement_text.specs.Gives.{Gives};
+ghost use Rattle.statement.specs.Margin.{margin_of};
+ghost use Rattle.statement_text.specs.Statement.{statement_of};
 ghost use Rattle.std.specs.Prelude.{◌≡◌, ◌<◌, ◌⊎◌, ◌↔◌, Err};
-ghost use Rattle.statement.specs.declared.faults.SpanFault.TheVariants as fault;
+ghost use Rattle.statement_text.specs.declared.faults.SpanFault.TheVariants as fault;
 
-use crate::accepting::{Accepted, accept, accept_together};
-use crate::batches::{rows_alone, rows_together, text_of, text_together};
-use crate::faults::SpanFault;
+use crate::batches::{text_of, text_together};
+use acceptance::accepting::{Accepted, accept, accept_together};
+use statement_text::faults::SpanFault;
 use std::alloc::Global;
 use std::sync::Wait;
 use std::thread::Threads;
 use std::time::Clock;
 use worker_pool::batch::MAX_WORKERS;
 use worker_pool::gates::Gate;
+use worker_teams::rows::{rows_alone, rows_together};
 
 /// The statement of two files, or the first fault in reading the parameters, checking them, reading the positions and
 /// binding them; or want of memory (docs/METHOD.md has the figures, docs/FORMATS.md the faults).
@@ -33,7 +35,7 @@ pub fn margin_plain(alloc: Global, params: &[u8], positions: &[u8]) -> Result<Ve
 /// fault, of [`margin_plain`]; or want of memory.
 ///
 /// A number of workers that is 0 or over 16 is refused before anything else. The workers pass the gate before each step.
-#[tactic(auto, unfolding(crate::specs::Statement::margin_of))]
+#[tactic(auto, unfolding(crate::specs::Margin::margin_of))]
 pub fn margin<R: Threads + Wait + Clock + Sync, G: Gate>(
     rt: &R,
     alloc: Global,

@@ -1,11 +1,11 @@
 //! The compiled plan of a parameter file, as text (docs/FORMATS.md, "Plan listing").
-ghost use Rattle.statement.specs.Gives.{Gives};
+ghost use Rattle.statement_text.specs.Gives.{Gives};
 ghost use Rattle.statement.specs.Listing.{listing_of};
 
-use crate::accepting::tables_of;
-use crate::faults::SpanFault;
+use acceptance::accepting::tables_of;
 use plan_compiler::set::compile;
 use plan_ir::listing::list;
+use statement_text::faults::SpanFault;
 use std::alloc::Global;
 
 /// The steps of the plan of a parameter file, a line each, or the first fault in reading it and checking it; or want

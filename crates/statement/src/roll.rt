@@ -5,22 +5,19 @@ ghost use Rattle.result_book.specs.Books.{HasNoAccountTwice};
 ghost use Rattle.result_book.specs.declared.books.BookFault.TheVariants as book_fault;
 ghost use Rattle.span_tables.specs.Net.{AccountHoldings};
 ghost use Rattle.span_tables.specs.declared.records.PositionRecord.{PositionRecord};
-ghost use Rattle.statement.specs.near.Accepting.{IsBound};
+ghost use Rattle.acceptance.specs.near.Accepting.{IsBound, AreOnce};
 ghost use Rattle.worker_pool.specs.Batches.{AllFit};
-ghost use Rattle.statement.specs.near.Batches.{AreOnce, rows_of_accounts};
-ghost use Rattle.statement.specs.Rolls.{GivesRoll};
-ghost use Rattle.statement.specs.Statement.{accepted_of, portfolios_under, statement_text};
-ghost use Rattle.statement.specs.declared.faults.SpanFault.TheVariants as fault;
-ghost use Rattle.statement.specs.near.Seconds.{IsPublished, RefusesNext, RefusesSecond, RefusesUnder, Rolls};
-ghost use Rattle.statement.specs.near.Seconds.{RollsUnder};
+ghost use Rattle.worker_teams.specs.near.OutcomeRows.{rows_of_accounts};
+ghost use Rattle.statement.specs.Rolls.{GivesRoll, of_next_set};
+ghost use Rattle.statement_text.specs.Statement.{accepted_of, portfolios_under, statement_text};
+ghost use Rattle.statement_text.specs.declared.faults.SpanFault.TheVariants as fault;
+ghost use Rattle.statement.specs.near.Seconds.{IsPublished, RefusesNext, RefusesSecond, RefusesUnder, Rolls, RollsUnder};
 ghost use Rattle.std.specs.Arc.{arc_value};
 ghost use Rattle.std.specs.Prelude.{◌≡◌, ◌<◌, ◌∷◌, ◌⊎◌, ◌↔◌, [], Err, IfErr, IfOk, IfSome, List, Ok, Some};
 ghost use Rattle.std.specs.Prelude.{OnOk, length, map};
 
-use crate::accepting::{Accepted, accept_together, portfolios_together, set_of};
-use crate::batches::rows_together;
-use crate::faults::SpanFault;
 use crate::in_book::put_in_book;
+use acceptance::accepting::{Accepted, accept_together, portfolios_together, set_of};
 use plan_compiler::set::CompiledSet;
 use plan_shelf::history::{History, ShelfName};
 use plan_shelf::publishers::{Publisher, Told};
@@ -29,6 +26,7 @@ use plan_shelf::shelves::shelf;
 use result_book::books::ResultBook;
 use span_tables::portfolios::Portfolios;
 use span_tables::raw::RawPositions;
+use statement_text::faults::SpanFault;
 use std::alloc::{AllocError, Global};
 use std::marker::Brand;
 use std::sync::{Arc, Mutex, Wait};
@@ -38,10 +36,11 @@ use std::time::Clock;
 use step_scheduler::rows::Row;
 use worker_pool::batch::MAX_WORKERS;
 use worker_pool::gates::Gate;
+use worker_teams::rows::rows_together;
 
 // What a roll is lent: a runtime, an allocator, so many workers, the gate that they pass, and the book for the rows.
 #[derive(Drop)]
-struct Lent<'a, R, G: Gate> {
+struct RollMeans<'a, R, G: Gate> {
     rt: &'a R,
     alloc: Global,
     workers: usize,
@@ -52,6 +51,18 @@ struct Lent<'a, R, G: Gate> {
 // The number of the next set's publication on the shelf of a roll. That of the first set is 1.
 const NEXT_SET: u64 = 2;
 
+// A fault of reading, checking or binding, under the name that it has where it arises under the next set.
+fn of_next_set(fault: SpanFault) -> SpanFault
+    ensures { result ≡ of_next_set fault }
+{
+    match fault {
+        SpanFault::Params(fault) => SpanFault::NextParams(fault),
+        SpanFault::Check(fault) => SpanFault::NextCheck(fault),
+        SpanFault::Bind(fault) => SpanFault::NextBind(fault),
+        fault => fault,
+    }
+}
+
 // The compiled set of the next parameters, or their first fault under the name that it has there.
 fn next_set(alloc: Global, next: &[u8]) -> Result<Arc<CompiledSet>, SpanFault>
     ensures set { IfOk result (λ set. accepted_of next.now ≡ Ok (arc_value set).tables) }
@@ -59,7 +70,7 @@ fn next_set(alloc: Global, next: &[u8]) -> Result<Arc<CompiledSet>, SpanFault>
 {
     match set_of(alloc, next) {
         Ok(set) => Ok(set),
-        Err(fault) => Err(fault.of_next_set()),
+        Err(fault) => Err(of_next_set(fault)),
     }
 }
 
@@ -82,7 +93,7 @@ fn publish_next<S: ShelfName, R: Wait, G: Gate>(
 // The rows of the first batch, computed here, and beside it the next set in a thread. Where no thread is started the two are
 // done one after the other.
 fn first_rows_and_next_set<S: ShelfName + Send + Sync, R: Threads + Wait + Clock + Sync, G: Gate>(
-    lent: &Lent<'_, R, G>,
+    lent: &RollMeans<'_, R, G>,
     publisher: &mut Publisher<S, &R>,
     set: &Arc<CompiledSet>,
     portfolios: Portfolios,
@@ -96,7 +107,7 @@ fn first_rows_and_next_set<S: ShelfName + Send + Sync, R: Threads + Wait + Clock
     ensures told { IfOk result.1 (λ told. IsPublished next.now publisher.old told) }
     ensures fault { IfErr result.1 (λ e. RefusesNext next.now e) }
 {
-    let Lent {
+    let RollMeans {
         rt,
         alloc,
         workers,
@@ -144,7 +155,7 @@ fn second_set<S: ShelfName, R: Wait>(
 
 // The portfolios of positions under the next set, or their fault under the name that it has there.
 fn portfolios_of_next<R: Threads + Sync, G: Gate>(
-    lent: &Lent<'_, R, G>,
+    lent: &RollMeans<'_, R, G>,
     set: &Arc<CompiledSet>,
     positions: &RawPositions,
 ) -> Result<Portfolios, SpanFault>
@@ -156,13 +167,13 @@ fn portfolios_of_next<R: Threads + Sync, G: Gate>(
 {
     match portfolios_together(lent.rt, lent.alloc, set, positions, lent.workers) {
         Ok(portfolios) => Ok(portfolios),
-        Err(fault) => Err(fault.of_next_set()),
+        Err(fault) => Err(of_next_set(fault)),
     }
 }
 
 // Margins the positions under the next set, puts the rows in the book and appends their statement.
 fn second_statement<R: Threads + Wait + Clock + Sync, G: Gate>(
-    lent: &Lent<'_, R, G>,
+    lent: &RollMeans<'_, R, G>,
     set: &Arc<CompiledSet>,
     positions: &RawPositions,
     out: &mut Vec<u8>,
@@ -237,7 +248,7 @@ fn first_statement_and_next_set<
     R: Threads + Wait + Clock + Sync,
     G: Gate,
 >(
-    lent: &Lent<'_, R, G>,
+    lent: &RollMeans<'_, R, G>,
     publisher: &mut Publisher<S, &R>,
     set: &Arc<CompiledSet>,
     portfolios: Portfolios,
@@ -256,7 +267,7 @@ fn first_statement_and_next_set<
 
 // The roll on a shelf whose only publication is the set of the first statement.
 fn roll_on_shelf<S: ShelfName + Send + Sync, R: Threads + Wait + Clock + Sync, G: Gate>(
-    lent: &Lent<'_, R, G>,
+    lent: &RollMeans<'_, R, G>,
     publisher: &mut Publisher<S, &R>,
     reader: Reader<S>,
     today: Accepted,
@@ -281,7 +292,7 @@ fn roll_on_shelf<S: ShelfName + Send + Sync, R: Threads + Wait + Clock + Sync, G
 
 // The roll on a shelf of its own, which the type `S` names. No type in the signature of `roll` does.
 fn roll_named<S: ShelfName + Send + Sync, R: Threads + Wait + Clock + Sync, G: Gate>(
-    lent: &Lent<'_, R, G>,
+    lent: &RollMeans<'_, R, G>,
     history: History,
     today: Accepted,
     next: &[u8],
@@ -323,7 +334,7 @@ pub fn roll<R: Threads + Wait + Clock + Sync, G: Gate>(
         return Err(SpanFault::Workers);
     }
     let today = accept_together(rt, alloc, params, positions, workers)?;
-    let lent = Lent {
+    let lent = RollMeans {
         rt,
         alloc,
         workers,

@@ -10,7 +10,7 @@ use Rattle.span_tables.specs.Tables.{AcceptedTables}
 use Rattle.param_check.specs.OrderBinding.{TriedOrder, TriedOrders}
 use Rattle.plan_compiler.specs.Compiled.{SetView}
 use Rattle.step_scheduler.specs.Rows.{RowView}
-use Rattle.statement.specs.near.Batches.{rows_of_accounts}
+use Rattle.worker_teams.specs.near.OutcomeRows.{rows_of_accounts}
 use Rattle.whatif.specs.Whatif.{order_text, whatif_text}
 use Rattle.whatif.specs.near.Numbers.{no_order, order_at}
 use Rattle.whatif.specs.near.Orders.{orders_text}

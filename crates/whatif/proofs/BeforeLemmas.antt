@@ -10,7 +10,7 @@ use Rattle.span_tables.specs.declared.portfolios.Holding.{Holding}
 use Rattle.param_check.specs.OrderBinding.{TriedOrders}
 use Rattle.plan_compiler.specs.Compiled.{SetView}
 use Rattle.step_scheduler.specs.Rows.{RowView}
-use Rattle.statement.specs.near.Batches.{rows_of_accounts}
+use Rattle.worker_teams.specs.near.OutcomeRows.{rows_of_accounts}
 use Rattle.whatif.specs.near.Befores.{AreBefores, AreMargined, AreSlots, HasSlot}
 use Rattle.whatif.specs.near.Numbers.{AreNumbers, AreOfRow, order_at}
 use Rattle.whatif.specs.declared.befores.Befores.{Befores}

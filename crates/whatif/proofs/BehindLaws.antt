@@ -40,8 +40,8 @@ use Rattle.param_check.proofs.OrderLaws.{among_within}
 use Rattle.param_check.proofs.PortfolioLaws.{portfolio_holds}
 use Rattle.param_check.proofs.RuleLaws.{rules_kept}
 use Rattle.param_check.proofs.TriedLaws.{accepted_holds, after_by_positions}
-use Rattle.statement.specs.Statement.{accepted_of, and_then, portfolios_under}
-use Rattle.statement.specs.declared.faults.SpanFault.TheVariants as fault
+use Rattle.statement_text.specs.Statement.{accepted_of, and_then, portfolios_under}
+use Rattle.statement_text.specs.declared.faults.SpanFault.TheVariants as fault
 use Rattle.whatif.proofs.AccountLaws.{same_nets}
 
 -- ---- what outcomes without a fault say

@@ -13,7 +13,7 @@ use Rattle.span_tables.specs.Tables.{AcceptedTables}
 use Rattle.inter_credit.specs.OptionValue.{due_of}
 use Rattle.param_check.specs.OrderBinding.{TriedOrder}
 use Rattle.plan_ir.specs.Figures.{figures_of, option_value_of, total_to}
-use Rattle.statement.specs.Statement.{total_of}
+use Rattle.statement_text.specs.Statement.{total_of}
 use Rattle.whatif.specs.Whatif.{change_line, changed_by, due_at, order_line, order_text, requirement_at}
 
 int_eq_refl : (x : ℤ) → int_eq x x ≡ true

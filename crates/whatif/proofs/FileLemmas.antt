@@ -18,11 +18,11 @@ use Rattle.span_tables.specs.declared.records.PositionRecord.{PositionRecord}
 use Rattle.param_check.specs.OrderBinding.{TriedOrder, TriedOrders, holdings_before, order_bind_fault, orders_bound, tried_order}
 use Rattle.param_check.specs.declared.faults.OrderBindFault.{OrderBindFault}
 use Rattle.worker_pool.specs.declared.batch.TheConstants.{MAX_WORKERS}
-use Rattle.statement.specs.Gives.{Gives, is_memory}
-use Rattle.statement.specs.Statement.{accepted_of, and_then, portfolios_under, same, statement_bound, statement_of, statement_under}
-use Rattle.statement.specs.declared.faults.SpanFault.{SpanFault}
-use Rattle.statement.specs.declared.faults.SpanFault.TheVariants as fault
-use Rattle.statement.proofs.FaultLemmas.{fault_stays}
+use Rattle.statement_text.specs.Gives.{Gives, is_memory}
+use Rattle.statement_text.specs.Statement.{accepted_of, and_then, portfolios_under, same, statement_bound, statement_of, statement_under}
+use Rattle.statement_text.specs.declared.faults.SpanFault.{SpanFault}
+use Rattle.statement_text.specs.declared.faults.SpanFault.TheVariants as fault
+use Rattle.statement_text.proofs.FaultLemmas.{fault_stays}
 use Rattle.whatif.specs.Whatif.{tried_of, tried_on, whatif_of}
 
 -- ---- orders that are bound

@@ -11,7 +11,7 @@ use Rattle.span_tables.specs.Tables.{AcceptedTables, facts_in}
 use Rattle.inter_credit.specs.OptionValue.{due_of}
 use Rattle.plan_ir.specs.Figures.{figures_of, held_at, is_commodity_held, net_value_at, option_value_of, total_to, value_to}
 use Rattle.step_scheduler.proofs.NothingLemmas.{figures_of_nothing, no_value}
-use Rattle.statement.specs.Statement.{total_of}
+use Rattle.statement_text.specs.Statement.{total_of}
 use Rattle.whatif.specs.Whatif.{due_at, requirement_at}
 
 -- a sum of nothing but 0

@@ -12,9 +12,9 @@ use Rattle.span_tables.specs.Tables.{AcceptedTables, facts_in}
 use Rattle.param_check.specs.OrderBinding.{TriedOrder, orders_bound}
 use Rattle.inter_credit.specs.OptionValue.{due_of}
 use Rattle.plan_ir.specs.Figures.{commodity_at, figures_of, option_value_of}
-use Rattle.statement.specs.Statement.{accepted_of, and_then, portfolios_under, same, total_of}
-use Rattle.statement.specs.declared.faults.SpanFault.{SpanFault}
-use Rattle.statement.specs.declared.faults.SpanFault.TheVariants as fault
+use Rattle.statement_text.specs.Statement.{accepted_of, and_then, portfolios_under, same, total_of}
+use Rattle.statement_text.specs.declared.faults.SpanFault.{SpanFault}
+use Rattle.statement_text.specs.declared.faults.SpanFault.TheVariants as fault
 use Rattle.worker_pool.specs.declared.batch.TheConstants.{MAX_WORKERS}
 
 -- ---- the lines of an order

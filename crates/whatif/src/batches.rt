@@ -1,7 +1,7 @@
 //! Orders in batches, each on its account (docs/FORMATS.md, "Orders tried").
 ghost use Rattle.std.specs.Arc.{arc_value};
 ghost use Rattle.std.specs.Prelude.{◌≡◌, ◌++◌, ◌+◌, ◌-◌, ◌≤◌, IfOk, OnOk, drop, length, map, take};
-ghost use Rattle.statement.specs.near.Batches.{rows_of_accounts};
+ghost use Rattle.worker_teams.specs.near.OutcomeRows.{rows_of_accounts};
 ghost use Rattle.worker_pool.specs.Batches.{AllFit};
 ghost use Rattle.whatif.specs.Whatif.{whatif_text};
 ghost use Rattle.whatif.specs.near.Befores.{AreBefores};
@@ -12,20 +12,20 @@ use crate::lines::Trial;
 use param_check::orders::Orders;
 use plan_compiler::set::CompiledSet;
 use span_tables::portfolios::{Portfolio, Portfolios};
-use statement::batches::rows_together;
 use std::alloc::{AllocError, Global};
 use std::sync::{Arc, Wait};
 use std::thread::Threads;
 use std::time::Clock;
 use step_scheduler::rows::Row;
 use worker_pool::gates::Gate;
+use worker_teams::rows::rows_together;
 
 /// How many portfolios a batch has, at most.
 pub(crate) const MOST_AT_ONCE: usize = 512;
 
 /// What batches are lent: a runtime, an allocator, the set, so many workers and the gate that they pass.
 #[derive(Drop)]
-pub(crate) struct Lent<'a, R, G: Gate> {
+pub(crate) struct BatchMeans<'a, R, G: Gate> {
     pub(crate) rt: &'a R,
     pub(crate) alloc: Global,
     pub(crate) set: &'a Arc<CompiledSet>,
@@ -35,7 +35,7 @@ pub(crate) struct Lent<'a, R, G: Gate> {
 
 /// The rows of portfolios, in their order.
 pub(crate) fn rows_of<R: Threads + Wait + Clock + Sync, G: Gate>(
-    lent: &Lent<'_, R, G>,
+    lent: &BatchMeans<'_, R, G>,
     portfolios: Vec<Portfolio>,
 ) -> Result<Vec<Arc<Row>>, AllocError>
     requires { AllFit (arc_value lent.now.set.now) portfolios.items }
@@ -79,7 +79,7 @@ fn push_orders(
 
 // Appends the lines of the orders from one number up to another: their accounts are margined with them, in one batch.
 fn push_batch<R: Threads + Wait + Clock + Sync, G: Gate>(
-    lent: &Lent<'_, R, G>,
+    lent: &BatchMeans<'_, R, G>,
     out: &mut Vec<u8>,
     orders: &Orders,
     befores: &Befores,
@@ -101,7 +101,7 @@ fn push_batch<R: Threads + Wait + Clock + Sync, G: Gate>(
 /// What orders would do, in their order. Besides the text and the orders, the rows of one batch are in memory, and the numbers of
 /// each account before the orders.
 pub(crate) fn text_of<R: Threads + Wait + Clock + Sync, G: Gate>(
-    lent: &Lent<'_, R, G>,
+    lent: &BatchMeans<'_, R, G>,
     orders: &Orders,
 ) -> Result<Vec<u8>, AllocError>
     requires portfolios { AllFit (arc_value lent.now.set.now) orders.now.portfolios }

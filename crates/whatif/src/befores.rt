@@ -1,13 +1,13 @@
 //! What the accounts of orders are margined at before these, each account once.
 ghost use Rattle.std.specs.Arc.{arc_value};
 ghost use Rattle.std.specs.Prelude.{◌≡◌, ◌<◌, IfOk, OnOk, Some, [], length, slice_get, slice_index_or, vec_len};
-ghost use Rattle.statement.specs.near.Batches.{rows_of_accounts};
+ghost use Rattle.worker_teams.specs.near.OutcomeRows.{rows_of_accounts};
 ghost use Rattle.std.specs.List.{AllZip};
 ghost use Rattle.worker_pool.specs.Batches.{AllFit};
 ghost use Rattle.whatif.specs.near.Befores.{AreBefores, AreKept, AreSlots, AllKeepFit, HasSlot, IsChoice, IsMarked};
 ghost use Rattle.whatif.specs.near.Numbers.{AreOfRow, order_at};
 
-use crate::batches::{Lent, MOST_AT_ONCE, rows_of};
+use crate::batches::{BatchMeans, MOST_AT_ONCE, rows_of};
 use crate::numbers::{Numbers, all_numbers};
 use param_check::orders::Orders;
 use span_tables::name::Name;
@@ -140,7 +140,7 @@ fn choose(alloc: Global, orders: &Orders) -> Result<Chosen, AllocError>
 
 // The numbers of portfolios, whose rows are dropped.
 fn margined<R: Threads + Wait + Clock + Sync, G: Gate>(
-    lent: &Lent<'_, R, G>,
+    lent: &BatchMeans<'_, R, G>,
     portfolios: Vec<Portfolio>,
 ) -> Result<Vec<Numbers>, AllocError>
     requires { AllFit (arc_value lent.now.set.now) portfolios.items }
@@ -152,7 +152,7 @@ fn margined<R: Threads + Wait + Clock + Sync, G: Gate>(
 
 // The numbers of portfolios, which are margined in batches.
 fn all_margined<R: Threads + Wait + Clock + Sync, G: Gate>(
-    lent: &Lent<'_, R, G>,
+    lent: &BatchMeans<'_, R, G>,
     portfolios: Vec<Portfolio>,
 ) -> Result<Vec<Numbers>, AllocError>
     requires { AllFit (arc_value lent.now.set.now) portfolios.items }
@@ -170,7 +170,7 @@ fn all_margined<R: Threads + Wait + Clock + Sync, G: Gate>(
 
 /// What the accounts of orders are margined at before these: each portfolio that some order is tried on is margined once.
 pub(crate) fn befores_of<R: Threads + Wait + Clock + Sync, G: Gate>(
-    lent: &Lent<'_, R, G>,
+    lent: &BatchMeans<'_, R, G>,
     orders: &Orders,
 ) -> Result<Befores, AllocError>
     requires { AllFit (arc_value lent.now.set.now) orders.now.portfolios }

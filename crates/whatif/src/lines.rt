@@ -12,7 +12,7 @@ use span_money::amounts::Money;
 use span_money::line_fields::{Field, push_line_of_numbers};
 use span_tables::name::Name;
 use span_tables::tables::Tables;
-use statement::lines::due;
+use statement_text::lines::due;
 use std::alloc::AllocError;
 use std::marker::Model;
 use step_scheduler::rows::Row;

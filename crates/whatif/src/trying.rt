@@ -1,19 +1,19 @@
 //! From the bytes of three files to what the orders of the last would do (docs/FORMATS.md, "Orders tried").
 ghost use Rattle.param_check.specs.OrderBinding.{TriedOrders};
-ghost use Rattle.statement.specs.Gives.{Gives};
-ghost use Rattle.statement.specs.declared.faults.SpanFault.TheVariants as fault;
+ghost use Rattle.statement_text.specs.Gives.{Gives};
+ghost use Rattle.statement_text.specs.declared.faults.SpanFault.TheVariants as fault;
 ghost use Rattle.std.specs.Arc.{arc_value};
 ghost use Rattle.std.specs.Prelude.{◌≡◌, ◌<◌, ◌⊎◌, ◌↔◌, Err, IfOk};
 ghost use Rattle.whatif.specs.Whatif.{tried_on, whatif_of, whatif_text};
 ghost use Rattle.whatif.specs.near.Orders.{OrdersFit};
 
-use crate::batches::{Lent, text_of};
+use crate::batches::{BatchMeans, text_of};
+use acceptance::accepting::{Accepted, accept_together};
 use param_check::orders::{Orders, bind_orders};
 use plan_compiler::set::CompiledSet;
 use span_csv::orders::read_orders;
 use span_tables::portfolios::Portfolios;
-use statement::accepting::{Accepted, accept_together};
-use statement::faults::SpanFault;
+use statement_text::faults::SpanFault;
 use std::alloc::Global;
 use std::sync::{Arc, Wait};
 use std::thread::Threads;
@@ -65,7 +65,7 @@ pub fn whatif<R: Threads + Wait + Clock + Sync, G: Gate>(
         ..
     } = accept_together(rt, alloc, params, positions, workers)?;
     let orders = orders_on(alloc, &set, portfolios, orders)?;
-    let lent = Lent {
+    let lent = BatchMeans {
         rt,
         alloc,
         set: &set,

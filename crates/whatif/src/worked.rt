@@ -3,8 +3,8 @@
 
 ghost use Rattle.param_check.specs.declared.faults.OrderBindFault.TheVariants as bind;
 ghost use Rattle.span_csv.specs.declared.faults.OrderFault.TheVariants as reading;
-ghost use Rattle.statement.specs.declared.faults.SpanFault.TheVariants as fault;
-ghost use Rattle.statement.specs.near.Samples.{ca, fa, one_future, two_commodities};
+ghost use Rattle.statement_text.specs.declared.faults.SpanFault.TheVariants as fault;
+ghost use Rattle.statement_text.specs.near.Samples.{ca, fa, one_future, two_commodities};
 ghost use Rattle.std.specs.Prelude.{◌++◌, ◌≡◌, Err, Ok, [], codes};
 ghost use Rattle.whatif.specs.Whatif.{tried_of, whatif_of};
 

@@ -4,5 +4,6 @@
 mod crews;
 mod cuts;
 pub mod laws;
+pub mod rows;
 pub mod teams;
 mod worked;

@@ -2,7 +2,7 @@
 use Rattle.std.specs.Prelude.{⊤}
 use Rattle.span_money.specs.ExactDecimals.{exact_decimal}
 use Rattle.reasons.specs.Reasons.{reasons_of}
-use Rattle.statement.specs.near.OnLiterals.{on_literals as statement_on_literals}
+use Rattle.statement_text.specs.near.OnLiterals.{on_literals as statement_on_literals}
 use Rattle.explanation.specs.Explanation.{account_text, explanation_of}
 
 -- all words that computing on literals unfolds

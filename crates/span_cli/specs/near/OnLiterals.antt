@@ -7,11 +7,12 @@ use Rattle.clap.specs.Walk.{bundle_met, walked}
 use Rattle.plan_ir.specs.Listing.{plan_text}
 use Rattle.plan_compiler.specs.Places.{plan_of}
 use Rattle.statement.specs.Listing.{listing_of}
+use Rattle.statement.specs.near.OnLiterals.{on_literals as statement_on_literals}
 use Rattle.whatif.specs.near.OnLiterals.{on_literals as whatif_on_literals}
 use Rattle.span_cli.specs.Words.{form_kinds, is_request, joined, kinds_of}
 
 -- all words that computing on literals unfolds
 unfoldable pub on_literals : ⊤
-unfolding whatif_on_literals defaults_fault flags_fault walk_fault bundle_met walked chars encode_utf8
+unfolding whatif_on_literals statement_on_literals defaults_fault flags_fault walk_fault bundle_met walked chars encode_utf8
     is_request kinds_of form_kinds joined plan_text plan_of listing_of
 on_literals = tt

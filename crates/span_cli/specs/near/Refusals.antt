@@ -1,9 +1,9 @@
 -- What is said of a refusal inside the library.
 use Rattle.std.specs.Prelude.{◌≡◌, ◌⊎◌, ℕ, List, [], ◌++◌, Some, None, Result, Ok, Err}
-use Rattle.statement.specs.FaultLines.{fault_line, fault_status}
-use Rattle.statement.specs.declared.faults.SpanFault.{SpanFault}
-use Rattle.statement.specs.declared.faults.SpanFault.TheVariants as fault
-use Rattle.statement.specs.declared.statuses.TheConstants.{FILE_FAILED}
+use Rattle.statement_text.specs.FaultLines.{fault_line, fault_status}
+use Rattle.statement_text.specs.declared.faults.SpanFault.{SpanFault}
+use Rattle.statement_text.specs.declared.faults.SpanFault.TheVariants as fault
+use Rattle.statement_text.specs.declared.statuses.TheConstants.{FILE_FAILED}
 use Rattle.span_cli.specs.Serving.{Answer, Found, answer_of, file_line, refused}
 use Rattle.span_cli.specs.Sources.{File}
 use Rattle.span_cli.specs.declared.serving.Given.{Given}

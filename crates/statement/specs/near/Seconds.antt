@@ -3,10 +3,9 @@ use Rattle.std.specs.Prelude.{◌≡◌, ℕ, List, [], ◌∷◌, ◌++◌, tru
 use Rattle.span_tables.specs.Tables.{AcceptedTables}
 use Rattle.span_tables.specs.declared.records.PositionRecord.{PositionRecord}
 use Rattle.plan_compiler.specs.Compiled.{SetView}
-use Rattle.statement.specs.Rolls.{Refuses, is_ok}
-use Rattle.statement.specs.Rolls.{of_next_set}
-use Rattle.statement.specs.Statement.{accepted_of, and_then, same, statement_bound}
-use Rattle.statement.specs.declared.faults.SpanFault.{SpanFault}
+use Rattle.statement.specs.Rolls.{Refuses, is_ok, of_next_set}
+use Rattle.statement_text.specs.Statement.{accepted_of, and_then, same, statement_bound}
+use Rattle.statement_text.specs.declared.faults.SpanFault.{SpanFault}
 
 -- the statement of position records under the next parameters, or the first fault, under the name that it has there
 unfoldable pub second_of : List ℕ → List PositionRecord → Result (List ℕ) SpanFault

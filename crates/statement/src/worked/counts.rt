@@ -4,8 +4,8 @@
 ghost use Rattle.param_check.specs.declared.faults.CheckFault.TheVariants as check;
 ghost use Rattle.span_csv.specs.declared.faults.ParamFault.TheVariants as params;
 ghost use Rattle.statement.specs.Counts.{counts_of};
-ghost use Rattle.statement.specs.near.Samples.{commodity, fa, one_commodity, set_d1};
-ghost use Rattle.statement.specs.declared.faults.SpanFault.TheVariants as span_fault;
+ghost use Rattle.statement_text.specs.near.Samples.{commodity, fa, one_commodity, set_d1};
+ghost use Rattle.statement_text.specs.declared.faults.SpanFault.TheVariants as span_fault;
 ghost use Rattle.std.specs.Prelude.{◌++◌, ◌≡◌, Err, Ok, codes};
 
 // A set alone.

@@ -7,9 +7,9 @@ ghost use Rattle.param_check.specs.declared.faults.CheckFault.TheVariants as che
 ghost use Rattle.span_csv.specs.declared.faults.ParamFault.TheVariants as params;
 ghost use Rattle.span_csv.specs.declared.faults.PositionFault.TheVariants as positions;
 ghost use Rattle.statement.specs.Rolls.{roll_of};
-ghost use Rattle.statement.specs.near.Samples.{commodity, long_of_x, long_with_value, one_future, short_of_x};
-ghost use Rattle.statement.specs.near.Samples.{short_under_d2, spread_and_spot, spreads_of_x, spreads_under_d2};
-ghost use Rattle.statement.specs.declared.faults.SpanFault.TheVariants as span_fault;
+ghost use Rattle.statement_text.specs.near.Samples.{commodity, long_of_x, long_with_value, one_future, short_of_x, short_under_d2};
+ghost use Rattle.statement_text.specs.near.Samples.{spread_and_spot, spreads_of_x, spreads_under_d2};
+ghost use Rattle.statement_text.specs.declared.faults.SpanFault.TheVariants as span_fault;
 
 // A short future, which loses more under the next set.
 fn two_statements()

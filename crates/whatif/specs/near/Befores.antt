@@ -7,7 +7,7 @@ use Rattle.span_tables.specs.Tables.{AcceptedTables}
 use Rattle.span_tables.specs.declared.portfolios.Holding.{Holding}
 use Rattle.param_check.specs.OrderBinding.{TriedOrders}
 use Rattle.plan_compiler.specs.Compiled.{SetView}
-use Rattle.statement.specs.near.Batches.{rows_of_accounts}
+use Rattle.worker_teams.specs.near.OutcomeRows.{rows_of_accounts}
 use Rattle.whatif.specs.near.Numbers.{AreNumbers, AreOfRow, order_at}
 use Rattle.whatif.specs.declared.befores.Befores.{Befores}
 use Rattle.whatif.specs.declared.befores.Choice.{Choice}

@@ -8,7 +8,7 @@ use Rattle.span_money.specs.LineFields.{Line, line}
 use Rattle.span_tables.specs.Net.{AccountHoldings}
 use Rattle.span_tables.specs.Tables.{AcceptedTables}
 use Rattle.plan_ir.specs.Figures.{option_value_of}
-use Rattle.statement.specs.Statement.{total_line, total_numbers, total_of}
+use Rattle.statement_text.specs.Statement.{total_line, total_numbers, total_of}
 use Rattle.explanation.specs.Explanation.{account_text, commodity_lines}
 use Rattle.explanation.proofs.StatementLaws.{texts_of}
 use Rattle.explanation.proofs.accounts.push_account.Goals as goal

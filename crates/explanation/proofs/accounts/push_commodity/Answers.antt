@@ -15,7 +15,7 @@ use Rattle.plan_ir.proofs.BoundLaws.{length-inter_states}
 use Rattle.reasons.specs.Reasons.{reasons_of}
 use Rattle.reasons.specs.near.Stages.{stages_of}
 use Rattle.reasons.specs.near.Fields.{reasons_text}
-use Rattle.statement.specs.Statement.{commodity_text, figures_line}
+use Rattle.statement_text.specs.Statement.{commodity_text, figures_line}
 use Rattle.explanation.specs.Explanation.{commodity_lines, reason_line}
 use Rattle.explanation.proofs.accounts.push_commodity.Goals as goal
 

@@ -1,7 +1,7 @@
 use Rattle.std.proofs.Common.{◌≡◌, ℕ, Err, Global, Vec, inl, inr, rules, sym, subst}
 use Rattle.std.specs.Arc.{arc_value}
 use Rattle.std.specs.Option.{option_copied}
-use Rattle.statement.specs.Gives.{Gives}
+use Rattle.statement_text.specs.Gives.{Gives}
 use Rattle.explanation.proofs.FileLemmas.{accepted_explained, faults_explained}
 use Rattle.explanation.proofs.explaining.explain.Goals as goal
 

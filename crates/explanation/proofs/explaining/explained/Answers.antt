@@ -2,7 +2,7 @@ use Rattle.std.proofs.Common.{◌≡◌, length, Some, None, Ok, Err, sym, ap, �
 use Rattle.std.specs.Arc.{arc_value}
 use Rattle.std.specs.Option.{option_copied}
 use Rattle.std.specs.Prelude.{bytes_eq, find}
-use Rattle.statement.specs.Gives.{is_memory}
+use Rattle.statement_text.specs.Gives.{is_memory}
 use Rattle.explanation.specs.Explanation.{explained, named_text}
 use Rattle.explanation.proofs.FileLemmas.{found_fits}
 use Rattle.explanation.proofs.explaining.explained.Goals as goal

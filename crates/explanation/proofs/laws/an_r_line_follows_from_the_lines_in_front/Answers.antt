@@ -3,7 +3,7 @@ use Rattle.plan_ir.specs.Figures.{commodity_at, figures_of}
 use Rattle.reasons.specs.Lines.{figures_by_lines}
 use Rattle.reasons.specs.Reasons.{reasons_of}
 use Rattle.reasons.proofs.AcceptedLaws.{figures_are_small}
-use Rattle.statement.specs.Statement.{figures_line}
+use Rattle.statement_text.specs.Statement.{figures_line}
 use Rattle.explanation.specs.Explanation.{reason_line}
 use Rattle.explanation.proofs.LineSums.{figures_read, figures_word, held_commodity_lines, ids_dropped}
 use Rattle.explanation.proofs.laws.an_r_line_follows_from_the_lines_in_front.Goals as goal

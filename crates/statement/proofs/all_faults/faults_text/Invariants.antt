@@ -1,5 +1,5 @@
 use Rattle.std.proofs.Common.{◌≡◌, flat_map, take}
-use Rattle.statement.specs.FaultLines.{fault_line}
+use Rattle.statement_text.specs.FaultLines.{fault_line}
 use Rattle.statement.proofs.all_faults.faults_text.Given as goal
 
 abbrev pub invariant-loop-fault : goal.invariant-loop-fault

@@ -1,4 +1,4 @@
-use Rattle.statement.proofs.OutcomeLemmas.{text_of_batch}
+use Rattle.statement.proofs.BatchRowLemmas.{text_of_batch}
 use Rattle.statement.proofs.batches.text_of.Goals as goal
 
 pub returns : goal.returns

@@ -6,9 +6,9 @@ use Rattle.std.proofs.lemmas.List.{take-map}
 use Rattle.result_book.specs.Books.{BookView, put_fault, row_for}
 use Rattle.step_scheduler.specs.Rows.{RowView}
 use Rattle.result_book.specs.declared.books.BookFault.TheVariants as fault
-use Rattle.statement.proofs.AccountLemmas.{none_before}
+use Rattle.statement.proofs.BatchRowLemmas.{none_before}
 use Rattle.statement.proofs.in_book.put_in_book.Invariants.{AreInBook}
-use Rattle.statement.specs.near.Rows.{ArePartlyInBook}
+use Rattle.statement.specs.near.InBook.{ArePartlyInBook}
 use Rattle.statement.proofs.in_book.put_in_book.Goals as goal
 
 -- a book with the first of the rows has a part of them

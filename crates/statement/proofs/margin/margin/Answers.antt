@@ -1,6 +1,6 @@
 use Rattle.std.proofs.Common.{◌≡◌, Err, rules, arith}
-use Rattle.statement.specs.declared.faults.SpanFault.TheVariants as fault
-use Rattle.statement.proofs.FaultLemmas.{never_workers}
+use Rattle.statement_text.specs.declared.faults.SpanFault.TheVariants as fault
+use Rattle.statement_text.proofs.FaultLemmas.{never_workers}
 use Rattle.statement.proofs.margin.margin.Goals as goal
 
 pub returns-in_err-set-clause-workers : goal.returns-in_err-set-clause-workers

@@ -1,6 +1,6 @@
 use Rattle.std.proofs.Common.{◌≡◌, Err, rules}
 use Rattle.statement.proofs.RollLemmas.{unkept_rows}
-use Rattle.statement.specs.near.SpanFaults.{of_book}
+use Rattle.statement_text.specs.near.SpanFaults.{of_book}
 use Rattle.statement.proofs.roll.first_statement.Goals as goal
 
 pub returns-in_err-first-clause-fault : goal.returns-in_err-first-clause-fault

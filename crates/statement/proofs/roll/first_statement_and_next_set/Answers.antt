@@ -1,6 +1,6 @@
 use Rattle.std.proofs.Common.{◌≡◌, Err, rules}
 use Rattle.std.specs.Arc.{arc_value}
-use Rattle.statement.proofs.AccountLemmas.{rows_once}
+use Rattle.statement.proofs.BatchRowLemmas.{rows_once}
 use Rattle.statement.proofs.RollLemmas.{kept_refuses, next_refuses}
 use Rattle.statement.proofs.roll.first_statement_and_next_set.Goals as goal
 

@@ -1,6 +1,6 @@
 use Rattle.std.proofs.Common.{◌≡◌, ◌⊎◌, ◌<◌, ◌∙◌, Err, refl, rules, arith}
-use Rattle.statement.specs.declared.faults.SpanFault.TheVariants as fault
-use Rattle.statement.proofs.FaultLemmas.{never_workers}
+use Rattle.statement_text.specs.declared.faults.SpanFault.TheVariants as fault
+use Rattle.statement_text.proofs.FaultLemmas.{never_workers}
 use Rattle.statement.proofs.RollLemmas.{refused_first, roll_gives, second_never_workers, workers_allowed, workers_refused}
 use Rattle.statement.proofs.roll.roll.Goals as goal
 

@@ -1,8 +1,8 @@
 use Rattle.std.proofs.Common.{◌≡◌, ◌∙◌, Err, rules}
 use Rattle.std.specs.Arc.{arc_value}
-use Rattle.statement.proofs.AccountLemmas.{rows_once}
+use Rattle.statement.proofs.BatchRowLemmas.{rows_once}
 use Rattle.statement.proofs.RollLemmas.{refused_rows, under_portfolios}
-use Rattle.statement.specs.near.SpanFaults.{of_book}
+use Rattle.statement_text.specs.near.SpanFaults.{of_book}
 use Rattle.statement.proofs.roll.second_statement.Goals as goal
 
 pub put_in_book-requires : goal.put_in_book-requires

@@ -1,6 +1,6 @@
 use Rattle.std.proofs.Common.{refl}
 use Rattle.std.specs.Arc.{arc_value}
-use Rattle.statement.specs.near.Batches.{rows_of_accounts}
+use Rattle.worker_teams.specs.near.OutcomeRows.{rows_of_accounts}
 use Rattle.whatif.specs.declared.befores.Befores.{Befores}
 use Rattle.whatif.proofs.BeforeLemmas.{befores_are}
 use Rattle.whatif.proofs.befores.befores_of.Goals as goal

@@ -2,7 +2,7 @@ use Rattle.std.proofs.Common.{◌≡◌, ◌∙◌, ap, map, subst}
 use Rattle.std.specs.Arc.{arc_value}
 use Rattle.std.specs.List.{AllZip}
 use Rattle.std.specs.Prelude.{IfOk}
-use Rattle.statement.specs.near.Batches.{rows_of_accounts}
+use Rattle.worker_teams.specs.near.OutcomeRows.{rows_of_accounts}
 use Rattle.whatif.specs.near.Numbers.{AreOfRow}
 use Rattle.whatif.proofs.befores.margined.Goals as goal
 

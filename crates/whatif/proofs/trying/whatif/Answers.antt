@@ -1,7 +1,7 @@
 use Rattle.std.proofs.Common.{◌≡◌, ◌∙◌, Err, Ok, ap, rules, arith, sym}
 use Rattle.std.specs.Arc.{arc_value}
-use Rattle.statement.specs.declared.faults.SpanFault.TheVariants as fault
-use Rattle.statement.proofs.FaultLemmas.{never_workers}
+use Rattle.statement_text.specs.declared.faults.SpanFault.TheVariants as fault
+use Rattle.statement_text.proofs.FaultLemmas.{never_workers}
 use Rattle.whatif.proofs.FileLemmas.{first_refuses, gives_no_workers, on_accepted, on_never_workers, orders_refuse}
 use Rattle.whatif.proofs.trying.whatif.Goals as goal
 

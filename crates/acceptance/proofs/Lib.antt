@@ -1,0 +1,3 @@
+pub mod AccountLemmas
+pub mod BindingLemmas
+pub mod FitLemmas

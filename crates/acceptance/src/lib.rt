@@ -1,0 +1,7 @@
+//! Two files that are accepted: read, checked, compiled and bound, on one thread or on several, or refused for their first fault.
+#![tactic(auto)]
+
+pub mod accepting;
+mod binding;
+mod reading;
+pub mod slices;

@@ -1,8 +1,0 @@
-use Rattle.cut_positions.proofs.PartListLemmas.{list_joined, list_parted}
-use Rattle.cut_positions.proofs.laws.statements_of_records_join.Goals as goal
-
-pub returns-clause-joined : goal.returns-clause-joined
-returns-clause-joined c = list_joined
-
-pub returns-clause-accepted : goal.returns-clause-accepted
-returns-clause-accepted c = list_parted

@@ -1,7 +1,0 @@
-use Rattle.std.proofs.Common.{map}
-use Rattle.std.specs.Arc.{arc_value}
-use Rattle.statement.specs.near.Rows.{AreRows}
-use Rattle.statement.proofs.batches.all_rows.Given as goal
-
-abbrev pub invariant-loop-outcome : goal.invariant-loop-outcome
-invariant-loop-outcome l = AreRows l.yielded (map arc_value l.rows.items)

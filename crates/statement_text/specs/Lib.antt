@@ -1,0 +1,5 @@
+pub mod FaultLines
+pub mod Gives
+pub mod Statement
+pub mod Streams
+pub mod near

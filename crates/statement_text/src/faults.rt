@@ -1,0 +1,203 @@
+//! Why there is no statement, and the exit status that says so (docs/FORMATS.md, Fault lines and statuses).
+ghost use Rattle.statement_text.specs.FaultLines.{fault_status};
+ghost use Rattle.param_check.specs.Binding as bind;
+ghost use Rattle.param_check.specs.CheckFaults as check;
+ghost use Rattle.param_check.specs.OrderBinding as bind_orders;
+ghost use Rattle.span_csv.specs.OrderFaults as orders;
+ghost use Rattle.span_csv.specs.ParamFaults as params;
+ghost use Rattle.span_csv.specs.PositionFaults as positions;
+ghost use Rattle.statement_text.specs.near.SpanFaults.{of_book, of_shelf, of_stage};
+ghost use Rattle.statement_text.specs.declared.faults.SpanFault.TheVariants as fault;
+ghost use Rattle.std.specs.Prelude.{◌≡◌};
+
+use crate::statuses::{BOOK_REFUSED, OUT_OF_MEMORY, PARAMETERS_REFUSED, POSITIONS_REFUSED, USAGE};
+use param_check::faults::{BindFault, CheckFault, OrderBindFault};
+use plan_shelf::faults::{NotPublished, ShelfFault};
+use result_book::books::BookFault;
+use span_csv::faults::{OrderFault, ParamFault, PositionFault};
+use span_tables::name::Name;
+use std::alloc::AllocError;
+use thiserror::Error;
+
+/// Why there is no statement.
+#[derive(Debug, Drop, PartialEq, Eq, Error)]
+pub enum SpanFault {
+    /// The parameter file is not read.
+    #[error("parameters: {0}")]
+    Params(ParamFault),
+    /// The records of the parameter file break a rule.
+    #[error("parameters: {0}")]
+    Check(CheckFault),
+    /// The position file is not read.
+    #[error("positions: {0}")]
+    Positions(PositionFault),
+    /// The positions do not fit the tables.
+    #[error("positions: {0}")]
+    Bind(BindFault),
+    /// The order file is not read.
+    #[error("orders: {0}")]
+    Orders(OrderFault),
+    /// The orders do not fit the tables and the accounts.
+    #[error("orders: {0}")]
+    BindOrders(OrderBindFault),
+    /// The parameter file of the next set is not read.
+    #[error("next parameters: {0}")]
+    NextParams(ParamFault),
+    /// The records of the next set's file break a rule.
+    #[error("next parameters: {0}")]
+    NextCheck(CheckFault),
+    /// The positions do not fit the next set's tables.
+    #[error("next positions: {0}")]
+    NextBind(BindFault),
+    /// E1: an account that the accepted positions do not have.
+    #[error("positions: E1 UnknownAccount account {account}")]
+    UnknownAccount { account: Name },
+    /// The number of workers is 0 or over 16.
+    #[error("workers: L1 Workers")]
+    Workers,
+    /// The book has no number, or no place, for the rows of a batch.
+    #[error("book: {0}")]
+    Book(BookFault),
+    /// The next set is not what the shelf has.
+    #[error("shelf")]
+    Shelf,
+    /// Want of memory.
+    #[error("memory")]
+    Memory,
+}
+
+impl From<ParamFault> for SpanFault {
+    ghost from_gives = { λ e answer. answer ≡ of_stage params.is_memory fault.Params e };
+
+    fn from(error: ParamFault) -> SpanFault {
+        match error {
+            ParamFault::OutOfMemory => SpanFault::Memory,
+            fault => SpanFault::Params(fault),
+        }
+    }
+}
+
+impl From<CheckFault> for SpanFault {
+    ghost from_gives = { λ e answer. answer ≡ of_stage check.is_memory fault.Check e };
+
+    fn from(error: CheckFault) -> SpanFault {
+        match error {
+            CheckFault::OutOfMemory => SpanFault::Memory,
+            fault => SpanFault::Check(fault),
+        }
+    }
+}
+
+impl From<PositionFault> for SpanFault {
+    ghost from_gives = { λ e answer. answer ≡ of_stage positions.is_memory fault.Positions e };
+
+    fn from(error: PositionFault) -> SpanFault {
+        match error {
+            PositionFault::OutOfMemory => SpanFault::Memory,
+            fault => SpanFault::Positions(fault),
+        }
+    }
+}
+
+impl From<BindFault> for SpanFault {
+    ghost from_gives = { λ e answer. answer ≡ of_stage bind.is_memory fault.Bind e };
+
+    fn from(error: BindFault) -> SpanFault {
+        match error {
+            BindFault::OutOfMemory => SpanFault::Memory,
+            fault => SpanFault::Bind(fault),
+        }
+    }
+}
+
+impl From<OrderFault> for SpanFault {
+    ghost from_gives = { λ e answer. answer ≡ of_stage orders.is_memory fault.Orders e };
+
+    fn from(error: OrderFault) -> SpanFault {
+        match error {
+            OrderFault::OutOfMemory => SpanFault::Memory,
+            fault => SpanFault::Orders(fault),
+        }
+    }
+}
+
+impl From<OrderBindFault> for SpanFault {
+    ghost from_gives = { λ e answer. answer ≡ of_stage bind_orders.is_memory fault.BindOrders e };
+
+    fn from(error: OrderBindFault) -> SpanFault {
+        match error {
+            OrderBindFault::OutOfMemory => SpanFault::Memory,
+            fault => SpanFault::BindOrders(fault),
+        }
+    }
+}
+
+impl From<BookFault> for SpanFault {
+    ghost from_gives = { λ e answer. answer ≡ of_book e };
+
+    fn from(error: BookFault) -> SpanFault {
+        match error {
+            BookFault::OutOfMemory => SpanFault::Memory,
+            fault => SpanFault::Book(fault),
+        }
+    }
+}
+
+impl From<ShelfFault> for SpanFault {
+    ghost from_gives = { λ e answer. answer ≡ of_shelf e };
+
+    fn from(error: ShelfFault) -> SpanFault {
+        match error {
+            ShelfFault::OutOfMemory => SpanFault::Memory,
+            ShelfFault::Readers | ShelfFault::Last => SpanFault::Shelf,
+        }
+    }
+}
+
+impl From<NotPublished> for SpanFault {
+    ghost from_gives = { λ e answer. answer ≡ of_shelf e.cause };
+
+    fn from(error: NotPublished) -> SpanFault {
+        SpanFault::from(error.cause)
+    }
+}
+
+impl From<AllocError> for SpanFault {
+    ghost from_gives = { λ _ answer. answer ≡ fault.Memory };
+
+    fn from(_error: AllocError) -> SpanFault {
+        SpanFault::Memory
+    }
+}
+
+/// The exit status of a fault: that of refused parameters, of refused positions or orders, of a mistake of usage, of a book or a
+/// shelf that refused, or of want of memory.
+pub fn status(fault: &SpanFault) -> u8
+    ensures { result ≡ fault_status fault.now }
+{
+    match fault {
+        SpanFault::Params(ParamFault::OutOfMemory)
+        | SpanFault::Check(CheckFault::OutOfMemory)
+        | SpanFault::Positions(PositionFault::OutOfMemory)
+        | SpanFault::Bind(BindFault::OutOfMemory)
+        | SpanFault::Orders(OrderFault::OutOfMemory)
+        | SpanFault::BindOrders(OrderBindFault::OutOfMemory)
+        | SpanFault::NextParams(ParamFault::OutOfMemory)
+        | SpanFault::NextCheck(CheckFault::OutOfMemory)
+        | SpanFault::NextBind(BindFault::OutOfMemory)
+        | SpanFault::Book(BookFault::OutOfMemory)
+        | SpanFault::Memory => OUT_OF_MEMORY,
+        SpanFault::Params(_)
+        | SpanFault::Check(_)
+        | SpanFault::NextParams(_)
+        | SpanFault::NextCheck(_) => PARAMETERS_REFUSED,
+        SpanFault::Positions(_)
+        | SpanFault::Bind(_)
+        | SpanFault::Orders(_)
+        | SpanFault::BindOrders(_)
+        | SpanFault::NextBind(_)
+        | SpanFault::UnknownAccount { .. } => POSITIONS_REFUSED,
+        SpanFault::Workers => USAGE,
+        SpanFault::Book(_) | SpanFault::Shelf => BOOK_REFUSED,
+    }
+}
