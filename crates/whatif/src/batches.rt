@@ -2,54 +2,22 @@
 ghost use Rattle.std.specs.Arc.{arc_value};
 ghost use Rattle.std.specs.Prelude.{◌≡◌, ◌++◌, ◌+◌, ◌-◌, ◌≤◌, IfOk, OnOk, drop, length, map, take};
 ghost use Rattle.worker_teams.specs.near.OutcomeRows.{rows_of_accounts};
-ghost use Rattle.worker_pool.specs.Batches.{AllFit};
 ghost use Rattle.whatif.specs.Whatif.{whatif_text};
 ghost use Rattle.whatif.specs.near.Befores.{AreBefores};
 ghost use Rattle.whatif.specs.near.Orders.{OrdersFit, orders_text};
 
 use crate::befores::{Befores, befores_of};
 use crate::lines::Trial;
+use crate::margining::{BatchMeans, MOST_AT_ONCE, rows_of};
 use param_check::orders::Orders;
 use plan_compiler::set::CompiledSet;
-use span_tables::portfolios::{Portfolio, Portfolios};
+use span_tables::portfolios::Portfolio;
 use std::alloc::{AllocError, Global};
 use std::sync::{Arc, Wait};
 use std::thread::Threads;
 use std::time::Clock;
 use step_scheduler::rows::Row;
 use worker_pool::gates::Gate;
-use worker_teams::rows::rows_together;
-
-/// How many portfolios a batch has, at most.
-pub(crate) const MOST_AT_ONCE: usize = 512;
-
-/// What batches are lent: a runtime, an allocator, the set, so many workers and the gate that they pass.
-#[derive(Drop)]
-pub(crate) struct BatchMeans<'a, R, G: Gate> {
-    pub(crate) rt: &'a R,
-    pub(crate) alloc: Global,
-    pub(crate) set: &'a Arc<CompiledSet>,
-    pub(crate) workers: usize,
-    pub(crate) gate: &'a G,
-}
-
-/// The rows of portfolios, in their order.
-pub(crate) fn rows_of<R: Threads + Wait + Clock + Sync, G: Gate>(
-    lent: &BatchMeans<'_, R, G>,
-    portfolios: Vec<Portfolio>,
-) -> Result<Vec<Arc<Row>>, AllocError>
-    requires { AllFit (arc_value lent.now.set.now) portfolios.items }
-    ensures { IfOk result (λ rows. map arc_value rows.items ≡ rows_of_accounts (arc_value lent.now.set.now) portfolios.items) }
-{
-    rows_together(
-        lent.rt,
-        lent.alloc,
-        lent.set,
-        Portfolios::new(portfolios),
-        lent.workers,
-        lent.gate,
-    )
-}
 
 // Appends the lines of the orders from one number up to another, from the rows after them.
 fn push_orders(

@@ -7,7 +7,7 @@ ghost use Rattle.worker_pool.specs.Batches.{AllFit};
 ghost use Rattle.whatif.specs.near.Befores.{AreBefores, AreKept, AreSlots, AllKeepFit, HasSlot, IsChoice, IsMarked};
 ghost use Rattle.whatif.specs.near.Numbers.{AreOfRow, order_at};
 
-use crate::batches::{BatchMeans, MOST_AT_ONCE, rows_of};
+use crate::margining::{BatchMeans, MOST_AT_ONCE, rows_of};
 use crate::numbers::{Numbers, all_numbers};
 use param_check::orders::Orders;
 use span_tables::name::Name;

@@ -6,6 +6,7 @@ mod batches;
 mod befores;
 pub mod laws;
 mod lines;
+mod margining;
 mod numbers;
 pub mod trying;
 mod worked;

@@ -7,7 +7,8 @@ ghost use Rattle.std.specs.Prelude.{◌≡◌, ◌<◌, ◌⊎◌, ◌↔◌, Er
 ghost use Rattle.whatif.specs.Whatif.{tried_on, whatif_of, whatif_text};
 ghost use Rattle.whatif.specs.near.Orders.{OrdersFit};
 
-use crate::batches::{BatchMeans, text_of};
+use crate::batches::text_of;
+use crate::margining::BatchMeans;
 use acceptance::accepting::{Accepted, accept_together};
 use param_check::orders::{Orders, bind_orders};
 use plan_compiler::set::CompiledSet;
