@@ -11,7 +11,6 @@ use crate::lines::Trial;
 use crate::margining::{BatchMeans, MOST_AT_ONCE, rows_of};
 use param_check::orders::Orders;
 use plan_compiler::set::CompiledSet;
-use span_tables::portfolios::Portfolio;
 use std::alloc::{AllocError, Global};
 use std::sync::{Arc, Wait};
 use std::thread::Threads;
