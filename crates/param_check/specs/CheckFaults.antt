@@ -1,5 +1,5 @@
 -- Which rules the records of a parameter file break.
-use Rattle.std.specs.Prelude.{ℕ, List, [], ◌∷◌, flat_map, zip, Option, Result, Bool, true, false}
+use Rattle.std.specs.Prelude.{ℕ, List, [], ◌∷◌, ◌++◌, codes, decimal, flat_map, zip, Option, Result, Bool, true, false}
 use Rattle.span_tables.specs.Faults.{first_of, ok_unless}
 use Rattle.span_tables.specs.Rules.{all_breaking, rules}
 use Rattle.span_tables.specs.Tables.{AcceptedTables, tables_of}
@@ -39,3 +39,18 @@ checked records = ok_unless (check_fault records) (tables_of records)
 abbrev pub is_memory : CheckFault → Bool
 is_memory fault.OutOfMemory = true
 is_memory _ = false
+
+-- what is said of a fault: its number and name, and the number of its record
+abbrev pub check_text : CheckFault → List ℕ
+check_text (fault.DuplicateCommodity at) = codes "C1 DuplicateCommodity at record " ++ decimal at
+check_text (fault.UnknownCommodity at) = codes "C2 UnknownCommodity at record " ++ decimal at
+check_text (fault.DuplicateContract at) = codes "C3 DuplicateContract at record " ++ decimal at
+check_text (fault.DuplicateTier at) = codes "C4 DuplicateTier at record " ++ decimal at
+check_text (fault.TierBackwards at) = codes "C5 TierBackwards at record " ++ decimal at
+check_text (fault.TierOverlap at) = codes "C6 TierOverlap at record " ++ decimal at
+check_text (fault.UnknownTier at) = codes "C7 UnknownTier at record " ++ decimal at
+check_text (fault.RepeatedLeg at) = codes "C8 RepeatedLeg at record " ++ decimal at
+check_text (fault.OneSided at) = codes "C9 OneSided at record " ++ decimal at
+check_text (fault.DuplicatePriority at) = codes "C10 DuplicatePriority at record " ++ decimal at
+check_text (fault.DuplicateSpot at) = codes "C11 DuplicateSpot at record " ++ decimal at
+check_text fault.OutOfMemory = codes "memory"

@@ -1,3 +1,4 @@
+pub mod BindTexts
 pub mod Binding
 pub mod CheckFaults
 pub mod FaultLaws

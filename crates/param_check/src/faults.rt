@@ -6,82 +6,153 @@ ghost use Rattle.std.specs.Prelude.{◌≡◌};
 
 use span_tables::name::Name;
 use std::alloc::AllocError;
-use thiserror::Error;
+use std::error::Error;
+use std::fmt;
+use std::fmt::Display;
 
 /// Which rule the records of a parameter file break.
-#[derive(Clone, Copy, Debug, Drop, PartialEq, Eq, Error)]
+#[derive(Clone, Copy, Debug, Drop, PartialEq, Eq)]
 pub enum CheckFault {
     /// C1: the id of an earlier COMMODITY.
-    #[error("C1 DuplicateCommodity at record {at}")]
     DuplicateCommodity { at: usize },
     /// C2: a commodity that no COMMODITY record has.
-    #[error("C2 UnknownCommodity at record {at}")]
     UnknownCommodity { at: usize },
     /// C3: the id of an earlier CONTRACT.
-    #[error("C3 DuplicateContract at record {at}")]
     DuplicateContract { at: usize },
     /// C4: the commodity and number of an earlier TIER.
-    #[error("C4 DuplicateTier at record {at}")]
     DuplicateTier { at: usize },
     /// C5: a first month after the last.
-    #[error("C5 TierBackwards at record {at}")]
     TierBackwards { at: usize },
     /// C6: a month of an earlier TIER of its commodity.
-    #[error("C6 TierOverlap at record {at}")]
     TierOverlap { at: usize },
     /// C7: a leg whose tier its commodity does not have.
-    #[error("C7 UnknownTier at record {at}")]
     UnknownTier { at: usize },
     /// C8: two legs of one tier and side, or of one commodity.
-    #[error("C8 RepeatedLeg at record {at}")]
     RepeatedLeg { at: usize },
     /// C9: no leg on A, or none on B.
-    #[error("C9 OneSided at record {at}")]
     OneSided { at: usize },
     /// C10: the priority of an earlier spread of its kind (and commodity).
-    #[error("C10 DuplicatePriority at record {at}")]
     DuplicatePriority { at: usize },
     /// C11: the commodity and month of an earlier SPOT.
-    #[error("C11 DuplicateSpot at record {at}")]
     DuplicateSpot { at: usize },
     /// Want of memory.
-    #[error("memory")]
     OutOfMemory,
 }
 
 /// Why positions do not fit the tables.
-#[derive(Debug, Drop, PartialEq, Eq, Error)]
+#[derive(Debug, Drop, PartialEq, Eq)]
 pub enum BindFault {
     /// B1: a contract that the tables do not have.
-    #[error("B1 UnknownContract at record {at} account {account}")]
     UnknownContract { at: usize, account: Name },
     /// B2: a net quantity out of range.
-    #[error("B2 NetOutOfRange at record {at} account {account}")]
     NetOutOfRange { at: usize, account: Name },
     /// B3: too many contracts held.
-    #[error("B3 TooManyHeld at record {at} account {account}")]
     TooManyHeld { at: usize, account: Name },
     /// Want of memory.
-    #[error("memory")]
     OutOfMemory,
 }
 
 /// Why orders do not fit the tables and the portfolios of accounts.
-#[derive(Debug, Drop, PartialEq, Eq, Error)]
+#[derive(Debug, Drop, PartialEq, Eq)]
 pub enum OrderBindFault {
     /// B1: a contract that the tables do not have.
-    #[error("B1 UnknownContract at record {at} order {order}")]
     UnknownContract { at: usize, order: Name },
     /// B2: a net quantity of the account, with the order, out of range.
-    #[error("B2 NetOutOfRange at record {at} order {order}")]
     NetOutOfRange { at: usize, order: Name },
     /// B3: too many contracts held, with the order.
-    #[error("B3 TooManyHeld at record {at} order {order}")]
     TooManyHeld { at: usize, order: Name },
     /// Want of memory.
-    #[error("memory")]
     OutOfMemory,
 }
+
+impl Display for CheckFault {
+    ghost use Rattle.param_check.specs.CheckFaults.{check_text};
+    ghost use Rattle.std.specs.Prelude.{Some};
+
+    ghost output = { λ fault. Some (check_text fault) };
+
+    fn fmt<W: fmt::Write>(&self, f: &mut fmt::Formatter<W>) -> fmt::Result {
+        match self {
+            CheckFault::DuplicateCommodity { at } => write!(
+                f,
+                "C1 DuplicateCommodity at record {at}"
+            ),
+            CheckFault::UnknownCommodity { at } => write!(f, "C2 UnknownCommodity at record {at}"),
+            CheckFault::DuplicateContract { at } => write!(
+                f,
+                "C3 DuplicateContract at record {at}"
+            ),
+            CheckFault::DuplicateTier { at } => write!(f, "C4 DuplicateTier at record {at}"),
+            CheckFault::TierBackwards { at } => write!(f, "C5 TierBackwards at record {at}"),
+            CheckFault::TierOverlap { at } => write!(f, "C6 TierOverlap at record {at}"),
+            CheckFault::UnknownTier { at } => write!(f, "C7 UnknownTier at record {at}"),
+            CheckFault::RepeatedLeg { at } => write!(f, "C8 RepeatedLeg at record {at}"),
+            CheckFault::OneSided { at } => write!(f, "C9 OneSided at record {at}"),
+            CheckFault::DuplicatePriority { at } => write!(
+                f,
+                "C10 DuplicatePriority at record {at}"
+            ),
+            CheckFault::DuplicateSpot { at } => write!(f, "C11 DuplicateSpot at record {at}"),
+            CheckFault::OutOfMemory => write!(f, "memory"),
+        }
+    }
+}
+
+impl Error for CheckFault {}
+
+impl Display for BindFault {
+    ghost use Rattle.param_check.specs.BindTexts.{bind_text};
+    ghost use Rattle.std.specs.Prelude.{Some};
+
+    ghost output = { λ fault. Some (bind_text fault) };
+
+    fn fmt<W: fmt::Write>(&self, f: &mut fmt::Formatter<W>) -> fmt::Result {
+        match self {
+            BindFault::UnknownContract { at, account } => write!(
+                f,
+                "B1 UnknownContract at record {at} account {account}"
+            ),
+            BindFault::NetOutOfRange { at, account } => write!(
+                f,
+                "B2 NetOutOfRange at record {at} account {account}"
+            ),
+            BindFault::TooManyHeld { at, account } => write!(
+                f,
+                "B3 TooManyHeld at record {at} account {account}"
+            ),
+            BindFault::OutOfMemory => write!(f, "memory"),
+        }
+    }
+}
+
+impl Error for BindFault {}
+
+impl Display for OrderBindFault {
+    ghost use Rattle.param_check.specs.BindTexts.{order_bind_text};
+    ghost use Rattle.std.specs.Prelude.{Some};
+
+    ghost output = { λ fault. Some (order_bind_text fault) };
+
+    fn fmt<W: fmt::Write>(&self, f: &mut fmt::Formatter<W>) -> fmt::Result {
+        match self {
+            OrderBindFault::UnknownContract { at, order } => write!(
+                f,
+                "B1 UnknownContract at record {at} order {order}"
+            ),
+            OrderBindFault::NetOutOfRange { at, order } => write!(
+                f,
+                "B2 NetOutOfRange at record {at} order {order}"
+            ),
+            OrderBindFault::TooManyHeld { at, order } => write!(
+                f,
+                "B3 TooManyHeld at record {at} order {order}"
+            ),
+            OrderBindFault::OutOfMemory => write!(f, "memory"),
+        }
+    }
+}
+
+impl Error for OrderBindFault {}
 
 impl From<AllocError> for CheckFault {
     ghost from_gives = { λ _ e. e ≡ check.OutOfMemory };

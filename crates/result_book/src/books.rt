@@ -9,27 +9,43 @@ use crate::batches::BatchRows;
 use indexmap::IndexMap;
 use span_tables::name::Name;
 use std::alloc::{AllocError, Global};
+use std::error::Error;
+use std::fmt;
+use std::fmt::Display;
 use std::marker::Model;
 use std::sync::Arc;
 use step_scheduler::rows::Row;
-use thiserror::Error;
 
 /// Why a book does not do what was asked.
-#[derive(Clone, Copy, Debug, Drop, PartialEq, Eq, Error)]
+#[derive(Clone, Copy, Debug, Drop, PartialEq, Eq)]
 pub enum BookFault {
     /// No batch of this number was opened.
-    #[error("K1 NoSuchBatch")]
     NoSuchBatch,
     /// The batch has a row of this account.
-    #[error("K2 AlreadyThere")]
     AlreadyThere,
     /// Want of memory.
-    #[error("memory")]
     OutOfMemory,
     /// Each number was given to a batch.
-    #[error("K4 NoMoreBatches")]
     NoMoreBatches,
 }
+
+impl Display for BookFault {
+    ghost use Rattle.result_book.specs.BookFaults.{book_text};
+    ghost use Rattle.std.specs.Prelude.{Some};
+
+    ghost output = { λ fault. Some (book_text fault) };
+
+    fn fmt<W: fmt::Write>(&self, f: &mut fmt::Formatter<W>) -> fmt::Result {
+        match self {
+            BookFault::NoSuchBatch => write!(f, "K1 NoSuchBatch"),
+            BookFault::AlreadyThere => write!(f, "K2 AlreadyThere"),
+            BookFault::OutOfMemory => write!(f, "memory"),
+            BookFault::NoMoreBatches => write!(f, "K4 NoMoreBatches"),
+        }
+    }
+}
+
+impl Error for BookFault {}
 
 /// A row that was not put, and why.
 #[derive(Drop)]
