@@ -1,4 +1,4 @@
-//! The lines of faults and their statuses, the texts that `Display` gives of faults, which no clause has, and a line without room.
+//! The lines of faults and their statuses, the texts of faults that calls answer, which no clause has, and a line without room.
 use param_check::faults::{BindFault, CheckFault};
 use plan_shelf::faults::ShelfFault;
 use result_book::books::BookFault;
@@ -101,96 +101,6 @@ fn lines_of_faults(rt: HostRuntime) {
     lines_of_accounts(&rt, rt.alloc());
 }
 
-// The fault is shown as its line, without the line end.
-fn is_shown_as_line(rt: &impl Abort, alloc: Global, fault: &SpanFault) {
-    let shown = format!(in alloc; "{fault}\n").expect(rt, "a text");
-    let mut written = Vec::new(alloc);
-    assert!(rt; write_fault(fault, &mut written).is_ok());
-    assert_eq!(rt; shown.as_bytes(), written.as_slice());
-}
-
-const PARAM_FAULTS: [ParamFault; 8] = [
-    ParamFault::NoSet { at: 0 },
-    ParamFault::SecondSet { at: 2 },
-    ParamFault::UnknownKind { at: 3 },
-    ParamFault::FieldCount { at: 4 },
-    ParamFault::BadName { at: 5 },
-    ParamFault::BadNumber { at: 6 },
-    ParamFault::OutOfRange { at: 7 },
-    ParamFault::TooMany { at: 8 },
-];
-
-const CHECK_FAULTS: [CheckFault; 11] = [
-    CheckFault::DuplicateCommodity { at: 1 },
-    CheckFault::UnknownCommodity { at: 2 },
-    CheckFault::DuplicateContract { at: 3 },
-    CheckFault::DuplicateTier { at: 4 },
-    CheckFault::TierBackwards { at: 5 },
-    CheckFault::TierOverlap { at: 6 },
-    CheckFault::UnknownTier { at: 7 },
-    CheckFault::RepeatedLeg { at: 8 },
-    CheckFault::OneSided { at: 9 },
-    CheckFault::DuplicatePriority { at: 10 },
-    CheckFault::DuplicateSpot { at: 11 },
-];
-
-const POSITION_FAULTS: [PositionFault; 5] = [
-    PositionFault::FieldCount { at: 1 },
-    PositionFault::BadName { at: 2 },
-    PositionFault::BadNumber { at: 3 },
-    PositionFault::OutOfRange { at: 4 },
-    PositionFault::TooManyAccounts { at: 5 },
-];
-
-const BOOK_FAULTS: [BookFault; 3] = [
-    BookFault::NoSuchBatch,
-    BookFault::AlreadyThere,
-    BookFault::NoMoreBatches,
-];
-
-// The texts of faults of records, by the reader or the checker that finds them, and of those of a book.
-fn of_records_and_books(rt: &impl Abort, alloc: Global) {
-    for fault in PARAM_FAULTS {
-        is_shown_as_line(rt, alloc, &SpanFault::Params(fault));
-    }
-    for fault in CHECK_FAULTS {
-        is_shown_as_line(rt, alloc, &SpanFault::NextCheck(fault));
-    }
-    for fault in POSITION_FAULTS {
-        is_shown_as_line(rt, alloc, &SpanFault::Positions(fault));
-    }
-    for fault in BOOK_FAULTS {
-        is_shown_as_line(rt, alloc, &SpanFault::Book(fault));
-    }
-}
-
-// The texts of faults that name an account, and of the other kinds.
-fn of_accounts_and_sets(rt: &impl Abort, alloc: Global) {
-    let faults = [
-        SpanFault::Bind(BindFault::UnknownContract {
-            at: 1,
-            account: account(),
-        }),
-        SpanFault::Bind(BindFault::NetOutOfRange {
-            at: 2,
-            account: account(),
-        }),
-        SpanFault::NextBind(BindFault::TooManyHeld {
-            at: 3,
-            account: account(),
-        }),
-        SpanFault::NextParams(ParamFault::NoSet { at: 0 }),
-        SpanFault::Check(CheckFault::OneSided { at: 4 }),
-        SpanFault::UnknownAccount { account: account() },
-        SpanFault::Workers,
-        SpanFault::Shelf,
-        SpanFault::Memory,
-    ];
-    for fault in &faults {
-        is_shown_as_line(rt, alloc, fault);
-    }
-}
-
 // The value is shown as this text.
 fn is_shown<T: Display>(rt: &impl Abort, alloc: Global, value: &T, text: &str) {
     let shown = format!(in alloc; "{value}").expect(rt, "a text");
@@ -204,26 +114,13 @@ fn of_calls(rt: &impl Abort, alloc: Global) {
     is_shown(rt, alloc, &PoolFault::Workers, "L1 Workers");
     is_shown(rt, alloc, &Refused::NotTaken, "NotTaken");
     is_shown(rt, alloc, &Refused::Failed, "Failed");
-}
-
-// The text of want of memory, which is a fault of each of these kinds.
-fn of_memory(rt: &impl Abort, alloc: Global) {
-    is_shown(rt, alloc, &ParamFault::OutOfMemory, "memory");
-    is_shown(rt, alloc, &CheckFault::OutOfMemory, "memory");
-    is_shown(rt, alloc, &PositionFault::OutOfMemory, "memory");
-    is_shown(rt, alloc, &BindFault::OutOfMemory, "memory");
-    is_shown(rt, alloc, &BookFault::OutOfMemory, "memory");
     is_shown(rt, alloc, &ShelfFault::OutOfMemory, "memory");
     is_shown(rt, alloc, &PoolFault::OutOfMemory, "memory");
 }
 
 #[test]
 fn texts_of_faults(rt: HostRuntime) {
-    let alloc = rt.alloc();
-    of_records_and_books(&rt, alloc);
-    of_accounts_and_sets(&rt, alloc);
-    of_calls(&rt, alloc);
-    of_memory(&rt, alloc);
+    of_calls(&rt, rt.alloc());
 }
 
 // A writer that has no room for the whole line refuses it.

@@ -1,5 +1,5 @@
 //! Why there is no statement, and the exit status that says so (docs/FORMATS.md, Fault lines and statuses).
-ghost use Rattle.statement_text.specs.FaultLines.{fault_status};
+ghost use Rattle.statement_text.specs.FaultLines.{fault_status, is_memory};
 ghost use Rattle.param_check.specs.Binding as bind;
 ghost use Rattle.param_check.specs.CheckFaults as check;
 ghost use Rattle.param_check.specs.OrderBinding as bind_orders;
@@ -17,54 +17,72 @@ use result_book::books::BookFault;
 use span_csv::faults::{OrderFault, ParamFault, PositionFault};
 use span_tables::name::Name;
 use std::alloc::AllocError;
-use thiserror::Error;
+use std::error::Error;
+use std::fmt;
+use std::fmt::Display;
 
 /// Why there is no statement.
-#[derive(Debug, Drop, PartialEq, Eq, Error)]
+#[derive(Debug, Drop, PartialEq, Eq)]
 pub enum SpanFault {
     /// The parameter file is not read.
-    #[error("parameters: {0}")]
     Params(ParamFault),
     /// The records of the parameter file break a rule.
-    #[error("parameters: {0}")]
     Check(CheckFault),
     /// The position file is not read.
-    #[error("positions: {0}")]
     Positions(PositionFault),
     /// The positions do not fit the tables.
-    #[error("positions: {0}")]
     Bind(BindFault),
     /// The order file is not read.
-    #[error("orders: {0}")]
     Orders(OrderFault),
     /// The orders do not fit the tables and the accounts.
-    #[error("orders: {0}")]
     BindOrders(OrderBindFault),
     /// The parameter file of the next set is not read.
-    #[error("next parameters: {0}")]
     NextParams(ParamFault),
     /// The records of the next set's file break a rule.
-    #[error("next parameters: {0}")]
     NextCheck(CheckFault),
     /// The positions do not fit the next set's tables.
-    #[error("next positions: {0}")]
     NextBind(BindFault),
     /// E1: an account that the accepted positions do not have.
-    #[error("positions: E1 UnknownAccount account {account}")]
     UnknownAccount { account: Name },
     /// The number of workers is 0 or over 16.
-    #[error("workers: L1 Workers")]
     Workers,
     /// The book has no number, or no place, for the rows of a batch.
-    #[error("book: {0}")]
     Book(BookFault),
     /// The next set is not what the shelf has.
-    #[error("shelf")]
     Shelf,
-    /// Want of memory.
-    #[error("memory")]
+    /// Out of memory.
     Memory,
 }
+
+impl Display for SpanFault {
+    ghost use Rattle.statement_text.specs.FaultLines.{fault_text};
+    ghost use Rattle.std.specs.Prelude.{Some};
+
+    ghost output = { λ fault. Some (fault_text fault) };
+
+    fn fmt<W: fmt::Write>(&self, f: &mut fmt::Formatter<W>) -> fmt::Result {
+        match self {
+            SpanFault::Params(fault) => write!(f, "parameters: {fault}"),
+            SpanFault::Check(fault) => write!(f, "parameters: {fault}"),
+            SpanFault::Positions(fault) => write!(f, "positions: {fault}"),
+            SpanFault::Bind(fault) => write!(f, "positions: {fault}"),
+            SpanFault::Orders(fault) => write!(f, "orders: {fault}"),
+            SpanFault::BindOrders(fault) => write!(f, "orders: {fault}"),
+            SpanFault::NextParams(fault) => write!(f, "next parameters: {fault}"),
+            SpanFault::NextCheck(fault) => write!(f, "next parameters: {fault}"),
+            SpanFault::NextBind(fault) => write!(f, "next positions: {fault}"),
+            SpanFault::UnknownAccount { account } => {
+                write!(f, "positions: E1 UnknownAccount account {account}")
+            }
+            SpanFault::Workers => write!(f, "workers: L1 Workers"),
+            SpanFault::Book(fault) => write!(f, "book: {fault}"),
+            SpanFault::Shelf => write!(f, "shelf"),
+            SpanFault::Memory => write!(f, "memory"),
+        }
+    }
+}
+
+impl Error for SpanFault {}
 
 impl From<ParamFault> for SpanFault {
     ghost from_gives = { λ e answer. answer ≡ of_stage params.is_memory fault.Params e };
@@ -170,23 +188,37 @@ impl From<AllocError> for SpanFault {
     }
 }
 
+impl SpanFault {
+    /// Whether memory ran out, whichever stage said so.
+    pub fn is_memory(&self) -> bool
+        ensures { result ≡ is_memory self.now }
+    {
+        match self {
+            SpanFault::Params(ParamFault::OutOfMemory)
+            | SpanFault::Check(CheckFault::OutOfMemory)
+            | SpanFault::Positions(PositionFault::OutOfMemory)
+            | SpanFault::Bind(BindFault::OutOfMemory)
+            | SpanFault::Orders(OrderFault::OutOfMemory)
+            | SpanFault::BindOrders(OrderBindFault::OutOfMemory)
+            | SpanFault::NextParams(ParamFault::OutOfMemory)
+            | SpanFault::NextCheck(CheckFault::OutOfMemory)
+            | SpanFault::NextBind(BindFault::OutOfMemory)
+            | SpanFault::Book(BookFault::OutOfMemory)
+            | SpanFault::Memory => true,
+            _ => false,
+        }
+    }
+}
+
 /// The exit status of a fault: that of refused parameters, of refused positions or orders, of a mistake of usage, of a book or a
-/// shelf that refused, or of want of memory.
+/// shelf that refused, or of memory that ran out.
 pub fn status(fault: &SpanFault) -> u8
     ensures { result ≡ fault_status fault.now }
 {
+    if fault.is_memory() {
+        return OUT_OF_MEMORY;
+    }
     match fault {
-        SpanFault::Params(ParamFault::OutOfMemory)
-        | SpanFault::Check(CheckFault::OutOfMemory)
-        | SpanFault::Positions(PositionFault::OutOfMemory)
-        | SpanFault::Bind(BindFault::OutOfMemory)
-        | SpanFault::Orders(OrderFault::OutOfMemory)
-        | SpanFault::BindOrders(OrderBindFault::OutOfMemory)
-        | SpanFault::NextParams(ParamFault::OutOfMemory)
-        | SpanFault::NextCheck(CheckFault::OutOfMemory)
-        | SpanFault::NextBind(BindFault::OutOfMemory)
-        | SpanFault::Book(BookFault::OutOfMemory)
-        | SpanFault::Memory => OUT_OF_MEMORY,
         SpanFault::Params(_)
         | SpanFault::Check(_)
         | SpanFault::NextParams(_)
@@ -199,5 +231,6 @@ pub fn status(fault: &SpanFault) -> u8
         | SpanFault::UnknownAccount { .. } => POSITIONS_REFUSED,
         SpanFault::Workers => USAGE,
         SpanFault::Book(_) | SpanFault::Shelf => BOOK_REFUSED,
+        SpanFault::Memory => OUT_OF_MEMORY,
     }
 }
