@@ -1,23 +1,19 @@
 -- A filter of a list by what its elements are.
-use Rattle.std.proofs.Common.{◌≡◌, ℕ, ◌+◌, ◌<◌, Bool, List, [], ◌∷◌, ◌++◌}
-use Rattle.std.proofs.Common.{Option, Some, None, refl, length, take, get_or, ap, ◌∙◌}
+use Rattle.std.proofs.Common.{◌≡◌, Bool, List, [], ◌∷◌, ◌++◌}
+use Rattle.std.proofs.Common.{Option, Some, None, refl, sym, ap, ◌∙◌}
 use Rattle.std.specs.Prelude.{filter_map, map, option_to_list}
 use Rattle.std.specs.List.{list_any}
-use Rattle.std.proofs.lemmas.List.{take_more}
 use Rattle.std.proofs.lemmas.List.Elements.{filter_map-append}
 use Rattle.span_tables.specs.Rules.{is_and}
 
 module _ {X A : Type 0} (h : X → Option A) where
-  alone : (x : X) (o : Option A) → h x ≡ o → filter_map h (x ∷ []) ≡ option_to_list o
-  alone x None e = rw e refl
-  alone x (Some a) e = rw e refl
+  one : (o : Option A) (x : X) → h x ≡ o → filter_map h (x ∷ []) ≡ option_to_list o
+  one None x e = rw e refl
+  one (Some a) x e = rw e refl
 
   -- one more element
-  pub filter_map_more : (xs : List X) (i : ℕ) (d : X) → i < length xs
-      → filter_map h (take (i + 1) xs) ≡ filter_map h (take i xs) ++ option_to_list (h (get_or xs i d))
-  filter_map_more xs i d l =
-      rw (take_more xs i d l) (filter_map-append h (take i xs) (get_or xs i d ∷ [])
-      ∙ ap (λ zs. filter_map h (take i xs) ++ zs) (alone (get_or xs i d) (h (get_or xs i d)) refl))
+  pub filter_map_more : (xs : List X) (x : X) → filter_map h xs ++ option_to_list (h x) ≡ filter_map h (xs ++ x ∷ [])
+  filter_map_more xs x = sym (filter_map-append h xs (x ∷ []) ∙ ap (λ zs. filter_map h xs ++ zs) (one (h x) x refl))
 
   any_by : (p : A → Bool) (x : X) (xs : List X) (o : Option A) → h x ≡ o
       → list_any p (filter_map h xs) ≡ list_any (λ y. is_and (h y) p) xs

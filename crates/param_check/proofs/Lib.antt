@@ -5,7 +5,6 @@ pub mod AnswerLaws
 pub mod BindAllLaws
 pub mod BindLaws
 pub mod FilterMaps
-pub mod FirstFaults
 pub mod HoldingLaws
 pub mod IdLaws
 pub mod KeyLemmas
@@ -25,12 +24,10 @@ pub mod PlaceLaws
 pub mod PortfolioLaws
 pub mod RenumberLaws
 pub mod RuleLaws
-pub mod RulesTold
 pub mod SliceLaws
 pub mod ToldOnce
 pub mod UnfitLaws
 pub mod UnfitWalk
-pub mod UnknownLemmas
 pub mod WantedLaws
 pub mod MergedFit
 pub mod OrderNets

@@ -19,7 +19,6 @@ use Rattle.param_check.specs.declared.faults.BindFault.TheVariants as bind
 use Rattle.param_check.specs.declared.faults.CheckFault.{CheckFault}
 use Rattle.param_check.specs.declared.faults.CheckFault.TheVariants as check
 use Rattle.param_check.proofs.UnfitWalk.{unfit_at}
-use Rattle.param_check.proofs.WantedLaws.{fault_if}
 
 weaker : {F : Type 0} (P Q : F → Type 0) → ((y : F) → P y → Q y) → (ys : List F) → AllByRecursion P ys → AllByRecursion Q ys
 weaker P Q follows [] all = tt
@@ -100,7 +99,7 @@ module _ (all : List Record) where
       → (breaks : List Record → Record → Bool)
       → IsStrictlyRisingBy check_record (all_breaking h breaks all) × AllByRecursion (λ y. check_number y ≡ n) (all_breaking h breaks all)
   rule_part h n numbered recorded breaks =
-      named_part check_number check_record (fault_if h breaks) n
+      named_part check_number check_record (λ earlier r. if breaks earlier r then Some h else None) n
       (λ earlier r g e. (let same = same_fault (breaks earlier r) h g e in
       (λ at. sym (ap (λ f. check_number (f at)) same) ∙ numbered at, λ at. sym (ap (λ f. check_record (f at)) same) ∙ recorded at))) all
 

@@ -29,30 +29,12 @@ alike : (commodity : List ℕ) (m : Months) (r : Record) → is_and (months_unde
 alike commodity m (record_of.Tier x) = under (bytes_eq x.commodity commodity) (tier_months x) (meet m)
 alike commodity m _ = refl
 
--- a tier overlaps the earlier ones just where it meets those of its commodity
-pub overlaps_tier-meets : (earlier : List Record) (r : Record)
-    → meets_earlier (λ commodity. filter_map (months_under commodity) earlier) r ≡ overlaps_tier earlier r
-overlaps_tier-meets earlier (record_of.Tier x) =
-    list_any-filter_map (months_under x.commodity) (meet (tier_months x)) earlier
+-- groups of the earlier tiers by their commodity give the answer
+pub overlaps_by : (groups : List ℕ → List Months) (earlier : List Record) → ((c : List ℕ) → groups c ≡ filter_map (months_under c) earlier)
+    → (r : Record) → meets_earlier groups r ≡ overlaps_tier earlier r
+overlaps_by groups earlier are (record_of.Tier x) =
+    ap (list_any (meet (tier_months x))) (are x.commodity)
+    ∙ list_any-filter_map (months_under x.commodity) (meet (tier_months x)) earlier
     ∙ list_any-same _ _ (alike x.commodity (tier_months x)) earlier
     ∙ sym (list_any-filter_map as_tier (λ u. bytes_eq u.commodity x.commodity && share_month x u) earlier)
-overlaps_tier-meets earlier _ = refl
-
-meets_earlier-same : (these those : List ℕ → List Months) → ((c : List ℕ) → these c ≡ those c) → (r : Record)
-    → meets_earlier these r ≡ meets_earlier those r
-meets_earlier-same these those same (record_of.Tier x) = ap (list_any (meet (tier_months x))) (same x.commodity)
-meets_earlier-same these those same _ = refl
-
--- groups of the earlier tiers by their commodity give the answer
-pub overlaps_tier-grouped : (groups : List ℕ → List Months) (earlier : List Record)
-    → ((c : List ℕ) → groups c ≡ filter_map (months_under c) earlier)
-    → (r : Record) → meets_earlier groups r ≡ overlaps_tier earlier r
-overlaps_tier-grouped groups earlier are r =
-    meets_earlier-same groups (λ c. filter_map (months_under c) earlier) are r ∙ overlaps_tier-meets earlier r
-
--- groups of the tiers before a place give the answer for the record at the place
-pub overlaps_tier-at : (groups : List ℕ → List Months) (all : List Record) (i : ℕ) (r : Record) (b : Bool)
-    → ((c : List ℕ) → groups c ≡ filter_map (months_under c) (take i all)) → r ≡ get_or all i r → b ≡ meets_earlier groups r
-    → overlaps_tier (take i all) (get_or all i r) ≡ b
-overlaps_tier-at groups all i r b are is met =
-    rw (← is) (sym (overlaps_tier-grouped groups (take i all) are r) ∙ sym met)
+overlaps_by groups earlier are _ = refl

@@ -1,26 +1,28 @@
 -- Records without a fault of the check keep every rule.
-use Rattle.std.proofs.Common.{◌≡◌, ℕ, Bool, true, List, [], ◌∷◌, ◌∙◌}
+use Rattle.std.proofs.Common.{◌≡◌, ℕ, ◌+◌, Bool, true, false, List, [], ◌∷◌, ◌++◌, ◌∙◌}
 use Rattle.std.proofs.Common.{Option, Some, None, refl, sym, length, map, arith}
-use Rattle.std.specs.Prelude.{zip, is_none, option_map}
+use Rattle.std.specs.Prelude.{zip, is_none, if◌then◌else◌, option_map, option_to_list}
 use Rattle.std.specs.List.{list_all}
 use Rattle.std.specs.Option.{option_or}
-use Rattle.span_tables.specs.Faults.{first_some}
+use Rattle.span_tables.specs.Faults.{faults_after, first_of, first_some}
 use Rattle.span_tables.specs.Rules.{rules, first_breaking, keeps_rules}
 use Rattle.param_check.specs.CheckFaults.{rule_names, check_fault}
 use Rattle.span_tables.specs.declared.records.Record.{Record}
 use Rattle.param_check.specs.declared.faults.CheckFault.{CheckFault}
-use Rattle.param_check.proofs.FirstFaults.{first_breaking-named}
 use Rattle.param_check.proofs.OutcomeLemmas.{check_fault_by_rule}
 
-none_named : {F : Type 0} (fault : ℕ → F) (o : Option ℕ) → option_map fault o ≡ None → o ≡ None
-none_named fault None e = refl
-none_named fault (Some n) e = cc
-
 -- whether a rule is broken does not depend on its name
-same_under : {F : Type 0} (fault : ℕ → F) (breaks : List Record → Record → Bool) (all : List Record)
-    → first_breaking fault breaks all ≡ None → first_breaking (λ at. at) breaks all ≡ None
-same_under fault breaks all e =
-    none_named fault (first_breaking (λ at. at) breaks all) (sym (first_breaking-named fault breaks all) ∙ e)
+module _ {F : Type 0} (fault : ℕ → F) (breaks : List Record → Record → Bool) where
+  by : (b : Bool) (n : ℕ) (named : List F) (numbers : List ℕ) → (first_of named ≡ None → first_of numbers ≡ None)
+      → first_of (option_to_list (option_map {T = ℕ → F} (λ f. f n) (if b then Some fault else None)) ++ named) ≡ None
+      → first_of (option_to_list (option_map {T = ℕ → ℕ} (λ f. f n) (if b then Some (λ at. at) else None)) ++ numbers) ≡ None
+  by true n named numbers rest e = cc
+  by false n named numbers rest e = rest e
+
+  same_under : (before xs : List Record) → first_of (faults_after (λ earlier r. if breaks earlier r then Some fault else None) before xs) ≡ None
+      → first_of (faults_after (λ earlier r. if breaks earlier r then Some (λ (at : ℕ). at) else None) before xs) ≡ None
+  same_under before [] e = refl
+  same_under before (x ∷ xs) e = by (breaks before x) (length before + 1) _ _ (same_under (before ++ x ∷ []) xs) e
 
 or_none : {F : Type 0} (x rest : Option F) → option_or x rest ≡ None → (x ≡ None) × (rest ≡ None)
 or_none None rest e = (refl, e)
@@ -35,7 +37,7 @@ all_kept all [] (t ∷ ts) same e = cc
 all_kept all (n ∷ ns) [] same e = refl
 all_kept all (n ∷ ns) (t ∷ ts) same e =
     let h = or_none (first_breaking n t all) _ e in
-    let one : first_breaking (λ at. at) t all ≡ None = same_under n t all h.0 in
+    let one : first_breaking (λ at. at) t all ≡ None = same_under n t [] all h.0 in
     rw one (all_kept all ns ts (omega (arith, same)) h.1)
 
 -- no fault: every rule is kept

@@ -75,39 +75,3 @@ module _ {A F : Type 0} (fault_of : List A → A → Option (ℕ → F)) (all : 
     told_first fault e one =
         first_told w told (faults_from fault_of all (i + 1)) (all_faults fault_of all) (fault (i + 1)) one (was.none_yet one)
         (here (Some fault) e)
-
--- the fault of an element that breaks a rule
-abbrev pub fault_if : {A F : Type 0} → (ℕ → F) → (List A → A → Bool) → List A → A → Option (ℕ → F)
-fault_if fault breaks earlier x = if breaks earlier x then Some fault else None
-
--- a rule, which an element breaks or not, under a fault
-module _ {A F : Type 0} (fault : ℕ → F) (breaks : List A → A → Bool) (all : List A) (w : Wanted) where
-  module _ (told : List F) (i : ℕ) (d : A) (within : i < length all) (was : IsTold (fault_if fault breaks) all w told i)
-      (now : List F) (b : Bool) (same : b ≡ breaks (take i all) (get_or all i d))
-      (taken : now ≡ told ++ (if b then fault (i + 1) ∷ [] else [])) where
-    judged : (if b then Some fault else None) ≡ fault_if fault breaks (take i all) (get_or all i d)
-    judged = ap (λ (t : Bool). if t then Some fault else None) same
-
-    -- the next element, where more are wanted
-    pub told_next : (b && is_first w) ≡ false → IsTold (fault_if fault breaks) all w now (i + 1)
-    told_next more = by b taken judged more
-      where
-        by : (t : Bool) → now ≡ told ++ (if t then fault (i + 1) ∷ [] else [])
-            → (if t then Some fault else None) ≡ fault_if fault breaks (take i all) (get_or all i d)
-            → (t && is_first w) ≡ false → IsTold (fault_if fault breaks) all w now (i + 1)
-        by true e is more =
-            subst (λ xs. IsTold (fault_if fault breaks) all w xs (i + 1)) (sym e)
-            (told_some (fault_if fault breaks) all w told i d within was fault (sym is) more)
-        by false e is more =
-            subst (λ xs. IsTold (fault_if fault breaks) all w xs (i + 1)) (sym (e ∙ append-nil told))
-            (told_none (fault_if fault breaks) all w told i d within was (sym is))
-
-    -- the next element, where it is enough
-    pub told_enough : (b && is_first w) ≡ true → now ≡ wanted_of w (all_faults (fault_if fault breaks) all)
-    told_enough enough = by b taken judged enough
-      where
-        by : (t : Bool) → now ≡ told ++ (if t then fault (i + 1) ∷ [] else [])
-            → (if t then Some fault else None) ≡ fault_if fault breaks (take i all) (get_or all i d)
-            → (t && is_first w) ≡ true → now ≡ wanted_of w (all_faults (fault_if fault breaks) all)
-        by true e is one = e ∙ told_first (fault_if fault breaks) all w told i d within was fault (sym is) one
-        by false e is one = cc

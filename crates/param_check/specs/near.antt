@@ -7,7 +7,6 @@ pub mod Nets
 pub mod OnLiterals
 pub mod Orders
 pub mod Overlaps
-pub mod RecordRules
 pub mod Samples
 pub mod Sums
 pub mod Wanted

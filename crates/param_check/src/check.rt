@@ -3,17 +3,19 @@ mod keys;
 mod overlaps;
 mod rules;
 
-ghost use Rattle.std.specs.Prelude.{◌≡◌, ◌&&◌, ◌++◌, length, nat_lt, IfOk, OnOk};
+ghost use Rattle.std.specs.Prelude.{◌≡◌, ◌++◌, ◌∷◌, [], List, IfOk, OnOk};
 ghost use Rattle.param_check.specs.CheckFaults.{check_fault, check_faults, checked, is_memory};
-ghost use Rattle.param_check.specs.near.NamedRules.{fault_of, rule_faults, rule_numbers};
-ghost use Rattle.param_check.specs.near.Wanted.{is_first, wanted_of};
+ghost use Rattle.param_check.specs.near.NamedRules.{breaks_of, fault_of, rule_faults, IsSeen};
+ghost use Rattle.param_check.specs.near.Overlaps.{months_in};
 ghost use Rattle.span_tables.specs.Gives.{Gives};
+ghost use Rattle.span_tables.specs.declared.records.Record.{Record};
 
-use crate::check::keys::{Identity, repeats};
-use crate::check::overlaps::overlaps;
-use crate::check::rules::{RecordRule, that_break, unknown_commodities, unknown_tiers};
+use crate::check::keys::{Identity, Key, all_keys, repeats_or_joins};
+use crate::check::overlaps::{Months, overlaps_or_joins};
+use crate::check::rules::{is_backwards, is_one_sided, names_unknown, names_unknown_tier, repeats_leg};
 use crate::faults::CheckFault;
-use crate::wanted::Wanted;
+use indexmap::{IndexMap, IndexSet};
+use span_tables::name::Name;
 use span_tables::raw::RawTables;
 use span_tables::records::Record;
 use span_tables::tables::Tables;
@@ -22,14 +24,10 @@ use std::alloc::{AllocError, Global};
 /// A rule that the records of a file keep.
 #[derive(Clone, Copy)]
 pub(crate) enum Rule {
-    /// C1.
-    DuplicateCommodity,
+    /// C1, C3, C4, C10 and C11, by what no two records share.
+    Repeats(Identity),
     /// C2.
     UnknownCommodity,
-    /// C3.
-    DuplicateContract,
-    /// C4.
-    DuplicateTier,
     /// C5.
     TierBackwards,
     /// C6.
@@ -40,25 +38,21 @@ pub(crate) enum Rule {
     RepeatedLeg,
     /// C9.
     OneSided,
-    /// C10.
-    DuplicatePriority,
-    /// C11.
-    DuplicateSpot,
 }
 
 // The rules in the order of their numbers.
 const RULES: [Rule; 11] = [
-    Rule::DuplicateCommodity,
+    Rule::Repeats(Identity::Commodity),
     Rule::UnknownCommodity,
-    Rule::DuplicateContract,
-    Rule::DuplicateTier,
+    Rule::Repeats(Identity::Contract),
+    Rule::Repeats(Identity::Tier),
     Rule::TierBackwards,
     Rule::TierOverlap,
     Rule::UnknownTier,
     Rule::RepeatedLeg,
     Rule::OneSided,
-    Rule::DuplicatePriority,
-    Rule::DuplicateSpot,
+    Rule::Repeats(Identity::Priority),
+    Rule::Repeats(Identity::SpotMonth),
 ];
 
 // The fault of a record that breaks a rule.
@@ -66,93 +60,92 @@ fn fault_of(rule: Rule, at: usize) -> CheckFault
     ensures { result ≡ fault_of rule at }
 {
     match rule {
-        Rule::DuplicateCommodity => CheckFault::DuplicateCommodity { at },
+        Rule::Repeats(Identity::Commodity) => CheckFault::DuplicateCommodity { at },
         Rule::UnknownCommodity => CheckFault::UnknownCommodity { at },
-        Rule::DuplicateContract => CheckFault::DuplicateContract { at },
-        Rule::DuplicateTier => CheckFault::DuplicateTier { at },
+        Rule::Repeats(Identity::Contract) => CheckFault::DuplicateContract { at },
+        Rule::Repeats(Identity::Tier) => CheckFault::DuplicateTier { at },
         Rule::TierBackwards => CheckFault::TierBackwards { at },
         Rule::TierOverlap => CheckFault::TierOverlap { at },
         Rule::UnknownTier => CheckFault::UnknownTier { at },
         Rule::RepeatedLeg => CheckFault::RepeatedLeg { at },
         Rule::OneSided => CheckFault::OneSided { at },
-        Rule::DuplicatePriority => CheckFault::DuplicatePriority { at },
-        Rule::DuplicateSpot => CheckFault::DuplicateSpot { at },
+        Rule::Repeats(Identity::Priority) => CheckFault::DuplicatePriority { at },
+        Rule::Repeats(Identity::SpotMonth) => CheckFault::DuplicateSpot { at },
     }
 }
 
-// The numbers of the records that break a rule, those that are wanted.
-fn rule_numbers(
-    alloc: Global,
-    wanted: Wanted,
-    rule: Rule,
-    records: &[Record],
-) -> Result<Vec<usize>, AllocError>
-    ensures { IfOk result (λ numbers. numbers.items ≡ wanted_of wanted (rule_numbers records.now rule)) }
+// The keys that a rule asks for before the first record.
+fn first_keys(alloc: Global, rule: Rule, records: &[Record]) -> Result<IndexSet<Key>, AllocError>
+    ensures { IfOk result (λ keys. IsSeen rule records.now [] keys.keys (λ c. [])) }
 {
     match rule {
-        Rule::DuplicateCommodity => repeats(alloc, wanted, Identity::Commodity, records),
-        Rule::UnknownCommodity => unknown_commodities(alloc, wanted, records),
-        Rule::DuplicateContract => repeats(alloc, wanted, Identity::Contract, records),
-        Rule::DuplicateTier => repeats(alloc, wanted, Identity::Tier, records),
-        Rule::TierBackwards => that_break(alloc, wanted, &RecordRule::NotBackwards, records),
-        Rule::TierOverlap => overlaps(alloc, wanted, records),
-        Rule::UnknownTier => unknown_tiers(alloc, wanted, records),
-        Rule::RepeatedLeg => that_break(alloc, wanted, &RecordRule::LegsApart, records),
-        Rule::OneSided => that_break(alloc, wanted, &RecordRule::TwoSided, records),
-        Rule::DuplicatePriority => repeats(alloc, wanted, Identity::Priority, records),
-        Rule::DuplicateSpot => repeats(alloc, wanted, Identity::SpotMonth, records),
+        Rule::UnknownCommodity => all_keys(alloc, Identity::Commodity, records),
+        Rule::UnknownTier => all_keys(alloc, Identity::Tier, records),
+        _ => Ok(IndexSet::new(alloc)),
     }
 }
 
-// Whether a walk ends with these numbers of records that break a rule.
-fn is_enough(wanted: Wanted, numbers: &[usize]) -> bool
-    ensures { result ≡ (is_first wanted && nat_lt 0 (length numbers.now)) }
+// Whether a record breaks a rule, by the keys and the months of tiers that the rule has seen.
+fn breaks(
+    alloc: Global,
+    rule: Rule,
+    keys: &mut IndexSet<Key>,
+    tiers: &mut IndexMap<Name, Vec<Months>>,
+    item: &Record,
+) -> Result<bool, AllocError>
+    ensures { IfOk result (λ breaks. (all earlier : List Record) → IsSeen rule all earlier keys.old.keys (months_in tiers.old)
+        → (breaks ≡ breaks_of rule all earlier item.now)
+        × IsSeen rule all (earlier ++ item.now ∷ []) keys.new.keys (months_in tiers.new)) }
 {
-    wanted.is_first() && !numbers.is_empty()
+    match rule {
+        Rule::Repeats(identity) => repeats_or_joins(keys, identity, item),
+        Rule::UnknownCommodity => Ok(names_unknown(keys, item)),
+        Rule::TierBackwards => Ok(is_backwards(item)),
+        Rule::TierOverlap => overlaps_or_joins(alloc, tiers, item),
+        Rule::UnknownTier => Ok(names_unknown_tier(keys, item)),
+        Rule::RepeatedLeg => Ok(repeats_leg(item)),
+        Rule::OneSided => Ok(is_one_sided(item)),
+    }
 }
 
-// Tells the records that break a rule, those that are wanted, and says whether no more are wanted.
+// Tells the records that break a rule.
 fn tell_rule(
     alloc: Global,
-    wanted: Wanted,
     rule: Rule,
     records: &[Record],
     faults: &mut Vec<CheckFault>,
-) -> Result<bool, AllocError>
-    ensures told { OnOk result (faults.new.items ≡ faults.old.items ++ wanted_of wanted (rule_faults records.now rule)) }
-    ensures enough { IfOk result (λ enough. enough
-        ≡ (is_first wanted && nat_lt 0 (length (wanted_of wanted (rule_numbers records.now rule))))) }
+) -> Result<(), AllocError>
+    ensures { OnOk result (faults.new.items ≡ faults.old.items ++ rule_faults records.now rule) }
 {
-    let numbers = rule_numbers(alloc, wanted, rule, records)?;
-    for number in &numbers {
-        faults.push(fault_of(rule, *number))?;
+    let mut keys = first_keys(alloc, rule, records)?;
+    let mut tiers = IndexMap::new(alloc);
+    for (index, item) in records.iter().enumerate() {
+        if breaks(alloc, rule, &mut keys, &mut tiers, item)? {
+            faults.push(fault_of(rule, index + 1))?;
+        }
     }
-    Ok(is_enough(wanted, &numbers))
+    Ok(())
 }
 
-// The faults of all rules, those that are wanted.
-fn wanted_faults(
-    alloc: Global,
-    wanted: Wanted,
-    records: &[Record],
-) -> Result<Vec<CheckFault>, AllocError>
-    ensures { IfOk result (λ faults. faults.items ≡ wanted_of wanted (check_faults records.now)) }
+// The faults of all rules.
+#[tactic(auto, using(crate::proofs::OutcomeLemmas::check_faults_by_rule))]
+fn all_faults(alloc: Global, records: &[Record]) -> Result<Vec<CheckFault>, AllocError>
+    ensures { IfOk result (λ faults. faults.items ≡ check_faults records.now) }
 {
     let mut faults = Vec::new(alloc);
     for rule in &RULES {
-        if tell_rule(alloc, wanted, *rule, records, &mut faults)? {
-            return Ok(faults);
-        }
+        tell_rule(alloc, *rule, records, &mut faults)?;
     }
     Ok(faults)
 }
 
 /// The lowest-numbered rule that a record breaks, with the first record that breaks it (docs/FORMATS.md, "Faults").
+#[tactic(auto, unfolding(crate::specs::CheckFaults::check_fault))]
 pub fn check_fault(alloc: Global, records: &[Record]) -> Result<Option<CheckFault>, AllocError>
     ensures { IfOk result (λ fault. fault ≡ check_fault records.now) }
 {
-    let faults = wanted_faults(alloc, Wanted::First, records)?;
-    Ok(faults.first().copied())
+    let faults = all_faults(alloc, records)?;
+    Ok(faults.into_iter().next())
 }
 
 /// Each pair of a rule, of C1 to C11, and a record that breaks it, by rising rule, of a rule by rising record (docs/FORMATS.md, "All
@@ -160,7 +153,7 @@ pub fn check_fault(alloc: Global, records: &[Record]) -> Result<Option<CheckFaul
 pub fn check_faults(alloc: Global, records: &RawTables) -> Result<Vec<CheckFault>, AllocError>
     ensures { IfOk result (λ faults. faults.items ≡ check_faults records.now) }
 {
-    wanted_faults(alloc, Wanted::All, records.records())
+    all_faults(alloc, records.records())
 }
 
 /// The tables of the records of a file, or the lowest-numbered rule that they break, of C1 to C11, with the first record

@@ -1,10 +1,9 @@
 //! How many of the faults of a walk are wanted: the first, with which it ends, or all. One walk serves both.
-ghost use Rattle.std.specs.Prelude.{◌≡◌, ◌&&◌, ◌++◌, ◌∷◌, [], if◌then◌else◌, IfOk, OnOk};
+ghost use Rattle.std.specs.Prelude.{◌≡◌};
 ghost use Rattle.span_tables.specs.Faults.{first_of};
 ghost use Rattle.param_check.specs.near.Wanted.{is_first};
 
 use crate::faults::BindFault;
-use std::alloc::AllocError;
 
 /// How many of the faults of a walk are wanted.
 #[derive(Clone, Copy)]
@@ -25,23 +24,6 @@ impl Wanted {
             Wanted::All => false,
         }
     }
-}
-
-/// Takes the number of a record that breaks a rule among those so far, and says whether no more are wanted.
-pub(crate) fn take_number(
-    wanted: Wanted,
-    numbers: &mut Vec<usize>,
-    number: usize,
-    breaks: bool,
-) -> Result<bool, AllocError>
-    ensures taken { OnOk result (numbers.new.items ≡ numbers.old.items ++ (if breaks then number ∷ [] else [])) }
-    ensures enough { IfOk result (λ enough. enough ≡ (breaks && is_first wanted)) }
-{
-    if !breaks {
-        return Ok(false);
-    }
-    numbers.push(number)?;
-    Ok(wanted.is_first())
 }
 
 /// The first of some faults, if there is one.

@@ -1,5 +1,5 @@
 -- What no two records of a kind may share, as keys that are compared.
-use Rattle.std.specs.Prelude.{ℕ, Bool, true, false, not, ◌&&◌, ◌==◌, List, filter_map, Option, Some, None, bytes_eq}
+use Rattle.std.specs.Prelude.{ℕ, Bool, true, false, not, ◌&&◌, ◌==◌, List, Option, Some, None, bytes_eq}
 use Rattle.std.specs.List.{list_any}
 use Rattle.span_tables.specs.Rules.{is_and, as_intra, repeats_commodity, repeats_contract, repeats_tier, repeats_priority}
 use Rattle.span_tables.specs.Rules.{repeats_spot}
@@ -46,10 +46,6 @@ abbrev pub has_key : Identity → List Record → Key → Bool
 has_key identity all key = list_any (λ r. is_same (key_of identity r) key) all
 
 -- a record with the key of an earlier one
-abbrev pub repeats_key : Identity → List Record → Record → Bool
-repeats_key identity earlier r = is_key_among (filter_map (key_of identity) earlier) (key_of identity r)
-
--- the rule that such a record breaks
 abbrev pub repeats : Identity → List Record → Record → Bool
 repeats identity.Commodity = repeats_commodity
 repeats identity.Contract = repeats_contract

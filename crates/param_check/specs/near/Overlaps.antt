@@ -1,6 +1,9 @@
 -- The months of tiers, by their commodity.
-use Rattle.std.specs.Prelude.{ℕ, Bool, false, nat_le, min, max, if◌then◌else◌, List, Option, Some, None, bytes_eq}
+use Rattle.std.specs.Prelude.{ℕ, Bool, false, nat_le, min, max, if◌then◌else◌, List, [], Option, Some, None, bytes_eq}
 use Rattle.std.specs.List.{list_any}
+use Rattle.std.specs.Option.{option_map_or}
+use Rattle.std.specs.Global.{Vec}
+use Rattle.std.specs.HashMap.{HashMap, get}
 use Rattle.span_tables.specs.declared.records.Tier.{Tier}
 use Rattle.span_tables.specs.declared.records.Record.{Record}
 use Rattle.span_tables.specs.declared.records.Record.TheVariants as record_of
@@ -18,6 +21,10 @@ meet x y = nat_le (max x.first y.first) (min x.last y.last)
 abbrev pub months_under : List ℕ → Record → Option Months
 months_under commodity (record_of.Tier t) = if bytes_eq t.commodity commodity then Some (tier_months t) else None
 months_under commodity _ = None
+
+-- the months of a commodity in a map
+abbrev pub months_in : {S : Type 0} → HashMap (List ℕ) (Vec Months) S → List ℕ → List Months
+months_in tiers commodity = option_map_or (λ v. v.items) (get bytes_eq tiers commodity) []
 
 -- the record is a TIER that shares a month with one among those of its commodity
 abbrev pub meets_earlier : (List ℕ → List Months) → Record → Bool

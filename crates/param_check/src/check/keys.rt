@@ -1,10 +1,7 @@
 //! What no two records of a kind may share, as keys of a set.
 ghost use Rattle.std.specs.Prelude.{◌≡◌, ◌++◌, ◌||◌, false, option_to_list, IfOk, OnOk};
-ghost use Rattle.span_tables.specs.Rules.{all_breaking};
-ghost use Rattle.param_check.specs.near.Keys.{has_key, is_key_among, is_same, key_of, repeats};
-ghost use Rattle.param_check.specs.near.Wanted.{wanted_of};
+ghost use Rattle.param_check.specs.near.Keys.{has_key, is_key_among, is_same, key_of};
 
-use crate::wanted::{Wanted, take_number};
 use indexmap::IndexSet;
 use span_tables::name::Name;
 use span_tables::records::Record;
@@ -32,8 +29,8 @@ pub(crate) struct Key {
     pub number: u32,
 }
 
-/// The key of a record, or `None` where it is of another kind.
-pub(crate) fn key_of(identity: Identity, item: &Record) -> Option<Key>
+// The key of a record, or `None` where it is of another kind.
+fn key_of(identity: Identity, item: &Record) -> Option<Key>
     ensures { result ≡ key_of identity item.now }
 {
     match (identity, item) {
@@ -62,37 +59,21 @@ pub(crate) fn name_key(name: &Name, number: u32) -> Key
     }
 }
 
-// Takes the key of a record among those so far, and says whether it was among them.
-fn repeats_or_joins(keys: &mut IndexSet<Key>, key: Option<Key>) -> Result<bool, AllocError>
-    ensures repeats { IfOk result (λ repeats. repeats ≡ is_key_among keys.old.keys key) }
-    ensures members { OnOk result ((k : Key)
-        → is_key_among keys.new.keys (Some k) ≡ (is_key_among keys.old.keys (Some k) || is_same key k)) }
+/// Takes the key of a record among those so far, and says whether it was among them.
+pub(crate) fn repeats_or_joins(
+    keys: &mut IndexSet<Key>,
+    identity: Identity,
+    item: &Record,
+) -> Result<bool, AllocError>
+    ensures repeats { IfOk result (λ repeats. repeats ≡ is_key_among keys.old.keys (key_of identity item.now)) }
+    ensures members { OnOk result ((k : Key) → is_key_among keys.new.keys (Some k)
+        ≡ (is_key_among keys.old.keys (Some k) || is_same (key_of identity item.now) k)) }
 {
-    let Some(key) = key else {
+    let Some(key) = key_of(identity, item) else {
         return Ok(false);
     };
     let is_new = keys.insert(key)?;
     Ok(!is_new)
-}
-
-/// The numbers of the records with the key of an earlier one, which break C1, C3, C4, C10 or C11, those that are wanted.
-pub(crate) fn repeats(
-    alloc: Global,
-    wanted: Wanted,
-    identity: Identity,
-    records: &[Record],
-) -> Result<Vec<usize>, AllocError>
-    ensures { IfOk result (λ numbers. numbers.items ≡ wanted_of wanted (all_breaking (λ at. at) (repeats identity) records.now)) }
-{
-    let mut keys = IndexSet::new(alloc);
-    let mut numbers = Vec::new(alloc);
-    for (index, item) in records.iter().enumerate() {
-        let is_repeat = repeats_or_joins(&mut keys, key_of(identity, item))?;
-        if take_number(wanted, &mut numbers, index + 1, is_repeat)? {
-            return Ok(numbers);
-        }
-    }
-    Ok(numbers)
 }
 
 /// The keys of all records that have one.
@@ -105,7 +86,7 @@ pub(crate) fn all_keys(
 {
     let mut keys = IndexSet::new(alloc);
     for item in records {
-        repeats_or_joins(&mut keys, key_of(identity, item))?;
+        repeats_or_joins(&mut keys, identity, item)?;
     }
     Ok(keys)
 }

@@ -1,68 +1,15 @@
-//! The rules that a record breaks by itself or by what it names: C2, C5, C7, C8 and C9, and the records that break one.
-ghost use Rattle.std.specs.Prelude.{◌≡◌, ◌&&◌, ◌==◌, bytes_eq, map, IfOk};
+//! The rules that a record breaks by itself or by what it names: C2, C5, C7, C8 and C9.
+ghost use Rattle.std.specs.Prelude.{◌≡◌, ◌&&◌, ◌==◌, bytes_eq, map};
 ghost use Rattle.std.specs.List.{list_all, list_any};
 ghost use Rattle.span_tables.specs.Names.{has_repeat};
-ghost use Rattle.span_tables.specs.Rules.{all_breaking, are_one_sided, is_backwards, is_one_sided, is_side_a};
-ghost use Rattle.span_tables.specs.Rules.{names_no_commodity, names_no_tier, repeats_leg, same_side};
+ghost use Rattle.span_tables.specs.Rules.{are_one_sided, is_backwards, is_one_sided, is_side_a, repeats_leg, same_side};
 ghost use Rattle.param_check.specs.near.Keys.{is_key_unknown, names_unknown, names_unknown_tier};
-ghost use Rattle.param_check.specs.near.RecordRules.{breaks};
-ghost use Rattle.param_check.specs.near.Wanted.{wanted_of};
 
-use crate::check::keys::{Identity, Key, all_keys, name_key};
-use crate::wanted::{Wanted, take_number};
+use crate::check::keys::{Key, name_key};
 use indexmap::IndexSet;
 use span_tables::name::Name;
 use span_tables::records::{InterLeg, IntraLeg, Record};
 use span_tables::sides::Side;
-use std::alloc::{AllocError, Global};
-
-/// A rule that a record breaks by itself, or by what it names among the keys of the file.
-#[derive(Drop)]
-pub(crate) enum RecordRule {
-    /// C2: the commodities that a record names are among these.
-    KnownCommodities(IndexSet<Key>),
-    /// C5: a tier does not end before it begins.
-    NotBackwards,
-    /// C7: the tiers that a record names are among these.
-    KnownTiers(IndexSet<Key>),
-    /// C8: no two legs are of one tier and side, or of one commodity.
-    LegsApart,
-    /// C9: some leg is on A, and some on B.
-    TwoSided,
-}
-
-// Whether a record breaks a rule.
-fn breaks(rule: &RecordRule, item: &Record) -> bool
-    ensures { result ≡ breaks rule.now item.now }
-{
-    match rule {
-        RecordRule::KnownCommodities(commodities) => names_unknown(commodities, item),
-        RecordRule::NotBackwards => is_backwards(item),
-        RecordRule::KnownTiers(tiers) => names_unknown_tier(tiers, item),
-        RecordRule::LegsApart => repeats_leg(item),
-        RecordRule::TwoSided => is_one_sided(item),
-    }
-}
-
-/// The numbers of the records that break a rule, those that are wanted.
-pub(crate) fn that_break(
-    alloc: Global,
-    wanted: Wanted,
-    rule: &RecordRule,
-    records: &[Record],
-) -> Result<Vec<usize>, AllocError>
-    ensures { IfOk result (λ numbers. numbers.items
-        ≡ wanted_of wanted (all_breaking (λ at. at) (λ earlier r. breaks rule.now r) records.now)) }
-{
-    let mut numbers = Vec::new(alloc);
-    for (index, item) in records.iter().enumerate() {
-        let is_broken = breaks(rule, item);
-        if take_number(wanted, &mut numbers, index + 1, is_broken)? {
-            return Ok(numbers);
-        }
-    }
-    Ok(numbers)
-}
 
 // ---- C2
 
@@ -81,8 +28,8 @@ fn has_unknown_leg(commodities: &IndexSet<Key>, legs: &[InterLeg]) -> bool
         .any(|leg| is_key_unknown(commodities, &leg.commodity, 0))
 }
 
-// Whether a record names an unknown commodity.
-fn names_unknown(commodities: &IndexSet<Key>, item: &Record) -> bool
+/// Whether a record names an unknown commodity.
+pub(crate) fn names_unknown(commodities: &IndexSet<Key>, item: &Record) -> bool
     ensures { result ≡ names_unknown commodities.now.keys item.now }
 {
     match item {
@@ -95,28 +42,10 @@ fn names_unknown(commodities: &IndexSet<Key>, item: &Record) -> bool
     }
 }
 
-/// The numbers of the records that break C2, those that are wanted.
-pub(crate) fn unknown_commodities(
-    alloc: Global,
-    wanted: Wanted,
-    records: &[Record],
-) -> Result<Vec<usize>, AllocError>
-    ensures { IfOk result (λ numbers. numbers.items
-        ≡ wanted_of wanted (all_breaking (λ at. at) (λ earlier r. names_no_commodity records.now r) records.now)) }
-{
-    let commodities = all_keys(alloc, Identity::Commodity, records)?;
-    that_break(
-        alloc,
-        wanted,
-        &RecordRule::KnownCommodities(commodities),
-        records,
-    )
-}
-
 // ---- C5
 
-// Whether a record is a TIER whose first month is after its last.
-fn is_backwards(item: &Record) -> bool
+/// Whether a record is a TIER whose first month is after its last.
+pub(crate) fn is_backwards(item: &Record) -> bool
     ensures { result ≡ is_backwards item.now }
 {
     match item {
@@ -135,27 +64,14 @@ fn has_unknown_tier(tiers: &IndexSet<Key>, commodity: &Name, legs: &[IntraLeg]) 
         .any(|leg| is_key_unknown(tiers, commodity, leg.tier))
 }
 
-// Whether a record is an INTRA with a leg of an unknown tier.
-fn names_unknown_tier(tiers: &IndexSet<Key>, item: &Record) -> bool
+/// Whether a record is an INTRA with a leg of an unknown tier.
+pub(crate) fn names_unknown_tier(tiers: &IndexSet<Key>, item: &Record) -> bool
     ensures { result ≡ names_unknown_tier tiers.now.keys item.now }
 {
     match item {
         Record::Intra(spread) => has_unknown_tier(tiers, &spread.commodity, &spread.legs),
         _ => false,
     }
-}
-
-/// The numbers of the records that break C7, those that are wanted.
-pub(crate) fn unknown_tiers(
-    alloc: Global,
-    wanted: Wanted,
-    records: &[Record],
-) -> Result<Vec<usize>, AllocError>
-    ensures { IfOk result (λ numbers. numbers.items
-        ≡ wanted_of wanted (all_breaking (λ at. at) (λ earlier r. names_no_tier records.now r) records.now)) }
-{
-    let tiers = all_keys(alloc, Identity::Tier, records)?;
-    that_break(alloc, wanted, &RecordRule::KnownTiers(tiers), records)
 }
 
 // ---- C8
@@ -218,8 +134,8 @@ fn repeats_commodity_leg(legs: &[InterLeg]) -> bool
     false
 }
 
-// Whether a record is a spread with two legs of one tier and side, or of one commodity.
-fn repeats_leg(item: &Record) -> bool
+/// Whether a record is a spread with two legs of one tier and side, or of one commodity.
+pub(crate) fn repeats_leg(item: &Record) -> bool
     ensures { result ≡ repeats_leg item.now }
 {
     match item {
@@ -263,8 +179,8 @@ fn commodity_legs_one_sided(legs: &[InterLeg]) -> bool
     commodity_legs_on(legs, Side::A) || commodity_legs_on(legs, Side::B)
 }
 
-// Whether a record is a spread with no leg on A or none on B.
-fn is_one_sided(item: &Record) -> bool
+/// Whether a record is a spread with no leg on A or none on B.
+pub(crate) fn is_one_sided(item: &Record) -> bool
     ensures { result ≡ is_one_sided item.now }
 {
     match item {

@@ -1,6 +1,11 @@
-use Rattle.std.proofs.Common.{◌≡◌, ◌++◌, map, take}
-use Rattle.param_check.specs.near.NamedRules.{fault_of}
+use Rattle.std.proofs.Common.{◌≡◌, ◌++◌, take}
+use Rattle.param_check.specs.near.NamedRules.{IsSeen, rule_fault, rule_faults}
+use Rattle.param_check.specs.near.Overlaps.{months_in}
+use Rattle.param_check.proofs.AllFaults.{faults_from}
 use Rattle.param_check.proofs.check.tell_rule.Given as goal
 
-abbrev pub invariant-loop-number : goal.invariant-loop-number
-invariant-loop-number l = l.faults.items ≡ l.fn.faults.items ++ map (fault_of l.rule) (take l.number-index l.number-items)
+abbrev pub invariant-loop-index : goal.invariant-loop-index
+invariant-loop-index l = record {
+  seen : IsSeen l.rule l.records (take l.index l.records) l.keys.keys (months_in l.tiers);
+  told : l.faults.items ++ faults_from (rule_fault l.records l.rule) l.records l.index ≡ l.fn.faults.items ++ rule_faults l.records l.rule;
+}
