@@ -78,8 +78,7 @@ pub(crate) fn first_step(tables: &Tables, firsts: &[u32], c: u32) -> u32
     ensures value { result ≡ first_step tables.now c }
     ensures bound { result ≤ MAX_FIRST }
 {
-    // Called for its clause: the tables are within their limits.
-    let _limits = tables.commodities();
+    tables.known();
     firsts[c as usize]
 }
 
@@ -91,8 +90,7 @@ fn tiers_step(tables: &Tables, firsts: &[u32], c: u32, spreads: u32) -> u32
     ensures value { result ≡ tiers_step tables.now c spreads }
     ensures bound { result ≤ MAX_FIRST + TIERS + MAX_INTRA_SPREADS }
 {
-    // Called for its clause: a commodity has few spreads.
-    let _few = tables.intras(c as usize);
+    tables.known();
     first_step(tables, firsts, c) + TIERS + spreads
 }
 
@@ -135,8 +133,6 @@ fn inter_step(tables: &Tables, firsts: &[u32], spreads: u32) -> u32
     ensures bound { result ≤ MAX_FIRST + MAX_COMMODITIES + MAX_INTER_SPREADS }
 {
     let all = tables.commodities().len();
-    // Called for its clause: there are few intercommodity spreads.
-    let _few = tables.inters();
     load_step(tables, firsts, all as u32) + spreads
 }
 
@@ -156,8 +152,7 @@ pub(crate) fn total_step(tables: &Tables, firsts: &[u32], commodities: u32) -> u
     ensures value { result ≡ total_step tables.now commodities }
     ensures bound { result ≤ MAX_FIRST + MAX_COMMODITIES + MAX_INTER_SPREADS + TOTAL + MAX_COMMODITIES }
 {
-    // Called for its clause: the tables are within their limits.
-    let _limits = tables.commodities();
+    tables.known();
     last_inter_step(tables, firsts) + TOTAL + commodities
 }
 

@@ -155,8 +155,7 @@ fn plan_of(alloc: Global, tables: &Tables, firsts: &[u32]) -> Result<Plan, Alloc
     requires { AreFirsts tables.now firsts.now }
     ensures { IfOk result (λ plan. plan ≡ plan_of tables.now) }
 {
-    // Called for its clause: the tables are within their limits.
-    let _limits = tables.commodities();
+    tables.known();
     let ops = ops_of(alloc, tables)?;
     let inputs = inputs_of_all(alloc, tables, firsts, &ops)?;
     let plan = Plan::new(alloc, ops, inputs)?;
@@ -169,8 +168,7 @@ fn shared_of(alloc: Global, tables: Tables) -> Result<Shared, AllocError>
     ensures plan { IfOk result (λ shared. shared.plan ≡ plan_of tables) }
     ensures set { IfOk result (λ shared. IsSet shared.tables shared.plan shared.firsts.items shared.missing.items shared.ready.items) }
 {
-    // Called for its clause: the tables are within their limits.
-    let _limits = tables.commodities();
+    tables.known();
     let firsts = first_steps(alloc, &tables)?;
     let plan = plan_of(alloc, &tables, &firsts)?;
     let (missing, ready) = beginnings(alloc, &plan)?;

@@ -19,7 +19,7 @@ returns-clause-value c =
 pub returns-clause-bound : goal.returns-clause-bound
 returns-clause-bound c =
     let n = length c.args.tables.now.commodities in
-    let limits = c.commodities-limits.ensures.limits in
+    let limits = c.known.ensures in
     let few = limits.commodities in
     let small = first_small c.args.tables.now limits c.args.c in
     let within : c.args.c < n + 1 = omega (arith, c.requires.among) in

@@ -14,7 +14,7 @@ inputs_of_all-requires-clause-known c = rw (c.deref.ensures.value, c.in_ok-ops.e
 pub new-requires : goal.new-requires
 new-requires c =
     rw (c.in_ok-inputs.ensures, c.deref.ensures.value, c.in_ok-ops.ensures)
-    (are_inputs c.args.tables.now c.commodities-limits.ensures.limits)
+    (are_inputs c.args.tables.now c.known.ensures)
 
 pub returns : goal.returns
 returns c =
