@@ -1,6 +1,6 @@
 -- The faults of a list's elements, in a loop over the elements.
 use Rattle.std.proofs.Common.{◌≡◌, ℕ, zero, suc, ◌+◌, ◌<◌, ◌≤◌, List, [], ◌∷◌, ◌++◌, Option, refl, length, take, drop, get_or, ap, ◌∙◌}
-use Rattle.std.proofs.Common.{sym, arith}
+use Rattle.std.proofs.Common.{append_assoc, sym, arith}
 use Rattle.std.specs.Prelude.{option_map, option_to_list}
 use Rattle.std.proofs.lemmas.List.{take_more, drop_more, drop_all, length-take-le}
 use Rattle.span_tables.specs.Faults.{all_faults, faults_after}
@@ -26,6 +26,15 @@ module _ {A F : Type 0} (fault_of : List A → A → Option (ℕ → F)) (all : 
   -- behind the last element there are none
   pub faults_from_end : (i : ℕ) → length all ≤ i → faults_from i ≡ []
   faults_from_end i h = ap (faults_after fault_of (take i all)) (drop_all i all h)
+
+  -- what is told with one more element
+  pub told_next : (told now total : List F) (i : ℕ) (d : A) → i < length all → (o : Option (ℕ → F)) → fault_of (take i all) (get_or all i d) ≡ o
+      → now ≡ told ++ option_to_list (option_map (λ fault. fault (i + 1)) o) → told ++ faults_from i ≡ total
+      → now ++ faults_from (i + 1) ≡ total
+  told_next told now total i d h o e is was =
+      ap (λ xs. xs ++ faults_from (i + 1)) is ∙ append_assoc told (option_to_list (option_map (λ fault. fault (i + 1)) o)) (faults_from (i + 1))
+      ∙ ap (λ p. told ++ (option_to_list (option_map (λ fault. fault (i + 1)) p) ++ faults_from (i + 1))) (sym e)
+      ∙ ap (λ xs. told ++ xs) (sym (faults_from_next i d h)) ∙ was
 
 -- two tests that agree on each element behind those before it give the same faults
 module _ {A F : Type 0} (these those : List A → A → Option (ℕ → F)) (all : List A)

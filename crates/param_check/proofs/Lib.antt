@@ -18,7 +18,6 @@ pub mod NetLaws
 pub mod NumberedUnfit
 pub mod OrderLaws
 pub mod OrderedFaults
-pub mod OutcomeLemmas
 pub mod OverlapLemmas
 pub mod PlaceLaws
 pub mod PortfolioLaws

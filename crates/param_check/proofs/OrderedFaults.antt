@@ -110,37 +110,17 @@ module _ (all : List Record) where
       (together check_number check_record (λ (named : (ℕ → CheckFault) × (List Record → Record → Bool)). all_breaking named.0 named.1 all) 1
       (zip rule_names (rules all)) (
         rule_part check.DuplicateCommodity 1 (λ at. refl) (λ at. refl) _,
-        (
-          rule_part check.UnknownCommodity 2 (λ at. refl) (λ at. refl) _,
-          (
-            rule_part check.DuplicateContract 3 (λ at. refl) (λ at. refl) _,
-            (
-              rule_part check.DuplicateTier 4 (λ at. refl) (λ at. refl) _,
-              (
-                rule_part check.TierBackwards 5 (λ at. refl) (λ at. refl) _,
-                (
-                  rule_part check.TierOverlap 6 (λ at. refl) (λ at. refl) _,
-                  (
-                    rule_part check.UnknownTier 7 (λ at. refl) (λ at. refl) _,
-                    (
-                      rule_part check.RepeatedLeg 8 (λ at. refl) (λ at. refl) _,
-                      (
-                        rule_part check.OneSided 9 (λ at. refl) (λ at. refl) _,
-                        (
-                          rule_part check.DuplicatePriority 10 (λ at. refl) (λ at. refl) _,
-                          (
-                            rule_part check.DuplicateSpot 11 (λ at. refl) (λ at. refl) _,
-                            tt,
-                          ),
-                        ),
-                      ),
-                    ),
-                  ),
-                ),
-              ),
-            ),
-          ),
-        ),
+        rule_part check.UnknownCommodity 2 (λ at. refl) (λ at. refl) _,
+        rule_part check.DuplicateContract 3 (λ at. refl) (λ at. refl) _,
+        rule_part check.DuplicateTier 4 (λ at. refl) (λ at. refl) _,
+        rule_part check.TierBackwards 5 (λ at. refl) (λ at. refl) _,
+        rule_part check.TierOverlap 6 (λ at. refl) (λ at. refl) _,
+        rule_part check.UnknownTier 7 (λ at. refl) (λ at. refl) _,
+        rule_part check.RepeatedLeg 8 (λ at. refl) (λ at. refl) _,
+        rule_part check.OneSided 9 (λ at. refl) (λ at. refl) _,
+        rule_part check.DuplicatePriority 10 (λ at. refl) (λ at. refl) _,
+        rule_part check.DuplicateSpot 11 (λ at. refl) (λ at. refl) _,
+        tt,
       )).0
 
 module _ (contracts : List Contract) (all : List PositionRecord) where

@@ -1,15 +1,26 @@
--- Records without a fault of the check keep every rule.
+-- The fault of a check by the rules, and that records without one keep every rule.
 use Rattle.std.proofs.Common.{◌≡◌, ℕ, ◌+◌, Bool, true, false, List, [], ◌∷◌, ◌++◌, ◌∙◌}
-use Rattle.std.proofs.Common.{Option, Some, None, refl, sym, length, map, arith}
-use Rattle.std.specs.Prelude.{zip, is_none, if◌then◌else◌, option_map, option_to_list}
+use Rattle.std.proofs.Common.{Option, Some, None, refl, sym, ap, length, map, arith}
+use Rattle.std.specs.Prelude.{flat_map, zip, is_none, if◌then◌else◌, option_map, option_to_list}
 use Rattle.std.specs.List.{list_all}
 use Rattle.std.specs.Option.{option_or}
 use Rattle.span_tables.specs.Faults.{faults_after, first_of, first_some}
-use Rattle.span_tables.specs.Rules.{rules, first_breaking, keeps_rules}
-use Rattle.param_check.specs.CheckFaults.{rule_names, check_fault}
+use Rattle.span_tables.specs.Rules.{all_breaking, rules, first_breaking, keeps_rules}
+use Rattle.span_tables.proofs.FaultLaws.{first_of_both}
+use Rattle.param_check.specs.CheckFaults.{rule_names, check_fault, check_faults}
 use Rattle.span_tables.specs.declared.records.Record.{Record}
 use Rattle.param_check.specs.declared.faults.CheckFault.{CheckFault}
-use Rattle.param_check.proofs.OutcomeLemmas.{check_fault_by_rule}
+
+-- the first of the faults of all is the first outcome of each
+first_of_each : {X F : Type 0} (f : X → List F) (xs : List X) → first_of (flat_map f xs) ≡ first_some (map (λ x. first_of (f x)) xs)
+first_of_each f [] = refl
+first_of_each f (x ∷ xs) = first_of_both (f x) (flat_map f xs) ∙ ap (option_or (first_of (f x))) (first_of_each f xs)
+
+-- the fault of a check, by the first record that breaks each rule
+pub check_fault_by_rule : (all : List Record)
+    → check_fault all ≡ first_some (map (λ named. first_breaking named.0 named.1 all) (zip rule_names (rules all)))
+unfolding check_fault check_faults
+check_fault_by_rule all = first_of_each (λ named. all_breaking named.0 named.1 all) (zip rule_names (rules all))
 
 -- whether a rule is broken does not depend on its name
 module _ {F : Type 0} (fault : ℕ → F) (breaks : List Record → Record → Bool) where

@@ -128,7 +128,7 @@ fn tell_rule(
 }
 
 // The faults of all rules.
-#[tactic(auto, using(crate::proofs::OutcomeLemmas::check_faults_by_rule))]
+#[tactic(auto, unfolding(crate::specs::CheckFaults::check_faults))]
 fn all_faults(alloc: Global, records: &[Record]) -> Result<Vec<CheckFault>, AllocError>
     ensures { IfOk result (λ faults. faults.items ≡ check_faults records.now) }
 {
@@ -158,7 +158,7 @@ pub fn check_faults(alloc: Global, records: &RawTables) -> Result<Vec<CheckFault
 
 /// The tables of the records of a file, or the lowest-numbered rule that they break, of C1 to C11, with the first record
 /// that breaks it (docs/FORMATS.md, "Faults").
-#[tactic(auto, using(crate::proofs::OutcomeLemmas::refused, crate::proofs::OutcomeLemmas::accepted, crate::proofs::RuleLaws::rules_kept))]
+#[tactic(auto, using(crate::proofs::RuleLaws::rules_kept), unfolding(crate::specs::CheckFaults::checked))]
 pub fn check(alloc: Global, raw: RawTables) -> Result<Tables, CheckFault>
     ensures { Gives is_memory result (checked raw) }
 {

@@ -2,7 +2,7 @@
 ghost use Rattle.std.specs.Prelude.{◌≡◌, ◌&&◌, ◌==◌, bytes_eq, map};
 ghost use Rattle.std.specs.List.{list_all, list_any};
 ghost use Rattle.span_tables.specs.Names.{has_repeat};
-ghost use Rattle.span_tables.specs.Rules.{are_one_sided, is_backwards, is_one_sided, is_side_a, repeats_leg, same_side};
+ghost use Rattle.span_tables.specs.Rules.{are_one_sided, is_backwards, is_one_sided, repeats_leg, same_side};
 ghost use Rattle.param_check.specs.near.Keys.{is_key_unknown, names_unknown, names_unknown_tier};
 
 use crate::check::keys::{Key, name_key};
@@ -76,24 +76,11 @@ pub(crate) fn names_unknown_tier(tiers: &IndexSet<Key>, item: &Record) -> bool
 
 // ---- C8
 
-// Whether the leg is on A.
-fn is_side_a(side: Side) -> bool
-    ensures { result ≡ is_side_a side }
-{
-    match side {
-        Side::A => true,
-        Side::B => false,
-    }
-}
-
 // Whether two legs are on the same side.
 fn same_side(one: Side, other: Side) -> bool
     ensures { result ≡ same_side one other }
 {
-    match one {
-        Side::A => is_side_a(other),
-        Side::B => !is_side_a(other),
-    }
+    matches!((one, other), (Side::A, Side::A) | (Side::B, Side::B))
 }
 
 // Whether some leg has this tier and side.
