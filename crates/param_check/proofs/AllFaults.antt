@@ -28,11 +28,13 @@ module _ {A F : Type 0} (fault_of : List A → A → Option (ℕ → F)) (all : 
   faults_from_end i h = ap (faults_after fault_of (take i all)) (drop_all i all h)
 
   -- what is told with one more element
-  pub told_next : (told now total : List F) (i : ℕ) (d : A) → i < length all → (o : Option (ℕ → F)) → fault_of (take i all) (get_or all i d) ≡ o
+  pub told_next : (told now total : List F) (i : ℕ) (d : A) → i < length all
+      → (o : Option (ℕ → F)) → fault_of (take i all) (get_or all i d) ≡ o
       → now ≡ told ++ option_to_list (option_map (λ fault. fault (i + 1)) o) → told ++ faults_from i ≡ total
       → now ++ faults_from (i + 1) ≡ total
   told_next told now total i d h o e is was =
-      ap (λ xs. xs ++ faults_from (i + 1)) is ∙ append_assoc told (option_to_list (option_map (λ fault. fault (i + 1)) o)) (faults_from (i + 1))
+      ap (λ xs. xs ++ faults_from (i + 1)) is
+      ∙ append_assoc told (option_to_list (option_map (λ fault. fault (i + 1)) o)) (faults_from (i + 1))
       ∙ ap (λ p. told ++ (option_to_list (option_map (λ fault. fault (i + 1)) p) ++ faults_from (i + 1))) (sym e)
       ∙ ap (λ xs. told ++ xs) (sym (faults_from_next i d h)) ∙ was
 

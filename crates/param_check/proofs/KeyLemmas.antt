@@ -61,7 +61,8 @@ repeats_by identity.Contract keys earlier are (record_of.Contract x) =
 repeats_by identity.Tier keys earlier are (record_of.Tier x) =
     found identity.Tier keys earlier are (name_key x.commodity x.number) as_tier _ (is_tier x.commodity x.number)
 repeats_by identity.Priority keys earlier are (record_of.Intra x) =
-    found identity.Priority keys earlier are (name_key x.commodity x.priority) as_intra _ (is_intra x.commodity x.priority) ∙ sym (or-false _)
+    found identity.Priority keys earlier are (name_key x.commodity x.priority) as_intra _ (is_intra x.commodity x.priority)
+    ∙ sym (or-false _)
 repeats_by identity.Priority keys earlier are (record_of.Inter x) =
     found identity.Priority keys earlier are (record { name = None; number = x.priority }) as_inter _ (is_inter x.priority)
 repeats_by identity.SpotMonth keys earlier are (record_of.Spot x) =
@@ -101,5 +102,6 @@ module _ (keys : List Key) (all : List Record) where
       → (r : Record) → names_unknown_tier keys r ≡ names_no_tier all r
   names_unknown_tier_by are (record_of.Intra x) =
       list_any-same _ _
-      (λ leg. ap not (found identity.Tier keys all are (name_key x.commodity leg.tier) as_tier _ (is_tier x.commodity leg.tier))) x.legs.items
+      (λ leg. ap not (found identity.Tier keys all are (name_key x.commodity leg.tier) as_tier _ (is_tier x.commodity leg.tier)))
+      x.legs.items
   names_unknown_tier_by are _ = refl

@@ -95,33 +95,41 @@ same_fault true h g e = cc
 same_fault false h g e = cc
 
 module _ (all : List Record) where
-  rule_part : (h : ℕ → CheckFault) (n : ℕ) → ((at : ℕ) → check_number (h at) ≡ n) → ((at : ℕ) → check_record (h at) ≡ at)
-      → (breaks : List Record → Record → Bool)
-      → IsStrictlyRisingBy check_record (all_breaking h breaks all) × AllByRecursion (λ y. check_number y ≡ n) (all_breaking h breaks all)
-  rule_part h n numbered recorded breaks =
-      named_part check_number check_record (λ earlier r. if breaks earlier r then Some h else None) n
-      (λ earlier r g e. (let same = same_fault (breaks earlier r) h g e in
-      (λ at. sym (ap (λ f. check_number (f at)) same) ∙ numbered at, λ at. sym (ap (λ f. check_record (f at)) same) ∙ recorded at))) all
+  abbrev faults_of : (ℕ → CheckFault) × (List Record → Record → Bool) → List CheckFault
+  faults_of named = all_breaking named.0 named.1 all
+
+  -- one more rule, in front
+  rule : (h : ℕ → CheckFault) (n : ℕ) → ((at : ℕ) → check_number (h at) ≡ n) → ((at : ℕ) → check_record (h at) ≡ at)
+      → (breaks : List Record → Record → Bool) (rs : List ((ℕ → CheckFault) × (List Record → Record → Bool)))
+      → AreNumbered check_number check_record faults_of (n + 1) rs → AreNumbered check_number check_record faults_of n ((h, breaks) ∷ rs)
+  unfolding AreNumbered
+  rule h n numbered recorded breaks rs rest = (
+    named_part check_number check_record (λ earlier r. if breaks earlier r then Some h else None) n
+        (λ earlier r g e. (let same = same_fault (breaks earlier r) h g e in
+        (λ at. sym (ap (λ f. check_number (f at)) same) ∙ numbered at, λ at. sym (ap (λ f. check_record (f at)) same) ∙ recorded at))) all,
+    rest,
+  )
+
+  no_more : (n : ℕ) → AreNumbered check_number check_record faults_of n []
+  unfolding AreNumbered
+  no_more n = tt
 
   -- the faults of a check
   pub check_in_order : AreInOrder (ComesBefore check_number check_record) (check_faults all)
-  unfolding check_faults AreNumbered
+  unfolding check_faults
   check_in_order =
-      (together check_number check_record (λ (named : (ℕ → CheckFault) × (List Record → Record → Bool)). all_breaking named.0 named.1 all) 1
-      (zip rule_names (rules all)) (
-        rule_part check.DuplicateCommodity 1 (λ at. refl) (λ at. refl) _,
-        rule_part check.UnknownCommodity 2 (λ at. refl) (λ at. refl) _,
-        rule_part check.DuplicateContract 3 (λ at. refl) (λ at. refl) _,
-        rule_part check.DuplicateTier 4 (λ at. refl) (λ at. refl) _,
-        rule_part check.TierBackwards 5 (λ at. refl) (λ at. refl) _,
-        rule_part check.TierOverlap 6 (λ at. refl) (λ at. refl) _,
-        rule_part check.UnknownTier 7 (λ at. refl) (λ at. refl) _,
-        rule_part check.RepeatedLeg 8 (λ at. refl) (λ at. refl) _,
-        rule_part check.OneSided 9 (λ at. refl) (λ at. refl) _,
-        rule_part check.DuplicatePriority 10 (λ at. refl) (λ at. refl) _,
-        rule_part check.DuplicateSpot 11 (λ at. refl) (λ at. refl) _,
-        tt,
-      )).0
+      (together check_number check_record faults_of 1 (zip rule_names (rules all))
+      (rule check.DuplicateCommodity 1 (λ at. refl) (λ at. refl) _ _
+      (rule check.UnknownCommodity 2 (λ at. refl) (λ at. refl) _ _
+      (rule check.DuplicateContract 3 (λ at. refl) (λ at. refl) _ _
+      (rule check.DuplicateTier 4 (λ at. refl) (λ at. refl) _ _
+      (rule check.TierBackwards 5 (λ at. refl) (λ at. refl) _ _
+      (rule check.TierOverlap 6 (λ at. refl) (λ at. refl) _ _
+      (rule check.UnknownTier 7 (λ at. refl) (λ at. refl) _ _
+      (rule check.RepeatedLeg 8 (λ at. refl) (λ at. refl) _ _
+      (rule check.OneSided 9 (λ at. refl) (λ at. refl) _ _
+      (rule check.DuplicatePriority 10 (λ at. refl) (λ at. refl) _ _
+      (rule check.DuplicateSpot 11 (λ at. refl) (λ at. refl) _ _ (no_more _))))))))))))).0
 
 module _ (contracts : List Contract) (all : List PositionRecord) where
   unfit_part : (h : ℕ → List ℕ → BindFault) (n : ℕ) → ((at : ℕ) (name : List ℕ) → bind_number (h at name) ≡ n)

@@ -30,7 +30,8 @@ module _ {F : Type 0} (fault : ℕ → F) (breaks : List Record → Record → B
   by true n named numbers rest e = cc
   by false n named numbers rest e = rest e
 
-  same_under : (before xs : List Record) → first_of (faults_after (λ earlier r. if breaks earlier r then Some fault else None) before xs) ≡ None
+  same_under : (before xs : List Record)
+      → first_of (faults_after (λ earlier r. if breaks earlier r then Some fault else None) before xs) ≡ None
       → first_of (faults_after (λ earlier r. if breaks earlier r then Some (λ (at : ℕ). at) else None) before xs) ≡ None
   same_under before [] e = refl
   same_under before (x ∷ xs) e = by (breaks before x) (length before + 1) _ _ (same_under (before ++ x ∷ []) xs) e

@@ -12,7 +12,9 @@ ghost use Rattle.span_tables.specs.declared.records.Record.{Record};
 
 use crate::check::keys::{Identity, Key, all_keys, repeats_or_joins};
 use crate::check::overlaps::{Months, overlaps_or_joins};
-use crate::check::rules::{is_backwards, is_one_sided, names_unknown, names_unknown_tier, repeats_leg};
+use crate::check::rules::{
+    is_backwards, is_one_sided, names_unknown, names_unknown_tier, repeats_leg,
+};
 use crate::faults::CheckFault;
 use indexmap::{IndexMap, IndexSet};
 use span_tables::name::Name;

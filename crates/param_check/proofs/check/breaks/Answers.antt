@@ -16,7 +16,8 @@ returns-in-Repeats c =
     rw c.in-Repeats.is (λ were. (is ∙ repeats_by _ _ earlier were item, λ k. members k ∙ has_key_more _ _ earlier were item k)))
 
 pub returns-in-UnknownCommodity : goal.returns-in-UnknownCommodity
-returns-in-UnknownCommodity c = λ all earlier. rw c.in-UnknownCommodity.is (λ were. (c.names_unknown.ensures ∙ names_unknown_by _ all were _, were))
+returns-in-UnknownCommodity c = λ all earlier. rw c.in-UnknownCommodity.is (λ were.
+    (c.names_unknown.ensures ∙ names_unknown_by _ all were _, were))
 
 pub returns-in-TierOverlap : goal.returns-in-TierOverlap
 returns-in-TierOverlap c =

@@ -23,7 +23,8 @@ loop-index-preserved c =
           (ap (λ y. take i all ++ y ∷ []) is ∙ sym (take_more all i _ (omega arith))) judged.1;
       told = elim c.if-branch.branch [
         | then-branch+in_ok-push w ↦ next (fault true) (fault_is ∙ ap fault w.if-branch.true)
-            (ap (λ v. v.items) w.faults-is ∙ w.in_ok-push.ensures.items ∙ ap (λ f. told ++ f ∷ []) w.fault_of.ensures) c.loop-index.invariant.told
+            (ap (λ v. v.items) w.faults-is ∙ w.in_ok-push.ensures.items ∙ ap (λ f. told ++ f ∷ []) w.fault_of.ensures)
+            c.loop-index.invariant.told
         | else-branch w ↦ next (fault false) (fault_is ∙ ap fault w.if-branch.false)
             (ap (λ v. v.items) w.faults-is ∙ sym (append-nil told)) c.loop-index.invariant.told
       ];
