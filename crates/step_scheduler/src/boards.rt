@@ -22,7 +22,7 @@ use crate::opening::found_values;
 use crate::progress::{Progress, all_done, is_under_way};
 use crate::stepped::Stepped;
 use crate::tasks::Task;
-use crate::watches::Watch;
+use crate::watches::{Watch, pass_steps};
 use crate::whole::{Whole, copied};
 use plan_ir::figures::Figures;
 use plan_ir::values::Value;
@@ -104,9 +104,8 @@ impl Board {
 
     /// A board of a job on which every step of its plan was run, in one call: its history is that of the set's course.
     ///
-    /// The watch is passed for each step in the order of that history, and before the step is evaluated. The watch is passed also
-    /// for the steps of what is not held, of which nothing is evaluated. As with [`Board::new`], the held contracts of all
-    /// commodities are found before the first step.
+    /// The watch is passed for each step in the order of that history, before the first is evaluated. It is passed also for the
+    /// steps of what is not held, of which nothing is evaluated.
     pub fn whole<W: Watch>(
         alloc: Global,
         job: Arc<Job>,
@@ -119,7 +118,8 @@ impl Board {
     {
         // Called for its clauses: the plan keeps the plan law, and the portfolio fits the tables.
         let _plan = job.plan();
-        let whole = Whole::new(alloc, &job, course, watch)?;
+        pass_steps(course.events(), watch);
+        let whole = Whole::new(alloc, &job, course)?;
         let history = copied(alloc, course.events())?;
         Ok(Board {
             alloc,

@@ -36,8 +36,7 @@ impl Job {
         requires { fits (length (arc_value set).tables.contracts) portfolio.holdings ≡ true }
         ensures { result ≡ record { set = arc_value set; portfolio = portfolio; place = place } }
     {
-        // Called for its clause: the holdings are those of a portfolio.
-        let _kept = portfolio.holdings();
+        portfolio.known();
         Job {
             set,
             portfolio,

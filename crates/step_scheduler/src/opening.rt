@@ -40,8 +40,7 @@ pub(crate) fn found_values(alloc: Global, job: &Job) -> Result<Vec<Option<Arc<Va
     ensures means { IfOk result (λ v. StoresMeanings job.now v.items) }
 {
     let set = job.set();
-    // Called for its clause: the tables are within their limits.
-    let _limits = set.tables().commodities();
+    set.tables().known();
     let held = gather_all(alloc, set.tables(), job.portfolio())?;
     let mut slots = empty(alloc, set.plan().len())?;
     let mut commodity = 0;

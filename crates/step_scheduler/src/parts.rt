@@ -1,7 +1,4 @@
 //! The figures of all commodities of a job, its total and its option value, with no value kept for a step.
-//!
-//! Before each evaluation the watch of the walk is passed, with the number of its step: each step of a held commodity here,
-//! and each of what is not held at its place in the order.
 ghost use Rattle.std.specs.Prelude.{◌≡◌, ◌<◌, ◌≤◌, ◌+ℤ◌, All, IfOk, List, fold, length, nat_abs, pos, replicate};
 ghost use Rattle.std.specs.Prelude.{slice_set, true};
 ghost use Rattle.span_money.specs.declared.amounts.TheConstants.{MAX_MONEY};
@@ -19,11 +16,9 @@ ghost use Rattle.plan_ir.specs.Values.{no_figures};
 ghost use Rattle.step_scheduler.specs.near.Figures.{AreAllFigures};
 ghost use Rattle.step_scheduler.specs.near.Parts.{ArePartsFrom, CanBeLoaded, HasState, IsPart, figures_of_part};
 
-use crate::watches::{Walk, Watch};
 use inter_credit::option_value::net_value;
 use inter_credit::requirement::minimum;
 use inter_credit::state::InterState;
-use plan_compiler::set::CompiledSet;
 use plan_ir::figures::Figures;
 use scan_risk::Scan;
 use scan_risk::scanning::scan;
@@ -53,38 +48,34 @@ pub(crate) struct Part {
 
 // Forms the spreads of a commodity in their order.
 #[inline(always)]
-fn form_intras<W: Watch>(tiers: &mut TierState, intras: &[Intra], walk: &mut Walk<'_, W>)
+fn form_intras(tiers: &mut TierState, intras: &[Intra])
     requires { All IsIntra intras.now }
     ensures value { tiers.new ≡ fold spread_both_ways tiers.old intras.now }
     ensures shrinks { (months : List MonthUnits) → Shrinks months tiers.old.rests → Shrinks months tiers.new.rests }
 {
     for intra in intras {
-        walk.pass();
         tiers.spread(intra);
     }
 }
 
 // The option value of a commodity, where options have one.
 #[inline(always)]
-fn worth_of<W: Watch>(tables: &Tables, held: &Held, walk: &mut Walk<'_, W>) -> Money
+fn worth_of(tables: &Tables, held: &Held) -> Money
     ensures { (facts_in tables.now).options_have_value ≡ true → result ≡ net_value_of held.now }
 {
     if !tables.facts().options_have_value {
         return Money::new(0);
     }
-    walk.pass();
     net_value(held)
 }
 
-// What a commodity has, of the contracts that are held of it. The watch is passed for each of its steps but that of its
-// figures; the first of them has the held contracts, which were found in one pass for all commodities.
+// What a commodity has, of the contracts that are held of it.
 #[inline(always)]
-fn part_of<W: Watch>(
+fn part_of(
     alloc: Global,
     tables: &Tables,
     commodity: usize,
     held: &Held,
-    walk: &mut Walk<'_, W>,
 ) -> Result<Part, AllocError>
     requires { commodity < length tables.now.commodities }
     ensures commodity { IfOk result (λ part. part.commodity ≡ commodity) }
@@ -92,18 +83,12 @@ fn part_of<W: Watch>(
         → IsPart tables.now holdings part) }
 {
     let of = &tables.commodities()[commodity];
-    walk.pass_many(2);
     let sums = sums(held);
-    walk.pass();
     let scan = scan(&sums);
-    walk.pass();
     let months = month_deltas(alloc, held)?;
-    walk.pass();
     let mut tiers = start(alloc, &months)?;
-    form_intras(&mut tiers, tables.intras(commodity), walk);
-    walk.pass();
+    form_intras(&mut tiers, tables.intras(commodity));
     let delivery = delivery(&months, &tiers, tables.spots(commodity));
-    walk.pass();
     let minimum = minimum(held, of.minimum_rate, of.method);
     Ok(Part {
         commodity,
@@ -112,46 +97,24 @@ fn part_of<W: Watch>(
         charge: tiers.charge(),
         delivery,
         minimum,
-        worth: worth_of(tables, held, walk),
+        worth: worth_of(tables, held),
     })
 }
 
-// Passes the watch for the steps of commodities of which nothing is held, from one number up to another, and goes past those
-// of their figures.
-#[inline(always)]
-fn pass_nothing_held<W: Watch>(set: &CompiledSet, from: usize, to: usize, walk: &mut Walk<'_, W>)
-    requires { to ≤ length set.now.tables.commodities }
-{
-    // Called for its clause: the tables are within their limits.
-    let _limits = set.tables().commodities();
-    for commodity in from..to {
-        walk.pass_up_to(set.final_step(commodity as u32) as usize);
-    }
-}
-
 // What each held commodity of a job has, by rising numbers.
-#[inline(always)]
-pub(crate) fn parts_of<W: Watch>(
+pub(crate) fn parts_of(
     alloc: Global,
-    set: &CompiledSet,
+    tables: &Tables,
     portfolio: &Portfolio,
-    walk: &mut Walk<'_, W>,
 ) -> Result<Vec<Part>, AllocError>
-    requires { fits (length set.now.tables.contracts) portfolio.now.holdings ≡ true }
-    ensures { IfOk result (λ parts. ArePartsFrom set.now.tables portfolio.now.holdings 0 parts.items) }
+    requires { fits (length tables.now.contracts) portfolio.now.holdings ≡ true }
+    ensures { IfOk result (λ parts. ArePartsFrom tables.now portfolio.now.holdings 0 parts.items) }
 {
-    let tables = set.tables();
-    let count = tables.commodities().len();
     let list = gather_held(alloc, tables, portfolio)?;
     let mut parts = Vec::with_capacity(alloc, list.len())?;
-    let mut next = 0;
     for one in &list {
-        pass_nothing_held(set, next, one.commodity, walk);
-        parts.push(part_of(alloc, tables, one.commodity, &one.held, walk)?)?;
-        walk.skip();
-        next = one.commodity + 1;
+        parts.push(part_of(alloc, tables, one.commodity, &one.held)?)?;
     }
-    pass_nothing_held(set, next, count, walk);
     Ok(parts)
 }
 
@@ -165,14 +128,12 @@ fn load_part(states: &mut InterState, part: &Part)
 }
 
 // The commodities before any spread between them.
-#[inline(always)]
-pub(crate) fn loaded<W: Watch>(
+pub(crate) fn loaded(
     alloc: Global,
     tables: &Tables,
     portfolio: &Portfolio,
     parts: &[Part],
     blank: &InterState,
-    walk: &mut Walk<'_, W>,
 ) -> Result<InterState, AllocError>
     requires blank { blank.now ≡ replicate (length tables.now.commodities) (unspread_state (pos 0) 0) }
     requires fits { fits (length tables.now.contracts) portfolio.now.holdings ≡ true }
@@ -180,33 +141,21 @@ pub(crate) fn loaded<W: Watch>(
     ensures value { IfOk result (λ states. states ≡ loaded_states tables.now portfolio.now.holdings) }
     ensures long { IfOk result (λ states. length states ≡ length tables.now.commodities) }
 {
-    let count = tables.commodities().len();
-    // Called for its clause: the holdings are those of a portfolio.
-    let _kept = portfolio.holdings();
-    walk.pass();
+    tables.known();
+    portfolio.known();
     let mut states = blank.copied(alloc)?;
-    let mut next = 0;
     for part in parts {
-        walk.pass_many(part.commodity + 1 - next);
         load_part(&mut states, part);
-        next = part.commodity + 1;
     }
-    walk.pass_many(count - next);
     Ok(states)
 }
 
 // Forms the spreads between commodities in their order.
-#[inline(always)]
-pub(crate) fn form_inters<W: Watch>(
-    states: &mut InterState,
-    inters: &[Inter],
-    walk: &mut Walk<'_, W>,
-)
+pub(crate) fn form_inters(states: &mut InterState, inters: &[Inter])
     requires { All (IsInter (length states.old)) inters.now }
     ensures { states.new ≡ fold inter_both_ways states.old inters.now }
 {
     for inter in inters {
-        walk.pass();
         states.spread(inter);
     }
 }
@@ -226,18 +175,6 @@ fn figures_with(part: &Part, states: &InterState) -> Figures
     )
 }
 
-// Passes the watch for the figures of commodities, from one number up to another.
-#[inline(always)]
-fn pass_figures<W: Watch>(set: &CompiledSet, from: usize, to: usize, walk: &Walk<'_, W>)
-    requires { to ≤ length set.now.tables.commodities }
-{
-    // Called for its clause: the tables are within their limits.
-    let _limits = set.tables().commodities();
-    for commodity in from..to {
-        walk.pass_late(set.final_step(commodity as u32) as usize);
-    }
-}
-
 // Writes figures over those of a commodity.
 #[inline(always)]
 fn write_at(figures: &mut Vec<Figures>, commodity: usize, written: Figures)
@@ -248,32 +185,25 @@ fn write_at(figures: &mut Vec<Figures>, commodity: usize, written: Figures)
 }
 
 // Writes the figures of the held commodities over those of nothing held.
-#[inline(always)]
-pub(crate) fn write_figures<W: Watch>(
+pub(crate) fn write_figures(
     figures: &mut Vec<Figures>,
-    set: &CompiledSet,
+    tables: &Tables,
     portfolio: &Portfolio,
     parts: &[Part],
     states: &InterState,
-    walk: &Walk<'_, W>,
 )
-    requires fits { fits (length set.now.tables.contracts) portfolio.now.holdings ≡ true }
-    requires parts { ArePartsFrom set.now.tables portfolio.now.holdings 0 parts.now }
-    requires states { states.now ≡ inter_states set.now.tables portfolio.now.holdings }
-    requires blank { figures.old.items ≡ replicate (length set.now.tables.commodities) no_figures }
-    ensures { AreAllFigures set.now.tables portfolio.now.holdings figures.new.items }
+    requires fits { fits (length tables.now.contracts) portfolio.now.holdings ≡ true }
+    requires parts { ArePartsFrom tables.now portfolio.now.holdings 0 parts.now }
+    requires states { states.now ≡ inter_states tables.now portfolio.now.holdings }
+    requires blank { figures.old.items ≡ replicate (length tables.now.commodities) no_figures }
+    ensures { AreAllFigures tables.now portfolio.now.holdings figures.new.items }
 {
-    let count = set.tables().commodities().len();
-    // Called for its clause: the holdings are those of a portfolio.
-    let _kept = portfolio.holdings();
-    let mut next = 0;
+    tables.known();
+    portfolio.known();
     for part in parts {
-        pass_figures(set, next, part.commodity + 1, walk);
         let written = figures_with(part, states);
         write_at(figures, part.commodity, written);
-        next = part.commodity + 1;
     }
-    pass_figures(set, next, count, walk);
 }
 
 // The sum of two amounts of money.
@@ -285,37 +215,22 @@ fn sum(one: Money, other: Money) -> Money
 }
 
 // The sum of the requirements of all commodities.
-#[inline(always)]
-pub(crate) fn total_of<W: Watch>(
-    tables: &Tables,
-    portfolio: &Portfolio,
-    figures: &[Figures],
-    walk: &mut Walk<'_, W>,
-) -> Money
+pub(crate) fn total_of(tables: &Tables, portfolio: &Portfolio, figures: &[Figures]) -> Money
     requires fits { fits (length tables.now.contracts) portfolio.now.holdings ≡ true }
     requires figures { AreAllFigures tables.now portfolio.now.holdings figures.now }
     ensures { result ≡ total_to tables.now portfolio.now.holdings (length tables.now.commodities) }
 {
-    // Called for their clauses: the tables are within their limits, and the holdings are those of a portfolio.
     let count = tables.commodities().len();
-    let _kept = portfolio.holdings();
-    walk.pass();
+    portfolio.known();
     let mut total = Money::new(0);
     for commodity in 0..count {
-        walk.pass();
         total = sum(total, figures[commodity].requirement);
     }
     total
 }
 
 // The option value of the account, which is 0 under a profile in which options have none.
-#[inline(always)]
-pub(crate) fn value_of_all<W: Watch>(
-    tables: &Tables,
-    portfolio: &Portfolio,
-    parts: &[Part],
-    walk: &mut Walk<'_, W>,
-) -> Money
+pub(crate) fn value_of_all(tables: &Tables, portfolio: &Portfolio, parts: &[Part]) -> Money
     requires fits { fits (length tables.now.contracts) portfolio.now.holdings ≡ true }
     requires parts { ArePartsFrom tables.now portfolio.now.holdings 0 parts.now }
     ensures { result ≡ option_value_of tables.now portfolio.now.holdings }
@@ -323,17 +238,11 @@ pub(crate) fn value_of_all<W: Watch>(
     if !tables.facts().options_have_value {
         return Money::new(0);
     }
-    // Called for their clauses: the tables are within their limits, and the holdings are those of a portfolio.
-    let count = tables.commodities().len();
-    let _kept = portfolio.holdings();
-    walk.pass();
+    tables.known();
+    portfolio.known();
     let mut value = Money::new(0);
-    let mut next = 0;
     for part in parts {
-        walk.pass_many(part.commodity + 1 - next);
         value = sum(value, part.worth);
-        next = part.commodity + 1;
     }
-    walk.pass_many(count - next);
     value
 }

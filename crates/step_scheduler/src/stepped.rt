@@ -30,8 +30,7 @@ impl Stepped {
         ensures { result ≡ figures_of job.now.set.tables job.now.portfolio.holdings commodity }
     {
         let set = job.set();
-        // Called for its clause: the tables are within their limits.
-        let _limits = set.tables().commodities();
+        set.tables().known();
         let step = set.final_step(commodity as u32);
         let value = stored_value(job, self.slots.as_slice(), step);
         *value.figures()

@@ -6,7 +6,6 @@ use crate::courses::Course;
 use crate::events::Event;
 use crate::jobs::Job;
 use crate::parts::{form_inters, loaded, parts_of, total_of, value_of_all, write_figures};
-use crate::watches::{Walk, Watch};
 use plan_ir::figures::Figures;
 use span_money::amounts::Money;
 use std::alloc::{AllocError, Global};
@@ -40,27 +39,20 @@ pub(crate) struct Whole {
 
 impl Whole {
     // What a run of a job gives in the order of its set's course.
-    pub(crate) fn new<W: Watch>(
-        alloc: Global,
-        job: &Job,
-        course: &Course,
-        watch: &W,
-    ) -> Result<Whole, AllocError>
+    pub(crate) fn new(alloc: Global, job: &Job, course: &Course) -> Result<Whole, AllocError>
         requires { course.now.set ≡ job.now.set }
         ensures { IfOk result (λ whole. HasResults job.now whole) }
     {
-        let set = job.set();
-        let tables = set.tables();
+        let tables = job.set().tables();
         let portfolio = job.portfolio();
         let blank = course.blank();
-        let mut walk = Walk::new(watch);
-        let parts = parts_of(alloc, set, portfolio, &mut walk)?;
-        let mut states = loaded(alloc, tables, portfolio, &parts, &blank.states, &mut walk)?;
-        form_inters(&mut states, tables.inters(), &mut walk);
+        let parts = parts_of(alloc, tables, portfolio)?;
+        let mut states = loaded(alloc, tables, portfolio, &parts, &blank.states)?;
+        form_inters(&mut states, tables.inters());
         let mut figures = Vec::from_slice(alloc, &blank.figures)?;
-        write_figures(&mut figures, set, portfolio, &parts, &states, &walk);
-        let total = total_of(tables, portfolio, &figures, &mut walk);
-        let value = value_of_all(tables, portfolio, &parts, &mut walk);
+        write_figures(&mut figures, tables, portfolio, &parts, &states);
+        let total = total_of(tables, portfolio, &figures);
+        let value = value_of_all(tables, portfolio, &parts);
         Ok(Whole {
             figures,
             total,

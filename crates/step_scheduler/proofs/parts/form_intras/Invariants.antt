@@ -6,7 +6,7 @@ use Rattle.spread_stage.specs.declared.months.MonthUnits.{MonthUnits}
 use Rattle.step_scheduler.proofs.parts.form_intras.Given as goal
 
 abbrev pub invariant-loop-intra : goal.invariant-loop-intra
-invariant-loop-intra g l = record {
+invariant-loop-intra l = record {
   tiers : l.tiers ≡ fold spread_both_ways l.fn.tiers (take l.intra-index l.intras);
   shrinks : (months : List MonthUnits) → Shrinks months l.fn.tiers.rests → Shrinks months l.tiers.rests;
 }

@@ -11,7 +11,7 @@ use Rattle.plan_compiler.proofs.StageLemmas.{tiers_are}
 use Rattle.step_scheduler.proofs.parts.part_of.Goals as goal
 
 pub returns-clause-part : goal.returns-clause-part
-returns-clause-part g c = λ holdings is.
+returns-clause-part c = λ holdings is.
     let t = c.args.tables.now in
     let i = c.args.commodity in
     let commodity = c.index-commodities-commodity.result in

@@ -1,10 +1,9 @@
-use Rattle.std.proofs.Common.{◌≡◌, drop}
+use Rattle.std.proofs.Common.{◌≡◌, ℕ, drop}
 use Rattle.plan_ir.specs.Figures.{value_to}
 use Rattle.step_scheduler.specs.near.Parts.{ArePartsFrom}
 use Rattle.step_scheduler.proofs.parts.value_of_all.Given as goal
 
 abbrev pub invariant-loop-part : goal.invariant-loop-part
-invariant-loop-part g l = record {
-  left : ArePartsFrom l.tables (l.portfolio).holdings l.next (drop l.part-index l.parts);
-  value : l.value ≡ value_to l.tables (l.portfolio).holdings l.next;
-}
+invariant-loop-part l =
+    (next : ℕ) × ArePartsFrom l.tables (l.portfolio).holdings next (drop l.part-index l.parts)
+    × (l.value ≡ value_to l.tables (l.portfolio).holdings next)

@@ -1,9 +1,8 @@
-use Rattle.std.proofs.Common.{drop}
+use Rattle.std.proofs.Common.{ℕ, drop}
 use Rattle.step_scheduler.specs.near.Parts.{ArePartsFrom, AreWritten}
 use Rattle.step_scheduler.proofs.parts.write_figures.Given as goal
 
 abbrev pub invariant-loop-part : goal.invariant-loop-part
-invariant-loop-part g l = record {
-  left : ArePartsFrom (l.set).tables (l.portfolio).holdings l.next (drop l.part-index l.parts);
-  written : AreWritten (l.set).tables (l.portfolio).holdings l.next l.figures.items;
-}
+invariant-loop-part l =
+    (next : ℕ) × ArePartsFrom l.tables (l.portfolio).holdings next (drop l.part-index l.parts)
+    × AreWritten l.tables (l.portfolio).holdings next l.figures.items
