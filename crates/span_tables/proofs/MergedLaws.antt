@@ -125,11 +125,6 @@ pub holdings_with_fits : (contracts : List Contract) (holdings : List Holding) (
 holdings_with_fits contracts holdings positions account =
     held_fit (λ k x. net_among holdings k +ℤ net_of positions account x.id) 0 (length contracts) contracts (omega arith)
 
-pub holdings_of_fits : (contracts : List Contract) (positions : List PositionRecord) (account : List ℕ)
-    → fits (length contracts) (holdings_of contracts positions account) ≡ true
-holdings_of_fits contracts positions account =
-    held_fit (λ k x. net_of positions account x.id) 0 (length contracts) contracts (omega arith)
-
 module _ (contracts : List Contract) (positions : List PositionRecord) where
   -- positions that come to what an account holds are positions behind those that it holds it by
   pub holdings_with_more : (more : List PositionRecord) (account : List ℕ)

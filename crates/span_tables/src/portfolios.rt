@@ -59,7 +59,7 @@ impl Portfolio {
         &self.holdings
     }
 
-    /// Does nothing, and tells a proof what the holdings keep.
+    /// Does nothing. Its clause says what the holdings keep.
     pub fn known(&self)
         ensures { ArePortfolio self.now.holdings }
     {

@@ -161,7 +161,7 @@ impl Tables {
         facts_of(self.profile())
     }
 
-    /// Does nothing, and tells a proof that the tables are within their limits.
+    /// Does nothing. Its clause says that the tables are within their limits.
     pub fn known(&self)
         ensures { IsWithinLimits self.now }
     {

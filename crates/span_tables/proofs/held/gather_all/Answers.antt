@@ -11,7 +11,8 @@ pub loop-of-init : goal.loop-of-init
 loop-of-init c =
     let t = c.args.tables.now in
     let hs = c.args.portfolio.now.holdings in
-    subst (λ (list : List CommodityHeld). ArePlaced t hs list c.in_ok-held.held.items) (sym c.into_iter-of-iterator.ensures.into_iter_gives.0)
+    let given = sym c.into_iter-of-iterator.ensures.into_iter_gives.0 in
+    subst (λ (list : List CommodityHeld). ArePlaced t hs list c.in_ok-held.held.items) given
     (subst (λ (held : List (List HeldContract)). ArePlaced t hs c.in_ok-some.some.items held) (sym c.in_ok-held.ensures)
     (placed_none t hs c.in_ok-some.some.items c.in_ok-some.ensures))
 
