@@ -15,8 +15,8 @@ import tempfile
 import traceback
 from typing import NamedTuple
 
-ROOT = pathlib.Path(__file__).resolve().parent.parent
-SHARED = ROOT / "tests"  # the directory of limits, order.awk, told.awk and refuse-growth.c
+LIB = pathlib.Path(__file__).resolve().parent
+ROOT = LIB.parent.parent
 TIMEOUT = 120  # seconds that one command may take
 
 

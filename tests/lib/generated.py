@@ -8,7 +8,7 @@ import subprocess
 import sys
 from pathlib import Path
 
-from harness import ROOT, SHARED, TIMEOUT, Answer, lines_of, run, shown
+from .harness import LIB, ROOT, TIMEOUT, Answer, lines_of, run, shown
 
 EXAMPLES = ROOT / "examples"
 PARAMS, POSITIONS, ORDERS, LONG = Path("params.csv"), Path("positions.csv"), Path("orders.csv"), Path("long.csv")
@@ -81,27 +81,27 @@ def awk(script, *files, given=b"", **variables):
 
 def random_files(seed):
     """Writes PARAMS, POSITIONS and ORDERS, which are accepted."""
-    awk(ROOT / "tools/random-files.awk", seed=seed, params=PARAMS, positions=POSITIONS, orders=ORDERS)
+    awk(LIB / "random-files.awk", seed=seed, params=PARAMS, positions=POSITIONS, orders=ORDERS)
 
 
 def random_faults(seed):
     """Writes FAULTY_PARAMS and FAULTY_POSITIONS from PARAMS and POSITIONS."""
-    awk(ROOT / "tools/random-faults.awk", PARAMS, POSITIONS, seed=seed, params=FAULTY_PARAMS, positions=FAULTY_POSITIONS)
+    awk(LIB / "random-faults.awk", PARAMS, POSITIONS, seed=seed, params=FAULTY_PARAMS, positions=FAULTY_POSITIONS)
 
 
 def long_kinds():
-    return awk(ROOT / "tools/long-files.awk", kinds=1).decode().split()
+    return awk(LIB / "long-files.awk", kinds=1).decode().split()
 
 
 def long_file(params, positions, **variables):
     """Writes LONG of a `seed` and a `kind`, and returns the line of its fault, which is empty if it has none."""
-    LONG.write_bytes(awk(ROOT / "tools/long-files.awk", params, positions, told="line", **variables))
+    LONG.write_bytes(awk(LIB / "long-files.awk", params, positions, told="line", **variables))
     return Path("line").read_bytes()
 
 
 def limits(command):
-    """What a shell command prints that uses the names of tests/limits."""
-    answer = run(["sh", "-c", f'root=$1; . "$2"; {command}', "sh", ROOT, SHARED / "limits"])
+    """What a shell command prints that uses the names of `limits`."""
+    answer = run(["sh", "-c", f'root=$1; . "$2"; {command}', "sh", ROOT, LIB / "limits"])
     if answer.status:
         raise RuntimeError(shown(answer))
     return answer.stdout
@@ -109,7 +109,7 @@ def limits(command):
 
 def check_order(faults):
     """Raises an exception if these lines of `span faults` are out of order, or are no such lines."""
-    awk(SHARED / "told.awk", given=faults)
+    awk(LIB / "told.awk", given=faults)
 
 
 def matching(pattern, data):
