@@ -2,17 +2,20 @@
 
 All files are in the working directory, which `room` makes, so that no path has a character that is special for awk.
 """
-import os
 import re
+import shutil
 import subprocess
 import sys
 from pathlib import Path
 
-from .harness import LIB, ROOT, TIMEOUT, Answer, lines_of, run, shown
+from .harness import LIB, ROOT, TIMEOUT, Answer, account, awk, grouped, first_line, lines_of, matching, read, run, same, shown, write
 
 EXAMPLES = ROOT / "examples"
-PARAMS, POSITIONS, ORDERS, LONG = Path("params.csv"), Path("positions.csv"), Path("orders.csv"), Path("long.csv")
-FAULTY_PARAMS, FAULTY_POSITIONS = Path("faulty-params.csv"), Path("faulty-positions.csv")
+PARAMS, NEXT, VALUE, POSITIONS, FEW, ORDERS, FAULTY_PARAMS, FAULTY_POSITIONS, LONG = (Path(f"{name}.csv") for name in (
+    "params", "params-next", "params-value", "positions", "few", "orders", "faulty-params", "faulty-positions", "long"))
+SAMPLES = {PARAMS: "params", NEXT: "params-next", VALUE: "params-value", POSITIONS: "positions-broker", FEW: "positions-hedger",
+           ORDERS: "orders-broker", FAULTY_PARAMS: "params-faults", FAULTY_POSITIONS: "positions-faults"}
+MOST_SEEDS = 1000  # until one gives files that are not empty
 PIECE = 65536  # bytes; several workers read a file in pieces if it is long enough for two
 STEPS = 2, 4, 16  # numbers of workers for long files, and for one account
 # What standard error has for each exit status.
@@ -30,7 +33,7 @@ def number(word):
 
 
 class Program:
-    """A built program, which is called with its arguments and returns its `Answer`. The other methods yield what is wrong with answers."""
+    """A built program, which is called with its arguments and returns its `Answer`. The other methods check answers."""
 
     def __init__(self, path, timeout=TIMEOUT):
         self.path, self.timeout = path, timeout
@@ -41,42 +44,43 @@ class Program:
     def answers(self, forms, counts, *words):
         """Checks that standard error has the pattern that `forms` has for the exit status, with no output if this is not 0, and that each
         number of workers gives the same as one. Returns the answer of one."""
-        one = self(*words)
-        if not re.fullmatch(forms.get(one.status, b"(?!)"), one.stderr) or one.status and one.stdout:
-            yield f"{' '.join(map(str, words))}: {shown(one)}"
+        one, name = self(*words), " ".join(map(str, words))
+        assert re.fullmatch(forms.get(one.status, b"(?!)"), one.stderr) and not (one.status and one.stdout), f"{name}: {shown(one)}"
         for count in counts:
-            many = self(*words, "--workers", str(count))
-            if many != one:
-                yield f"{words[0]} with {count} workers: {shown(many)}, with one: {shown(one)}"
+            same(self(*words, "--workers", str(count)), one, f"{name} with {count} workers")
         return one
 
     def faults(self, one, *files):
-        """Checks that the first of all faults is the one that the answer `one` reports, if any. Returns the answer with all faults."""
+        """Checks that the first of all faults is the one that the answer `one` reports, if any. Returns the lines of all faults."""
         faults = self("faults", *files)
-        if faults._replace(stdout=first_line(faults.stdout)) != Answer(one.status, one.stderr, b""):
-            yield f"faults: {shown(faults)}, margin: {shown(one)}"
-        return faults
+        same(faults._replace(stdout=first_line(faults.stdout)), Answer(one.status, one.stderr, b""), "faults")
+        return faults.stdout
 
     def long(self, line, params, orders=None):
         """Checks `span margin` of LONG, which has a statement, or the fault of this line. With orders it also checks that this is the first
         of all faults, and that `span roll` and `span whatif` report it."""
         forms = {4: re.escape(line)} if line else ACCEPTED
-        one = yield from self.answers(forms, STEPS, "margin", params, LONG)
-        if LONG.stat().st_size < 2 * PIECE or not line and not one.stdout:
-            yield "not long, or no statement"
+        one = self.answers(forms, STEPS, "margin", params, LONG)
+        assert LONG.stat().st_size >= 2 * PIECE and (line or one.stdout), "not long, or no statement"
         if orders:
-            yield from self.faults(one, params, LONG)
-            yield from self.answers(forms, STEPS, "roll", params, params, LONG)
-            yield from self.answers(forms, STEPS, "whatif", params, LONG, orders)
+            self.faults(one, params, LONG)
+            self.answers(forms, STEPS, "roll", params, params, LONG)
+            self.answers(forms, STEPS, "whatif", params, LONG, orders)
 
-
-def awk(script, *files, given=b"", **variables):
-    """What an awk script prints, which has to succeed."""
-    words = [word for name, value in variables.items() for word in ("-v", f"{name}={value}")]
-    answer = run(["awk", *words, "-f", script, *files], given, env={**os.environ, "LC_ALL": "C"})
-    if answer.status or answer.stderr:
-        raise RuntimeError(f"{script.name}: {shown(answer)}")
-    return answer.stdout
+    def orders(self, counts, params, positions, orders, most=None):
+        """Checks that each number of workers prints the same changes of orders, of each order once. Those of the first orders are the
+        difference of two statements: without and with the order's records behind the positions. Returns the changes."""
+        changes = self.answers(ACCEPTED, counts, "whatif", params, positions, orders).stdout
+        records = grouped(lines_of(read(orders)))
+        same([line.split(b",")[1] for line in matching(b"ORDER,", changes)], [*records], "orders")
+        write("before", self("margin", params, positions).stdout)
+        for name in [*records][:most]:
+            legs = [record.split(b",", 1)[1] for record in records[name]]
+            write("after", self.answers(ACCEPTED, (), "margin", params, write("with.csv", read(positions), *legs)).stdout)
+            expected = awk(LIB / "order.awk", "part=set", params, "part=before", "before", "part=after", "after",
+                           order=name.decode(), account=account(legs[0]).decode())
+            same(b"".join(matching(b"[A-Z]+,%s," % re.escape(name), changes)), expected, f"order {name.decode()}")
+        return changes
 
 
 def random_files(seed):
@@ -89,21 +93,32 @@ def random_faults(seed):
     awk(LIB / "random-faults.awk", PARAMS, POSITIONS, seed=seed, params=FAULTY_PARAMS, positions=FAULTY_POSITIONS)
 
 
+def sample_files(span, seed):
+    """Writes the files of SAMPLES: the examples, or those of the first seed, from this one on, that gives some records and some faults."""
+    for file, name in SAMPLES.items():
+        shutil.copyfile(EXAMPLES / f"{name}.csv", file)
+    if seed is not None:
+        seeds = range(seed, seed + MOST_SEEDS)
+        next(each for each in seeds if random_files(each) or read(POSITIONS) and read(ORDERS))
+        next(each for each in seeds if random_faults(each) or span("faults", FAULTY_PARAMS, FAULTY_POSITIONS).stdout)
+        for file, other in (NEXT, PARAMS), (VALUE, PARAMS), (FEW, POSITIONS):
+            shutil.copyfile(other, file)
+
+
 def long_kinds():
     return awk(LIB / "long-files.awk", kinds=1).decode().split()
 
 
 def long_file(params, positions, **variables):
     """Writes LONG of a `seed` and a `kind`, and returns the line of its fault, which is empty if it has none."""
-    LONG.write_bytes(awk(LIB / "long-files.awk", params, positions, told="line", **variables))
-    return Path("line").read_bytes()
+    write(LONG, awk(LIB / "long-files.awk", params, positions, told="line", **variables))
+    return read("line")
 
 
 def limits(command):
     """What a shell command prints that uses the names of `limits`."""
     answer = run(["sh", "-c", f'root=$1; . "$2"; {command}', "sh", ROOT, LIB / "limits"])
-    if answer.status:
-        raise RuntimeError(shown(answer))
+    assert not answer.status, shown(answer)
     return answer.stdout
 
 
@@ -112,10 +127,7 @@ def check_order(faults):
     awk(LIB / "told.awk", given=faults)
 
 
-def matching(pattern, data):
-    """The lines that begin with a pattern."""
-    return [line for line in lines_of(data) if re.match(pattern, line)]
-
-
-def first_line(data):
-    return b"".join(lines_of(data)[:1])
+def choose(target, source, faults, has):
+    """Writes to `target` the records of `source` that have one of these faults, or those that have none. Returns `target`."""
+    numbers = {int(fault.split()[5]) for fault in faults}
+    return write(target, *(record for at, record in enumerate(lines_of(read(source)), 1) if (at in numbers) == has))
