@@ -115,11 +115,11 @@ def long_file(params, positions, **variables):
     return read("line")
 
 
-def limits(command):
-    """What a shell command prints that uses the names of `limits`."""
-    answer = run(["sh", "-c", f'root=$1; . "$2"; {command}', "sh", ROOT, LIB / "limits"])
+def limits(*names):
+    """The numbers that the file `limits` has under these names."""
+    answer = run(["sh", "-c", f'root=$1; . "$2"; echo {" ".join(f"${name}" for name in names)}', "sh", ROOT, LIB / "limits"])
     assert not answer.status, shown(answer)
-    return answer.stdout
+    return list(map(int, answer.stdout.split()))
 
 
 def check_order(faults):

@@ -21,20 +21,16 @@ ROOT = LIB.parent.parent
 TIMEOUT = 120  # seconds that one command may take
 
 
-def leave_with(status):
-    """Ends the suite with this exit status on HUP, INT and TERM: what it has made is removed, and the next signal does not stop that."""
-
-    def leave(*_):
-        for number in (signal.SIGHUP, signal.SIGINT, signal.SIGTERM):
-            signal.signal(number, signal.SIG_IGN)
-        sys.exit(status)
-
+def leave(*_):
+    """Ends the suite with status 2 on HUP, INT and TERM: what it has made is removed, and the next signal does not stop that."""
     for number in (signal.SIGHUP, signal.SIGINT, signal.SIGTERM):
-        signal.signal(number, leave)
+        signal.signal(number, signal.SIG_IGN)
+    sys.exit(2)
 
 
 # A command inherits the signals that are ignored, such as HUP under nohup, and a shell cannot catch these. It does not inherit a handler.
-leave_with(2)
+for each in (signal.SIGHUP, signal.SIGINT, signal.SIGTERM):
+    signal.signal(each, leave)
 if signal.getsignal(signal.SIGQUIT) == signal.SIG_IGN:
     signal.signal(signal.SIGQUIT, signal.SIG_DFL)
 
