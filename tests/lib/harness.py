@@ -7,6 +7,7 @@ import contextlib
 import io
 import os
 import pathlib
+import re
 import shutil
 import signal
 import subprocess
@@ -15,25 +16,21 @@ import tempfile
 import traceback
 from typing import NamedTuple
 
-ROOT = pathlib.Path(__file__).resolve().parent.parent
-SHARED = ROOT / "tests"  # the directory of limits, order.awk, told.awk and refuse-growth.c
+LIB = pathlib.Path(__file__).resolve().parent
+ROOT = LIB.parent.parent
 TIMEOUT = 120  # seconds that one command may take
 
 
-def leave_with(status):
-    """Ends the suite with this exit status on HUP, INT and TERM: what it has made is removed, and the next signal does not stop that."""
-
-    def leave(*_):
-        for number in (signal.SIGHUP, signal.SIGINT, signal.SIGTERM):
-            signal.signal(number, signal.SIG_IGN)
-        sys.exit(status)
-
+def leave(*_):
+    """Ends the suite with status 2 on HUP, INT and TERM: what it has made is removed, and the next signal does not stop that."""
     for number in (signal.SIGHUP, signal.SIGINT, signal.SIGTERM):
-        signal.signal(number, leave)
+        signal.signal(number, signal.SIG_IGN)
+    sys.exit(2)
 
 
 # A command inherits the signals that are ignored, such as HUP under nohup, and a shell cannot catch these. It does not inherit a handler.
-leave_with(2)
+for each in (signal.SIGHUP, signal.SIGINT, signal.SIGTERM):
+    signal.signal(each, leave)
 if signal.getsignal(signal.SIGQUIT) == signal.SIG_IGN:
     signal.signal(signal.SIGQUIT, signal.SIG_DFL)
 
@@ -48,10 +45,6 @@ class Answer(NamedTuple):
 
 class Skipped(Exception):
     """Raised by a test that cannot run on this machine. Its text says what is missing."""
-
-
-class Different(Exception):
-    """Raised by `same`. Its text shows both values."""
 
 
 class Suite:
@@ -72,39 +65,26 @@ class Suite:
         """Checks that two values are equal, and prints both if they are not."""
         self.check(name, found == expected, f"{shown(found)}, expected {shown(expected)}")
 
-    def flawless(self, name, flaws):
-        """Counts one check, which holds if the generator `flaws` yields nothing. An exception that leaves it is a flaw, too."""
-        found = []
-        try:
-            for flaw in flaws:
-                found.append(flaw)
-        except Exception as error:  # a check that breaks off must not end the suite
-            line = traceback.extract_tb(error.__traceback__)[-1].lineno
-            found.append(f"line {line}: {type(error).__name__}: {error}")
-        self.check(name, not found, "; ".join(found))
-
     def test(self, function, *arguments):
         """Runs one test. An exception that leaves it is one failed check, and `Skipped` is counted apart."""
-        self.ends(function, self, *arguments)
+        self.ends(function.__name__, function, self, *arguments)
 
-    def single(self, function, *arguments):
-        """Runs one test that is a single check: it holds if no exception leaves it."""
-        if self.ends(function, *arguments):
+    def single(self, name, function, *arguments, **named):
+        """Runs one test that is a single check: it holds if no exception leaves the function."""
+        if self.ends(name, function, *arguments, **named):
             self.passed += 1
 
-    def ends(self, function, *arguments):
+    def ends(self, name, function, *arguments, **named):
         """Runs a function, counts an exception that leaves it, and returns whether there was none."""
         try:
-            function(*arguments)
-            return True
+            found = failure(function, *arguments, **named)
         except Skipped as reason:
             self.skipped += 1
-            print(f"SKIPPED: {function.__name__}: {reason}", flush=True)
-        except Exception as error:  # a test that breaks off must not end the suite
-            trace, file = traceback.extract_tb(error.__traceback__), function.__code__.co_filename
-            lines = ", ".join(str(frame.lineno) for frame in trace if frame.filename == file)
-            self.check(function.__name__, False, f"line {lines}: {type(error).__name__}: {error}")
-        return False
+            print(f"SKIPPED: {name}: {reason}", flush=True)
+            return False
+        if found:
+            self.check(name, False, found)
+        return not found
 
     def result(self):
         """Prints the last line and returns the exit status of the suite."""
@@ -114,17 +94,40 @@ class Suite:
         return 1 if self.failed or not self.passed else 0
 
 
-def same(found, expected):
+def failure(function, *arguments, **named):
+    """The exception that leaves a function, with the lines of the function's file that it passed, or nothing if there is none."""
+    try:
+        function(*arguments, **named)
+    except Skipped:
+        raise
+    except Exception as error:  # a test that breaks off must not end the suite
+        trace, file = traceback.extract_tb(error.__traceback__), function.__code__.co_filename
+        lines = ", ".join(str(frame.lineno) for frame in trace if frame.filename == file)
+        return f"line {lines}: {type(error).__name__}: {error}"
+    return ""
+
+
+def same(found, expected, name="found"):
     """Ends a test that is a single check if two values differ. Bytes are shown from the first that differs."""
     if found != expected:
         at = len(os.path.commonprefix((found, expected))) if isinstance(found, bytes) and isinstance(expected, bytes) else 0
-        raise Different(f"from byte {at}: {shown(found[at:])}, expected {shown(expected[at:])}" if at else
-                        f"{shown(found)}, expected {shown(expected)}")
+        if at:
+            name, found, expected = f"{name} from byte {at}", found[at:], expected[at:]
+        raise AssertionError(f"{name}: {shown(found)}, expected {shown(expected)}")
 
 
 def lines_of(data):
     """The lines of bytes, each with its end. Only a newline ends one."""
     return list(io.BytesIO(data))
+
+
+def matching(pattern, data):
+    """The lines that begin with a pattern."""
+    return [line for line in lines_of(data) if re.match(pattern, line)]
+
+
+def first_line(data):
+    return b"".join(lines_of(data)[:1])
 
 
 def read(name):
@@ -142,18 +145,26 @@ def account(record):
     return record.rstrip(b"\n").split(b",")[0]
 
 
+def grouped(records):
+    """The records of each account, in the order of their first ones."""
+    found = {}
+    for record in records:
+        found.setdefault(account(record), []).append(record)
+    return found
+
+
 def shown(value):
     """A value in printed form, shortened to 400 characters."""
     text = repr(value)
     return text if len(text) <= 400 else text[:200] + " .. " + text[-200:]
 
 
-def program_of(arguments):
-    """The path of PROGRAM, the first argument of a suite. Ends the suite with status 2 if it is not a program."""
-    if len(arguments) < 2 or not os.path.isfile(arguments[1]) or not os.access(arguments[1], os.X_OK):
-        print(f"usage: tests/{os.path.basename(arguments[0])} PROGRAM, a built program", file=sys.stderr)
+def program_of(arguments, at=1):
+    """The path of a program, by default of PROGRAM, the first argument of a suite. Ends the suite with status 2 if it is not a program."""
+    if len(arguments) <= at or not os.path.isfile(arguments[at]) or not os.access(arguments[at], os.X_OK):
+        print(f"tests/{os.path.basename(arguments[0])}: argument {at} has to be a built program", file=sys.stderr)
         sys.exit(2)
-    return pathlib.Path(arguments[1]).resolve()
+    return pathlib.Path(arguments[at]).resolve()
 
 
 def run(command, given=b"", timeout=TIMEOUT, **options):
@@ -166,14 +177,22 @@ def run(command, given=b"", timeout=TIMEOUT, **options):
     return Answer(done.returncode, done.stdout or b"", done.stderr or b"")
 
 
+def awk(script, *files, given=b"", **variables):
+    """What an awk script prints, which has to succeed."""
+    words = [word for name, value in variables.items() for word in ("-v", f"{name}={value}")]
+    answer = run(["awk", *words, "-f", script, *files], given, env={**os.environ, "LC_ALL": "C"})
+    assert not answer.status and not answer.stderr, f"{script.name}: {shown(answer)}"
+    return answer.stdout
+
+
 @contextlib.contextmanager
 def room():
-    """Makes a temporary directory, which is the working directory until it is removed."""
+    """A temporary directory, which is the working directory until it is removed."""
     before = os.getcwd()
     with tempfile.TemporaryDirectory() as place:
         os.chdir(place)
         try:
-            yield
+            yield pathlib.Path(place)
         finally:
             os.chdir(before)
 

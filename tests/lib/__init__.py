@@ -1,0 +1,1 @@
+"""What the test suites need and is no test."""
