@@ -78,8 +78,7 @@ impl Row {
         ensures { IfOk result (λ row. arc_value row ≡ row_of (arc_value job)) }
     {
         let tables = job.set().tables();
-        // Called for its clause: the tables are within their limits.
-        let _limits = tables.commodities();
+        tables.known();
         let held = held_commodities(tables, job.portfolio());
         let row = Row {
             job,
