@@ -2,15 +2,14 @@ pub mod AcceptedLaws
 pub mod AccountLaws
 pub mod AllFaults
 pub mod AnswerLaws
-pub mod BindAllLaws
 pub mod BindLaws
 pub mod FilterMaps
 pub mod FirstFaults
+pub mod FoundLaws
 pub mod HoldingLaws
 pub mod IdLaws
 pub mod KeyLemmas
 pub mod KeptLaws
-pub mod KindLaws
 pub mod KnownRecords
 pub mod LedgerLaws
 pub mod LimitLaws
@@ -18,6 +17,7 @@ pub mod MarkLaws
 pub mod NetLaws
 pub mod NumberedUnfit
 pub mod OrderLaws
+pub mod OwnerLaws
 pub mod OrderedFaults
 pub mod OutcomeLemmas
 pub mod OverlapLemmas
