@@ -5,7 +5,7 @@ use Rattle.std.specs.Prelude.{bytes_eq, nat_lt, option_map, unwrap_or, zip, All}
 use Rattle.std.specs.List.{position_or_len}
 use Rattle.std.specs.Option.{option_or}
 use Rattle.std.proofs.lemmas.Bool.{cases_lt, le-ltb, lt-ltb}
-use Rattle.std.proofs.lemmas.List.{drop-map, length-append, length-take-le, take-map, take_more}
+use Rattle.std.proofs.lemmas.List.{drop-map, length-append, length-take-le, map-append, take-map, take_more}
 use Rattle.std.proofs.lemmas.List.Elements.{All-cons}
 use Rattle.std.proofs.lemmas.List.Folds.{find_at}
 use Rattle.std.proofs.lemmas.List.Quantifiers.{position-Some}
@@ -172,10 +172,6 @@ zip_long [] (z ∷ ys) e = absurd (let f : zero ≡ suc (length ys) = e in omega
 zip_long (w ∷ xs) [] e = absurd (let f : suc (length xs) ≡ zero = e in omega (arith, f))
 zip_long (w ∷ xs) (z ∷ ys) e = ap suc (zip_long xs ys (omega (arith, e)))
 
-map_push : {A B : Type 0} (f : A → B) (xs : List A) (x : A) → map f (xs ++ x ∷ []) ≡ map f xs ++ f x ∷ []
-map_push f [] x = refl
-map_push f (y ∷ xs) x = ap (λ ys. f y ∷ ys) (map_push f xs x)
-
 taken : (names : List (List ℕ)) (i : ℕ) (name : List ℕ) → i < length names → name ≡ get_or names i name
     → take (i + 1) names ≡ take i names ++ name ∷ []
 taken names i name lt at = take_more names i name lt ∙ ap (λ z. take i names ++ z ∷ []) (sym at)
@@ -198,7 +194,7 @@ kept_more portfolios names accounts ledgers i name account entries lt lt' many a
     let count : i + 1 ≡ length (ledgers ++ entries ∷ []) = ap (λ n. n + 1) many ∙ sym (length-append ledgers (entries ∷ [])) in
     ap (λ xs. xs ++ kept_as portfolios ((name, account), entries) ∷ [])
     (are ∙ ap (λ n. all_kept_as portfolios (take n names) (take n accounts) ledgers) (sym many))
-    ∙ sym (map_push (kept_as portfolios) (zip pairs ledgers) ((name, account), entries))
+    ∙ sym (map-append (kept_as portfolios) (zip pairs ledgers) (((name, account), entries) ∷ []))
     ∙ ap (map (kept_as portfolios)) (sym (zip_push pairs ledgers (name, account) entries (long ∙ short' ∙ many)))
     ∙ ap (λ ps. map (kept_as portfolios) (zip ps (ledgers ++ entries ∷ []))) (sym (zip_push ns cs name account (short ∙ sym short')))
     ∙ ap (λ xs. all_kept_as portfolios xs (cs ++ account ∷ []) (ledgers ++ entries ∷ [])) (sym (taken names i name lt at))

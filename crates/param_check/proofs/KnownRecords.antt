@@ -1,4 +1,4 @@
--- The records of positions whose contracts the tables have.
+-- The records of a list that pass a test, where all do.
 use Rattle.std.proofs.Common.{◌≡◌, ℕ, ◌<◌, Bool, true, false, not, ◌&&◌, List, [], ◌∷◌, filter, length, get_or, take, drop}
 use Rattle.std.proofs.Common.{Some, None, refl, sym, ap, ◌∙◌}
 use Rattle.std.specs.Prelude.{if◌then◌else◌}
@@ -6,10 +6,7 @@ use Rattle.std.specs.List.{list_any}
 use Rattle.std.proofs.lemmas.Bool.{or_parts, not-false, true≢false, false_from_ne_true}
 use Rattle.std.proofs.lemmas.List.{take-append-drop}
 use Rattle.std.proofs.lemmas.List.Folds.{list_any-append, list_any_at}
-use Rattle.span_tables.specs.declared.records.Contract.{Contract}
-use Rattle.span_tables.specs.declared.records.PositionRecord.{PositionRecord}
-use Rattle.param_check.specs.Binding.{all_unfit, among_known, is_known, is_unknown, known_records}
-use Rattle.param_check.specs.declared.faults.BindFault.{BindFault}
+use Rattle.param_check.specs.Binding.{all_unfit_by}
 use Rattle.param_check.proofs.AllFaults.{all_faults_same}
 
 -- where each element passes a test, those that pass are all
@@ -20,37 +17,29 @@ all_pass test (x ∷ xs) h =
     ap (λ (b : Bool). if b then x ∷ filter test xs else filter test xs) (not-false (test x) parts.0)
     ∙ ap (λ ys. x ∷ ys) (all_pass test xs parts.1)
 
-module _ (contracts : List Contract) where
-  -- where each contract is known, the records of known contracts are all
-  pub known_all : (records : List PositionRecord) → list_any (is_unknown contracts) records ≡ false
-      → known_records contracts records ≡ records
-  known_all records h = all_pass (is_known contracts) records h
+module _ {R F : Type 0} (name_of : R → List ℕ) (fault : ℕ → List ℕ → F) (known : R → Bool) (records : List R)
+    (all : list_any (λ r. not (known r)) records ≡ false) where
+  -- those before a place pass
+  known_before : (i : ℕ) → filter known (take i records) ≡ take i records
+  known_before i =
+      all_pass known (take i records)
+      (or_parts (list_any (λ r. not (known r)) (take i records)) (list_any (λ r. not (known r)) (drop i records))
+      (sym (list_any-append (λ r. not (known r)) (take i records) (drop i records))
+      ∙ ap (list_any (λ r. not (known r))) (take-append-drop i records) ∙ all)).0
 
-  -- so too of those before a place
-  known_before : (records : List PositionRecord) (i : ℕ) → list_any (is_unknown contracts) records ≡ false
-      → known_records contracts (take i records) ≡ take i records
-  known_before records i h =
-      known_all (take i records)
-      (or_parts (list_any (is_unknown contracts) (take i records)) (list_any (is_unknown contracts) (drop i records))
-      (sym (list_any-append (is_unknown contracts) (take i records) (drop i records))
-      ∙ ap (list_any (is_unknown contracts)) (take-append-drop i records) ∙ h)).0
+  known_here : (i : ℕ) (d : R) → i < length records → known (get_or records i d) ≡ true
+  known_here i d lt =
+      not-false (known (get_or records i d))
+      (false_from_ne_true (not (known (get_or records i d)))
+      (λ e. true≢false (sym (list_any_at (λ r. not (known r)) records i d lt e) ∙ all)))
 
-  -- the record at a place is of a known contract
-  known_here : (records : List PositionRecord) (i : ℕ) (d : PositionRecord) → list_any (is_unknown contracts) records ≡ false
-      → i < length records → is_known contracts (get_or records i d) ≡ true
-  known_here records i d h lt =
-      not-false (is_known contracts (get_or records i d))
-      (false_from_ne_true (is_unknown contracts (get_or records i d))
-      (λ e. true≢false (sym (list_any_at (is_unknown contracts) records i d lt e) ∙ h)))
-
-  -- then a test of the records of known contracts is one of all
-  pub among_known_all : (fault : ℕ → List ℕ → BindFault) (test : List PositionRecord → PositionRecord → Bool)
-      (records : List PositionRecord) → list_any (is_unknown contracts) records ≡ false
-      → all_unfit fault (among_known contracts test) records ≡ all_unfit fault test records
-  among_known_all fault test records h =
+  -- a test among those that pass is one of all
+  pub among_all : (test : List R → R → Bool)
+      → all_unfit_by name_of fault (λ earlier r. known r && test (filter known earlier) r) records
+      ≡ all_unfit_by name_of fault test records
+  among_all test =
       all_faults_same
-      (λ (earlier : List PositionRecord) (p : PositionRecord).
-      if among_known contracts test earlier p then Some (λ at. fault at p.account) else None)
-      (λ (earlier : List PositionRecord) (p : PositionRecord). if test earlier p then Some (λ at. fault at p.account) else None)
-      records (λ i d lt k. let p = get_or records i d in
-      if known_here records i d h lt k && test (known_before records i h k) p then Some (λ at. fault at p.account) else None)
+      (λ (earlier : List R) (r : R). if known r && test (filter known earlier) r then Some (λ at. fault at (name_of r)) else None)
+      (λ (earlier : List R) (r : R). if test earlier r then Some (λ at. fault at (name_of r)) else None)
+      records (λ i d lt k. let r = get_or records i d in
+      if known_here i d lt k && test (known_before i k) r then Some (λ at. fault at (name_of r)) else None)

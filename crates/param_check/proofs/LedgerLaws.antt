@@ -1,8 +1,7 @@
 -- Laws of the ledger, record by record.
 use Rattle.std.proofs.Common.{◌≡◌, ℕ, ◌+◌, ◌<◌, ◌≤◌, Bool, true, false, cond, List, [], ◌∷◌, ◌++◌, length, get_or}
 use Rattle.std.proofs.Common.{map, replicate, set, take, not, Some, None, slice_get, refl, sym, ap, subst, ◌∙◌, arith}
-use Rattle.std.specs.Prelude.{All, MatchBool, bytes_eq, ⊤}
-use Rattle.std.specs.List.{list_any}
+use Rattle.std.specs.Prelude.{All, bytes_eq}
 use Rattle.std.proofs.lemmas.List.{get_or-map, get_or_default, length-map, take_more}
 use Rattle.std.proofs.lemmas.List.{append-nil}
 use Rattle.std.proofs.lemmas.List.Elements.{filter-append}
@@ -14,19 +13,10 @@ use Rattle.span_tables.specs.near.Positions.{named_position, named_positions}
 use Rattle.span_tables.specs.declared.records.NumberedPosition.{NumberedPosition}
 use Rattle.span_tables.specs.declared.records.PositionRecord.{PositionRecord}
 use Rattle.span_tables.proofs.NameLaws.{distinct_once}
-use Rattle.param_check.specs.near.Ledgers.{AreLedgers, foreign_fault, foreign_faults, is_foreign, is_listed, known_entry, listed_records}
+use Rattle.param_check.specs.near.Ledgers.{is_foreign, is_listed, known_entry, listed_records}
 use Rattle.param_check.specs.near.Nets.{entry_of, entries_of}
-use Rattle.param_check.specs.declared.faults.BindFault.TheVariants as fault
 use Rattle.param_check.specs.declared.binding.nets.Entry.{Entry}
-use Rattle.param_check.specs.Binding.{is_memory}
-use Rattle.param_check.specs.declared.faults.BindFault.{BindFault}
-use Rattle.param_check.proofs.KnownRecords.{all_pass}
 use Rattle.param_check.proofs.AccountLaws.{entered_known, entries_push}
-use Rattle.span_tables.specs.Faults.{first_of}
-use Rattle.param_check.specs.near.Wanted.{wanted_of}
-use Rattle.param_check.specs.declared.wanted.Wanted.TheVariants as wanted
-use Rattle.param_check.proofs.UnfitLaws.{fit_from_none}
-use Rattle.param_check.proofs.WantedLaws.{first_wanted}
 
 -- what the entry of a record says of its contract
 pub foreign_from_none : (ids : List (List ℕ)) (p : PositionRecord) → None ≡ known_entry ids p.contract p.quantity
@@ -53,56 +43,9 @@ pub record IsSeen (positions : List PositionRecord) (i : ℕ) (p : PositionRecor
   pub at : p ≡ get_or positions i p
   pub named : name ≡ p.account
 
-pub none_first : {F : Type 0} (xs : List F) → first_of xs ≡ None → xs ≡ []
-none_first [] e = refl
-none_first (x ∷ xs) e = cc
-
--- the first record of an unknown contract is the first of them
-pub foreign_first : (ids : List (List ℕ)) (positions : List PositionRecord)
-    → first_of (foreign_faults ids positions) ≡ foreign_fault ids positions
-unfolding foreign_faults foreign_fault
-foreign_first ids positions = refl
-
--- where no record is of an unknown contract, each is among those of known ones
-pub none_foreign : (ids : List (List ℕ)) (positions : List PositionRecord) → foreign_fault ids positions ≡ None
-    → list_any (is_foreign ids) positions ≡ false
-unfolding foreign_fault
-none_foreign ids positions e = fit_from_none fault.UnknownContract (is_foreign ids) positions e
-
-unless : (b : Bool) {P : Type 0} → P → MatchBool b ⊤ P
-unless true p = tt
-unless false p = p
-
--- the first of the foreign records that are told is the fault
-pub first_foreign : (ids : List (List ℕ)) (positions : List PositionRecord) (told : List BindFault) (y : BindFault)
-    → told ≡ wanted_of wanted.First (foreign_faults ids positions) → Some y ≡ first_of told
-    → MatchBool (is_memory y) ⊤ (foreign_fault ids positions ≡ Some y)
-first_foreign ids positions told y are is =
-    unless (is_memory y)
-    (sym (foreign_first ids positions) ∙ sym (first_wanted wanted.First (foreign_faults ids positions)) ∙ ap first_of (sym are) ∙ sym is)
-
--- where none is told, the entries are those of all records
-pub none_told_foreign : (ids : List (List ℕ)) (positions : List PositionRecord) (told : List BindFault) (ledgers : List (List Entry))
-    → told ≡ wanted_of wanted.First (foreign_faults ids positions) → None ≡ first_of told
-    → (told ≡ [] → ledgers ≡ map (entries_of ids (listed_records ids positions)) (accounts_of positions)) → AreLedgers ids positions ledgers
-none_told_foreign ids positions told ledgers are none is =
-    let known = none_foreign ids positions
-    (sym (foreign_first ids positions) ∙ sym (first_wanted wanted.First (foreign_faults ids positions)) ∙ ap first_of (sym are)
-    ∙ sym none) in
-    record {
-      ledgers_are = is (none_first told (sym none))
-          ∙ ap (λ ps. map (entries_of ids ps) (accounts_of positions)) (all_pass (is_listed ids) positions known);
-      all_known = known;
-    }
-
 not-true : (b : Bool) → not b ≡ true → b ≡ false
 not-true true e = cc
 not-true false e = refl
-
--- a list to which one was pushed has some
-pub pushed_none : {F : Type 0} (xs : List F) (x : F) → xs ++ x ∷ [] ≡ [] → ⊥
-pushed_none [] x e = cc
-pushed_none (y ∷ xs) x e = cc
 
 -- one more record
 listed_more : (ids : List (List ℕ)) (front : List PositionRecord) (p : PositionRecord) (b : Bool) → is_listed ids p ≡ b

@@ -2,14 +2,13 @@ pub mod AcceptedLaws
 pub mod AccountLaws
 pub mod AllFaults
 pub mod AnswerLaws
-pub mod BindAllLaws
 pub mod BindLaws
 pub mod FilterMaps
+pub mod FoundLaws
 pub mod HoldingLaws
 pub mod IdLaws
 pub mod KeyLemmas
 pub mod KeptLaws
-pub mod KindLaws
 pub mod KnownRecords
 pub mod LedgerLaws
 pub mod LimitLaws
@@ -17,6 +16,7 @@ pub mod MarkLaws
 pub mod NetLaws
 pub mod NumberedUnfit
 pub mod OrderLaws
+pub mod OwnerLaws
 pub mod OrderedFaults
 pub mod OverlapLemmas
 pub mod PlaceLaws

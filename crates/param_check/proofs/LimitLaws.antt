@@ -6,21 +6,21 @@ use Rattle.std.specs.List.{list_any}
 use Rattle.std.proofs.Common.{◌++◌, not}
 use Rattle.std.specs.Prelude.{if◌then◌else◌, option_map, option_to_list}
 use Rattle.std.proofs.Math.Bool.{and-true, or-false}
-use Rattle.std.proofs.lemmas.Bool.{and_parts, or_parts, or_from, and_right}
+use Rattle.std.proofs.lemmas.Bool.{or_parts, or_from, and_right}
 use Rattle.std.proofs.lemmas.List.{take_more}
 use Rattle.std.proofs.lemmas.List.Folds.{list_any-append}
-use Rattle.span_tables.specs.Faults.{faults_after, first_of}
+use Rattle.span_tables.specs.Faults.{faults_after}
+use Rattle.span_tables.specs.Net.{accounts_of}
 use Rattle.span_tables.specs.declared.portfolios.Holding.{Holding}
 use Rattle.span_tables.specs.declared.records.PositionRecord.{PositionRecord}
 use Rattle.param_check.specs.near.Holdings.{exceeds, exceeds_any, exceeds_at, exceeds_in, excess_of, fault_of, is_over, is_over_at}
-use Rattle.param_check.specs.near.Holdings.{exceeds_anew, is_same_told, is_told, limit_fault, limit_faults, same_told, told_as}
+use Rattle.param_check.specs.near.Holdings.{exceeds_anew, is_same_told, is_told, limit_faults, same_told, told_as}
 use Rattle.param_check.specs.declared.binding.over_limits.Told.{Told}
 use Rattle.param_check.specs.declared.binding.over_limits.Excess.{Excess}
 use Rattle.param_check.specs.declared.binding.over_limits.Limit.{Limit}
 use Rattle.param_check.specs.declared.binding.over_limits.Limit.TheVariants as limit
 use Rattle.param_check.proofs.LedgerLaws.{IsSeen}
 use Rattle.param_check.proofs.FilterMaps.{list_any-same}
-use Rattle.param_check.proofs.UnfitLaws.{first_of_kind}
 use Rattle.param_check.proofs.UnfitWalk.{unfit_at}
 
 -- where no element has a fault, there are none
@@ -76,27 +76,23 @@ none_at : (l : Limit) (a c : Option ℕ) (excesses : List Excess) → list_any (
 none_at l (Some a) c excesses e = none_from l a c excesses e
 none_at l None c excesses e = refl
 
-module _ (l : Limit) (ids accounts : List (List ℕ)) (excesses : List Excess) (positions : List PositionRecord) where
+module _ (l : Limit) (ids accounts : List (List ℕ)) (excesses : List Excess) where
   none_anew : list_any (exceeds_any l) excesses ≡ false → (earlier : List PositionRecord) (p : PositionRecord)
       → exceeds_anew l ids accounts excesses earlier p ≡ false
   none_anew e earlier p =
       and_right (not (list_any (λ x. same_told l x p && exceeds l ids accounts excesses x) earlier)) (exceeds l ids accounts excesses p)
       (none_at l (position (bytes_eq p.account) accounts) (position (bytes_eq p.contract) ids) excesses e)
 
-  -- where what no account holds exceeds the limit
-  pub limit_faults-none : list_any (exceeds_any l) excesses ≡ false → limit_faults l ids accounts excesses positions ≡ []
-  unfolding limit_faults
-  limit_faults-none e =
-      no_faults (unfit_at (fault_of l) (exceeds_anew l ids accounts excesses))
-      (λ earlier p. ap (λ (b : Bool). if b then Some (λ at. fault_of l at p.account) else None) (none_anew e earlier p)) [] positions
+-- where what no account holds exceeds the limit
+pub limit_faults-none : (l : Limit) (ids : List (List ℕ)) (excesses : List Excess) (positions : List PositionRecord)
+    → list_any (exceeds_any l) excesses ≡ false → limit_faults l ids excesses positions ≡ []
+unfolding limit_faults
+limit_faults-none l ids excesses positions e =
+    no_faults (unfit_at (fault_of l) (exceeds_anew l ids (accounts_of positions) excesses))
+    (λ earlier p. ap (λ (b : Bool). if b then Some (λ at. fault_of l at p.account) else None)
+    (none_anew l ids (accounts_of positions) excesses e earlier p)) [] positions
 
-  -- the first of the faults is that of the first record that exceeds the limit
-  pub limit_faults-first : first_of (limit_faults l ids accounts excesses positions) ≡ limit_fault l ids accounts excesses positions
-  unfolding limit_faults limit_fault
-  limit_faults-first =
-      first_of_kind (fault_of l) (λ x p. same_told l x p && exceeds l ids accounts excesses x) (exceeds l ids accounts excesses)
-      (λ x p both over. (and_parts (same_told l x p) (exceeds l ids accounts excesses x) both).1) positions
-
+module _ (l : Limit) (ids accounts : List (List ℕ)) (excesses : List Excess) (positions : List PositionRecord) where
   told_alike : (k : Limit) (x p : PositionRecord)
       → is_same_told (told_as k x.account x.contract) (told_as k p.account p.contract) ≡ same_told k x p
   told_alike limit.Net x p = refl

@@ -1,7 +1,9 @@
 -- What the account of an order holds with it, by the entries of the order's records.
 use Rattle.std.proofs.Common.{◌≡◌, ℕ, suc, ◌+◌, Bool, true, false, cond, ◌&&◌, List, [], ◌∷◌, ◌++◌, length, map, filter}
 use Rattle.std.proofs.Common.{refl, sym, ap, ◌∙◌, arith}
-use Rattle.std.specs.Prelude.{pos, ◌+ℤ◌, ◌==◌, bytes_eq, All}
+use Rattle.std.specs.Prelude.{pos, ◌+ℤ◌, ◌==◌, bytes_eq, slice_get, All, Some}
+use Rattle.std.proofs.lemmas.Bool.{and_right, false_from_ne_true, true≢false}
+use Rattle.std.proofs.lemmas.Map.Keys.{any_passes_from_place}
 use Rattle.std.proofs.lemmas.List.Elements.{filter-append}
 use Rattle.span_money.specs.Numbers.{int_sum_by}
 use Rattle.span_tables.specs.Names.{has_repeat}
@@ -15,11 +17,12 @@ use Rattle.span_tables.specs.declared.records.PositionRecord.{PositionRecord}
 use Rattle.span_tables.proofs.MergedLaws.{int_sum_by-append, same_numbered}
 use Rattle.span_tables.proofs.NameLemmas.{same_name}
 use Rattle.span_tables.proofs.SumLaws.{int_sum_by-if}
+use Rattle.param_check.specs.Binding.{is_known, known_records}
 use Rattle.param_check.specs.near.Holdings.{ids_of}
 use Rattle.param_check.specs.near.Ledgers.{held_entries, held_entry}
 use Rattle.param_check.specs.near.Nets.{entries_of, entry_holdings, entry_net}
 use Rattle.param_check.specs.declared.binding.nets.Entry.{Entry}
-use Rattle.param_check.proofs.AccountLaws.{bytes_eq-refl}
+use Rattle.param_check.proofs.AccountLaws.{bytes_eq-flip, bytes_eq-refl}
 use Rattle.param_check.proofs.HoldingLaws.{held_by_entries, net_is}
 
 -- ---- the records of an order
@@ -73,6 +76,40 @@ module _ (all : List OrderRecord) (order : List ℕ) where
       (λ k x. net_among before k +ℤ net_of (positions_of_order all order) (account_of_order all order) x.id)
       (λ k x. net_among before k +ℤ net_of (map under_order all) order x.id) 0 contracts
       (λ k x e. ap (λ z. net_among before (0 + k) +ℤ z) (nets_under x.id all one)))
+
+-- a record of a contract that there is not counts in no net of one that there is
+known_net : (contracts : List Contract) (account : List ℕ) (k : ℕ) (x : Contract) → slice_get contracts k ≡ Some x
+    → (positions : List PositionRecord) → net_of (known_records contracts positions) account x.id ≡ net_of positions account x.id
+known_net contracts owner k x e [] = refl
+known_net contracts owner k x e (p ∷ positions) = by (is_known contracts p) refl (known_net contracts owner k x e positions)
+  where
+    known : List PositionRecord
+    known = known_records contracts positions
+
+    mine : List PositionRecord
+    mine = filter (λ (q : PositionRecord). bytes_eq q.account owner && bytes_eq q.contract x.id) positions
+
+    by : (b : Bool) → is_known contracts p ≡ b → net_of known owner x.id ≡ net_of positions owner x.id
+        → net_of (cond b (p ∷ known) known) owner x.id ≡ net_of (p ∷ positions) owner x.id
+    by true t more =
+        net_push p known owner x.id
+        ∙ ap (λ z. cond (bytes_eq p.account owner && bytes_eq p.contract x.id) p.quantity (pos 0) +ℤ z) more
+        ∙ sym (net_push p positions owner x.id)
+    by false t more =
+        let other : bytes_eq p.contract x.id ≡ false = false_from_ne_true (bytes_eq p.contract x.id) (λ same.
+        true≢false (sym (any_passes_from_place (λ (y : Contract). bytes_eq y.id p.contract) contracts k x e
+        (bytes_eq-flip x.id p.contract ∙ same)) ∙ t)) in
+        more ∙ ap (λ b. int_sum_by (λ (q : PositionRecord). q.quantity) (cond b (p ∷ mine) mine))
+        (sym (and_right (bytes_eq p.account owner) (bytes_eq p.contract x.id) other))
+
+-- records of contracts that there are not count in nothing that is held
+pub known_count : (contracts : List Contract) (before : List Holding) (positions : List PositionRecord) (account : List ℕ)
+    → holdings_with contracts before (known_records contracts positions) account ≡ holdings_with contracts before positions account
+known_count contracts before positions account =
+    ap (filter is_held) (same_numbered
+    (λ k x. net_among before k +ℤ net_of (known_records contracts positions) account x.id)
+    (λ k x. net_among before k +ℤ net_of positions account x.id) 0 contracts
+    (λ k x e. ap (λ z. net_among before (0 + k) +ℤ z) (known_net contracts account k x e positions)))
 
 -- ---- entries
 

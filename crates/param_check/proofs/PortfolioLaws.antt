@@ -22,6 +22,7 @@ use Rattle.span_tables.proofs.NameLemmas.{same_name}
 use Rattle.param_check.specs.Binding.{exceeds_net, exceeds_held}
 use Rattle.param_check.specs.near.Holdings.{are_many, portfolios_from}
 use Rattle.param_check.proofs.AccountLaws.{bytes_eq-refl}
+use Rattle.param_check.proofs.FilterMaps.{list_any-map}
 use Rattle.param_check.proofs.OrderLaws.{held_rise}
 
 -- where no record is over a limit of its account and contract, no account and contract that a record has is
@@ -57,29 +58,29 @@ module _ (positions : List PositionRecord) (account name : List ℕ) where
           ap (λ xs. nat_abs (int_sum_by (λ (p : PositionRecord). p.quantity) xs)) none in omega (arith, zero_net)
       by (inr e) = ltb-false MAX_NET (nat_abs (net_of positions account name)) e
 
--- where no record's account holds too many, no account that a record has does
-pub few_among : (held : List ℕ → List Holding) (account : List ℕ) (xs : List PositionRecord)
-    → list_any (bytes_eq account) (map (λ p. p.account) xs) ≡ true
-    → list_any (λ p. are_many (held p.account)) xs ≡ false → length (held account) ≤ MAX_HELD
-few_among held account [] among h = absurd (false≢true among)
-few_among held account (p ∷ xs) among h =
-    by (bytes_eq account p.account) refl among (λ e. few_among held account xs e parts.1)
+-- where none of some names holds too many, no name among them does
+pub few_among : (held : List ℕ → List Holding) (account : List ℕ) (names : List (List ℕ))
+    → list_any (bytes_eq account) names ≡ true → list_any (λ n. are_many (held n)) names ≡ false → length (held account) ≤ MAX_HELD
+few_among held account [] there h = absurd (false≢true there)
+few_among held account (name ∷ names) there h =
+    by (bytes_eq account name) refl there (λ e. few_among held account names e parts.1)
   where
-    parts : (are_many (held p.account) ≡ false) × (list_any (λ q. are_many (held q.account)) xs ≡ false)
-    parts = or_parts (are_many (held p.account)) (list_any (λ q. are_many (held q.account)) xs) h
+    parts : (are_many (held name) ≡ false) × (list_any (λ n. are_many (held n)) names ≡ false)
+    parts = or_parts (are_many (held name)) (list_any (λ n. are_many (held n)) names) h
 
-    by : (b : Bool) → bytes_eq account p.account ≡ b → (b || list_any (bytes_eq account) (map (λ q. q.account) xs)) ≡ true
-        → (list_any (bytes_eq account) (map (λ q. q.account) xs) ≡ true → length (held account) ≤ MAX_HELD)
-        → length (held account) ≤ MAX_HELD
-    by true e among more =
-        let few : length (held p.account) ≤ MAX_HELD = ltb-false MAX_HELD (length (held p.account)) parts.0 in
-        subst (λ a. length (held a) ≤ MAX_HELD) (sym (same_name account p.account e)) few
-    by false e among more = more among
+    by : (b : Bool) → bytes_eq account name ≡ b → (b || list_any (bytes_eq account) names) ≡ true
+        → (list_any (bytes_eq account) names ≡ true → length (held account) ≤ MAX_HELD) → length (held account) ≤ MAX_HELD
+    by true e there more =
+        let few : length (held name) ≤ MAX_HELD = ltb-false MAX_HELD (length (held name)) parts.0 in
+        subst (λ a. length (held a) ≤ MAX_HELD) (sym (same_name account name e)) few
+    by false e there more = more there
 
 pub few_from : (contracts : List Contract) (positions : List PositionRecord) (account : List ℕ) (xs : List PositionRecord)
     → list_any (bytes_eq account) (map (λ p. p.account) xs) ≡ true
     → list_any (exceeds_held contracts positions) xs ≡ false → length (holdings_of contracts positions account) ≤ MAX_HELD
-few_from contracts positions account xs among h = few_among (holdings_of contracts positions) account xs among h
+few_from contracts positions account xs among h =
+    few_among (holdings_of contracts positions) account (map (λ p. p.account) xs) among
+    (list_any-map (λ n. are_many (holdings_of contracts positions n)) (λ (p : PositionRecord). p.account) xs ∙ h)
 
 module _ (net : ℕ → Contract → ℤ) (contracts : List Contract) where
   numbers_from : (a : ℕ) (xs : List Contract)

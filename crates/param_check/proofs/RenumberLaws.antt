@@ -9,15 +9,17 @@ use Rattle.std.proofs.lemmas.List.Elements.{filter-append}
 use Rattle.span_tables.specs.Faults.{faults_after}
 use Rattle.span_tables.specs.declared.records.Contract.{Contract}
 use Rattle.span_tables.specs.declared.records.PositionRecord.{PositionRecord}
-use Rattle.param_check.specs.Binding.{all_unfit, among_known, bind_faults, exceeds_held, exceeds_net, is_first_of_account}
+use Rattle.param_check.specs.Binding.{all_unfit, among, bind_faults, exceeds_held, exceeds_net, is_first_of_account}
 use Rattle.param_check.specs.Binding.{is_first_of_contract, is_known, is_unknown, known_records}
 use Rattle.param_check.specs.FaultLaws.{known_numbers, renumbered}
 use Rattle.param_check.specs.declared.faults.BindFault.{BindFault}
 use Rattle.param_check.specs.declared.faults.BindFault.TheVariants as fault
-use Rattle.param_check.proofs.KnownRecords.{all_pass, among_known_all}
-use Rattle.param_check.proofs.LedgerLaws.{none_first}
-use Rattle.param_check.proofs.UnfitLaws.{unfit_none}
+use Rattle.param_check.proofs.KnownRecords.{all_pass, among_all}
+use Rattle.param_check.proofs.UnfitLaws.{none_unfit}
 use Rattle.param_check.proofs.UnfitWalk.{unfit_at}
+
+abbrev contract_of : PositionRecord → List ℕ
+contract_of p = p.contract
 
 at_end : (front later : List ℕ) (n : ℕ) → get_or (front ++ n ∷ later) (length front) 0 ≡ n
 at_end [] later n = refl
@@ -70,16 +72,16 @@ module _ (contracts : List Contract) where
         ap (λ f. f ∷ []) (named (m + 1) name ∙ ap (λ k. g (get_or numbers k 0) name) back ∙ ap (λ k. g k name) e)
     told_renumbered false m n name e = refl
 
-    among : List PositionRecord → List PositionRecord → List BindFault
-    among earlier xs = faults_after (unfit_at g (among_known contracts test)) earlier xs
+    among_every : List PositionRecord → List PositionRecord → List BindFault
+    among_every earlier xs = faults_after (unfit_at g (among contract_of contracts test)) earlier xs
 
     alone : List PositionRecord → List PositionRecord → List BindFault
     alone earlier xs = faults_after (unfit_at g test) earlier xs
 
     renumbered_from : (earlier xs : List PositionRecord) (front : List ℕ) → numbers ≡ front ++ known_from (length earlier + 1) xs
         → length front ≡ length (known_records contracts earlier)
-        → map (renumbered numbers) (alone (known_records contracts earlier) (known_records contracts xs)) ≡ among earlier xs
-    unfolding alone among told
+        → map (renumbered numbers) (alone (known_records contracts earlier) (known_records contracts xs)) ≡ among_every earlier xs
+    unfolding alone among_every told
     renumbered_from earlier [] front e size = refl
     renumbered_from earlier (x ∷ xs) front e size =
         by (is_known contracts x) refl (λ behind f s. renumbered_from (earlier ++ x ∷ []) xs behind f s)
@@ -104,9 +106,9 @@ module _ (contracts : List Contract) where
         by : (b : Bool) → is_known contracts x ≡ b
             → ((before : List ℕ) → numbers ≡ before ++ known_from (length (earlier ++ x ∷ []) + 1) xs
             → length before ≡ length (known_records contracts (earlier ++ x ∷ []))
-            → behind (known_records contracts (earlier ++ x ∷ [])) ≡ among (earlier ++ x ∷ []) xs)
+            → behind (known_records contracts (earlier ++ x ∷ [])) ≡ among_every (earlier ++ x ∷ []) xs)
             → map (renumbered numbers) (alone known (cond b (x ∷ known_records contracts xs) (known_records contracts xs)))
-            ≡ among earlier (x ∷ xs)
+            ≡ among_every earlier (x ∷ xs)
         by true is more =
             let numbers_are : numbers ≡ front ++ n ∷ known_from (n + 1) xs =
             e ∙ ap (λ ns. front ++ ns) (known_from_next n x xs true is) in
@@ -122,14 +124,14 @@ module _ (contracts : List Contract) where
             ∙ ap (λ fs. fs ++ behind (known ++ x ∷ [])) (told_renumbered (test known x) (length known) n x.account at)
             ∙ ap (λ ks. own (test known x) ++ behind ks) (sym push)
             ∙ ap (λ fs. own (test known x) ++ fs) rest
-            ∙ ap (λ (t : Bool). own (t && test known x) ++ among (earlier ++ x ∷ []) xs) (sym is)
+            ∙ ap (λ (t : Bool). own (t && test known x) ++ among_every (earlier ++ x ∷ []) xs) (sym is)
         by false is more =
             let push = known_push earlier x false is ∙ append-nil known in
             let rest = more front
             (e ∙ ap (λ ns. front ++ ns) (known_from_next n x xs false is) ∙ ap (λ k. front ++ known_from (k + 1) xs) (sym up))
             (size ∙ ap length (sym push)) in
             ap behind (sym push) ∙ rest
-            ∙ ap (λ (t : Bool). own (t && test known x) ++ among (earlier ++ x ∷ []) xs) (sym is)
+            ∙ ap (λ (t : Bool). own (t && test known x) ++ among_every (earlier ++ x ∷ []) xs) (sym is)
 
   module _ (all : List PositionRecord) where
     known : List PositionRecord
@@ -148,15 +150,16 @@ module _ (contracts : List Contract) where
     known_same = all_pass (is_known contracts) (known_records contracts all) left
 
     unknown_none : all_unfit fault.UnknownContract (λ earlier p. is_unknown contracts p) (known_records contracts all) ≡ []
-    unknown_none = none_first _ (unfit_none fault.UnknownContract (is_unknown contracts) (known_records contracts all) left)
+    unknown_none =
+        none_unfit (λ (p : PositionRecord). p.account) fault.UnknownContract (is_unknown contracts) (known_records contracts all) left
 
     part : (g : ℕ → List ℕ → BindFault)
         → ((at : ℕ) (name : List ℕ) → renumbered (known_numbers contracts all) (g at name)
         ≡ g (get_or (known_numbers contracts all) (at - 1) 0) name)
         → (test : List PositionRecord → PositionRecord → Bool)
         → map (renumbered (known_numbers contracts all)) (all_unfit g test (known_records contracts all))
-        ≡ all_unfit g (among_known contracts test) all
-    unfolding known_from alone among
+        ≡ all_unfit g (among contract_of contracts test) all
+    unfolding known_from alone among_every
     part g named test = renumbered_from (known_numbers contracts all) g named test [] all [] refl refl
 
     alone_is : bind_faults contracts (known_records contracts all)
@@ -164,10 +167,14 @@ module _ (contracts : List Contract) where
         ++ all_unfit fault.TooManyHeld (held_test (known_records contracts all)) (known_records contracts all)
     unfolding bind_faults net_test held_test
     alone_is =
-        let nets = ap (λ ks. all_unfit fault.NetOutOfRange (among_known contracts (net_test ks)) (known_records contracts all)) known_same
-        ∙ among_known_all contracts fault.NetOutOfRange (net_test (known_records contracts all)) (known_records contracts all) left in
-        let held = ap (λ ks. all_unfit fault.TooManyHeld (among_known contracts (held_test ks)) (known_records contracts all)) known_same
-        ∙ among_known_all contracts fault.TooManyHeld (held_test (known_records contracts all)) (known_records contracts all) left in
+        let nets = ap (λ ks. all_unfit fault.NetOutOfRange (among contract_of contracts (net_test ks)) (known_records contracts all))
+        known_same
+        ∙ among_all (λ (p : PositionRecord). p.account) fault.NetOutOfRange (is_known contracts) (known_records contracts all) left
+        (net_test (known_records contracts all)) in
+        let held = ap (λ ks. all_unfit fault.TooManyHeld (among contract_of contracts (held_test ks)) (known_records contracts all))
+        known_same
+        ∙ among_all (λ (p : PositionRecord). p.account) fault.TooManyHeld (is_known contracts) (known_records contracts all) left
+        (held_test (known_records contracts all)) in
         λ k. unknown_none k ++ nets k ++ held k
 
     -- nets and what is held are those of the records of known contracts alone, under the numbers of the file
@@ -180,8 +187,8 @@ module _ (contracts : List Contract) where
         let numbers = known_numbers contracts all in
         let nets = all_unfit fault.NetOutOfRange (net_test (known_records contracts all)) (known_records contracts all) in
         let held = all_unfit fault.TooManyHeld (held_test (known_records contracts all)) (known_records contracts all) in
-        append_assoc unknown (all_unfit fault.NetOutOfRange (among_known contracts (net_test (known_records contracts all))) all)
-        (all_unfit fault.TooManyHeld (among_known contracts (held_test (known_records contracts all))) all)
+        append_assoc unknown (all_unfit fault.NetOutOfRange (among contract_of contracts (net_test (known_records contracts all))) all)
+        (all_unfit fault.TooManyHeld (among contract_of contracts (held_test (known_records contracts all))) all)
         ∙ ap (λ fs. unknown ++ fs) (sym
         (ap (map (renumbered numbers)) alone_is ∙ map-append (renumbered numbers) nets held
         ∙ (λ k. part fault.NetOutOfRange (λ at name. refl) (net_test (known_records contracts all)) k

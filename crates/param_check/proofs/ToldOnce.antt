@@ -20,7 +20,7 @@ list_any-same_at p q (x ∷ xs) h =
     λ i. here i || rest i
 
 -- a test of the elements that pass another
-list_any-filter : {X : Type 0} (p q : X → Bool) (xs : List X) → list_any p (filter q xs) ≡ list_any (λ x. q x && p x) xs
+pub list_any-filter : {X : Type 0} (p q : X → Bool) (xs : List X) → list_any p (filter q xs) ≡ list_any (λ x. q x && p x) xs
 list_any-filter p q [] = refl
 list_any-filter p q (x ∷ xs) = by (q x) (list_any-filter p q xs)
   where

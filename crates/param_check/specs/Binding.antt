@@ -10,9 +10,18 @@ use Rattle.param_check.specs.declared.faults.BindFault.{BindFault}
 use Rattle.param_check.specs.declared.faults.BindFault.TheVariants as fault
 use Rattle.span_tables.specs.declared.limits.TheConstants.{MAX_NET, MAX_HELD}
 
--- the record is of a contract that the tables have
+-- a record is of a contract that the tables have
+abbrev pub is_of_known : {R : Type 0} → (R → List ℕ) → List Contract → R → Bool
+is_of_known contract contracts r = list_any (λ x. bytes_eq x.id (contract r)) contracts
+
+-- a record is of a contract that the tables have, and a test of such records alone holds of it
+abbrev pub among : {R : Type 0} → (R → List ℕ) → List Contract → (List R → R → Bool) → List R → R → Bool
+among contract contracts test earlier r =
+    is_of_known contract contracts r && test (filter (is_of_known contract contracts) earlier) r
+
+-- the position is of a contract that the tables have
 abbrev pub is_known : List Contract → PositionRecord → Bool
-is_known contracts p = list_any (λ x. bytes_eq x.id p.contract) contracts
+is_known contracts p = is_of_known (λ (q : PositionRecord). q.contract) contracts p
 
 -- the record is of a contract that the tables do not have
 abbrev pub is_unknown : List Contract → PositionRecord → Bool
@@ -21,10 +30,6 @@ is_unknown contracts p = not (is_known contracts p)
 -- the records of contracts that the tables have
 abbrev pub known_records : List Contract → List PositionRecord → List PositionRecord
 known_records contracts records = filter (is_known contracts) records
-
--- the record is of a contract that the tables have, and a test of such records alone holds of it
-abbrev pub among_known : List Contract → (List PositionRecord → PositionRecord → Bool) → List PositionRecord → PositionRecord → Bool
-among_known contracts test earlier p = is_known contracts p && test (known_records contracts earlier) p
 
 -- the record is the first of its account and contract
 abbrev pub is_first_of_contract : List PositionRecord → PositionRecord → Bool
@@ -62,16 +67,25 @@ abbrev pub first_unfit : (ℕ → List ℕ → BindFault) → (List PositionReco
     → List PositionRecord → Option BindFault
 first_unfit fault unfit all = first_of (all_unfit fault unfit all)
 
--- The faults of positions: each record of an unknown contract, then each net out of range and then each account that holds too many
--- contracts, as if the records of unknown contracts were not there, but for the numbers.
+-- The faults of records of owners, by the owner and the contract of a record, the names of the three faults, and what of an owner is over
+-- a limit: each record of an unknown contract, then each net over the limit and then each owner that holds too many contracts, as if the
+-- records of unknown contracts were not there, but for the numbers. A net and an owner are told once, with their first record.
+abbrev pub owner_faults : {R F : Type 0} → (R → List ℕ) → (R → List ℕ) → (ℕ → List ℕ → F) → (ℕ → List ℕ → F) → (ℕ → List ℕ → F)
+    → List Contract → (List ℕ → List ℕ → Bool) → (List ℕ → Bool) → List R → List F
+owner_faults owner contract unknown net held contracts is_over has_many all =
+    all_unfit_by owner unknown (λ earlier r. not (is_of_known contract contracts r)) all
+    ++ all_unfit_by owner net (among contract contracts (λ earlier r.
+    not (list_any (λ x. bytes_eq (owner x) (owner r) && bytes_eq (contract x) (contract r)) earlier) && is_over (owner r) (contract r))) all
+    ++ all_unfit_by owner held (among contract contracts (λ earlier r.
+    not (list_any (λ x. bytes_eq (owner x) (owner r)) earlier) && has_many (owner r))) all
+
+-- the faults of positions, of which the accounts are the owners
 unfoldable pub bind_faults : List Contract → List PositionRecord → List BindFault
 bind_faults contracts all =
     let known = known_records contracts all in
-    all_unfit fault.UnknownContract (λ earlier p. is_unknown contracts p) all
-    ++ all_unfit fault.NetOutOfRange
-    (among_known contracts (λ earlier p. is_first_of_contract earlier p && exceeds_net known p)) all
-    ++ all_unfit fault.TooManyHeld
-    (among_known contracts (λ earlier p. is_first_of_account earlier p && exceeds_held contracts known p)) all
+    owner_faults (λ p. p.account) (λ p. p.contract) fault.UnknownContract fault.NetOutOfRange fault.TooManyHeld contracts
+    (λ account contract. nat_lt MAX_NET (nat_abs (net_of known account contract)))
+    (λ account. nat_lt MAX_HELD (length (holdings_of contracts known account))) all
 
 -- the first of these
 unfoldable pub bind_fault : List Contract → List PositionRecord → Option BindFault

@@ -1,14 +1,14 @@
 -- Which orders fit the accepted tables and the portfolios of accounts, and what each account holds without its order and with it.
-use Rattle.std.specs.Prelude.{ℕ, Bool, not, ◌&&◌, nat_lt, List, [], ◌∷◌, map}
+use Rattle.std.specs.Prelude.{ℕ, Bool, not, ◌&&◌, nat_lt, List, map}
 use Rattle.std.specs.Prelude.{length, Option, bytes_eq, nat_abs, Result, true, false}
 use Rattle.std.specs.List.{list_any, position_or_len}
-use Rattle.span_tables.specs.Faults.{first_some, ok_unless}
+use Rattle.span_tables.specs.Faults.{first_of, ok_unless}
 use Rattle.span_tables.specs.Net.{AccountHoldings}
 use Rattle.span_tables.specs.Orders.{account_of_order, holdings_among, holdings_with, net_among, orders_in, positions_of_order}
 use Rattle.span_tables.specs.declared.portfolios.Holding.{Holding}
 use Rattle.span_tables.specs.declared.records.Contract.{Contract}
 use Rattle.span_tables.specs.declared.records.OrderRecord.{OrderRecord}
-use Rattle.param_check.specs.Binding.{first_unfit_by}
+use Rattle.param_check.specs.Binding.{first_unfit_by, owner_faults}
 use Rattle.param_check.specs.declared.faults.OrderBindFault.{OrderBindFault}
 use Rattle.param_check.specs.declared.faults.OrderBindFault.TheVariants as fault
 use Rattle.span_tables.specs.declared.limits.TheConstants.{MAX_NET, MAX_HELD}
@@ -57,11 +57,15 @@ is_first_of_leg earlier r = not (list_any (λ x. bytes_eq x.order r.order && byt
 abbrev pub is_first_of_order : List OrderRecord → OrderRecord → Bool
 is_first_of_order earlier r = not (list_any (λ x. bytes_eq x.order r.order) earlier)
 
--- the net of the account in the record's contract, with the order, is over the limit either way
+-- the net of the account in a contract, with the order, is over the limit either way
+abbrev pub net_exceeds_with : List Contract → List AccountHoldings → List OrderRecord → List ℕ → List ℕ → Bool
+net_exceeds_with contracts portfolios all order contract =
+    nat_lt MAX_NET (nat_abs (net_among (holdings_after contracts portfolios all order)
+    (position_or_len (λ x. bytes_eq x.id contract) contracts)))
+
+-- so in the record's contract
 abbrev pub exceeds_net_with : List Contract → List AccountHoldings → List OrderRecord → OrderRecord → Bool
-exceeds_net_with contracts portfolios all r =
-    nat_lt MAX_NET (nat_abs (net_among (holdings_after contracts portfolios all r.order)
-    (position_or_len (λ x. bytes_eq x.id r.contract) contracts)))
+exceeds_net_with contracts portfolios all r = net_exceeds_with contracts portfolios all r.order r.contract
 
 -- the account holds more contracts with the order than it may
 abbrev pub exceeds_held_with : List Contract → List AccountHoldings → List OrderRecord → OrderRecord → Bool
@@ -75,13 +79,9 @@ first_unfit_order fault unfit all = first_unfit_by (λ (r : OrderRecord). r.orde
 -- The fault of orders: an unknown contract in any record, then an account's net with an order out of range, then too many contracts held
 -- with one. No order sees another.
 unfoldable pub order_bind_fault : List Contract → List AccountHoldings → List OrderRecord → Option OrderBindFault
-order_bind_fault contracts portfolios all = first_some
-    (first_unfit_order fault.UnknownContract (λ earlier r. is_of_unknown contracts r) all
-    ∷ first_unfit_order fault.NetOutOfRange
-    (λ earlier r. is_first_of_leg earlier r && exceeds_net_with contracts portfolios all r) all
-    ∷ first_unfit_order fault.TooManyHeld
-    (λ earlier r. is_first_of_order earlier r && exceeds_held_with contracts portfolios all r) all
-    ∷ [])
+order_bind_fault contracts portfolios all = first_of
+    (owner_faults (λ r. r.order) (λ r. r.contract) fault.UnknownContract fault.NetOutOfRange fault.TooManyHeld contracts
+    (net_exceeds_with contracts portfolios all) (λ order. nat_lt MAX_HELD (length (holdings_after contracts portfolios all order))) all)
 
 -- the orders, in the order of first appearance, tried on portfolios; or their fault
 unfoldable pub orders_bound : List Contract → List AccountHoldings → List OrderRecord → Result TriedOrders OrderBindFault

@@ -6,21 +6,20 @@ pub(crate) mod ledgers;
 pub mod nets;
 pub(crate) mod over_limits;
 
-ghost use Rattle.std.specs.Prelude.{◌≡◌, false, None, length, bytes_eq, map, All, IfOk};
+ghost use Rattle.std.specs.Prelude.{◌≡◌, false, length, bytes_eq, All, IfOk, List};
 ghost use Rattle.param_check.specs.Binding.{bind_faults, bindings_of, is_memory};
-ghost use Rattle.param_check.specs.declared.binding.over_limits.Limit.TheVariants as limit;
-ghost use Rattle.param_check.specs.near.Holdings.{excess_of, limit_fault, portfolios_from, portfolios_or_fault};
+ghost use Rattle.param_check.specs.near.Holdings.{ids_of, portfolios_from};
+ghost use Rattle.param_check.specs.near.Ledgers.{AreGathered};
 ghost use Rattle.span_tables.specs.Gives.{Gives};
 ghost use Rattle.span_tables.specs.Holdings.{ArePortfolio};
 ghost use Rattle.span_tables.specs.Names.{has_repeat};
-ghost use Rattle.span_tables.specs.Net.{accounts_of};
+ghost use Rattle.span_tables.specs.declared.records.Contract.{Contract};
 
 use crate::binding::contract_ids::ids_of;
-use crate::binding::ledgers::{gather, ledgers_of};
+use crate::binding::ledgers::gather;
 use crate::binding::nets::{AccountNets, all_nets};
-use crate::binding::over_limits::{Limit, excesses_of, limit_fault, limit_faults};
+use crate::binding::over_limits::{all_faults, excesses_of, first};
 use crate::faults::BindFault;
-use crate::wanted::Wanted;
 use indexmap::IndexSet;
 use span_tables::name::Name;
 use span_tables::portfolios::{Portfolio, Portfolios};
@@ -47,25 +46,36 @@ fn portfolios_from(
     Ok(Portfolios::new(all))
 }
 
-/// The portfolios of accounts with these nets, or the fault in them.
+// All faults of positions whose accounts have these nets, beside those of the records of unknown contracts.
+fn faults_of(
+    alloc: Global,
+    numbers: &IndexSet<Name>,
+    unknown: Vec<BindFault>,
+    nets: &[AccountNets],
+    positions: &RawPositions,
+) -> Result<Vec<BindFault>, AllocError>
+    requires { AreGathered numbers.now.keys positions.now unknown.items nets.now }
+    ensures { (contracts : List Contract) → ids_of contracts ≡ numbers.now.keys
+        → IfOk result (λ faults. faults.items ≡ bind_faults contracts positions.now) }
+{
+    let excesses = excesses_of(alloc, nets)?;
+    all_faults(alloc, numbers, unknown, &excesses, positions)
+}
+
+/// The portfolios of accounts with these nets, or the first fault of the positions.
 pub(crate) fn portfolios_or_fault(
     alloc: Global,
     numbers: &IndexSet<Name>,
+    unknown: Vec<BindFault>,
     nets: Vec<AccountNets>,
     positions: &RawPositions,
 ) -> Result<Portfolios, BindFault>
-    requires as_many { length nets.items ≡ length (accounts_of positions.now) }
-    requires fit { limit_fault limit.Net numbers.now.keys (accounts_of positions.now) (map excess_of nets.items) positions.now ≡ None
-        → limit_fault limit.Held numbers.now.keys (accounts_of positions.now) (map excess_of nets.items) positions.now ≡ None
-        → All ArePortfolio nets.items }
-    ensures { Gives is_memory result
-        (portfolios_or_fault numbers.now.keys (accounts_of positions.now) nets.items positions.now) }
+    requires { AreGathered numbers.now.keys positions.now unknown.items nets.items }
+    ensures { (contracts : List Contract) → ids_of contracts ≡ numbers.now.keys
+        → Gives is_memory result (bindings_of contracts positions.now) }
 {
-    let excesses = excesses_of(alloc, &nets)?;
-    if let Some(fault) = limit_fault(alloc, Limit::Net, numbers, &excesses, positions)? {
-        return Err(fault);
-    }
-    if let Some(fault) = limit_fault(alloc, Limit::Held, numbers, &excesses, positions)? {
+    let faults = faults_of(alloc, numbers, unknown, &nets, positions)?;
+    if let Some(fault) = first(faults) {
         return Err(fault);
     }
     let all = portfolios_from(alloc, positions.accounts(), nets)?;
@@ -82,44 +92,9 @@ pub fn bind_positions(
     ensures { Gives is_memory result (bindings_of contracts.now positions.now) }
 {
     let numbers = ids_of(alloc, contracts)?;
-    let ledgers = ledgers_of(alloc, &numbers, positions)?;
-    let nets = all_nets(alloc, contracts.len(), ledgers)?;
-    portfolios_or_fault(alloc, &numbers, nets, positions)
-}
-
-// All faults of the records; the ids of the contracts are apart.
-fn all_faults(
-    alloc: Global,
-    contracts: &[Contract],
-    positions: &RawPositions,
-) -> Result<Vec<BindFault>, AllocError>
-    requires { has_repeat (λ x y. bytes_eq x.id y.id) contracts.now ≡ false }
-    ensures { IfOk result (λ faults. faults.items ≡ bind_faults contracts.now positions.now) }
-{
-    let numbers = ids_of(alloc, contracts)?;
-    let gathered = gather(alloc, Wanted::All, &numbers, positions)?;
-    let nets = all_nets(alloc, contracts.len(), gathered.ledgers)?;
-    let excesses = excesses_of(alloc, &nets)?;
-    let mut over = limit_faults(
-        alloc,
-        Wanted::All,
-        Limit::Net,
-        &numbers,
-        &excesses,
-        positions,
-    )?;
-    let mut many = limit_faults(
-        alloc,
-        Wanted::All,
-        Limit::Held,
-        &numbers,
-        &excesses,
-        positions,
-    )?;
-    let mut faults = gathered.unknown;
-    faults.append(&mut over)?;
-    faults.append(&mut many)?;
-    Ok(faults)
+    let gathered = gather(alloc, &numbers, positions)?;
+    let nets = all_nets(alloc, &numbers, gathered.ledgers)?;
+    portfolios_or_fault(alloc, &numbers, gathered.unknown, nets, positions)
 }
 
 /// All faults of the positions, of B1 to B3 (docs/FORMATS.md, "All faults"): each record whose contract the tables do not have, and then,
@@ -131,7 +106,10 @@ pub fn bind_faults(
 ) -> Result<Vec<BindFault>, AllocError>
     ensures { IfOk result (λ faults. faults.items ≡ bind_faults tables.now.contracts positions.now) }
 {
-    all_faults(alloc, tables.contracts(), positions)
+    let numbers = ids_of(alloc, tables.contracts())?;
+    let gathered = gather(alloc, &numbers, positions)?;
+    let nets = all_nets(alloc, &numbers, gathered.ledgers)?;
+    faults_of(alloc, &numbers, gathered.unknown, &nets, positions)
 }
 
 /// What each account holds, by the accounts' first appearance (docs/METHOD.md, "Positions"), or the fault of the

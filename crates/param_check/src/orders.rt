@@ -1,23 +1,20 @@
 //! The binding of orders to tables and to the portfolios of accounts.
 pub(crate) mod kept_orders;
 
-ghost use Rattle.std.specs.Prelude.{◌≡◌, ◌<◌, [], All, IfOk, MatchOption, None, Some, bytes_eq, drop, false, length};
+ghost use Rattle.std.specs.Prelude.{◌≡◌, ◌<◌, [], IfOk, MatchOption, Some, bytes_eq, drop, false, length};
 ghost use Rattle.std.specs.Prelude.{map, option_map, slice_get, take};
 ghost use Rattle.param_check.specs.OrderBinding.{is_memory, orders_bound};
-ghost use Rattle.param_check.specs.declared.binding.over_limits.Limit.TheVariants as limit;
-ghost use Rattle.param_check.specs.near.Orders.{kept_fault, kept_or_fault, order_fault, portfolio_before, HasPlace, IsKept};
+ghost use Rattle.param_check.specs.near.Orders.{order_fault};
 ghost use Rattle.span_tables.specs.Gives.{Gives};
-ghost use Rattle.span_tables.specs.Holdings.{ArePortfolio};
 ghost use Rattle.span_tables.specs.Names.{has_repeat};
 
 use crate::binding::contract_ids::ids_of;
-use crate::binding::ledgers::ledgers_of;
-use crate::binding::over_limits::{Limit, limit_fault};
+use crate::binding::ledgers::gather;
+use crate::binding::over_limits::{all_faults, first};
 use crate::faults::{BindFault, OrderBindFault};
 use crate::orders::kept_orders::{
-    KeptOrder, OrderAccount, kept_orders, order_excesses, places_of, portfolios_after, some_of,
+    KeptOrder, OrderAccount, kept_orders, order_excesses, portfolios_after, some_of,
 };
-use indexmap::IndexSet;
 use span_tables::name::Name;
 use span_tables::portfolios::{Portfolio, Portfolios};
 use span_tables::raw::RawOrders;
@@ -117,37 +114,6 @@ fn order_fault(fault: BindFault) -> OrderBindFault
     }
 }
 
-// The orders that are kept, or the first fault in what their accounts hold with them.
-fn kept_or_fault(
-    alloc: Global,
-    numbers: &IndexSet<Name>,
-    contracts: usize,
-    portfolios: Portfolios,
-    records: &RawOrders,
-    orders: Vec<KeptOrder>,
-) -> Result<Orders, OrderBindFault>
-    requires places { All (λ o. HasPlace portfolios o.account) orders.items }
-    requires fit { All (λ o. ArePortfolio (portfolio_before portfolios o.account).holdings) orders.items
-        → kept_fault contracts portfolios numbers.now.keys records.now orders.items limit.Net ≡ None
-        → kept_fault contracts portfolios numbers.now.keys records.now orders.items limit.Held ≡ None
-        → All (IsKept contracts portfolios) orders.items }
-    ensures answer { Gives is_memory result (kept_or_fault contracts portfolios numbers.now.keys records.now orders.items) }
-    ensures before { IfOk result (λ kept. All (λ o. ArePortfolio (portfolio_before portfolios o.account).holdings) orders.items) }
-{
-    let excesses = order_excesses(alloc, contracts, portfolios.as_slice(), &orders)?;
-    if let Some(fault) = limit_fault(alloc, Limit::Net, numbers, &excesses, records.by_order())? {
-        return Err(order_fault(fault));
-    }
-    if let Some(fault) = limit_fault(alloc, Limit::Held, numbers, &excesses, records.by_order())? {
-        return Err(order_fault(fault));
-    }
-    Ok(Orders {
-        contracts,
-        portfolios,
-        orders,
-    })
-}
-
 // The orders of a file, tried on the portfolios of accounts, or their fault; the ids of the contracts are apart.
 fn bind_orders_of(
     alloc: Global,
@@ -160,27 +126,25 @@ fn bind_orders_of(
 {
     let numbers = ids_of(alloc, contracts)?;
     let positions = records.by_order();
-    let ledgers = match ledgers_of(alloc, &numbers, positions) {
-        Ok(ledgers) => ledgers,
-        Err(fault) => return Err(order_fault(fault)),
-    };
-    let places = places_of(alloc, portfolios.as_slice())?;
+    let gathered = gather(alloc, &numbers, positions)?;
+    let held = portfolios.as_slice();
     let orders = kept_orders(
         alloc,
-        &places,
-        portfolios.as_slice(),
+        held,
         positions.accounts(),
         records.accounts(),
-        ledgers,
+        gathered.ledgers,
     )?;
-    kept_or_fault(
-        alloc,
-        &numbers,
-        contracts.len(),
-        portfolios,
-        records,
-        orders,
-    )
+    let excesses = order_excesses(alloc, contracts.len(), held, &orders)?;
+    let faults = all_faults(alloc, &numbers, gathered.unknown, &excesses, positions)?;
+    match first(faults) {
+        Some(fault) => Err(order_fault(fault)),
+        None => Ok(Orders {
+            contracts: contracts.len(),
+            portfolios,
+            orders,
+        }),
+    }
 }
 
 /// The orders of a file, tried on the portfolios of accounts, or the fault of the orders, of B1 to B3 (docs/FORMATS.md, "Faults").

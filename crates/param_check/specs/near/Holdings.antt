@@ -1,15 +1,13 @@
 -- The nets of all accounts, and the faults found in them.
-use Rattle.std.specs.Prelude.{ℕ, Bool, false, not, ◌&&◌, ◌==◌, nat_lt, List, [], filter, length, map, zip}
-use Rattle.std.specs.Prelude.{Option, Some, None, Result, position, slice_index_or, bytes_eq, nat_abs}
+use Rattle.std.specs.Prelude.{ℕ, Bool, false, not, ◌&&◌, ◌==◌, nat_lt, List, [], ◌++◌, filter, length, map, zip}
+use Rattle.std.specs.Prelude.{Option, Some, None, position, slice_index_or, bytes_eq, nat_abs}
 use Rattle.std.specs.List.{list_any}
-use Rattle.std.specs.Option.{option_or}
-use Rattle.span_tables.specs.Faults.{ok_unless}
-use Rattle.span_tables.specs.Net.{AccountHoldings}
+use Rattle.span_tables.specs.Net.{AccountHoldings, accounts_of}
 use Rattle.span_tables.specs.declared.limits.TheConstants.{MAX_NET, MAX_HELD}
 use Rattle.span_tables.specs.declared.portfolios.Holding.{Holding}
 use Rattle.span_tables.specs.declared.records.Contract.{Contract}
 use Rattle.span_tables.specs.declared.records.PositionRecord.{PositionRecord}
-use Rattle.param_check.specs.Binding.{all_unfit, first_unfit}
+use Rattle.param_check.specs.Binding.{all_unfit}
 use Rattle.param_check.specs.declared.binding.over_limits.Excess.{Excess}
 use Rattle.param_check.specs.declared.binding.over_limits.Limit.{Limit}
 use Rattle.param_check.specs.declared.binding.over_limits.Limit.TheVariants as limit
@@ -76,8 +74,14 @@ exceeds_anew limit ids accounts excesses earlier p =
     && exceeds limit ids accounts excesses p
 
 -- the faults of the records that exceed a limit, by what each account has over it
-unfoldable pub limit_faults : Limit → List (List ℕ) → List (List ℕ) → List Excess → List PositionRecord → List BindFault
-limit_faults limit ids accounts excesses positions = all_unfit (fault_of limit) (exceeds_anew limit ids accounts excesses) positions
+unfoldable pub limit_faults : Limit → List (List ℕ) → List Excess → List PositionRecord → List BindFault
+limit_faults limit ids excesses positions =
+    all_unfit (fault_of limit) (exceeds_anew limit ids (accounts_of positions) excesses) positions
+
+-- all faults, of which those of records of unknown contracts are found
+unfoldable pub found_faults : List (List ℕ) → List BindFault → List Excess → List PositionRecord → List BindFault
+found_faults ids unknown excesses positions =
+    unknown ++ limit_faults limit.Net ids excesses positions ++ limit_faults limit.Held ids excesses positions
 
 -- what a record is told as
 abbrev pub told_as : Limit → List ℕ → List ℕ → Told
@@ -92,20 +96,6 @@ is_same_told x y = bytes_eq x.account y.account && is_same_name x.contract y.con
 abbrev pub is_told : List Told → Told → Bool
 is_told told t = list_any (is_same_told t) told
 
--- the fault of the first record that exceeds a limit, by what each account has over it
-unfoldable pub limit_fault : Limit → List (List ℕ) → List (List ℕ) → List Excess → List PositionRecord → Option BindFault
-limit_fault limit ids accounts excesses positions =
-    first_unfit (fault_of limit) (λ earlier p. exceeds limit ids accounts excesses p) positions
-
 -- each account with its nets
 abbrev pub portfolios_from : List (List ℕ) → List (List Holding) → List AccountHoldings
 portfolios_from accounts nets = map (λ n. record { account = n.0; holdings = n.1 }) (zip accounts nets)
-
--- the portfolios of accounts with their nets, or the fault in them
-unfoldable pub portfolios_or_fault : List (List ℕ) → List (List ℕ) → List (List Holding) → List PositionRecord
-    → Result (List AccountHoldings) BindFault
-portfolios_or_fault ids accounts nets positions =
-    ok_unless
-    (option_or (limit_fault limit.Net ids accounts (map excess_of nets) positions)
-    (limit_fault limit.Held ids accounts (map excess_of nets) positions))
-    (portfolios_from accounts nets)

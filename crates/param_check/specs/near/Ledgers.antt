@@ -8,7 +8,7 @@ use Rattle.span_tables.specs.declared.limits.TheConstants.{MAX_CONTRACTS}
 use Rattle.span_tables.specs.declared.portfolios.Holding.{Holding}
 use Rattle.span_tables.specs.declared.records.Contract.{Contract}
 use Rattle.span_tables.specs.declared.records.PositionRecord.{PositionRecord}
-use Rattle.param_check.specs.Binding.{all_unfit, first_unfit}
+use Rattle.param_check.specs.Binding.{all_unfit}
 use Rattle.param_check.specs.declared.faults.BindFault.{BindFault}
 use Rattle.param_check.specs.declared.faults.BindFault.TheVariants as fault
 use Rattle.param_check.specs.declared.binding.nets.Entry.{Entry}
@@ -49,15 +49,6 @@ held_entries holdings = map held_entry holdings
 unfoldable pub foreign_faults : List (List ℕ) → List PositionRecord → List BindFault
 foreign_faults ids positions = all_unfit fault.UnknownContract (λ earlier p. is_foreign ids p) positions
 
--- the first record whose contract is not among the ids
-unfoldable pub foreign_fault : List (List ℕ) → List PositionRecord → Option BindFault
-foreign_fault ids positions = first_unfit fault.UnknownContract (λ earlier p. is_foreign ids p) positions
-
--- the entries of each account of the positions, where every contract is among the ids
-pub record AreLedgers (ids : List (List ℕ)) (positions : List PositionRecord) (ledgers : List (List Entry)) : Type 0 where
-  pub ledgers_are : ledgers ≡ map (entries_of ids positions) (accounts_of positions)
-  pub all_known : list_any (is_foreign ids) positions ≡ false
-
 -- these are ids of contracts, which stand apart, by their numbers
 pub record AreNumbers (ids : List (List ℕ)) : Type 0 where
   pub apart : has_repeat bytes_eq ids ≡ false
@@ -74,3 +65,12 @@ pub record AreNets (ids : List (List ℕ)) (positions : List PositionRecord) (ne
   pub ids_are : ids_of contracts ≡ ids
   pub all_known : list_any (is_foreign ids) positions ≡ false
   pub nets_are : nets ≡ slice_nets ids positions 0 (length (accounts_of positions))
+
+-- the faults of the records of unknown contracts, and the nets of each account by the other records, as they are kept
+pub record AreGathered (ids : List (List ℕ)) (positions : List PositionRecord) (unknown : List BindFault)
+    (nets : List (List Holding)) : Type 0 where
+  pub contracts : List Contract
+  pub ids_are : ids_of contracts ≡ ids
+  pub apart : has_repeat bytes_eq ids ≡ false
+  pub unknown_are : unknown ≡ foreign_faults ids positions
+  pub nets_are : nets ≡ map (kept_holdings (length ids)) (map (entries_of ids (listed_records ids positions)) (accounts_of positions))

@@ -1,20 +1,13 @@
 -- Orders as they are kept: the account's place among the portfolios, and what the order adds to nets.
 use Rattle.std.specs.Prelude.{◌<◌, ℕ, List, [], ◌++◌, length, map, option_map, position, slice_index_or, unwrap_or, zip}
-use Rattle.std.specs.Prelude.{Option, Result, bytes_eq, ⊤}
-use Rattle.std.specs.Option.{option_or}
-use Rattle.span_tables.specs.Faults.{ok_unless}
+use Rattle.std.specs.Prelude.{Option, bytes_eq, ⊤}
 use Rattle.span_tables.specs.Holdings.{ArePortfolio}
-use Rattle.span_tables.specs.Net.{AccountHoldings, accounts_of}
-use Rattle.span_tables.specs.near.Orders.{under_order}
+use Rattle.span_tables.specs.Net.{AccountHoldings}
 use Rattle.span_tables.specs.declared.portfolios.Holding.{Holding}
-use Rattle.span_tables.specs.declared.records.OrderRecord.{OrderRecord}
-use Rattle.param_check.specs.OrderBinding.{TriedOrder, TriedOrders}
-use Rattle.param_check.specs.near.Holdings.{excess_of, limit_fault}
+use Rattle.param_check.specs.OrderBinding.{TriedOrder}
 use Rattle.param_check.specs.near.Ledgers.{held_entries}
 use Rattle.param_check.specs.near.Sums.{kept_holdings}
 use Rattle.param_check.specs.declared.binding.nets.Entry.{Entry}
-use Rattle.param_check.specs.declared.binding.over_limits.Limit.{Limit}
-use Rattle.param_check.specs.declared.binding.over_limits.Limit.TheVariants as limit
 use Rattle.param_check.specs.declared.faults.BindFault.{BindFault}
 use Rattle.param_check.specs.declared.faults.BindFault.TheVariants as bind
 use Rattle.param_check.specs.declared.faults.OrderBindFault.{OrderBindFault}
@@ -83,18 +76,3 @@ order_fault (bind.UnknownContract at name) = fault.UnknownContract at name
 order_fault (bind.NetOutOfRange at name) = fault.NetOutOfRange at name
 order_fault (bind.TooManyHeld at name) = fault.TooManyHeld at name
 order_fault bind.OutOfMemory = fault.OutOfMemory
-
--- the first fault of orders that are kept, of records of known contracts
-abbrev pub kept_fault : ℕ → List AccountHoldings → List (List ℕ) → List OrderRecord → List KeptOrder → Limit → Option BindFault
-kept_fault contracts portfolios ids records orders limit =
-    let positions = map under_order records in
-    limit_fault limit ids (accounts_of positions) (map (λ o. excess_of (kept_after contracts portfolios o)) orders) positions
-
--- the orders that are kept, or the fault in them
-unfoldable pub kept_or_fault : ℕ → List AccountHoldings → List (List ℕ) → List OrderRecord → List KeptOrder
-    → Result TriedOrders OrderBindFault
-kept_or_fault contracts portfolios ids records orders =
-    ok_unless
-    (option_or (option_map order_fault (kept_fault contracts portfolios ids records orders limit.Net))
-    (option_map order_fault (kept_fault contracts portfolios ids records orders limit.Held)))
-    (record { portfolios = portfolios; orders = map (kept_order contracts portfolios) orders })

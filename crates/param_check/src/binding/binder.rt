@@ -82,7 +82,7 @@ impl Binder {
         ensures { IfOk result (λ nets. nets.items ≡ slice_nets self.now positions.now first count) }
     {
         let ledgers = ledgers_from(alloc, &self.numbers, found, positions, first, count)?;
-        all_nets(alloc, self.numbers.len(), ledgers)
+        all_nets(alloc, &self.numbers, ledgers)
     }
 
     /// What each account holds, of these nets of all of them, or the fault of the positions, of B2 and B3.
@@ -96,6 +96,6 @@ impl Binder {
         ensures { (contracts : List Contract) → ids_of contracts ≡ self.now
             → Gives is_memory result (bindings_of contracts positions.now) }
     {
-        portfolios_or_fault(alloc, &self.numbers, nets, positions)
+        portfolios_or_fault(alloc, &self.numbers, Vec::new(alloc), nets, positions)
     }
 }

@@ -1,18 +1,14 @@
 //! The entries of each account, gathered from the records of a position file.
-ghost use Rattle.std.specs.Prelude.{◌≡◌, ◌<◌, ◌≤◌, ◌+◌, ◌++◌, ◌∷◌, [], ⊤, Some, bytes_eq, drop, map, take, true};
-ghost use Rattle.std.specs.Prelude.{length, nat_abs, replicate, slice_index_or, All, IfOk, IfSome, OnOk, MatchBool, MatchResult};
+ghost use Rattle.std.specs.Prelude.{◌≡◌, ◌<◌, ◌≤◌, ◌+◌, ◌++◌, ◌∷◌, [], drop, map, take};
+ghost use Rattle.std.specs.Prelude.{length, nat_abs, replicate, slice_index_or, All, IfOk, IfSome, OnOk};
 ghost use Rattle.span_tables.specs.declared.limits.TheConstants.{MAX_QUANTITY};
-ghost use Rattle.param_check.specs.Binding.{is_memory};
-ghost use Rattle.param_check.specs.near.Ledgers.{contract_place, foreign_fault, foreign_faults, held_entries, known_entry};
-ghost use Rattle.param_check.specs.near.Ledgers.{listed_records, AreLedgers};
+ghost use Rattle.param_check.specs.near.Ledgers.{contract_place, foreign_faults, held_entries, known_entry, listed_records};
 ghost use Rattle.param_check.specs.near.Nets.{entries_of};
-ghost use Rattle.param_check.specs.near.Wanted.{is_first, wanted_of};
 ghost use Rattle.span_tables.specs.Net.{accounts_of};
 ghost use Rattle.span_tables.specs.Holdings.{ArePortfolio};
 
 use crate::binding::nets::Entry;
 use crate::faults::BindFault;
-use crate::wanted::{Wanted, first};
 use indexmap::IndexSet;
 use span_tables::name::Name;
 use span_tables::portfolios::Holding;
@@ -154,18 +150,15 @@ pub(crate) struct Gathered {
     pub(crate) unknown: Vec<BindFault>,
 }
 
-/// The ledgers of the accounts of positions, and the faults of the records whose contracts are not among these, those that are wanted.
-/// Where the walk ends with the first of these, the ledgers are of the records before it.
+/// The ledgers of the accounts of positions, and the faults of the records whose contracts are not among these.
 #[tactic(auto, unfolding(crate::specs::near::Ledgers::known_entry))]
 pub(crate) fn gather(
     alloc: Global,
-    wanted: Wanted,
     numbers: &IndexSet<Name>,
     positions: &RawPositions,
 ) -> Result<Gathered, AllocError>
-    ensures unknown { IfOk result (λ gathered. gathered.unknown.items
-        ≡ wanted_of wanted (foreign_faults numbers.now.keys positions.now)) }
-    ensures ledgers { IfOk result (λ gathered. (is_first wanted ≡ true → gathered.unknown.items ≡ []) → gathered.ledgers.items
+    ensures unknown { IfOk result (λ gathered. gathered.unknown.items ≡ foreign_faults numbers.now.keys positions.now) }
+    ensures ledgers { IfOk result (λ gathered. gathered.ledgers.items
         ≡ map (entries_of numbers.now.keys (listed_records numbers.now.keys positions.now)) (accounts_of positions.now)) }
 {
     let accounts = positions.accounts();
@@ -178,31 +171,11 @@ pub(crate) fn gather(
                 at: number + 1,
                 account: accounts[account].copied(),
             })?;
-            if wanted.is_first() {
-                return Ok(Gathered { ledgers, unknown });
-            }
             continue;
         };
         ledgers[account].push(entry)?;
     }
     Ok(Gathered { ledgers, unknown })
-}
-
-/// The ledgers of the accounts of positions, or the first record whose contract is not among these.
-pub(crate) fn ledgers_of(
-    alloc: Global,
-    numbers: &IndexSet<Name>,
-    positions: &RawPositions,
-) -> Result<Vec<Ledger>, BindFault>
-    ensures { MatchResult result
-        (λ ledgers. AreLedgers numbers.now.keys positions.now ledgers.items)
-        (λ e. MatchBool (is_memory e) ⊤ (foreign_fault numbers.now.keys positions.now ≡ Some e)) }
-{
-    let gathered = gather(alloc, Wanted::First, numbers, positions)?;
-    match first(gathered.unknown) {
-        Some(fault) => Err(fault),
-        None => Ok(gathered.ledgers),
-    }
 }
 
 // The entry of the record of a number, from 0, where the places of the contracts of all records were found before.

@@ -9,7 +9,9 @@ ghost use Rattle.span_tables.specs.declared.limits.TheConstants.{MAX_QUANTITY};
 
 use crate::binding::contract_sums::Sums;
 use crate::binding::ledgers::Ledger;
+use indexmap::IndexSet;
 use span_tables::limits::MAX_NET;
+use span_tables::name::Name;
 use span_tables::portfolios::Holding;
 use std::alloc::{AllocError, Global};
 use std::marker::Model;
@@ -123,15 +125,15 @@ pub(crate) fn account_nets(
     Ok(AccountNets { holdings })
 }
 
-/// What the account of each ledger holds, of so many contracts.
+/// What the account of each ledger holds, of the contracts of these ids.
 pub(crate) fn all_nets(
     alloc: Global,
-    contracts: usize,
+    numbers: &IndexSet<Name>,
     ledgers: Vec<Ledger>,
 ) -> Result<Vec<AccountNets>, AllocError>
-    ensures { IfOk result (λ nets. nets.items ≡ map (kept_holdings contracts) ledgers.items) }
+    ensures { IfOk result (λ nets. nets.items ≡ map (kept_holdings (length numbers.now.keys)) ledgers.items) }
 {
-    let mut sums = Sums::new(alloc, contracts)?;
+    let mut sums = Sums::new(alloc, numbers.len())?;
     let mut nets = Vec::with_capacity(alloc, ledgers.len())?;
     for ledger in ledgers {
         nets.push(account_nets(alloc, &mut sums, &ledger)?)?;

@@ -3,13 +3,11 @@ ghost use Rattle.std.specs.Prelude.{◌≡◌, ◌&&◌, ◌||◌, not, Some, by
 ghost use Rattle.std.specs.List.Sorted.{IsStrictlyIncreasing};
 ghost use Rattle.std.specs.List.{list_any};
 ghost use Rattle.param_check.specs.near.Holdings.{are_many, exceeds_any, exceeds_at, exceeds_in, excess_of, fault_of};
-ghost use Rattle.param_check.specs.near.Holdings.{is_over, is_over_at, is_same_told, is_told, limit_fault, limit_faults, told_as};
-ghost use Rattle.param_check.specs.near.Wanted.{wanted_of};
-ghost use Rattle.span_tables.specs.Net.{accounts_of};
+ghost use Rattle.param_check.specs.near.Holdings.{found_faults, is_over, is_over_at, is_same_told, is_told, limit_faults, told_as};
+ghost use Rattle.span_tables.specs.Faults.{first_of};
 
 use crate::binding::nets::{AccountNets, is_over};
 use crate::faults::BindFault;
-use crate::wanted::{Wanted, first};
 use indexmap::IndexSet;
 use span_tables::limits::MAX_HELD;
 use span_tables::name::Name;
@@ -188,18 +186,16 @@ fn exceeds_anew(
     is_new(told, told_as(limit, account, &numbered.contract))
 }
 
-/// The faults of the records that exceed a limit, by what each account has over it, those that are wanted: of an account and contract, or
-/// of an account, that of the first record that does.
-pub(crate) fn limit_faults(
+// The faults of the records that exceed a limit, by what each account has over it: of an account and contract, or of an account, that of
+// the first record that does.
+fn limit_faults(
     alloc: Global,
-    wanted: Wanted,
     limit: Limit,
     numbers: &IndexSet<Name>,
     excesses: &[Excess],
     positions: &RawPositions,
 ) -> Result<Vec<BindFault>, AllocError>
-    ensures { IfOk result (λ faults. faults.items
-        ≡ wanted_of wanted (limit_faults limit numbers.now.keys (accounts_of positions.now) excesses.now positions.now)) }
+    ensures { IfOk result (λ faults. faults.items ≡ limit_faults limit numbers.now.keys excesses.now positions.now) }
 {
     let mut faults = Vec::new(alloc);
     if !some_exceeds(limit, excesses) {
@@ -213,24 +209,32 @@ pub(crate) fn limit_faults(
             continue;
         }
         faults.push(fault_of(limit, number + 1, account.copied()))?;
-        if wanted.is_first() {
-            return Ok(faults);
-        }
     }
     Ok(faults)
 }
 
-/// The fault of the first record that exceeds a limit, by what each account has over it.
-pub(crate) fn limit_fault(
+/// All faults of records, in order: these of unknown contracts, those of the nets over the limit, and those of the accounts that hold too
+/// many contracts, by what each account has over the limits.
+pub(crate) fn all_faults(
     alloc: Global,
-    limit: Limit,
     numbers: &IndexSet<Name>,
+    unknown: Vec<BindFault>,
     excesses: &[Excess],
     positions: &RawPositions,
-) -> Result<Option<BindFault>, AllocError>
-    ensures { IfOk result (λ fault. fault
-        ≡ limit_fault limit numbers.now.keys (accounts_of positions.now) excesses.now positions.now) }
+) -> Result<Vec<BindFault>, AllocError>
+    ensures { IfOk result (λ faults. faults.items ≡ found_faults numbers.now.keys unknown.items excesses.now positions.now) }
 {
-    let faults = limit_faults(alloc, Wanted::First, limit, numbers, excesses, positions)?;
-    Ok(first(faults))
+    let mut over = limit_faults(alloc, Limit::Net, numbers, excesses, positions)?;
+    let mut many = limit_faults(alloc, Limit::Held, numbers, excesses, positions)?;
+    let mut faults = unknown;
+    faults.append(&mut over)?;
+    faults.append(&mut many)?;
+    Ok(faults)
+}
+
+/// The first of some faults, if there is one.
+pub(crate) fn first(faults: Vec<BindFault>) -> Option<BindFault>
+    ensures { result ≡ first_of faults.items }
+{
+    faults.into_iter().next()
 }

@@ -49,11 +49,8 @@ fn place_first(
     Ok(())
 }
 
-/// The place of each account among portfolios: the first, where it has more.
-pub(crate) fn places_of(
-    alloc: Global,
-    portfolios: &[Portfolio],
-) -> Result<IndexMap<Name, usize>, AllocError>
+// The place of each account among portfolios: the first, where it has more.
+fn places_of(alloc: Global, portfolios: &[Portfolio]) -> Result<IndexMap<Name, usize>, AllocError>
     ensures { IfOk result (λ places. (name : List ℕ) → get bytes_eq places name ≡ place_among portfolios.now name) }
 {
     let mut places = IndexMap::new(alloc);
@@ -76,7 +73,6 @@ fn order_account(places: &IndexMap<Name, usize>, account: &Name) -> OrderAccount
 /// The orders of these names and accounts, with their entries.
 pub(crate) fn kept_orders(
     alloc: Global,
-    places: &IndexMap<Name, usize>,
     portfolios: &[Portfolio],
     names: &[Name],
     accounts: &[Name],
@@ -84,15 +80,15 @@ pub(crate) fn kept_orders(
 ) -> Result<Vec<KeptOrder>, AllocError>
     requires names { length ledgers.items ≡ length names.now }
     requires accounts { length ledgers.items ≡ length accounts.now }
-    requires places { (name : List ℕ) → get bytes_eq places.now name ≡ place_among portfolios.now name }
     ensures { IfOk result (λ orders. orders.items ≡ all_kept_as portfolios.now names.now accounts.now ledgers.items) }
 {
+    let places = places_of(alloc, portfolios)?;
     let mut orders = Vec::with_capacity(alloc, names.len())?;
     for entries in ledgers {
         let order = orders.len();
         orders.push(KeptOrder {
             name: names[order].copied(),
-            account: order_account(places, &accounts[order]),
+            account: order_account(&places, &accounts[order]),
             entries,
         })?;
     }

@@ -1,4 +1,4 @@
-use Rattle.std.proofs.Common.{◌<◌, ◌++◌, ◌∷◌, [], ◌∙◌, ap, arith, length, map, replicate, set, sym, take}
+use Rattle.std.proofs.Common.{◌<◌, ◌++◌, ◌∷◌, [], ◌∙◌, ap, arith, length, map, replicate, set, take}
 use Rattle.std.proofs.lemmas.List.{get_or_default, length-map, take_all}
 use Rattle.span_tables.specs.Net.{accounts_of}
 use Rattle.span_tables.specs.near.Positions.{named_position}
@@ -6,9 +6,8 @@ use Rattle.param_check.specs.near.Ledgers.{foreign_faults, is_foreign, listed_re
 use Rattle.param_check.specs.near.Nets.{entries_of}
 use Rattle.param_check.specs.declared.faults.BindFault.TheVariants as fault
 use Rattle.param_check.proofs.LedgerLaws.{all_seen, foreign_from_none, foreign_step, known_from_some, ledgers_step, no_entries}
-use Rattle.param_check.proofs.LedgerLaws.{number_within, pushed_none, record_seen, seen}
-use Rattle.param_check.proofs.UnfitWalk.{unfit_at, unfit_enough, unfit_more, unfit_skip}
-use Rattle.param_check.proofs.WantedLaws.{told_end, told_start}
+use Rattle.param_check.proofs.LedgerLaws.{number_within, record_seen, seen}
+use Rattle.param_check.proofs.UnfitWalk.{told_end, told_start, unfit_more, unfit_skip}
 use Rattle.param_check.proofs.binding.ledgers.gather.Goals as goal
 
 pub loop-number-init : goal.loop-number-init
@@ -22,47 +21,20 @@ pub loop-number-preserved-in_default : goal.loop-number-preserved-in_default
 loop-number-preserved-in_default c =
     let ids = c.args.numbers.now.keys in
     let positions = c.args.positions.now in
-    let records = c.records-position-items.result.now in
     let named = c.records-position-items.ensures.value in
     let known = c.records-position-items.ensures.known in
-    let i = c.loop-number.number in
     let r = c.position-item.result in
-    let p = named_position (accounts_of positions) r in
-    let lt : i < length records = c.loop-number-test.true in
+    let lt = c.loop-number-test.true in
     let at = c.position-item.is in
     let was = c.loop-number.invariant in
-    let here = seen positions records named known i r _ _ _ lt at c.accounts-accounts.ensures.value c.index-accounts-account.is
+    let here = seen positions _ named known _ r _ _ _ lt at c.accounts-accounts.ensures.value c.index-accounts-account.is
     c.copied.ensures in
-    let foreign = foreign_from_none ids p c.in_default.ensures.entry in
+    let foreign = foreign_from_none ids (named_position (accounts_of positions) r) c.in_default.ensures.entry in
     record {
-      ledgers_are = foreign_step positions records named known ids i r c.loop-number.ledgers.items lt at was.ledgers_are foreign;
-      so_far = unfit_more fault.UnknownContract (λ earlier q. is_foreign ids q) positions c.args.wanted _ i p _ here was.so_far _ foreign
-          c.in_ok-push.ensures.items (sym c.is_first.ensures ∙ c.if-is_first.false);
+      ledgers_are = foreign_step positions _ named known ids _ r c.loop-number.ledgers.items lt at was.ledgers_are foreign;
+      so_far = unfit_more fault.UnknownContract (λ earlier q. is_foreign ids q) positions _ _ _ _ here was.so_far _ foreign
+          c.in_ok-push.ensures.items;
     }
-
-pub returns-then-is_first-clause-unknown : goal.returns-then-is_first-clause-unknown
-unfolding foreign_faults
-returns-then-is_first-clause-unknown c =
-    let ids = c.args.numbers.now.keys in
-    let positions = c.args.positions.now in
-    let records = c.records-position-items.result.now in
-    let named = c.records-position-items.ensures.value in
-    let known = c.records-position-items.ensures.known in
-    let i = c.loop-number.number in
-    let r = c.position-item.result in
-    let p = named_position (accounts_of positions) r in
-    let lt : i < length records = c.loop-number-test.true in
-    let at = c.position-item.is in
-    let was = c.loop-number.invariant in
-    let here = seen positions records named known i r _ _ _ lt at c.accounts-accounts.ensures.value c.index-accounts-account.is
-    c.copied.ensures in
-    let foreign = foreign_from_none ids p c.in_default.ensures.entry in
-    unfit_enough fault.UnknownContract (λ earlier q. is_foreign ids q) positions c.args.wanted _ i p _ here was.so_far _ foreign
-    c.in_ok-push.ensures.items (sym c.is_first.ensures ∙ c.if-is_first.true)
-
-pub returns-then-is_first-clause-ledgers : goal.returns-then-is_first-clause-ledgers
-returns-then-is_first-clause-ledgers c = λ none.
-    absurd (pushed_none _ _ (sym c.in_ok-push.ensures.items ∙ none (sym c.is_first.ensures ∙ c.if-is_first.true)))
 
 pub loop-number-preserved : goal.loop-number-preserved
 loop-number-preserved c =
@@ -73,7 +45,6 @@ loop-number-preserved c =
     let known = c.records-position-items.ensures.known in
     let i = c.loop-number.number in
     let r = c.position-item.result in
-    let p = named_position (accounts_of positions) r in
     let lt : i < length records = c.loop-number-test.true in
     let at = c.position-item.is in
     let was = c.loop-number.invariant in
@@ -84,28 +55,26 @@ loop-number-preserved c =
     ∙ length-map (accounts_of positions) (entries_of ids (listed_records ids (take i positions))) in
     let within : r.account < length ledgers = omega (arith, number, many) in
     let read = c.index_mut.ensures.value ∙ get_or_default ledgers r.account c.index_mut.result.now [] within in
-    let some = known_from_some ids p e c.in-Some.ensures.entry in
+    let some = known_from_some ids (named_position (accounts_of positions) r) e c.in-Some.ensures.entry in
     record {
       ledgers_are = ledgers_step positions records named known ids i r ledgers _ e lt at was.ledgers_are some.0 some.1
           (ap (set ledgers r.account) (c.in_ok-push-2.ensures ∙ ap (λ b. b ++ e ∷ []) read));
-      so_far = unfit_skip fault.UnknownContract (λ earlier q. is_foreign ids q) positions c.args.wanted _ i p _
+      so_far = unfit_skip fault.UnknownContract (λ earlier q. is_foreign ids q) positions _ _ _ _
           (record_seen positions records named known i r lt at) was.so_far some.0;
     }
 
 pub returns-clause-unknown : goal.returns-clause-unknown
 unfolding foreign_faults
 returns-clause-unknown c =
-    let positions = c.args.positions.now in
-    let all = all_seen positions _ c.records-position-items.ensures.value c.records-position-items.ensures.known
-    _ c.loop-number-test.false in
-    told_end (unfit_at fault.UnknownContract (λ earlier q. is_foreign c.args.numbers.now.keys q)) positions c.args.wanted _ _ all
-    c.loop-number.invariant.so_far
+    told_end fault.UnknownContract (λ earlier q. is_foreign c.args.numbers.now.keys q) c.args.positions.now _ _
+    (all_seen c.args.positions.now _ c.records-position-items.ensures.value c.records-position-items.ensures.known
+    _ c.loop-number-test.false) c.loop-number.invariant.so_far
 
 pub returns-clause-ledgers : goal.returns-clause-ledgers
 returns-clause-ledgers c =
     let positions = c.args.positions.now in
     let ids = c.args.numbers.now.keys in
-    let all = all_seen positions _ c.records-position-items.ensures.value c.records-position-items.ensures.known
-    _ c.loop-number-test.false in
-    λ none. c.loop-number.invariant.ledgers_are
-    ∙ ap (λ ps. map (entries_of ids (listed_records ids ps)) (accounts_of positions)) (take_all c.loop-number.number positions all)
+    c.loop-number.invariant.ledgers_are
+    ∙ ap (λ ps. map (entries_of ids (listed_records ids ps)) (accounts_of positions))
+    (take_all c.loop-number.number positions
+    (all_seen positions _ c.records-position-items.ensures.value c.records-position-items.ensures.known _ c.loop-number-test.false))

@@ -3,13 +3,12 @@ use Rattle.span_tables.specs.Net.{accounts_of}
 use Rattle.param_check.specs.near.Ledgers.{is_foreign, listed_records}
 use Rattle.param_check.specs.near.Nets.{entries_of}
 use Rattle.param_check.specs.declared.faults.BindFault.TheVariants as fault
-use Rattle.param_check.proofs.UnfitWalk.{unfit_at}
-use Rattle.param_check.proofs.WantedLaws.{IsTold}
+use Rattle.param_check.proofs.UnfitWalk.{AreTold}
 use Rattle.param_check.proofs.binding.ledgers.gather.Given as goal
 
 abbrev pub invariant-loop-number : goal.invariant-loop-number
 invariant-loop-number l = record {
   ledgers_are : l.ledgers.items
       ≡ map (entries_of l.numbers.keys (listed_records l.numbers.keys (take l.number l.positions))) (accounts_of l.positions);
-  so_far : IsTold (unfit_at fault.UnknownContract (λ earlier p. is_foreign l.numbers.keys p)) l.positions l.wanted l.unknown.items l.number;
+  so_far : AreTold fault.UnknownContract (λ earlier p. is_foreign l.numbers.keys p) l.positions l.unknown.items l.number;
 }

@@ -4,14 +4,13 @@ use Rattle.param_check.specs.near.Holdings.{exceeds_anew, fault_of, limit_faults
 use Rattle.param_check.proofs.LedgerLaws.{all_seen, seen}
 use Rattle.param_check.proofs.LimitLaws.{anew_is, limit_faults-none, members_next}
 use Rattle.param_check.proofs.NumberedUnfit.{exceeds_numbered}
-use Rattle.param_check.proofs.UnfitWalk.{unfit_at, unfit_enough, unfit_more, unfit_skip}
-use Rattle.param_check.proofs.WantedLaws.{none_told, told_end}
+use Rattle.param_check.proofs.UnfitWalk.{told_end, unfit_more, unfit_skip}
 use Rattle.param_check.proofs.binding.over_limits.limit_faults.Goals as goal
 
 pub returns-then-not-some_exceeds : goal.returns-then-not-some_exceeds
 returns-then-not-some_exceeds c =
-    none_told c.args.wanted _ _ c.new-faults.ensures.items
-    (limit_faults-none c.args.limit c.args.numbers.now.keys (accounts_of c.args.positions.now) c.args.excesses.now c.args.positions.now
+    c.new-faults.ensures.items
+    ∙ sym (limit_faults-none c.args.limit c.args.numbers.now.keys c.args.excesses.now c.args.positions.now
     (sym c.some_exceeds.ensures ∙ c.if-not-some_exceeds.true))
 
 pub loop-number-preserved-then-not-branch : goal.loop-number-preserved-then-not-branch
@@ -31,30 +30,9 @@ loop-number-preserved-then-not-branch c =
     record {
       members = members_next l ids (accounts_of positions) excesses positions _ _ _ here _ was.members _ one _
           c.in_ok-exceeds_anew.ensures.members;
-      so_far = unfit_skip (fault_of l) (exceeds_anew l ids (accounts_of positions) excesses) positions c.args.wanted _ _ _ _ here was.so_far
+      so_far = unfit_skip (fault_of l) (exceeds_anew l ids (accounts_of positions) excesses) positions _ _ _ _ here was.so_far
           (sym anew ∙ sym c.in_ok-exceeds_anew.ensures.anew ∙ c.if-not-branch.true);
     }
-
-pub returns-then-is_first : goal.returns-then-is_first
-unfolding limit_faults
-returns-then-is_first c =
-    let l = c.args.limit in
-    let ids = c.args.numbers.now.keys in
-    let positions = c.args.positions.now in
-    let excesses = c.args.excesses.now in
-    let named = c.records-position-items.ensures.value in
-    let known = c.records-position-items.ensures.known in
-    let lt = c.loop-number-test.true in
-    let at = c.position-item.is in
-    let here = seen positions _ named known _ _ _ _ _ lt at c.accounts-accounts.ensures.value c.index-accounts-position.is refl in
-    let one = exceeds_numbered positions _ named known excesses l ids _ _ lt at in
-    let was = c.loop-number.invariant in
-    let anew = anew_is l ids (accounts_of positions) excesses positions _ _ _ here _ was.members _ one in
-    unfit_enough (fault_of l) (exceeds_anew l ids (accounts_of positions) excesses) positions c.args.wanted _ _ _ _ here was.so_far _
-    (sym anew ∙ sym c.in_ok-exceeds_anew.ensures.anew ∙ c.if-not-branch.false)
-    (c.in_ok-push.ensures.items ∙ ap (λ f. c.loop-number.faults.items ++ f ∷ [])
-    (c.fault_of.ensures ∙ ap (fault_of l (c.loop-number.number + 1)) c.copied.ensures))
-    (sym c.is_first.ensures ∙ c.if-is_first.true)
 
 pub loop-number-preserved : goal.loop-number-preserved
 loop-number-preserved c =
@@ -73,19 +51,16 @@ loop-number-preserved c =
     record {
       members = members_next l ids (accounts_of positions) excesses positions _ _ _ here _ was.members _ one _
           c.in_ok-exceeds_anew.ensures.members;
-      so_far = unfit_more (fault_of l) (exceeds_anew l ids
-          (accounts_of positions) excesses) positions c.args.wanted _ _ _ _ here was.so_far _
+      so_far = unfit_more (fault_of l) (exceeds_anew l ids (accounts_of positions) excesses) positions _ _ _ _ here was.so_far _
           (sym anew ∙ sym c.in_ok-exceeds_anew.ensures.anew ∙ c.if-not-branch.false)
           (c.in_ok-push.ensures.items ∙ ap (λ f. c.loop-number.faults.items ++ f ∷ [])
-          (c.fault_of.ensures ∙ ap (fault_of l (c.loop-number.number + 1)) c.copied.ensures))
-          (sym c.is_first.ensures ∙ c.if-is_first.false);
+          (c.fault_of.ensures ∙ ap (fault_of l (c.loop-number.number + 1)) c.copied.ensures));
     }
 
 pub returns : goal.returns
 unfolding limit_faults
 returns c =
-    let positions = c.args.positions.now in
-    let all = all_seen positions _ c.records-position-items.ensures.value c.records-position-items.ensures.known
-    _ c.loop-number-test.false in
-    told_end (unfit_at (fault_of c.args.limit) (exceeds_anew c.args.limit c.args.numbers.now.keys (accounts_of positions)
-    c.args.excesses.now)) positions c.args.wanted _ _ all c.loop-number.invariant.so_far
+    told_end (fault_of c.args.limit) (exceeds_anew c.args.limit c.args.numbers.now.keys (accounts_of c.args.positions.now)
+    c.args.excesses.now) c.args.positions.now _ _
+    (all_seen c.args.positions.now _ c.records-position-items.ensures.value c.records-position-items.ensures.known
+    _ c.loop-number-test.false) c.loop-number.invariant.so_far

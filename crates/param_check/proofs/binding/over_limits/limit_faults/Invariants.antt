@@ -4,14 +4,13 @@ use Rattle.span_tables.specs.Net.{accounts_of}
 use Rattle.param_check.specs.near.Holdings.{exceeds_anew, fault_of, is_told}
 use Rattle.param_check.specs.declared.binding.over_limits.Told.{Told}
 use Rattle.param_check.proofs.LimitLaws.{is_member}
-use Rattle.param_check.proofs.UnfitWalk.{unfit_at}
-use Rattle.param_check.proofs.WantedLaws.{IsTold}
+use Rattle.param_check.proofs.UnfitWalk.{AreTold}
 use Rattle.param_check.proofs.binding.over_limits.limit_faults.Given as goal
 
 abbrev pub invariant-loop-number : goal.invariant-loop-number
 invariant-loop-number l = record {
   members : (t : Told) → is_told l.told.keys t
       ≡ list_any (is_member l.limit l.numbers.keys (accounts_of l.positions) l.excesses l.positions t) (take l.number l.positions);
-  so_far : IsTold (unfit_at (fault_of l.limit) (exceeds_anew l.limit l.numbers.keys (accounts_of l.positions) l.excesses)) l.positions
-      l.wanted l.faults.items l.number;
+  so_far : AreTold (fault_of l.limit) (exceeds_anew l.limit l.numbers.keys (accounts_of l.positions) l.excesses) l.positions
+      l.faults.items l.number;
 }

@@ -20,7 +20,7 @@ loop-entries-preserved c =
     let made = ap (λ n. (let it : KeptOrder = record { name = n; account = c.order_account.result; entries = c.in-Some.entries } in it))
     c.copied.ensures
     ∙ ap (λ a. (let it : KeptOrder = record { name = name; account = a; entries = c.in-Some.entries } in it))
-    (c.order_account.ensures ∙ ap (λ o. account_at o account) (c.requires.places account)) in
+    (c.order_account.ensures ∙ ap (λ o. account_at o account) (c.in_ok-places.ensures account)) in
     record {
       are =
           c.in_ok-push.ensures.items
