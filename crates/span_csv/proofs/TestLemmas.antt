@@ -6,7 +6,7 @@ use Rattle.std.proofs.lemmas.List.{at_drop_more, at_drop_all, drop-drop, get_or-
 use Rattle.span_tables.specs.declared.limits.TheConstants.{SCENARIOS}
 use Rattle.span_tables.specs.declared.records.ProductKind.{ProductKind}
 use Rattle.span_csv.specs.Records.{Fields, all_have, an_array_value, array_place, contract_back, contract_forms, contract_front, text_at}
-use Rattle.span_csv.specs.declared.contents.TheConstants.{EXTRAS}
+use Rattle.span_csv.specs.declared.rows.TheConstants.{EXTRAS}
 use Rattle.span_csv.specs.declared.grammar.FieldForm.{FieldForm}
 use Rattle.span_csv.specs.declared.grammar.FieldForm.TheVariants as form
 use Rattle.span_csv.proofs.FormLemmas.{all_have-append, all_have-repeat, length-repeat}

@@ -5,13 +5,12 @@ ghost use Rattle.std.specs.Prelude.{◌≡◌, ◌≤◌, ◌<◌, ◌&&◌, ◌
 ghost use Rattle.csv.specs.Records.{fields_of};
 ghost use Rattle.span_csv.specs.near.Grammar.{array_values, HasValues, passes};
 ghost use Rattle.span_csv.specs.Records.{all_have, contract_back, contract_forms, forms_of, has_number_form, has_word_form};
-ghost use Rattle.span_csv.specs.Records.{an_array_value, array_place, is_in_range, is_within, kind_named, product_at, text_at, with_legs};
-ghost use Rattle.span_csv.specs.declared.contents.TheConstants.{EXTRAS};
+ghost use Rattle.span_csv.specs.Records.{an_array_value, array_place, is_in_range, is_within, kind_named, product_at, with_legs};
+ghost use Rattle.span_csv.specs.declared.rows.TheConstants.{EXTRAS};
 ghost use Rattle.span_csv.specs.declared.grammar.FieldTest.TheVariants as field_test;
 
-use crate::contents::{EXTRAS, FIRST_VALUE};
 use crate::fields::product_at;
-use crate::rows::field;
+use crate::rows::{EXTRAS, FIRST_VALUE, field, text_at};
 use csv::ByteRecord;
 use span_money::texts::{is_month, parse_decimal, parse_month, parse_whole};
 use span_tables::limits::{
@@ -411,7 +410,7 @@ impl FieldForm {
             FieldForm::Method => matches!(text, b"SUM" | b"MAX"),
             FieldForm::Product => matches!(text, b"F" | b"C" | b"P"),
             FieldForm::Side => matches!(text, b"A" | b"B"),
-            FieldForm::Whole(..) | FieldForm::Decimal(..) | FieldForm::Month => true,
+            _ => true,
         }
     }
 
@@ -422,11 +421,7 @@ impl FieldForm {
             FieldForm::Whole(..) => parse_whole(text).is_some(),
             FieldForm::Decimal(..) => parse_decimal(text).is_some(),
             FieldForm::Month => parse_month(text).is_some(),
-            FieldForm::Name
-            | FieldForm::Currency
-            | FieldForm::Method
-            | FieldForm::Product
-            | FieldForm::Side => true,
+            _ => true,
         }
     }
 
@@ -440,11 +435,7 @@ impl FieldForm {
                 Some(month) => is_month(month),
                 None => false,
             },
-            FieldForm::Name
-            | FieldForm::Currency
-            | FieldForm::Method
-            | FieldForm::Product
-            | FieldForm::Side => true,
+            _ => true,
         }
     }
 
@@ -459,11 +450,4 @@ impl FieldForm {
             FieldTest::All => self.has_word_form(text) && self.is_in_range(text),
         }
     }
-}
-
-/// The field at a place, or an empty text past the end.
-pub(crate) fn text_at(row: &ByteRecord, i: usize) -> &[u8]
-    ensures { result.now ≡ text_at (fields_of row.now) i }
-{
-    if i < row.len() { field(row, i) } else { &[] }
 }

@@ -13,8 +13,7 @@ ghost use Rattle.span_tables.specs.near.Positions.{named_position, named_positio
 ghost use Rattle.span_tables.specs.declared.limits.TheConstants.{MAX_ORDERS, MAX_QUANTITY};
 
 use crate::faults::PositionFault;
-use crate::grammar::text_at;
-use crate::rows::field;
+use crate::rows::{field, text_at};
 use csv::ByteRecord;
 use indexmap::IndexSet;
 use span_money::texts::parse_whole;
