@@ -22,12 +22,7 @@ pub none_first : {F : Type 0} (faults : List F) → first_of faults ≡ None →
 none_first [] e = refl
 none_first (y ∷ faults) e = cc
 
--- what is accepted has no first fault
-pub accepted_none : {A F : Type 0} (o : Option F) (x y : A) → ok_unless o x ≡ Ok y → o ≡ None
-accepted_none None x y e = refl
-accepted_none (Some f) x y e = cc
-
--- and what is refused has that one
+-- what is refused has that fault
 pub refused_some : {A F : Type 0} (o : Option F) (x : A) (f : F) → ok_unless o x ≡ Err f → o ≡ Some f
 refused_some None x f e = cc
 refused_some (Some g) x f e = let same : g ≡ f = cc in ap Some same

@@ -26,7 +26,6 @@ mod RowLemmas
 mod SizeLemmas
 mod StepLemmas
 mod TallyLemmas
-mod TellLemmas
 mod TestLemmas
 pub mod TogetherLaws
 mod ToldLemmas
