@@ -2,6 +2,7 @@
 use Rattle.std.proofs.Common.{◌≡◌, ◌∙◌, refl, sym, ap, ap₂, subst, arith, ℕ, ◌+◌, ◌<◌, ◌≤◌, ℤ, Bool, true, false, not, ◌&&◌, ◌==◌}
 use Rattle.std.proofs.Common.{cond, List, [], ◌∷◌, ◌++◌, length, take, Option, Some, None, Ok, Err, Result}
 use Rattle.std.specs.Prelude.{⊤, is_none, option_map, MatchBool}
+use Rattle.std.proofs.Math.Bool.{and-false}
 use Rattle.std.proofs.lemmas.Bool.{ne_eqb}
 use Rattle.std.proofs.lemmas.List.{length-append, length-take, map-append, take_all, take-append-le}
 use Rattle.span_tables.specs.Faults.{first_that_holds, ok_unless}
@@ -11,23 +12,19 @@ use Rattle.span_tables.specs.declared.limits.TheConstants.{MAX_ACCOUNTS}
 use Rattle.span_csv.specs.Records.{Fields, text_at}
 use Rattle.span_csv.specs.PositionFaults.{counted, exceeds_accounts, form_faults, is_formed, is_memory, record_fault}
 use Rattle.span_csv.specs.near.NumberedReading.{is_one_too_many, quantity_alone, with_name}
-use Rattle.span_csv.specs.near.Telling.{accounts_counted, CheckIs, Tells}
+use Rattle.span_csv.specs.near.Telling.{accounts_counted, CheckIs}
 use Rattle.span_csv.specs.declared.positions.TheConstants.{POSITION_NAMES}
 use Rattle.span_csv.specs.declared.faults.PositionFault.{PositionFault}
 use Rattle.span_csv.specs.declared.faults.PositionFault.TheVariants as fault
+use Rattle.span_csv.proofs.AllFaultLaws.{refused_some}
 use Rattle.span_csv.proofs.AloneLemmas.{left_alone, left_by, with_quantity}
 use Rattle.span_csv.proofs.CountedLaws.{push_formed, push_unformed}
 use Rattle.span_csv.proofs.CheckLemmas.{first_append, first_front}
 use Rattle.span_csv.proofs.FormedLemmas.{unformed}
 use Rattle.span_csv.proofs.PositionLemmas.{names_of}
 use Rattle.span_csv.proofs.RecordLemmas.{told, told_by}
-use Rattle.span_csv.proofs.ToldLemmas.{IsTold, told_fault, told_free}
 
 -- ---- the fields of a record
-
-of_err : {F V : Type 0} (o : Option F) (v : V) (e : F) → ok_unless o v ≡ Err e → o ≡ Some e
-of_err None v e is = cc
-of_err (Some f) v e is = let same : f ≡ e = cc in ap Some same
 
 of_ok : {F V : Type 0} (o : Option (ℕ → F)) (at : ℕ) (v : V) → ok_unless (option_map (λ f. f at) o) v ≡ Ok v → o ≡ None
 of_ok None at v is = refl
@@ -40,7 +37,7 @@ module _ (at : ℕ) (r : Fields) where
   -- a record that is refused by its fields has the lowest-numbered fault of theirs
   refused : (e : PositionFault) → quantity_alone POSITION_NAMES at r ≡ Err e
       → option_map (λ f. f at) (first_that_holds (form_faults r)) ≡ Some e
-  refused e is = of_err (option_map (λ f. f at) (first_that_holds (form_faults r))) tt e
+  refused e is = refused_some (option_map (λ f. f at) (first_that_holds (form_faults r))) tt e
       (sym alone ∙ ap (with_quantity (λ e. e) (λ q. Ok tt)) is)
 
   -- and one that is not has none of them
@@ -48,10 +45,6 @@ module _ (at : ℕ) (r : Fields) where
   not_refused q is = of_ok (first_that_holds (form_faults r)) at tt (sym alone ∙ ap (with_quantity (λ e. e) (λ q. Ok tt)) is)
 
 -- ---- the accounts of the records that count
-
-and_false : (b : Bool) → (b && false) ≡ false
-and_false true = refl
-and_false false = refl
 
 module _ (rs : List Fields) (r : Fields) (formed : is_formed r ≡ true) (keys : List (List ℕ)) (are : keys ≡ accounts_counted rs) where
   abbrev names : List (List ℕ)
@@ -84,7 +77,7 @@ module _ (rs : List Fields) (r : Fields) (formed : is_formed r ≡ true) (keys :
         let other : (length (distinct (names_of (counted rs))) == MAX_ACCOUNTS) ≡ false =
         ne_eqb (length (distinct (names_of (counted rs)))) MAX_ACCOUNTS (λ e. let le = many in absurd (omega (arith, e, le))) in
         ap (λ b. not (is_among (names_of (counted rs)) (text_at r 0)) && b) other
-        ∙ and_false (not (is_among (names_of (counted rs)) (text_at r 0)))
+        ∙ and-false (not (is_among (names_of (counted rs)) (text_at r 0)))
 
     -- and the accounts that are kept stay the same
     past_same : keys ≡ accounts_counted (rs ++ r ∷ [])
@@ -128,17 +121,11 @@ module _ (rs : List Fields) (r : Fields) (at : ℕ) (keys : List (List ℕ)) (co
   checked_refused e is =
       let own = refused at r e is in
       told (is_memory e) (
-        subst (λ n. option_map (λ f. f n) (record_fault rs r) ≡ Some e) (sym count) (front (first_that_holds (form_faults r)) refl own),
+        subst (λ n. option_map (λ f. f n) (record_fault rs r) ≡ Some e) (sym count)
+            (first_front (form_faults r) ((exceeds_accounts (counted rs) r, fault.TooManyAccounts) ∷ []) at e own),
         are ∙ ap (λ zs. take (MAX_ACCOUNTS + 1) (distinct (names_of zs)))
             (sym (push_unformed rs r (unformed (first_that_holds (form_faults r)) at e own))),
       )
-    where
-      front : (o : Option (ℕ → PositionFault)) → first_that_holds (form_faults r) ≡ o → option_map (λ f. f at) o ≡ Some e
-          → option_map (λ f. f at) (record_fault rs r) ≡ Some e
-      front None is own = cc
-      front (Some f) is own =
-          ap (option_map (λ g. g at))
-          (first_front (form_faults r) ((exceeds_accounts (counted rs) r, fault.TooManyAccounts) ∷ []) f is) ∙ own
 
   module _ (q : ℤ) (read : quantity_alone POSITION_NAMES at r ≡ Ok q) where
     formed_here : is_formed r ≡ true
@@ -175,19 +162,3 @@ module _ (rs : List Fields) (r : Fields) (at : ℕ) (keys : List (List ℕ)) (co
       by_limit false (limit_same rs r formed_here keys are few ∙ room),
       taken ∙ taken_more rs r formed_here keys are few,
     )
-
--- ---- one record after another
-
--- behind one more record the faults that are told are those of the records so far
-pub told_row : {all : List Fields} {faults : List PositionFault} {read : ℕ} {before : List Fields} {keys : List (List ℕ)}
-    (s : IsTold record_fault (λ rs. keys ≡ accounts_counted rs) all faults read before) (r : Fields) (rest : List Fields)
-    (answer : Result ⊤ PositionFault) (keys' : List (List ℕ)) (new : List PositionFault) → before ≡ r ∷ rest
-    → CheckIs s.earlier r answer keys' → Tells is_memory answer faults new
-    → IsTold record_fault (λ rs. keys' ≡ accounts_counted rs) all new (read + 1) rest
-told_row {all = all} {read = read} s r rest (Ok _) keys' new is checked tells =
-    subst (λ fs. IsTold record_fault (λ rs. keys' ≡ accounts_counted rs) all fs (read + 1) rest) (sym tells)
-    (told_free s (λ rs. keys' ≡ accounts_counted rs) r rest is checked.0 checked.1)
-told_row {all = all} {read = read} s r rest (Err e) keys' new is checked tells =
-    let found = rw tells.0 at checked in
-    subst (λ fs. IsTold record_fault (λ rs. keys' ≡ accounts_counted rs) all fs (read + 1) rest) (sym tells.1)
-    (told_fault s (λ rs. keys' ≡ accounts_counted rs) r rest e is found.0 found.1)

@@ -1,5 +1,5 @@
 -- The list of all faults of a file: what each of its faults is, and what its first says of the file.
-use Rattle.std.proofs.Common.{◌≡◌, refl, sym, ap, subst, ℕ, ◌+◌, Bool, false, List, [], ◌∷◌, length, Option, Some, None, Ok, Err}
+use Rattle.std.proofs.Common.{rules, ◌≡◌, refl, sym, ap, subst, ℕ, ◌+◌, Bool, false, List, [], ◌∷◌, length, Option, Some, None, Ok, Err}
 use Rattle.std.specs.Prelude.{All}
 use Rattle.std.specs.List.{AllByRecursion}
 use Rattle.std.proofs.lemmas.List.Elements.{All-from_recursion}
@@ -22,12 +22,7 @@ pub none_first : {F : Type 0} (faults : List F) → first_of faults ≡ None →
 none_first [] e = refl
 none_first (y ∷ faults) e = cc
 
--- what is accepted has no first fault
-pub accepted_none : {A F : Type 0} (o : Option F) (x y : A) → ok_unless o x ≡ Ok y → o ≡ None
-accepted_none None x y e = refl
-accepted_none (Some f) x y e = cc
-
--- and what is refused has that one
+-- what is refused has that fault
 pub refused_some : {A F : Type 0} (o : Option F) (x : A) (f : F) → ok_unless o x ≡ Err f → o ≡ Some f
 refused_some None x f e = cc
 refused_some (Some g) x f e = let same : g ≡ f = cc in ap Some same
@@ -41,28 +36,12 @@ TellsNumber number is_memory fault = (n : ℕ) → (number (fault n) ≡ n) × (
 param_tells : (earlier : List Fields) (r : Fields) (fault : ℕ → ParamFault) → param.record_fault earlier r ≡ Some fault
     → TellsNumber param_number param.is_memory fault
 param_tells earlier r fault is =
-    first_is (TellsNumber param_number param.is_memory) (param.record_faults earlier r) fault (
-      (λ n. (refl, refl)),
-      (
-        (λ n. (refl, refl)),
-        (
-          (λ n. (refl, refl)),
-          (
-            (λ n. (refl, refl)),
-            (
-              (λ n. (refl, refl)),
-              ((λ n. (refl, refl)), ((λ n. (refl, refl)), ((λ n. (refl, refl)), tt))),
-            ),
-          ),
-        ),
-      ),
-    ) is
+    first_is (TellsNumber param_number param.is_memory) (param.record_faults earlier r) fault (search rules) is
 
-position_tells : (earlier : List Fields) (r : Fields) (fault : ℕ → PositionFault) → position.record_fault earlier r ≡ Some fault
+pub position_tells : (earlier : List Fields) (r : Fields) (fault : ℕ → PositionFault) → position.record_fault earlier r ≡ Some fault
     → TellsNumber position_number position.is_memory fault
 position_tells earlier r fault is =
-    first_is (TellsNumber position_number position.is_memory) (position.record_faults earlier r) fault
-    ((λ n. (refl, refl)), ((λ n. (refl, refl)), ((λ n. (refl, refl)), ((λ n. (refl, refl)), ((λ n. (refl, refl)), tt))))) is
+    first_is (TellsNumber position_number position.is_memory) (position.record_faults earlier r) fault (search rules) is
 
 module _ {F : Type 0} (fault_of : List Fields → Fields → Option (ℕ → F)) (number : F → ℕ) (is_memory : F → Bool)
     (tells : (earlier : List Fields) (r : Fields) (fault : ℕ → F) → fault_of earlier r ≡ Some fault → TellsNumber number is_memory fault)
@@ -101,14 +80,3 @@ param_no_memory (r ∷ rs) = none_of_memory param.record_fault param_number para
 pub param_of_some : (r : Fields) (rs : List Fields) → All (IsFaultOfSome param.record_fault [] (r ∷ rs)) (param.faults_in (r ∷ rs))
 unfolding param.faults_in
 param_of_some r rs = each_of_some param.record_fault param_number param.is_memory param_tells (r ∷ rs)
-
--- ---- a position file
-
-pub position_once : (rs : List Fields) → IsStrictlyRisingBy position_number (all_faults position.record_fault rs)
-position_once rs = each_once position.record_fault position_number position.is_memory position_tells rs
-
-pub position_no_memory : (rs : List Fields) → All (λ y. position.is_memory y ≡ false) (all_faults position.record_fault rs)
-position_no_memory rs = none_of_memory position.record_fault position_number position.is_memory position_tells rs
-
-pub position_of_some : (rs : List Fields) → All (IsFaultOfSome position.record_fault [] rs) (all_faults position.record_fault rs)
-position_of_some rs = each_of_some position.record_fault position_number position.is_memory position_tells rs

@@ -29,20 +29,14 @@ words zero (q ∷ x ∷ r) e = absurd (omega (arith, e))
 words (suc n) [] e = absurd (omega (arith, e))
 words (suc n) (a ∷ r) e = ap (λ b. is_name a && b) (words n r (omega (arith, e)))
 
-numbers : (n : ℕ) (r : Fields) → length r ≡ n + 1 → all_have has_number_form (named_forms n) r ≡ is_some (whole_number (text_at r n))
-numbers zero [] e = absurd (omega (arith, e))
-numbers zero (q ∷ []) e = and-true (is_some (whole_number q))
-numbers zero (q ∷ x ∷ r) e = absurd (omega (arith, e))
-numbers (suc n) [] e = absurd (omega (arith, e))
-numbers (suc n) (a ∷ r) e = numbers n r (omega (arith, e))
-
-ranges : (n : ℕ) (r : Fields) → length r ≡ n + 1 → all_have is_in_range (named_forms n) r
-    ≡ is_within (neg_ℤ (pos MAX_QUANTITY)) (pos MAX_QUANTITY) (whole_number (text_at r n))
-ranges zero [] e = absurd (omega (arith, e))
-ranges zero (q ∷ []) e = and-true (is_within (neg_ℤ (pos MAX_QUANTITY)) (pos MAX_QUANTITY) (whole_number q))
-ranges zero (q ∷ x ∷ r) e = absurd (omega (arith, e))
-ranges (suc n) [] e = absurd (omega (arith, e))
-ranges (suc n) (a ∷ r) e = ranges n r (omega (arith, e))
+-- a test that names pass is that of the quantity
+of_quantity : (test : FieldForm → List ℕ → Bool) → ((text : List ℕ) → test form.Name text ≡ true) → (n : ℕ) (r : Fields)
+    → length r ≡ n + 1 → all_have test (named_forms n) r ≡ test a_quantity (text_at r n)
+of_quantity test names zero [] e = absurd (omega (arith, e))
+of_quantity test names zero (q ∷ []) e = and-true (test a_quantity q)
+of_quantity test names zero (q ∷ x ∷ r) e = absurd (omega (arith, e))
+of_quantity test names (suc n) [] e = absurd (omega (arith, e))
+of_quantity test names (suc n) (a ∷ r) e = rw (names a) (of_quantity test names n r (omega (arith, e)))
 
 -- ---- faults
 
@@ -70,11 +64,13 @@ module _ {F V : Type 0} (tells : PositionFault → F) (n at : ℕ) (r : Fields) 
       → ((q : ℤ) → whole_number (text_at r n) ≡ Some q → behind q ≡ left_by at value more)
       → with_quantity tells behind (quantity_alone n at r) ≡ left_by at value faults_with
   unfolding quantity_alone
-  named None long counted names is rest = rw (counted, words n r long, names, numbers n r long, is) refl
+  named None long counted names is rest = rw (counted, words n r long, names, of_quantity has_number_form (λ text. refl) n r long, is) refl
   named (Some z) long counted names is rest =
+      let numbers = of_quantity has_number_form (λ text. refl) n r long in
+      let ranges = of_quantity is_in_range (λ text. refl) n r long in
       elim (cases_Bool (is_quantity z)) [
-        | inl within ↦ rw (counted, words n r long, names, numbers n r long, ranges n r long, is, within) (rest z is)
-        | inr outside ↦ rw (counted, words n r long, names, numbers n r long, ranges n r long, is, outside) refl
+        | inl within ↦ rw (counted, words n r long, names, numbers, ranges, is, within) (rest z is)
+        | inr outside ↦ rw (counted, words n r long, names, numbers, ranges, is, outside) refl
       ]
 
   pub left_alone : ((q : ℤ) → whole_number (text_at r n) ≡ Some q → behind q ≡ left_by at value more)

@@ -1,9 +1,9 @@
 -- What the tests of a record's fields say of it.
-use Rattle.std.proofs.Common.{◌≡◌, ◌-◌, ◌&&◌, ◌∙◌, ap, refl, sym, ℕ, Bool, true, false, if◌then◌else◌, List}
-use Rattle.std.proofs.Common.{[], ◌∷◌, ◌++◌, length, drop, Option, Some, None, inl, inr}
+use Rattle.std.proofs.Common.{◌≡◌, ◌-◌, ◌&&◌, ◌∙◌, ap, refl, sym, ℕ, Bool, true, false, List}
+use Rattle.std.proofs.Common.{[], ◌∷◌, ◌++◌, length, drop, Option, Some, None}
 use Rattle.std.specs.Prelude.{ℤ, is_some, option_map}
 use Rattle.std.specs.Option.{option_map_or}
-use Rattle.std.proofs.lemmas.Bool.{cases_Bool, and_parts, and_from}
+use Rattle.std.proofs.lemmas.Bool.{and_parts, and_from}
 use Rattle.span_money.specs.Numbers.{whole_number, decimal_number, month_number}
 use Rattle.span_tables.specs.Faults.{first_that_holds}
 use Rattle.span_csv.specs.near.Checks.{IsFree, IsFaultOf, field_faults}
@@ -17,31 +17,29 @@ use Rattle.span_csv.specs.declared.grammar.Kind.{Kind}
 
 -- ---- the first of some faults
 
-chosen : {F : Type 0} (b : Bool) (x : F) (o : Option F) → (if b then Some x else o) ≡ None → (b ≡ false) × (o ≡ None)
-chosen true x o e = cc
-chosen false x o e = (refl, e)
-
 -- behind faults that do not hold stand the others
 pub first_append : {F : Type 0} (xs ys : List (Bool × F)) → first_that_holds xs ≡ None
     → first_that_holds (xs ++ ys) ≡ first_that_holds ys
 first_append [] ys e = refl
-first_append (x ∷ xs) ys e =
-    let h = chosen x.0 x.1 (first_that_holds xs) e in
-    rw h.0 (first_append xs ys h.1)
+first_append ((true, f) ∷ xs) ys e = cc
+first_append ((false, f) ∷ xs) ys e = first_append xs ys e
 
 pub fault_behind : (xs ys : List (Bool × (ℕ → ParamFault))) (at : ℕ) (answer : ParamFault) → IsFree xs → IsFaultOf ys at answer
     → IsFaultOf (xs ++ ys) at answer
 fault_behind xs ys at answer free e = ap (option_map (λ f. f at)) (first_append xs ys free) ∙ e
 
 -- a fault that holds stays the first
-pub first_front : {F : Type 0} (xs ys : List (Bool × F)) (f : F) → first_that_holds xs ≡ Some f
-    → first_that_holds (xs ++ ys) ≡ Some f
-first_front [] ys f e = cc
-first_front (x ∷ xs) ys f e =
-    elim (cases_Bool x.0) [
-      | inl holds ↦ let same : Some x.1 ≡ Some f = rw holds at e in rw holds same
-      | inr fails ↦ let later : first_that_holds xs ≡ Some f = rw fails at e in rw fails (first_front xs ys f later)
-    ]
+pub first_front : {F : Type 0} (xs ys : List (Bool × (ℕ → F))) (at : ℕ) (answer : F)
+    → option_map (λ f. f at) (first_that_holds xs) ≡ Some answer → option_map (λ f. f at) (first_that_holds (xs ++ ys)) ≡ Some answer
+first_front [] ys at answer e = cc
+first_front ((true, f) ∷ xs) ys at answer e = e
+first_front ((false, f) ∷ xs) ys at answer e = first_front xs ys at answer e
+
+-- where no fault holds, none of the first of them does
+pub front_none : {F : Type 0} (xs ys : List (Bool × F)) → first_that_holds (xs ++ ys) ≡ None → first_that_holds xs ≡ None
+front_none [] ys e = refl
+front_none ((true, f) ∷ xs) ys e = cc
+front_none ((false, f) ∷ xs) ys e = front_none xs ys e
 
 -- ---- all fields pass a test
 
@@ -55,14 +53,10 @@ month_some test (Some z) e = refl
 
 -- a number in its range has its form
 in_range_number : (form : FieldForm) (text : List ℕ) → is_in_range form text ≡ true → has_number_form form text ≡ true
-in_range_number form.Name text e = refl
-in_range_number form.Currency text e = refl
-in_range_number form.Method text e = refl
-in_range_number form.Product text e = refl
-in_range_number form.Side text e = refl
 in_range_number (form.Whole low high) text e = within_some low high (whole_number text) e
 in_range_number (form.Decimal low high) text e = within_some low high (decimal_number text) e
 in_range_number form.Month text e = month_some _ (month_number text) e
+in_range_number _ text e = refl
 
 pub all_in_range_number : (forms : List FieldForm) (fields : Fields) → all_have is_in_range forms fields ≡ true
     → all_have has_number_form forms fields ≡ true

@@ -2,13 +2,12 @@
 use Rattle.std.proofs.Common.{◌≡◌, ◌∙◌, refl, sym, ap, ap₂, subst, arith, inl, inr, ℕ, ◌+◌}
 use Rattle.std.proofs.Common.{◌≤◌, Bool, true, false, not, cond, ◌&&◌, ◌==◌, if◌then◌else◌}
 use Rattle.std.proofs.Common.{List, [], ◌∷◌, ◌++◌, length, map, Option, Some, None, append_assoc}
-use Rattle.std.specs.Prelude.{⊤, count_by, filter_map, is_none, codes}
+use Rattle.std.specs.Prelude.{count_by, filter_map, is_none, codes}
 use Rattle.std.specs.List.{cons_option}
 use Rattle.std.specs.Option.{option_map_or}
 use Rattle.std.proofs.lemmas.Bool.{eqb-false, cases_Bool}
 use Rattle.std.proofs.lemmas.List.{append-nil}
 use Rattle.std.proofs.lemmas.List.Sums.{sum_by-cons, sum_by_push}
-use Rattle.span_tables.specs.Faults.{first_that_holds}
 use Rattle.span_tables.specs.Laws.{IsFaultFree}
 use Rattle.span_tables.specs.declared.records.Record.{Record}
 use Rattle.span_tables.proofs.NameLemmas.{same_name}
@@ -16,6 +15,7 @@ use Rattle.span_csv.specs.Records.{Fields, has_word_form}
 use Rattle.span_csv.specs.Records.{is_in_range, kind_named, kind_of, layout_of, is_word, text_at, record_of_kind, param_record}
 use Rattle.span_csv.specs.ParamFaults.{counted, is_set, profile_of, some_fail, exceeds_limit, record_fault, record_faults}
 use Rattle.span_csv.proofs.FormedLemmas.{counted_more, free_formed}
+use Rattle.span_csv.proofs.LowestLaws.{all_fail}
 use Rattle.span_csv.specs.declared.grammar.Kind.{Kind}
 use Rattle.span_csv.specs.declared.grammar.Kind.TheVariants as kind
 
@@ -31,22 +31,9 @@ pub record IsClean (earlier : List Fields) (r : Fields) : Type 0 where
   pub ranges : some_fail is_in_range (profile_of earlier) r ≡ false
   pub room : exceeds_limit (counted earlier) r (kind_of r) ≡ false
 
--- no test holds
-abbrev AllFalse : {F : Type 0} → List (Bool × F) → Type 0
-AllFalse [] = ⊤
-AllFalse (x ∷ xs) = (x.0 ≡ false) × AllFalse xs
-
-by_head : {F : Type 0} (b : Bool) (f : F) (rest : Option F) → (if b then Some f else rest) ≡ None → (b ≡ false) × (rest ≡ None)
-by_head true f rest e = cc
-by_head false f rest e = (refl, e)
-
-none_holds : {F : Type 0} (xs : List (Bool × F)) → first_that_holds xs ≡ None → AllFalse xs
-none_holds [] e = tt
-none_holds (x ∷ xs) e = let parts = by_head x.0 x.1 (first_that_holds xs) e in (parts.0, none_holds xs parts.1)
-
 pub clean : (earlier : List Fields) (r : Fields) → record_fault earlier r ≡ None → IsClean earlier r
 clean earlier r e =
-    let h = none_holds (record_faults earlier r) e in
+    let h = all_fail (record_faults earlier r) e in
     record {
       first = h.0;
       second = h.1.0;

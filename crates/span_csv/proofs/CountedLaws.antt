@@ -9,7 +9,7 @@ use Rattle.span_csv.specs.Records.{Fields}
 use Rattle.span_csv.specs.PositionFaults.{counted, exceeds_accounts, form_faults, is_formed, record_fault}
 use Rattle.span_csv.specs.declared.faults.PositionFault.{PositionFault}
 use Rattle.span_csv.specs.declared.faults.PositionFault.TheVariants as fault
-use Rattle.span_csv.proofs.FormedLemmas.{front_none}
+use Rattle.span_csv.proofs.CheckLemmas.{front_none}
 
 -- a record that has one of Q1 to Q4 does not count
 pub push_unformed : (rs : List Fields) (r : Fields) → is_formed r ≡ false → counted (rs ++ r ∷ []) ≡ counted rs

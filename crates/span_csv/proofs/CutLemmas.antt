@@ -3,6 +3,7 @@ use Rattle.std.proofs.Common.{◌≡◌, ◌∙◌, ℕ, zero, suc, ◌+◌, ◌
 use Rattle.std.proofs.Common.{Bool, true, false, ◌&&◌, ◌||◌, ◌==◌}
 use Rattle.std.proofs.Common.{if◌then◌else◌, inl, inr, List, [], ◌∷◌, ◌++◌}
 use Rattle.std.proofs.Common.{Some, None, length, refl, sym, ap, subst, arith, append_assoc}
+use Rattle.std.proofs.Math.Bool.{and-false}
 use Rattle.std.proofs.lemmas.Bool.{cases_Bool, eqb-true, or_parts}
 use Rattle.std.proofs.lemmas.List.Folds.{list_any-append}
 use Rattle.csv.specs.Machine.{ends_at_end, field_after, fields_after, is_end, next_record, step}
@@ -85,10 +86,7 @@ IsPlain state.StartRecord fields field = (fields ≡ []) × (field ≡ [])
 IsPlain state.AfterCr fields field = (fields ≡ []) × (field ≡ [])
 IsPlain state.StartField fields field = Unit {0}
 IsPlain state.InField fields field = Unit {0}
-IsPlain state.InQuoted fields field = ⊥
-IsPlain state.AfterQuote fields field = ⊥
-IsPlain state.InEscape fields field = ⊥
-IsPlain state.InComment fields field = ⊥
+IsPlain _ fields field = ⊥
 
 -- what a reader has read is plain, too, behind one more byte and what the reader does at it
 abbrev IsPlainBehind : State → Action → Fields → List ℕ → ℕ → Type 0
@@ -127,10 +125,7 @@ stays_plain state.StartField fields field c plain free =
     by_kind (StaysPlain state.StartField fields field) c tt (refl, refl) (refl, refl) (λ a b d. rw (a, b, d, free) tt)
 stays_plain state.InField fields field c plain free =
     by_kind (StaysPlain state.InField fields field) c tt (refl, refl) (refl, refl) (λ a b d. rw (a, b, d) tt)
-stays_plain state.InQuoted fields field c plain free = absurd plain
-stays_plain state.AfterQuote fields field c plain free = absurd plain
-stays_plain state.InEscape fields field c plain free = absurd plain
-stays_plain state.InComment fields field c plain free = absurd plain
+stays_plain _ fields field c plain free = absurd plain
 
 -- behind a line feed the records begin anew
 line_cut : (s : State) (fields : Fields) (field ys : List ℕ) → IsPlain s fields field
@@ -139,10 +134,7 @@ line_cut state.StartRecord fields field ys plain = rw (plain.0, plain.1) refl
 line_cut state.AfterCr fields field ys plain = rw (plain.0, plain.1) refl
 line_cut state.StartField fields field ys plain = refl
 line_cut state.InField fields field ys plain = refl
-line_cut state.InQuoted fields field ys plain = absurd plain
-line_cut state.AfterQuote fields field ys plain = absurd plain
-line_cut state.InEscape fields field ys plain = absurd plain
-line_cut state.InComment fields field ys plain = absurd plain
+line_cut _ fields field ys plain = absurd plain
 
 -- the rows behind bytes without a quote and a line feed are those of the further bytes by themselves
 rows_cut : (front : List ℕ) (s : State) (fields : Fields) (field ys : List ℕ) → IsPlain s fields field → has_quote front ≡ false
@@ -166,10 +158,6 @@ rows_cut (c ∷ front) s fields field ys plain free =
 
 -- ---- the mark at the start
 
-never : (a : Bool) → (a && false) ≡ false
-never true = refl
-never false = refl
-
 -- a line feed is no part of the mark
 mark_first : (ys : List ℕ) → strip_bom (10 ∷ ys) ≡ 10 ∷ ys
 unfolding strip_bom
@@ -180,14 +168,14 @@ mark_first (b ∷ c ∷ ys) = refl
 mark_second : (a : ℕ) (ys : List ℕ) → strip_bom (a ∷ 10 ∷ ys) ≡ a ∷ 10 ∷ ys
 unfolding strip_bom
 mark_second a [] = refl
-mark_second a (c ∷ ys) = ap (λ b. if (b && (c == 0xBF)) then ys else a ∷ 10 ∷ c ∷ ys) (never (a == 0xEF))
+mark_second a (c ∷ ys) = ap (λ b. if (b && (c == 0xBF)) then ys else a ∷ 10 ∷ c ∷ ys) (and-false (a == 0xEF))
 
 -- the mark is taken from bytes with a line feed behind them as from the bytes before the line feed
 mark_front : (front ys : List ℕ) → strip_bom (front ++ 10 ∷ ys) ≡ strip_bom front ++ 10 ∷ ys
 unfolding strip_bom
 mark_front [] ys = mark_first ys
 mark_front (a ∷ []) ys = mark_second a ys
-mark_front (a ∷ b ∷ []) ys = ap (λ z. if z then ys else a ∷ b ∷ 10 ∷ ys) (never ((a == 0xEF) && (b == 0xBB)))
+mark_front (a ∷ b ∷ []) ys = ap (λ z. if z then ys else a ∷ b ∷ 10 ∷ ys) (and-false ((a == 0xEF) && (b == 0xBB)))
 mark_front (a ∷ b ∷ c ∷ front) ys = by (is_bom a b c) where
   by : (z : Bool) → (if z then front ++ 10 ∷ ys else a ∷ b ∷ c ∷ (front ++ 10 ∷ ys))
       ≡ (if z then front else a ∷ b ∷ c ∷ front) ++ 10 ∷ ys

@@ -2,10 +2,11 @@
 use Rattle.std.proofs.Common.{◌≡◌, ◌∙◌, ◌+◌, ◌*◌, ◌<◌, ◌≤◌, ◌&&◌, ◌==◌, sym, refl, ap, arith, ℕ, suc, zero, Bool, true}
 use Rattle.std.proofs.Common.{false, length-append, if◌then◌else◌, ℤ, pos, negsuc, List, [], ◌∷◌, ◌++◌, length, take}
 use Rattle.std.proofs.Common.{drop, Option, Some, None}
-use Rattle.std.specs.Prelude.{nat_le, nat_abs, unwrap_or, slice_get}
+use Rattle.std.specs.Prelude.{flat_map, nat_le, nat_abs, replicate, unwrap_or, slice_get}
 use Rattle.std.specs.Char.{is_ascii_digit}
 use Rattle.std.specs.List.{list_all, repeat}
 use Rattle.std.specs.Option.{option_map_or}
+use Rattle.std.proofs.Math.Bool.{and_assoc}
 use Rattle.std.proofs.Math.Nat.{suc-mul}
 use Rattle.std.proofs.lemmas.List.{get_or_past}
 use Rattle.std.proofs.lemmas.Bool.{and_parts, and_from, leb-true, le-leb, eqb-true, ne_eqb, not-false}
@@ -103,10 +104,6 @@ pub all_have-none : (test : FieldForm → List ℕ → Bool) (forms : List Field
 all_have-none test [] = refl
 all_have-none test (f ∷ forms) = refl
 
-and_assoc : (a b c : Bool) → (a && (b && c)) ≡ ((a && b) && c)
-and_assoc true b c = refl
-and_assoc false b c = refl
-
 -- forms behind others are those of the fields behind the others'
 pub all_have-append : (test : FieldForm → List ℕ → Bool) (front back : List FieldForm) (fields : Fields)
     → all_have test (front ++ back) fields ≡ (all_have test front fields && all_have test back (drop (length front) fields))
@@ -114,7 +111,7 @@ all_have-append test [] back fields = refl
 all_have-append test (f ∷ front) back [] = sym (all_have-none test back)
 all_have-append test (f ∷ front) back (x ∷ fields) =
     rw (all_have-append test front back fields)
-    (and_assoc (test f x) (all_have test front fields) (all_have test back (drop (length front) fields)))
+    (sym (and_assoc (test f x) (all_have test front fields) (all_have test back (drop (length front) fields))))
 
 pub all_behind : (test : FieldForm → List ℕ → Bool) (front back : List FieldForm) (fields : Fields)
     → all_have test (front ++ back) fields ≡ true → all_have test back (drop (length front) fields) ≡ true
@@ -141,19 +138,18 @@ all_have-repeat test f (suc n) (x ∷ fields) = ap (λ b. test f x && b) (all_ha
 
 -- ---- layouts
 
+-- so many of some parts that are the same
+pub flat_take : {A : Type 0} (n m : ℕ) (xs : List A) → n ≤ m → flat_map (λ x. x) (take n (replicate m xs)) ≡ repeat n xs
+flat_take zero m xs le = refl
+flat_take (suc n) zero xs le = absurd (omega (arith, le))
+flat_take (suc n) (suc m) xs le = ap (λ rest. xs ++ rest) (flat_take n m xs (omega (arith, le)))
+
 pub length-repeat : {A : Type 0} (n : ℕ) (xs : List A) → length (repeat n xs) ≡ n * length xs
 length-repeat zero xs = omega arith
 length-repeat (suc n) xs = omega (arith, length-append xs (repeat n xs), length-repeat n xs, suc-mul n (length xs))
 
-pub layout_length : (front middle back : List FieldForm) (times : ℕ)
-    → length (front ++ repeat times middle ++ back) ≡ length front + times * length middle + length back
-layout_length front middle back times =
-    omega (
-      arith,
-      length-append (front ++ repeat times middle) back,
-      length-append front (repeat times middle),
-      length-repeat times middle,
-    )
+pub layout_length : (front middle back : List FieldForm) → length (front ++ middle ++ back) ≡ length front + length middle + length back
+layout_length front middle back = omega (arith, length-append (front ++ middle) back, length-append front middle)
 
 -- ---- fields past the end
 

@@ -7,7 +7,7 @@ use Rattle.span_tables.specs.Faults.{first_that_holds}
 use Rattle.span_csv.specs.Records.{Fields, kind_of}
 use Rattle.span_csv.specs.ParamFaults.{counted, exceeds_limit, form_faults, formed_behind, is_formed, record_fault}
 use Rattle.span_csv.specs.declared.faults.ParamFault.TheVariants as fault
-use Rattle.span_csv.proofs.CheckLemmas.{first_front}
+use Rattle.span_csv.proofs.CheckLemmas.{front_none}
 
 -- ---- one record more
 
@@ -55,13 +55,6 @@ pub counted_few : (rs : List Fields) → length (counted rs) ≤ length rs
 counted_few rs = formed_few [] rs
 
 -- ---- records without a fault
-
--- where no fault holds, none of the first of them does
-pub front_none : {F : Type 0} (xs ys : List (Bool × F)) → first_that_holds (xs ++ ys) ≡ None → first_that_holds xs ≡ None
-front_none {F = F} xs ys e = by (first_that_holds xs) refl where
-  by : (o : Option F) → first_that_holds xs ≡ o → first_that_holds xs ≡ None
-  by None is = is
-  by (Some f) is = let two : Some f ≡ None = sym (first_front xs ys f is) ∙ e in cc
 
 -- a record without a fault counts
 pub free_formed : (earlier : List Fields) (r : Fields) → record_fault earlier r ≡ None → is_formed earlier r ≡ true

@@ -5,14 +5,14 @@ mod CheckLemmas
 mod CountLemmas
 pub mod CountedLaws
 pub mod CutLemmas
+mod CutPlaces
 mod FieldLemmas
 mod FormLemmas
 mod FormedLemmas
 mod LegLemmas
-mod LineLemmas
 mod LowestLaws
 mod NumberedLemmas
-pub mod OrderLaws
+pub mod OrderAccountLaws
 mod OrderLemmas
 mod OrderSteps
 pub mod PieceLaws
@@ -26,7 +26,6 @@ mod RowLemmas
 mod SizeLemmas
 mod StepLemmas
 mod TallyLemmas
-mod TellLemmas
 mod TestLemmas
 pub mod TogetherLaws
 mod ToldLemmas

@@ -1,16 +1,16 @@
 -- What the record behind numbered ones is.
-use Rattle.std.proofs.Common.{◌≡◌, refl, sym, ap, inl, inr, arith, ℕ, ◌+◌, ◌-◌, ◌≤◌, true, false}
+use Rattle.std.proofs.Common.{◌≡◌, refl, sym, ap, inl, inr, arith, ℕ, ◌+◌, ◌-◌, ◌≤◌, Bool, cond, true, false}
 use Rattle.std.proofs.Common.{◌==◌, ℤ, List, [], ◌∷◌, length, get_or, Some, Ok, Err, slice_get}
 use Rattle.std.proofs.lemmas.Bool.{cases_Bool, eqb-false}
 use Rattle.std.proofs.lemmas.List.{length-map, length-append}
-use Rattle.span_tables.specs.Names.{is_among}
+use Rattle.span_tables.specs.Names.{is_among, is_name}
 use Rattle.span_tables.specs.near.Positions.{named_position, named_positions, AreNumbered}
 use Rattle.span_tables.proofs.NumberedLaws.{among_at, name_there}
 use Rattle.span_tables.specs.declared.records.NumberedPosition.{NumberedPosition}
 use Rattle.span_csv.specs.Records.{Fields, text_at}
 use Rattle.span_csv.specs.declared.faults.PositionFault.{PositionFault}
 use Rattle.span_csv.specs.declared.faults.PositionFault.TheVariants as fault
-use Rattle.span_csv.specs.near.NumberedReading.{is_one_too_many, next_position, quantity_alone, with_name}
+use Rattle.span_csv.specs.near.NumberedReading.{are_names, is_one_too_many, next_position, quantity_alone, with_name}
 
 -- ---- the limit
 
@@ -30,6 +30,12 @@ still_few most keys name few room =
 pub stands_there : (most : ℕ) (keys : List (List ℕ)) (a : ℕ) (name : List ℕ) → slice_get keys a ≡ Some name
     → (is_one_too_many most keys name ≡ false) × (keys ≡ with_name keys name)
 stands_there most keys a name at = let there = among_at keys a name at in (rw there refl, rw there refl)
+
+-- the names that need no test are names
+pub tested_names : (b : Bool) (r : Fields) → (b ≡ true → is_name (text_at r 0) ≡ true) → are_names (cond b 1 0) r ≡ true
+tested_names false r known = refl
+tested_names true [] known = refl
+tested_names true (x ∷ r) known = rw (known refl) refl
 
 -- ---- what the next record is
 

@@ -3,7 +3,7 @@ use Rattle.std.proofs.Common.{◌≡◌, ◌∙◌, refl, sym, ap, subst, inl, i
 use Rattle.std.proofs.Common.{◌&&◌, ◌==◌, List, [], ◌∷◌, ◌++◌, length, get_or, map, Some, slice_get}
 use Rattle.std.specs.Prelude.{All, bytes_eq, MatchBool, ⊤, Ok, Err}
 use Rattle.std.specs.List.{position_or_len}
-use Rattle.std.proofs.lemmas.Bool.{cases_Bool, eqb-true, eq-eqb, ne_eqb, not-false}
+use Rattle.std.proofs.lemmas.Bool.{both_ways, cases_Bool, eqb-true, eq-eqb, ne_eqb, not-false}
 use Rattle.std.proofs.Math.Seq.{get_or-append_seam}
 use Rattle.std.proofs.lemmas.List.{map-append, length-append, length-map, get_or_append_left}
 use Rattle.std.proofs.lemmas.List.Elements.{All-head, All-tail}
@@ -95,126 +95,12 @@ module _ (keys accounts : List (List ℕ)) (order account : List ℕ) (agrees : 
       let rest = changes records (All-tail (λ (q : NumberedPosition). q.account < length keys) p records known) told in
       elim (cases_Bool (bytes_eq (get_or keys p.account []) order)) [
         | inl same ↦
-            let flipped : bytes_eq order (get_or keys p.account []) ≡ true = name_sym order (get_or keys p.account []) ∙ same in
             let here = told p.account within (same_name (get_or keys p.account []) order same) in
-            rw (same, here, flipped) refl
-        | inr other ↦
-            let flipped : bytes_eq order (get_or keys p.account []) ≡ false = name_sym order (get_or keys p.account []) ∙ other in
-            rw (other, flipped) rest
+            rw (name_sym order (get_or keys p.account []), same, here) refl
+        | inr other ↦ rw (name_sym order (get_or keys p.account []), other) rest
       ]
-
-module _ (keys keys' accounts : List (List ℕ)) (earlier : List NumberedPosition) (p : NumberedPosition) (order account : List ℕ)
-    (was : AreNumbered keys earlier) (each : length accounts ≡ length keys)
-    (more : keys' ≡ insert_key bytes_eq keys order) (at : slice_get keys' p.account ≡ Some order) where
-  among_same : is_among (map (λ (q : PositionRecord). q.account) (named_positions keys earlier)) order ≡ is_among keys order
-  among_same =
-      sym (is_among-distinct (map (λ (q : PositionRecord). q.account) (named_positions keys earlier)) order)
-      ∙ ap (λ ks. is_among ks order) (sym was.accounts_are)
-
-  -- an order that is known stands among the orders so far, and a new one behind them
-  old_place : is_among keys order ≡ true → (keys' ≡ keys) × (p.account < length keys) × (get_or keys p.account [] ≡ order)
-  old_place old =
-      let same : keys' ≡ keys = more ∙ (rw old refl) in
-      let there : slice_get keys p.account ≡ Some order = subst (λ ks. slice_get ks p.account ≡ Some order) same at in
-      (same, slice_get_within keys p.account order there, name_there keys p.account order there)
-
-  new_place : is_among keys order ≡ false → (keys' ≡ keys ++ order ∷ []) × (p.account ≡ length keys)
-  new_place new =
-      let longer : keys' ≡ keys ++ order ∷ [] = more ∙ (rw new refl) in
-      let within : p.account < length keys' = slice_get_within keys' p.account order at in
-      let long : length keys' ≡ length keys + 1 = ap length longer ∙ length-append keys (order ∷ []) in
-      let there : get_or (keys ++ order ∷ []) p.account [] ≡ order =
-      subst (λ ks. get_or ks p.account [] ≡ order) longer (name_there keys' p.account order at) in
-      let not_below : p.account < length keys → ⊥ = λ below.
-      let here : get_or keys p.account [] ≡ order = sym (get_or_append_left keys (order ∷ []) [] p.account below) ∙ there in
-      let found : slice_get keys p.account ≡ Some order = slice_get-get_or keys p.account [] below ∙ ap Some here in
-      let e : true ≡ false = sym (among_at keys p.account order found) ∙ new in cc in
-      (longer, omega (arith, within, long, not_below))
-
-  -- an earlier record of the order has another account just where the order has
-  pub changes_at : has_another_account (numbered_orders keys accounts earlier) order account ≡ is_of_another accounts p.account account
-  changes_at =
-      elim (cases_Bool (is_among keys order)) [
-        | inl old ↦
-            let place = old_place old in
-            let apart : (p.account == length accounts) ≡ false =
-            ne_eqb p.account (length accounts) (λ e. absurd (omega (arith, e, place.1, each))) in
-            let agrees = bytes_eq (get_or accounts p.account []) account in
-            changes keys accounts order account agrees earlier was.known (λ i within is.
-            ap (λ j. bytes_eq (get_or accounts j []) account)
-            (same_place keys i p.account (names_apart keys earlier was) within place.1 (is ∙ sym place.2)))
-            ∙ rw (among_same, old, apart) refl
-        | inr new ↦
-            let place = new_place new in
-            let last : (p.account == length accounts) ≡ true = eq-eqb p.account (length accounts) (place.1 ∙ sym each) in
-            changes keys accounts order account true earlier was.known (λ i within is.
-            let found : slice_get keys i ≡ Some order = slice_get-get_or keys i [] within ∙ ap Some is in
-            let e : true ≡ false = sym (among_at keys i order found) ∙ new in cc)
-            ∙ rw (among_same, new, last) refl
-      ]
-
-  -- each order has an account
-  pub each_more : length (accounts_with accounts p.account account) ≡ length keys'
-  each_more =
-      elim (cases_Bool (is_among keys order)) [
-        | inl old ↦
-            let place = old_place old in
-            let apart : (p.account == length accounts) ≡ false =
-            ne_eqb p.account (length accounts) (λ e. absurd (omega (arith, e, place.1, each))) in
-            rw apart (each ∙ sym (ap length place.0))
-        | inr new ↦
-            let place = new_place new in
-            let last : (p.account == length accounts) ≡ true = eq-eqb p.account (length accounts) (place.1 ∙ sym each) in
-            rw last (length-append accounts (account ∷ []) ∙ ap (λ n. n + 1) each
-            ∙ sym (ap length place.0 ∙ length-append keys (order ∷ [])))
-      ]
-
-  -- where it is the account that the order has, that account stands at the order's place
-  pub account_taken : is_of_another accounts p.account account ≡ false
-      → get_or (accounts_with accounts p.account account) p.account [] ≡ account
-  account_taken same =
-      elim (cases_Bool (p.account == length accounts)) [
-        | inl last ↦
-            let e : p.account ≡ length accounts = eqb-true p.account (length accounts) last in
-            rw (last, e) (get_or-append_seam accounts account [] [])
-        | inr known ↦ rw known (same_name (get_or accounts p.account []) account (not-false _ (rw known at same)))
-      ]
-
-  -- the earlier records stand for the same
-  earlier_same : (records : List NumberedPosition) → All (λ (q : NumberedPosition). q.account < length keys) records
-      → numbered_orders keys' (accounts_with accounts p.account account) records ≡ numbered_orders keys accounts records
-  earlier_same [] known = refl
-  earlier_same (q ∷ records) known =
-      let within = All-head (λ (q : NumberedPosition). q.account < length keys) q records known in
-      let rest = earlier_same records (All-tail (λ (q : NumberedPosition). q.account < length keys) q records known) in
-      let name : get_or keys' q.account [] ≡ get_or keys q.account [] =
-      ap (λ ks. get_or ks q.account []) more ∙ stays keys order q.account within in
-      let given : get_or (accounts_with accounts p.account account) q.account [] ≡ get_or accounts q.account [] =
-      given_stays q.account (omega (arith, within, each)) in
-      λ i. record { order = name i; account = given i; contract = q.contract; quantity = q.quantity } ∷ rest i
-    where
-      given_stays : (i : ℕ) → i < length accounts → get_or (accounts_with accounts p.account account) i [] ≡ get_or accounts i []
-      given_stays i within =
-          elim (cases_Bool (p.account == length accounts)) [
-            | inl last ↦ rw last (get_or_append_left accounts (account ∷ []) [] i within)
-            | inr known ↦ rw known refl
-          ]
-
-  -- the records that the numbered ones stand for are one more
-  pub orders_more : numbered_orders keys' (accounts_with accounts p.account account) (earlier ++ p ∷ [])
-      ≡ numbered_orders keys accounts earlier ++ numbered_order keys' (accounts_with accounts p.account account) p ∷ []
-  orders_more =
-      map-append (numbered_order keys' (accounts_with accounts p.account account)) earlier (p ∷ [])
-      ∙ ap (λ front. front ++ numbered_order keys' (accounts_with accounts p.account account) p ∷ []) (earlier_same earlier was.known)
 
 -- ---- the account of an order
-
-at_most_one_more : (keys : List (List ℕ)) (order : List ℕ) → length (insert_key bytes_eq keys order) ≤ length keys + 1
-at_most_one_more keys order =
-    elim (cases_Bool (is_among keys order)) [
-      | inl old ↦ rw old (omega arith)
-      | inr new ↦ rw new (let e = length-append keys (order ∷ []) in omega (arith, e))
-    ]
 
 -- the account of the order at a place is another one, where the account does not stand there
 pub of_another : (accounts : List (List ℕ)) (place : ℕ) (account : List ℕ) → place < length accounts
@@ -258,37 +144,117 @@ module _ (keys keys' accounts : List (List ℕ)) (earlier : List NumberedPositio
   abbrev account_here : List ℕ
   account_here = text_at r 1
 
-  within_now : p.account < length keys'
-  within_now =
+  abbrev accounts' : List (List ℕ)
+  accounts' = accounts_with accounts p.account account_here
+
+  within : p.account < length keys'
+  within =
       let long : length (earlier ++ p ∷ []) ≡ length earlier + 1 = length-append earlier (p ∷ []) in
       subst (λ (q : NumberedPosition). q.account < length keys') (get_or-append_seam earlier p [] p)
       (now.known (length earlier) p (omega (arith, long)))
 
-  at_now : slice_get keys' p.account ≡ Some order_here
-  at_now = slice_get-get_or keys' p.account [] within_now
-
-  more_now : keys' ≡ insert_key bytes_eq keys order_here
-  more_now =
+  more : keys' ≡ insert_key bytes_eq keys order_here
+  more =
       now.accounts_are
       ∙ ap accounts_of named
       ∙ accounts_of-push (named_positions keys earlier) (named_position keys' p)
       ∙ ap (λ ks. insert_key bytes_eq ks order_here) (sym was.accounts_are)
 
-  longest_now : length keys' ≤ length keys + 1
-  longest_now = let e = ap length more_now in let le = at_most_one_more keys order_here in omega (arith, e, le)
+  among_same : is_among (map (λ (q : PositionRecord). q.account) (named_positions keys earlier)) order_here ≡ is_among keys order_here
+  among_same =
+      sym (is_among-distinct (map (λ (q : PositionRecord). q.account) (named_positions keys earlier)) order_here)
+      ∙ ap (λ ks. is_among ks order_here) (sym was.accounts_are)
+
+  -- an order that is known stands among the orders so far, and a new one behind them
+  old_place : is_among keys order_here ≡ true → (keys' ≡ keys) × (p.account < length keys) × ((p.account == length accounts) ≡ false)
+  old_place old =
+      let same : keys' ≡ keys = more ∙ (rw old refl) in
+      let below : p.account < length keys = subst (λ ks. p.account < length ks) same within in
+      (same, below, ne_eqb p.account (length accounts) (λ e. absurd (omega (arith, e, below, each))))
+
+  new_place : is_among keys order_here ≡ false → (keys' ≡ keys ++ order_here ∷ []) × ((p.account == length accounts) ≡ true)
+  new_place new =
+      let longer : keys' ≡ keys ++ order_here ∷ [] = more ∙ (rw new refl) in
+      let long : length keys' ≡ length keys + 1 = ap length longer ∙ length-append keys (order_here ∷ []) in
+      let not_below : p.account < length keys → ⊥ = λ below.
+      let here : get_or keys p.account [] ≡ order_here =
+      sym (get_or_append_left keys (order_here ∷ []) [] p.account below) ∙ ap (λ ks. get_or ks p.account []) (sym longer) in
+      both_ways (is_among keys order_here) new
+      (among_at keys p.account order_here (slice_get-get_or keys p.account [] below ∙ ap Some here)) in
+      (longer, eq-eqb p.account (length accounts) (let in_all = within in omega (arith, in_all, long, not_below, each)))
 
   -- the order's place is one of those known, or that behind all
   pub place_known : p.account ≤ length accounts
-  place_known = let longest = longest_now in let within = within_now in omega (arith, each, longest, within)
+  place_known =
+      elim (cases_Bool (is_among keys order_here)) [
+        | inl old ↦ let below = (old_place old).1 in omega (arith, each, below)
+        | inr new ↦ let last = eqb-true p.account (length accounts) (new_place new).1 in omega (arith, last)
+      ]
+
+  -- an earlier record of the order has another account just where the order has
+  changes_at : has_another_account (numbered_orders keys accounts earlier) order_here account_here
+      ≡ is_of_another accounts p.account account_here
+  changes_at =
+      elim (cases_Bool (is_among keys order_here)) [
+        | inl old ↦
+            let place = old_place old in
+            changes keys accounts order_here account_here (bytes_eq (get_or accounts p.account []) account_here) earlier was.known
+            (λ i below is. ap (λ j. bytes_eq (get_or accounts j []) account_here)
+            (same_place keys i p.account (names_apart keys earlier was) below place.1 (is ∙ ap (λ ks. get_or ks p.account []) place.0)))
+            ∙ rw (among_same, old, place.2) refl
+        | inr new ↦
+            changes keys accounts order_here account_here true earlier was.known (λ i below is.
+            absurd (both_ways (is_among keys order_here) new
+            (among_at keys i order_here (slice_get-get_or keys i [] below ∙ ap Some is))))
+            ∙ rw (among_same, new, (new_place new).1) refl
+      ]
 
   -- each order has an account
-  pub each_now : length (accounts_with accounts p.account account_here) ≡ length keys'
-  each_now = each_more keys keys' accounts earlier p order_here account_here was each more_now at_now
+  pub each_now : length accounts' ≡ length keys'
+  each_now =
+      elim (cases_Bool (is_among keys order_here)) [
+        | inl old ↦ let place = old_place old in rw place.2 (each ∙ sym (ap length place.0))
+        | inr new ↦
+            let place = new_place new in
+            rw place.1 (length-append accounts (account_here ∷ []) ∙ ap (λ n. n + 1) each
+            ∙ sym (ap length place.0 ∙ length-append keys (order_here ∷ [])))
+      ]
+
+  -- where it is the account that the order has, that account stands at the order's place
+  account_taken : is_of_another accounts p.account account_here ≡ false → get_or accounts' p.account [] ≡ account_here
+  account_taken same =
+      elim (cases_Bool (p.account == length accounts)) [
+        | inl last ↦
+            let e : p.account ≡ length accounts = eqb-true p.account (length accounts) last in
+            rw (last, e) (get_or-append_seam accounts account_here [] [])
+        | inr known ↦ rw known (same_name (get_or accounts p.account []) account_here (not-false _ (rw known at same)))
+      ]
+
+  -- the earlier records stand for the same
+  given_stays : (i : ℕ) → i < length accounts → get_or accounts' i [] ≡ get_or accounts i []
+  given_stays i below =
+      elim (cases_Bool (p.account == length accounts)) [
+        | inl last ↦ rw last (get_or_append_left accounts (account_here ∷ []) [] i below)
+        | inr known ↦ rw known refl
+      ]
+
+  earlier_same : (records : List NumberedPosition) → All (λ (q : NumberedPosition). q.account < length keys) records
+      → numbered_orders keys' accounts' records ≡ numbered_orders keys accounts records
+  earlier_same [] known = refl
+  earlier_same (q ∷ records) known =
+      let below = All-head (λ (q : NumberedPosition). q.account < length keys) q records known in
+      let rest = earlier_same records (All-tail (λ (q : NumberedPosition). q.account < length keys) q records known) in
+      let name : get_or keys' q.account [] ≡ get_or keys q.account [] =
+      ap (λ ks. get_or ks q.account []) more ∙ stays keys order_here q.account below in
+      let given = given_stays q.account (omega (arith, below, each)) in
+      λ i. record { order = name i; account = given i; contract = q.contract; quantity = q.quantity } ∷ rest i
 
   -- the records that the numbered ones stand for are one more
-  pub orders_now : numbered_orders keys' (accounts_with accounts p.account account_here) (earlier ++ p ∷ [])
-      ≡ numbered_orders keys accounts earlier ++ numbered_order keys' (accounts_with accounts p.account account_here) p ∷ []
-  orders_now = orders_more keys keys' accounts earlier p order_here account_here was each more_now at_now
+  pub orders_now : numbered_orders keys' accounts' (earlier ++ p ∷ [])
+      ≡ numbered_orders keys accounts earlier ++ numbered_order keys' accounts' p ∷ []
+  orders_now =
+      map-append (numbered_order keys' accounts') earlier (p ∷ [])
+      ∙ ap (λ front. front ++ numbered_order keys' accounts' p ∷ []) (earlier_same earlier was.known)
 
   module _ (found : next_position ORDER_NAMES MAX_ORDERS (named_positions keys earlier) r ≡ Ok (named_position keys' p)) where
     next_behind : next_order (numbered_orders keys accounts earlier) r
@@ -296,17 +262,10 @@ module _ (keys keys' accounts : List (List ℕ)) (earlier : List NumberedPositio
     unfolding next_order
     next_behind = rw (numbered_under keys accounts earlier, length-map earlier (numbered_order keys accounts), found) refl
 
-    changed : has_another_account (numbered_orders keys accounts earlier) order_here account_here
-        ≡ is_of_another accounts p.account account_here
-    changed = changes_at keys keys' accounts earlier p order_here account_here was each more_now at_now
-
     pub next_second : is_of_another accounts p.account account_here ≡ true
         → next_order (numbered_orders keys accounts earlier) r ≡ Err (order.SecondAccount (length earlier + 1))
-    next_second other = next_behind ∙ rw (changed, other) refl
+    next_second other = next_behind ∙ rw (changes_at, other) refl
 
     pub next_read : is_of_another accounts p.account account_here ≡ false
-        → next_order (numbered_orders keys accounts earlier) r
-        ≡ Ok (numbered_order keys' (accounts_with accounts p.account account_here) p)
-    next_read same =
-        next_behind
-        ∙ rw (changed, same, account_taken keys keys' accounts earlier p order_here account_here was each more_now at_now same) refl
+        → next_order (numbered_orders keys accounts earlier) r ≡ Ok (numbered_order keys' accounts' p)
+    next_read same = next_behind ∙ rw (changes_at, same, account_taken same) refl

@@ -27,7 +27,7 @@ use Rattle.span_csv.specs.Records.{a_version, set_forms, commodity_forms, contra
 use Rattle.span_csv.specs.Records.{tier_forms, intra_front, intra_leg_forms, spot_forms, inter_front, inter_leg_forms}
 use Rattle.span_csv.specs.Records.{text_at, count_at, ratio_at, contract_record, extras_place, intra_leg, inter_leg}
 use Rattle.span_csv.specs.Records.{legs_of, product_at, record_of_kind}
-use Rattle.span_csv.specs.declared.contents.TheConstants.{EXTRAS}
+use Rattle.span_csv.specs.declared.rows.TheConstants.{EXTRAS}
 use Rattle.span_csv.specs.declared.grammar.FieldForm.{FieldForm}
 use Rattle.span_csv.specs.declared.grammar.FieldForm.TheVariants as form
 use Rattle.span_csv.specs.declared.grammar.Kind.{Kind}

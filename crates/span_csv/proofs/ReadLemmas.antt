@@ -1,132 +1,83 @@
--- The reading of a file, one record after another.
-use Rattle.std.proofs.Common.{◌≡◌, ◌+◌, ◌∙◌, sym, ap, refl, arith, ℕ, Bool, true, false}
-use Rattle.std.proofs.Common.{List, [], ◌∷◌, ◌++◌, length, map, Some, None, Ok, Err, Result}
-use Rattle.std.specs.Prelude.{⊤, option_map, MatchBool, ◌==◌}
-use Rattle.std.specs.Option.{option_to_list}
-use Rattle.std.proofs.lemmas.Bool.{eqb-true, false≢true}
-use Rattle.std.proofs.lemmas.List.{append_assoc, append-nil, map-append, length-map}
-use Rattle.span_tables.specs.Faults.{faults_after, first_fault_after, first_of, ok_unless}
+-- The reading of a parameter file, one record after another: the records that it says, and all its faults.
+use Rattle.std.proofs.Common.{◌≡◌, ◌+◌, ◌∙◌, sym, ap, subst, refl, arith, ℕ, List, [], ◌∷◌, ◌++◌, length, map, Some, Ok, Err}
+use Rattle.std.specs.Prelude.{⊤, MatchBool}
+use Rattle.std.proofs.lemmas.List.{length-append, map-append}
+use Rattle.span_tables.specs.Faults.{all_faults, faults_after, first_of, ok_unless}
 use Rattle.span_tables.specs.declared.records.Record.{Record}
-use Rattle.span_csv.specs.near.Checks.{IsFaultOf, NextIs, Tallies, params_in}
-use Rattle.span_csv.specs.ParamFaults.{faults_in, param_faults, params_of, is_memory, record_fault, record_faults}
+use Rattle.span_csv.specs.near.Checks.{NextIs, Tallies, params_in}
+use Rattle.span_csv.specs.ParamFaults.{faults_in, param_faults, params_of, is_memory, record_fault}
 use Rattle.span_csv.specs.Records.{Fields, records_of, param_record}
 use Rattle.span_csv.specs.declared.faults.ParamFault.{ParamFault}
 use Rattle.span_csv.specs.declared.faults.ParamFault.TheVariants as fault
 use Rattle.span_csv.specs.declared.tally.Tally.{Tally}
+use Rattle.span_csv.proofs.RecordLemmas.{told_by}
+use Rattle.span_csv.proofs.ToldLemmas.{IsTold, told_all, told_next, told_one, told_room, told_whole}
 
--- the records so far say these records and have no fault, and the rest has that of the whole
-pub record IsSoFar (all : List Fields) (xs : List Record) (t : Tally) (rest : List Fields) : Type 0 where
-  pub earlier : List Fields
-  pub whole : earlier ++ rest ≡ all
-  pub said : xs ≡ map param_record earlier
-  pub tallies : Tallies t earlier
-  pub answer : first_fault_after record_fault earlier rest ≡ first_fault_after record_fault [] all
+-- ---- all faults
 
--- as many records were read as there are earlier ones
-so_far_count : (all : List Fields) (xs : List Record) (t : Tally) (rest : List Fields) (s : IsSoFar all xs t rest)
-    → length s.earlier ≡ length xs
-so_far_count all xs t rest s =
-    let len : length (map param_record s.earlier) ≡ length s.earlier = simp length-map in sym (ap length s.said ∙ len)
-
--- what was answered for a record behind as many others is the answer behind the earlier ones
-pub next_is : {all : List Fields} {xs : List Record} {t : Tally} {rest : List Fields} {n : ℕ} (s : IsSoFar all xs t rest) (r : Fields)
-    (answer : Result Record ParamFault) (u : Tally) → length xs ≡ n
-    → ((rs : List Fields) → length rs ≡ n → Tallies t rs → NextIs rs r answer u) → NextIs s.earlier r answer u
-next_is {all = all} {xs = xs} {t = t} {rest = rest} s r answer u count answered =
-    answered s.earlier (so_far_count all xs t rest s ∙ count) s.tallies
-
--- a record without a fault is read
-pub so_far_more : (all : List Fields) (xs : List Record) (t u : Tally) (r : Fields) (before rest : List Fields) (x : Record)
-    (s : IsSoFar all xs t before) → before ≡ r ∷ rest
-    → NextIs s.earlier r (Ok x) u → IsSoFar all (xs ++ x ∷ []) u rest
-so_far_more all xs t u r before rest x s is next = record {
-  earlier = s.earlier ++ r ∷ [];
-  whole = append_assoc s.earlier (r ∷ []) rest ∙ ap (λ zs. s.earlier ++ zs) (sym is) ∙ s.whole;
-  said =
-      ap (λ zs. zs ++ x ∷ []) s.said ∙ ap (λ y. map param_record s.earlier ++ y ∷ []) next.1
-      ∙ sym (map-append param_record s.earlier (r ∷ []));
-  tallies = next.2;
-  answer =
-      let here : first_fault_after record_fault s.earlier (r ∷ rest) ≡ first_fault_after record_fault [] all =
-      ap (first_fault_after record_fault s.earlier) (sym is) ∙ s.answer in
-      sym (ap (λ o. first_of (option_to_list (option_map (λ f. f (length s.earlier + 1)) o)
-      ++ faults_after record_fault (s.earlier ++ r ∷ []) rest)) next.0) ∙ here;
-}
-
--- ---- the answer
-
-params_fault : (all : List Fields) (e : ParamFault) → first_of (faults_in all) ≡ Some e → params_in all ≡ Err e
-params_fault all e is = ap (λ o. ok_unless o (map param_record all)) is
-
-params_none : (all : List Fields) → first_of (faults_in all) ≡ None → params_in all ≡ Ok (map param_record all)
-params_none all is = ap (λ o. ok_unless o (map param_record all)) is
-
-some_records : (all : List Fields) → (all ≡ [] → ⊥) → first_of (faults_in all) ≡ first_fault_after record_fault [] all
+faults_of_some : (all : List Fields) → (length all ≡ 0 → ⊥) → faults_in all ≡ all_faults record_fault all
 unfolding faults_in
-some_records [] some = absurd (some refl)
-some_records (r ∷ rs) some = refl
+faults_of_some [] some = absurd (some refl)
+faults_of_some (r ∷ rs) some = refl
 
-no_records : (all : List Fields) → all ≡ [] → first_of (faults_in all) ≡ Some (fault.NoSet 0)
+faults_of_none : (all : List Fields) → length all ≡ 0 → all_faults record_fault all ++ fault.NoSet 0 ∷ [] ≡ faults_in all
 unfolding faults_in
-no_records [] none = refl
-no_records (r ∷ rs) none = cc
+faults_of_none [] none = refl
+faults_of_none (r ∷ rs) none = absurd (omega (arith, none))
 
-map_empty : (rs : List Fields) → map param_record rs ≡ [] → rs ≡ []
-map_empty [] e = refl
-map_empty (r ∷ rs) e = cc
+module _ {Kept : List Fields → Type 0} {all : List Fields} {faults : List ParamFault} {read : ℕ} {before : List Fields}
+    (s : IsTold record_fault Kept all faults read before) (end : before ≡ []) where
+  count : length all ≡ read
+  count = ap length (told_whole s end) ∙ s.count
 
-not_empty : (earlier : List Fields) (r : Fields) (rest : List Fields) → earlier ++ r ∷ rest ≡ [] → ⊥
-not_empty [] r rest e = cc
-not_empty (x ∷ earlier) r rest e = cc
+  -- all faults of a file with a record are told
+  pub told_records : (read ≡ 0 → ⊥) → faults ≡ faults_in all
+  told_records some = told_all s end ∙ sym (faults_of_some all (λ none. some (sym count ∙ none)))
 
-on_match : (b : Bool) (P Q : Type 0) → (P → Q) → MatchBool b ⊤ P → MatchBool b ⊤ Q
-on_match true P Q f h = tt
-on_match false P Q f h = f h
+  -- and of one without
+  pub told_empty : read ≡ 0 → faults ++ fault.NoSet 0 ∷ [] ≡ faults_in all
+  told_empty none = ap (λ fs. fs ++ fault.NoSet 0 ∷ []) (told_all s end) ∙ faults_of_none all (count ∙ none)
 
-ended : (all : List Fields) (xs : List Record) (t : Tally) (rest : List Fields) (s : IsSoFar all xs t rest) → rest ≡ []
-    → s.earlier ≡ all
-ended all xs t rest s end = sym (append-nil s.earlier) ∙ ap (λ zs. s.earlier ++ zs) (sym end) ∙ s.whole
+-- ---- the records that a file without a fault says
 
--- a file without a record
-pub read_empty : (all : List Fields) (xs : List Record) (t : Tally) (rest : List Fields) → IsSoFar all xs t rest
-    → rest ≡ [] → xs ≡ [] → params_in all ≡ Err (fault.NoSet 0)
-read_empty all xs t rest s end none =
-    params_fault all (fault.NoSet 0) (no_records all (sym (ended all xs t rest s end) ∙ map_empty s.earlier (sym s.said ∙ none)))
+-- these records are what the records of the file so far say, which have no fault
+abbrev pub HasRead : List Record → Tally → List Fields → List Fields → Type 0
+HasRead xs t all rest = IsTold record_fault (λ rs. (xs ≡ map param_record rs) × Tallies t rs) all [] (length xs) rest
 
--- all records of a file
-pub read_all : (all : List Fields) (xs : List Record) (t : Tally) (rest : List Fields) → IsSoFar all xs t rest
-    → rest ≡ [] → (xs ≡ [] → ⊥) → params_in all ≡ Ok xs
-read_all all xs t rest s end some =
-    let whole = ended all xs t rest s end in
-    let none : first_fault_after record_fault [] all ≡ None = sym s.answer ∙ ap (first_fault_after record_fault s.earlier) end in
-    let given : all ≡ [] → ⊥ = λ e. some (s.said ∙ ap (map param_record) (whole ∙ e)) in
-    params_none all (some_records all given ∙ none) ∙ ap Ok (ap (map param_record) (sym whole) ∙ sym s.said)
+module _ {all : List Fields} {xs : List Record} {t : Tally} {before : List Fields} (s : HasRead xs t all before) where
+  by_faults : (faults : List ParamFault) → faults ≡ faults_in all → ok_unless (first_of faults) (map param_record all) ≡ params_in all
+  by_faults faults are = ap (λ fs. ok_unless (first_of fs) (map param_record all)) are
 
--- a record with a fault
-pub read_fault : (all : List Fields) (xs : List Record) (t u : Tally) (r : Fields) (before rest : List Fields) (e : ParamFault)
-    (s : IsSoFar all xs t before) → before ≡ r ∷ rest
-    → NextIs s.earlier r (Err e) u → MatchBool (is_memory e) ⊤ (params_in all ≡ Err e)
-read_fault all xs t u r before rest e s is h =
-    let given : all ≡ [] → ⊥ = λ none. not_empty s.earlier r rest (ap (λ zs. s.earlier ++ zs) (sym is) ∙ s.whole ∙ none) in
-    on_match (is_memory e) (IsFaultOf (record_faults s.earlier r) (length s.earlier + 1) e × Tallies u (s.earlier ++ r ∷ []))
-    (params_in all ≡ Err e)
-    (λ here.
-    let first : first_fault_after record_fault s.earlier (r ∷ rest) ≡ Some e =
-    ap (λ o. first_of (option_to_list o ++ faults_after record_fault (s.earlier ++ r ∷ []) rest)) here.0 in
-    params_fault all e (some_records all given ∙ sym s.answer ∙ ap (first_fault_after record_fault s.earlier) is ∙ first))
-    h
+  -- a record without a fault is read
+  pub read_more : (r : Fields) (rest : List Fields) (x : Record) (u : Tally) → before ≡ r ∷ rest → x ≡ param_record r
+      → NextIs s.earlier r (Ok x) u → HasRead (xs ++ x ∷ []) u all rest
+  read_more r rest x u is says next =
+      let said : xs ++ x ∷ [] ≡ map param_record (s.earlier ++ r ∷ []) =
+      ap (λ zs. zs ++ x ∷ []) s.kept.0 ∙ ap (λ y. map param_record s.earlier ++ y ∷ []) says
+      ∙ sym (map-append param_record s.earlier (r ∷ [])) in
+      subst (λ n. IsTold record_fault (λ rs. (xs ++ x ∷ [] ≡ map param_record rs) × Tallies u rs) all [] n rest)
+      (sym (length-append xs (x ∷ [])))
+      (told_one s is_memory _ r rest (Ok x) [] is (next.0, (said, next.1)) refl)
+
+  -- a record with a fault
+  pub read_fault : (r : Fields) (rest : List Fields) (e : ParamFault) (u : Tally) → before ≡ r ∷ rest
+      → NextIs s.earlier r (Err e) u → MatchBool (is_memory e) ⊤ (params_in all ≡ Err e)
+  read_fault r rest e u is next =
+      let some : length all ≡ 0 → ⊥ = λ none. let more = told_room s r rest is in absurd (omega (arith, none, more)) in
+      told_by (is_memory e) next (λ found.
+      let more = told_next s (λ _. ⊤) r rest (Some e) is found.0 tt in
+      sym (by_faults (e ∷ faults_after record_fault more.earlier rest) (more.told ∙ sym (faults_of_some all some))))
+
+  -- a file without a record
+  pub read_empty : before ≡ [] → length xs ≡ 0 → params_in all ≡ Err (fault.NoSet 0)
+  read_empty end none = sym (by_faults (fault.NoSet 0 ∷ []) (told_empty s end none))
+
+  -- all records of a file
+  pub read_all : before ≡ [] → (length xs ≡ 0 → ⊥) → params_in all ≡ Ok xs
+  read_all end some =
+      sym (by_faults [] (told_records s end some)) ∙ ap Ok (ap (map param_record) (told_whole s end) ∙ sym s.kept.0)
 
 -- what the records of a file say is what its bytes say
 pub params_read : (bytes : List ℕ) → params_of bytes ≡ params_in (records_of bytes)
 unfolding params_of param_faults
 params_read bytes = refl
-
--- ---- a test for no records
-
-pub is_emptied : (xs : List Record) (n : ℕ) (b : Bool) → n ≡ length xs → b ≡ (n == 0) → b ≡ true → xs ≡ []
-is_emptied [] n b size test e = refl
-is_emptied (x ∷ xs) n b size test e = let none = eqb-true n 0 (sym test ∙ e) in absurd (omega arith)
-
-pub not_emptied : (xs : List Record) (n : ℕ) (b : Bool) → n ≡ length xs → b ≡ (n == 0) → b ≡ false → xs ≡ [] → ⊥
-not_emptied [] n b size test e none = false≢true (sym e ∙ test ∙ ap (λ k. k == 0) size)
-not_emptied (x ∷ xs) n b size test e none = cc

@@ -1,8 +1,9 @@
 -- The records of a parameter file without a fault are in their ranges, and no more of a kind than there may be.
-use Rattle.std.proofs.Common.{◌≡◌, ◌∙◌, refl, sym, ap, subst, arith, ℕ, ◌-◌, ◌<◌, Bool, true, false, not}
+use Rattle.std.proofs.Common.{◌≡◌, ◌∙◌, refl, sym, ap, ap₂, subst, arith, ℕ, ◌-◌, ◌<◌, ◌≤◌, Bool, true, false, not}
 use Rattle.std.proofs.Common.{◌&&◌, ◌||◌, ◌==◌, List, [], ◌∷◌, ◌++◌, length, length-append, map, Option, Some, None, Ok}
 use Rattle.std.specs.Prelude.{All, nat_le, count_by, filter_map, is_some, bytes_eq}
 use Rattle.std.specs.List.{list_all}
+use Rattle.std.proofs.Math.Bool.{and-true}
 use Rattle.std.proofs.lemmas.Bool.{and_parts, and_from, eq-eqb, le-leb, ne_eqb, not-false, both_ways}
 use Rattle.std.proofs.lemmas.List.Elements.{All-head, All-tail}
 use Rattle.std.proofs.lemmas.List.Sums.{sum_by-cons}
@@ -83,24 +84,21 @@ no_more_sets before (r ∷ rows) some free =
 
 -- ---- counts
 
-and_true : (b : Bool) → (b && true) ≡ b
-and_true true = refl
-and_true false = refl
+-- records of a kind with a limit, as far as they pass a test
+module _ (kind : Kind) (most : ℕ) (test : Fields → Bool) (limit : (earlier : List Fields) (r : Fields) → text_at r 0 ≡ word_of kind
+    → test r ≡ true → exceeds_limit earlier r (Some kind) ≡ (count_by (λ x. has_kind kind x && test x) earlier == most)) where
+  room : (earlier : List Fields) (r : Fields) → counted earlier ≡ earlier → IsClean earlier r → (has_kind kind r && test r) ≡ true
+      → (count_by (λ x. has_kind kind x && test x) earlier == most) ≡ false
+  room earlier r all c h =
+      let parts = and_parts (has_kind kind r) (test r) h in
+      sym (limit earlier r (same_name (text_at r 0) (word_of kind) parts.0) parts.1)
+      ∙ ap₂ (λ rs k. exceeds_limit rs r k) (sym all) (sym (word_named r kind parts.0)) ∙ c.room
 
--- records of a kind with a limit
-kind_room : (kind : Kind) (most : ℕ) → ((earlier : List Fields) (r : Fields)
-    → exceeds_limit earlier r (Some kind) ≡ (count_of_kind earlier r == most))
-    → (earlier : List Fields) (r : Fields) → counted earlier ≡ earlier → IsClean earlier r → (has_kind kind r && true) ≡ true
-    → (count_by (λ x. has_kind kind x && true) earlier == most) ≡ false
-kind_room kind most limit earlier r all c h =
-    let word = (and_parts (has_kind kind r) true h).0 in
-    let room : exceeds_limit earlier r (kind_of r) ≡ false = subst (λ rs. exceeds_limit rs r (kind_of r) ≡ false) all c.room in
-    let one_more : exceeds_limit earlier r (Some kind) ≡ false =
-    subst (λ k. exceeds_limit earlier r k ≡ false) (word_named r kind word) room in
-    let counts : (count_by (λ x. bytes_eq (text_at x 0) (text_at r 0)) earlier == most) ≡ false = sym (limit earlier r) ∙ one_more in
-    let named = subst (λ w. (count_by (λ (x : Fields). bytes_eq (text_at x 0) w) earlier == most) ≡ false)
-    (same_name (text_at r 0) (word_of kind) word) counts in
-    ap (λ (p : Fields → Bool). count_by p earlier == most) (λ i. λ x. and_true (has_kind kind x) i) ∙ named
+  few : {A : Type 0} (pick : Record → Option A) (by : A → Bool) → IsPicked kind pick by test → (rows : List Fields)
+      → IsFaultFree record_fault [] rows → count_by by (filter_map pick (map param_record rows)) ≤ most
+  few pick by picked rows free =
+      let in_rows = never_more (λ r. has_kind kind r && test r) most room [] rows refl (omega arith) free in
+      let same = count_picked kind pick by test picked [] rows free in omega (arith, in_rows, same)
 
 length-count : {A : Type 0} (xs : List A) → count_by (λ x. true) xs ≡ length xs
 length-count [] = refl
@@ -111,29 +109,11 @@ few_of_kind : {A : Type 0} (kind : Kind) (most : ℕ) (pick : Record → Option 
     → IsPicked kind pick (λ x. true) (λ r. true) → (rows : List Fields) → IsFaultFree record_fault [] rows
     → nat_le (length (filter_map pick (map param_record rows))) most ≡ true
 few_of_kind kind most pick limit picked rows free =
-    let few = never_more (λ r. has_kind kind r && true) most (kind_room kind most limit) [] rows refl (omega arith) free in
-    let same = count_picked kind pick (λ x. true) (λ r. true) picked [] rows free in
-    let all = length-count (filter_map pick (map param_record rows)) in
-    le-leb _ most (omega (arith, few, same, all))
-
--- records of a kind with a limit for each commodity
-commodity_room : (kind : Kind) (most : ℕ) (commodity : List ℕ)
-    → ((earlier : List Fields) (r : Fields) → exceeds_limit earlier r (Some kind) ≡ (count_of_commodity earlier r == most))
-    → (earlier : List Fields) (r : Fields) → counted earlier ≡ earlier → IsClean earlier r
-    → (has_kind kind r && bytes_eq (text_at r 1) commodity) ≡ true
-    → (count_by (λ x. has_kind kind x && bytes_eq (text_at x 1) commodity) earlier == most) ≡ false
-commodity_room kind most commodity limit earlier r all c h =
-    let parts = and_parts (has_kind kind r) (bytes_eq (text_at r 1) commodity) h in
-    let room : exceeds_limit earlier r (kind_of r) ≡ false = subst (λ rs. exceeds_limit rs r (kind_of r) ≡ false) all c.room in
-    let one_more : exceeds_limit earlier r (Some kind) ≡ false =
-    subst (λ k. exceeds_limit earlier r k ≡ false) (word_named r kind parts.0) room in
-    let counts : (count_by (λ x. bytes_eq (text_at x 0) (text_at r 0) && bytes_eq (text_at x 1) (text_at r 1)) earlier == most) ≡ false =
-    sym (limit earlier r) ∙ one_more in
-    let named = subst (λ w. (count_by (λ (x : Fields). bytes_eq (text_at x 0) w && bytes_eq (text_at x 1) (text_at r 1)) earlier == most)
-    ≡ false)
-    (same_name (text_at r 0) (word_of kind) parts.0) counts in
-    subst (λ w. (count_by (λ (x : Fields). has_kind kind x && bytes_eq (text_at x 1) w) earlier == most) ≡ false)
-    (same_name (text_at r 1) commodity parts.1) named
+    let counts = few kind most (λ x. true) (λ earlier r word passes.
+    limit earlier r ∙ ap (λ w. count_by (λ (x : Fields). bytes_eq (text_at x 0) w) earlier == most) word
+    ∙ ap (λ (p : Fields → Bool). count_by p earlier == most) (λ i. λ x. sym (and-true (has_kind kind x)) i))
+    pick (λ x. true) picked rows free in
+    le-leb _ most (omega (arith, counts, length-count (filter_map pick (map param_record rows))))
 
 all_true : {A : Type 0} (test : A → Bool) (xs : List A) → ((x : A) → test x ≡ true) → list_all test xs ≡ true
 all_true test [] each = refl
@@ -146,12 +126,10 @@ few_of_each : {A : Type 0} (kind : Kind) (most : ℕ) (pick : Record → Option 
     → at_most_each most commodity_of (filter_map pick (map param_record rows)) ≡ true
 few_of_each kind most pick commodity_of limit picked rows free =
     all_true _ (filter_map pick (map param_record rows)) (λ x.
-    let commodity = commodity_of x in
-    let few = never_more (λ r. has_kind kind r && bytes_eq (text_at r 1) commodity) most (commodity_room kind most commodity limit) [] rows
-    refl (omega arith) free in
-    let same = count_picked kind pick (λ y. bytes_eq (commodity_of y) commodity) (λ r. bytes_eq (text_at r 1) commodity)
-    (picked commodity) [] rows free in
-    le-leb _ most (omega (arith, few, same)))
+    let id = commodity_of x in
+    le-leb _ most (few kind most (λ r. bytes_eq (text_at r 1) id) (λ earlier r word passes.
+    limit earlier r ∙ ap₂ (λ v w. count_by (λ (x : Fields). bytes_eq (text_at x 0) v && bytes_eq (text_at x 1) w) earlier == most) word
+    (same_name (text_at r 1) id passes)) pick (λ y. bytes_eq (commodity_of y) id) (picked id) rows free))
 
 commodity_picked : IsPicked kind.Commodity as_commodity (λ x. true) (λ r. true)
 commodity_picked kind.Commodity r = refl
@@ -207,11 +185,6 @@ value_or : (has : Bool) (xs : List Contract) → (has ≡ false → All (λ x. x
 value_or true xs zero = refl
 value_or false xs zero = all_zero xs (zero refl)
 
-profile_kept : (rs : List Record)
-    → ((facts_of (profile_in rs)).options_have_value ≡ false → All (λ x. x.extras.option_value ≡ 0) (contracts_in rs))
-    → keeps_profile rs ≡ true
-profile_kept rs zero = value_or (facts_of (profile_in rs)).options_have_value (contracts_in rs) zero
-
 -- ---- all
 
 free_readable : (r : Fields) (rows : List Fields) → IsFaultFree record_fault [] (r ∷ rows)
@@ -237,5 +210,5 @@ pub params_readable : (bytes : List ℕ) (records : List Record) → params_of b
 unfolding params_of param_faults
 params_readable bytes records e =
     let parts = ok_parts (first_of (faults_in (records_of bytes))) (map param_record (records_of bytes)) records e in
-    let profile = profile_kept records (params_values bytes records e) in
+    let profile = value_or (facts_of (profile_in records)).options_have_value (contracts_in records) (params_values bytes records e) in
     subst (λ rs. keeps_profile rs ≡ true → is_readable rs ≡ true) parts.1 (rows_readable (records_of bytes) parts.0) profile

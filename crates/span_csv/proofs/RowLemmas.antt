@@ -130,58 +130,36 @@ none_more : (s : State) (bytes : List ℕ) → next_record default_config s [] [
 unfolding records_from
 none_more s bytes e = rw (add-one (length bytes), e) refl
 
-row_found : (s after : State) (bytes rest : List ℕ) (fields : Fields) (o : Option Read) → next_record default_config s [] [] bytes ≡ o
-    → NextIs o true fields after rest
-    → rows_from s (Some bytes) ≡ fields ∷ rows_from after (Some rest)
-row_found s after bytes rest fields None e next = cc
-row_found s after bytes rest fields (Some found) e next = rw (next.1, next.2, next.3) (first_left s bytes found e)
+-- the first record is the next one, and those after it are left; or there is none
+abbrev Leaves : Bool → List Fields → Fields → List Fields → Type 0
+Leaves found rows fields after = MatchBool found (rows ≡ fields ∷ after) (rows ≡ [])
 
-row_missing : (s after : State) (bytes rest : List ℕ) (fields : Fields) (o : Option Read)
-    → next_record default_config s [] [] bytes ≡ o → NextIs o false fields after rest
-    → rows_from s (Some bytes) ≡ []
-row_missing s after bytes rest fields None e next = none_more s bytes e
-row_missing s after bytes rest fields (Some found) e next = cc
+row_next : (found : Bool) (s after : State) (bytes rest : List ℕ) (fields : Fields) (o : Option Read)
+    → next_record default_config s [] [] bytes ≡ o → NextIs o found fields after rest
+    → Leaves found (rows_from s (Some bytes)) fields (rows_from after (Some rest))
+row_next true s after bytes rest fields None e next = cc
+row_next true s after bytes rest fields (Some found) e next = rw (next.1, next.2, next.3) (first_left s bytes found e)
+row_next false s after bytes rest fields None e next = none_more s bytes e
+row_next false s after bytes rest fields (Some found) e next = cc
 
-row_read : (s after : State) (bytes rest : Option (List ℕ)) (fields : Fields) → IsSome bytes
-    → ReadsNext default_config s bytes rest true fields after → rows_from s bytes ≡ fields ∷ rows_from after rest
-row_read s after None rest fields known r = absurd (false≢true known)
-row_read s after (Some bytes) None fields known r = absurd r
-row_read s after (Some bytes) (Some rest) fields known r = row_found s after bytes rest fields _ refl r
-
-row_ended : (s after : State) (bytes rest : Option (List ℕ)) (fields : Fields) → IsSome bytes
-    → ReadsNext default_config s bytes rest false fields after → rows_from s bytes ≡ []
-row_ended s after None rest fields known r = absurd (false≢true known)
-row_ended s after (Some bytes) None fields known r = absurd r
-row_ended s after (Some bytes) (Some rest) fields known r = row_missing s after bytes rest fields _ refl r
+row_read : (found : Bool) (s after : State) (bytes rest : Option (List ℕ)) (fields : Fields) → IsSome bytes
+    → ReadsNext default_config s bytes rest found fields after → Leaves found (rows_from s bytes) fields (rows_from after rest)
+row_read found s after None rest fields known r = absurd (false≢true known)
+row_read found s after (Some bytes) None fields known r = absurd r
+row_read found s after (Some bytes) (Some rest) fields known r = row_next found s after bytes rest fields _ refl r
 
 abbrev given : Bor (List ℕ) → Option (List ℕ)
 given s = Some s.now
 
--- a read of a record takes it from the records that are left
-pub rows_left-read : (a b : Reader (Bor (List ℕ))) (fields : Fields) → IsPlain a → ReadRecord given a b true fields
-    → rows_left a ≡ fields ∷ rows_left b
-rows_left-read a b fields plain read =
-    let next = rw plain.config at read.0 in
-    rw read.1 (row_read a.state b.state (source_of given a) (pending_of (given b.rdr) b) fields plain.known next)
-
--- a read that finds no record leaves none
-pub rows_left-end : (a b : Reader (Bor (List ℕ))) (fields : Fields) → IsPlain a → ReadRecord given a b false fields
-    → rows_left a ≡ []
-rows_left-end a b fields plain read =
-    let next = rw plain.config at read.0 in
-    row_ended a.state b.state (source_of given a) (pending_of (given b.rdr) b) fields plain.known next
-
--- a reader that has failed has no records left
-pub rows_left-failed : (a : Reader (Bor (List ℕ))) → has_failed a ≡ true → rows_left a ≡ []
-rows_left-failed a failed = rw failed refl
-
 -- what a read found is what was left
 pub rows_left-found : (a b : Reader (Bor (List ℕ))) (found : Bool) (fields : Fields) → IsPlain a → ReadRecord given a b found fields
-    → MatchBool found (rows_left a ≡ fields ∷ rows_left b) (rows_left a ≡ [])
-rows_left-found a b true fields plain read = rows_left-read a b fields plain read
-rows_left-found a b false fields plain read = rows_left-end a b fields plain read
+    → Leaves found (rows_left a) fields (rows_left b)
+rows_left-found a b found fields plain read =
+    let next = rw plain.config at read.0 in
+    rw read.1 (row_read found a.state b.state (source_of given a) (pending_of (given b.rdr) b) fields plain.known next)
 
+-- a reader that has failed has no records left
 pub rows_left-failed_read : (a b : Reader (Bor (List ℕ))) (found : Bool) (fields : Fields) → has_failed a ≡ true → found ≡ false
-    → MatchBool found (rows_left a ≡ fields ∷ rows_left b) (rows_left a ≡ [])
+    → Leaves found (rows_left a) fields (rows_left b)
 rows_left-failed_read a b true fields failed none = cc
-rows_left-failed_read a b false fields failed none = rows_left-failed a failed
+rows_left-failed_read a b false fields failed none = rw failed refl

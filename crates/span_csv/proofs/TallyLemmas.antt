@@ -4,8 +4,7 @@ use Rattle.std.proofs.Common.{true, false, if◌then◌else◌, List, [], ◌∷
 use Rattle.std.specs.Prelude.{◌==◌, ◌&&◌, codes, bytes_eq}
 use Rattle.std.specs.List.{count_by}
 use Rattle.std.proofs.lemmas.List.Sums.{sum_by_push, count_by-le-length}
-use Rattle.std.proofs.lemmas.Bool.{ne_eqb}
-use Rattle.std.proofs.lemmas.Bool.Decides.{nat_tests}
+use Rattle.std.proofs.lemmas.Bool.{eq-eqb, ne_eqb}
 use Rattle.span_tables.proofs.NameLemmas.{same_name}
 use Rattle.span_csv.specs.near.Checks.{AddsRecord, Counts, KeepsProfile, Tallies, count_for, count_in, count_word, count_words, limit_of}
 use Rattle.span_csv.specs.ParamFaults.{counted, exceeds_limit, is_formed, profile_of}
@@ -68,17 +67,9 @@ grown t u rs r first is counts g = record {
   inters = word_more _ _ (codes "INTER") rs r first is g.inters counts.inters;
 }
 
-same : (a b : ℕ) → a ≡ b → a ≡ b + 0
-same a b e = omega arith
-
 grows : (t u : Tally) (kind : Kind) (r : Fields) → AddsRecord kind r t u → Grows t u (word_of kind) r
 grows t u kind.Set r adds = search rules
-grows t u kind.Commodity r adds = search rules
-grows t u kind.Contract r adds = search rules
-grows t u kind.Tier r adds = search rules
-grows t u kind.Intra r adds = search rules
-grows t u kind.Spot r adds = search rules
-grows t u kind.Inter r adds = search rules
+grows t u _ r adds = search rules
 
 -- the profile is that which the first record gives
 profile_more : (p : ℕ) (rs : List Fields) (r : Fields) → p ≡ profile_of rs
@@ -123,12 +114,6 @@ module _ (t kept : Tally) (rs : List Fields) (r : Fields) (n : ℕ) (len : lengt
 
 -- ---- the limit
 
-equal_true : (a b : ℕ) → a ≡ b → (a == b) ≡ true
-equal_true a b e = grind (arith, nat_tests)
-
-unequal_false : (a b : ℕ) → (a ≡ b → ⊥) → (a == b) ≡ false
-unequal_false a b e = grind (arith, nat_tests)
-
 count_exceeds : (t : Tally) (kind : Kind) (rs : List Fields) (r : Fields) → kind_of r ≡ Some kind → Counts t rs
     → exceeds_limit rs r (kind_of r) ≡ (count_for t kind (text_at r 1) == limit_of kind)
 count_exceeds t kind.Set rs r is tallies = ap (exceeds_limit rs r) is
@@ -152,18 +137,12 @@ few_counted t kind.Inter rs cc counts = rw counts.inters (count_by-le-length _ r
 pub count_small : (t : Tally) (kind : Kind) (rs : List Fields) (cc : List ℕ) → Counts t (counted rs) → count_for t kind cc ≤ length rs
 count_small t kind rs cc counts = omega (arith, few_counted t kind (counted rs) cc counts, counted_few rs)
 
--- where a kind has as many records as there may be, one more exceeds the limit
-pub count_full : (t : Tally) (kind : Kind) (rs : List Fields) (r : Fields) (count limit : ℕ) → kind_of r ≡ Some kind
-    → Counts t rs
-    → count ≡ count_for t kind (text_at r 1) → limit ≡ limit_of kind → count ≡ limit → exceeds_limit rs r (kind_of r) ≡ true
-count_full t kind rs r count limit is tallies counts limits e =
-    count_exceeds t kind rs r is tallies ∙ equal_true (count_for t kind (text_at r 1)) (limit_of kind) (sym counts ∙ e ∙ limits)
+module _ (t : Tally) (kind : Kind) (rs : List Fields) (r : Fields) (count limit : ℕ) (is : kind_of r ≡ Some kind) (tallies : Counts t rs)
+    (counts : count ≡ count_for t kind (text_at r 1)) (limits : limit ≡ limit_of kind) where
+  -- where a kind has as many records as there may be, one more exceeds the limit
+  pub count_full : count ≡ limit → exceeds_limit rs r (kind_of r) ≡ true
+  count_full e = count_exceeds t kind rs r is tallies ∙ eq-eqb _ _ (sym counts ∙ e ∙ limits)
 
--- where a kind has fewer records than there may be, one more is within the limit
-pub count_within : (t : Tally) (kind : Kind) (rs : List Fields) (r : Fields) (count limit : ℕ) → kind_of r ≡ Some kind
-    → Counts t rs
-    → count ≡ count_for t kind (text_at r 1) → limit ≡ limit_of kind → (count ≡ limit → ⊥)
-    → exceeds_limit rs r (kind_of r) ≡ false
-count_within t kind rs r count limit is tallies counts limits e =
-    count_exceeds t kind rs r is tallies ∙ unequal_false (count_for t kind (text_at r 1)) (limit_of kind)
-    (λ h. e (counts ∙ h ∙ sym limits))
+  -- where a kind has fewer records than there may be, one more is within the limit
+  pub count_within : (count ≡ limit → ⊥) → exceeds_limit rs r (kind_of r) ≡ false
+  count_within e = count_exceeds t kind rs r is tallies ∙ ne_eqb _ _ (λ h. e (counts ∙ h ∙ sym limits))

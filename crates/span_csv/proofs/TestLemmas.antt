@@ -1,15 +1,15 @@
 -- Tests of all fields of a record, one field after another.
-use Rattle.std.proofs.Common.{◌≡◌, ◌<◌, ◌≤◌, ◌+◌, ◌-◌, ◌*◌, ◌&&◌, ◌∙◌, sym, ap, ap₂, arith, ℕ, suc, Bool, true, false}
+use Rattle.std.proofs.Common.{◌≡◌, ◌<◌, ◌≤◌, ◌+◌, ◌&&◌, ◌∙◌, sym, ap, ap₂, arith, ℕ, Bool, true}
 use Rattle.std.proofs.Common.{List, [], ◌∷◌, ◌++◌, length, length-append, get_or, drop, refl, take}
 use Rattle.std.specs.List.{list_all, repeat}
 use Rattle.std.proofs.lemmas.List.{at_drop_more, at_drop_all, drop-drop, get_or-drop, length-drop}
 use Rattle.span_tables.specs.declared.limits.TheConstants.{SCENARIOS}
 use Rattle.span_tables.specs.declared.records.ProductKind.{ProductKind}
 use Rattle.span_csv.specs.Records.{Fields, all_have, an_array_value, array_place, contract_back, contract_forms, contract_front, text_at}
-use Rattle.span_csv.specs.declared.contents.TheConstants.{EXTRAS}
+use Rattle.span_csv.specs.declared.rows.TheConstants.{EXTRAS}
 use Rattle.span_csv.specs.declared.grammar.FieldForm.{FieldForm}
 use Rattle.span_csv.specs.declared.grammar.FieldForm.TheVariants as form
-use Rattle.span_csv.proofs.FormLemmas.{all_have-append, all_have-repeat, length-repeat}
+use Rattle.span_csv.proofs.FormLemmas.{all_have-append, all_have-repeat}
 
 module _ (test : FieldForm → List ℕ → Bool) (forms : List FieldForm) (fields : Fields) (place : ℕ)
     (room : place + length forms ≤ length fields) where
@@ -28,82 +28,37 @@ module _ (test : FieldForm → List ℕ → Bool) (forms : List FieldForm) (fiel
       ∙ ap (λ t. test (get_or forms i form.Name) t && all_have test (drop (i + 1) forms) (drop (i + 1) texts))
       (get_or-drop place fields i [])
 
-  -- a field that passes leaves the answer to the others
-  pub passed : (i : ℕ) (text : List ℕ) (b whole : Bool) → i < length forms → text ≡ text_at fields (place + i)
-      → b ≡ test (get_or forms i form.Name) text → b ≡ true → all_have test (drop i forms) (drop i texts) ≡ whole
-      → all_have test (drop (i + 1) forms) (drop (i + 1) texts) ≡ whole
-  passed i text b whole inside is answer passes so_far =
-      let here : test (get_or forms i form.Name) (text_at fields (place + i)) ≡ true = rw (← is) (sym answer ∙ passes) in
-      sym (rw here at (step i inside)) ∙ so_far
-
-  -- a field that fails is the answer
-  pub failed : (i : ℕ) (text : List ℕ) (b whole : Bool) → i < length forms → text ≡ text_at fields (place + i)
-      → b ≡ test (get_or forms i form.Name) text → b ≡ false → all_have test (drop i forms) (drop i texts) ≡ whole → false ≡ whole
-  failed i text b whole inside is answer fails so_far =
-      let here : test (get_or forms i form.Name) (text_at fields (place + i)) ≡ false = rw (← is) (sym answer ∙ fails) in
-      sym (rw here at (step i inside)) ∙ so_far
+  -- a field that passes leaves the answer to the others, and one that fails is the answer
+  pub tested : (i : ℕ) (text : List ℕ) (b whole : Bool) → i < length forms → text ≡ text_at fields (place + i)
+      → b ≡ test (get_or forms i form.Name) text → all_have test (drop i forms) (drop i texts) ≡ whole
+      → (b && all_have test (drop (i + 1) forms) (drop (i + 1) texts)) ≡ whole
+  tested i text b whole inside is answer so_far = rw (answer, is) (sym (step i inside) ∙ so_far)
 
   -- none is left to test
   pub none_left : (i : ℕ) → length forms ≤ i → all_have test (drop i forms) (drop i texts) ≡ true
   none_left i past = at_drop_all (λ fs. all_have test fs (drop i texts)) forms i past
 
--- ---- forms that stand several times
-
-module _ (test : FieldForm → List ℕ → Bool) (forms : List FieldForm) (fields : Fields) (place times turn : ℕ)
-    (more : turn < times) where
-  -- how often they stand yet
-  abbrev left : ℕ
-  left = times - (turn + 1)
-
-  once_more : times - turn ≡ suc left
-  once_more = omega arith
-
-  pub turn_length : length (repeat (times - turn) forms) ≡ length forms + length (repeat left forms)
-  turn_length = ap (λ n. length (repeat n forms)) once_more ∙ length-append forms (repeat left forms)
-
-  turn_all : all_have test (repeat (times - turn) forms) (drop place fields)
-      ≡ (all_have test forms (drop place fields) && all_have test (repeat left forms) (drop (place + length forms) fields))
-  turn_all =
-      ap (λ n. all_have test (repeat n forms) (drop place fields)) once_more
-      ∙ all_have-append test forms (repeat left forms) (drop place fields)
-      ∙ ap (λ ts. all_have test forms (drop place fields) && all_have test (repeat left forms) ts)
-      (drop-drop (length forms) place fields)
-
-  pub turn_passed : (b whole : Bool) → b ≡ all_have test forms (drop place fields) → b ≡ true
-      → all_have test (repeat (times - turn) forms) (drop place fields) ≡ whole
-      → all_have test (repeat left forms) (drop (place + length forms) fields) ≡ whole
-  turn_passed b whole answer passes so_far =
-      let here : all_have test forms (drop place fields) ≡ true = sym answer ∙ passes in
-      sym (rw here at turn_all) ∙ so_far
-
-  pub turn_failed : (b whole : Bool) → b ≡ all_have test forms (drop place fields) → b ≡ false
-      → all_have test (repeat (times - turn) forms) (drop place fields) ≡ whole → false ≡ whole
-  turn_failed b whole answer fails so_far =
-      let here : all_have test forms (drop place fields) ≡ false = sym answer ∙ fails in
-      sym (rw here at turn_all) ∙ so_far
-
 -- ---- all fields of a layout
 
-layout_all : (test : FieldForm → List ℕ → Bool) (front middle back : List FieldForm) (times : ℕ) (fields : Fields)
-    → all_have test (front ++ repeat times middle ++ back) (drop 1 fields)
-    ≡ ((all_have test front (drop 1 fields) && all_have test (repeat times middle) (drop (1 + length front) fields))
-    && all_have test back (drop (1 + length front + times * length middle) fields))
-layout_all test front middle back times fields =
-    let count : 1 + length (front ++ repeat times middle) ≡ 1 + length front + times * length middle =
-    omega (arith, length-append front (repeat times middle), length-repeat times middle) in
-    all_have-append test (front ++ repeat times middle) back (drop 1 fields)
+layout_all : (test : FieldForm → List ℕ → Bool) (front middle back : List FieldForm) (fields : Fields)
+    → all_have test (front ++ middle ++ back) (drop 1 fields)
+    ≡ ((all_have test front (drop 1 fields) && all_have test middle (drop (1 + length front) fields))
+    && all_have test back (drop (1 + length front + length middle) fields))
+layout_all test front middle back fields =
+    let count : 1 + length (front ++ middle) ≡ 1 + length front + length middle = omega (arith, length-append front middle) in
+    all_have-append test (front ++ middle) back (drop 1 fields)
     ∙ ap₂ (λ a b. a && b)
-    (all_have-append test front (repeat times middle) (drop 1 fields)
-    ∙ ap (λ ts. all_have test front (drop 1 fields) && all_have test (repeat times middle) ts) (drop-drop (length front) 1 fields))
-    (ap (all_have test back) (drop-drop (length (front ++ repeat times middle)) 1 fields ∙ ap (λ n. drop n fields) count))
+    (all_have-append test front middle (drop 1 fields)
+    ∙ ap (λ ts. all_have test front (drop 1 fields) && all_have test middle ts) (drop-drop (length front) 1 fields))
+    (ap (all_have test back) (drop-drop (length (front ++ middle)) 1 fields ∙ ap (λ n. drop n fields) count))
 
-pub layout_told : (test : FieldForm → List ℕ → Bool) (front middle back : List FieldForm) (times : ℕ) (fields : Fields)
-    (forms : List FieldForm) → (front ++ repeat times middle ++ back) ≡ forms → (a b c : Bool)
-    → a ≡ all_have test front (drop 1 fields) → b ≡ all_have test (repeat times middle) (drop (1 + length front) fields)
-    → c ≡ all_have test back (drop (1 + length front + times * length middle) fields)
+pub layout_told : (test : FieldForm → List ℕ → Bool) (front middle back : List FieldForm) (fields : Fields)
+    (forms : List FieldForm) → (front ++ middle ++ back) ≡ forms → (a b c : Bool)
+    → a ≡ all_have test front (drop 1 fields) → b ≡ all_have test middle (drop (1 + length front) fields)
+    → c ≡ all_have test back (drop (1 + length front + length middle) fields)
     → ((a && b) && c) ≡ all_have test forms (drop 1 fields)
-layout_told test front middle back times fields forms is a b c in_front in_middle in_back =
-    rw (in_front, in_middle, in_back, ← is) (sym (layout_all test front middle back times fields))
+layout_told test front middle back fields forms is a b c in_front in_middle in_back =
+    rw (in_front, in_middle, in_back, ← is) (sym (layout_all test front middle back fields))
 
 -- of a CONTRACT, whose risk array is tested value by value
 pub contract_told : (test : FieldForm → List ℕ → Bool) (profile : ℕ) (product : ProductKind) (fields : Fields) (a b c : Bool)
@@ -111,5 +66,5 @@ pub contract_told : (test : FieldForm → List ℕ → Bool) (profile : ℕ) (pr
     → c ≡ all_have test (contract_back profile product) (drop EXTRAS fields)
     → ((a && b) && c) ≡ all_have test (contract_forms profile product) (drop 1 fields)
 contract_told test profile product fields a b c in_front in_array in_back =
-    layout_told test contract_front (an_array_value ∷ []) (contract_back profile product) SCENARIOS fields _ refl a b c in_front
+    layout_told test contract_front (repeat SCENARIOS (an_array_value ∷ [])) (contract_back profile product) fields _ refl a b c in_front
     (in_array ∙ sym (all_have-repeat test an_array_value SCENARIOS (drop array_place fields))) in_back

@@ -2,10 +2,10 @@
 use Rattle.std.proofs.Common.{◌≡◌, ◌∙◌, refl, sym, ap, subst, inl, inr, arith, ℕ, zero, suc, ◌+◌, ◌<◌, ◌≤◌, Bool, true, false, not, cond}
 use Rattle.std.proofs.Common.{◌&&◌, ◌||◌, ◌==◌, List, [], ◌∷◌, ◌++◌, length, get_or, map, append_assoc, drop, set, take}
 use Rattle.std.specs.Prelude.{All, bytes_eq, filter, nat_abs}
-use Rattle.std.proofs.lemmas.Bool.{cases_Bool, eqb-true}
-use Rattle.std.proofs.Math.Seq.{drop-append_seam, drop-cons, take-append_seam}
+use Rattle.std.proofs.lemmas.Bool.{cases_Bool, eqb-true, or_right}
+use Rattle.std.proofs.Math.Seq.{drop-append_seam, take-append_seam}
 use Rattle.std.proofs.lemmas.List.{append-nil, drop-set-lt, flat_map_more, length-append, map-append, take-append-drop}
-use Rattle.std.proofs.lemmas.List.{take_more, take_more_set}
+use Rattle.std.proofs.lemmas.List.{drop_more, take_more, take_more_set}
 use Rattle.std.proofs.lemmas.Grind.{flat_map-append}
 use Rattle.std.proofs.lemmas.List.Elements.{All-append, All-cons, All-drop, All-head, All-tail, All-take}
 use Rattle.std.proofs.lemmas.List.Folds.{list_any-append}
@@ -13,7 +13,7 @@ use Rattle.std.proofs.lemmas.List.Sums.{passes_at_first}
 use Rattle.std.proofs.lemmas.Slice.Eq.{bytes_eq-Decides}
 use Rattle.span_tables.specs.Names.{distinct, is_among}
 use Rattle.span_tables.specs.Net.{accounts_of}
-use Rattle.span_tables.specs.near.Positions.{named_position, named_positions, AreNumbered}
+use Rattle.span_tables.specs.near.Positions.{named_position, named_positions}
 use Rattle.span_tables.specs.declared.limits.TheConstants.{MAX_ACCOUNTS, MAX_QUANTITY}
 use Rattle.span_tables.specs.declared.records.NumberedPosition.{NumberedPosition}
 use Rattle.span_tables.specs.declared.records.PositionRecord.{PositionRecord}
@@ -115,26 +115,12 @@ too_many whole ps p few over =
     let size = h.1 in
     omega (arith, count, long, most, size)
 
--- records that stand for those of all pieces by their accounts are numbered by them
-pub together_numbered : (pieces : List (List PositionRecord)) (accounts : List (List ℕ)) (numbered : List NumberedPosition)
-    → AreTogether accounts pieces → StandFor accounts (records_together pieces) numbered → AreNumbered accounts numbered
-together_numbered pieces accounts numbered together stand = record {
-  accounts_are = together.accounts_are ∙ ap accounts_of (sym stand.named);
-  few = let few = together.few in omega (arith, few);
-  known = stand.of.known;
-  small = stand.of.small;
-}
-
-or_last : (a b : Bool) → b ≡ true → (a || b) ≡ true
-or_last true b e = refl
-or_last false b e = e
-
 any_at : (ps : List PositionRecord) (k : ℕ) (d : PositionRecord) → k < length ps
     → is_among (map (λ (p : PositionRecord). p.account) ps) (get_or ps k d).account ≡ true
 any_at [] k d lt = absurd (omega (arith, lt))
 any_at (p ∷ ps) zero d lt = rw ((bytes_eq-Decides p.account p.account).1 refl) refl
 any_at (p ∷ ps) (suc k) d lt =
-    or_last (bytes_eq (get_or ps k d).account p.account) (is_among (map (λ (q : PositionRecord). q.account) ps) (get_or ps k d).account)
+    or_right (bytes_eq (get_or ps k d).account p.account) (is_among (map (λ (q : PositionRecord). q.account) ps) (get_or ps k d).account)
     (any_at ps k d (omega (arith, lt)))
 
 -- the accounts of all pieces have that of each of their records
@@ -258,11 +244,6 @@ module _ (accounts : List (List ℕ)) (pieces : List (List PositionRecord)) (n :
 
 -- ---- turns of the loops
 
-drop_is : {X : Type 0} (xs : List X) (i : ℕ) (d : X) → i < length xs → drop i xs ≡ get_or xs i d ∷ drop (i + 1) xs
-drop_is xs i d lt =
-    let e : suc i ≡ i + 1 = omega arith in
-    subst (λ n. drop i xs ≡ get_or xs i d ∷ drop n xs) e (drop-cons xs i d lt)
-
 -- one more element is changed
 pub changed_more : {X : Type 0} (f : X → X) (xs : List X) (i : ℕ) (d : X) → i < length xs
     → take (i + 1) (set xs i (f (get_or xs i d))) ++ map f (drop (i + 1) (set xs i (f (get_or xs i d)))) ≡ take i xs ++ map f (drop i xs)
@@ -270,14 +251,14 @@ changed_more f xs i d lt =
     ap (λ front. front ++ map f (drop (i + 1) (set xs i (f (get_or xs i d))))) (take_more_set xs i (f (get_or xs i d)) lt)
     ∙ append_assoc (take i xs) (f (get_or xs i d) ∷ []) (map f (drop (i + 1) (set xs i (f (get_or xs i d)))))
     ∙ ap (λ back. take i xs ++ f (get_or xs i d) ∷ map f back) (drop-set-lt (i + 1) xs i (f (get_or xs i d)) (omega arith))
-    ∙ ap (λ back. take i xs ++ map f back) (sym (drop_is xs i d lt))
+    ∙ ap (λ back. take i xs ++ map f back) (sym (drop_more xs i d lt))
 
 -- and those behind it are as before
 pub left_behind : {X : Type 0} (P : X → Type 0) (xs : List X) (i : ℕ) (y d : X) → i < length xs → All P (drop i xs)
     → All P (drop (i + 1) (set xs i y))
 left_behind P xs i y d lt all =
     subst (All P) (sym (drop-set-lt (i + 1) xs i y (omega arith)))
-    (All-tail P (get_or xs i d) (drop (i + 1) xs) (subst (All P) (drop_is xs i d lt) all))
+    (All-tail P (get_or xs i d) (drop (i + 1) xs) (subst (All P) (drop_more xs i d lt) all))
 
 module _ (pieces : List (List PositionRecord)) (i : ℕ) (piece : List PositionRecord) (lt : i < length pieces)
     (is : piece ≡ get_or pieces i piece) where

@@ -1,10 +1,12 @@
 -- The faults of all records of a file, told one record after another.
 use Rattle.std.proofs.Common.{◌≡◌, ◌∙◌, refl, sym, ap, subst, arith, ℕ, ◌+◌, ◌<◌, List, [], ◌∷◌, ◌++◌, length, Option, Some, None}
+use Rattle.std.proofs.Common.{Bool, Result, Ok, Err}
 use Rattle.std.specs.Prelude.{option_map}
 use Rattle.std.specs.Option.{option_to_list}
 use Rattle.std.proofs.lemmas.List.{append_assoc, append-nil, length-append}
 use Rattle.span_tables.specs.Faults.{all_faults, faults_after}
 use Rattle.span_csv.specs.Records.{Fields}
+use Rattle.span_csv.specs.near.Telling.{Judges, Tells}
 
 -- So many records were read, of which these are the faults, and something is kept of them.
 pub record IsTold {F : Type 0} (fault_of : List Fields → Fields → Option (ℕ → F)) (Kept : List Fields → Type 0) (all : List Fields)
@@ -25,7 +27,7 @@ module _ {F : Type 0} {fault_of : List Fields → Fields → Option (ℕ → F)}
       omega (arith, long, whole, s.count)
 
   -- one more record, which has this fault or none
-  told_next : (Then : List Fields → Type 0) (r : Fields) (rest : List Fields) (own : Option F) → before ≡ r ∷ rest
+  pub told_next : (Then : List Fields → Type 0) (r : Fields) (rest : List Fields) (own : Option F) → before ≡ r ∷ rest
       → option_map (λ f. f (length s.earlier + 1)) (fault_of s.earlier r) ≡ own → Then (s.earlier ++ r ∷ [])
       → IsTold fault_of Then all (faults ++ option_to_list own) (read + 1) rest
   told_next Then r rest own is has kept = record {
@@ -40,26 +42,25 @@ module _ {F : Type 0} {fault_of : List Fields → Fields → Option (ℕ → F)}
         ∙ s.told;
   }
 
-  pub told_free : (Then : List Fields → Type 0) (r : Fields) (rest : List Fields) → before ≡ r ∷ rest
-      → fault_of s.earlier r ≡ None → Then (s.earlier ++ r ∷ []) → IsTold fault_of Then all faults (read + 1) rest
-  told_free Then r rest is none kept =
-      subst (λ fs. IsTold fault_of Then all fs (read + 1) rest) (append-nil faults)
-      (told_next Then r rest None is (ap (option_map (λ f. f (length s.earlier + 1))) none) kept)
-
-  pub told_fault : (Then : List Fields → Type 0) (r : Fields) (rest : List Fields) (e : F) → before ≡ r ∷ rest
-      → option_map (λ f. f (length s.earlier + 1)) (fault_of s.earlier r) ≡ Some e → Then (s.earlier ++ r ∷ [])
-      → IsTold fault_of Then all (faults ++ e ∷ []) (read + 1) rest
-  told_fault Then r rest e is has kept = told_next Then r rest (Some e) is has kept
+  -- one more record, for which this is answered
+  pub told_one : {X : Type 0} (is_memory : F → Bool) (Then : List Fields → Type 0) (r : Fields) (rest : List Fields) (answer : Result X F)
+      (new : List F) → before ≡ r ∷ rest → Judges is_memory fault_of Then s.earlier r answer → Tells is_memory answer faults new
+      → IsTold fault_of Then all new (read + 1) rest
+  told_one is_memory Then r rest (Ok _) new is judged tells =
+      subst (λ fs. IsTold fault_of Then all fs (read + 1) rest) (append-nil faults ∙ sym tells)
+      (told_next Then r rest None is (ap (option_map (λ f. f (length s.earlier + 1))) judged.0) judged.1)
+  told_one is_memory Then r rest (Err e) new is judged tells =
+      let found = rw tells.0 at judged in
+      subst (λ fs. IsTold fault_of Then all fs (read + 1) rest) (sym tells.1) (told_next Then r rest (Some e) is found.0 found.1)
 
   -- where no record is left, all faults are told
   pub told_all : before ≡ [] → faults ≡ all_faults fault_of all
   told_all end =
       sym (append-nil faults) ∙ ap (λ zs. faults ++ faults_after fault_of s.earlier zs) (sym end) ∙ s.told
 
-  -- and as many records were read as there are
-  pub told_count : before ≡ [] → length all ≡ read
-  told_count end =
-      ap length (sym s.whole) ∙ ap (λ zs. length (s.earlier ++ zs)) end ∙ ap length (append-nil s.earlier) ∙ s.count
+  -- and all of them were read
+  pub told_whole : before ≡ [] → all ≡ s.earlier
+  told_whole end = sym s.whole ∙ ap (λ zs. s.earlier ++ zs) end ∙ append-nil s.earlier
 
 -- before the first record no fault is told
 pub told_start : {F : Type 0} (fault_of : List Fields → Fields → Option (ℕ → F)) (Kept : List Fields → Type 0) (all : List Fields)

@@ -8,7 +8,7 @@ use Rattle.std.specs.List.{list_all}
 use Rattle.std.specs.Prelude.{unwrap_or}
 use Rattle.span_money.specs.Numbers.{whole_number}
 use Rattle.span_tables.specs.declared.limits.TheConstants.{SCENARIOS}
-use Rattle.span_csv.specs.declared.contents.TheConstants.{EXTRAS, FIRST_VALUE}
+use Rattle.span_csv.specs.declared.rows.TheConstants.{EXTRAS, FIRST_VALUE}
 use Rattle.span_csv.specs.near.Grammar.{passes}
 use Rattle.span_csv.specs.Records.{Fields, an_array_value, is_in_range, text_at, whole_at}
 use Rattle.span_csv.specs.declared.grammar.FieldTest.TheVariants as field_test

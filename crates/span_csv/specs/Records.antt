@@ -65,20 +65,14 @@ has_word_form form.Currency text = (length text == 3) && list_all is_ascii_upper
 has_word_form form.Method text = is_word (codes "SUM") text || is_word (codes "MAX") text
 has_word_form form.Product text = is_word (codes "F") text || is_word (codes "C") text || is_word (codes "P") text
 has_word_form form.Side text = is_word (codes "A") text || is_word (codes "B") text
-has_word_form (form.Whole low high) text = true
-has_word_form (form.Decimal low high) text = true
-has_word_form form.Month text = true
+has_word_form _ text = true
 
 -- a field that is a number has its form
 abbrev pub has_number_form : FieldForm → List ℕ → Bool
 has_number_form (form.Whole low high) text = is_some (whole_number text)
 has_number_form (form.Decimal low high) text = is_some (decimal_number text)
 has_number_form form.Month text = is_some (month_number text)
-has_number_form form.Name text = true
-has_number_form form.Currency text = true
-has_number_form form.Method text = true
-has_number_form form.Product text = true
-has_number_form form.Side text = true
+has_number_form _ text = true
 
 -- the number is one, from the lowest to the highest
 abbrev pub is_within : ℤ → ℤ → Option ℤ → Bool
@@ -90,11 +84,7 @@ abbrev pub is_in_range : FieldForm → List ℕ → Bool
 is_in_range (form.Whole low high) text = is_within low high (whole_number text)
 is_in_range (form.Decimal low high) text = is_within low high (decimal_number text)
 is_in_range form.Month text = option_map_or (λ z. is_month (positive_part z)) (month_number text) false
-is_in_range form.Name text = true
-is_in_range form.Currency text = true
-is_in_range form.Method text = true
-is_in_range form.Product text = true
-is_in_range form.Side text = true
+is_in_range _ text = true
 
 -- ---- layouts
 

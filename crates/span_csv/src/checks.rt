@@ -7,7 +7,8 @@ ghost use Rattle.span_csv.specs.ParamFaults.{is_set};
 ghost use Rattle.span_csv.specs.Records.{kind_of};
 
 use crate::faults::ParamFault;
-use crate::grammar::{FieldTest, Kind, fits, kind_named, text_at};
+use crate::grammar::{FieldTest, Kind, fits, kind_named};
+use crate::rows::text_at;
 use csv::ByteRecord;
 use span_tables::limits::SCENARIOS;
 

@@ -5,7 +5,7 @@ ghost use Rattle.span_csv.specs.near.Grammar.{array_values, FitsKind, HasValues,
 ghost use Rattle.span_csv.specs.Records.{commodity_record, contract_record, count_at, extras_in, inter_leg};
 ghost use Rattle.span_csv.specs.Records.{inter_record, intra_leg, intra_record, legs_of, ratio_at, record_of_kind, set_record};
 ghost use Rattle.span_csv.specs.Records.{spot_record, text_at, tier_record};
-ghost use Rattle.span_csv.specs.declared.contents.TheConstants.{EXTRAS};
+ghost use Rattle.span_csv.specs.declared.rows.TheConstants.{EXTRAS};
 ghost use Rattle.span_csv.specs.declared.grammar.Kind.TheVariants as kind;
 ghost use Rattle.span_tables.specs.Names.{is_name};
 
@@ -14,6 +14,7 @@ use crate::fields::{
     scale_at, side_at,
 };
 use crate::grammar::Kind;
+use crate::rows::EXTRAS;
 use arrayvec::ArrayVec;
 use csv::ByteRecord;
 use span_tables::limits::SCENARIOS;
@@ -21,12 +22,6 @@ use span_tables::records::{
     Commodity, Contract, ContractExtras, InterLeg, InterRecord, IntraLeg, IntraRecord, Record,
     SetRecord, Spot, Tier,
 };
-
-/// The place of the first value of a CONTRACT's risk array.
-pub(crate) const FIRST_VALUE: usize = 7;
-
-/// The place of what a profile adds, behind the risk array.
-pub(crate) const EXTRAS: usize = FIRST_VALUE + SCENARIOS;
 
 fn set_record(row: &ByteRecord) -> SetRecord
     requires { FitsKind kind.Set (fields_of row.now) }

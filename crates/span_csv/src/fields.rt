@@ -5,7 +5,7 @@ ghost use Rattle.span_csv.specs.Records.{count_at, decimal_at, method_at, produc
 ghost use Rattle.span_money.specs.Numbers.{positive_part};
 ghost use Rattle.span_tables.specs.Names.{is_name};
 
-use crate::grammar::text_at;
+use crate::rows::text_at;
 use csv::ByteRecord;
 use span_money::amounts::{Delta, Ratio, Scale};
 use span_money::texts::{parse_decimal, parse_whole};

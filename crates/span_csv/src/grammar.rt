@@ -1,17 +1,17 @@
 //! The kinds of records of a parameter file, and the forms of their fields.
 ghost use Rattle.std.specs.Char.{is_ascii_uppercase};
 ghost use Rattle.std.specs.List.{list_all, repeat};
-ghost use Rattle.std.specs.Prelude.{◌≡◌, ◌≤◌, ◌<◌, ◌&&◌, ◌++◌, ◌==◌, ◌+◌, ◌-◌, ◌*◌, ◌^◌, IfSome, Some, drop, length, take, true};
+ghost use Rattle.std.specs.Prelude.{◌≡◌, ◌≤◌, ◌<◌, ◌&&◌, ◌++◌, ◌==◌, ◌+◌, ◌-◌, ◌^◌, [], IfSome, Some, drop, length};
+ghost use Rattle.std.specs.Prelude.{replicate, slice_index_or, take, true};
 ghost use Rattle.csv.specs.Records.{fields_of};
 ghost use Rattle.span_csv.specs.near.Grammar.{array_values, HasValues, passes};
 ghost use Rattle.span_csv.specs.Records.{all_have, contract_back, contract_forms, forms_of, has_number_form, has_word_form};
-ghost use Rattle.span_csv.specs.Records.{an_array_value, array_place, is_in_range, is_within, kind_named, product_at, text_at, with_legs};
-ghost use Rattle.span_csv.specs.declared.contents.TheConstants.{EXTRAS};
+ghost use Rattle.span_csv.specs.Records.{an_array_value, array_place, is_in_range, is_within, kind_named, product_at, with_legs};
+ghost use Rattle.span_csv.specs.declared.rows.TheConstants.{EXTRAS};
 ghost use Rattle.span_csv.specs.declared.grammar.FieldTest.TheVariants as field_test;
 
-use crate::contents::{EXTRAS, FIRST_VALUE};
 use crate::fields::product_at;
-use crate::rows::field;
+use crate::rows::{EXTRAS, FIRST_VALUE, field, text_at};
 use csv::ByteRecord;
 use span_money::texts::{is_month, parse_decimal, parse_month, parse_whole};
 use span_tables::limits::{
@@ -114,34 +114,31 @@ static TIER_FIELDS: [FieldForm; 4] = [
 
 static INTRA_FRONT: [FieldForm; 3] = [FieldForm::Name, PRIORITY, RATE];
 
-static INTRA_LEG: [FieldForm; 3] = [TIER_NUMBER, FieldForm::Side, RATIO];
+static INTRA_LEGS: [[FieldForm; 3]; 4] = [[TIER_NUMBER, FieldForm::Side, RATIO]; 4];
 
 static SPOT_FIELDS: [FieldForm; 4] = [FieldForm::Name, FieldForm::Month, RATE, RATE];
 
 static INTER_FRONT: [FieldForm; 2] = [PRIORITY, BASIS_POINTS];
 
-static INTER_LEG: [FieldForm; 3] = [FieldForm::Name, FieldForm::Side, RATIO];
+static INTER_LEGS: [[FieldForm; 3]; 4] = [[FieldForm::Name, FieldForm::Side, RATIO]; 4];
 
-/// The forms of a record's fields behind the first: those in front, a part that stands so many times, and those at the
-/// back.
+/// The forms of a record's fields behind the first, in three parts.
 #[derive(Drop)]
 pub(crate) struct Layout {
     front: &'static [FieldForm],
     middle: &'static [FieldForm],
-    times: usize,
     back: &'static [FieldForm],
 }
 
 impl Model for Layout {
-    ghost use Rattle.std.specs.List.{repeat};
-    ghost use Rattle.std.specs.Prelude.{List, length, ◌++◌, ◌+◌, ◌*◌, ◌<◌, ◌^◌};
+    ghost use Rattle.std.specs.Prelude.{List, length, ◌++◌, ◌+◌, ◌<◌, ◌^◌};
     ghost use Rattle.span_csv.specs.declared.grammar.FieldForm.{FieldForm};
 
     ghost Value = { List FieldForm };
 
-    ghost view = { λ l. l.front.now ++ repeat l.times l.middle.now ++ l.back.now };
+    ghost view = { λ l. l.front.now ++ l.middle.now ++ l.back.now };
 
-    ghost invariant = { λ l. length l.front.now + l.times * length l.middle.now + length l.back.now < 2 ^ 32 };
+    ghost invariant = { λ l. length l.front.now + length l.middle.now + length l.back.now < 2 ^ 32 };
 }
 
 /// The kind that a word names.
@@ -167,15 +164,20 @@ pub(crate) fn kind_named(word: &[u8]) -> Option<Kind>
     }
 }
 
-// A layout of the forms in front and a leg's forms that stand `times` times.
-fn with_times(front: &'static [FieldForm], leg: &'static [FieldForm], times: usize) -> Layout
-    requires { length front.now + times * length leg.now < 2 ^ 32 }
-    ensures { result ≡ front.now ++ repeat times leg.now }
+// A layout of the forms in front and those of so many legs.
+fn with_times(
+    front: &'static [FieldForm],
+    legs: &'static [[FieldForm; 3]; 4],
+    times: usize,
+) -> Layout
+    requires room { length front.now < 2 ^ 31 }
+    requires few { times ≤ 4 }
+    requires same { legs.now ≡ replicate 4 (slice_index_or legs.now 0 []) }
+    ensures { result ≡ front.now ++ repeat times (slice_index_or legs.now 0 []) }
 {
     Layout {
         front,
-        middle: leg,
-        times,
+        middle: legs[..times].as_flattened(),
         back: &[],
     }
 }
@@ -185,7 +187,11 @@ fn alone(forms: &'static [FieldForm]) -> Layout
     requires { length forms.now < 2 ^ 32 }
     ensures { result ≡ forms.now }
 {
-    with_times(forms, &[], 0)
+    Layout {
+        front: forms,
+        middle: &[],
+        back: &[],
+    }
 }
 
 // What a CONTRACT has behind its risk array: under some profiles an option value.
@@ -208,7 +214,6 @@ fn contract_forms(profile: u8, product: ProductKind) -> Layout
     Layout {
         front: &CONTRACT_FRONT,
         middle: &ARRAY_VALUES,
-        times: 1,
         back: contract_back(profile, product),
     }
 }
@@ -216,16 +221,17 @@ fn contract_forms(profile: u8, product: ProductKind) -> Layout
 // The layout of a spread's record with so many fields behind the first: it has 2 to 4 legs.
 fn with_legs(
     front: &'static [FieldForm],
-    leg: &'static [FieldForm],
+    legs: &'static [[FieldForm; 3]; 4],
     fields: usize,
 ) -> Option<Layout>
-    requires { length front.now + 4 * length leg.now < 2 ^ 32 }
-    ensures { result ≡ with_legs front.now leg.now fields }
+    requires room { length front.now < 2 ^ 31 }
+    requires same { legs.now ≡ replicate 4 (slice_index_or legs.now 0 []) }
+    ensures { result ≡ with_legs front.now (slice_index_or legs.now 0 []) fields }
 {
-    with_times(front, leg, 2)
+    with_times(front, legs, 2)
         .exactly(fields)
-        .or(with_times(front, leg, 3).exactly(fields))
-        .or(with_times(front, leg, 4).exactly(fields))
+        .or(with_times(front, legs, 3).exactly(fields))
+        .or(with_times(front, legs, 4).exactly(fields))
 }
 
 // Whether each field from a place on passes the test of its form, one for each form.
@@ -238,27 +244,6 @@ fn all_from(test: FieldTest, forms: &[FieldForm], row: &ByteRecord, place: usize
         if !form.passes(test, text_at(row, place + i)) {
             return false;
         }
-    }
-    true
-}
-
-// Whether each field from a place on passes the test of its form, where the forms stand `times` times.
-fn all_times(
-    test: FieldTest,
-    forms: &[FieldForm],
-    times: usize,
-    row: &ByteRecord,
-    mut place: usize,
-) -> bool
-    requires room { place + length (repeat times forms.now) ≤ length (fields_of row.now) }
-    requires small { place + length (repeat times forms.now) < 2 ^ 64 }
-    ensures { result ≡ all_have (passes test) (repeat times forms.now) (drop place (fields_of row.now)) }
-{
-    for turn in 0..times {
-        if !all_from(test, forms, row, place) {
-            return false;
-        }
-        place += forms.len();
     }
     true
 }
@@ -307,7 +292,7 @@ impl Layout {
     fn len(&self) -> usize
         ensures { result ≡ length self.now }
     {
-        self.front.len() + self.times * self.middle.len() + self.back.len()
+        self.front.len() + self.middle.len() + self.back.len()
     }
 
     // The layout, if a record has just so many fields behind the first.
@@ -327,11 +312,11 @@ impl Layout {
         ensures { result ≡ all_have (passes test) self.now (drop 1 (fields_of row.now)) }
     {
         let middle = 1 + self.front.len();
-        let back = middle + self.times * self.middle.len();
+        let back = middle + self.middle.len();
         if !all_from(test, self.front, row, 1) {
             return false;
         }
-        if !all_times(test, self.middle, self.times, row, middle) {
+        if !all_from(test, self.middle, row, middle) {
             return false;
         }
         all_from(test, self.back, row, back)
@@ -351,9 +336,9 @@ impl Kind {
             Kind::Commodity => alone(&COMMODITY_FIELDS).exactly(fields),
             Kind::Contract => contract_forms(profile, product_at(row, 3)).exactly(fields),
             Kind::Tier => alone(&TIER_FIELDS).exactly(fields),
-            Kind::Intra => with_legs(&INTRA_FRONT, &INTRA_LEG, fields),
+            Kind::Intra => with_legs(&INTRA_FRONT, &INTRA_LEGS, fields),
             Kind::Spot => alone(&SPOT_FIELDS).exactly(fields),
-            Kind::Inter => with_legs(&INTER_FRONT, &INTER_LEG, fields),
+            Kind::Inter => with_legs(&INTER_FRONT, &INTER_LEGS, fields),
         }
     }
 }
@@ -411,7 +396,7 @@ impl FieldForm {
             FieldForm::Method => matches!(text, b"SUM" | b"MAX"),
             FieldForm::Product => matches!(text, b"F" | b"C" | b"P"),
             FieldForm::Side => matches!(text, b"A" | b"B"),
-            FieldForm::Whole(..) | FieldForm::Decimal(..) | FieldForm::Month => true,
+            _ => true,
         }
     }
 
@@ -422,11 +407,7 @@ impl FieldForm {
             FieldForm::Whole(..) => parse_whole(text).is_some(),
             FieldForm::Decimal(..) => parse_decimal(text).is_some(),
             FieldForm::Month => parse_month(text).is_some(),
-            FieldForm::Name
-            | FieldForm::Currency
-            | FieldForm::Method
-            | FieldForm::Product
-            | FieldForm::Side => true,
+            _ => true,
         }
     }
 
@@ -440,11 +421,7 @@ impl FieldForm {
                 Some(month) => is_month(month),
                 None => false,
             },
-            FieldForm::Name
-            | FieldForm::Currency
-            | FieldForm::Method
-            | FieldForm::Product
-            | FieldForm::Side => true,
+            _ => true,
         }
     }
 
@@ -459,11 +436,4 @@ impl FieldForm {
             FieldTest::All => self.has_word_form(text) && self.is_in_range(text),
         }
     }
-}
-
-/// The field at a place, or an empty text past the end.
-pub(crate) fn text_at(row: &ByteRecord, i: usize) -> &[u8]
-    ensures { result.now ≡ text_at (fields_of row.now) i }
-{
-    if i < row.len() { field(row, i) } else { &[] }
 }

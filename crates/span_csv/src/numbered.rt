@@ -1,6 +1,6 @@
 //! Records with a name in front that numbers them: a position's account, or an order, which stands in place of an account.
 ghost use Rattle.std.specs.Prelude.{◌≡◌, ◌+◌, ◌<◌, ◌++◌, ◌∷◌, [], ◌≤◌, ⊤, ℕ, IfOk, IsTrue, ◌↔◌, MatchBool};
-ghost use Rattle.std.specs.Prelude.{MatchResult, OnOk, Ok, Err, Some, false, length, nat_abs, slice_get, true};
+ghost use Rattle.std.specs.Prelude.{cond, MatchResult, OnOk, Ok, Err, Some, false, length, nat_abs, slice_get, true};
 ghost use Rattle.csv.specs.Records.{fields_of};
 ghost use Rattle.span_money.specs.Numbers.{whole_number};
 ghost use Rattle.span_csv.specs.PositionFaults.{is_memory};
@@ -13,8 +13,7 @@ ghost use Rattle.span_tables.specs.near.Positions.{named_position, named_positio
 ghost use Rattle.span_tables.specs.declared.limits.TheConstants.{MAX_ORDERS, MAX_QUANTITY};
 
 use crate::faults::PositionFault;
-use crate::grammar::text_at;
-use crate::rows::field;
+use crate::rows::{field, text_at};
 use csv::ByteRecord;
 use indexmap::IndexSet;
 use span_money::texts::parse_whole;
@@ -42,6 +41,13 @@ fn quantity_from(at: usize, text: &[u8]) -> Result<i32, PositionFault>
         return Err(PositionFault::OutOfRange { at });
     }
     Ok(quantity as i32)
+}
+
+// How many names in front of a record need no test: its first one, if that stands at a place.
+fn known_names(stands: bool) -> usize
+    ensures { result ≡ cond stands 1 0 }
+{
+    if stands { 1 } else { 0 }
 }
 
 // Whether so many fields in front are names, of which the first `tested` are known to be.
@@ -105,16 +111,19 @@ fn is_one_too_many(known: &IndexSet<Name>, most: usize, name: &Name) -> bool
     !known.contains(name) && known.len() == most
 }
 
-/// The place of a name, which is put last where it is new, also where it is one too many.
+/// The place of a name, which is put last where it is new, also where it is one too many. It may be known to stand at `last`.
 #[inline(always)]
 #[tactic(auto, using(span_tables::proofs::NumberedLaws::among_at))]
 pub(crate) fn place(
     most: usize,
     at: usize,
+    stands: bool,
+    last: u32,
     known: &mut IndexSet<Name>,
     name: &[u8],
 ) -> Result<u32, PositionFault>
     requires name { is_name name.now ≡ true }
+    requires stands { IsTrue stands → slice_get known.old.keys last ≡ Some name.now }
     requires few { length known.old.keys ≤ most }
     requires most { most ≤ MAX_ORDERS }
     ensures room { MatchResult result
@@ -124,6 +133,9 @@ pub(crate) fn place(
     ensures taken { OnOk result (known.new.keys ≡ with_name known.old.keys name.now) }
     ensures at { IfOk result (λ place. slice_get known.new.keys place ≡ Some name.now) }
 {
+    if stands {
+        return Ok(last);
+    }
     let name = Name::of(name);
     let too_many = is_one_too_many(known, most, &name);
     let (place, _) = known.insert_full(name)?;
@@ -180,11 +192,8 @@ pub(crate) fn next_position(
 {
     let at = earlier.len() + 1;
     let last = last_place(earlier);
-    if stands_at(known.as_slice(), last, text_at(row, 0)) {
-        let quantity = quantity(names, 1, at, row)?;
-        return Ok(position_at(last, quantity, field(row, names - 1)));
-    }
-    let quantity = quantity(names, 0, at, row)?;
-    let account = place(most, at, known, field(row, 0))?;
+    let stands = stands_at(known.as_slice(), last, text_at(row, 0));
+    let quantity = quantity(names, known_names(stands), at, row)?;
+    let account = place(most, at, stands, last, known, field(row, 0))?;
     Ok(position_at(account, quantity, field(row, names - 1)))
 }

@@ -4,7 +4,7 @@ ghost use Rattle.csv.specs.Records.{fields_of};
 ghost use Rattle.span_csv.specs.near.Checks.{HasTallied, NextIs, Tallies, params_in};
 ghost use Rattle.span_csv.specs.near.Telling.{Tells};
 ghost use Rattle.span_csv.specs.ParamFaults.{faults_in, is_memory, param_faults, params_of};
-ghost use Rattle.span_csv.specs.Records.{Fields};
+ghost use Rattle.span_csv.specs.Records.{Fields, param_record};
 ghost use Rattle.span_tables.specs.Gives.{Gives};
 
 use crate::checks::check_form;
@@ -23,7 +23,8 @@ use std::alloc::{AllocError, Global};
 fn next_record(tally: &mut Tally, earlier: usize, row: &ByteRecord) -> Result<Record, ParamFault>
     requires tallied { HasTallied tally.old earlier }
     requires room { earlier + 1 < 2 ^ 64 }
-    ensures { (rs : List Fields) → length rs ≡ earlier → Tallies tally.old rs → NextIs rs (fields_of row.now) result tally.new }
+    ensures judged { (rs : List Fields) → length rs ≡ earlier → Tallies tally.old rs → NextIs rs (fields_of row.now) result tally.new }
+    ensures said { IfOk result (λ x. x ≡ param_record (fields_of row.now)) }
 {
     let at = earlier + 1;
     let profile = tally.profile();
@@ -39,7 +40,7 @@ fn next_record(tally: &mut Tally, earlier: usize, row: &ByteRecord) -> Result<Re
 }
 
 // Reads each row of a file onto `records`, of which there are none before.
-fn read_rows(
+fn read_params_onto(
     rows: &mut Rows,
     row: &mut ByteRecord,
     tally: &mut Tally,
@@ -60,39 +61,16 @@ fn read_rows(
     Ok(())
 }
 
-// Reads each row of a file onto `records`, with a tally that begins here.
-fn read_and_tally(
-    alloc: Global,
-    rows: &mut Rows,
-    records: &mut Vec<Record>,
-) -> Result<(), ParamFault>
-    requires { records.old.items ≡ [] }
-    ensures { MatchResult result (λ _. params_in rows.old ≡ Ok records.new.items)
-        (λ e. MatchBool (is_memory e) ⊤ (params_in rows.old ≡ Err e)) }
-{
-    let mut row = ByteRecord::new(alloc);
-    let mut tally = Tally::new(alloc);
-    read_rows(rows, &mut row, &mut tally, records)
-}
-
-// The records of a file.
-fn read_records(alloc: Global, bytes: &[u8]) -> Result<Vec<Record>, ParamFault>
-    ensures { MatchResult result (λ records. params_of bytes.now ≡ Ok records.items)
-        (λ e. MatchBool (is_memory e) ⊤ (params_of bytes.now ≡ Err e)) }
-{
-    let mut rows = Rows::new(alloc, bytes);
-    let mut records = Vec::new(alloc);
-    read_and_tally(alloc, &mut rows, &mut records)?;
-    Ok(records)
-}
-
 /// The records of a parameter file, or the first record with a fault and its lowest-numbered fault, of P1 to P8
 /// (docs/FORMATS.md, "Parameter file" and "Faults").
-#[tactic(auto, using(crate::proofs::ReadableLaws::params_readable))]
 pub fn read_params(alloc: Global, bytes: &[u8]) -> Result<RawTables, ParamFault>
     ensures { Gives is_memory result (params_of bytes.now) }
 {
-    let records = read_records(alloc, bytes)?;
+    let mut rows = Rows::new(alloc, bytes);
+    let mut row = ByteRecord::new(alloc);
+    let mut tally = Tally::new(alloc);
+    let mut records = Vec::new(alloc);
+    read_params_onto(&mut rows, &mut row, &mut tally, &mut records)?;
     Ok(RawTables::new(records))
 }
 
@@ -108,7 +86,7 @@ fn tell(answer: Result<Record, ParamFault>, faults: &mut Vec<ParamFault>) -> Res
 }
 
 // Tells the fault of each row of a file onto `faults`, of which there are none before.
-fn tell_rows(
+fn tell_params(
     rows: &mut Rows,
     row: &mut ByteRecord,
     tally: &mut Tally,
@@ -139,6 +117,6 @@ pub fn param_faults(alloc: Global, bytes: &[u8]) -> Result<Vec<ParamFault>, Allo
     let mut row = ByteRecord::new(alloc);
     let mut tally = Tally::new(alloc);
     let mut faults = Vec::new(alloc);
-    tell_rows(&mut rows, &mut row, &mut tally, &mut faults)?;
+    tell_params(&mut rows, &mut row, &mut tally, &mut faults)?;
     Ok(faults)
 }

@@ -78,10 +78,8 @@ fn check_row(
         return Ok(());
     }
     let last = accounts.len().saturating_sub(1) as u32;
-    if stands_at(accounts.as_slice(), last, field(row, 0)) {
-        return Ok(());
-    }
-    place(MAX_ACCOUNTS, at, accounts, field(row, 0))?;
+    let stands = stands_at(accounts.as_slice(), last, field(row, 0));
+    place(MAX_ACCOUNTS, at, stands, last, accounts, field(row, 0))?;
     Ok(())
 }
 

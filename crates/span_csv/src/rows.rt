@@ -5,8 +5,15 @@ ghost use Rattle.span_csv.specs.Records.{text_at};
 ghost use Rattle.span_csv.specs.near.Rows.{rows_left, CanRead};
 
 use csv::{ByteRecord, Reader, ReaderBuilder};
+use span_tables::limits::SCENARIOS;
 use std::alloc::{AllocError, Global};
 use std::marker::Model;
+
+/// The place of the first value of a CONTRACT's risk array.
+pub(crate) const FIRST_VALUE: usize = 7;
+
+/// The place of what a profile adds, behind the risk array.
+pub(crate) const EXTRAS: usize = FIRST_VALUE + SCENARIOS;
 
 /// The records that are left of a file. After want of memory there is none.
 #[derive(Drop)]
@@ -68,4 +75,11 @@ pub(crate) fn field(row: &ByteRecord, i: usize) -> &[u8]
     ensures { result.now ≡ text_at (fields_of row.now) i }
 {
     row.get(i).unwrap()
+}
+
+/// The field at a place, or an empty text past the end.
+pub(crate) fn text_at(row: &ByteRecord, i: usize) -> &[u8]
+    ensures { result.now ≡ text_at (fields_of row.now) i }
+{
+    if i < row.len() { field(row, i) } else { &[] }
 }

@@ -8,7 +8,8 @@ ghost use Rattle.span_csv.specs.Records.{text_at};
 
 use crate::checks::is_set;
 use crate::fields::{name_at, profile_at};
-use crate::grammar::{FieldTest, Kind, VERSION, text_at};
+use crate::grammar::{FieldTest, Kind, VERSION};
+use crate::rows::text_at;
 use csv::ByteRecord;
 use indexmap::IndexMap;
 use span_tables::limits::{

@@ -9,7 +9,8 @@ use Rattle.span_tables.specs.declared.limits.TheConstants.{MAX_COMMODITIES, MAX_
 use Rattle.span_tables.specs.declared.limits.TheConstants.{MAX_INTRA_SPREADS, MAX_SPOT_MONTHS, MAX_INTER_SPREADS}
 use Rattle.span_csv.specs.Records.{Fields}
 use Rattle.span_csv.specs.Records.{kind_of, layout_of, text_at, has_word_form, has_number_form, is_in_range, param_record}
-use Rattle.span_csv.specs.ParamFaults.{counted, faults_in, is_set, profile_of, some_fail, record_faults, is_memory}
+use Rattle.span_csv.specs.ParamFaults.{counted, faults_in, is_set, profile_of, some_fail, record_fault, is_memory}
+use Rattle.span_csv.specs.near.Telling.{Judges}
 use Rattle.span_csv.specs.declared.faults.ParamFault.{ParamFault}
 use Rattle.span_csv.specs.declared.faults.ParamFault.TheVariants as fault
 use Rattle.span_csv.specs.declared.tally.Tally.{Tally}
@@ -110,10 +111,7 @@ HasTallied t n = (earlier : List Fields) × (length earlier ≡ n) × Tallies t 
 
 -- what is answered for a record behind earlier ones
 abbrev pub NextIs : List Fields → Fields → Result Record ParamFault → Tally → Type 0
-NextIs earlier r (Ok x) t =
-    (first_that_holds (record_faults earlier r) ≡ None) × (x ≡ param_record r) × Tallies t (earlier ++ r ∷ [])
-NextIs earlier r (Err e) t =
-    MatchBool (is_memory e) ⊤ (IsFaultOf (record_faults earlier r) (length earlier + 1) e × Tallies t (earlier ++ r ∷ []))
+NextIs earlier r answer t = Judges is_memory record_fault (Tallies t) earlier r answer
 
 -- ---- all records
 

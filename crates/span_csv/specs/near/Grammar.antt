@@ -6,7 +6,7 @@ use Rattle.span_money.specs.Numbers.{whole_number}
 use Rattle.span_tables.specs.declared.limits.TheConstants.{MAX_LEGS, SCENARIOS}
 use Rattle.span_csv.specs.Records.{Fields, has_word_form, has_number_form, is_in_range, text_at, count_at, decimal_at, ratio_at}
 use Rattle.span_csv.specs.Records.{array_place}
-use Rattle.span_csv.specs.declared.contents.TheConstants.{EXTRAS}
+use Rattle.span_csv.specs.declared.rows.TheConstants.{EXTRAS}
 use Rattle.span_csv.specs.declared.grammar.FieldForm.{FieldForm}
 use Rattle.span_csv.specs.declared.grammar.Kind.{Kind}
 use Rattle.span_csv.specs.declared.grammar.Kind.TheVariants as kind

@@ -4,7 +4,7 @@ use Rattle.std.specs.Prelude.{List, ℕ}
 use Rattle.std.specs.Result.{is_ok}
 use Rattle.std.proofs.lemmas.List.{take-append-drop}
 use Rattle.span_csv.specs.Records.{records_of}
-use Rattle.span_csv.proofs.LineLemmas.{left_plain, one_more, records_cut}
+use Rattle.span_csv.proofs.CutPlaces.{left_plain, one_more, records_cut}
 use Rattle.span_csv.proofs.cuts.cut_plain.Goals as goal
 
 pub loop-pieces-preserved : goal.loop-pieces-preserved

@@ -1,5 +1,5 @@
 use Rattle.std.proofs.Common.{◌∙◌, ◌==◌}
-use Rattle.span_csv.proofs.LineLemmas.{found_any}
+use Rattle.span_csv.proofs.CutPlaces.{found_any}
 use Rattle.span_csv.proofs.cuts.has_quote.Goals as goal
 
 pub returns : goal.returns

@@ -1,4 +1,4 @@
-use Rattle.span_csv.proofs.LineLemmas.{first_unmarked}
+use Rattle.span_csv.proofs.CutPlaces.{first_unmarked}
 use Rattle.span_csv.proofs.cuts.may_begin.Goals as goal
 
 pub returns-in-Some : goal.returns-in-Some

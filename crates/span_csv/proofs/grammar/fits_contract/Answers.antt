@@ -2,7 +2,7 @@ use Rattle.std.proofs.Common.{◌∙◌, ap, sym, refl, true, false, drop}
 use Rattle.csv.specs.Records.{fields_of}
 use Rattle.span_csv.specs.near.Grammar.{passes}
 use Rattle.span_csv.specs.Records.{all_have, contract_back, product_at}
-use Rattle.span_csv.specs.declared.contents.TheConstants.{EXTRAS}
+use Rattle.span_csv.specs.declared.rows.TheConstants.{EXTRAS}
 use Rattle.span_csv.specs.declared.grammar.FieldTest.TheVariants as field_test
 use Rattle.span_csv.proofs.TestLemmas.{contract_told}
 use Rattle.span_csv.proofs.grammar.fits_contract.Goals as goal

@@ -5,7 +5,7 @@ use Rattle.std.proofs.Math.ListN.{length-set}
 use Rattle.csv.specs.Records.{fields_of}
 use Rattle.span_money.specs.Numbers.{whole_number}
 use Rattle.span_tables.specs.declared.limits.TheConstants.{SCENARIOS}
-use Rattle.span_csv.specs.declared.contents.TheConstants.{FIRST_VALUE}
+use Rattle.span_csv.specs.declared.rows.TheConstants.{FIRST_VALUE}
 use Rattle.span_csv.specs.Records.{an_array_value, is_in_range, whole_at}
 use Rattle.span_csv.proofs.ValueLemmas.{values_all, value_failed, value_passed, values_more}
 use Rattle.span_csv.proofs.grammar.read_values.Goals as goal

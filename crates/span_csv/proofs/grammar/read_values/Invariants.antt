@@ -2,7 +2,7 @@ use Rattle.std.proofs.Common.{◌≡◌, ◌<◌, ◌+◌, ℕ, length, drop, ge
 use Rattle.std.specs.List.{list_all}
 use Rattle.csv.specs.Records.{fields_of}
 use Rattle.span_tables.specs.declared.limits.TheConstants.{SCENARIOS}
-use Rattle.span_csv.specs.declared.contents.TheConstants.{FIRST_VALUE}
+use Rattle.span_csv.specs.declared.rows.TheConstants.{FIRST_VALUE}
 use Rattle.span_csv.specs.Records.{array_place, whole_at}
 use Rattle.span_csv.proofs.ValueLemmas.{array_passes}
 use Rattle.span_csv.proofs.grammar.read_values.Given as goal

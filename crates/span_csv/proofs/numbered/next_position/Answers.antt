@@ -1,17 +1,18 @@
 use Rattle.std.proofs.Common.{◌≡◌, ◌≤◌, length, sym, rules, arith, SFits}
 use Rattle.std.specs.Int.{w32}
-use Rattle.std.specs.Prelude.{slice_get, Some}
 use Rattle.std.proofs.lemmas.Int.{to_z-of_z}
 use Rattle.std.proofs.lemmas.Result.{err_from_is_err_and}
 use Rattle.csv.specs.Records.{fields_of}
 use Rattle.span_tables.proofs.NumberedLaws.{named_more, numbered_more}
 use Rattle.span_csv.specs.PositionFaults.{is_memory}
-use Rattle.span_csv.specs.Records.{text_at}
-use Rattle.span_csv.proofs.NumberedLemmas.{next_full, next_read, next_refused, stands_there, still_few}
+use Rattle.span_csv.proofs.NumberedLemmas.{next_full, next_read, next_refused, still_few, tested_names}
 use Rattle.span_csv.proofs.RecordLemmas.{told, told_by}
 use Rattle.span_csv.proofs.numbered.next_position.Goals as goal
 
--- ---- where the last record's name stands in front
+pub quantity-requires-clause-tested : goal.quantity-requires-clause-tested
+quantity-requires-clause-tested c =
+    rw c.known_names.ensures (tested_names c.stands_at-stands.result (fields_of c.args.row.now)
+    (λ there. rw c.text_at.ensures at (c.stands_at-stands.ensures.is_name there)))
 
 pub returns-in_err-quantity-clause-found : goal.returns-in_err-quantity-clause-found
 returns-in_err-quantity-clause-found c =
@@ -21,89 +22,43 @@ returns-in_err-quantity-clause-found c =
     (told (is_memory e) (next_refused c.args.names c.args.most c.args.known.now.keys c.args.earlier.now (fields_of c.args.row.now)
     c.requires.numbered e (sym c.in_err-quantity.ensures.value)))
 
-pub returns-then-stands_at-clause-found : goal.returns-then-stands_at-clause-found
-returns-then-stands_at-clause-found c =
-    let q = c.in_ok-quantity.quantity in
-    let keys = c.args.known.now.keys in
-    let last = c.last_place-last.result in
-    let first = text_at (fields_of c.args.row.now) 0 in
-    let fits : SFits w32 q = search rules in
-    let at : slice_get keys last ≡ Some first =
-    rw (c.as_slice.ensures.keys, c.text_at.ensures) at (c.stands_at.ensures.at.0 c.if-stands_at.true) in
-    rw (c.position_at.ensures, to_z-of_z w32 q fits, c.field.ensures)
-    (next_read c.args.names c.args.most keys c.args.earlier.now (fields_of c.args.row.now) c.requires.numbered keys last q
-    (sym c.in_ok-quantity.ensures.value) (stands_there c.args.most keys last first at).0 at)
-
-pub returns-then-stands_at-clause-named : goal.returns-then-stands_at-clause-named
-returns-then-stands_at-clause-named c =
-    let keys = c.args.known.now.keys in
-    let last = c.last_place-last.result in
-    let first = text_at (fields_of c.args.row.now) 0 in
-    let at : slice_get keys last ≡ Some first =
-    rw (c.as_slice.ensures.keys, c.text_at.ensures) at (c.stands_at.ensures.at.0 c.if-stands_at.true) in
-    rw c.position_at.ensures
-    (named_more keys keys c.args.earlier.now _ first c.requires.numbered (stands_there c.args.most keys last first at).1 at)
-
-pub returns-then-stands_at-clause-numbered : goal.returns-then-stands_at-clause-numbered
-returns-then-stands_at-clause-numbered c =
-    let q = c.in_ok-quantity.quantity in
-    let keys = c.args.known.now.keys in
-    let last = c.last_place-last.result in
-    let first = text_at (fields_of c.args.row.now) 0 in
-    let fits : SFits w32 q = search rules in
-    let at : slice_get keys last ≡ Some first =
-    rw (c.as_slice.ensures.keys, c.text_at.ensures) at (c.stands_at.ensures.at.0 c.if-stands_at.true) in
-    rw (c.position_at.ensures, to_z-of_z w32 q fits)
-    (numbered_more keys keys c.args.earlier.now _ first c.requires.numbered (stands_there c.args.most keys last first at).1 at
-    (omega (arith, c.requires.few, c.requires.most)) c.in_ok-quantity.ensures.size)
-
--- ---- where another one does
-
-pub returns-in_err-quantity-2-clause-found : goal.returns-in_err-quantity-2-clause-found
-returns-in_err-quantity-2-clause-found c =
-    let p = err_from_is_err_and c.from_residual-in_err-quantity-2.result c.from_residual-in_err-quantity-2.ensures.1 in
-    let e = c.in_err-quantity-2.field-0.0 in
-    rw (p.1, p.2)
-    (told (is_memory e) (next_refused c.args.names c.args.most c.args.known.now.keys c.args.earlier.now (fields_of c.args.row.now)
-    c.requires.numbered e (sym c.in_err-quantity-2.ensures.value)))
-
 pub returns-in_err-account-clause-found : goal.returns-in_err-account-clause-found
 returns-in_err-account-clause-found c =
     let p = err_from_is_err_and c.from_residual-in_err-account.result c.from_residual-in_err-account.ensures.1 in
     let e = c.in_err-account.field-0.0 in
     let full = next_full c.args.names c.args.most c.args.known.now.keys c.args.earlier.now (fields_of c.args.row.now)
-    c.requires.numbered c.in_ok-quantity-2.quantity (sym c.in_ok-quantity-2.ensures.value) in
-    rw (p.1, p.2) (told_by (is_memory e) (rw c.field-2.ensures at c.in_err-account.ensures.room) (λ h. rw (h.0) (full h.1)))
+    c.requires.numbered c.in_ok-quantity.quantity (sym c.in_ok-quantity.ensures.value) in
+    rw (p.1, p.2) (told_by (is_memory e) (rw c.field.ensures at c.in_err-account.ensures.room) (λ h. rw (h.0) (full h.1)))
 
 pub returns-clause-found : goal.returns-clause-found
 returns-clause-found c =
-    let q = c.in_ok-quantity-2.quantity in
+    let q = c.in_ok-quantity.quantity in
     let fits : SFits w32 q = search rules in
-    rw (c.position_at-2.ensures, to_z-of_z w32 q fits, c.field-3.ensures)
+    rw (c.position_at.ensures, to_z-of_z w32 q fits, c.field-2.ensures)
     (next_read c.args.names c.args.most c.args.known.now.keys c.args.earlier.now
     (fields_of c.args.row.now) c.requires.numbered c.place.new.known.keys c.in_ok-account.account q
-    (sym c.in_ok-quantity-2.ensures.value) (rw c.field-2.ensures at c.in_ok-account.ensures.room)
-    (rw c.field-2.ensures at c.in_ok-account.ensures.at))
+    (sym c.in_ok-quantity.ensures.value) (rw c.field.ensures at c.in_ok-account.ensures.room)
+    (rw c.field.ensures at c.in_ok-account.ensures.at))
 
 pub returns-clause-named : goal.returns-clause-named
 returns-clause-named c =
-    rw c.position_at-2.ensures
-    (named_more c.args.known.now.keys c.place.new.known.keys c.args.earlier.now _ c.field-2.result.now c.requires.numbered
+    rw c.position_at.ensures
+    (named_more c.args.known.now.keys c.place.new.known.keys c.args.earlier.now _ c.field.result.now c.requires.numbered
     c.in_ok-account.ensures.taken c.in_ok-account.ensures.at)
 
 pub returns-clause-numbered : goal.returns-clause-numbered
 returns-clause-numbered c =
-    let q = c.in_ok-quantity-2.quantity in
+    let q = c.in_ok-quantity.quantity in
     let fits : SFits w32 q = search rules in
     let few : length c.place.new.known.keys ≤ c.args.most =
     rw (c.in_ok-account.ensures.taken)
-    (still_few c.args.most c.args.known.now.keys c.field-2.result.now c.requires.few c.in_ok-account.ensures.room) in
-    rw (c.position_at-2.ensures, to_z-of_z w32 q fits)
-    (numbered_more c.args.known.now.keys c.place.new.known.keys c.args.earlier.now _ c.field-2.result.now c.requires.numbered
+    (still_few c.args.most c.args.known.now.keys c.field.result.now c.requires.few c.in_ok-account.ensures.room) in
+    rw (c.position_at.ensures, to_z-of_z w32 q fits)
+    (numbered_more c.args.known.now.keys c.place.new.known.keys c.args.earlier.now _ c.field.result.now c.requires.numbered
     c.in_ok-account.ensures.taken c.in_ok-account.ensures.at
-    (omega (arith, few, c.requires.most)) c.in_ok-quantity-2.ensures.size)
+    (omega (arith, few, c.requires.most)) c.in_ok-quantity.ensures.size)
 
 pub returns-clause-few : goal.returns-clause-few
 returns-clause-few c =
     rw (c.in_ok-account.ensures.taken)
-    (still_few c.args.most c.args.known.now.keys c.field-2.result.now c.requires.few c.in_ok-account.ensures.room)
+    (still_few c.args.most c.args.known.now.keys c.field.result.now c.requires.few c.in_ok-account.ensures.room)

@@ -2,14 +2,14 @@ use Rattle.std.proofs.Common.{map, ap}
 use Rattle.span_tables.specs.Faults.{first_of, ok_unless}
 use Rattle.span_csv.specs.PositionFaults.{position_faults, positions_of}
 use Rattle.span_csv.specs.Records.{position_record, records_of}
-use Rattle.span_csv.proofs.AllFaultLaws.{accepted_none, none_first, refused_some}
+use Rattle.span_tables.proofs.FaultLaws.{ok_parts}
+use Rattle.span_csv.proofs.AllFaultLaws.{none_first, refused_some}
 use Rattle.span_csv.proofs.position_laws.first_of_all_refuses.Goals as goal
 
 pub returns-clause-read : goal.returns-clause-read
 unfolding positions_of
 returns-clause-read c = λ bytes records is.
-    none_first (position_faults bytes)
-    (accepted_none (first_of (position_faults bytes)) (map position_record (records_of bytes)) records is)
+    none_first (position_faults bytes) (ok_parts _ (map position_record (records_of bytes)) records is).0
 
 pub returns-clause-none : goal.returns-clause-none
 unfolding positions_of

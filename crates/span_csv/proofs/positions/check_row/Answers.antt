@@ -19,14 +19,6 @@ returns-then-len-gt-MAX_ACCOUNTS c = λ rs count are.
     checked_past rs (fields_of c.args.row.now) c.args.at c.args.accounts.now.keys count are c.in_ok-quantity.field-0
     (sym c.in_ok-quantity.ensures.value) past
 
-pub returns-then-stands_at : goal.returns-then-stands_at
-returns-then-stands_at c = λ rs count are.
-    let few : length c.args.accounts.now.keys ≤ MAX_ACCOUNTS = omega (arith, c.len.ensures.len, c.if-len-gt-MAX_ACCOUNTS.false) in
-    let at = rw (c.as_slice.ensures.keys, c.field.ensures) at (c.stands_at.ensures.at.0 c.if-stands_at.true) in
-    let stays = stands_there MAX_ACCOUNTS c.args.accounts.now.keys _ (text_at (fields_of c.args.row.now) 0) at in
-    checked_taken rs (fields_of c.args.row.now) c.args.at c.args.accounts.now.keys count are c.in_ok-quantity.field-0
-    (sym c.in_ok-quantity.ensures.value) c.args.accounts.now.keys few stays.0 stays.1
-
 pub returns-in_err-place : goal.returns-in_err-place
 returns-in_err-place c = λ rs count are.
     let few : length c.args.accounts.now.keys ≤ MAX_ACCOUNTS = omega (arith, c.len.ensures.len, c.if-len-gt-MAX_ACCOUNTS.false) in

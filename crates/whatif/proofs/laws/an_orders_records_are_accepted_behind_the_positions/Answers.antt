@@ -1,4 +1,4 @@
-use Rattle.span_csv.proofs.OrderLaws.{one_account}
+use Rattle.span_csv.proofs.OrderAccountLaws.{one_account}
 use Rattle.whatif.proofs.BehindLaws.{accepted_behind}
 use Rattle.whatif.proofs.laws.an_orders_records_are_accepted_behind_the_positions.Goals as goal
 

@@ -1,12 +1,13 @@
 -- Where a search finds a byte, and what is cut behind a line feed.
-use Rattle.std.proofs.Common.{◌≡◌, ◌∙◌, refl, sym, ap, arith, ℕ, zero, suc, ◌<◌, Bool, true, false, not, ◌||◌, ◌==◌}
+use Rattle.std.proofs.Common.{◌≡◌, ◌∙◌, refl, sym, ap, arith, ℕ, Bool, true, false, not, ◌||◌, ◌==◌}
 use Rattle.std.proofs.Common.{List, [], ◌∷◌, ◌++◌, length, take, drop, get_or, inl, inr, Option, Some, None, append_assoc, slice_get}
 use Rattle.std.specs.Prelude.{flat_map, is_some}
 use Rattle.std.specs.List.{list_any}
 use Rattle.std.proofs.lemmas.Bool.{cases_Bool, or_parts}
 use Rattle.std.proofs.lemmas.Grind.{flat_map-append}
 use Rattle.std.proofs.lemmas.List.{append-nil, take-append-drop}
-use Rattle.std.proofs.lemmas.List.Folds.{list_any-append}
+use Rattle.std.proofs.lemmas.List.Elements.{All-from_get_or}
+use Rattle.std.proofs.lemmas.List.Folds.{list_any-append, list_any_at, list_any_none}
 use Rattle.csv.specs.Reading.{strip_bom}
 use Rattle.memchr.specs.Find.{IsFirstByte}
 use Rattle.span_csv.specs.Cuts.{BeginsWithNoMark, EndsInLineFeed, has_quote}
@@ -15,27 +16,15 @@ use Rattle.span_csv.proofs.CutLemmas.{records_joined}
 
 -- ---- searches
 
-any_at : (test : ℕ → Bool) (hay : List ℕ) (k : ℕ) → k < length hay → test (get_or hay k 0) ≡ true → list_any test hay ≡ true
-any_at test [] k within passes = absurd (omega (arith, within))
-any_at test (x ∷ hay) zero within passes = rw passes refl
-any_at test (x ∷ hay) (suc k) within passes = by (test x) (any_at test hay k (omega (arith, within)) passes) where
-  by : (b : Bool) → list_any test hay ≡ true → (b || list_any test hay) ≡ true
-  by true rest = refl
-  by false rest = rest
-
-none_at : (test : ℕ → Bool) (hay : List ℕ) → ((k : ℕ) → k < length hay → test (get_or hay k 0) ≡ true → ⊥)
-    → list_any test hay ≡ false
-none_at test [] never = refl
-none_at test (x ∷ hay) never =
-    elim (cases_Bool (test x)) [
-      | inl passes ↦ absurd (never zero (omega arith) passes)
-      | inr fails ↦ rw fails (none_at test hay (λ k within passes. never (suc k) (omega (arith, within)) passes))
-    ]
-
 -- a search finds a byte just where there is one
 pub found_any : (test : ℕ → Bool) (hay : List ℕ) (r : Option ℕ) → IsFirstByte test hay r → is_some r ≡ list_any test hay
-found_any test hay None h = sym (none_at test hay (λ k within passes. h k (omega arith) within passes))
-found_any test hay (Some k) h = sym (any_at test hay k h.0.high h.1)
+found_any test hay None h =
+    sym (list_any_none test hay (All-from_get_or (λ x. test x ≡ false) hay 0 (λ k within.
+    elim (cases_Bool (test (get_or hay k 0))) [
+      | inl passes ↦ absurd (h k (omega arith) within passes)
+      | inr fails ↦ fails
+    ])))
+found_any test hay (Some k) h = sym (list_any_at test hay k 0 h.0.high h.1)
 
 -- ---- marks
 

@@ -1,7 +1,7 @@
 use Rattle.std.proofs.Common.{◌≡◌, []}
 use Rattle.std.proofs.lemmas.Bool.Decides.{when_false}
-use Rattle.span_csv.proofs.TellLemmas.{told_empty, told_records}
-use Rattle.span_csv.proofs.params.tell_rows.Goals as goal
+use Rattle.span_csv.proofs.ReadLemmas.{told_empty, told_records}
+use Rattle.span_csv.proofs.params.tell_params.Goals as goal
 
 pub returns-in_ok-push : goal.returns-in_ok-push
 returns-in_ok-push c =
