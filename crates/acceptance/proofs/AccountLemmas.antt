@@ -4,9 +4,9 @@ use Rattle.std.proofs.Common.{List, [], ◌∷◌, map, filter}
 use Rattle.std.proofs.Common.{Option, Some, None, Ok, bytes_eq, refl, sym, ap, subst}
 use Rattle.std.specs.List.{AllByRecursion, IsDistinct}
 use Rattle.std.proofs.lemmas.Map.Keys.{IsDistinct-cons, IsDistinct-head, IsDistinct-tail}
-use Rattle.param_check.proofs.AccountLaws.{bytes_eq-flip}
-use Rattle.param_check.specs.Binding.{bind_fault, bindings_of}
-use Rattle.param_check.specs.declared.faults.BindFault.{BindFault}
+use Rattle.binding.proofs.AccountLaws.{bytes_eq-flip}
+use Rattle.binding.specs.Binding.{bind_fault, bindings_of}
+use Rattle.binding.specs.declared.faults.BindFault.{BindFault}
 use Rattle.span_tables.specs.Faults.{ok_unless}
 use Rattle.span_tables.specs.Names.{distinct}
 use Rattle.span_tables.specs.Net.{AccountHoldings, accounts_of, holdings_of, portfolios_of}

@@ -8,9 +8,9 @@ use Rattle.span_tables.specs.Net.{accounts_of}
 use Rattle.span_tables.specs.declared.records.NumberedPosition.{NumberedPosition}
 use Rattle.span_tables.specs.declared.records.PositionRecord.{PositionRecord}
 use Rattle.span_tables.specs.near.Positions.{named_position, named_positions}
-use Rattle.param_check.specs.near.Ledgers.{contract_place, slice_nets}
-use Rattle.param_check.specs.near.Nets.{entries_of}
-use Rattle.param_check.specs.near.Sums.{kept_holdings}
+use Rattle.binding.specs.near.Ledgers.{contract_place, slice_nets}
+use Rattle.binding.specs.near.Nets.{entries_of}
+use Rattle.binding.specs.near.Sums.{kept_holdings}
 
 -- what is found of records is the same of the records that they stand for
 pub found_of_records : (ids : List (List ℕ)) (positions : List PositionRecord) (records : List NumberedPosition) (found : List ℕ)

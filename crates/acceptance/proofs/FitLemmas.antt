@@ -6,14 +6,14 @@ use Rattle.std.specs.List.{enumerate_from}
 use Rattle.std.proofs.lemmas.Bool.Decides.{nat_tests}
 use Rattle.std.proofs.lemmas.List.Elements.{All-map}
 use Rattle.std.specs.Prelude.{slice_index_or}
-use Rattle.param_check.specs.Binding.{bind_fault, bindings_of}
+use Rattle.binding.specs.Binding.{bind_fault, bindings_of}
 use Rattle.span_tables.specs.Faults.{ok_unless}
 use Rattle.span_tables.specs.Holdings.{fits}
 use Rattle.span_tables.specs.Net.{AccountHoldings, accounts_of, holding_of, holdings_of, is_held, portfolios_of}
 use Rattle.span_tables.specs.declared.portfolios.Holding.{Holding}
 use Rattle.span_tables.specs.declared.records.Contract.{Contract}
 use Rattle.span_tables.specs.declared.records.PositionRecord.{PositionRecord}
-use Rattle.param_check.specs.declared.faults.BindFault.{BindFault}
+use Rattle.binding.specs.declared.faults.BindFault.{BindFault}
 
 fits_if : (n : ℕ) (b : Bool) (h : Holding) (hs : List Holding) → h.contract < n → fits n hs ≡ true
     → fits n (cond b (h ∷ hs) hs) ≡ true

@@ -14,7 +14,7 @@ ghost use Rattle.std.specs.declared.sync.Arc.{Arc};
 
 use crate::binding::bind_together;
 use crate::reading::read_together;
-use param_check::binding::bind;
+use binding::positions::bind;
 use param_check::check::check;
 use plan_compiler::set::{CompiledSet, compile};
 use span_csv::params::read_params;

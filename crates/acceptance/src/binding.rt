@@ -1,16 +1,16 @@
 //! Positions that are bound in several threads.
-ghost use Rattle.param_check.specs.Binding.{bindings_of, is_memory};
-ghost use Rattle.param_check.specs.near.Ledgers.{contract_place, slice_nets};
+ghost use Rattle.binding.specs.Binding.{bindings_of, is_memory};
+ghost use Rattle.binding.specs.near.Ledgers.{contract_place, slice_nets};
 ghost use Rattle.span_tables.specs.Gives.{Gives};
 ghost use Rattle.span_tables.specs.Net.{accounts_of};
 ghost use Rattle.span_tables.specs.declared.limits.TheConstants.{MAX_ORDERS};
 ghost use Rattle.std.specs.Prelude.{◌≡◌, ◌≤◌, ◌+◌, IfOk, length, map};
 
 use crate::slices::cut_at;
-use param_check::binding::bind;
-use param_check::binding::binder::Binder;
-use param_check::binding::nets::AccountNets;
-use param_check::faults::BindFault;
+use binding::binder::Binder;
+use binding::faults::BindFault;
+use binding::nets::AccountNets;
+use binding::positions::bind;
 use span_tables::portfolios::Portfolios;
 use span_tables::raw::RawPositions;
 use span_tables::records::NumberedPosition;

@@ -38,13 +38,13 @@ use Rattle.span_csv.specs.declared.faults.PositionFault.TheVariants as position_
 use Rattle.span_csv.specs.declared.grammar.FieldForm.{FieldForm}
 use Rattle.span_csv.specs.declared.grammar.FieldForm.TheVariants as form
 use Rattle.span_csv.proofs.ReadableLaws.{params_readable}
-use Rattle.param_check.specs.Binding.{bind_fault, bindings_of}
+use Rattle.binding.specs.Binding.{bind_fault, bindings_of}
 use Rattle.param_check.specs.CheckFaults.{check_fault, checked}
-use Rattle.param_check.specs.declared.faults.BindFault.{BindFault}
+use Rattle.binding.specs.declared.faults.BindFault.{BindFault}
 use Rattle.param_check.specs.declared.faults.CheckFault.{CheckFault}
-use Rattle.param_check.proofs.AcceptedLaws.{few_held, fit_of_none}
-use Rattle.param_check.proofs.AccountLaws.{bytes_eq-refl}
-use Rattle.param_check.proofs.PortfolioLaws.{portfolio_holds}
+use Rattle.binding.proofs.AcceptedLaws.{few_held, fit_of_none}
+use Rattle.binding.proofs.AccountLaws.{bytes_eq-refl}
+use Rattle.binding.proofs.PortfolioLaws.{portfolio_holds}
 use Rattle.param_check.proofs.RuleLaws.{rules_kept}
 use Rattle.statement_text.specs.Statement.{accepted_of, and_then, portfolios_under}
 use Rattle.statement_text.specs.declared.faults.SpanFault.TheVariants as fault

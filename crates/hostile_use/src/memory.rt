@@ -4,9 +4,9 @@ ghost use Rattle.std.specs.Arc.{arc_value};
 ghost use Rattle.std.specs.Prelude.{◌≡◌, All, IfOk, length, true};
 ghost use Rattle.span_tables.specs.Holdings.{fits};
 
-use param_check::binding::bind;
+use binding::orders::{Orders, bind_orders};
+use binding::positions::bind;
 use param_check::check::check;
-use param_check::orders::{Orders, bind_orders};
 use plan_compiler::set::{CompiledSet, compile};
 use plan_shelf::faults::ShelfFault;
 use plan_shelf::history::{History, ShelfName};

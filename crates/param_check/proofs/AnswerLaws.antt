@@ -7,9 +7,9 @@ use Rattle.span_tables.specs.Tables.{tables_of}
 use Rattle.span_tables.specs.declared.records.Contract.{Contract}
 use Rattle.span_tables.specs.declared.records.PositionRecord.{PositionRecord}
 use Rattle.span_tables.specs.declared.records.Record.{Record}
-use Rattle.param_check.specs.Binding.{bind_fault, bind_faults, bindings_of}
+use Rattle.binding.specs.Binding.{bind_fault, bind_faults, bindings_of}
 use Rattle.param_check.specs.CheckFaults.{check_fault, check_faults, checked}
-use Rattle.param_check.specs.declared.faults.BindFault.{BindFault}
+use Rattle.binding.specs.declared.faults.BindFault.{BindFault}
 use Rattle.param_check.specs.declared.faults.CheckFault.{CheckFault}
 
 unless_none : {A F : Type 0} (faults : List F) (x : A) → (faults ≡ []) ↔ (ok_unless (first_of faults) x ≡ Ok x)

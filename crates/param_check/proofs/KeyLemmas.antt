@@ -13,7 +13,7 @@ use Rattle.param_check.specs.near.Keys.{repeats}
 use Rattle.param_check.specs.declared.check.keys.Key.{Key}
 use Rattle.param_check.specs.declared.check.keys.Identity.{Identity}
 use Rattle.param_check.specs.declared.check.keys.Identity.TheVariants as identity
-use Rattle.param_check.proofs.FilterMaps.{list_any-filter_map, list_any-map, list_any-same}
+use Rattle.binding.proofs.FilterMaps.{list_any-filter_map, list_any-map, list_any-same}
 
 -- keys with which those of some records are found tell whether one of a kind passes a test
 found : {A : Type 0} (i : Identity) (keys : List Key) (all : List Record) → ((k : Key) → is_key_among keys (Some k) ≡ has_key i all k)

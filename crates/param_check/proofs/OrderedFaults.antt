@@ -11,14 +11,14 @@ use Rattle.span_tables.specs.declared.records.Contract.{Contract}
 use Rattle.span_tables.specs.declared.records.PositionRecord.{PositionRecord}
 use Rattle.span_tables.specs.declared.records.Record.{Record}
 use Rattle.span_tables.proofs.FaultLaws.{faults_are_of_some, numbers_rise}
-use Rattle.param_check.specs.Binding.{all_unfit, bind_faults}
+use Rattle.binding.specs.Binding.{all_unfit, bind_faults}
 use Rattle.param_check.specs.CheckFaults.{check_faults, rule_names}
 use Rattle.param_check.specs.FaultLaws.{AreInOrder, ComesBefore, bind_number, bind_record, check_number, check_record}
-use Rattle.param_check.specs.declared.faults.BindFault.{BindFault}
-use Rattle.param_check.specs.declared.faults.BindFault.TheVariants as bind
+use Rattle.binding.specs.declared.faults.BindFault.{BindFault}
+use Rattle.binding.specs.declared.faults.BindFault.TheVariants as bind
 use Rattle.param_check.specs.declared.faults.CheckFault.{CheckFault}
 use Rattle.param_check.specs.declared.faults.CheckFault.TheVariants as check
-use Rattle.param_check.proofs.UnfitWalk.{unfit_at}
+use Rattle.binding.proofs.UnfitWalk.{unfit_at}
 
 weaker : {F : Type 0} (P Q : F → Type 0) → ((y : F) → P y → Q y) → (ys : List F) → AllByRecursion P ys → AllByRecursion Q ys
 weaker P Q follows [] all = tt

@@ -11,7 +11,7 @@ use Rattle.span_tables.specs.declared.records.Record.TheVariants as record_of
 use Rattle.span_tables.proofs.NameLemmas.{same_name}
 use Rattle.param_check.specs.near.Overlaps.{meet, meets_earlier, tier_months, months_under}
 use Rattle.param_check.specs.declared.check.overlaps.Months.{Months}
-use Rattle.param_check.proofs.FilterMaps.{list_any-filter_map, list_any-same}
+use Rattle.binding.proofs.FilterMaps.{list_any-filter_map, list_any-same}
 
 -- a new group under k, where there was none
 pub begun : {V M : Type 0} (items : V → List M) (found : List ℕ → Option V) (k q : List ℕ) (group : V) (m : M)

@@ -9,14 +9,14 @@ use Rattle.std.proofs.lemmas.List.Elements.{filter-append}
 use Rattle.span_tables.specs.Faults.{faults_after}
 use Rattle.span_tables.specs.declared.records.Contract.{Contract}
 use Rattle.span_tables.specs.declared.records.PositionRecord.{PositionRecord}
-use Rattle.param_check.specs.Binding.{all_unfit, among, bind_faults, exceeds_held, exceeds_net, is_first_of_account}
-use Rattle.param_check.specs.Binding.{is_first_of_contract, is_known, is_unknown, known_records}
+use Rattle.binding.specs.Binding.{all_unfit, among, bind_faults, exceeds_held, exceeds_net, is_first_of_account}
+use Rattle.binding.specs.Binding.{is_first_of_contract, is_known, is_unknown, known_records}
 use Rattle.param_check.specs.FaultLaws.{known_numbers, renumbered}
-use Rattle.param_check.specs.declared.faults.BindFault.{BindFault}
-use Rattle.param_check.specs.declared.faults.BindFault.TheVariants as fault
-use Rattle.param_check.proofs.KnownRecords.{all_pass, among_all}
-use Rattle.param_check.proofs.UnfitLaws.{none_unfit}
-use Rattle.param_check.proofs.UnfitWalk.{unfit_at}
+use Rattle.binding.specs.declared.faults.BindFault.{BindFault}
+use Rattle.binding.specs.declared.faults.BindFault.TheVariants as fault
+use Rattle.binding.proofs.KnownRecords.{all_pass, among_all}
+use Rattle.binding.proofs.UnfitLaws.{none_unfit}
+use Rattle.binding.proofs.UnfitWalk.{unfit_at}
 
 abbrev contract_of : PositionRecord → List ℕ
 contract_of p = p.contract

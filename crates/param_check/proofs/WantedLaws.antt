@@ -8,7 +8,7 @@ use Rattle.span_tables.specs.Faults.{all_faults, first_of}
 use Rattle.param_check.specs.near.Wanted.{is_first, wanted_of}
 use Rattle.param_check.specs.declared.wanted.Wanted.{Wanted}
 use Rattle.param_check.specs.declared.wanted.Wanted.TheVariants as wanted
-use Rattle.param_check.proofs.AllFaults.{faults_from, faults_from_end, faults_from_next}
+use Rattle.binding.proofs.AllFaults.{faults_from, faults_from_end, faults_from_next}
 
 -- These faults are told of the elements before a place: with those from there on they are all, and of a walk that ends with the first there
 -- are none.

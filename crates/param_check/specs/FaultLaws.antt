@@ -3,9 +3,9 @@ use Rattle.std.specs.Prelude.{◌≡◌, ◌⊎◌, ⊤, ℕ, ◌-◌, ◌<◌, 
 use Rattle.std.specs.List.{AllByRecursion, enumerate_from}
 use Rattle.span_tables.specs.declared.records.Contract.{Contract}
 use Rattle.span_tables.specs.declared.records.PositionRecord.{PositionRecord}
-use Rattle.param_check.specs.Binding.{is_known}
-use Rattle.param_check.specs.declared.faults.BindFault.{BindFault}
-use Rattle.param_check.specs.declared.faults.BindFault.TheVariants as fault
+use Rattle.binding.specs.Binding.{is_known}
+use Rattle.binding.specs.declared.faults.BindFault.{BindFault}
+use Rattle.binding.specs.declared.faults.BindFault.TheVariants as fault
 use Rattle.param_check.specs.declared.faults.CheckFault.{CheckFault}
 use Rattle.param_check.specs.declared.faults.CheckFault.TheVariants as check
 

@@ -2,12 +2,12 @@
 ghost use Rattle.std.specs.Prelude.{◌≡◌, ◌↔◌, ◌++◌, ◌∷◌, ℕ, Bool, List, [], None, Some, Ok, Err};
 ghost use Rattle.std.specs.Prelude.{if◌then◌else◌, map, Contains};
 ghost use Rattle.std.specs.List.{AllByRecursion};
-ghost use Rattle.param_check.specs.Binding.{all_unfit, all_unfit_by, bind_faults, bindings_of, is_unknown, known_records};
+ghost use Rattle.binding.specs.Binding.{all_unfit, all_unfit_by, bind_faults, bindings_of, is_unknown, known_records};
 ghost use Rattle.param_check.specs.CheckFaults.{check_faults, checked};
 ghost use Rattle.param_check.specs.FaultLaws.{bind_number, bind_record, check_number, check_record, known_numbers, renumbered};
 ghost use Rattle.param_check.specs.FaultLaws.{AreInOrder, ComesBefore};
-ghost use Rattle.param_check.specs.declared.faults.BindFault.TheVariants as bind;
-ghost use Rattle.param_check.specs.declared.faults.BindFault.{BindFault};
+ghost use Rattle.binding.specs.declared.faults.BindFault.TheVariants as bind;
+ghost use Rattle.binding.specs.declared.faults.BindFault.{BindFault};
 ghost use Rattle.param_check.specs.declared.faults.CheckFault.{CheckFault};
 ghost use Rattle.span_tables.specs.Laws.{IsFaultOfSome, IsStrictlyRisingBy};
 ghost use Rattle.span_tables.specs.Net.{portfolios_of};

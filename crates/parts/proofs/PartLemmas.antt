@@ -19,10 +19,10 @@ use Rattle.span_tables.specs.declared.portfolios.Holding.{Holding}
 use Rattle.span_tables.specs.declared.records.Contract.{Contract}
 use Rattle.span_tables.specs.declared.records.PositionRecord.{PositionRecord}
 use Rattle.span_tables.proofs.NameLemmas.{is_among-distinct}
-use Rattle.param_check.specs.Binding.{bind_fault, bindings_of, exceeds_held, exceeds_net, is_unknown}
-use Rattle.param_check.specs.declared.faults.BindFault.{BindFault}
-use Rattle.param_check.proofs.AcceptedLaws.{IsFit, fit_of_none, none_of_fit}
-use Rattle.param_check.proofs.AccountLaws.{bytes_eq-flip, bytes_eq-refl}
+use Rattle.binding.specs.Binding.{bind_fault, bindings_of, exceeds_held, exceeds_net, is_unknown}
+use Rattle.binding.specs.declared.faults.BindFault.{BindFault}
+use Rattle.binding.proofs.AcceptedLaws.{IsFit, fit_of_none, none_of_fit}
+use Rattle.binding.proofs.AccountLaws.{bytes_eq-flip, bytes_eq-refl}
 use Rattle.parts.specs.Parts.{AreApart, ShareNoName, records_of_account}
 use Rattle.statement_text.specs.Statement.{and_then, portfolios_under, row_text, same, statement_bound, statement_text}
 use Rattle.statement_text.specs.declared.faults.SpanFault.TheVariants as fault

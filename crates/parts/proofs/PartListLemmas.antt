@@ -16,7 +16,7 @@ use Rattle.span_tables.specs.Net.{portfolios_of}
 use Rattle.span_tables.specs.Tables.{AcceptedTables}
 use Rattle.span_tables.specs.declared.records.PositionRecord.{PositionRecord}
 use Rattle.span_tables.proofs.NameLemmas.{same_name}
-use Rattle.param_check.proofs.AcceptedLaws.{IsFit}
+use Rattle.binding.proofs.AcceptedLaws.{IsFit}
 use Rattle.parts.specs.Parts.{AreApart, AreFilesApart, ShareNoName, accounts_in, records_joined}
 use Rattle.statement_text.specs.Statement.{statement_bound, statement_text}
 use Rattle.parts.proofs.PartLemmas.{fit_of_text, statements_joined, statements_parted, text_of_fit}

@@ -21,9 +21,9 @@ use Rattle.span_tables.specs.declared.records.PositionRecord.{PositionRecord}
 use Rattle.span_tables.proofs.NameLaws.{distinct_once}
 use Rattle.span_tables.proofs.NameLemmas.{is_among-distinct, same_name}
 use Rattle.span_tables.proofs.SumLaws.{int_sum_by-cons, int_sum_by-if}
-use Rattle.param_check.specs.Binding.{exceeds_held, exceeds_net, is_unknown}
-use Rattle.param_check.proofs.AcceptedLaws.{IsFit}
-use Rattle.param_check.proofs.AccountLaws.{bytes_eq-flip, bytes_eq-refl}
+use Rattle.binding.specs.Binding.{exceeds_held, exceeds_net, is_unknown}
+use Rattle.binding.proofs.AcceptedLaws.{IsFit}
+use Rattle.binding.proofs.AccountLaws.{bytes_eq-flip, bytes_eq-refl}
 use Rattle.parts.specs.Parts.{lines_of}
 use Rattle.statement_text.specs.Statement.{row_text, statement_bound, statement_text}
 use Rattle.statement_text.specs.declared.faults.SpanFault.{SpanFault}

@@ -14,7 +14,7 @@ use Rattle.std.proofs.lemmas.List.Elements.{filter-append, filter_agree}
 use Rattle.std.proofs.lemmas.List.Sorted.{IsPermutation-cons, IsPermutation-middle, IsPermutation-refl}
 use Rattle.std.proofs.lemmas.List.Sorted.{IsPermutation-sym, IsPermutation-trans, ranks_by, sorted_far}
 use Rattle.span_tables.proofs.NameLemmas.{same_name}
-use Rattle.param_check.proofs.AccountLaws.{bytes_eq-refl}
+use Rattle.binding.proofs.AccountLaws.{bytes_eq-refl}
 
 -- two texts of which neither is below the other are one
 tie_by : (o : Ordering) → (not (is_lt (ordering_reverse o)) && not (is_lt o)) ≡ is_eq o

@@ -3,7 +3,7 @@ ghost use Rattle.span_tables.specs.Holdings.{fits};
 ghost use Rattle.std.specs.Arc.{arc_value};
 ghost use Rattle.std.specs.Prelude.{◌≡◌, All, IfSome, length, true};
 
-use param_check::binding::bind;
+use binding::positions::bind;
 use param_check::check::check;
 use plan_compiler::set::{CompiledSet, compile};
 use span_csv::params::read_params;

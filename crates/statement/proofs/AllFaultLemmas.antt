@@ -7,9 +7,9 @@ use Rattle.std.specs.Prelude.{◌↔◌, ⊤, is_ok, option_map}
 use Rattle.std.specs.List.{before_first, position_or_len}
 use Rattle.std.specs.Option.{option_or}
 use Rattle.std.specs.Result.{result_err, result_ok}
-use Rattle.param_check.specs.Binding.{bind_fault, bind_faults, bindings_of}
+use Rattle.binding.specs.Binding.{bind_fault, bind_faults, bindings_of}
 use Rattle.param_check.specs.CheckFaults.{check_fault, check_faults, checked}
-use Rattle.param_check.specs.declared.faults.BindFault.{BindFault}
+use Rattle.binding.specs.declared.faults.BindFault.{BindFault}
 use Rattle.param_check.specs.declared.faults.CheckFault.{CheckFault}
 use Rattle.span_csv.specs.ParamFaults.{param_faults, params_of}
 use Rattle.span_csv.specs.PositionFaults.{position_faults, positions_of}

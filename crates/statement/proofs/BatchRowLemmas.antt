@@ -3,7 +3,7 @@ use Rattle.std.proofs.Common.{◌≡◌, ◌∙◌, ℕ, zero, suc, ◌<◌, Boo
 use Rattle.std.proofs.Common.{Some, None, get_or, bytes_eq, refl, sym, ap, subst, arith, ◌++◌, flat_map}
 use Rattle.std.specs.List.{IsDistinct}
 use Rattle.std.proofs.lemmas.Map.Keys.{IsDistinct-head, IsDistinct-tail}
-use Rattle.param_check.proofs.AccountLaws.{bytes_eq-flip}
+use Rattle.binding.proofs.AccountLaws.{bytes_eq-flip}
 use Rattle.span_tables.specs.Net.{AccountHoldings}
 use Rattle.plan_compiler.specs.Compiled.{SetView}
 use Rattle.result_book.specs.Books.{HasNoAccountTwice, account_of_row, row_for}

@@ -3,7 +3,7 @@ use Rattle.std.specs.Prelude.{ℕ, Bool, true, false, List, [], ◌∷◌, ◌++
 use Rattle.std.specs.Result.{result_ok}
 use Rattle.span_csv.specs.ParamFaults.{param_faults, params_of}
 use Rattle.span_csv.specs.PositionFaults.{position_faults, positions_of}
-use Rattle.param_check.specs.Binding.{bind_faults}
+use Rattle.binding.specs.Binding.{bind_faults}
 use Rattle.param_check.specs.CheckFaults.{check_faults}
 use Rattle.span_tables.specs.Tables.{AcceptedTables}
 use Rattle.span_tables.specs.declared.records.PositionRecord.{PositionRecord}

@@ -9,7 +9,7 @@ ghost use Rattle.statement_text.specs.Statement.{accepted_of};
 ghost use Rattle.std.specs.Prelude.{◌≡◌, ◌++◌, IfOk, option_map};
 ghost use Rattle.std.specs.Result.{result_ok};
 
-use param_check::binding::bind_faults;
+use binding::positions::bind_faults;
 use param_check::check::{check, check_faults};
 use span_csv::faults::{ParamFault, PositionFault};
 use span_csv::params::{param_faults, read_params};

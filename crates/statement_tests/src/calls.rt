@@ -3,8 +3,8 @@
 ghost use Rattle.span_tables.specs.Holdings.{fits};
 ghost use Rattle.std.specs.Prelude.{◌≡◌, ◌<◌, length, true};
 
+use binding::positions::bind;
 use explanation::explaining::explain;
-use param_check::binding::bind;
 use reasons::stages::{push_reasons, stages_of};
 use result_book::books::ResultBook;
 use sample_files::{calendar, one_future, two_commodities};

@@ -1,5 +1,6 @@
 //! The lines of faults and their statuses, the texts of faults that calls answer, which no clause has, and a line without room.
-use param_check::faults::{BindFault, CheckFault};
+use binding::faults::BindFault;
+use param_check::faults::CheckFault;
 use plan_shelf::faults::ShelfFault;
 use result_book::books::BookFault;
 use span_csv::faults::{ParamFault, PositionFault};

@@ -1,5 +1,5 @@
 //! Rolls: the bytes of both statements, the thread beside the first batch, and what stays in the book.
-use param_check::faults::BindFault;
+use binding::faults::BindFault;
 use result_book::books::ResultBook;
 use sample_files::calendar::{BOTH_STATEMENTS, NEXT, NEXT_WITHOUT_A_CONTRACT, PARAMS, POSITIONS};
 use span_csv::faults::ParamFault;

@@ -5,8 +5,8 @@ use Rattle.span_csv.specs.PositionFaults.{positions_of}
 use Rattle.span_tables.specs.Tables.{AcceptedTables}
 use Rattle.span_tables.specs.declared.records.PositionRecord.{PositionRecord}
 use Rattle.param_check.specs.CheckFaults.{checked}
-use Rattle.param_check.specs.Binding.{bindings_of}
-use Rattle.param_check.specs.declared.faults.BindFault.{BindFault}
+use Rattle.binding.specs.Binding.{bindings_of}
+use Rattle.binding.specs.declared.faults.BindFault.{BindFault}
 use Rattle.param_check.specs.declared.faults.CheckFault.{CheckFault}
 use Rattle.span_csv.specs.declared.faults.ParamFault.{ParamFault}
 use Rattle.span_csv.specs.declared.faults.PositionFault.{PositionFault}

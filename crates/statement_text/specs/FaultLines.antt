@@ -6,9 +6,9 @@ use Rattle.span_csv.specs.PositionFaults as position_fault
 use Rattle.span_csv.specs.OrderFaults as order_fault
 use Rattle.param_check.specs.CheckFaults as check_fault
 use Rattle.param_check.specs.CheckFaults.{check_text}
-use Rattle.param_check.specs.Binding as bind_fault
-use Rattle.param_check.specs.BindTexts.{bind_text, order_bind_text}
-use Rattle.param_check.specs.OrderBinding as order_bind_fault
+use Rattle.binding.specs.Binding as bind_fault
+use Rattle.binding.specs.BindTexts.{bind_text, order_bind_text}
+use Rattle.binding.specs.OrderBinding as order_bind_fault
 use Rattle.result_book.specs.BookFaults as book_fault
 use Rattle.result_book.specs.BookFaults.{book_text}
 use Rattle.statement_text.specs.declared.faults.SpanFault.{SpanFault}

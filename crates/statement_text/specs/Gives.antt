@@ -3,9 +3,9 @@ use Rattle.std.specs.Prelude.{◌≡◌, ◌⊎◌, Bool, true, false, Result, O
 use Rattle.span_csv.specs.ParamFaults as param
 use Rattle.span_csv.specs.PositionFaults as position
 use Rattle.param_check.specs.CheckFaults as check
-use Rattle.param_check.specs.Binding as bind
+use Rattle.binding.specs.Binding as bind
 use Rattle.span_csv.specs.OrderFaults as order
-use Rattle.param_check.specs.OrderBinding as bind_order
+use Rattle.binding.specs.OrderBinding as bind_order
 use Rattle.result_book.specs.BookFaults as book
 use Rattle.statement_text.specs.declared.faults.SpanFault.{SpanFault}
 use Rattle.statement_text.specs.declared.faults.SpanFault.TheVariants as fault

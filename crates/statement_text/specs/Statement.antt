@@ -10,7 +10,7 @@ use Rattle.param_check.specs.CheckFaults.{checked}
 use Rattle.span_tables.specs.Tables.{AcceptedTables, facts_in}
 use Rattle.span_tables.specs.Net.{AccountHoldings}
 use Rattle.span_tables.specs.declared.records.PositionRecord.{PositionRecord}
-use Rattle.param_check.specs.Binding.{bindings_of}
+use Rattle.binding.specs.Binding.{bindings_of}
 use Rattle.inter_credit.specs.OptionValue.{due_of, excess_of}
 use Rattle.plan_ir.specs.Figures.{commodity_at, figures_of, is_commodity_held, numbers_of, option_value_of, total_to}
 use Rattle.plan_ir.specs.declared.figures.Figures.{Figures}

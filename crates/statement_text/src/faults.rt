@@ -1,8 +1,8 @@
 //! Why there is no statement, and the exit status that says so (docs/FORMATS.md, Fault lines and statuses).
 ghost use Rattle.statement_text.specs.FaultLines.{fault_status, is_memory};
-ghost use Rattle.param_check.specs.Binding as bind;
+ghost use Rattle.binding.specs.Binding as bind;
 ghost use Rattle.param_check.specs.CheckFaults as check;
-ghost use Rattle.param_check.specs.OrderBinding as bind_orders;
+ghost use Rattle.binding.specs.OrderBinding as bind_orders;
 ghost use Rattle.span_csv.specs.OrderFaults as orders;
 ghost use Rattle.span_csv.specs.ParamFaults as params;
 ghost use Rattle.span_csv.specs.PositionFaults as positions;
@@ -11,7 +11,8 @@ ghost use Rattle.statement_text.specs.declared.faults.SpanFault.TheVariants as f
 ghost use Rattle.std.specs.Prelude.{◌≡◌};
 
 use crate::statuses::{BOOK_REFUSED, OUT_OF_MEMORY, PARAMETERS_REFUSED, POSITIONS_REFUSED, USAGE};
-use param_check::faults::{BindFault, CheckFault, OrderBindFault};
+use binding::faults::{BindFault, OrderBindFault};
+use param_check::faults::CheckFault;
 use plan_shelf::faults::{NotPublished, ShelfFault};
 use result_book::books::BookFault;
 use span_csv::faults::{OrderFault, ParamFault, PositionFault};

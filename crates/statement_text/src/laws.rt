@@ -1,9 +1,9 @@
 //! Laws of the definitions, in the formats' own words: each is the contract of a function that does nothing.
 #![tactic(auto, unfolding(crate::specs::near::OnLiterals::on_literals))]
 
-ghost use Rattle.param_check.specs.Binding.{bindings_of};
+ghost use Rattle.binding.specs.Binding.{bindings_of};
 ghost use Rattle.param_check.specs.CheckFaults.{checked};
-ghost use Rattle.param_check.specs.declared.faults.BindFault.{BindFault};
+ghost use Rattle.binding.specs.declared.faults.BindFault.{BindFault};
 ghost use Rattle.param_check.specs.declared.faults.CheckFault.{CheckFault};
 ghost use Rattle.span_csv.specs.ParamFaults.{params_of};
 ghost use Rattle.span_csv.specs.PositionFaults.{positions_of};

@@ -11,8 +11,8 @@ use Rattle.span_tables.specs.declared.records.Contract.{Contract}
 use Rattle.span_tables.specs.declared.records.OrderRecord.{OrderRecord}
 use Rattle.span_tables.specs.declared.records.PositionRecord.{PositionRecord}
 use Rattle.span_tables.proofs.MergedLaws.{net_of-append}
-use Rattle.param_check.proofs.TriedLaws.{after_by_positions, before_by_positions}
-use Rattle.param_check.specs.OrderBinding.{holdings_after, holdings_before, tried_order}
+use Rattle.binding.proofs.TriedLaws.{after_by_positions, before_by_positions}
+use Rattle.binding.specs.OrderBinding.{holdings_after, holdings_before, tried_order}
 use Rattle.span_tables.proofs.NameLemmas.{same_name}
 use Rattle.span_tables.specs.declared.portfolios.Holding.{Holding}
 

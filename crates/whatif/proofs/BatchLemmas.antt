@@ -7,7 +7,7 @@ use Rattle.std.proofs.lemmas.List.{get_or-drop, get_or-map, get_or-take, length-
 use Rattle.std.proofs.lemmas.List.Elements.{All-drop, All-map, All-take}
 use Rattle.span_tables.specs.Net.{AccountHoldings}
 use Rattle.span_tables.specs.Tables.{AcceptedTables}
-use Rattle.param_check.specs.OrderBinding.{TriedOrder, TriedOrders}
+use Rattle.binding.specs.OrderBinding.{TriedOrder, TriedOrders}
 use Rattle.plan_compiler.specs.Compiled.{SetView}
 use Rattle.step_scheduler.specs.Rows.{RowView}
 use Rattle.worker_teams.specs.near.OutcomeRows.{rows_of_accounts}

@@ -7,7 +7,7 @@ use Rattle.std.proofs.lemmas.List.{append-nil, take-append-drop}
 use Rattle.span_tables.specs.Net.{AccountHoldings}
 use Rattle.span_tables.specs.Tables.{AcceptedTables}
 use Rattle.span_tables.specs.declared.portfolios.Holding.{Holding}
-use Rattle.param_check.specs.OrderBinding.{TriedOrders}
+use Rattle.binding.specs.OrderBinding.{TriedOrders}
 use Rattle.plan_compiler.specs.Compiled.{SetView}
 use Rattle.step_scheduler.specs.Rows.{RowView}
 use Rattle.worker_teams.specs.near.OutcomeRows.{rows_of_accounts}

@@ -27,19 +27,19 @@ use Rattle.span_tables.specs.declared.records.Record.{Record}
 use Rattle.span_tables.proofs.MergedLaws.{net_among_all, net_of-append}
 use Rattle.span_tables.proofs.NameLemmas.{is_among-distinct, same_name}
 use Rattle.span_tables.proofs.WithinLimits.{kept}
-use Rattle.param_check.specs.Binding.{bind_fault, bindings_of, exceeds_held, exceeds_net, is_unknown}
+use Rattle.binding.specs.Binding.{bind_fault, bindings_of, exceeds_held, exceeds_net, is_unknown}
 use Rattle.param_check.specs.CheckFaults.{check_fault, checked}
-use Rattle.param_check.specs.OrderBinding.{TriedOrders, holdings_after, is_of_unknown, order_bind_fault, orders_bound, tried_order}
-use Rattle.param_check.specs.declared.faults.BindFault.{BindFault}
+use Rattle.binding.specs.OrderBinding.{TriedOrders, holdings_after, is_of_unknown, order_bind_fault, orders_bound, tried_order}
+use Rattle.binding.specs.declared.faults.BindFault.{BindFault}
 use Rattle.param_check.specs.declared.faults.CheckFault.{CheckFault}
-use Rattle.param_check.specs.declared.faults.OrderBindFault.{OrderBindFault}
-use Rattle.param_check.proofs.AcceptedLaws.{few_held, fit_of_none, nets_within, none_of_fit}
-use Rattle.param_check.proofs.AccountLaws.{bytes_eq-flip, bytes_eq-refl}
-use Rattle.param_check.proofs.OrderBindLaws.{accepted_known}
-use Rattle.param_check.proofs.OrderLaws.{among_within}
-use Rattle.param_check.proofs.PortfolioLaws.{portfolio_holds}
+use Rattle.binding.specs.declared.faults.OrderBindFault.{OrderBindFault}
+use Rattle.binding.proofs.AcceptedLaws.{few_held, fit_of_none, nets_within, none_of_fit}
+use Rattle.binding.proofs.AccountLaws.{bytes_eq-flip, bytes_eq-refl}
+use Rattle.binding.proofs.OrderBindLaws.{accepted_known}
+use Rattle.binding.proofs.OrderLaws.{among_within}
+use Rattle.binding.proofs.PortfolioLaws.{portfolio_holds}
 use Rattle.param_check.proofs.RuleLaws.{rules_kept}
-use Rattle.param_check.proofs.TriedLaws.{accepted_holds, after_by_positions}
+use Rattle.binding.proofs.TriedLaws.{accepted_holds, after_by_positions}
 use Rattle.statement_text.specs.Statement.{accepted_of, and_then, portfolios_under}
 use Rattle.statement_text.specs.declared.faults.SpanFault.TheVariants as fault
 use Rattle.whatif.proofs.AccountLaws.{same_nets}

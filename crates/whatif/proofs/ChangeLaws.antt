@@ -11,7 +11,7 @@ use Rattle.span_tables.proofs.SumLaws.{int_sum_by-cons, int_sum_by-if}
 use Rattle.span_money.specs.LineFields.{line}
 use Rattle.span_tables.specs.Tables.{AcceptedTables}
 use Rattle.inter_credit.specs.OptionValue.{due_of}
-use Rattle.param_check.specs.OrderBinding.{TriedOrder}
+use Rattle.binding.specs.OrderBinding.{TriedOrder}
 use Rattle.plan_ir.specs.Figures.{figures_of, option_value_of, total_to}
 use Rattle.statement_text.specs.Statement.{total_of}
 use Rattle.whatif.specs.Whatif.{change_line, changed_by, due_at, order_line, order_text, requirement_at}

@@ -15,8 +15,8 @@ use Rattle.span_tables.specs.Tables.{AcceptedTables}
 use Rattle.span_tables.specs.declared.records.Contract.{Contract}
 use Rattle.span_tables.specs.declared.records.OrderRecord.{OrderRecord}
 use Rattle.span_tables.specs.declared.records.PositionRecord.{PositionRecord}
-use Rattle.param_check.specs.OrderBinding.{TriedOrder, TriedOrders, holdings_before, order_bind_fault, orders_bound, tried_order}
-use Rattle.param_check.specs.declared.faults.OrderBindFault.{OrderBindFault}
+use Rattle.binding.specs.OrderBinding.{TriedOrder, TriedOrders, holdings_before, order_bind_fault, orders_bound, tried_order}
+use Rattle.binding.specs.declared.faults.OrderBindFault.{OrderBindFault}
 use Rattle.worker_pool.specs.declared.batch.TheConstants.{MAX_WORKERS}
 use Rattle.statement_text.specs.Gives.{Gives, is_memory}
 use Rattle.statement_text.specs.Statement.{accepted_of, and_then, portfolios_under, same, statement_bound, statement_of, statement_under}

@@ -5,7 +5,7 @@ use Rattle.std.specs.List.{range_with_len}
 use Rattle.std.specs.Ordering.{int_eq}
 use Rattle.span_money.specs.LineFields.{line}
 use Rattle.span_tables.specs.Tables.{AcceptedTables}
-use Rattle.param_check.specs.OrderBinding.{TriedOrder}
+use Rattle.binding.specs.OrderBinding.{TriedOrder}
 use Rattle.plan_ir.specs.Figures.{commodity_at}
 use Rattle.whatif.specs.Whatif.{change_line, changed_by, changes, requirement_at}
 use Rattle.whatif.specs.near.Numbers.{change_text, changed_text}

@@ -7,7 +7,7 @@ use Rattle.std.proofs.lemmas.Bool.{cases_eq, cases_lt}
 use Rattle.std.proofs.lemmas.List.{get_or-set_same, get_or-set_other, get_or_append_left, length-append}
 use Rattle.std.proofs.lemmas.Option.{slice_get-get_or, slice_get_within}
 use Rattle.span_tables.specs.Net.{AccountHoldings}
-use Rattle.param_check.specs.OrderBinding.{TriedOrders}
+use Rattle.binding.specs.OrderBinding.{TriedOrders}
 use Rattle.whatif.specs.near.Befores.{AreKept, AreSlots, HasSlot, IsMarked}
 use Rattle.whatif.specs.near.Numbers.{order_at}
 

@@ -9,7 +9,7 @@ use Rattle.span_csv.specs.PositionFaults.{positions_of}
 use Rattle.span_csv.specs.OrderFaults.{orders_of}
 use Rattle.span_tables.specs.Net.{AccountHoldings}
 use Rattle.span_tables.specs.Tables.{AcceptedTables, facts_in}
-use Rattle.param_check.specs.OrderBinding.{TriedOrder, orders_bound}
+use Rattle.binding.specs.OrderBinding.{TriedOrder, orders_bound}
 use Rattle.inter_credit.specs.OptionValue.{due_of}
 use Rattle.plan_ir.specs.Figures.{commodity_at, figures_of, option_value_of}
 use Rattle.statement_text.specs.Statement.{accepted_of, and_then, portfolios_under, same, total_of}

@@ -9,7 +9,7 @@ ghost use Rattle.whatif.specs.near.Orders.{OrdersFit, orders_text};
 use crate::befores::{Befores, befores_of};
 use crate::lines::Trial;
 use crate::margining::{BatchMeans, MOST_AT_ONCE, rows_of};
-use param_check::orders::Orders;
+use binding::orders::Orders;
 use plan_compiler::set::CompiledSet;
 use std::alloc::{AllocError, Global};
 use std::sync::{Arc, Wait};

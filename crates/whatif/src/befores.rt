@@ -9,7 +9,7 @@ ghost use Rattle.whatif.specs.near.Numbers.{AreOfRow, order_at};
 
 use crate::margining::{BatchMeans, MOST_AT_ONCE, rows_of};
 use crate::numbers::{Numbers, all_numbers};
-use param_check::orders::Orders;
+use binding::orders::Orders;
 use span_tables::name::Name;
 use span_tables::portfolios::Portfolio;
 use std::alloc::{AllocError, Global};

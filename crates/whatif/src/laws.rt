@@ -1,7 +1,7 @@
 //! Laws: what the lines of an order say of the statements without it and with it. Each is the contract of a function that does nothing.
-ghost use Rattle.param_check.specs.OrderBinding.{TriedOrder, holdings_after, holdings_before, orders_bound, tried_order};
-ghost use Rattle.param_check.specs.OrderBinding.{TriedOrders};
-ghost use Rattle.param_check.specs.declared.faults.OrderBindFault.{OrderBindFault};
+ghost use Rattle.binding.specs.OrderBinding.{TriedOrder, holdings_after, holdings_before, orders_bound, tried_order};
+ghost use Rattle.binding.specs.OrderBinding.{TriedOrders};
+ghost use Rattle.binding.specs.declared.faults.OrderBindFault.{OrderBindFault};
 ghost use Rattle.plan_ir.specs.Figures.{is_commodity_held};
 ghost use Rattle.span_csv.specs.OrderFaults.{orders_of};
 ghost use Rattle.span_csv.specs.PositionFaults.{positions_of};

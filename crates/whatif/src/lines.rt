@@ -7,7 +7,7 @@ ghost use Rattle.whatif.specs.Whatif.{change_line, change_of, changed_by, due_at
 ghost use Rattle.whatif.specs.near.Numbers.{IsTried, change_text, changed_text, order_at};
 
 use crate::numbers::Numbers;
-use param_check::orders::Orders;
+use binding::orders::Orders;
 use span_money::amounts::Money;
 use span_money::line_fields::{Field, push_line_of_numbers};
 use span_tables::name::Name;

@@ -1,5 +1,5 @@
 //! From the bytes of three files to what the orders of the last would do (docs/FORMATS.md, "Orders tried").
-ghost use Rattle.param_check.specs.OrderBinding.{TriedOrders};
+ghost use Rattle.binding.specs.OrderBinding.{TriedOrders};
 ghost use Rattle.statement_text.specs.Gives.{Gives};
 ghost use Rattle.statement_text.specs.declared.faults.SpanFault.TheVariants as fault;
 ghost use Rattle.std.specs.Arc.{arc_value};
@@ -10,7 +10,7 @@ ghost use Rattle.whatif.specs.near.Orders.{OrdersFit};
 use crate::batches::text_of;
 use crate::margining::BatchMeans;
 use acceptance::accepting::{Accepted, accept_together};
-use param_check::orders::{Orders, bind_orders};
+use binding::orders::{Orders, bind_orders};
 use plan_compiler::set::CompiledSet;
 use span_csv::orders::read_orders;
 use span_tables::portfolios::Portfolios;

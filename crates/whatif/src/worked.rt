@@ -1,7 +1,7 @@
 //! Whole files with what the orders of the last would do, each computed from the bytes of the three by the definitions alone.
 #![tactic(auto, unfolding(crate::specs::near::OnLiterals::on_literals))]
 
-ghost use Rattle.param_check.specs.declared.faults.OrderBindFault.TheVariants as bind;
+ghost use Rattle.binding.specs.declared.faults.OrderBindFault.TheVariants as bind;
 ghost use Rattle.span_csv.specs.declared.faults.OrderFault.TheVariants as reading;
 ghost use Rattle.statement_text.specs.declared.faults.SpanFault.TheVariants as fault;
 ghost use Rattle.statement_text.specs.near.Samples.{ca, fa, one_future, two_commodities};

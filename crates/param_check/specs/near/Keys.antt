@@ -8,6 +8,7 @@ use Rattle.span_tables.specs.declared.records.Record.TheVariants as record_of
 use Rattle.param_check.specs.declared.check.keys.Identity.{Identity}
 use Rattle.param_check.specs.declared.check.keys.Identity.TheVariants as identity
 use Rattle.param_check.specs.declared.check.keys.Key.{Key}
+use Rattle.binding.specs.near.Holdings.{is_same_name}
 
 -- the key of a name and a number
 abbrev pub name_key : List ℕ → ℕ → Key
@@ -22,12 +23,6 @@ key_of identity.Priority (record_of.Intra s) = Some (name_key s.commodity s.prio
 key_of identity.Priority (record_of.Inter s) = Some (record { name = None; number = s.priority })
 key_of identity.SpotMonth (record_of.Spot s) = Some (name_key s.commodity s.month)
 key_of _ _ = None
-
--- two keys have the same name, or both have none
-abbrev pub is_same_name : Option (List ℕ) → Option (List ℕ) → Bool
-is_same_name (Some x) (Some y) = bytes_eq x y
-is_same_name None None = true
-is_same_name _ _ = false
 
 -- two keys are the same
 abbrev pub is_same_key : Key → Key → Bool

@@ -2,7 +2,7 @@
 #![tactic(auto, unfolding(crate::specs::near::OnLiterals::on_literals))]
 
 ghost use Rattle.std.specs.Prelude.{◌++◌, ◌≡◌, [], codes};
-ghost use Rattle.param_check.specs.declared.faults.BindFault.TheVariants as bind;
+ghost use Rattle.binding.specs.declared.faults.BindFault.TheVariants as bind;
 ghost use Rattle.param_check.specs.declared.faults.CheckFault.TheVariants as check;
 ghost use Rattle.span_csv.specs.declared.faults.ParamFault.TheVariants as params;
 ghost use Rattle.span_csv.specs.declared.faults.PositionFault.TheVariants as positions;

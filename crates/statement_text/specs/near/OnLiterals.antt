@@ -7,7 +7,7 @@ use Rattle.param_check.specs.CheckFaults.{check_fault, check_faults, checked}
 use Rattle.span_tables.specs.near.Limits.{is_readable}
 use Rattle.span_tables.specs.Tables.{tables_of, intras_of, spots_of, inters_of}
 use Rattle.span_tables.specs.Net.{portfolios_of, held_of}
-use Rattle.param_check.specs.Binding.{bind_fault, bind_faults, bindings_of}
+use Rattle.binding.specs.Binding.{bind_fault, bind_faults, bindings_of}
 use Rattle.scan_risk.specs.Scenarios.{scenario_sums, scan_of}
 use Rattle.spread_stage.specs.Deltas.{month_deltas}
 use Rattle.spread_stage.specs.Spreads.{spread_both_ways, after_spreads}

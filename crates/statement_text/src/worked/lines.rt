@@ -1,18 +1,18 @@
 //! The line and the exit status of each fault, computed by the definitions.
 #![tactic(auto, unfolding(crate::specs::near::OnLiterals::on_literals))]
 
-ghost use Rattle.param_check.specs.Binding as bind_fault;
+ghost use Rattle.binding.specs.Binding as bind_fault;
 ghost use Rattle.param_check.specs.CheckFaults as check_fault;
-ghost use Rattle.param_check.specs.declared.faults.BindFault.{BindFault};
-ghost use Rattle.param_check.specs.declared.faults.BindFault.TheVariants as bind;
+ghost use Rattle.binding.specs.declared.faults.BindFault.{BindFault};
+ghost use Rattle.binding.specs.declared.faults.BindFault.TheVariants as bind;
 ghost use Rattle.param_check.specs.declared.faults.CheckFault.{CheckFault};
 ghost use Rattle.param_check.specs.declared.faults.CheckFault.TheVariants as check;
 ghost use Rattle.result_book.specs.BookFaults as book_fault;
 ghost use Rattle.result_book.specs.declared.books.BookFault.{BookFault};
 ghost use Rattle.result_book.specs.declared.books.BookFault.TheVariants as book;
-ghost use Rattle.param_check.specs.OrderBinding as bind_order_fault;
-ghost use Rattle.param_check.specs.declared.faults.OrderBindFault.{OrderBindFault};
-ghost use Rattle.param_check.specs.declared.faults.OrderBindFault.TheVariants as bind_orders;
+ghost use Rattle.binding.specs.OrderBinding as bind_order_fault;
+ghost use Rattle.binding.specs.declared.faults.OrderBindFault.{OrderBindFault};
+ghost use Rattle.binding.specs.declared.faults.OrderBindFault.TheVariants as bind_orders;
 ghost use Rattle.span_csv.specs.OrderFaults as order_fault;
 ghost use Rattle.span_csv.specs.declared.faults.OrderFault.{OrderFault};
 ghost use Rattle.span_csv.specs.declared.faults.OrderFault.TheVariants as orders;

@@ -12,7 +12,7 @@ ghost use Rattle.statement_text.specs.declared.faults.SpanFault.TheVariants as s
 ghost use Rattle.span_csv.specs.declared.faults.ParamFault.TheVariants as params;
 ghost use Rattle.param_check.specs.declared.faults.CheckFault.TheVariants as check;
 ghost use Rattle.span_csv.specs.declared.faults.PositionFault.TheVariants as positions;
-ghost use Rattle.param_check.specs.declared.faults.BindFault.TheVariants as bind;
+ghost use Rattle.binding.specs.declared.faults.BindFault.TheVariants as bind;
 
 // Parameters that are not read: an empty file, a second set, an unclosed quote, a cut record.
 fn parameters_without_their_form()

@@ -5,7 +5,7 @@ use Rattle.span_tables.specs.Holdings.{fits}
 use Rattle.span_tables.specs.Net.{AccountHoldings}
 use Rattle.span_tables.specs.Tables.{AcceptedTables}
 use Rattle.span_tables.specs.declared.portfolios.Holding.{Holding}
-use Rattle.param_check.specs.OrderBinding.{TriedOrders}
+use Rattle.binding.specs.OrderBinding.{TriedOrders}
 use Rattle.plan_compiler.specs.Compiled.{SetView}
 use Rattle.worker_teams.specs.near.OutcomeRows.{rows_of_accounts}
 use Rattle.whatif.specs.near.Numbers.{AreNumbers, AreOfRow, order_at}

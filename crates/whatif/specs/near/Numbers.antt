@@ -5,7 +5,7 @@ use Rattle.std.specs.Ordering.{int_eq}
 use Rattle.span_money.specs.LineFields.{line}
 use Rattle.span_tables.specs.Tables.{AcceptedTables}
 use Rattle.span_tables.specs.declared.portfolios.Holding.{Holding}
-use Rattle.param_check.specs.OrderBinding.{TriedOrder, TriedOrders}
+use Rattle.binding.specs.OrderBinding.{TriedOrder, TriedOrders}
 use Rattle.plan_ir.specs.Figures.{figures_of, option_value_of, total_to}
 use Rattle.step_scheduler.specs.Rows.{RowView}
 use Rattle.whatif.specs.Whatif.{change_line, change_of, changes}

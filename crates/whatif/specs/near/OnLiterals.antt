@@ -1,6 +1,6 @@
 -- What an answer unfolds to compute the definitions on literals.
 use Rattle.std.specs.Prelude.{⊤}
-use Rattle.param_check.specs.OrderBinding.{order_bind_fault, orders_bound}
+use Rattle.binding.specs.OrderBinding.{order_bind_fault, orders_bound}
 use Rattle.statement_text.specs.near.OnLiterals.{on_literals as statement_on_literals}
 use Rattle.whatif.specs.Whatif.{change_line, order_line, order_text, tried_of, tried_on, whatif_of, whatif_text}
 

@@ -2,7 +2,7 @@
 use Rattle.std.specs.Prelude.{ℕ, List, All, flat_map}
 use Rattle.std.specs.List.{range_with_len}
 use Rattle.span_tables.specs.Tables.{AcceptedTables}
-use Rattle.param_check.specs.OrderBinding.{TriedOrders}
+use Rattle.binding.specs.OrderBinding.{TriedOrders}
 use Rattle.plan_compiler.specs.Compiled.{SetView}
 use Rattle.worker_pool.specs.Batches.{FitsSet}
 use Rattle.whatif.specs.Whatif.{order_text}

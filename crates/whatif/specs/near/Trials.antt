@@ -1,7 +1,7 @@
 -- An order that is tried, as its lines are made of it.
 use Rattle.std.specs.Prelude.{◌<◌, ℕ, length}
 use Rattle.span_tables.specs.Tables.{AcceptedTables}
-use Rattle.param_check.specs.OrderBinding.{TriedOrder, TriedOrders}
+use Rattle.binding.specs.OrderBinding.{TriedOrder, TriedOrders}
 use Rattle.step_scheduler.specs.Rows.{RowView}
 use Rattle.whatif.specs.near.Numbers.{IsTried, order_at}
 use Rattle.whatif.specs.declared.numbers.Numbers.{Numbers}

@@ -1,5 +1,5 @@
 use Rattle.std.proofs.Common.{rules, ◌≡◌, ◌+◌, ◌-◌, ◌++◌, ◌∙◌}
-use Rattle.param_check.specs.near.Ledgers.{slice_nets}
+use Rattle.binding.specs.near.Ledgers.{slice_nets}
 use Rattle.acceptance.proofs.BindingLemmas.{slices_join}
 use Rattle.acceptance.proofs.binding.+nets.Goals as goal
 

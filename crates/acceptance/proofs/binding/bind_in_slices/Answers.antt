@@ -1,5 +1,5 @@
 use Rattle.std.proofs.Common.{◌∙◌, ℕ, List, ap, length, sym}
-use Rattle.param_check.specs.near.Ledgers.{slice_nets}
+use Rattle.binding.specs.near.Ledgers.{slice_nets}
 use Rattle.acceptance.proofs.BindingLemmas.{found_of_records, none_foreign}
 use Rattle.acceptance.proofs.binding.bind_in_slices.Goals as goal
 

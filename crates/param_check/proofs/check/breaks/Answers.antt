@@ -1,6 +1,6 @@
 use Rattle.std.proofs.Common.{◌++◌, ◌∙◌, ap, option_to_list, Result, Ok, Err, IfOk, OnOk}
 use Rattle.param_check.specs.near.Overlaps.{months_under}
-use Rattle.param_check.proofs.FilterMaps.{filter_map_more}
+use Rattle.binding.proofs.FilterMaps.{filter_map_more}
 use Rattle.param_check.proofs.KeyLemmas.{has_key_more, names_unknown_by, names_unknown_tier_by, repeats_by}
 use Rattle.param_check.proofs.OverlapLemmas.{overlaps_by}
 use Rattle.param_check.proofs.check.breaks.Goals as goal

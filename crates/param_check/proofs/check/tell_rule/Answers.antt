@@ -3,7 +3,7 @@ use Rattle.std.specs.Prelude.{if◌then◌else◌}
 use Rattle.std.proofs.lemmas.List.{append-nil, take_more}
 use Rattle.param_check.specs.near.NamedRules.{IsSeen, breaks_of, fault_of, rule_fault}
 use Rattle.param_check.specs.near.Overlaps.{months_in}
-use Rattle.param_check.proofs.AllFaults.{told_next}
+use Rattle.binding.proofs.AllFaults.{told_next}
 use Rattle.param_check.proofs.check.tell_rule.Goals.{then-branch+in_ok-push, else-branch}
 use Rattle.param_check.proofs.check.tell_rule.Goals as goal
 

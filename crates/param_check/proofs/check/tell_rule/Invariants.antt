@@ -1,7 +1,7 @@
 use Rattle.std.proofs.Common.{◌≡◌, ◌++◌, take}
 use Rattle.param_check.specs.near.NamedRules.{IsSeen, rule_fault, rule_faults}
 use Rattle.param_check.specs.near.Overlaps.{months_in}
-use Rattle.param_check.proofs.AllFaults.{faults_from}
+use Rattle.binding.proofs.AllFaults.{faults_from}
 use Rattle.param_check.proofs.check.tell_rule.Given as goal
 
 abbrev pub invariant-loop-index : goal.invariant-loop-index

@@ -5,7 +5,7 @@ use Rattle.span_tables.specs.Net.{accounts_of}
 use Rattle.span_tables.specs.declared.records.NumberedPosition.{NumberedPosition}
 use Rattle.span_tables.specs.declared.records.PositionRecord.{PositionRecord}
 use Rattle.span_tables.specs.near.Positions.{named_position, named_positions}
-use Rattle.param_check.specs.near.Ledgers.{contract_place, slice_nets}
+use Rattle.binding.specs.near.Ledgers.{contract_place, slice_nets}
 use Rattle.stage_tests.proofs.calls.bound_in_steps.Goals as goal
 
 -- what is found of records is the same of the records that they stand for

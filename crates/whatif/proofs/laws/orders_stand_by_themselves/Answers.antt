@@ -1,7 +1,7 @@
 use Rattle.std.proofs.Common.{ap, refl}
 use Rattle.whatif.specs.Whatif.{order_text, whatif_text}
 use Rattle.std.proofs.lemmas.Grind.{flat_map-append}
-use Rattle.param_check.proofs.TriedLaws.{same_order}
+use Rattle.binding.proofs.TriedLaws.{same_order}
 use Rattle.whatif.proofs.laws.orders_stand_by_themselves.Goals as goal
 
 pub returns-clause-same : goal.returns-clause-same

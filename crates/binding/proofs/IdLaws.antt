@@ -1,0 +1,60 @@
+-- Laws of the ids of contracts that stand apart.
+use Rattle.std.proofs.Common.{◌≡◌, ℕ, zero, suc, ◌+◌, ◌<◌, ◌||◌, false, cond, List, []}
+use Rattle.std.proofs.Common.{◌∷◌, ◌++◌, ◌≤◌, length, get_or, take, refl, sym, ap, subst, ◌∙◌, arith}
+use Rattle.std.specs.Prelude.{bytes_eq}
+use Rattle.std.specs.List.{list_any}
+use Rattle.std.proofs.lemmas.Bool.{or_parts, or_from, true≢false, false_from_ne_true}
+use Rattle.std.proofs.lemmas.List.{length-map, map_more}
+use Rattle.std.proofs.lemmas.List.Folds.{list_any_at}
+use Rattle.indexmap.specs.IndexSet.{insert_key}
+use Rattle.span_tables.specs.Names.{has_repeat}
+use Rattle.span_tables.specs.declared.records.Contract.{Contract}
+use Rattle.span_tables.specs.declared.limits.TheConstants.{MAX_CONTRACTS}
+use Rattle.binding.specs.near.Holdings.{ids_of}
+use Rattle.binding.specs.near.Ledgers.{AreNumbers}
+use Rattle.binding.proofs.AccountLaws.{bytes_eq-flip}
+
+-- no id before a contract is that contract's
+new_id : (contracts : List Contract) (i : ℕ) (d : Contract) → has_repeat (λ x y. bytes_eq x.id y.id) contracts ≡ false
+    → i < length contracts
+    → list_any (bytes_eq (get_or contracts i d).id) (ids_of (take i contracts)) ≡ false
+new_id [] i d h lt = absurd (omega (arith, lt))
+new_id (x ∷ contracts) zero d h lt = refl
+new_id (x ∷ contracts) (suc i) d h lt =
+    let parts = or_parts (list_any (λ y. bytes_eq x.id y.id) contracts) (has_repeat (λ y z. bytes_eq y.id z.id) contracts) h in
+    let within : i < length contracts = omega (arith, lt) in
+    let y = get_or contracts i d in
+    let other : bytes_eq x.id y.id ≡ false =
+    false_from_ne_true (bytes_eq x.id y.id)
+    (λ t. true≢false (sym (list_any_at (λ (z : Contract). bytes_eq x.id z.id) contracts i d within t) ∙ parts.0)) in
+    or_from (bytes_eq y.id x.id) (list_any (bytes_eq y.id) (ids_of (take i contracts))) (bytes_eq-flip y.id x.id ∙ other)
+    (new_id contracts i d parts.1 within)
+
+-- the next id goes last
+pub next_id : (contracts : List Contract) (i : ℕ) (d : Contract) (keys : List (List ℕ))
+    → has_repeat (λ x y. bytes_eq x.id y.id) contracts ≡ false → i < length contracts
+    → keys ≡ ids_of (take i contracts) → insert_key bytes_eq keys (get_or contracts i d).id ≡ ids_of (take (i + 1) contracts)
+next_id contracts i d keys h lt are =
+    ap (λ ks. insert_key bytes_eq ks (get_or contracts i d).id) are
+    ∙ ap (λ b. cond b (ids_of (take i contracts)) (ids_of (take i contracts) ++ (get_or contracts i d).id ∷ []))
+    (new_id contracts i d h lt)
+    ∙ sym (map_more (λ (x : Contract). x.id) contracts i d lt)
+
+any_ids : (name : List ℕ) (contracts : List Contract)
+    → list_any (λ (y : Contract). bytes_eq name y.id) contracts ≡ list_any (bytes_eq name) (ids_of contracts)
+any_ids name [] = refl
+any_ids name (y ∷ contracts) = ap (λ b. bytes_eq name y.id || b) (any_ids name contracts)
+
+-- contracts stand apart by their ids just where the ids do
+pub ids_apart : (contracts : List Contract)
+    → has_repeat (λ x y. bytes_eq x.id y.id) contracts ≡ has_repeat bytes_eq (ids_of contracts)
+ids_apart [] = refl
+ids_apart (x ∷ contracts) = let here = any_ids x.id contracts in let rest = ids_apart contracts in λ i. here i || rest i
+
+-- the ids of contracts of tables are such as positions are bound to
+pub numbers_of : (contracts : List Contract) → has_repeat (λ x y. bytes_eq x.id y.id) contracts ≡ false
+    → length contracts ≤ MAX_CONTRACTS → AreNumbers (ids_of contracts)
+numbers_of contracts apart few = record {
+  apart = sym (ids_apart contracts) ∙ apart;
+  few = subst (λ n. n ≤ MAX_CONTRACTS) (sym (length-map contracts (λ x. x.id))) few;
+}

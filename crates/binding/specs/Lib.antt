@@ -1,0 +1,4 @@
+pub mod BindTexts
+pub mod Binding
+pub mod OrderBinding
+pub mod near

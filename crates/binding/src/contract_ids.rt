@@ -1,0 +1,58 @@
+//! The numbers of contracts by their ids.
+ghost use Rattle.std.specs.Prelude.{◌≡◌, ◌≤◌, false, bytes_eq, length, map, nat_lt, IfOk};
+ghost use Rattle.std.specs.List.{list_all};
+ghost use Rattle.span_tables.specs.Names.{has_repeat};
+ghost use Rattle.span_tables.specs.declared.limits.TheConstants.{MAX_CONTRACTS};
+ghost use Rattle.binding.specs.near.Holdings.{ids_of};
+ghost use Rattle.binding.specs.near.Ledgers.{contract_place};
+
+use indexmap::IndexSet;
+use span_tables::name::Name;
+use span_tables::records::{Contract, NumberedPosition};
+use std::alloc::{AllocError, Global};
+
+/// The ids of contracts that stand apart; an id's index is its contract's number.
+pub(crate) fn ids_of(alloc: Global, contracts: &[Contract]) -> Result<IndexSet<Name>, AllocError>
+    requires { has_repeat (λ x y. bytes_eq x.id y.id) contracts.now ≡ false }
+    ensures { IfOk result (λ numbers. numbers.keys ≡ ids_of contracts.now) }
+{
+    let mut numbers = IndexSet::new(alloc);
+    for contract in contracts {
+        numbers.insert(contract.id.copied())?;
+    }
+    Ok(numbers)
+}
+
+// The place of a contract among these; that of one that is not among them is behind them.
+fn place_of(numbers: &IndexSet<Name>, contract: &Name) -> u16
+    requires { length numbers.now.keys ≤ MAX_CONTRACTS }
+    ensures { result ≡ contract_place numbers.now.keys contract.now }
+{
+    match numbers.get_index_of(contract) {
+        Some(number) => number as u16,
+        None => numbers.len() as u16,
+    }
+}
+
+/// The places of the contracts of records among these; that of one that is not among them is behind them.
+pub(crate) fn places_found(
+    alloc: Global,
+    numbers: &IndexSet<Name>,
+    records: &[NumberedPosition],
+) -> Result<Vec<u16>, AllocError>
+    requires { length numbers.now.keys ≤ MAX_CONTRACTS }
+    ensures { IfOk result (λ found. found.items ≡ map (λ p. contract_place numbers.now.keys p.contract) records.now) }
+{
+    let mut found = Vec::with_capacity(alloc, records.len())?;
+    for position in records {
+        found.push(place_of(numbers, &position.contract))?;
+    }
+    Ok(found)
+}
+
+/// Whether each place is below a bound.
+pub(crate) fn all_below(places: &[u16], bound: usize) -> bool
+    ensures { result ≡ list_all (λ place. nat_lt place bound) places.now }
+{
+    places.iter().all(|place| usize::from(*place) < bound)
+}

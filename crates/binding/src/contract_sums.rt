@@ -1,0 +1,163 @@
+//! Sums by contract number, which cost nothing where nothing was added.
+ghost use Rattle.std.specs.Prelude.{◌≡◌, ◌==◌, ◌<◌, ◌+◌, ◌*◌, ◌^◌, ◌++◌, ◌+ℤ◌};
+ghost use Rattle.std.specs.Prelude.{length, map, nat_abs, replicate, pos, slice_index_or, slice_set, IfOk, OnOk};
+ghost use Rattle.std.specs.Int.{bit_at};
+ghost use Rattle.binding.specs.declared.contract_sums.TheConstants.{MARKS};
+ghost use Rattle.binding.specs.near.Nets.{held_part, holdings_from};
+ghost use Rattle.binding.specs.near.Sums.{held_below, kept_holding, kept_net, AreMarks};
+
+use span_tables::limits::MAX_NET;
+use span_tables::portfolios::Holding;
+use std::alloc::{AllocError, Global};
+use std::marker::Model;
+
+// How many marks a word has.
+const MARKS: usize = u64::BITS as usize;
+
+/// A sum for each contract number. Contracts see the list of them.
+///
+/// A bit says of each number whether something was added to its sum since they were cleared. Where it is not set the
+/// sum is 0, whatever stands in its place.
+#[derive(Drop)]
+pub(crate) struct Sums {
+    places: Vec<i128>,
+    marks: Vec<u64>,
+}
+
+impl Model for Sums {
+    ghost use Rattle.std.specs.Prelude.{List, length, ℤ};
+    ghost use Rattle.binding.specs.near.Sums.{AreMarks, sums_of};
+
+    ghost Value = { List ℤ };
+
+    ghost view = { λ s. sums_of s.marks.items s.places.items };
+
+    ghost invariant = { λ s. AreMarks s.marks.items (length s.places.items) };
+}
+
+// Whether the bit of a place is set.
+fn is_set(word: u64, place: usize) -> bool
+    requires { place < MARKS }
+    ensures { result ≡ (bit_at word place == 1) }
+{
+    word >> place & 1 == 1
+}
+
+// A sum and one more quantity.
+fn plus(sum: i128, quantity: i64) -> i128
+    requires { nat_abs sum + nat_abs quantity < 2 ^ 127 }
+    ensures { result ≡ sum +ℤ quantity }
+{
+    sum + i128::from(quantity)
+}
+
+// A net as it is kept, in 64 bits: one that is over the limit stands as the least that is.
+fn kept_net(net: i128) -> i64
+    ensures { result ≡ kept_net net }
+{
+    if net.unsigned_abs() > u128::from(MAX_NET) {
+        return MAX_NET as i64 + 1;
+    }
+    net as i64
+}
+
+// Appends the net in the contract of a mark of a word, unless it is 0.
+fn push_held(
+    held: &mut Vec<Holding>,
+    places: &[i128],
+    word: usize,
+    mark: u32,
+) -> Result<(), AllocError>
+    requires { MARKS * word + mark < length places.now }
+    ensures { OnOk result (held.new.items ≡ held.old.items ++ map kept_holding
+        (held_part (MARKS * word + mark) (slice_index_or places.now (MARKS * word + mark) (pos 0)))) }
+{
+    let contract = MARKS * word + mark as usize;
+    let net = kept_net(places[contract]);
+    if net != 0 {
+        held.push(Holding { contract, net })?;
+    }
+    Ok(())
+}
+
+// Appends the sums that are not 0 of a word's numbers, behind those of the words before it.
+fn push_word(
+    held: &mut Vec<Holding>,
+    places: &[i128],
+    marks: &[u64],
+    word: usize,
+) -> Result<(), AllocError>
+    requires marks { AreMarks marks.now (length places.now) }
+    requires word { word < length marks.now }
+    requires so_far { held.old.items ≡ held_below marks.now places.now (MARKS * word) }
+    ensures { OnOk result (held.new.items ≡ held_below marks.now places.now (MARKS * word + MARKS)) }
+{
+    let mut left = marks[word];
+    while left != 0 {
+        let mark = left.trailing_zeros();
+        push_held(held, places, word, mark)?;
+        left &= !(1 << mark);
+    }
+    Ok(())
+}
+
+impl Sums {
+    /// A number of sums of 0.
+    pub(crate) fn new(alloc: Global, count: usize) -> Result<Sums, AllocError>
+        ensures { IfOk result (λ sums. sums ≡ replicate count (pos 0)) }
+    {
+        let places = vec![in alloc; 0i128; count]?;
+        let marks = vec![in alloc; 0u64; count / MARKS + 1]?;
+        Ok(Sums { places, marks })
+    }
+
+    /// How many sums there are.
+    pub(crate) fn len(&self) -> usize
+        ensures { result ≡ length self.now }
+    {
+        self.places.len()
+    }
+
+    // The sum of a number.
+    fn at(&self, number: usize) -> i128
+        requires { number < length self.now }
+        ensures { result ≡ slice_index_or self.now number (pos 0) }
+    {
+        if is_set(self.marks[number / MARKS], number % MARKS) {
+            self.places[number]
+        } else {
+            0
+        }
+    }
+
+    /// Makes each sum 0.
+    pub(crate) fn clear(&mut self)
+        ensures { self.new ≡ replicate (length self.old) (pos 0) }
+    {
+        self.marks.fill(0);
+    }
+
+    /// Adds a quantity to the sum of a number; one of no number adds nothing.
+    pub(crate) fn add(&mut self, number: usize, quantity: i64)
+        requires room { nat_abs (slice_index_or self.old number (pos 0)) + nat_abs quantity < 2 ^ 127 }
+        ensures { self.new ≡ slice_set self.old number (slice_index_or self.old number (pos 0) +ℤ quantity) }
+    {
+        if number >= self.places.len() {
+            return;
+        }
+        let sum = plus(self.at(number), quantity);
+        self.marks[number / MARKS] |= 1 << (number % MARKS);
+        self.places[number] = sum;
+    }
+
+    /// The sums that are not 0, as what is held of each number; there is room for so many at first.
+    pub(crate) fn holdings(&self, alloc: Global, room: usize) -> Result<Vec<Holding>, AllocError>
+        ensures { IfOk result (λ held. held.items ≡ map kept_holding (holdings_from self.now (length self.now))) }
+    {
+        let mut held = Vec::with_capacity(alloc, room)?;
+        for word in 0..self.marks.len() {
+            push_word(&mut held, &self.places, &self.marks, word)?;
+        }
+        Ok(held)
+    }
+}

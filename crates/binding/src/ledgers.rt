@@ -1,0 +1,216 @@
+//! The entries of each account, gathered from the records of a position file.
+ghost use Rattle.std.specs.Prelude.{◌≡◌, ◌<◌, ◌≤◌, ◌+◌, ◌++◌, ◌∷◌, [], drop, map, take};
+ghost use Rattle.std.specs.Prelude.{length, nat_abs, replicate, slice_index_or, All, IfOk, IfSome, OnOk};
+ghost use Rattle.span_tables.specs.declared.limits.TheConstants.{MAX_QUANTITY};
+ghost use Rattle.binding.specs.near.Ledgers.{contract_place, foreign_faults, held_entries, known_entry, listed_records};
+ghost use Rattle.binding.specs.near.Nets.{entries_of};
+ghost use Rattle.span_tables.specs.Net.{accounts_of};
+ghost use Rattle.span_tables.specs.Holdings.{ArePortfolio};
+
+use crate::faults::BindFault;
+use crate::nets::Entry;
+use indexmap::IndexSet;
+use span_tables::name::Name;
+use span_tables::portfolios::Holding;
+use span_tables::raw::RawPositions;
+use span_tables::records::NumberedPosition;
+use std::alloc::{AllocError, Global};
+use std::marker::Model;
+
+/// The entries of one account, in file order. Contracts see the list of them.
+#[derive(Drop)]
+pub(crate) struct Ledger {
+    entries: Vec<Entry>,
+}
+
+impl Model for Ledger {
+    ghost use Rattle.std.specs.Prelude.{◌≤◌, All, List, nat_abs};
+    ghost use Rattle.binding.specs.declared.nets.Entry.{Entry};
+    ghost use Rattle.span_tables.specs.declared.limits.TheConstants.{MAX_QUANTITY};
+
+    ghost Value = { List Entry };
+
+    ghost view = { λ b. b.entries.items };
+
+    ghost invariant = { λ b. All (λ e. nat_abs e.quantity ≤ MAX_QUANTITY) b.entries.items };
+}
+
+impl Ledger {
+    fn with_room(alloc: Global, room: usize) -> Result<Ledger, AllocError>
+        ensures { IfOk result (λ ledger. ledger ≡ []) }
+    {
+        Ok(Ledger {
+            entries: Vec::with_capacity(alloc, room)?,
+        })
+    }
+
+    fn push(&mut self, entry: Entry) -> Result<(), AllocError>
+        requires { nat_abs entry.quantity ≤ MAX_QUANTITY }
+        ensures { OnOk result (self.new ≡ self.old ++ entry ∷ []) }
+    {
+        self.entries.push(entry)?;
+        Ok(())
+    }
+
+    // What is held, as entries, with room for so many more.
+    fn of_held(alloc: Global, holdings: &[Holding], more: usize) -> Result<Ledger, AllocError>
+        requires { ArePortfolio holdings.now }
+        ensures { IfOk result (λ ledger. ledger ≡ held_entries holdings.now) }
+    {
+        let mut ledger = Ledger {
+            entries: Vec::with_capacity(alloc, holdings.len().saturating_add(more))?,
+        };
+        for holding in holdings {
+            ledger.push(Entry {
+                contract: holding.contract,
+                quantity: holding.net,
+            })?;
+        }
+        Ok(ledger)
+    }
+
+    /// What is held, as entries, and the entries of an order behind them.
+    pub(crate) fn after(
+        alloc: Global,
+        holdings: &[Holding],
+        order: &Ledger,
+    ) -> Result<Ledger, AllocError>
+        requires { ArePortfolio holdings.now }
+        ensures { IfOk result (λ ledger. ledger ≡ held_entries holdings.now ++ order.now) }
+    {
+        let mut ledger = Ledger::of_held(alloc, holdings, order.entries.len())?;
+        ledger.entries.extend_from_slice(&order.entries)?;
+        Ok(ledger)
+    }
+
+    /// The entries in their order.
+    pub(crate) fn as_slice(&self) -> &[Entry]
+        ensures value { result.now ≡ self.now }
+        ensures quantities { All (λ e. nat_abs e.quantity ≤ MAX_QUANTITY) self.now }
+    {
+        &self.entries
+    }
+}
+
+// The entry of a record, or `None` where its contract is not known.
+#[tactic(auto, unfolding(crate::specs::near::Ledgers::known_entry))]
+fn known_entry(numbers: &IndexSet<Name>, position: &NumberedPosition) -> Option<Entry>
+    ensures entry { result ≡ known_entry numbers.now.keys position.now.contract position.now.quantity }
+    ensures quantity { IfSome result (λ entry. entry.quantity ≡ position.now.quantity) }
+{
+    let contract = numbers.get_index_of(&position.contract)?;
+    Some(Entry {
+        contract,
+        quantity: i64::from(position.quantity),
+    })
+}
+
+// How many records there are of each of so many accounts from one on: the room that its ledger needs.
+fn rooms(
+    alloc: Global,
+    positions: &RawPositions,
+    first: usize,
+    count: usize,
+) -> Result<Vec<usize>, AllocError>
+    ensures { IfOk result (λ rooms. length rooms.items ≡ count) }
+{
+    let mut rooms = vec![in alloc; 0usize; count]?;
+    for position in positions.records() {
+        let place = (position.account as usize).wrapping_sub(first);
+        if place < count {
+            rooms[place] = rooms[place].wrapping_add(1);
+        }
+    }
+    Ok(rooms)
+}
+
+// A ledger without an entry for each of so many accounts from one on, with room for its records.
+fn empty_ledgers(
+    alloc: Global,
+    positions: &RawPositions,
+    first: usize,
+    count: usize,
+) -> Result<Vec<Ledger>, AllocError>
+    ensures { IfOk result (λ ledgers. ledgers.items ≡ replicate count []) }
+{
+    let rooms = rooms(alloc, positions, first, count)?;
+    let mut ledgers = Vec::with_capacity(alloc, count)?;
+    for room in &rooms {
+        ledgers.push(Ledger::with_room(alloc, *room)?)?;
+    }
+    Ok(ledgers)
+}
+
+/// The records of a position file, gathered.
+#[derive(Drop)]
+pub(crate) struct Gathered {
+    /// The entries of each account, of the records of contracts that are known.
+    pub(crate) ledgers: Vec<Ledger>,
+    /// The faults of the other records.
+    pub(crate) unknown: Vec<BindFault>,
+}
+
+/// The ledgers of the accounts of positions, and the faults of the records whose contracts are not among these.
+#[tactic(auto, unfolding(crate::specs::near::Ledgers::known_entry))]
+pub(crate) fn gather(
+    alloc: Global,
+    numbers: &IndexSet<Name>,
+    positions: &RawPositions,
+) -> Result<Gathered, AllocError>
+    ensures unknown { IfOk result (λ gathered. gathered.unknown.items ≡ foreign_faults numbers.now.keys positions.now) }
+    ensures ledgers { IfOk result (λ gathered. gathered.ledgers.items
+        ≡ map (entries_of numbers.now.keys (listed_records numbers.now.keys positions.now)) (accounts_of positions.now)) }
+{
+    let accounts = positions.accounts();
+    let mut ledgers = empty_ledgers(alloc, positions, 0, accounts.len())?;
+    let mut unknown = Vec::new(alloc);
+    for (number, position) in positions.records().iter().enumerate() {
+        let account = position.account as usize;
+        let Some(entry) = known_entry(numbers, position) else {
+            unknown.push(BindFault::UnknownContract {
+                at: number + 1,
+                account: accounts[account].copied(),
+            })?;
+            continue;
+        };
+        ledgers[account].push(entry)?;
+    }
+    Ok(Gathered { ledgers, unknown })
+}
+
+// The entry of the record of a number, from 0, where the places of the contracts of all records were found before.
+fn found_entry(found: &[u16], number: usize, position: &NumberedPosition) -> Entry
+    requires { number < length found.now }
+    ensures { result ≡ record { contract = slice_index_or found.now number 0; quantity = position.now.quantity } }
+{
+    Entry {
+        contract: usize::from(found[number]),
+        quantity: i64::from(position.quantity),
+    }
+}
+
+/// The ledgers of so many accounts from one on, where the places of the contracts of all records were found before; a contract that is not
+/// among the ids has the place behind them.
+pub(crate) fn ledgers_from(
+    alloc: Global,
+    numbers: &IndexSet<Name>,
+    found: &[u16],
+    positions: &RawPositions,
+    first: usize,
+    count: usize,
+) -> Result<Vec<Ledger>, AllocError>
+    requires found { found.now ≡ map (λ p. contract_place numbers.now.keys p.contract) positions.now }
+    requires within { first + count ≤ length (accounts_of positions.now) }
+    ensures { IfOk result (λ ledgers. ledgers.items
+        ≡ map (entries_of numbers.now.keys positions.now) (take count (drop first (accounts_of positions.now)))) }
+{
+    let mut ledgers = empty_ledgers(alloc, positions, first, count)?;
+    for (number, position) in positions.records().iter().enumerate() {
+        let account = position.account as usize;
+        if account < first || first + count <= account {
+            continue;
+        }
+        ledgers[account - first].push(found_entry(found, number, position))?;
+    }
+    Ok(ledgers)
+}

@@ -1,0 +1,17 @@
+//! The binding of positions and of orders to accepted tables.
+#![tactic(auto)]
+
+pub mod binder;
+mod contract_ids;
+mod contract_sums;
+pub mod faults;
+pub mod laws;
+mod ledgers;
+pub mod nets;
+pub mod order_laws;
+mod order_worked;
+pub mod orders;
+mod over_limits;
+pub mod positions;
+mod worked;
+mod worked_faults;

@@ -1,0 +1,70 @@
+//! Laws of orders that are tried, in the methodology's words: each is the contract of a function that does nothing.
+ghost use Rattle.std.specs.Prelude.{◌≡◌, ◌&&◌, ◌++◌, ℕ, List, None, Some, All, bytes_eq, false, filter, length, true};
+ghost use Rattle.std.specs.List.{list_any};
+ghost use Rattle.binding.specs.OrderBinding.{exceeds_held_with, exceeds_net_with, first_unfit_order, is_first_of_leg};
+ghost use Rattle.binding.specs.OrderBinding.{holdings_after, holdings_before, is_first_of_order, is_of_unknown};
+ghost use Rattle.binding.specs.OrderBinding.{order_bind_fault, tried_order};
+ghost use Rattle.binding.specs.declared.faults.OrderBindFault.TheVariants as order;
+ghost use Rattle.binding.specs.declared.faults.OrderBindFault.{OrderBindFault};
+ghost use Rattle.span_tables.specs.Holdings.{ArePortfolio, fits};
+ghost use Rattle.span_tables.specs.Names.{has_repeat, is_among};
+ghost use Rattle.span_tables.specs.Net.{AccountHoldings, holdings_of, portfolios_of};
+ghost use Rattle.span_tables.specs.Orders.{account_of_order, orders_in, positions_of_order};
+ghost use Rattle.span_tables.specs.declared.records.Contract.{Contract};
+ghost use Rattle.span_tables.specs.declared.records.OrderRecord.{OrderRecord};
+ghost use Rattle.span_tables.specs.declared.records.PositionRecord.{PositionRecord};
+
+/// On the portfolios of positions, an order's account holds without the order what it holds by the positions, and with it what it
+/// holds by the positions and the order's records behind them.
+pub fn orders_are_tried_on_the_positions()
+    ensures before { (contracts : List Contract) (positions : List PositionRecord) (records : List OrderRecord) (order : List ℕ)
+        → holdings_before (portfolios_of contracts positions) records order
+        ≡ holdings_of contracts positions (account_of_order records order) }
+    ensures after { (contracts : List Contract) (positions : List PositionRecord) (records : List OrderRecord) (order : List ℕ)
+        → holdings_after contracts (portfolios_of contracts positions) records order
+        ≡ holdings_of contracts (positions ++ positions_of_order records order) (account_of_order records order) }
+{}
+
+/// Of two files with the same records of an order, the order is the same: orders do not see one another.
+pub fn orders_do_not_see_one_another()
+    ensures same { (contracts : List Contract) (portfolios : List AccountHoldings) (these those : List OrderRecord) (order : List ℕ)
+        → filter (λ r. bytes_eq r.order order) these ≡ filter (λ r. bytes_eq r.order order) those
+        → tried_order contracts portfolios these order ≡ tried_order contracts portfolios those order }
+    ensures alone { (contracts : List Contract) (portfolios : List AccountHoldings) (records : List OrderRecord) (order : List ℕ)
+        → tried_order contracts portfolios (filter (λ r. bytes_eq r.order order) records) order
+        ≡ tried_order contracts portfolios records order }
+{}
+
+/// Orders without a fault are of known contracts, and each order's account holds a portfolio with it: few contracts, and each net within
+/// its limit.
+pub fn accepted_orders_are_within_limits()
+    ensures known { (contracts : List Contract) (portfolios : List AccountHoldings) (all : List OrderRecord)
+        → order_bind_fault contracts portfolios all ≡ None → list_any (is_of_unknown contracts) all ≡ false }
+    ensures portfolios { (contracts : List Contract) (portfolios : List AccountHoldings) (all : List OrderRecord)
+        → has_repeat (λ x y. bytes_eq x.id y.id) contracts ≡ false → All (λ p. ArePortfolio p.holdings) portfolios
+        → order_bind_fault contracts portfolios all ≡ None
+        → (order : List ℕ) → is_among (orders_in all) order ≡ true → ArePortfolio (holdings_after contracts portfolios all order) }
+{}
+
+/// What an order's account holds with it is of contracts that the tables have.
+pub fn orders_are_of_contracts_that_there_are()
+    ensures { (contracts : List Contract) (portfolios : List AccountHoldings) (all : List OrderRecord) (order : List ℕ)
+        → fits (length contracts) (holdings_after contracts portfolios all order) ≡ true }
+{}
+
+/// An unknown contract goes before a net out of range, and that before too many contracts held, over all orders.
+pub fn faults_of_orders_go_in_order()
+    ensures unknown { (contracts : List Contract) (portfolios : List AccountHoldings) (all : List OrderRecord) (y : OrderBindFault)
+        → first_unfit_order order.UnknownContract (λ earlier r. is_of_unknown contracts r) all ≡ Some y
+        → order_bind_fault contracts portfolios all ≡ Some y }
+    ensures net { (contracts : List Contract) (portfolios : List AccountHoldings) (all : List OrderRecord) (y : OrderBindFault)
+        → list_any (is_of_unknown contracts) all ≡ false
+        → first_unfit_order order.NetOutOfRange
+        (λ earlier r. is_first_of_leg earlier r && exceeds_net_with contracts portfolios all r) all ≡ Some y
+        → order_bind_fault contracts portfolios all ≡ Some y }
+    ensures held { (contracts : List Contract) (portfolios : List AccountHoldings) (all : List OrderRecord) (y : OrderBindFault)
+        → list_any (is_of_unknown contracts) all ≡ false → list_any (exceeds_net_with contracts portfolios all) all ≡ false
+        → first_unfit_order order.TooManyHeld
+        (λ earlier r. is_first_of_order earlier r && exceeds_held_with contracts portfolios all r) all ≡ Some y
+        → order_bind_fault contracts portfolios all ≡ Some y }
+{}

@@ -1,0 +1,160 @@
+//! The binding of orders to tables and to the portfolios of accounts.
+pub(crate) mod kept_orders;
+
+ghost use Rattle.std.specs.Prelude.{◌≡◌, ◌<◌, [], IfOk, MatchOption, Some, bytes_eq, drop, false, length};
+ghost use Rattle.std.specs.Prelude.{map, option_map, slice_get, take};
+ghost use Rattle.binding.specs.OrderBinding.{is_memory, orders_bound};
+ghost use Rattle.binding.specs.near.Orders.{order_fault};
+ghost use Rattle.span_tables.specs.Gives.{Gives};
+ghost use Rattle.span_tables.specs.Names.{has_repeat};
+
+use crate::contract_ids::ids_of;
+use crate::faults::{BindFault, OrderBindFault};
+use crate::ledgers::gather;
+use crate::orders::kept_orders::{
+    KeptOrder, OrderAccount, kept_orders, order_excesses, portfolios_after, some_of,
+};
+use crate::over_limits::{all_faults, first};
+use span_tables::name::Name;
+use span_tables::portfolios::{Portfolio, Portfolios};
+use span_tables::raw::RawOrders;
+use span_tables::records::Contract;
+use span_tables::tables::Tables;
+use std::alloc::{AllocError, Global};
+use std::marker::Model;
+
+/// The orders of a file, in the order of first appearance, and the portfolios of the accounts that they are tried on. Contracts see of
+/// an order its name, and the portfolio of its account without it and with it; these are made when they are asked for.
+#[derive(Drop)]
+pub struct Orders {
+    contracts: usize,
+    portfolios: Portfolios,
+    orders: Vec<KeptOrder>,
+}
+
+impl Model for Orders {
+    ghost use Rattle.std.specs.Prelude.{All, map};
+    ghost use Rattle.binding.specs.OrderBinding.{TriedOrders};
+    ghost use Rattle.binding.specs.near.Orders.{IsKept, kept_order};
+
+    ghost Value = { TriedOrders };
+
+    ghost view = { λ o. record { portfolios = o.portfolios; orders = map (kept_order o.contracts o.portfolios) o.orders.items } };
+
+    ghost invariant = { λ o. All (IsKept o.contracts o.portfolios) o.orders.items };
+}
+
+impl Orders {
+    /// How many orders there are.
+    pub fn len(&self) -> usize
+        ensures { result ≡ length self.now.orders }
+    {
+        self.orders.len()
+    }
+
+    /// The portfolios of the accounts, in their order.
+    pub fn portfolios(&self) -> &[Portfolio]
+        ensures { result.now ≡ self.now.portfolios }
+    {
+        self.portfolios.as_slice()
+    }
+
+    /// The name of the order of a number, from 0.
+    pub fn name(&self, order: usize) -> &Name
+        requires { order < length self.now.orders }
+        ensures { option_map (λ o. o.order) (slice_get self.now.orders order) ≡ Some result.now }
+    {
+        &self.orders[order].name
+    }
+
+    /// The place of the portfolio of an order's account, or `None` where the account holds nothing without the order.
+    pub fn place(&self, order: usize) -> Option<usize>
+        requires { order < length self.now.orders }
+        ensures { MatchOption result
+            (option_map (λ o. o.before.holdings) (slice_get self.now.orders order) ≡ Some [])
+            (λ place. (place < length self.now.portfolios)
+            × (option_map (λ o. o.before) (slice_get self.now.orders order) ≡ slice_get self.now.portfolios place)) }
+    {
+        match &self.orders[order].account {
+            OrderAccount::Known(place) => Some(*place),
+            OrderAccount::New(_) => None,
+        }
+    }
+
+    /// The portfolios of the accounts of so many orders from one on, each with its order.
+    pub fn portfolios_with(
+        &self,
+        alloc: Global,
+        first: usize,
+        count: usize,
+    ) -> Result<Vec<Portfolio>, AllocError>
+        ensures { IfOk result (λ all. all.items ≡ map (λ o. o.after) (take count (drop first self.now.orders))) }
+    {
+        let orders = some_of(&self.orders, first, count);
+        portfolios_after(alloc, self.contracts, self.portfolios.as_slice(), orders)
+    }
+}
+
+// A fault of positions that are records of orders under their names, as one of orders.
+fn order_fault(fault: BindFault) -> OrderBindFault
+    ensures { result ≡ order_fault fault }
+{
+    match fault {
+        BindFault::UnknownContract { at, account } => {
+            OrderBindFault::UnknownContract { at, order: account }
+        }
+        BindFault::NetOutOfRange { at, account } => {
+            OrderBindFault::NetOutOfRange { at, order: account }
+        }
+        BindFault::TooManyHeld { at, account } => OrderBindFault::TooManyHeld {
+            at,
+            order: account,
+        },
+        BindFault::OutOfMemory => OrderBindFault::OutOfMemory,
+    }
+}
+
+// The orders of a file, tried on the portfolios of accounts, or their fault; the ids of the contracts are apart.
+fn bind_orders_of(
+    alloc: Global,
+    contracts: &[Contract],
+    portfolios: Portfolios,
+    records: &RawOrders,
+) -> Result<Orders, OrderBindFault>
+    requires { has_repeat (λ x y. bytes_eq x.id y.id) contracts.now ≡ false }
+    ensures { Gives is_memory result (orders_bound contracts.now portfolios records.now) }
+{
+    let numbers = ids_of(alloc, contracts)?;
+    let positions = records.by_order();
+    let gathered = gather(alloc, &numbers, positions)?;
+    let held = portfolios.as_slice();
+    let orders = kept_orders(
+        alloc,
+        held,
+        positions.accounts(),
+        records.accounts(),
+        gathered.ledgers,
+    )?;
+    let excesses = order_excesses(alloc, contracts.len(), held, &orders)?;
+    let faults = all_faults(alloc, &numbers, gathered.unknown, &excesses, positions)?;
+    match first(faults) {
+        Some(fault) => Err(order_fault(fault)),
+        None => Ok(Orders {
+            contracts: contracts.len(),
+            portfolios,
+            orders,
+        }),
+    }
+}
+
+/// The orders of a file, tried on the portfolios of accounts, or the fault of the orders, of B1 to B3 (docs/FORMATS.md, "Faults").
+pub fn bind_orders(
+    alloc: Global,
+    tables: &Tables,
+    portfolios: Portfolios,
+    orders: &RawOrders,
+) -> Result<Orders, OrderBindFault>
+    ensures { Gives is_memory result (orders_bound tables.now.contracts portfolios orders.now) }
+{
+    bind_orders_of(alloc, tables.contracts(), portfolios, orders)
+}

@@ -1,6 +1,0 @@
-use Rattle.std.proofs.Common.{◌≡◌, take}
-use Rattle.param_check.specs.near.Holdings.{ids_of}
-use Rattle.param_check.proofs.binding.contract_ids.ids_of.Given as goal
-
-abbrev pub invariant-loop-contract : goal.invariant-loop-contract
-invariant-loop-contract l = l.numbers.keys ≡ ids_of (take l.contract-index l.contracts)

@@ -1,8 +1,0 @@
-use Rattle.param_check.proofs.TriedLaws.{after_by_positions, before_by_positions}
-use Rattle.param_check.proofs.order_laws.orders_are_tried_on_the_positions.Goals as goal
-
-pub returns-clause-before : goal.returns-clause-before
-returns-clause-before c = before_by_positions
-
-pub returns-clause-after : goal.returns-clause-after
-returns-clause-after c = after_by_positions

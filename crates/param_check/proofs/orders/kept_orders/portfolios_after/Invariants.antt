@@ -1,9 +1,0 @@
-use Rattle.std.proofs.Common.{◌≡◌, length, map, take}
-use Rattle.param_check.specs.near.Orders.{kept_order}
-use Rattle.param_check.proofs.orders.kept_orders.portfolios_after.Given as goal
-
-abbrev pub invariant-loop-order : goal.invariant-loop-order
-invariant-loop-order l = record {
-  are : l.all.items ≡ map (λ o. (kept_order l.contracts l.portfolios o).after) (take l.order-index l.orders);
-  places : length l.sums ≡ l.contracts;
-}
