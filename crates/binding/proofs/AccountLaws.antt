@@ -14,7 +14,7 @@ use Rattle.span_tables.specs.Names.{has_repeat}
 use Rattle.span_tables.specs.declared.records.PositionRecord.{PositionRecord}
 use Rattle.span_tables.proofs.NameLemmas.{same_name}
 use Rattle.binding.specs.near.Nets.{entry_of, entries_of}
-use Rattle.binding.specs.declared.nets.Entry.{Entry}
+use Rattle.binding.specs.declared.ledgers.Entry.{Entry}
 
 -- ---- names
 

@@ -23,7 +23,7 @@ use Rattle.binding.specs.near.Holdings.{excess_of, found_faults, ids_of, is_over
 use Rattle.binding.specs.near.Ledgers.{is_foreign, is_listed, foreign_faults, listed_records, AreGathered}
 use Rattle.binding.specs.near.Nets.{entries_of}
 use Rattle.binding.specs.near.Sums.{kept_holding, kept_holdings}
-use Rattle.binding.specs.declared.nets.Entry.{Entry}
+use Rattle.binding.specs.declared.ledgers.Entry.{Entry}
 use Rattle.binding.specs.declared.over_limits.Excess.{Excess}
 use Rattle.binding.specs.declared.faults.BindFault.{BindFault}
 use Rattle.binding.specs.declared.faults.BindFault.TheVariants as fault

@@ -15,7 +15,7 @@ use Rattle.span_tables.proofs.SumLaws.{int_sum_by-if}
 use Rattle.span_tables.proofs.NameLemmas.{same_name}
 use Rattle.binding.specs.near.Nets.{entry_of, entries_of, entry_net, entry_holdings}
 use Rattle.binding.specs.near.Holdings.{ids_of}
-use Rattle.binding.specs.declared.nets.Entry.{Entry}
+use Rattle.binding.specs.declared.ledgers.Entry.{Entry}
 
 -- ---- contracts by number
 

@@ -17,7 +17,7 @@ use Rattle.span_tables.proofs.NameLemmas.{same_name}
 use Rattle.binding.specs.OrderBinding.{TriedOrder}
 use Rattle.binding.specs.near.Orders.{account_at, all_kept_as, holding_nothing, kept_as, kept_order, place_among}
 use Rattle.binding.specs.near.Orders.{portfolio_before, HasPlace}
-use Rattle.binding.specs.declared.nets.Entry.{Entry}
+use Rattle.binding.specs.declared.ledgers.Entry.{Entry}
 use Rattle.binding.specs.declared.orders.kept_orders.KeptOrder.{KeptOrder}
 
 -- ---- places

@@ -15,7 +15,7 @@ use Rattle.span_tables.specs.declared.records.PositionRecord.{PositionRecord}
 use Rattle.span_tables.proofs.NameLaws.{distinct_once}
 use Rattle.binding.specs.near.Ledgers.{is_foreign, is_listed, known_entry, listed_records}
 use Rattle.binding.specs.near.Nets.{entry_of, entries_of}
-use Rattle.binding.specs.declared.nets.Entry.{Entry}
+use Rattle.binding.specs.declared.ledgers.Entry.{Entry}
 use Rattle.binding.proofs.AccountLaws.{entered_known, entries_push}
 
 -- what the entry of a record says of its contract

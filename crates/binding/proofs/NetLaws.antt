@@ -16,7 +16,7 @@ use Rattle.span_tables.specs.Net.{is_held}
 use Rattle.span_tables.specs.declared.limits.TheConstants.{MAX_QUANTITY}
 use Rattle.span_tables.specs.declared.portfolios.Holding.{Holding}
 use Rattle.binding.specs.near.Nets.{entry_net, entry_holdings, holding_at, holdings_from}
-use Rattle.binding.specs.declared.nets.Entry.{Entry}
+use Rattle.binding.specs.declared.ledgers.Entry.{Entry}
 
 -- a sum of what passes, with one more element
 pub int_sum_by-filter_push : {X : Type 0} (f : X → ℤ) (p : X → Bool) (xs : List X) (x : X)

@@ -32,7 +32,7 @@ use Rattle.binding.specs.near.Orders.{all_kept_as, kept_after, kept_as, kept_ord
 use Rattle.binding.specs.near.Orders.{portfolio_before}
 use Rattle.binding.specs.near.Orders.{IsKept}
 use Rattle.binding.specs.near.Sums.{kept_holding, kept_holdings}
-use Rattle.binding.specs.declared.nets.Entry.{Entry}
+use Rattle.binding.specs.declared.ledgers.Entry.{Entry}
 use Rattle.binding.specs.declared.over_limits.Excess.{Excess}
 use Rattle.binding.specs.declared.faults.BindFault.{BindFault}
 use Rattle.binding.specs.declared.faults.BindFault.TheVariants as bind

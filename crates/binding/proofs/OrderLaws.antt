@@ -23,7 +23,7 @@ use Rattle.span_tables.specs.declared.portfolios.Holding.{Holding}
 use Rattle.span_tables.proofs.SumLaws.{int_sum_by-cons}
 use Rattle.binding.specs.near.Holdings.{is_over, is_over_at}
 use Rattle.binding.specs.near.Nets.{entry_net, entry_holdings}
-use Rattle.binding.specs.declared.nets.Entry.{Entry}
+use Rattle.binding.specs.declared.ledgers.Entry.{Entry}
 
 none : Holding
 none = record { contract = 0; net = pos 0 }

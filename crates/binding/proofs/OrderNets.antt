@@ -21,7 +21,7 @@ use Rattle.binding.specs.Binding.{is_known, known_records}
 use Rattle.binding.specs.near.Holdings.{ids_of}
 use Rattle.binding.specs.near.Ledgers.{held_entries, held_entry}
 use Rattle.binding.specs.near.Nets.{entries_of, entry_holdings, entry_net}
-use Rattle.binding.specs.declared.nets.Entry.{Entry}
+use Rattle.binding.specs.declared.ledgers.Entry.{Entry}
 use Rattle.binding.proofs.AccountLaws.{bytes_eq-flip, bytes_eq-refl}
 use Rattle.binding.proofs.HoldingLaws.{held_by_entries, net_is}
 

@@ -14,7 +14,7 @@ use Rattle.span_tables.specs.declared.records.PositionRecord.{PositionRecord}
 use Rattle.binding.specs.near.Ledgers.{contract_place, is_foreign, slice_nets}
 use Rattle.binding.specs.near.Nets.{entry_of, entries_of}
 use Rattle.binding.specs.near.Sums.{kept_holdings}
-use Rattle.binding.specs.declared.nets.Entry.{Entry}
+use Rattle.binding.specs.declared.ledgers.Entry.{Entry}
 use Rattle.binding.proofs.AccountLaws.{entered_known, entries_push, not_before, others_stay}
 use Rattle.binding.proofs.LedgerLaws.{account_at, apart, as_many, no_entries, record_at, taken_next}
 use Rattle.binding.proofs.PlaceLaws.{position_none, within}

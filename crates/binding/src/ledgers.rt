@@ -8,7 +8,6 @@ ghost use Rattle.span_tables.specs.Net.{accounts_of};
 ghost use Rattle.span_tables.specs.Holdings.{ArePortfolio};
 
 use crate::faults::BindFault;
-use crate::nets::Entry;
 use indexmap::IndexSet;
 use span_tables::name::Name;
 use span_tables::portfolios::Holding;
@@ -16,6 +15,13 @@ use span_tables::raw::RawPositions;
 use span_tables::records::NumberedPosition;
 use std::alloc::{AllocError, Global};
 use std::marker::Model;
+
+/// A position record of an account: the number of its contract, and its quantity.
+#[derive(Clone, Copy)]
+pub(crate) struct Entry {
+    pub(crate) contract: usize,
+    pub(crate) quantity: i64,
+}
 
 /// The entries of one account, in file order. Contracts see the list of them.
 #[derive(Drop)]
@@ -25,7 +31,7 @@ pub(crate) struct Ledger {
 
 impl Model for Ledger {
     ghost use Rattle.std.specs.Prelude.{◌≤◌, All, List, nat_abs};
-    ghost use Rattle.binding.specs.declared.nets.Entry.{Entry};
+    ghost use Rattle.binding.specs.declared.ledgers.Entry.{Entry};
     ghost use Rattle.span_tables.specs.declared.limits.TheConstants.{MAX_QUANTITY};
 
     ghost Value = { List Entry };

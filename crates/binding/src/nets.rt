@@ -8,20 +8,13 @@ ghost use Rattle.binding.specs.near.Sums.{kept_holdings};
 ghost use Rattle.span_tables.specs.declared.limits.TheConstants.{MAX_QUANTITY};
 
 use crate::contract_sums::Sums;
-use crate::ledgers::Ledger;
+use crate::ledgers::{Entry, Ledger};
 use indexmap::IndexSet;
 use span_tables::limits::MAX_NET;
 use span_tables::name::Name;
 use span_tables::portfolios::Holding;
 use std::alloc::{AllocError, Global};
 use std::marker::Model;
-
-/// A position record of an account: the number of its contract, and its quantity.
-#[derive(Clone, Copy)]
-pub(crate) struct Entry {
-    pub(crate) contract: usize,
-    pub(crate) quantity: i64,
-}
 
 /// What one account holds, whatever the sizes of its nets; one over the limit stands as the least that is. Contracts
 /// see the list.

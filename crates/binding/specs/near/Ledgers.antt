@@ -11,7 +11,7 @@ use Rattle.span_tables.specs.declared.records.PositionRecord.{PositionRecord}
 use Rattle.binding.specs.Binding.{all_unfit}
 use Rattle.binding.specs.declared.faults.BindFault.{BindFault}
 use Rattle.binding.specs.declared.faults.BindFault.TheVariants as fault
-use Rattle.binding.specs.declared.nets.Entry.{Entry}
+use Rattle.binding.specs.declared.ledgers.Entry.{Entry}
 use Rattle.binding.specs.near.Holdings.{ids_of}
 use Rattle.binding.specs.near.Nets.{entries_of}
 use Rattle.binding.specs.near.Sums.{kept_holdings}

@@ -5,7 +5,7 @@ use Rattle.span_money.specs.Numbers.{int_sum_by}
 use Rattle.span_tables.specs.Net.{is_held}
 use Rattle.span_tables.specs.declared.portfolios.Holding.{Holding}
 use Rattle.span_tables.specs.declared.records.PositionRecord.{PositionRecord}
-use Rattle.binding.specs.declared.nets.Entry.{Entry}
+use Rattle.binding.specs.declared.ledgers.Entry.{Entry}
 
 -- a record with the number of its contract; a contract that is not among the ids has their count
 abbrev pub entry_of : List (List ℕ) → PositionRecord → Entry

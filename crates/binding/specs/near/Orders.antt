@@ -7,7 +7,7 @@ use Rattle.span_tables.specs.declared.portfolios.Holding.{Holding}
 use Rattle.binding.specs.OrderBinding.{TriedOrder}
 use Rattle.binding.specs.near.Ledgers.{held_entries}
 use Rattle.binding.specs.near.Sums.{kept_holdings}
-use Rattle.binding.specs.declared.nets.Entry.{Entry}
+use Rattle.binding.specs.declared.ledgers.Entry.{Entry}
 use Rattle.binding.specs.declared.faults.BindFault.{BindFault}
 use Rattle.binding.specs.declared.faults.BindFault.TheVariants as bind
 use Rattle.binding.specs.declared.faults.OrderBindFault.{OrderBindFault}
