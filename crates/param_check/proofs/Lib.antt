@@ -4,4 +4,3 @@ pub mod OrderedFaults
 pub mod OverlapLemmas
 pub mod RenumberLaws
 pub mod RuleLaws
-pub mod WantedLaws

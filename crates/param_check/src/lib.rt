@@ -8,4 +8,5 @@ pub mod laws;
 mod worked;
 mod worked_faults;
 
-pub use binding::{orders, positions as binding};
+pub use binding::orders;
+pub use binding::positions::{bind, bind_faults};
