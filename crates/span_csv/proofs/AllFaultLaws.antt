@@ -1,5 +1,5 @@
 -- The list of all faults of a file: what each of its faults is, and what its first says of the file.
-use Rattle.std.proofs.Common.{rules, ◌≡◌, refl, sym, ap, subst, ℕ, ◌+◌, Bool, false, List, [], ◌∷◌, length, Option, Some, None, Ok, Err}
+use Rattle.std.proofs.Common.{rules, ◌≡◌, refl, sym, ap, subst, ℕ, ◌+◌, Bool, false, List, [], ◌∷◌, length, Option, Some, None, Err}
 use Rattle.std.specs.Prelude.{All}
 use Rattle.std.specs.List.{AllByRecursion}
 use Rattle.std.proofs.lemmas.List.Elements.{All-from_recursion}

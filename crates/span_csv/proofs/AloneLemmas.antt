@@ -1,14 +1,13 @@
 -- A record of names and a quantity that is looked at alone has the lowest-numbered of the faults that need no other record.
 use Rattle.std.proofs.Common.{◌≡◌, refl, ap, inl, inr, arith, ℕ, zero, suc, ◌+◌, Bool, true, not, ◌&&◌, ◌==◌}
-use Rattle.std.proofs.Common.{ℤ, pos, List, [], ◌∷◌, length, Option, Some, None, Result, Ok, Err}
-use Rattle.std.specs.Prelude.{option_map, is_some, neg_ℤ}
+use Rattle.std.proofs.Common.{ℤ, List, [], ◌∷◌, length, Option, Some, None, Result, Ok, Err}
+use Rattle.std.specs.Prelude.{option_map}
 use Rattle.std.proofs.Math.Bool.{and-true}
 use Rattle.std.proofs.lemmas.Bool.{cases_Bool, eqb-true}
 use Rattle.span_tables.specs.Faults.{first_that_holds, ok_unless}
 use Rattle.span_tables.specs.Names.{is_name}
-use Rattle.span_tables.specs.declared.limits.TheConstants.{MAX_QUANTITY}
 use Rattle.span_money.specs.Numbers.{whole_number}
-use Rattle.span_csv.specs.Records.{Fields, text_at, all_have, has_word_form, has_number_form, is_in_range, is_within, a_quantity}
+use Rattle.span_csv.specs.Records.{Fields, text_at, all_have, has_word_form, has_number_form, is_in_range, a_quantity}
 use Rattle.span_csv.specs.near.NumberedReading.{are_names, is_quantity, quantity_alone}
 use Rattle.span_csv.specs.declared.grammar.FieldForm.{FieldForm}
 use Rattle.span_csv.specs.declared.grammar.FieldForm.TheVariants as form

@@ -1,6 +1,6 @@
 -- Where a search finds a byte, and what is cut behind a line feed.
 use Rattle.std.proofs.Common.{◌≡◌, ◌∙◌, refl, sym, ap, arith, ℕ, Bool, true, false, not, ◌||◌, ◌==◌}
-use Rattle.std.proofs.Common.{List, [], ◌∷◌, ◌++◌, length, take, drop, get_or, inl, inr, Option, Some, None, append_assoc, slice_get}
+use Rattle.std.proofs.Common.{List, [], ◌∷◌, ◌++◌, take, drop, get_or, inl, inr, Option, Some, None, append_assoc, slice_get}
 use Rattle.std.specs.Prelude.{flat_map, is_some}
 use Rattle.std.specs.List.{list_any}
 use Rattle.std.proofs.lemmas.Bool.{cases_Bool, or_parts}

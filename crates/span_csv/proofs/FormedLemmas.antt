@@ -3,7 +3,6 @@ use Rattle.std.proofs.Common.{◌≡◌, ◌∙◌, refl, sym, ap, subst, arith,
 use Rattle.std.proofs.Common.{List, [], ◌∷◌, ◌++◌, length, Option, Some, None, append_assoc}
 use Rattle.std.specs.Prelude.{is_none, option_map}
 use Rattle.std.proofs.lemmas.List.{append-nil}
-use Rattle.span_tables.specs.Faults.{first_that_holds}
 use Rattle.span_csv.specs.Records.{Fields, kind_of}
 use Rattle.span_csv.specs.ParamFaults.{counted, exceeds_limit, form_faults, formed_behind, is_formed, record_fault}
 use Rattle.span_csv.specs.declared.faults.ParamFault.TheVariants as fault

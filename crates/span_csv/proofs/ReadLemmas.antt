@@ -1,5 +1,5 @@
 -- The reading of a parameter file, one record after another: the records that it says, and all its faults.
-use Rattle.std.proofs.Common.{◌≡◌, ◌+◌, ◌∙◌, sym, ap, subst, refl, arith, ℕ, List, [], ◌∷◌, ◌++◌, length, map, Some, Ok, Err}
+use Rattle.std.proofs.Common.{◌≡◌, ◌∙◌, sym, ap, subst, refl, arith, ℕ, List, [], ◌∷◌, ◌++◌, length, map, Some, Ok, Err}
 use Rattle.std.specs.Prelude.{⊤, MatchBool}
 use Rattle.std.proofs.lemmas.List.{length-append, map-append}
 use Rattle.span_tables.specs.Faults.{all_faults, faults_after, first_of, ok_unless}

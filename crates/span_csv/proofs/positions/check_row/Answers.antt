@@ -2,9 +2,7 @@ use Rattle.std.proofs.Common.{◌≤◌, ◌<◌, length, sym, arith}
 use Rattle.std.proofs.lemmas.Result.{err_from_is_err_and}
 use Rattle.csv.specs.Records.{fields_of}
 use Rattle.span_tables.specs.declared.limits.TheConstants.{MAX_ACCOUNTS}
-use Rattle.span_csv.specs.Records.{text_at}
 use Rattle.span_csv.proofs.AccountLemmas.{checked_full, checked_past, checked_refused, checked_taken}
-use Rattle.span_csv.proofs.NumberedLemmas.{stands_there}
 use Rattle.span_csv.proofs.positions.check_row.Goals as goal
 
 pub returns-in_err-quantity : goal.returns-in_err-quantity
