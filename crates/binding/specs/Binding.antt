@@ -79,7 +79,7 @@ owner_faults owner contract unknown net held contracts is_over has_many all =
     ++ all_unfit_by owner held (among contract contracts (λ earlier r.
     not (list_any (λ x. bytes_eq (owner x) (owner r)) earlier) && has_many (owner r))) all
 
--- the faults of positions, of which the accounts are the owners
+-- the faults of positions: the accounts are the owners
 unfoldable pub bind_faults : List Contract → List PositionRecord → List BindFault
 bind_faults contracts all =
     let known = known_records contracts all in

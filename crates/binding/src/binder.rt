@@ -25,7 +25,7 @@ use std::marker::Model;
 
 /// The ids of the contracts that positions are bound to, by the contracts' numbers. Contracts see the list of them.
 ///
-/// Four steps bind a position file as [`bind`](crate::positions::bind) does, where all contracts are known: [`find`](Binder::find), of slices
+/// Four steps bind a position file as [`bind`](crate::positions::bind) does, if all contracts are known: [`find`](Binder::find), of slices
 /// of the records, [`knows_all`](Binder::knows_all), [`nets`](Binder::nets), of slices of the accounts, and [`bound`](Binder::bound).
 #[derive(Drop)]
 pub struct Binder {
