@@ -117,14 +117,3 @@ pub holdings_are : (contracts : List Contract) (positions : List PositionRecord)
 holdings_are contracts positions account h =
     held_by_entries (λ k x. net_of positions account x.id) (entries_of (ids_of contracts) positions account) contracts
     (λ k x e. net_is contracts account k x h e positions)
-
-pub all_holdings_are : (contracts : List Contract) (positions : List PositionRecord) (accounts : List (List ℕ))
-    (ledgers : List (List Entry)) → has_repeat (λ y z. bytes_eq y.id z.id) contracts ≡ false
-    → ledgers ≡ map (entries_of (ids_of contracts) positions) accounts
-    → map (entry_holdings (length contracts)) ledgers ≡ map (holdings_of contracts positions) accounts
-all_holdings_are contracts positions accounts ledgers h e = ap (map (entry_holdings (length contracts))) e ∙ each accounts
-  where
-    each : (ks : List (List ℕ)) → map (entry_holdings (length contracts)) (map (entries_of (ids_of contracts) positions) ks)
-        ≡ map (holdings_of contracts positions) ks
-    each [] = refl
-    each (k ∷ ks) = let here = holdings_are contracts positions k h in let rest = each ks in λ i. sym here i ∷ rest i

@@ -1,11 +1,12 @@
 -- Laws of the ledger, record by record.
 use Rattle.std.proofs.Common.{◌≡◌, ℕ, ◌+◌, ◌<◌, ◌≤◌, Bool, true, false, cond, List, [], ◌∷◌, ◌++◌, length, get_or}
-use Rattle.std.proofs.Common.{map, replicate, set, take, not, Some, None, slice_get, refl, sym, ap, subst, ◌∙◌, arith}
+use Rattle.std.proofs.Common.{map, replicate, set, take, Some, None, slice_get, refl, sym, ap, subst, ◌∙◌, arith}
 use Rattle.std.specs.Prelude.{All, bytes_eq}
 use Rattle.std.proofs.lemmas.List.{get_or-map, get_or_default, length-map, take_more}
 use Rattle.std.proofs.lemmas.List.{append-nil}
 use Rattle.std.proofs.lemmas.List.Elements.{filter-append}
-use Rattle.std.proofs.lemmas.Bool.{not-false}
+use Rattle.std.proofs.Math.Seq.{take-length}
+use Rattle.std.proofs.lemmas.Bool.{not-false, not-true}
 use Rattle.std.proofs.lemmas.Option.{slice_get-get_or}
 use Rattle.span_tables.specs.Names.{has_repeat}
 use Rattle.span_tables.specs.Net.{accounts_of}
@@ -16,7 +17,7 @@ use Rattle.span_tables.proofs.NameLaws.{distinct_once}
 use Rattle.binding.specs.near.Ledgers.{is_foreign, is_listed, known_entry, listed_records}
 use Rattle.binding.specs.near.Nets.{entry_of, entries_of}
 use Rattle.binding.specs.declared.ledgers.Entry.{Entry}
-use Rattle.binding.proofs.AccountLaws.{entered_known, entries_push}
+use Rattle.binding.proofs.AccountLaws.{entered, entries_push}
 
 -- what the entry of a record says of its contract
 pub foreign_from_none : (ids : List (List ℕ)) (p : PositionRecord) → None ≡ known_entry ids p.contract p.quantity
@@ -43,15 +44,15 @@ pub record IsSeen (positions : List PositionRecord) (i : ℕ) (p : PositionRecor
   pub at : p ≡ get_or positions i p
   pub named : name ≡ p.account
 
-not-true : (b : Bool) → not b ≡ true → b ≡ false
-not-true true e = cc
-not-true false e = refl
-
 -- one more record
 listed_more : (ids : List (List ℕ)) (front : List PositionRecord) (p : PositionRecord) (b : Bool) → is_listed ids p ≡ b
     → listed_records ids (front ++ p ∷ []) ≡ listed_records ids front ++ cond b (p ∷ []) []
 listed_more ids front p b e =
     filter-append (is_listed ids) front (p ∷ []) ∙ ap (λ (t : Bool). listed_records ids front ++ cond t (p ∷ []) []) e
+
+-- accounts stand apart
+pub apart : (positions : List PositionRecord) → has_repeat bytes_eq (accounts_of positions) ≡ false
+apart positions = distinct_once (map (λ (p : PositionRecord). p.account) positions)
 
 -- ---- records by the numbers of their accounts
 
@@ -103,10 +104,6 @@ module _ (positions : List PositionRecord) (records : List NumberedPosition)
   pub all_seen : (i : ℕ) → length records ≤ i → length positions ≤ i
   all_seen i past = omega (arith, past, as_many)
 
-  -- accounts stand apart
-  pub apart : has_repeat bytes_eq (accounts_of positions) ≡ false
-  apart = distinct_once (map (λ (p : PositionRecord). p.account) positions)
-
   -- the records up to the one at a place
   pub taken_next : (i : ℕ) (r : NumberedPosition) → i < length records → r ≡ get_or records i r
       → take (i + 1) positions ≡ take i positions ++ named_position (accounts_of positions) r ∷ []
@@ -131,9 +128,12 @@ module _ (positions : List PositionRecord) (records : List NumberedPosition)
       ∙ ap (λ bs. set bs r.account (get_or bs r.account [] ++ e ∷ [])) was
       ∙ ap (λ x. set (map (entries_of ids before) (accounts_of positions)) r.account
       (get_or (map (entries_of ids before) (accounts_of positions)) r.account [] ++ x ∷ [])) is
-      ∙ entered_known (entries_of ids before) (entries_of ids (before ++ p ∷ [])) p.account (entry_of ids p)
-      (entries_push ids before p)
-      (accounts_of positions) r.account apart (account_at i r lt at)
+      ∙ subst (λ ks. set (map (entries_of ids before) ks) r.account
+      (get_or (map (entries_of ids before) ks) r.account [] ++ entry_of ids p ∷ []) ≡ map (entries_of ids (before ++ p ∷ [])) ks)
+      (take-length (accounts_of positions))
+      (entered (accounts_of positions) (apart positions) 0 (length (accounts_of positions)) (omega arith) (entries_of ids before)
+      (entries_of ids (before ++ p ∷ [])) r.account (entry_of ids p) (number_within i r lt at) (entries_push ids before p) r.account
+      (number_within i r lt at) (omega arith))
       ∙ ap (λ ps. map (entries_of ids ps) (accounts_of positions)) (sym next)
 
   -- the ledgers stay at a record whose contract is not among the ids

@@ -17,7 +17,7 @@ module _ (positions : List PositionRecord) (records : List NumberedPosition)
   place : (i : ℕ) (r : NumberedPosition) → i < length records → r ≡ get_or records i r
       → position (bytes_eq (get_or (accounts_of positions) r.account [])) (accounts_of positions) ≡ Some r.account
   place i r lt at =
-      place_is (accounts_of positions) r.account (get_or (accounts_of positions) r.account []) (apart positions records named known)
+      place_is (accounts_of positions) r.account (get_or (accounts_of positions) r.account []) (apart positions)
       (account_at positions records named known i r lt at)
 
   -- a record exceeds a limit

@@ -205,10 +205,9 @@ fn limit_faults(
     let mut told = IndexSet::new(alloc);
     for (number, position) in positions.records().iter().enumerate() {
         let account = &accounts[position.account as usize];
-        if !exceeds_anew(limit, numbers, excesses, &mut told, account, position)? {
-            continue;
+        if exceeds_anew(limit, numbers, excesses, &mut told, account, position)? {
+            faults.push(fault_of(limit, number + 1, account.copied()))?;
         }
-        faults.push(fault_of(limit, number + 1, account.copied()))?;
     }
     Ok(faults)
 }
