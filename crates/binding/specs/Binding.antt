@@ -14,7 +14,7 @@ use Rattle.span_tables.specs.declared.limits.TheConstants.{MAX_NET, MAX_HELD}
 abbrev pub is_of_known : {R : Type 0} → (R → List ℕ) → List Contract → R → Bool
 is_of_known contract contracts r = list_any (λ x. bytes_eq x.id (contract r)) contracts
 
--- a record is of a contract that the tables have, and a test of such records alone holds of it
+-- a record is of a contract that the tables have, and a test holds of it behind the earlier records of such contracts
 abbrev pub among : {R : Type 0} → (R → List ℕ) → List Contract → (List R → R → Bool) → List R → R → Bool
 among contract contracts test earlier r =
     is_of_known contract contracts r && test (filter (is_of_known contract contracts) earlier) r
@@ -67,9 +67,10 @@ abbrev pub first_unfit : (ℕ → List ℕ → BindFault) → (List PositionReco
     → List PositionRecord → Option BindFault
 first_unfit fault unfit all = first_of (all_unfit fault unfit all)
 
--- The faults of records of owners, by the owner and the contract of a record, the names of the three faults, and what of an owner is over
--- a limit: each record of an unknown contract, then each net over the limit and then each owner that holds too many contracts, as if the
--- records of unknown contracts were not there, but for the numbers. A net and an owner are told once, with their first record.
+-- The faults of records that each have an owner and a contract, under the names of the three faults. `is_over` says whether an owner's net
+-- in a contract is over the limit, and `has_many` whether an owner holds too many contracts. First comes each record of an unknown
+-- contract, then each net over the limit, and then each owner with too many contracts. The last two are told with the first record of the
+-- owner and contract, or of the owner, as if the records of unknown contracts were not there, but for the numbers.
 abbrev pub owner_faults : {R F : Type 0} → (R → List ℕ) → (R → List ℕ) → (ℕ → List ℕ → F) → (ℕ → List ℕ → F) → (ℕ → List ℕ → F)
     → List Contract → (List ℕ → List ℕ → Bool) → (List ℕ → Bool) → List R → List F
 owner_faults owner contract unknown net held contracts is_over has_many all =
@@ -79,7 +80,7 @@ owner_faults owner contract unknown net held contracts is_over has_many all =
     ++ all_unfit_by owner held (among contract contracts (λ earlier r.
     not (list_any (λ x. bytes_eq (owner x) (owner r)) earlier) && has_many (owner r))) all
 
--- the faults of positions: the accounts are the owners
+-- the faults of positions: the owner of a record is its account
 unfoldable pub bind_faults : List Contract → List PositionRecord → List BindFault
 bind_faults contracts all =
     let known = known_records contracts all in

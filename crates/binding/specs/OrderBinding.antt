@@ -63,7 +63,7 @@ net_exceeds_with contracts portfolios all order contract =
     nat_lt MAX_NET (nat_abs (net_among (holdings_after contracts portfolios all order)
     (position_or_len (λ x. bytes_eq x.id contract) contracts)))
 
--- so in the record's contract
+-- so it is in the record's contract
 abbrev pub exceeds_net_with : List Contract → List AccountHoldings → List OrderRecord → OrderRecord → Bool
 exceeds_net_with contracts portfolios all r = net_exceeds_with contracts portfolios all r.order r.contract
 
@@ -77,7 +77,7 @@ abbrev pub first_unfit_order : (ℕ → List ℕ → OrderBindFault) → (List O
 first_unfit_order fault unfit all = first_unfit_by (λ (r : OrderRecord). r.order) fault unfit all
 
 -- The fault of orders: an unknown contract in any record, then an account's net with an order out of range, then too many contracts held
--- with one. No order sees another.
+-- with one: the owner of a record is its order. No order sees another.
 unfoldable pub order_bind_fault : List Contract → List AccountHoldings → List OrderRecord → Option OrderBindFault
 order_bind_fault contracts portfolios all = first_of
     (owner_faults (λ r. r.order) (λ r. r.contract) fault.UnknownContract fault.NetOutOfRange fault.TooManyHeld contracts
