@@ -53,8 +53,7 @@ fn loaded_states(
     ensures long { IfOk result (λ states. length states ≡ length tables.now.commodities) }
 {
     let count = tables.commodities().len();
-    // Called for its clause: the holdings are those of a portfolio.
-    let _kept = portfolio.holdings();
+    portfolio.known();
     let mut state = empty(alloc, count)?;
     for commodity in 0..count {
         let of_commodity = &held[commodity];

@@ -14,7 +14,7 @@ load-requires-clause-commodity c =
     let t = c.args.tables.now in
     let count = ap length c.commodities-count.ensures.value in
     let lt = c.loop-commodity-test.true in
-    let long = length_partly t (c.args.portfolio.now).holdings c.commodities-count.ensures.limits c.holdings-kept.ensures.kept
+    let long = length_partly t (c.args.portfolio.now).holdings c.commodities-count.ensures.limits c.known.ensures
     c.requires.fits c.loop-commodity.commodity (omega (arith, count, lt)) in
     omega (arith, count, lt, long, ap length c.loop-commodity.invariant)
 
@@ -22,13 +22,13 @@ pub load-requires-clause-not_loaded : goal.load-requires-clause-not_loaded
 load-requires-clause-not_loaded c =
     let count = ap length c.commodities-count.ensures.value in
     rw c.loop-commodity.invariant
-    (not_loaded c.args.tables.now (c.args.portfolio.now).holdings c.commodities-count.ensures.limits c.holdings-kept.ensures.kept
+    (not_loaded c.args.tables.now (c.args.portfolio.now).holdings c.commodities-count.ensures.limits c.known.ensures
     c.requires.fits c.loop-commodity.commodity (omega (arith, count, c.loop-commodity-test.true)))
 
 pub load-requires-clause-unspread : goal.load-requires-clause-unspread
 load-requires-clause-unspread c =
     rw c.loop-commodity.invariant
-    (unspread c.args.tables.now (c.args.portfolio.now).holdings c.commodities-count.ensures.limits c.holdings-kept.ensures.kept
+    (unspread c.args.tables.now (c.args.portfolio.now).holdings c.commodities-count.ensures.limits c.known.ensures
     c.requires.fits c.loop-commodity.commodity)
 
 pub loop-commodity-preserved : goal.loop-commodity-preserved
@@ -57,5 +57,5 @@ returns-clause-long c =
     let count = ap length c.commodities-count.ensures.value in
     let le : c.loop-commodity.commodity ≤ length t.commodities = omega (arith, count, c.loop-commodity.auto.commodity-end) in
     ap length c.loop-commodity.invariant
-    ∙ length_partly t (c.args.portfolio.now).holdings c.commodities-count.ensures.limits c.holdings-kept.ensures.kept c.requires.fits
+    ∙ length_partly t (c.args.portfolio.now).holdings c.commodities-count.ensures.limits c.known.ensures c.requires.fits
     c.loop-commodity.commodity le
