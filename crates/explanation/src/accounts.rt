@@ -27,8 +27,7 @@ fn push_commodity(
     if !row.held(number) {
         return Ok(());
     }
-    // Called for its clause: the holdings are those of a portfolio.
-    let _kept = row.portfolio().holdings();
+    row.portfolio().known();
     let tables = row.set().tables();
     let commodity = &tables.commodities()[number].id;
     let ids = ids_of(row.account(), row.set_id(), commodity);

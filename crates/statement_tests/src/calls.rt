@@ -211,9 +211,8 @@ fn reasons_of(alloc: Global, tables: &Tables, portfolio: &Portfolio) -> Result<V
     requires fits { fits (length tables.now.contracts) portfolio.now.holdings ≡ true }
 {
     let stages = stages_of(alloc, tables, portfolio)?;
-    // Called for their clauses: the holdings are those of a portfolio, and the tables are within their limits.
-    let _kept = portfolio.holdings();
-    let _limits = tables.commodities();
+    portfolio.known();
+    tables.known();
     let mut out = Vec::new(alloc);
     let ids = [Field::Text("X"), Field::Text("D1"), Field::Text("AA")];
     push_reasons(alloc, &mut out, &ids, tables, &stages, 0)?;

@@ -48,7 +48,7 @@ push_reasons-requires-clause-states c =
     let tables = c.tables-tables.ensures.tables ∙ ap (λ s. s.tables) (c.deref.ensures ∙ c.set.ensures) in
     let limits : IsWithinLimits t = subst IsWithinLimits tables c.commodities.ensures.limits in
     let kept : ArePortfolio holdings =
-    subst (λ (p : AccountHoldings). ArePortfolio p.holdings) c.portfolio.ensures c.holdings-kept.ensures.kept in
+    subst (λ (p : AccountHoldings). ArePortfolio p.holdings) c.portfolio.ensures c.known.ensures in
     omega (
       arith,
       c.requires.number,

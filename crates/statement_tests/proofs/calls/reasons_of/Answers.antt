@@ -10,5 +10,5 @@ push_reasons-requires-clause-states c =
       arith,
       c.requires.commodity,
       ap (λ s. length s.states) c.in_ok-stages.ensures,
-      length-inter_states t holdings c.commodities-limits.ensures.limits c.holdings-kept.ensures.kept c.requires.fits,
+      length-inter_states t holdings c.known-2.ensures c.known.ensures c.requires.fits,
     )
