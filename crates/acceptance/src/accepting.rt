@@ -12,7 +12,7 @@ ghost use Rattle.std.specs.Prelude.{◌≡◌, IfOk, List};
 ghost use Rattle.std.specs.declared.alloc.Global.{Global};
 ghost use Rattle.std.specs.declared.sync.Arc.{Arc};
 
-use crate::binding::bind_together;
+use crate::bind_slices::bind_together;
 use crate::reading::read_together;
 use binding::positions::bind;
 use param_check::check::check;

@@ -2,6 +2,6 @@
 #![tactic(auto)]
 
 pub mod accepting;
-mod binding;
+mod bind_slices;
 mod reading;
 pub mod slices;

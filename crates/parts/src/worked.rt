@@ -1,7 +1,7 @@
 //! Positions in parts, and their statements, computed by the definitions: each is the contract of a function that does nothing.
 #![tactic(auto, unfolding(statement_text::specs::near::OnLiterals::on_literals))]
 
-ghost use Rattle.param_check.specs.near.Samples.{contract_of, position_of};
+ghost use Rattle.binding.specs.near.Samples.{contract_of, position_of};
 ghost use Rattle.span_csv.specs.Records.{records_of};
 ghost use Rattle.span_tables.specs.Net.{holdings_of};
 ghost use Rattle.span_tables.specs.near.Samples.{commodity, set};

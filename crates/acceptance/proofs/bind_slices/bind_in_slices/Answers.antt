@@ -1,7 +1,7 @@
 use Rattle.std.proofs.Common.{◌∙◌, ℕ, List, ap, length, sym}
 use Rattle.binding.specs.near.Ledgers.{slice_nets}
 use Rattle.acceptance.proofs.BindingLemmas.{found_of_records, none_foreign}
-use Rattle.acceptance.proofs.binding.bind_in_slices.Goals as goal
+use Rattle.acceptance.proofs.bind_slices.bind_in_slices.Goals as goal
 
 pub nets_in_slices-requires-clause-found : goal.nets_in_slices-requires-clause-found
 nets_in_slices-requires-clause-found g c =

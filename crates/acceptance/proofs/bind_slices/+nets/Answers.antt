@@ -1,7 +1,7 @@
 use Rattle.std.proofs.Common.{rules, ◌≡◌, ◌+◌, ◌-◌, ◌++◌, ◌∙◌}
 use Rattle.binding.specs.near.Ledgers.{slice_nets}
 use Rattle.acceptance.proofs.BindingLemmas.{slices_join}
-use Rattle.acceptance.proofs.binding.+nets.Goals as goal
+use Rattle.acceptance.proofs.bind_slices.+nets.Goals as goal
 
 pub returns : goal.returns
 returns g t c =

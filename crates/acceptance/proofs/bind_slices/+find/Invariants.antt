@@ -1,8 +1,8 @@
 use Rattle.std.proofs.Common.{◌*◌, ◌+◌}
-use Rattle.acceptance.proofs.binding.+nets.Given as goal
+use Rattle.acceptance.proofs.bind_slices.+find.Given as goal
 
-abbrev pub decreases-nets_in_slices : goal.decreases-nets_in_slices
-decreases-nets_in_slices g l = 2 * l.slices
+abbrev pub decreases-find_in_slices : goal.decreases-find_in_slices
+decreases-find_in_slices g l = 2 * l.slices
 
 abbrev pub decreases-join+arg2 : goal.decreases-join+arg2
 decreases-join+arg2 g l = 2 * l.half + 1
