@@ -1,6 +1,7 @@
 //! Orders in batches, each on its account (docs/FORMATS.md, "Orders tried").
 ghost use Rattle.std.specs.Arc.{arc_value};
 ghost use Rattle.std.specs.Prelude.{◌≡◌, ◌++◌, ◌+◌, ◌-◌, ◌≤◌, IfOk, OnOk, drop, length, map, take};
+ghost use Rattle.worker_pool.specs.Batches.{AllFit};
 ghost use Rattle.worker_teams.specs.near.OutcomeRows.{rows_of_accounts};
 ghost use Rattle.whatif.specs.Whatif.{whatif_text};
 ghost use Rattle.whatif.specs.near.Befores.{AreBefores};
