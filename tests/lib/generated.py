@@ -68,7 +68,7 @@ class Program:
             self.answers(forms, STEPS, "whatif", params, LONG, orders)
 
     def orders(self, counts, params, positions, orders, most=None):
-        """Checks that each number of workers prints the same changes of orders, of each order once. Those of the first orders are the
+        """Checks that each number of workers prints the same changes of orders, of each order once. The changes of the first orders are the
         difference of two statements: without and with the order's records behind the positions. Returns the changes."""
         changes = self.answers(ACCEPTED, counts, "whatif", params, positions, orders).stdout
         records = grouped(lines_of(read(orders)))
@@ -94,7 +94,7 @@ def random_faults(seed):
 
 
 def sample_files(span, seed):
-    """Writes the files of SAMPLES: the examples, or those of the first seed, from this one on, that gives some records and some faults."""
+    """Writes the files of SAMPLES: the examples, or the files of the first seed, from this one on, that gives some records and some faults."""
     for file, name in SAMPLES.items():
         shutil.copyfile(EXAMPLES / f"{name}.csv", file)
     if seed is not None:
