@@ -126,7 +126,7 @@ fn accept_positions(
 }
 
 /// What two files say, or the first fault: in reading the parameters, in checking them, in reading the positions, in
-/// binding them; or want of memory.
+/// binding them; or out of memory.
 #[tactic(auto, unfolding(statement_text::specs::Statement::statement_of, statement_text::specs::Statement::statement_under))]
 pub fn accept(alloc: Global, params: &[u8], positions: &[u8]) -> Result<Accepted, SpanFault>
     ensures text { Gives (λ (a : Accepted). statement_text (arc_value a.set).tables a.portfolios)

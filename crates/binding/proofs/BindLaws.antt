@@ -106,7 +106,7 @@ module _ (contracts : List Contract) (positions : List PositionRecord) (ids : Li
           let size = length-map contracts (λ x. x.id) in
           absurd (nowhere contracts place (omega (arith, lt, size)) e)
 
-  -- the faults that are found are those of the definition
+  -- the faults that are found are the faults of the definition
   pub faults_are : (excesses : List Excess) → excesses ≡ map excess_of nets
       → found_faults ids unknown excesses positions ≡ bind_faults contracts positions
   unfolding bind_faults known held
@@ -152,7 +152,7 @@ module _ (contracts : List Contract) (positions : List PositionRecord) (ids : Li
         (all_pass (is_known contracts) positions fit.known)
         ∙ sym (map-map (map kept_holding) (holdings_of contracts positions) (accounts_of positions)) ∙ all_same exact exact_hold
 
-    -- without a fault the nets are portfolios, and those of the definition
+    -- without a fault the nets are portfolios, the portfolios of the definition
     pub nets_hold : All ArePortfolio nets
     nets_hold = subst (All ArePortfolio) (sym nets_are) exact_hold
 

@@ -181,7 +181,7 @@ module _ (contracts : List Contract) (portfolios : List AccountHoldings) (record
       first_of-map [] = refl
       first_of-map (x ∷ xs) = refl
 
-      -- the first fault that is found is that of the definition
+      -- the first fault that is found is the fault of the definition
       pub found_first : (unknown : List BindFault) (excesses : List Excess) → unknown ≡ foreign_faults (ids_of contracts) positions
           → excesses ≡ map (λ o. excess_of (kept_after (length contracts) portfolios o)) orders
           → option_map order_fault (first_of (found_faults (ids_of contracts) unknown excesses positions))

@@ -1,4 +1,4 @@
--- Faults of orders are those of their records as positions under the orders' names.
+-- The faults of orders are the faults of their records, read as positions under the orders' names.
 use Rattle.std.proofs.Common.{◌≡◌, ℕ, ◌+◌, Bool, true, false, not, ◌&&◌, List, [], ◌∷◌, ◌++◌, filter, length, map}
 use Rattle.std.proofs.Common.{Some, None, refl, sym, ap, ◌∙◌}
 use Rattle.std.specs.Prelude.{bytes_eq, if◌then◌else◌, option_map, option_to_list}

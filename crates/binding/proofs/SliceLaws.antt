@@ -42,7 +42,7 @@ each_known ids (p ∷ positions) =
     by true r = refl
     by false r = refl
 
--- each record is of a contract that is among the ids just where each place is that of one
+-- each record is of a contract among the ids exactly if each place is the place of one
 pub all_known_by_places : (ids : List (List ℕ)) (found : List ℕ) (positions : List PositionRecord)
     → found ≡ map (λ (p : PositionRecord). contract_place ids p.contract) positions
     → list_all (λ place. nat_lt place (length ids)) found ≡ not (list_any (is_foreign ids) positions)

@@ -96,7 +96,7 @@ bind_fault contracts all = first_of (bind_faults contracts all)
 unfoldable pub bindings_of : List Contract → List PositionRecord → Result (List AccountHoldings) BindFault
 bindings_of contracts all = ok_unless (bind_fault contracts all) (portfolios_of contracts all)
 
--- the fault is want of memory, of which the definition does not speak
+-- the fault is out of memory, of which the definition does not speak
 abbrev pub is_memory : BindFault → Bool
 is_memory fault.OutOfMemory = true
 is_memory _ = false

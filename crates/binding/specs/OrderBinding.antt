@@ -89,7 +89,7 @@ orders_bound contracts portfolios all =
     ok_unless (order_bind_fault contracts portfolios all)
     (record { portfolios = portfolios; orders = map (tried_order contracts portfolios all) (orders_in all) })
 
--- the fault is want of memory, of which the definition does not speak
+-- the fault is out of memory, of which the definition does not speak
 abbrev pub is_memory : OrderBindFault → Bool
 is_memory fault.OutOfMemory = true
 is_memory _ = false

@@ -18,7 +18,7 @@ pub enum BindFault {
     NetOutOfRange { at: usize, account: Name },
     /// B3: too many contracts held.
     TooManyHeld { at: usize, account: Name },
-    /// Want of memory.
+    /// Out of memory.
     OutOfMemory,
 }
 
@@ -31,7 +31,7 @@ pub enum OrderBindFault {
     NetOutOfRange { at: usize, order: Name },
     /// B3: too many contracts held, with the order.
     TooManyHeld { at: usize, order: Name },
-    /// Want of memory.
+    /// Out of memory.
     OutOfMemory,
 }
 

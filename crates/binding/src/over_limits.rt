@@ -186,8 +186,8 @@ fn exceeds_anew(
     is_new(told, told_as(limit, account, &numbered.contract))
 }
 
-// The faults of the records that exceed a limit, by what each account has over it: of an account and contract, or of an account, that of
-// the first record that does.
+// The faults of the records that exceed a limit, by what each account has over it. An account and contract, or an account, has one
+// fault, at its first record over the limit.
 fn limit_faults(
     alloc: Global,
     limit: Limit,
@@ -212,7 +212,7 @@ fn limit_faults(
     Ok(faults)
 }
 
-/// All faults of records, in order: these of unknown contracts, those of the nets over the limit, and those of the accounts that hold too
+/// All faults of records, in order: the given faults of unknown contracts, then nets over the limit, and then accounts that hold too
 /// many contracts, by what each account has over the limits.
 pub(crate) fn all_faults(
     alloc: Global,

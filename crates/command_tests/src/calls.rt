@@ -1,4 +1,4 @@
-//! Each public call of `span_cli` whose clause lets it give up, for want of memory or where a reader or writer fails: that it
+//! Each public call of `span_cli` whose clause lets it give up, because memory ran out or where a reader or writer fails: that it
 //! succeeds where there is memory and nothing fails, once; and the texts of what cannot be read.
 use crate::builders::run_on;
 use sample_files::calendar::{COUNTS, PARAMS};

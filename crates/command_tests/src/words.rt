@@ -144,7 +144,7 @@ fn keeps_its_status_where_both_streams_fail(rt: HostRuntime) {
     assert_eq!(rt; status, 6);
 }
 
-// A word that is no text is a mistake of usage; another fault in reading the words is want of memory.
+// A word that is no text is a mistake of usage; another fault in reading the words is out of memory.
 #[test]
 fn refuses_words_that_cannot_be_read(rt: HostRuntime) {
     let cases: [(ErrorKind, u8, &[u8]); 2] = [

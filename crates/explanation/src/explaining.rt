@@ -102,7 +102,7 @@ fn explained(
 }
 
 /// The explanation of two files, of all accounts or of the one of a name: the first fault in reading the parameters, checking
-/// them, reading the positions and binding them, and then that the positions do not have the account; or want of memory.
+/// them, reading the positions and binding them, and then that the positions do not have the account; or out of memory.
 #[tactic(auto, unfolding(crate::specs::Explanation::explanation_of))]
 pub fn explain(
     alloc: Global,

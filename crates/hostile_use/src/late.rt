@@ -1,4 +1,4 @@
-//! A result that comes when its account has its outcome already, because another of its steps ended for want of memory.
+//! A result that comes when its account has its outcome already, because another of its steps ended out of memory.
 use crate::memory::{TwoAccounts, words_of_two, words_or_no_batch};
 use sample_files::three_commodities::PARAMS;
 use span_tables::name::Name;
@@ -99,7 +99,7 @@ fn two_accounts<R: Threads + Wait + Clock + Sync + Abort>(
     words_of_two(rt, alloc, &HELD_AND_LAST, 2, gate)
 }
 
-// With ample memory a held result is not late, since its account waits for it. Where another step of X ended for want of memory,
+// With ample memory a held result is not late, since its account waits for it. Where another step of X ended out of memory,
 // it is: it changes nothing of X, and Z has its row.
 #[test]
 fn result_after_the_outcome(rt: HostRuntime) -> Result<(), Fail> {

@@ -1,4 +1,4 @@
-//! What calls answer where one growth of memory is refused: what they answer with ample memory, or want of memory.
+//! What calls answer where one growth of memory is refused: what they answer with ample memory, or out of memory.
 //! Nothing is lost then, and the next call works: a case that was refused is run once more, and has to come to its end.
 ghost use Rattle.std.specs.Arc.{arc_value};
 ghost use Rattle.std.specs.Prelude.{◌≡◌, All, IfOk, length, true};
@@ -46,7 +46,7 @@ use worker_pool::gates::{Gate, OpenGate};
 use worker_pool::outcomes::Outcome;
 use worker_pool::plain::run_plain;
 
-// Whether a case is to be run once more: it ended for want of memory, and nothing else went wrong.
+// Whether a case is to be run once more: it ended out of memory, and nothing else went wrong.
 fn was_refused(answer: Result<(), SpanFault>) -> Result<bool, SpanFault> {
     match answer {
         Ok(()) => Ok(false),
@@ -249,7 +249,7 @@ pub(crate) struct TwoAccounts {
     pub(crate) second_total: i128,
 }
 
-// The outcomes of a batch, or want of memory.
+// The outcomes of a batch, or out of memory.
 fn outcomes_of<R: Threads + Wait + Clock + Sync + Abort, G: Gate>(
     rt: &R,
     alloc: Global,
@@ -449,8 +449,8 @@ fn publish(rt: HostRuntime) -> Result<(), Fail> {
     Ok(())
 }
 
-// Two statements, or want of memory after the rows that were put before it, which have these totals. A shelf that cannot be read for
-// want of memory is answered as a shelf without the set.
+// Two statements, or out of memory after the rows that were put before it, which have these totals. A shelf that cannot be read
+// because memory ran out is answered as a shelf without the set.
 fn is_roll<R: Abort>(
     rt: &R,
     totals: [Option<i128>; 2],
@@ -497,7 +497,7 @@ fn rolled(rt: HostRuntime) -> Result<(), Fail> {
     Ok(())
 }
 
-// The next task of a board that has one. For want of memory, the board is as it was and gives it then.
+// The next task of a board that has one. Out of memory, the board is as it was and gives it then.
 fn next_task<R: Abort>(rt: &R, board: &mut Board) -> Result<Task, SpanFault>
     ensures board { board.new.job ≡ board.old.job }
     ensures task { IfOk result (λ task. task.job ≡ board.old.job) }
@@ -529,7 +529,7 @@ fn is_failed<R: Abort>(
     Ok(())
 }
 
-// Each step of a board of this job: a value is kept, and the mark of want of memory makes the board fail.
+// Each step of a board of this job: a value is kept, and the mark of out of memory makes the board fail.
 fn run<R: Abort>(rt: &R, alloc: Global, job: &Arc<Job>, board: &mut Board) -> Result<(), SpanFault>
     requires { board.old.job ≡ arc_value job.now }
     ensures { board.new.job ≡ board.old.job }

@@ -11,5 +11,5 @@ pub mod StateLemmas
 mod NothingFormed
 pub mod OpenLemmas
 pub mod DirectionLaws
-pub mod BoundLaws
+pub mod CreditBounds
 pub mod KeptLemmas

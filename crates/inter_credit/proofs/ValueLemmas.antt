@@ -11,7 +11,7 @@ use Rattle.span_tables.specs.Holdings.{AreHeld}
 use Rattle.span_tables.specs.Net.{HeldContract}
 use Rattle.span_tables.specs.declared.limits.TheConstants.{MAX_HELD, MAX_NET, MAX_OPTION_VALUE}
 use Rattle.span_tables.specs.declared.records.Contract.{Contract}
-use Rattle.span_tables.proofs.BoundLaws.{int_sum_size}
+use Rattle.span_tables.proofs.HeldBounds.{int_sum_size}
 use Rattle.span_tables.proofs.HeldLemmas.{held_here}
 use Rattle.inter_credit.specs.OptionValue.{due_of, excess_of, net_value_of, position_value}
 use Rattle.inter_credit.specs.declared.option_value.TheConstants.{MAX_NET_VALUE, MAX_POSITION_VALUE}

@@ -15,7 +15,7 @@ const WHOLE: u128 = 10_000;
 const DOUBLED_WHOLE: u128 = 2 * WHOLE;
 
 // Price risk doubled times the weight, in minor units times 10^-8 deltas times basis points.
-#[tactic(auto, using(crate::proofs::BoundLaws::product_small))]
+#[tactic(auto, using(crate::proofs::CreditBounds::product_small))]
 fn product(state: &CommodityState) -> u128
     requires { IsCommodityState state.now }
     ensures value { result ≡ state.now.price2 * state.now.weight }
@@ -40,7 +40,7 @@ fn credit_of(state: &CommodityState) -> u128
 
 /// The intercommodity credit of the commodity of a number, in minor units, rounded down once; 0 where its net delta is 0.
 /// The product that is divided, of price risk doubled and weight, fits a signed number of 128 bits.
-#[tactic(auto, using(crate::proofs::BoundLaws::products_small))]
+#[tactic(auto, using(crate::proofs::CreditBounds::products_small))]
 pub fn credit(state: &InterState, commodity: usize) -> Money
     requires { commodity < length state.now }
     ensures value { result ≡ pos (credit_at state.now commodity) }

@@ -15,7 +15,7 @@ use Rattle.param_check.specs.declared.check.keys.Identity.{Identity}
 use Rattle.param_check.specs.declared.check.keys.Identity.TheVariants as identity
 use Rattle.binding.proofs.FilterMaps.{list_any-filter_map, list_any-map, list_any-same}
 
--- keys with which those of some records are found tell whether one of a kind passes a test
+-- keys that hold the keys of some records say whether a record of a kind passes a test
 found : {A : Type 0} (i : Identity) (keys : List Key) (all : List Record) → ((k : Key) → is_key_among keys (Some k) ≡ has_key i all k)
     → (key : Key) (kind : Record → Option A) (test : A → Bool) → ((r : Record) → is_same (key_of i r) key ≡ is_and (kind r) test)
     → is_key_among keys (Some key) ≡ list_any test (filter_map kind all)

@@ -35,7 +35,7 @@ check_fault all = first_of (check_faults all)
 unfoldable pub checked : List Record → Result AcceptedTables CheckFault
 checked records = ok_unless (check_fault records) (tables_of records)
 
--- the fault is want of memory, of which the definition does not speak
+-- the fault is out of memory, of which the definition does not speak
 abbrev pub is_memory : CheckFault → Bool
 is_memory fault.OutOfMemory = true
 is_memory _ = false

@@ -33,7 +33,7 @@ pub enum CheckFault {
     DuplicatePriority { at: usize },
     /// C11: the commodity and month of an earlier SPOT.
     DuplicateSpot { at: usize },
-    /// Want of memory.
+    /// Out of memory.
     OutOfMemory,
 }
 

@@ -1,4 +1,4 @@
-//! The checker of parameter files, and under the names of old the binding of positions and of orders to tables.
+//! The checker of parameter files. It passes on `bind`, `bind_faults` and the orders of the crate `binding`.
 #![tactic(auto)]
 
 pub mod check;

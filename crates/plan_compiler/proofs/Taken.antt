@@ -10,10 +10,10 @@ use Rattle.span_tables.specs.declared.limits.TheConstants.{MAX_SUM}
 use Rattle.span_tables.specs.declared.portfolios.Holding.{Holding}
 use Rattle.scan_risk.specs.Scenarios.{scenario_sums}
 use Rattle.spread_stage.proofs.FallLemmas.{spreads_shrink}
-use Rattle.inter_credit.proofs.BoundLaws.{length-after_inter_spreads}
-use Rattle.scan_risk.proofs.BoundLaws as scan
-use Rattle.plan_ir.proofs.BoundLaws.{delivery_at_small, held_at_are, length-inter_states, length-loaded_states}
-use Rattle.plan_ir.proofs.BoundLaws.{minimum_at_small, next_total_is_money, next_value_is_money, price2_at_small, risk_at_small}
+use Rattle.inter_credit.proofs.CreditBounds.{length-after_inter_spreads}
+use Rattle.scan_risk.proofs.ScanBounds as scan
+use Rattle.plan_ir.proofs.FigureBounds.{delivery_at_small, held_at_are, length-inter_states, length-loaded_states}
+use Rattle.plan_ir.proofs.FigureBounds.{minimum_at_small, next_total_is_money, next_value_is_money, price2_at_small, risk_at_small}
 use Rattle.inter_credit.specs.Credits.{unspread_state}
 use Rattle.std.proofs.lemmas.List.{length-append, length-replicate}
 use Rattle.std.proofs.lemmas.List.Elements.{All-append, All-map, All-replicate}

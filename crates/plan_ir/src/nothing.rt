@@ -56,7 +56,7 @@ fn are_of_nothing(sums: &[i64; SCENARIOS]) -> bool
 }
 
 impl NothingHeld {
-    /// The values of a commodity of these tables of which nothing is held. `Err` is want of memory.
+    /// The values of a commodity of these tables of which nothing is held. `Err` is out of memory.
     pub fn new(alloc: Global, tables: &Tables) -> Result<NothingHeld, AllocError> {
         let held = Held::none(alloc, tables)?;
         let sums = sums(&held);

@@ -9,7 +9,7 @@ pub enum ShelfFault {
     /// There are no readers, or more than 16.
     #[error("Readers")]
     Readers,
-    /// Want of memory.
+    /// Out of memory.
     #[error("memory")]
     OutOfMemory,
     /// The last number of a publication, 2^64 - 1, is used.

@@ -53,7 +53,7 @@ fn publishes_and_reads<S: ShelfName, R: Wait + Abort>(
 
 // Whether the reader finds no set.
 fn finds_nothing<S: ShelfName, R: Wait + Abort>(rt: &R, reader: &mut Reader<S>) -> bool {
-    reader.current(rt).expect(rt, "no want of memory").is_none()
+    reader.current(rt).expect(rt, "memory suffices").is_none()
 }
 
 // What a reader finds before the first publication, after the second, and once the publisher is dropped.

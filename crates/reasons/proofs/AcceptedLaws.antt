@@ -15,24 +15,24 @@ use Rattle.span_tables.specs.declared.limits.TheConstants.{MAX_COMMODITIES, MAX_
 use Rattle.span_tables.specs.declared.portfolios.Holding.{Holding}
 use Rattle.span_tables.specs.declared.records.MinimumMethod.TheVariants as method
 use Rattle.scan_risk.specs.Scenarios.{active_scenario, is_largest, paired_scenario, scenario_sum, scenario_sums}
-use Rattle.span_tables.proofs.BoundLaws.{int_sum_size}
-use Rattle.scan_risk.proofs.BoundLaws.{sums_small}
+use Rattle.span_tables.proofs.HeldBounds.{int_sum_size}
+use Rattle.scan_risk.proofs.ScanBounds.{sums_small}
 use Rattle.spread_stage.specs.Charges.{intra_charge}
 use Rattle.spread_stage.specs.Spreads.{unspread}
-use Rattle.spread_stage.proofs.BoundLaws.{intra_small, unspread_are}
+use Rattle.spread_stage.proofs.SpreadBounds.{intra_small, unspread_are}
 use Rattle.spread_stage.proofs.FallLemmas.{spreads_shrink}
 use Rattle.inter_credit.specs.Credits.{credit_at, state_at}
 use Rattle.inter_credit.specs.Requirement.{is_call, is_put, minimum_of, short_count}
 use Rattle.inter_credit.specs.near.CommodityStates.{IsCommodityState}
 use Rattle.inter_credit.specs.declared.commodity_state.CommodityState.{CommodityState}
 use Rattle.inter_credit.specs.declared.option_value.TheConstants.{MAX_NET_VALUE}
-use Rattle.inter_credit.proofs.BoundLaws.{minimum_small, requirement_small}
+use Rattle.inter_credit.proofs.CreditBounds.{minimum_small, requirement_small}
 use Rattle.inter_credit.proofs.OpenLemmas.{loaded_state}
 use Rattle.plan_ir.specs.Figures.{deltas_at, delivery_at, figures_of, held_at, inter_states, intras_at, loaded_states, minimum_at}
 use Rattle.plan_ir.specs.Figures.{net_value_at, numbers_of, scan_at, spots_at, tiers_at, total_to, value_to}
 use Rattle.plan_ir.specs.declared.figures.TheConstants.{MAX_REQUIREMENT}
-use Rattle.plan_ir.proofs.BoundLaws.{credit_at_small, delivery_at_small, minimum_at_small, net_value_at_small, risk_at_small}
-use Rattle.plan_ir.proofs.BoundLaws.{deltas_at_are, held_at_are, length-loaded_states, loaded_are, states_are, tiers_at_are}
+use Rattle.plan_ir.proofs.FigureBounds.{credit_at_small, delivery_at_small, minimum_at_small, net_value_at_small, risk_at_small}
+use Rattle.plan_ir.proofs.FigureBounds.{deltas_at_are, held_at_are, length-loaded_states, loaded_are, states_are, tiers_at_are}
 use Rattle.reasons.specs.Laws.{AreAccepted}
 use Rattle.reasons.specs.Reasons.{inters_shown_at, intras_shown_at, months_shown_at, spots_shown_at, state_after_all}
 use Rattle.reasons.proofs.FigureLaws.{active_shown}

@@ -1,4 +1,4 @@
-pub mod LineLemmas
+pub mod ReasonLineLemmas
 pub mod FormedLemmas
 pub mod StageLemmas
 pub mod FigureLaws

@@ -21,7 +21,7 @@ use Rattle.spread_stage.specs.Deltas.{units_at}
 use Rattle.spread_stage.specs.Months.{AreMonths, AreTierRests, Shrinks, total_size}
 use Rattle.spread_stage.specs.Spreads.{TierRests, formed_both, rests_after, spread_both_ways, tier_rooms}
 use Rattle.spread_stage.specs.declared.months.MonthUnits.{MonthUnits}
-use Rattle.spread_stage.proofs.BoundLaws.{both_ways_are}
+use Rattle.spread_stage.proofs.SpreadBounds.{both_ways_are}
 use Rattle.spread_stage.proofs.SizeLemmas.{left_le, part_on-le, units_at_le}
 use Rattle.spread_stage.proofs.SpreadLemmas.{formed_falls, legs_rise}
 use Rattle.inter_credit.specs.Credits.{inter_both_ways, inter_formed_both, inter_formed_in, inter_one_way, leg_side}

@@ -26,7 +26,7 @@ use Rattle.reasons.specs.Reasons.{short_reason, spot_reason, sums_reason}
 use Rattle.reasons.specs.Shown.{inters_shown, intras_shown, months_shown, spots_shown}
 use Rattle.reasons.specs.declared.shown.ShownIntra.{ShownIntra}
 use Rattle.reasons.specs.near.Fields.{reason_text, reasons_text}
-use Rattle.reasons.proofs.LineLemmas.{lines-append, one_line}
+use Rattle.reasons.proofs.ReasonLineLemmas.{lines-append, one_line}
 
 regrouped : (a b c d e f : List Line) → ((((a ++ b) ++ c) ++ d) ++ e) ++ f ≡ a ++ (b ++ (c ++ ((d ++ e) ++ f)))
 regrouped a b c d e f = simp append_assoc refl

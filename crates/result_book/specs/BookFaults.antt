@@ -3,7 +3,7 @@ use Rattle.std.specs.Prelude.{ℕ, Bool, List, codes, false, true}
 use Rattle.result_book.specs.declared.books.BookFault.{BookFault}
 use Rattle.result_book.specs.declared.books.BookFault.TheVariants as fault
 
--- the fault is want of memory
+-- the fault is out of memory
 abbrev pub is_memory : BookFault → Bool
 is_memory fault.NoSuchBatch = false
 is_memory fault.AlreadyThere = false

@@ -43,7 +43,7 @@ pub record IsBook (book : BookView) : Type 0 where
   pub opened_only : (number : ℕ) → is_opened book number ≡ false → rows_of book number ≡ []
   pub once : (number : ℕ) → HasNoAccountTwice (rows_of book number)
 
--- why the row of an account is not put under a number, where want of memory is no reason
+-- why the row of an account is not put under a number, if out of memory is no reason
 abbrev pub put_fault : BookView → ℕ → List ℕ → Option BookFault
 put_fault book number account =
     if is_opened book number

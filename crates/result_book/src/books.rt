@@ -23,7 +23,7 @@ pub enum BookFault {
     NoSuchBatch,
     /// The batch has a row of this account.
     AlreadyThere,
-    /// Want of memory.
+    /// Out of memory.
     OutOfMemory,
     /// Each number was given to a batch.
     NoMoreBatches,
@@ -109,7 +109,7 @@ impl ResultBook {
     /// Puts a row last in a batch.
     ///
     /// The book first refuses a number of which no batch was opened, then an account of which the batch has a row, and last
-    /// answers want of memory. In each case it stays as it was, and the row comes back.
+    /// answers `Memory`. In each case it stays as it was, and the row comes back.
     pub fn put(&mut self, batch: u64, row: Arc<Row>) -> Result<(), PutRefused>
         ensures accepted { OnOk result (put_fault self.old batch (account_of_row (arc_value row)) ≡ None) }
         ensures put { OnOk result (rows_of self.new batch ≡ rows_of self.old batch ++ arc_value row ∷ []) }
@@ -153,7 +153,7 @@ impl ResultBook {
         }
     }
 
-    // Why the row of an account is not put in a batch, where want of memory is no reason.
+    // Why the row of an account is not put in a batch, if out of memory is no reason.
     fn put_fault(&self, batch: u64, account: &Name) -> Option<BookFault>
         ensures { result ≡ put_fault self.now batch account.now }
     {

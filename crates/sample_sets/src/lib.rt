@@ -1,5 +1,5 @@
 //! What sample files are once they are read: tables, compiled sets, accounts, jobs and boards. Tests of more than one crate build
-//! them here. Each call answers `None` for want of memory, and where a file is refused.
+//! them here. Each call answers `None` because memory ran out, and where a file is refused.
 #![tactic(auto)]
 
 pub mod boards;

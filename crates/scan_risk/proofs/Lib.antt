@@ -1,4 +1,4 @@
 pub mod ScanLaws
 pub mod SumLemmas
 pub mod LaneLemmas
-pub mod BoundLaws
+pub mod ScanBounds

@@ -5,7 +5,7 @@ use Rattle.clap.specs.declared.error.Error.{Error}
 use Rattle.clap.specs.declared.parser.matches.ArgMatches.{ArgMatches}
 use Rattle.span_cli.specs.Words.{form_kinds, span_app}
 
--- words are refused only for a mistake in their form, or for want of memory
+-- words are refused only for a mistake in their form, or because memory ran out
 pub mistaken_fails : {T : Type 0} (a : App) (words : List Text) (r : Result T Error) → a ≡ span_app
     → (is_simple_and_free a ≡ true → FailsBy (fault_of a words) r) → FailsBy (form_kinds words) r
 unfolding form_kinds

@@ -37,7 +37,7 @@ refused_tells status line given out old_err new_err fresh same said = record {
   cause = λ failed. cc;
 }
 
--- what is said of a refusal is the answer, or want of memory
+-- what is said of a refusal is the answer, or out of memory
 pub refusal_serves : (file : List ℕ → Option File) (asked : Asked) (r : Refusal) (given : ℕ) (out old_err new_err : Stream)
     → out.failed ≡ false → given ≡ refusal_status r → Says old_err new_err (refusal_line r)
     → (r ≡ refusal.Fault fault.Memory) ⊎ IsAnswer file asked (refusal_answer r)
@@ -145,7 +145,7 @@ pub fault_answer : (file : List ℕ → Option File) (asked : Asked) (files : Li
 fault_answer file asked files e h (inl memory) = inl (ap refusal.Fault memory)
 fault_answer file asked files e h (inr holds) = inr (read_answer file asked files _ h holds)
 
--- words that ask for something may be answered with want of memory
+-- words that ask for something may be answered out of memory
 pub memory_serves : (file : List ℕ → Option File) (o : Option Asked) (given : ℕ) (old_out new_out old_err new_err : Stream)
     → is_some o ≡ true → Tells memory given old_out new_out old_err new_err
     → ServesAsked file o given old_out new_out old_err new_err
@@ -160,7 +160,7 @@ pub memory_told : (e : Error) (given : ℕ) (old_out new_out old_err new_err : S
 memory_told e given old_out new_out old_err new_err wanted told =
     subst (λ (k : ErrorKind). telling.RefusesWords k given old_out new_out old_err new_err) wanted told
 
--- words that are refused for one of these kinds of reason, or for want of memory
+-- words that are refused for one of these kinds of reason, or because memory ran out
 refused_by : (kinds : Kinds) (e : Error) (given : ℕ) (old_out new_out old_err new_err : Stream) → HasKind kinds e
     → telling.RefusesWords (kind_of e) given old_out new_out old_err new_err → RefusesWordsBy kinds given old_out new_out old_err new_err
 refused_by kinds e given old_out new_out old_err new_err (inl wanted) told = of_memory kinds where
@@ -179,7 +179,7 @@ pub words_answered : (kinds : Kinds) (answered : Type 0) (given : ℕ) (old_out 
 words_answered [] answered given old_out new_out old_err new_err none holds = holds
 words_answered (k ∷ ks) answered given old_out new_out old_err new_err none holds = cc
 
--- words that may be refused, where what is told is want of memory or the kind's
+-- words that may be refused, where what is told is out of memory or the kind's
 pub words_refused : (kinds : Kinds) (answered : Type 0) (e : Error) (given : ℕ) (old_out new_out old_err new_err : Stream)
     → HasKind kinds e → telling.RefusesWords (kind_of e) given old_out new_out old_err new_err
     → (kinds ≡ [] → Tells memory given old_out new_out old_err new_err → answered)

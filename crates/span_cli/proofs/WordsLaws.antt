@@ -66,7 +66,7 @@ pub no_mistake : (words : List Text) (asked : Asked) → form_kinds words ≡ []
 unfolding kinds_of
 no_mistake words asked well is = rw (well, is) refl
 
--- words that are taken are refused only for want of memory
+-- words that are taken are refused only because memory ran out
 pub taken_fails : (words : List Text) (e : Error) → HasKind (kinds_of words) e → is_request words ≡ true → kind_of e ≡ kind.OutOfMemory
 unfolding is_request kinds_of
 taken_fails words e (inl memory) taken = memory

@@ -31,7 +31,7 @@ done text = record { status = DONE; out = text; err = [] }
 abbrev pub refused : ℕ → List ℕ → Answer
 refused status line = record { status = status; out = []; err = line }
 
--- want of memory
+-- out of memory
 abbrev pub memory : Answer
 memory = refused OUT_OF_MEMORY memory_line
 

@@ -9,7 +9,7 @@ use Rattle.span_cli.specs.declared.sources.ReadFault.TheVariants as fault
 abbrev pub File : Type 0
 File = Result (List ℕ) ReadFault
 
--- a read gives the file, unless for want of memory
+-- a read gives the file, unless memory ran out
 abbrev pub ReadGives : {X : Type 0} → (X → List ℕ) → File → Result X ReadFault → Type 0
 ReadGives view file (Ok bytes) = file ≡ Ok (view bytes)
 ReadGives view file (Err fault.OutOfMemory) = ⊤

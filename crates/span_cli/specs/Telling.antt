@@ -34,12 +34,12 @@ pub record TellsAnswer (file : List ℕ → Option File) (asked : Asked) (given 
   pub is : IsAnswer file asked answer
   pub told : Tells answer given old_out new_out old_err new_err
 
--- the answer to what is asked was told, or want of memory
+-- the answer to what is asked was told, or out of memory
 abbrev pub Serves : (List ℕ → Option File) → Asked → ℕ → Stream → Stream → Stream → Stream → Type 0
 Serves file asked given old_out new_out old_err new_err =
     TellsAnswer file asked given old_out new_out old_err new_err ⊎ Tells memory given old_out new_out old_err new_err
 
--- what words ask for was answered, or want of memory was told; of words that ask for nothing that never holds
+-- what words ask for was answered, or out of memory was told; of words that ask for nothing that never holds
 abbrev pub ServesAsked : (List ℕ → Option File) → Option Asked → ℕ → Stream → Stream → Stream → Stream → Type 0
 ServesAsked file None given old_out new_out old_err new_err = ⊥
 ServesAsked file (Some asked) given old_out new_out old_err new_err = Serves file asked given old_out new_out old_err new_err
@@ -62,7 +62,7 @@ RefusesWords kind.DisplayHelp given old_out new_out old_err new_err = IsShown gi
 RefusesWords kind.DisplayVersion given old_out new_out old_err new_err = IsShown given new_out old_err new_err
 RefusesWords other given old_out new_out old_err new_err = IsMistake given old_out new_out
 
--- what is told where the words may be refused for these kinds of reason, or for want of memory
+-- what is told where the words may be refused for these kinds of reason, or because memory ran out
 abbrev pub RefusesWordsBy : Kinds → ℕ → Stream → Stream → Stream → Stream → Type 0
 RefusesWordsBy [] given old_out new_out old_err new_err = Tells memory given old_out new_out old_err new_err
 RefusesWordsBy (k ∷ ks) given old_out new_out old_err new_err =

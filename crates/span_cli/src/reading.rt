@@ -147,7 +147,7 @@ pub fn read_within<R: Read>(
     ensures read { OnOk result (reader.new.failed ≡ false) }
 
     ensures too_long { result ≡ Err ReadFault.TooLong → IfSome reader.old.bytes (λ all. cap < length all) }
-    // Want of memory is no failure, and neither is a turn that was interrupted.
+    // Out of memory is no failure, and neither is a turn that was interrupted.
     ensures failed { result ≡ Err ReadFault.Failed → (reader.new.failed ≡ true) ⊎ (reader.new.turns ≡ 0) }
 {
     match zeros(alloc, PIECE) {

@@ -129,7 +129,7 @@ impl<'a> Request<'a> {
 enum Refusal<'a> {
     // A file that cannot be read, or is too long.
     File(&'a str),
-    // A fault of the files, or want of memory.
+    // A fault of the files, or out of memory.
     Fault(SpanFault),
 }
 

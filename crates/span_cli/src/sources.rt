@@ -17,7 +17,7 @@ pub enum ReadFault {
     /// The file has more than `FILE_CAP` bytes.
     #[error("the file is too long")]
     TooLong,
-    /// Want of memory.
+    /// Out of memory.
     #[error("memory")]
     OutOfMemory,
 }

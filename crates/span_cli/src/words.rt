@@ -430,7 +430,7 @@ fn misnamed(alloc: Global) -> Result<Error, AllocError>
     command.error(ErrorKind::ValueValidation, BAD_ACCOUNT)
 }
 
-// What is said of an account that is no name, or want of memory.
+// What is said of an account that is no name, or out of memory.
 fn refuse_account(alloc: Global) -> Error
     ensures { (kind_of result ≡ ErrorKind.OutOfMemory) ⊎ (kind_of result ≡ ErrorKind.ValueValidation) }
 {
@@ -489,7 +489,7 @@ fn say_mistake<E: Write>(error: &Error, err: &mut MarkedWriter<E>) -> u8
     USAGE
 }
 
-// Tells want of memory in reading the words, and gives the status.
+// Tells out of memory in reading the words, and gives the status.
 fn give_up<E: Write>(err: &mut MarkedWriter<E>) -> u8
     ensures status { result ≡ OUT_OF_MEMORY }
     ensures line { Says err.old err.new memory_line }
@@ -583,7 +583,7 @@ pub fn run_words<
 }
 
 /// Answers words that cannot be read, and gives the status: a word that is no text is a mistake of usage, and else
-/// want of memory.
+/// out of memory.
 pub fn refuse_words<E: ErrorStream>(error: &io::Error, err: &mut MarkedWriter<E>) -> u8
     ensures no_text { error_kind error.now ≡ kind.InvalidData → result ≡ USAGE }
     ensures memory { error_kind error.now ≢ kind.InvalidData → result ≡ OUT_OF_MEMORY }

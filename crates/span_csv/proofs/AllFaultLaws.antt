@@ -29,7 +29,7 @@ refused_some (Some g) x f e = let same : g ≡ f = cc in ap Some same
 
 -- ---- each of them
 
--- a fault of a record tells the number that it is given, and is no want of memory
+-- a fault of a record tells the number that it is given, and is not out of memory
 abbrev TellsNumber : {F : Type 0} → (F → ℕ) → (F → Bool) → (ℕ → F) → Type 0
 TellsNumber number is_memory fault = (n : ℕ) → (number (fault n) ≡ n) × (is_memory (fault n) ≡ false)
 
@@ -53,7 +53,7 @@ module _ {F : Type 0} (fault_of : List Fields → Fields → Option (ℕ → F))
   pub each_of_some : All (IsFaultOfSome fault_of [] rs) (all_faults fault_of rs)
   each_of_some = All-from_recursion _ (all_faults fault_of rs) of_each
 
-  -- none is want of memory
+  -- none is out of memory
   pub none_of_memory : All (λ y. is_memory y ≡ false) (all_faults fault_of rs)
   none_of_memory =
       All-from_recursion _ (all_faults fault_of rs)

@@ -28,7 +28,7 @@ words zero (q ∷ x ∷ r) e = absurd (omega (arith, e))
 words (suc n) [] e = absurd (omega (arith, e))
 words (suc n) (a ∷ r) e = ap (λ b. is_name a && b) (words n r (omega (arith, e)))
 
--- a test that names pass is that of the quantity
+-- a test that names pass is the test of the quantity
 of_quantity : (test : FieldForm → List ℕ → Bool) → ((text : List ℕ) → test form.Name text ≡ true) → (n : ℕ) (r : Fields)
     → length r ≡ n + 1 → all_have test (named_forms n) r ≡ test a_quantity (text_at r n)
 of_quantity test names zero [] e = absurd (omega (arith, e))

@@ -44,7 +44,7 @@ free_all_formed before (r ∷ rs) free = (free_formed (counted before) r free.0,
 abbrev accounts_in : List Fields → List (List ℕ)
 accounts_in rs = accounts_of (map position_record rs)
 
--- the definition's limit is that of the accounts of positions
+-- the limit of the definition is the limit on the accounts of positions
 limit_is : (before : List Fields) (r : Fields) → exceeds_accounts before r ≡ is_one_too_many MAX_ACCOUNTS (accounts_in before) (text_at r 0)
 limit_is before r =
     ap (λ b. not b && (length (distinct (names_of before)) == MAX_ACCOUNTS)) (sym (is_among-distinct (names_of before) (text_at r 0)))

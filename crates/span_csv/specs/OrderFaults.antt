@@ -41,7 +41,7 @@ order_fault rs = first_fault (λ earlier x. first_that_holds (order_faults earli
 unfoldable pub orders_of : List ℕ → Result (List OrderRecord) OrderFault
 orders_of bytes = ok_unless (order_fault (records_of bytes)) (map order_record (records_of bytes))
 
--- the fault is want of memory, of which the definition does not speak
+-- the fault is out of memory, of which the definition does not speak
 abbrev pub is_memory : OrderFault → Bool
 is_memory fault.OutOfMemory = true
 is_memory _ = false

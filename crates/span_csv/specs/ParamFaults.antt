@@ -100,7 +100,7 @@ param_faults bytes = faults_in (records_of bytes)
 unfoldable pub params_of : List ℕ → Result (List Record) ParamFault
 params_of bytes = ok_unless (first_of (param_faults bytes)) (map param_record (records_of bytes))
 
--- the fault is want of memory, of which the definition does not speak
+-- the fault is out of memory, of which the definition does not speak
 abbrev pub is_memory : ParamFault → Bool
 is_memory fault.OutOfMemory = true
 is_memory _ = false

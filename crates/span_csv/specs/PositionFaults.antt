@@ -48,7 +48,7 @@ position_faults bytes = all_faults record_fault (records_of bytes)
 unfoldable pub positions_of : List ℕ → Result (List PositionRecord) PositionFault
 positions_of bytes = ok_unless (first_of (position_faults bytes)) (map position_record (records_of bytes))
 
--- the fault is want of memory, of which the definition does not speak
+-- the fault is out of memory, of which the definition does not speak
 abbrev pub is_memory : PositionFault → Bool
 is_memory fault.OutOfMemory = true
 is_memory _ = false

@@ -28,7 +28,7 @@ pub enum ParamFault {
     OutOfRange { at: usize },
     /// P8: one record more than the limit.
     TooMany { at: usize },
-    /// Want of memory.
+    /// Out of memory.
     OutOfMemory,
 }
 
@@ -45,7 +45,7 @@ pub enum PositionFault {
     OutOfRange { at: usize },
     /// Q5: the first record of one account too many.
     TooManyAccounts { at: usize },
-    /// Want of memory.
+    /// Out of memory.
     OutOfMemory,
 }
 
@@ -64,7 +64,7 @@ pub enum OrderFault {
     TooManyOrders { at: usize },
     /// O6: another account than that of the first record of its order.
     SecondAccount { at: usize },
-    /// Want of memory.
+    /// Out of memory.
     OutOfMemory,
 }
 

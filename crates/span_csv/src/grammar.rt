@@ -164,7 +164,7 @@ pub(crate) fn kind_named(word: &[u8]) -> Option<Kind>
     }
 }
 
-// A layout of the forms in front and those of so many legs.
+// A layout of the forms in front and the forms of so many legs.
 fn with_times(
     front: &'static [FieldForm],
     legs: &'static [[FieldForm; 3]; 4],

@@ -74,7 +74,7 @@ fn next_order(
 }
 
 // Reads each row that is left of a file onto `records`, and its order, where it is new, into `orders`, with its account in `accounts`.
-fn read_rows(
+fn read_order_rows(
     rows: &mut Rows,
     row: &mut ByteRecord,
     orders: &mut IndexSet<Name>,
@@ -108,7 +108,7 @@ pub fn read_orders(alloc: Global, bytes: &[u8]) -> Result<RawOrders, OrderFault>
     let mut orders = IndexSet::new(alloc);
     let mut accounts: Vec<Name> = Vec::new(alloc);
     let mut records: Vec<NumberedPosition> = Vec::new(alloc);
-    read_rows(
+    read_order_rows(
         &mut rows,
         &mut row,
         &mut orders,

@@ -15,7 +15,7 @@ pub(crate) const FIRST_VALUE: usize = 7;
 /// The place of what a profile adds, behind the risk array.
 pub(crate) const EXTRAS: usize = FIRST_VALUE + SCENARIOS;
 
-/// The records that are left of a file. After want of memory there is none.
+/// The records that are left of a file. After memory ran out there is none.
 #[derive(Drop)]
 pub(crate) struct Rows<'a> {
     reader: Reader<&'a [u8]>,

@@ -7,4 +7,4 @@ pub mod ExactLemmas
 pub mod ExactLaws
 pub mod ShortLaws
 pub mod OnLiterals
-pub mod LineLemmas
+pub mod LinePartLemmas

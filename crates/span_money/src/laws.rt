@@ -62,7 +62,7 @@ pub fn exact_decimals_are_short()
 {}
 
 /// A line is its word and its fields, with a comma between each two, and a line feed.
-#[tactic(auto, using(crate::proofs::LineLemmas::line_joined))]
+#[tactic(auto, using(crate::proofs::LinePartLemmas::line_joined))]
 pub fn a_line_is_its_fields_joined()
     ensures { (l : Line) → line l ≡ join_with_byte 44 (l.word ∷ l.fields) ++ 10 ∷ [] }
 {}

@@ -28,4 +28,4 @@ pub mod MergedLaws
 pub mod GatherLemmas
 pub mod HeldFlags
 pub mod RunLemmas
-pub mod BoundLaws
+pub mod HeldBounds

@@ -298,7 +298,7 @@ gathered_held t hs lists in_range gathered =
           (none k (f d) (omega (arith, below, length-map lists f)))));
     }
 
--- what is held of each commodity, where that of the rest is still to be put at its number
+-- what is held of each commodity, if what is held of the rest is still to be put at its number
 pub record ArePlaced (t : AcceptedTables) (hs : List Holding) (rest : List CommodityHeld) (held : List (List HeldContract)) : Type 0 where
   pub size : length held ≡ length t.commodities
   pub in_range : All (λ h. h.commodity < length t.commodities) rest

@@ -11,4 +11,4 @@ pub mod FallLemmas
 pub mod ClosedLemmas
 pub mod BesideLemmas
 pub mod ApartLaws
-pub mod BoundLaws
+pub mod SpreadBounds

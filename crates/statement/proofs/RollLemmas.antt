@@ -195,7 +195,7 @@ pub under_portfolios : (tables : AcceptedTables) (records : List PositionRecord)
 unfolding statement_bound
 under_portfolios tables records portfolios first is = rw (is) refl
 
--- a book refuses rows where it has no number left, or for want of memory
+-- a book refuses rows where it has no number left, or because memory ran out
 pub refused_rows : {A X Y : Type 0} (answer : Result A SpanFault) (may_publish : Bool) (e : BookFault)
     → ((e ≡ book.NoMoreBatches) × X) ⊎ ((e ≡ book.OutOfMemory) × Y) → Refuses answer true may_publish (of_book e)
 refused_rows answer may_publish e (inl full) = rw (full.0) (refl, refl)

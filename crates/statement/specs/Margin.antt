@@ -6,7 +6,7 @@ use Rattle.statement_text.specs.declared.faults.SpanFault.TheVariants as fault
 use Rattle.worker_pool.specs.declared.batch.TheConstants.{MAX_WORKERS}
 use Rattle.statement_text.specs.Statement.{statement_of}
 
--- The statement of two files on so many workers: whatever they are, that of the two files. A number of workers that is 0
+-- The statement of two files on so many workers: the statement of the two files, whatever the number. A number of workers that is 0
 -- or over the most is refused before anything else.
 unfoldable pub margin_of : ℕ → List ℕ → List ℕ → Result (List ℕ) SpanFault
 margin_of workers params positions =

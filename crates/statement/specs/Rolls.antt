@@ -26,7 +26,7 @@ abbrev pub is_ok : {A : Type 0} → Result A SpanFault → Bool
 is_ok (Ok x) = true
 is_ok (Err e) = false
 
--- Why a call that is to give an answer gives none. Want of memory says nothing of the files. A book that was opened as often
+-- Why a call that is to give an answer gives none. Out of memory says nothing of the files. A book that was opened as often
 -- as there are numbers refuses, where a batch may be kept there; a shelf, where a set may be published there. Any other
 -- fault is the answer's own.
 abbrev pub Refuses : {A : Type 0} → Result A SpanFault → Bool → Bool → SpanFault → Type 0

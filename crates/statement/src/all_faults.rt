@@ -21,14 +21,14 @@ use statement_text::faults::{SpanFault, status};
 use statement_text::statuses::DONE;
 use std::alloc::{AllocError, Global};
 
-// Whether a parameter file is not read for want of memory.
+// Whether a parameter file is not read because memory ran out.
 fn params_want_memory(fault: &ParamFault) -> bool
     ensures { result ≡ param.is_memory fault.now }
 {
     matches!(fault, ParamFault::OutOfMemory)
 }
 
-// Whether a position file is not read for want of memory.
+// Whether a position file is not read because memory ran out.
 fn positions_want_memory(fault: &PositionFault) -> bool
     ensures { result ≡ position.is_memory fault.now }
 {

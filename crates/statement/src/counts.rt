@@ -31,7 +31,7 @@ pub fn write_counts(alloc: Global, tables: &Tables) -> Result<Vec<u8>, AllocErro
     Ok(out)
 }
 
-/// The counts of a parameter file, or the first fault in reading it and checking it; or want of memory.
+/// The counts of a parameter file, or the first fault in reading it and checking it; or out of memory.
 #[tactic(auto, unfolding(crate::specs::Counts::counts_of))]
 pub fn check_plain(alloc: Global, params: &[u8]) -> Result<Vec<u8>, SpanFault>
     ensures { Gives (λ text. text.items) result (counts_of params.now) }

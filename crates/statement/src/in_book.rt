@@ -53,7 +53,7 @@ impl RowsInBook {
 
 /// Opens a batch of a book and puts the rows there, in their order.
 ///
-/// `NoMoreBatches` where the book gave each number to a batch. The book is then as it was. Nothing else but want of memory
+/// `NoMoreBatches` where the book gave each number to a batch. The book is then as it was. Nothing else but out of memory
 /// refuses: one batch more is then open, and has the rows that were put before.
 pub(crate) fn put_in_book(
     book: &mut ResultBook,

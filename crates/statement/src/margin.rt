@@ -17,7 +17,7 @@ use worker_pool::gates::Gate;
 use worker_teams::rows::{rows_alone, rows_together};
 
 /// The statement of two files, or the first fault in reading the parameters, checking them, reading the positions and
-/// binding them; or want of memory (docs/METHOD.md has the figures, docs/FORMATS.md the faults).
+/// binding them; or out of memory (docs/METHOD.md has the figures, docs/FORMATS.md the faults).
 pub fn margin_plain(alloc: Global, params: &[u8], positions: &[u8]) -> Result<Vec<u8>, SpanFault>
     ensures { Gives (λ text. text.items) result (statement_of params.now positions.now) }
 {
@@ -32,7 +32,7 @@ pub fn margin_plain(alloc: Global, params: &[u8], positions: &[u8]) -> Result<Ve
 }
 
 /// The statement of two files on so many workers, in whatever order they finish the steps: the very text, or the very
-/// fault, of [`margin_plain`]; or want of memory.
+/// fault, of [`margin_plain`]; or out of memory.
 ///
 /// A number of workers that is 0 or over 16 is refused before anything else. The workers pass the gate before each step.
 #[tactic(auto, unfolding(crate::specs::Margin::margin_of))]

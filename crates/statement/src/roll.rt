@@ -315,7 +315,7 @@ fn roll_named<S: ShelfName + Send + Sync, R: Threads + Wait + Clock + Sync, G: G
 /// `beside` of the gate, while the first batch runs; where no thread is started, after it. The second batch runs under the
 /// set that the shelf then has. The rows of each batch are kept in the book, as the batch of a number that is opened then,
 /// in the order of the accounts; nothing is opened where an account has no row. A book that has no number left refuses after
-/// the faults of the positions, and before those of the next parameters; it refuses for nothing else but want of memory. Rows
+/// the faults of the positions, and before those of the next parameters; it refuses for nothing else but out of memory. Rows
 /// that were put stay in the book.
 pub fn roll<R: Threads + Wait + Clock + Sync, G: Gate>(
     rt: &R,

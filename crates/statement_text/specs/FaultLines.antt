@@ -56,8 +56,8 @@ memory_line = codes "memory\n"
 abbrev pub fault_line : SpanFault → List ℕ
 fault_line e = if is_memory e then memory_line else fault_text e ++ codes "\n"
 
--- the exit status of a fault other than of memory: that of refused parameters, of refused positions or orders, of a mistake of usage, or of
--- a book or a shelf that refused
+-- the exit status of a fault other than out of memory: refused parameters, refused positions or orders, a mistake of usage, or a refusal by
+-- a book or a shelf
 abbrev pub refused_status : SpanFault → ℕ
 refused_status (fault.Params e) = PARAMETERS_REFUSED
 refused_status (fault.Check e) = PARAMETERS_REFUSED

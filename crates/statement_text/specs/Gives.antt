@@ -10,7 +10,7 @@ use Rattle.result_book.specs.BookFaults as book
 use Rattle.statement_text.specs.declared.faults.SpanFault.{SpanFault}
 use Rattle.statement_text.specs.declared.faults.SpanFault.TheVariants as fault
 
--- the fault is want of memory
+-- the fault is out of memory
 abbrev pub is_memory : SpanFault → Bool
 is_memory (fault.Params e) = param.is_memory e
 is_memory (fault.Check e) = check.is_memory e
@@ -27,7 +27,7 @@ is_memory (fault.Book e) = book.is_memory e
 is_memory fault.Shelf = false
 is_memory fault.Memory = true
 
--- What the definition has, or its fault; or `Memory`, which says nothing of the definition. Want of memory is answered by
+-- What the definition has, or its fault; or `Memory`, which says nothing of the definition. Out of memory is answered by
 -- no other fault. Contracts see of what a call gives what is said of it.
 abbrev pub Gives : {Y Z : Type 0} → (Y → Z) → Result Y SpanFault → Result Z SpanFault → Type 0
 Gives said (Ok y) answer = answer ≡ Ok (said y)

@@ -29,7 +29,7 @@ ghost use Rattle.std.specs.List.{range_with_len};
 
 use inter_credit::laws::due_and_excess_settle_the_value;
 
-/// An account's lines are those of the commodities of which it holds a contract, and end with the line of its total.
+/// An account has one line for each commodity of which it holds a contract, and then the line of its total.
 #[tactic(auto, unfolding(crate::specs::Statement::row_text))]
 pub fn lines_end_with_the_total()
     ensures { (t : AcceptedTables) (p : AccountHoldings) → row_text t p
@@ -56,7 +56,7 @@ pub fn accounts_stand_by_themselves()
         → statement_text tables (ps ++ qs) ≡ statement_text tables ps ++ statement_text tables qs }
 {}
 
-/// The fault is that of reading the parameters; else of checking them; else of reading the positions; else of binding
+/// The fault is the first of reading the parameters; else of checking them; else of reading the positions; else of binding
 /// them. Where there is none, the answer is the statement.
 pub fn faults_come_in_order()
     ensures params { (params positions : List ℕ) (e : ParamFault) → params_of params ≡ Err e
@@ -78,7 +78,7 @@ pub fn faults_come_in_order()
         → statement_of params positions ≡ Ok (statement_text tables accounts) }
 {}
 
-/// Want of memory has one line and one status, wherever it arises; and no other fault has that status.
+/// Out of memory has one line and one status, wherever it arises; and no other fault has that status.
 pub fn want_of_memory_is_told_apart()
     ensures line { (e : SpanFault) → is_memory e ≡ true → fault_line e ≡ memory_line }
     ensures status { (e : SpanFault) → nat_eq (fault_status e) 5 ≡ is_memory e }

@@ -12,7 +12,7 @@ pub const PARAMETERS_REFUSED: u8 = 3;
 /// The positions are refused.
 pub const POSITIONS_REFUSED: u8 = 4;
 
-/// Want of memory.
+/// Out of memory.
 pub const OUT_OF_MEMORY: u8 = 5;
 
 /// A file cannot be read, or the output cannot be written.

@@ -4,12 +4,12 @@ use Rattle.span_tables.specs.Accepted.{IsWithinLimits}
 use Rattle.span_tables.specs.Holdings.{ArePortfolio, fits}
 use Rattle.span_tables.specs.Tables.{AcceptedTables}
 use Rattle.span_tables.specs.declared.portfolios.Holding.{Holding}
-use Rattle.spread_stage.proofs.BoundLaws.{net_small}
+use Rattle.spread_stage.proofs.SpreadBounds.{net_small}
 use Rattle.inter_credit.specs.States.{IsNotLoaded, IsUnspread}
 use Rattle.inter_credit.specs.declared.commodity_state.CommodityState.{CommodityState}
 use Rattle.plan_ir.specs.Figures.{deltas_at, inter_states}
-use Rattle.plan_ir.proofs.BoundLaws.{deltas_at_are, delivery_at_small, minimum_at_small, price2_at_small, risk_at_small, tiers_at_are}
-use Rattle.plan_ir.proofs.BoundLaws.{length-inter_states}
+use Rattle.plan_ir.proofs.FigureBounds.{deltas_at_are, delivery_at_small, minimum_at_small, price2_at_small, risk_at_small, tiers_at_are}
+use Rattle.plan_ir.proofs.FigureBounds.{length-inter_states}
 use Rattle.plan_compiler.specs.Meaning.{states_loaded}
 use Rattle.plan_compiler.proofs.Taken.{length_partly, not_loaded, unspread}
 use Rattle.step_scheduler.specs.declared.parts.Part.{Part}

@@ -29,7 +29,7 @@ pub record IsTask (task : TaskView) : Type 0 where
   pub in_range : task.step < length task.job.set.plan
   pub fed : task.inputs ≡ inputs_for task.job task.step
 
--- a step of a job with its value, or with none for want of memory
+-- a step of a job with its value, or with none if memory ran out
 pub record FinishedView : Type 0 where
   pub job : JobView
   pub step : ℕ

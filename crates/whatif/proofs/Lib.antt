@@ -4,7 +4,7 @@ pub mod BeforeLemmas
 pub mod BehindLaws
 pub mod ChangeLaws
 pub mod FileLemmas
-pub mod LineLemmas
+pub mod OrderLineLemmas
 pub mod NothingLaws
 pub mod SlotLemmas
 pub mod TextLemmas

@@ -41,7 +41,7 @@ fn orders_on(
 }
 
 /// What each order of a file would do to the margin of its account, on so many workers; or the first fault in reading the parameters,
-/// checking them, reading the positions, binding them, reading the orders and binding them; or want of memory.
+/// checking them, reading the positions, binding them, reading the orders and binding them; or out of memory.
 ///
 /// A number of workers that is 0 or over 16 is refused before anything else. The workers pass the gate before each step.
 #[tactic(auto, unfolding(crate::specs::Whatif::whatif_of))]

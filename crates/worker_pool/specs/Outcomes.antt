@@ -7,7 +7,7 @@ use Rattle.plan_compiler.specs.Compiled.{SetView}
 use Rattle.worker_pool.specs.declared.outcomes.Outcome.{Outcome}
 use Rattle.worker_pool.specs.declared.outcomes.Outcome.TheVariants.{Margined, NoMemory}
 
--- a row carries the set and the account's portfolio; want of memory has the account's name
+-- a row carries the set and the account's portfolio; out of memory has the account's name
 abbrev pub IsOutcome : SetView → AccountHoldings → Outcome → Type 0
 IsOutcome set portfolio (Margined row) = arc_value row ≡ record { set = set; portfolio = portfolio }
 IsOutcome set portfolio (NoMemory account) = account ≡ portfolio.account

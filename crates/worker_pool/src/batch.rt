@@ -38,7 +38,7 @@ pub enum PoolFault {
     /// There are no workers, or more than 16.
     #[error("L1 Workers")]
     Workers,
-    /// Want of memory.
+    /// Out of memory.
     #[error("memory")]
     OutOfMemory,
 }

@@ -20,7 +20,7 @@ use worker_pool::gates::Gate;
 use worker_pool::outcomes::Outcome;
 use worker_pool::plain::run_plain;
 
-// The rows of all outcomes; want of memory, where an account has none: a statement is whole, or not given.
+// The rows of all outcomes; out of memory, where an account has none: a statement is whole, or not given.
 fn all_rows(alloc: Global, outcomes: Vec<Outcome>) -> Result<Vec<Arc<Row>>, AllocError>
     ensures { IfOk result (λ rows. AreRows outcomes.items (map arc_value rows.items)) }
 {
@@ -34,7 +34,7 @@ fn all_rows(alloc: Global, outcomes: Vec<Outcome>) -> Result<Vec<Arc<Row>>, Allo
     Ok(rows)
 }
 
-// The rows of the outcomes of a batch; want of memory, where an account has none.
+// The rows of the outcomes of a batch; out of memory, where an account has none.
 fn rows_of(alloc: Global, outcomes: Vec<Outcome>) -> Result<Vec<Arc<Row>>, AllocError>
     ensures { (set : SetView) (portfolios : List AccountHoldings) → AreOutcomes set portfolios outcomes.items
         → IfOk result (λ rows. map arc_value rows.items ≡ rows_of_accounts set portfolios) }
@@ -43,7 +43,7 @@ fn rows_of(alloc: Global, outcomes: Vec<Outcome>) -> Result<Vec<Arc<Row>>, Alloc
     Ok(rows)
 }
 
-/// The rows of portfolios under a compiled set, in their order, computed on one thread. Want of memory for one account
+/// The rows of portfolios under a compiled set, in their order, computed on one thread. Out of memory for one account
 /// refuses all.
 pub fn rows_alone(
     alloc: Global,
@@ -57,7 +57,7 @@ pub fn rows_alone(
     rows_of(alloc, outcomes)
 }
 
-/// The rows of portfolios under a compiled set, in their order, computed on 1 to 16 workers, in teams. Want of memory for one
+/// The rows of portfolios under a compiled set, in their order, computed on 1 to 16 workers, in teams. Out of memory for one
 /// account refuses all.
 pub fn rows_together<R: Threads + Wait + Clock + Sync, G: Gate>(
     rt: &R,

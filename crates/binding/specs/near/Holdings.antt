@@ -83,7 +83,7 @@ unfoldable pub limit_faults : Limit → List (List ℕ) → List Excess → List
 limit_faults limit ids excesses positions =
     all_unfit (fault_of limit) (exceeds_anew limit ids (accounts_of positions) excesses) positions
 
--- all faults, of which those of records of unknown contracts are found
+-- all faults, if the faults of records of unknown contracts are given
 unfoldable pub found_faults : List (List ℕ) → List BindFault → List Excess → List PositionRecord → List BindFault
 found_faults ids unknown excesses positions =
     unknown ++ limit_faults limit.Net ids excesses positions ++ limit_faults limit.Held ids excesses positions

@@ -29,23 +29,23 @@ refusal_answer r = refused (refusal_status r) (refusal_line r)
 abbrev pub given_answer : Given → Answer
 given_answer given = record { status = given.status; out = given.text.items; err = [] }
 
--- what a request gave makes an answer that P holds of, unless for want of memory
+-- what a request gave makes an answer that P holds of, unless memory ran out
 abbrev pub Runs : {X : Type 0} → (X → Answer) → Result X Refusal → (Answer → Type 0) → Type 0
 Runs view (Ok given) P = P (view given)
 Runs view (Err r) P = (r ≡ refusal.Fault fault.Memory) ⊎ P (refusal_answer r)
 
--- what a call gave makes one, unless for want of memory
+-- what a call gave makes one, unless memory ran out
 abbrev pub MayGive : {X : Type 0} → (X → Answer) → Result X SpanFault → (Answer → Type 0) → Type 0
 MayGive view (Ok given) P = P (view given)
 MayGive view (Err e) P = (e ≡ fault.Memory) ⊎ P (answer_of (Err e))
 
--- what a load found is the file, unless for want of memory
+-- what a load found is the file, unless memory ran out
 abbrev pub Loads : {X : Type 0} → (X → List ℕ) → List ℕ → File → Result X Refusal → Type 0
 Loads view name file (Ok bytes) = file ≡ Ok (view bytes)
 Loads view name file (Err (refusal.File n)) = (n.now ≡ name) × ((file ≡ Err read.Failed) ⊎ (file ≡ Err read.TooLong))
 Loads view name file (Err (refusal.Fault e)) = e ≡ fault.Memory
 
--- what loads found is what became of the files, unless for want of memory
+-- what loads found is what became of the files, unless memory ran out
 abbrev pub LoadsAll : {X : Type 0} → (X → List (List ℕ)) → Result (List (List ℕ)) Answer → Result X Refusal → Type 0
 LoadsAll view found (Ok files) = found ≡ Ok (view files)
 LoadsAll view found (Err r) = (r ≡ refusal.Fault fault.Memory) ⊎ (found ≡ Err (refusal_answer r))

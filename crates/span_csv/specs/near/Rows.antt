@@ -25,6 +25,6 @@ pub record IsPlain (reader : Reader (Bor (List ℕ))) : Type 0 where
   pub ready : Ready reader
   pub known : IsSome (source_of (λ s. Some s.now) reader)
 
--- the reader gives each record as it stands in the file, or no more records after want of memory
+-- the reader gives each record as it stands in the file, or no more records after memory ran out
 abbrev pub CanRead : Reader (Bor (List ℕ)) → Type 0
 CanRead reader = (has_failed reader ≡ true) ⊎ IsPlain reader

@@ -7,7 +7,7 @@ use Rattle.result_book.specs.BookFaults as book
 use Rattle.statement_text.specs.declared.faults.SpanFault.{SpanFault}
 use Rattle.statement_text.specs.declared.faults.SpanFault.TheVariants as fault
 
--- a fault of a stage, under the name that the whole has for it; want of memory is `Memory`, whichever stage answered it
+-- a fault of a stage, under the name that the whole has for it; out of memory is `Memory`, whichever stage answered it
 abbrev pub of_stage : {F : Type 0} → (F → Bool) → (F → SpanFault) → F → SpanFault
 of_stage is_memory named e = if is_memory e then fault.Memory else named e
 

@@ -121,7 +121,7 @@ fn lines_of_a_book()
     ensures memory { fault_line (span_fault.Book book.OutOfMemory) ≡ codes "memory\n" }
 {}
 
-// Workers, a shelf and want of memory, also of a stage.
+// Workers, a shelf and out of memory, also of a stage.
 fn lines_of_the_rest()
     ensures workers { fault_line span_fault.Workers ≡ codes "workers: L1 Workers\n" }
     ensures shelf { fault_line span_fault.Shelf ≡ codes "shelf\n" }
@@ -150,7 +150,7 @@ fn statuses_of_faults()
     ensures shelf { fault_status span_fault.Shelf ≡ 7 }
 {}
 
-// The status of want of memory, also of a stage or a book.
+// The status of out of memory, also of a stage or a book.
 fn statuses_of_want_of_memory()
     ensures memory { fault_status span_fault.Memory ≡ 5 }
     ensures parameters { fault_status (span_fault.Params params.OutOfMemory) ≡ 5 }

@@ -3,7 +3,7 @@ use Rattle.std.proofs.lemmas.List.{append-nil}
 use Rattle.std.proofs.lemmas.Grind.{flat_map-append}
 use Rattle.std.specs.Prelude.{flat_map}
 use Rattle.std.specs.List.{range_with_len}
-use Rattle.span_money.proofs.LineLemmas.{numbered_more}
+use Rattle.span_money.proofs.LinePartLemmas.{numbered_more}
 use Rattle.span_money.specs.LineFields.{Line, line}
 use Rattle.span_tables.specs.Net.{AccountHoldings}
 use Rattle.span_tables.specs.Tables.{AcceptedTables}

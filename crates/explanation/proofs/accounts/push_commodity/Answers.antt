@@ -11,7 +11,7 @@ use Rattle.span_tables.specs.Holdings.{ArePortfolio}
 use Rattle.span_tables.specs.Net.{AccountHoldings}
 use Rattle.span_tables.specs.Tables.{AcceptedTables}
 use Rattle.plan_ir.specs.Figures.{commodity_at, figures_of, is_commodity_held, no_commodity}
-use Rattle.plan_ir.proofs.BoundLaws.{length-inter_states}
+use Rattle.plan_ir.proofs.FigureBounds.{length-inter_states}
 use Rattle.reasons.specs.Reasons.{reasons_of}
 use Rattle.reasons.specs.near.Stages.{stages_of}
 use Rattle.reasons.specs.near.Fields.{reasons_text}

@@ -6,7 +6,7 @@ use Rattle.reasons.specs.Reasons.{inter_reason}
 use Rattle.reasons.specs.near.Fields.{reasons_text}
 use Rattle.reasons.specs.declared.shown.ShownInter.{ShownInter}
 use Rattle.reasons.proofs.FormedLemmas.{inters_shown-zip, ways_in, ways_more}
-use Rattle.reasons.proofs.LineLemmas.{lines-of-append}
+use Rattle.reasons.proofs.ReasonLineLemmas.{lines-of-append}
 use Rattle.reasons.proofs.commodities.push_inters.Goals as goal
 
 pub loop-inter-preserved : goal.loop-inter-preserved

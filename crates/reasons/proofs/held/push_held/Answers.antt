@@ -1,6 +1,6 @@
 use Rattle.std.proofs.Common.{arith}
 use Rattle.reasons.specs.Reasons.{held_reason}
-use Rattle.reasons.proofs.LineLemmas.{lines_more}
+use Rattle.reasons.proofs.ReasonLineLemmas.{lines_more}
 use Rattle.reasons.proofs.held.push_held.Goals as goal
 
 pub loop-place-preserved : goal.loop-place-preserved

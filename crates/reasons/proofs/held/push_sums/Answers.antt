@@ -4,7 +4,7 @@ use Rattle.std.specs.Prelude.{codes}
 use Rattle.std.proofs.lemmas.List.{take_all}
 use Rattle.span_money.specs.LineFields.{field}
 use Rattle.span_money.specs.near.Fields.{field_text}
-use Rattle.span_money.proofs.LineLemmas.{in_parts}
+use Rattle.span_money.proofs.LinePartLemmas.{in_parts}
 use Rattle.reasons.proofs.held.push_sums.Goals as goal
 
 pub returns : goal.returns

@@ -10,7 +10,7 @@ use Rattle.spread_stage.specs.declared.months.MonthUnits.{MonthUnits}
 use Rattle.spread_stage.proofs.BesideLemmas.{length-rests, units_at-beside}
 use Rattle.spread_stage.proofs.FallLemmas.{spreads_shrink}
 use Rattle.plan_ir.specs.Figures.{deltas_at, held_at, intras_at, tiers_at}
-use Rattle.plan_ir.proofs.BoundLaws.{deltas_at_are}
+use Rattle.plan_ir.proofs.FigureBounds.{deltas_at_are}
 use Rattle.reasons.specs.Lines.{number_at, text_at}
 use Rattle.reasons.specs.Reasons.{month_reason, months_shown_at}
 use Rattle.reasons.specs.declared.shown.ShownMonth.{ShownMonth}

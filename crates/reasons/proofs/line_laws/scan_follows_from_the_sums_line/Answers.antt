@@ -7,7 +7,7 @@ use Rattle.span_tables.specs.Tables.{AcceptedTables}
 use Rattle.span_tables.specs.declared.limits.TheConstants.{MAX_PRICE2, MAX_SUM}
 use Rattle.span_tables.specs.declared.portfolios.Holding.{Holding}
 use Rattle.scan_risk.specs.Scenarios.{active_scenario, paired_scenario, price2, scan_of, scan_risk, scenario_sums}
-use Rattle.scan_risk.proofs.BoundLaws.{price2_small, risk_small}
+use Rattle.scan_risk.proofs.ScanBounds.{price2_small, risk_small}
 use Rattle.plan_ir.specs.Figures.{held_at}
 use Rattle.reasons.specs.Laws.{AreAccepted}
 use Rattle.reasons.specs.Lines.{number_at, sums_by_lines}

@@ -17,7 +17,7 @@ use Rattle.spread_stage.specs.declared.months.MonthUnits.{MonthUnits}
 use Rattle.spread_stage.proofs.FallLemmas.{spreads_shrink}
 use Rattle.spread_stage.proofs.SizeLemmas.{left_le, units_at_le}
 use Rattle.plan_ir.specs.Figures.{deltas_at, intras_at, spots_at, tiers_at}
-use Rattle.plan_ir.proofs.BoundLaws.{deltas_at_are}
+use Rattle.plan_ir.proofs.FigureBounds.{deltas_at_are}
 use Rattle.reasons.specs.Laws.{AgreesWithItsMonth, AreAccepted, spots_with_delta}
 use Rattle.reasons.specs.Lines.{lines_of, text_at}
 use Rattle.reasons.specs.Reasons.{month_reason, months_shown_at, reasons_of, spot_reason, spots_shown_at}

@@ -1,6 +1,6 @@
 use Rattle.std.proofs.Common.{◌<◌, length, ap, arith, ◌∙◌, get_or}
 use Rattle.spread_stage.proofs.BesideLemmas.{length-rests}
-use Rattle.reasons.proofs.LineLemmas.{month_more}
+use Rattle.reasons.proofs.ReasonLineLemmas.{month_more}
 use Rattle.reasons.proofs.months.push_months.Goals as goal
 
 pub bounds-rests-place : goal.bounds-rests-place

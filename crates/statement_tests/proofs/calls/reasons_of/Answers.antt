@@ -1,5 +1,5 @@
 use Rattle.std.proofs.Common.{length, arith, ap}
-use Rattle.plan_ir.proofs.BoundLaws.{length-inter_states}
+use Rattle.plan_ir.proofs.FigureBounds.{length-inter_states}
 use Rattle.statement_tests.proofs.calls.reasons_of.Goals as goal
 
 pub push_reasons-requires-clause-states : goal.push_reasons-requires-clause-states

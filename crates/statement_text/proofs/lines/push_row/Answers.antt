@@ -1,5 +1,5 @@
 use Rattle.std.proofs.Common.{◌∙◌, ◌++◌, ap}
-use Rattle.span_money.proofs.LineLemmas.{numbered_more}
+use Rattle.span_money.proofs.LinePartLemmas.{numbered_more}
 use Rattle.statement_text.specs.Statement.{commodity_text}
 use Rattle.statement_text.proofs.lines.push_row.Goals as goal
 

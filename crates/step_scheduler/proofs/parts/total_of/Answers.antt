@@ -1,6 +1,6 @@
 use Rattle.std.proofs.Common.{length, ap, ◌∙◌, arith}
 use Rattle.std.specs.Prelude.{◌+ℤ◌}
-use Rattle.plan_ir.proofs.BoundLaws.{next_total_is_money}
+use Rattle.plan_ir.proofs.FigureBounds.{next_total_is_money}
 use Rattle.plan_ir.specs.Figures.{total_to}
 use Rattle.plan_compiler.proofs.Meanings.{total_more}
 use Rattle.step_scheduler.proofs.parts.total_of.Goals as goal

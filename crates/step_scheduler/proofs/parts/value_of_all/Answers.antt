@@ -3,7 +3,7 @@ use Rattle.std.proofs.lemmas.Bool.{not-false}
 use Rattle.span_tables.specs.Tables.{AcceptedTables, facts_in}
 use Rattle.span_tables.specs.declared.profiles.ProfileFacts.{ProfileFacts}
 use Rattle.plan_ir.specs.Figures.{value_to}
-use Rattle.plan_ir.proofs.BoundLaws.{next_value_is_money}
+use Rattle.plan_ir.proofs.FigureBounds.{next_value_is_money}
 use Rattle.plan_compiler.proofs.Meanings.{value_more}
 use Rattle.step_scheduler.proofs.HeldLemmas.{next_part, no_part}
 use Rattle.step_scheduler.proofs.PassedOver.{value_with, values_over}

@@ -1,8 +1,8 @@
 use Rattle.std.proofs.Common.{◌≡◌, ◌∙◌, ◌++◌, ap, arith, flat_map, length}
 use Rattle.std.specs.List.{range_with_len}
-use Rattle.span_money.proofs.LineLemmas.{numbered_more}
+use Rattle.span_money.proofs.LinePartLemmas.{numbered_more}
 use Rattle.whatif.specs.near.Numbers.{change_text}
-use Rattle.whatif.proofs.LineLemmas.{all_changes}
+use Rattle.whatif.proofs.OrderLineLemmas.{all_changes}
 use Rattle.whatif.proofs.lines.Trial.push_changes.Goals as goal
 
 pub loop-commodity-preserved : goal.loop-commodity-preserved

@@ -2,7 +2,7 @@ use Rattle.std.proofs.Common.{◌≡◌, length}
 use Rattle.span_csv.specs.near.OrderReading.{next_order, numbered_orders}
 use Rattle.span_csv.specs.near.RecordReading.{records_after}
 use Rattle.span_tables.specs.near.Positions.{AreNumbered}
-use Rattle.span_csv.proofs.orders.read_rows.Given as goal
+use Rattle.span_csv.proofs.orders.read_order_rows.Given as goal
 
 abbrev pub invariant-loop-records : goal.invariant-loop-records
 invariant-loop-records l = record {

@@ -5,7 +5,7 @@ use Rattle.csv.specs.Records.{fields_of}
 use Rattle.span_csv.specs.OrderFaults.{is_memory}
 use Rattle.span_csv.specs.near.OrderReading.{next_order, numbered_order, numbered_orders}
 use Rattle.span_csv.proofs.RecordLemmas.{records_after-ok, records_after-refused, records_after-end}
-use Rattle.span_csv.proofs.orders.read_rows.Goals as goal
+use Rattle.span_csv.proofs.orders.read_order_rows.Goals as goal
 
 pub returns-in_err-order-clause-read : goal.returns-in_err-order-clause-read
 returns-in_err-order-clause-read c =

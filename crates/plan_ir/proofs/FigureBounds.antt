@@ -11,17 +11,17 @@ use Rattle.span_tables.specs.Tables.{commodity_id, AcceptedTables, inters_of}
 use Rattle.span_tables.specs.Holdings.{AreHeld, ArePortfolio, fits}
 use Rattle.span_tables.specs.declared.limits.TheConstants.{MAX_COMMODITIES, MAX_HELD, MAX_NET, MAX_PRICE2, MAX_RATE, MAX_SUM}
 use Rattle.span_tables.specs.declared.portfolios.Holding.{Holding}
-use Rattle.span_tables.proofs.BoundLaws.{are_held_of, int_sum_size}
+use Rattle.span_tables.proofs.HeldBounds.{are_held_of, int_sum_size}
 use Rattle.scan_risk.specs.Scenarios.{scenario_sums}
-use Rattle.scan_risk.proofs.BoundLaws.{price2_small, risk_small, sums_small}
+use Rattle.scan_risk.proofs.ScanBounds.{price2_small, risk_small, sums_small}
 use Rattle.spread_stage.specs.Charges.{intra_charge}
 use Rattle.spread_stage.specs.Months.{AreMonths, AreTierRests}
 use Rattle.spread_stage.specs.declared.charges.TheConstants.{MAX_DELIVERY_CHARGE}
-use Rattle.spread_stage.proofs.BoundLaws.{delivery_small, intra_small, months_are, net_small, tiers_are}
+use Rattle.spread_stage.proofs.SpreadBounds.{delivery_small, intra_small, months_are, net_small, tiers_are}
 use Rattle.spread_stage.proofs.FallLemmas.{spreads_shrink}
 use Rattle.inter_credit.specs.near.CommodityStates.{IsCommodityState}
 use Rattle.inter_credit.specs.Credits.{credit_at}
-use Rattle.inter_credit.proofs.BoundLaws.{credit_small, length-after_inter_spreads, states_stay, minimum_small, requirement_small}
+use Rattle.inter_credit.proofs.CreditBounds.{credit_small, length-after_inter_spreads, states_stay, minimum_small, requirement_small}
 use Rattle.inter_credit.proofs.OpenLemmas.{loaded_state}
 use Rattle.inter_credit.proofs.Sizes.{size-add}
 use Rattle.inter_credit.proofs.ValueLemmas.{net_value_small}

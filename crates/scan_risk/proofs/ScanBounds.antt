@@ -9,7 +9,7 @@ use Rattle.span_money.specs.Numbers.{positive_part}
 use Rattle.span_tables.specs.Holdings.{AreHeld}
 use Rattle.span_tables.specs.Net.{HeldContract}
 use Rattle.span_tables.specs.declared.limits.TheConstants.{MAX_ARRAY_VALUE, MAX_HELD, MAX_PRICE2, MAX_SUM, MAX_TERM}
-use Rattle.span_tables.proofs.BoundLaws.{int_sum_size}
+use Rattle.span_tables.proofs.HeldBounds.{int_sum_size}
 use Rattle.scan_risk.specs.Scenarios.{active_scenario, at_scenario, paired_scenario, scan_of, scan_risk, scenario_sum, scenario_sums}
 use Rattle.scan_risk.proofs.SumLemmas.{at_most, term_size}
 
