@@ -1,7 +1,8 @@
 -- The held commodities from a number on.
 use Rattle.std.proofs.Common.{◌≡◌, ◌≢◌, ℕ, suc, ◌+◌, ◌<◌, ◌≤◌, List, [], ◌∷◌, length, drop, get_or}
-use Rattle.std.proofs.Common.{sym, subst, add-one, arith}
-use Rattle.std.specs.Prelude.{All}
+use Rattle.std.proofs.Common.{ap, sym, subst, add-one, arith, ◌∙◌}
+use Rattle.std.specs.Prelude.{All, not, ◌==◌}
+use Rattle.std.proofs.lemmas.Bool.{ne_eqb}
 use Rattle.std.specs.List.{AllPairs}
 use Rattle.std.proofs.lemmas.List.Elements.{All-cons, All-head, All-nil, All-tail}
 use Rattle.std.proofs.lemmas.List.{drop_all}
@@ -26,23 +27,27 @@ module _ (t : AcceptedTables) (holdings : List Holding) where
 
   from_number : (list : List CommodityHeld) (from : ℕ) → from ≤ length t.commodities
       → AllPairs (λ a b. a.commodity < b.commodity) list → All (λ h. h.commodity < length t.commodities) list
-      → All (λ h. h.held ≡ held_at t holdings h.commodity) list → All (λ h. from ≤ h.commodity) list
+      → All (λ h. h.held ≡ held_at t holdings h.commodity) list → All (λ h. length h.held ≢ 0) list
+      → All (λ h. from ≤ h.commodity) list
       → ((c : ℕ) → from ≤ c → c < length t.commodities → All (λ h. h.commodity ≢ c) list → held_at t holdings c ≡ [])
       → AreHeldFrom t holdings from list
-  from_number [] from le rise range each behind others =
+  from_number [] from le rise range each some behind others =
       record { behind = le; none = λ c a b. others c a b (All-nil (λ (h : CommodityHeld). h.commodity ≢ c)) }
-  from_number (h ∷ hs) from le rise range each behind others =
+  from_number (h ∷ hs) from le rise range each some behind others =
       let known : h.commodity < length t.commodities = All-head (λ x. x.commodity < length t.commodities) h hs range in
-      let above = above_all h hs rise in (
+      let above = above_all h hs rise in
+      let here = All-head (λ x. x.held ≡ held_at t holdings x.commodity) h hs each in (
         record {
           known = known;
           behind = All-head (λ x. from ≤ x.commodity) h hs behind;
           none = λ c a b. others c a (omega (arith, b, known)) (not_these h hs c b above);
+          held = ap (λ xs. not (length xs == 0)) (sym here)
+              ∙ ap not (ne_eqb (length h.held) 0 (All-head (λ x. length x.held ≢ 0) h hs some));
         },
-        All-head (λ x. x.held ≡ held_at t holdings x.commodity) h hs each,
+        here,
         from_number hs (h.commodity + 1) (omega (arith, known)) (λ i j d lt at. rise (suc i) (suc j) d (omega arith) (omega arith))
             (All-tail (λ x. x.commodity < length t.commodities) h hs range)
-            (All-tail (λ x. x.held ≡ held_at t holdings x.commodity) h hs each)
+            (All-tail (λ x. x.held ≡ held_at t holdings x.commodity) h hs each) (All-tail (λ x. length x.held ≢ 0) h hs some)
             (λ k d lt. let a = above k d lt in omega (arith, a))
             (λ c a b apart. others c (let f = All-head (λ x. from ≤ x.commodity) h hs behind in omega (arith, a, f)) b
             (All-cons (λ x. x.commodity ≢ c) h hs (λ e. absurd (omega (arith, a, e))) apart)),
@@ -51,7 +56,14 @@ module _ (t : AcceptedTables) (holdings : List Holding) where
   -- the list has what is held of all commodities
   pub held_from : (list : List CommodityHeld) → AreHeldCommodities t holdings list → AreHeldFrom t holdings 0 list
   held_from list held =
-      from_number list 0 (omega arith) held.rise held.in_range held.each (λ k d lt. omega arith) (λ c a b apart. held.others c b apart)
+      from_number list 0 (omega arith) held.rise held.in_range held.each held.some (λ k d lt. omega arith)
+      (λ c a b apart. held.others c b apart)
+
+  -- there are no more parts than commodities
+  pub few_parts : (parts : List Part) (from : ℕ) → ArePartsFrom t holdings from parts → from + length parts ≤ length t.commodities
+  few_parts [] from end = let b = end.behind in omega (arith, b)
+  few_parts (p ∷ ps) from parts =
+      let b = parts.0.behind in let rest = few_parts ps (p.commodity + 1) parts.2 in omega (arith, b, rest)
 
   -- the first of the rest of a list
   pub next_held : (list : List CommodityHeld) (i from : ℕ) (h : CommodityHeld) → i < length list → h ≡ get_or list i h

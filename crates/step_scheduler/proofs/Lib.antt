@@ -9,7 +9,7 @@ pub mod HeldLemmas
 pub mod FoldLemmas
 pub mod PassedOver
 pub mod PartBounds
-pub mod WrittenLemmas
+pub mod FilledLemmas
 pub mod NothingLemmas
 pub mod WholeLemmas
 pub mod FormLemmas

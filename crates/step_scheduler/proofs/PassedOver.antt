@@ -1,7 +1,7 @@
 -- The commodities are loaded by their numbers; those of which nothing is held change nothing.
 use Rattle.std.proofs.Common.{◌≡◌, ℕ, zero, suc, ◌+◌, ◌-◌, ◌<◌, ◌≤◌, List, [], ◌∷◌, ◌++◌, length, map}
 use Rattle.std.proofs.Common.{sym, ap, ◌∙◌, append_assoc, slice_set, zero-add, arith}
-use Rattle.std.specs.Prelude.{◌+ℤ◌, ℤ, pos, replicate, true}
+use Rattle.std.specs.Prelude.{◌+ℤ◌, ℤ, pos, replicate, slice_index_or, true}
 use Rattle.std.specs.List.{range_with_len}
 use Rattle.std.proofs.Math.IntN.{+ℤ_idr}
 use Rattle.std.proofs.lemmas.List.FromFn.{map-range_with_len_more}
@@ -9,12 +9,15 @@ use Rattle.span_tables.specs.Tables.{AcceptedTables, facts_in}
 use Rattle.span_tables.specs.declared.portfolios.Holding.{Holding}
 use Rattle.inter_credit.specs.Credits.{unspread_state}
 use Rattle.inter_credit.specs.declared.commodity_state.CommodityState.{CommodityState}
-use Rattle.plan_ir.specs.Figures.{held_at, state_of, net_value_at, value_to}
+use Rattle.plan_ir.specs.Figures.{figures_of, held_at, state_of, net_value_at, total_to, value_to}
+use Rattle.plan_ir.specs.declared.figures.Figures.{Figures}
 use Rattle.plan_compiler.specs.Meaning.{states_loaded}
-use Rattle.plan_compiler.proofs.Meanings.{load_more, value_more}
+use Rattle.plan_compiler.proofs.Meanings.{load_more, total_more, value_more}
 use Rattle.step_scheduler.specs.declared.parts.Part.{Part}
 use Rattle.step_scheduler.specs.near.Parts.{IsNext, IsPart, NoneHeld}
-use Rattle.step_scheduler.proofs.NothingLemmas.{no_state, no_value}
+use Rattle.step_scheduler.specs.declared.held_figures.HeldFigures.{HeldFigures}
+use Rattle.step_scheduler.specs.near.Figures.{HasFigures, place_of}
+use Rattle.step_scheduler.proofs.NothingLemmas.{figures_of_nothing, no_state, no_value}
 
 -- what stays the same from each number to the next stays the same
 steady : {A : Type 0} (f : ℕ → A) (from n : ℕ) → ((c : ℕ) → from ≤ c → c < from + n → f c ≡ f (c + 1)) → f from ≡ f (from + n)
@@ -53,6 +56,25 @@ module _ (t : AcceptedTables) (holdings : List Holding) where
   loaded_more p from before after next is b a =
       let here = b ∙ states_over from p.commodity next.behind (omega (arith, next.known)) next.none in
       a ∙ (λ k. slice_set (here k) p.commodity (unspread_state (is.net k) (is.scan k).price2)) ∙ load_more t holdings p.commodity next.known
+
+  total_over : (c : ℕ) → c < length t.commodities → held_at t holdings c ≡ [] → total_to t holdings c ≡ total_to t holdings (c + 1)
+  total_over c lt none =
+      let nothing : (figures_of t holdings c).requirement ≡ pos 0 =
+      ap (λ (f : Figures). f.requirement) (figures_of_nothing t holdings c none lt) in
+      sym (+ℤ_idr (total_to t holdings c)) ∙ ap (λ z. total_to t holdings c +ℤ z) (sym nothing) ∙ total_more t holdings c
+
+  -- commodities of which nothing is held add nothing to the total
+  pub totals_over : (from to : ℕ) → from ≤ to → to ≤ length t.commodities → NoneHeld t holdings from to
+      → total_to t holdings from ≡ total_to t holdings to
+  totals_over from to le few none =
+      steady_up_to (total_to t holdings) from to le (λ c a b. total_over c (omega (arith, b, few)) (none c a b))
+
+  -- the total up to the next that is held, with the requirement of the next
+  pub total_with : (c from : ℕ) (total : ℤ) (held : HeldFigures) (f : Figures) → IsNext t holdings from c
+      → HasFigures t holdings held c → slice_index_or held.figures.items (place_of held c) f ≡ f → total ≡ total_to t holdings from
+      → total +ℤ f.requirement ≡ total_to t holdings c +ℤ (figures_of t holdings c).requirement
+  total_with c from total held f next has is e =
+      λ k. (e ∙ totals_over from c next.behind (omega (arith, next.known)) next.none) k +ℤ ((sym is ∙ has.right f) k).requirement
 
   value_over : (c : ℕ) → held_at t holdings c ≡ [] → value_to t holdings c ≡ value_to t holdings (c + 1)
   value_over c none =

@@ -6,7 +6,8 @@ ghost use Rattle.std.specs.Arc.{arc_value};
 ghost use Rattle.plan_ir.specs.Figures.{figures_of, option_value_of, total_to};
 ghost use Rattle.plan_ir.specs.Plans.{inputs_at};
 ghost use Rattle.step_scheduler.specs.Boards.{IfHanded, IsComplete};
-ghost use Rattle.step_scheduler.specs.near.Figures.{AreAllFigures};
+ghost use Rattle.step_scheduler.specs.near.Figures.{AreAllFigures, AreHeldFigures};
+ghost use Rattle.step_scheduler.specs.near.Forms.{history_of};
 ghost use Rattle.step_scheduler.specs.Jobs.{inputs_for, meaning_at};
 ghost use Rattle.step_scheduler.specs.Runs.{CanGoOn, IsOnce, IsReady, IsRun, IsUnderWay, is_finished};
 ghost use Rattle.step_scheduler.specs.Runs.{run_values, unfinished};
@@ -17,13 +18,14 @@ use crate::courses::Course;
 use crate::events::Event;
 use crate::finished::Finished;
 use crate::handing::task_of;
+use crate::held_figures::HeldFigures;
 use crate::jobs::Job;
 use crate::opening::found_values;
 use crate::progress::{Progress, all_done, is_under_way};
 use crate::stepped::Stepped;
 use crate::tasks::Task;
 use crate::watches::{Watch, pass_steps};
-use crate::whole::{Whole, copied};
+use crate::whole::Whole;
 use plan_ir::figures::Figures;
 use plan_ir::values::Value;
 use span_money::amounts::Money;
@@ -50,6 +52,18 @@ enum Form {
     Whole(Whole),
 }
 
+impl Form {
+    // What has happened to the steps, in order.
+    fn history(&self) -> &[Event]
+        ensures { result.now ≡ history_of self.now }
+    {
+        match self {
+            Form::Stepped(stepped) => stepped.history.as_slice(),
+            Form::Whole(whole) => whole.events.as_slice(),
+        }
+    }
+}
+
 /// The run of a job's plan: what has happened to its steps, and their values.
 ///
 /// Contracts see the job, the history, and whether the board has failed. The values that are stored are the steps' meanings.
@@ -57,22 +71,20 @@ enum Form {
 pub struct Board {
     alloc: Global,
     job: Arc<Job>,
-    history: Vec<Event>,
     failed: bool,
     form: Form,
 }
 
 impl Model for Board {
-    ghost use Rattle.std.specs.Prelude.{vec_capacity};
     ghost use Rattle.std.specs.Arc.{arc_value};
     ghost use Rattle.step_scheduler.specs.Boards.{BoardView};
-    ghost use Rattle.step_scheduler.specs.near.Forms.{IsBoard};
+    ghost use Rattle.step_scheduler.specs.near.Forms.{IsBoard, history_of};
 
     ghost Value = { BoardView };
 
-    ghost view = { λ b. record { job = arc_value b.job; history = b.history.items; failed = b.failed } };
+    ghost view = { λ b. record { job = arc_value b.job; history = history_of b.form; failed = b.failed } };
 
-    ghost invariant = { λ b. IsBoard (arc_value b.job) b.history.items (vec_capacity b.history) b.form };
+    ghost invariant = { λ b. IsBoard (arc_value b.job) b.form };
 }
 
 impl Board {
@@ -92,17 +104,17 @@ impl Board {
             missing,
             ready,
             slots,
+            history,
         };
         Ok(Board {
             alloc,
             job,
-            history,
             failed: false,
             form: Form::Stepped(stepped),
         })
     }
 
-    /// A board of a job on which every step of its plan was run, in one call: its history is that of the set's course.
+    /// A board of a job on which every step of its plan was run, in one call: its history is the course of the set, which it shares.
     ///
     /// The watch is passed for each step in the order of that history, before the first is evaluated. It is passed also for the
     /// steps of what is not held, of which nothing is evaluated.
@@ -120,11 +132,9 @@ impl Board {
         let _plan = job.plan();
         pass_steps(course.events(), watch);
         let whole = Whole::new(alloc, &job, course)?;
-        let history = copied(alloc, course.events())?;
         Ok(Board {
             alloc,
             job,
-            history,
             failed: false,
             form: Form::Whole(whole),
         })
@@ -164,7 +174,7 @@ impl Board {
                 let task = task_of(self.alloc, &self.job, stepped.slots.as_slice(), step)?;
                 stepped.ready.truncate(stepped.ready.len() - 1);
                 stepped.steps[step as usize] = Progress::Taken;
-                self.history.push_reserved(Event::Take(step));
+                stepped.history.push_reserved(Event::Take(step));
                 Ok(Some(task))
             }
             Form::Whole(_) => Ok(None),
@@ -223,7 +233,7 @@ impl Board {
                 let place = step as usize;
                 stepped.steps[place] = Progress::Done;
                 stepped.slots[place] = Some(value);
-                self.history.push_reserved(Event::Finish(step));
+                stepped.history.push_reserved(Event::Finish(step));
                 release(
                     self.job.plan().users(place),
                     &mut stepped.missing,
@@ -251,7 +261,7 @@ impl Board {
             return false;
         }
         match &self.form {
-            Form::Stepped(stepped) => all_done(stepped.steps.as_slice(), self.history.len()),
+            Form::Stepped(stepped) => all_done(stepped.steps.as_slice(), stepped.history.len()),
             Form::Whole(_) => true,
         }
     }
@@ -275,7 +285,7 @@ impl Board {
         ensures values { (k : ℕ) → is_finished self.now.history k ≡ true
             → run_values self.now.job self.now.history k ≡ meaning_at self.now.job k }
     {
-        self.history.as_slice()
+        self.form.history()
     }
 
     /// The figures of the commodity of a number, once the board is complete. `None` before that, and past the last commodity.
@@ -288,7 +298,7 @@ impl Board {
         }
         Some(match &self.form {
             Form::Stepped(stepped) => stepped.figures(&self.job, commodity),
-            Form::Whole(whole) => whole.figures[commodity],
+            Form::Whole(whole) => *whole.figures.of(commodity),
         })
     }
 
@@ -327,16 +337,50 @@ impl Board {
         requires { IsComplete self }
         ensures { IfOk result (λ figures. AreAllFigures self.job.set.tables self.job.portfolio.holdings figures.items) }
     {
+        all_figures(alloc, &self)
+    }
+
+    // The figures of all commodities, one value for each that is held and one for the others. The board is complete.
+    pub(crate) fn held_figures(&self, alloc: Global) -> Result<HeldFigures, AllocError>
+        requires { IsComplete self.now }
+        ensures { IfOk result (λ held. AreHeldFigures self.now.job.set.tables self.now.job.portfolio.holdings held) }
+    {
+        match &self.form {
+            Form::Stepped(stepped) => stepped.held_figures(alloc, &self.job),
+            Form::Whole(whole) => whole.figures.copied(alloc),
+        }
+    }
+
+    // The same figures, handed over.
+    pub(crate) fn into_held_figures(self, alloc: Global) -> Result<HeldFigures, AllocError>
+        requires { IsComplete self }
+        ensures { IfOk result (λ held. AreHeldFigures self.job.set.tables self.job.portfolio.holdings held) }
+    {
         let Board {
             alloc: _,
             job,
-            history: _,
             failed: _,
             form,
         } = self;
         match form {
-            Form::Stepped(stepped) => stepped.all_figures(alloc, &job),
+            Form::Stepped(stepped) => stepped.held_figures(alloc, &job),
             Form::Whole(whole) => Ok(whole.figures),
         }
     }
+}
+
+// The figures of each commodity of a complete board, by the commodities' numbers.
+fn all_figures(alloc: Global, board: &Board) -> Result<Vec<Figures>, AllocError>
+    requires { IsComplete board.now }
+    ensures { IfOk result (λ figures. AreAllFigures board.now.job.set.tables board.now.job.portfolio.holdings figures.items) }
+{
+    let commodities = board.job().set().tables().commodities().len();
+    let mut all = Vec::with_capacity(alloc, commodities)?;
+    for commodity in 0..commodities {
+        match board.figures(commodity) {
+            Some(figures) => all.push(figures)?,
+            None => unreachable!(),
+        }
+    }
+    Ok(all)
 }

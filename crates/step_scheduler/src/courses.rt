@@ -1,12 +1,12 @@
 //! Runs of a set's plan that are made once for a set.
-ghost use Rattle.std.specs.Prelude.{◌≡◌, IfOk, length};
+ghost use Rattle.std.specs.Prelude.{◌≡◌, IfOk, length, pos, replicate};
 ghost use Rattle.std.specs.Arc.{arc_value};
+ghost use Rattle.inter_credit.specs.Credits.{unspread_state};
 ghost use Rattle.step_scheduler.specs.Runs.{AllFinished, IsRun};
-ghost use Rattle.step_scheduler.specs.near.Parts.{IsBlank};
 ghost use Rattle.step_scheduler.specs.near.Whole.{IsCourse};
 
-use crate::blank::Blank;
 use crate::events::Event;
+use inter_credit::state::{InterState, empty};
 use plan_compiler::set::CompiledSet;
 use std::alloc::{AllocError, Global};
 use std::marker::Model;
@@ -17,23 +17,24 @@ use std::sync::Arc;
 #[derive(Drop)]
 pub struct Course {
     set: Arc<CompiledSet>,
-    events: Vec<Event>,
-    blank: Blank,
+    events: Arc<Vec<Event>>,
+    // What an account has of each commodity that holds nothing, before any spread between commodities.
+    blank: InterState,
 }
 
 impl Model for Course {
     ghost use Rattle.std.specs.Arc.{arc_value};
+    ghost use Rattle.inter_credit.specs.Credits.{unspread_state};
     ghost use Rattle.step_scheduler.specs.Boards.{CourseView};
-    ghost use Rattle.std.specs.Prelude.{length};
-    ghost use Rattle.step_scheduler.specs.near.Parts.{IsBlank};
+    ghost use Rattle.std.specs.Prelude.{◌≡◌, length, pos, replicate};
     ghost use Rattle.step_scheduler.specs.near.Whole.{IsCourse};
 
     ghost Value = { CourseView };
 
-    ghost view = { λ c. record { set = arc_value c.set; events = c.events.items } };
+    ghost view = { λ c. record { set = arc_value c.set; events = (arc_value c.events).items } };
 
-    ghost invariant = { λ c. IsCourse (arc_value c.set) c.events.items
-        × IsBlank (length (arc_value c.set).tables.commodities) c.blank };
+    ghost invariant = { λ c. IsCourse (arc_value c.set) (arc_value c.events).items
+        × (c.blank ≡ replicate (length (arc_value c.set).tables.commodities) (unspread_state (pos 0) 0)) };
 }
 
 impl Course {
@@ -46,15 +47,23 @@ impl Course {
         requires { IsCourse (arc_value set) events.items }
         ensures { IfOk result (λ c. c.set ≡ arc_value set) }
     {
-        let blank = Blank::new(alloc, set.tables().commodities().len())?;
+        let blank = empty(alloc, set.tables().commodities().len())?;
+        let events = Arc::new(alloc, events)?;
         Ok(Course { set, events, blank })
     }
 
-    // What an account has that holds nothing.
-    pub(crate) fn blank(&self) -> &Blank
-        ensures { IsBlank (length self.now.set.tables.commodities) result.now }
+    // The commodities of an account that holds nothing, before any spread between them.
+    pub(crate) fn blank(&self) -> &InterState
+        ensures { result.now ≡ replicate (length self.now.set.tables.commodities) (unspread_state (pos 0) 0) }
     {
         &self.blank
+    }
+
+    // A further hold on the events.
+    pub(crate) fn share_events(&self) -> Result<Arc<Vec<Event>>, AllocError>
+        ensures { IfOk result (λ events. (arc_value events).items ≡ self.now.events) }
+    {
+        Arc::try_clone(&self.events)
     }
 
     /// What happens to the steps, in order.

@@ -1,7 +1,6 @@
 //! Jobs, their tasks, boards that run a compiled plan step by step, and the rows of complete boards.
 #![tactic(auto)]
 
-mod blank;
 pub mod boards;
 mod counters;
 mod course_runs;
@@ -10,6 +9,7 @@ pub mod evaluation;
 pub mod events;
 pub mod finished;
 mod handing;
+mod held_figures;
 pub mod jobs;
 pub mod laws;
 mod opening;

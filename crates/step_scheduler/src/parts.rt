@@ -12,10 +12,10 @@ ghost use Rattle.spread_stage.specs.declared.months.MonthUnits.{MonthUnits};
 ghost use Rattle.inter_credit.specs.Credits.{inter_both_ways, unspread_state};
 ghost use Rattle.inter_credit.specs.OptionValue.{net_value_of};
 ghost use Rattle.plan_ir.specs.Figures.{held_at, inter_states, loaded_states, option_value_of, total_to};
-ghost use Rattle.plan_ir.specs.Values.{no_figures};
-ghost use Rattle.step_scheduler.specs.near.Figures.{AreAllFigures};
+ghost use Rattle.step_scheduler.specs.near.Figures.{AreHeldFigures};
 ghost use Rattle.step_scheduler.specs.near.Parts.{ArePartsFrom, CanBeLoaded, HasState, IsPart, figures_of_part};
 
+use crate::held_figures::HeldFigures;
 use inter_credit::option_value::net_value;
 use inter_credit::requirement::minimum;
 use inter_credit::state::InterState;
@@ -175,35 +175,26 @@ fn figures_with(part: &Part, states: &InterState) -> Figures
     )
 }
 
-// Writes figures over those of a commodity.
-#[inline(always)]
-fn write_at(figures: &mut Vec<Figures>, commodity: usize, written: Figures)
-    requires { commodity < length figures.old.items }
-    ensures { figures.new.items ≡ slice_set figures.old.items commodity written }
-{
-    figures[commodity] = written;
-}
-
-// Writes the figures of the held commodities over those of nothing held.
-pub(crate) fn write_figures(
-    figures: &mut Vec<Figures>,
+// The figures of all commodities, from the parts of those that are held and the commodities after all spreads between them.
+pub(crate) fn figures_of_all(
+    alloc: Global,
     tables: &Tables,
     portfolio: &Portfolio,
     parts: &[Part],
     states: &InterState,
-)
+) -> Result<HeldFigures, AllocError>
     requires fits { fits (length tables.now.contracts) portfolio.now.holdings ≡ true }
     requires parts { ArePartsFrom tables.now portfolio.now.holdings 0 parts.now }
     requires states { states.now ≡ inter_states tables.now portfolio.now.holdings }
-    requires blank { figures.old.items ≡ replicate (length tables.now.commodities) no_figures }
-    ensures { AreAllFigures tables.now portfolio.now.holdings figures.new.items }
+    ensures { IfOk result (λ held. AreHeldFigures tables.now portfolio.now.holdings held) }
 {
     tables.known();
     portfolio.known();
+    let mut held = HeldFigures::with_capacity(alloc, parts.len())?;
     for part in parts {
-        let written = figures_with(part, states);
-        write_at(figures, part.commodity, written);
+        held.push(part.commodity, figures_with(part, states))?;
     }
+    Ok(held)
 }
 
 // The sum of two amounts of money.
@@ -214,17 +205,23 @@ fn sum(one: Money, other: Money) -> Money
     Money::new(one.get() + other.get())
 }
 
-// The sum of the requirements of all commodities.
-pub(crate) fn total_of(tables: &Tables, portfolio: &Portfolio, figures: &[Figures]) -> Money
+// The sum of the requirements of all commodities. A commodity that is not held requires nothing.
+pub(crate) fn total_of(
+    tables: &Tables,
+    portfolio: &Portfolio,
+    parts: &[Part],
+    held: &HeldFigures,
+) -> Money
     requires fits { fits (length tables.now.contracts) portfolio.now.holdings ≡ true }
-    requires figures { AreAllFigures tables.now portfolio.now.holdings figures.now }
+    requires parts { ArePartsFrom tables.now portfolio.now.holdings 0 parts.now }
+    requires figures { AreHeldFigures tables.now portfolio.now.holdings held.now }
     ensures { result ≡ total_to tables.now portfolio.now.holdings (length tables.now.commodities) }
 {
-    let count = tables.commodities().len();
+    tables.known();
     portfolio.known();
     let mut total = Money::new(0);
-    for commodity in 0..count {
-        total = sum(total, figures[commodity].requirement);
+    for part in parts {
+        total = sum(total, held.of(part.commodity).requirement);
     }
     total
 }

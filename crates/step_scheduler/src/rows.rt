@@ -3,17 +3,16 @@ ghost use Rattle.std.specs.Prelude.{◌≡◌, ◌<◌, IfOk, length};
 ghost use Rattle.std.specs.Arc.{arc_value};
 ghost use Rattle.plan_ir.specs.Figures.{figures_of, is_commodity_held, option_value_of, total_to};
 ghost use Rattle.step_scheduler.specs.Boards.{IsComplete};
-ghost use Rattle.step_scheduler.specs.near.Figures.{AreAllFigures};
+ghost use Rattle.step_scheduler.specs.near.Figures.{AreHeldFigures};
 ghost use Rattle.step_scheduler.specs.Rows.{row_of};
 ghost use Rattle.step_scheduler.specs.near.Rows.{AreTotals};
 
 use crate::boards::Board;
+use crate::held_figures::HeldFigures;
 use crate::jobs::Job;
 use plan_compiler::set::CompiledSet;
 use plan_ir::figures::Figures;
 use span_money::amounts::Money;
-use span_tables::held::held_commodities;
-use span_tables::limits::MAX_COMMODITIES;
 use span_tables::name::Name;
 use span_tables::portfolios::Portfolio;
 use std::alloc::{AllocError, Global};
@@ -27,8 +26,7 @@ use std::sync::Arc;
 #[derive(Drop)]
 pub struct Row {
     job: Arc<Job>,
-    figures: Vec<Figures>,
-    held: [bool; MAX_COMMODITIES],
+    figures: HeldFigures,
     totals: Totals,
 }
 
@@ -41,7 +39,7 @@ impl Model for Row {
 
     ghost view = { λ r. row_of (arc_value r.job) };
 
-    ghost invariant = { λ r. IsRow (arc_value r.job) r.figures.items r.held r.totals };
+    ghost invariant = { λ r. IsRow (arc_value r.job) r.figures r.totals };
 }
 
 impl Row {
@@ -51,7 +49,7 @@ impl Row {
         ensures { IfOk result (λ row. arc_value row ≡ row_of board.now.job) }
     {
         let job = Arc::try_clone(board.job())?;
-        let figures = figures_of_all(alloc, board)?;
+        let figures = board.held_figures(alloc)?;
         Row::of_job(alloc, job, figures, Totals::of(board))
     }
 
@@ -62,7 +60,7 @@ impl Row {
     {
         let job = Arc::try_clone(board.job())?;
         let totals = Totals::of(&board);
-        let figures = board.into_figures(alloc)?;
+        let figures = board.into_held_figures(alloc)?;
         Row::of_job(alloc, job, figures, totals)
     }
 
@@ -70,20 +68,16 @@ impl Row {
     fn of_job(
         alloc: Global,
         job: Arc<Job>,
-        figures: Vec<Figures>,
+        figures: HeldFigures,
         totals: Totals,
     ) -> Result<Arc<Row>, AllocError>
-        requires figures { AreAllFigures (arc_value job).set.tables (arc_value job).portfolio.holdings figures.items }
+        requires figures { AreHeldFigures (arc_value job).set.tables (arc_value job).portfolio.holdings figures }
         requires totals { AreTotals (arc_value job).set.tables (arc_value job).portfolio.holdings totals }
         ensures { IfOk result (λ row. arc_value row ≡ row_of (arc_value job)) }
     {
-        let tables = job.set().tables();
-        tables.known();
-        let held = held_commodities(tables, job.portfolio());
         let row = Row {
             job,
             figures,
-            held,
             totals,
         };
         Ok(Arc::new(alloc, row)?)
@@ -129,7 +123,7 @@ impl Row {
         requires { commodity < length self.now.set.tables.commodities }
         ensures { result.now ≡ figures_of self.now.set.tables self.now.portfolio.holdings commodity }
     {
-        &self.figures[commodity]
+        self.figures.of(commodity)
     }
 
     /// Whether the account holds a contract of the commodity of a number.
@@ -137,7 +131,7 @@ impl Row {
         requires { commodity < length self.now.set.tables.commodities }
         ensures { result ≡ is_commodity_held self.now.set.tables self.now.portfolio.holdings commodity }
     {
-        self.held[commodity]
+        self.figures.holds(commodity)
     }
 
     /// The sum of the requirements of all commodities, in minor units.
@@ -176,20 +170,4 @@ impl Totals {
             _ => unreachable!(),
         }
     }
-}
-
-// The figures of each commodity of a complete board, by the commodities' numbers.
-fn figures_of_all(alloc: Global, board: &Board) -> Result<Vec<Figures>, AllocError>
-    requires { IsComplete board.now }
-    ensures { IfOk result (λ figures. AreAllFigures board.now.job.set.tables board.now.job.portfolio.holdings figures.items) }
-{
-    let commodities = board.job().set().tables().commodities().len();
-    let mut all = Vec::with_capacity(alloc, commodities)?;
-    for commodity in 0..commodities {
-        match board.figures(commodity) {
-            Some(figures) => all.push(figures)?,
-            None => unreachable!(),
-        }
-    }
-    Ok(all)
 }

@@ -1,25 +1,29 @@
 //! What a board has that hands its steps out one by one.
 ghost use Rattle.std.specs.Prelude.{◌≡◌, ◌<◌, IfOk, length};
 ghost use Rattle.plan_ir.specs.Figures.{figures_of, option_value_of, total_to};
-ghost use Rattle.step_scheduler.specs.near.Figures.{AreAllFigures};
+ghost use Rattle.step_scheduler.specs.near.Figures.{AreHeldFigures};
 ghost use Rattle.step_scheduler.specs.near.Slots.{HasAllValues};
 
+use crate::events::Event;
 use crate::handing::stored_value;
+use crate::held_figures::HeldFigures;
 use crate::jobs::Job;
 use crate::progress::Progress;
 use plan_ir::figures::Figures;
 use plan_ir::values::Value;
 use span_money::amounts::Money;
+use span_tables::held::held_commodities;
 use std::alloc::{AllocError, Global};
 use std::sync::Arc;
 
-// How far the steps of a job are, how many inputs each misses, which are ready, and the values that are stored.
+// How far the steps of a job are, how many inputs each misses, which are ready, the values that are stored, and what happened.
 #[derive(Drop)]
 pub(crate) struct Stepped {
     pub(crate) steps: Vec<Progress>,
     pub(crate) missing: Vec<u8>,
     pub(crate) ready: Vec<u32>,
     pub(crate) slots: Vec<Option<Arc<Value>>>,
+    pub(crate) history: Vec<Event>,
 }
 
 impl Stepped {
@@ -58,16 +62,21 @@ impl Stepped {
         value.premium()
     }
 
-    // The figures of all commodities by their numbers, where every step has its value.
-    pub(crate) fn all_figures(&self, alloc: Global, job: &Job) -> Result<Vec<Figures>, AllocError>
+    // The figures of all commodities, if every step has its value.
+    pub(crate) fn held_figures(&self, alloc: Global, job: &Job) -> Result<HeldFigures, AllocError>
         requires { HasAllValues job.now self.now.slots.items }
-        ensures { IfOk result (λ figures. AreAllFigures job.now.set.tables job.now.portfolio.holdings figures.items) }
+        ensures { IfOk result (λ held. AreHeldFigures job.now.set.tables job.now.portfolio.holdings held) }
     {
-        let commodities = job.set().tables().commodities().len();
-        let mut figures = Vec::with_capacity(alloc, commodities)?;
+        let tables = job.set().tables();
+        tables.known();
+        let commodities = tables.commodities().len();
+        let flags = held_commodities(tables, job.portfolio());
+        let mut held = HeldFigures::with_capacity(alloc, 0)?;
         for commodity in 0..commodities {
-            figures.push(self.figures(job, commodity))?;
+            if flags[commodity] {
+                held.push(commodity, self.figures(job, commodity))?;
+            }
         }
-        Ok(figures)
+        Ok(held)
     }
 }

@@ -1,29 +1,28 @@
 -- What a whole run has of the commodities that are held, and what it gives.
-use Rattle.std.specs.Prelude.{◌≡◌, ℕ, ◌+◌, ◌*◌, ◌<◌, ◌≤◌, true, List, [], ◌∷◌, length, slice_index_or, nat_abs, pos, replicate}
+use Rattle.std.specs.Prelude.{◌≡◌, ℕ, ◌+◌, ◌*◌, ◌<◌, ◌≤◌, true, List, [], ◌∷◌, length, nat_abs, pos}
 use Rattle.span_tables.specs.Tables.{AcceptedTables, facts_in}
 use Rattle.span_tables.specs.declared.held.CommodityHeld.{CommodityHeld}
 use Rattle.span_tables.specs.declared.limits.TheConstants.{MAX_PRICE2, MAX_RATE, MAX_UNITS}
 use Rattle.span_tables.specs.declared.portfolios.Holding.{Holding}
 use Rattle.spread_stage.specs.Deltas.{net_delta}
-use Rattle.inter_credit.specs.Credits.{unspread_state}
 use Rattle.inter_credit.specs.States.{IsNotLoaded, IsUnspread}
 use Rattle.inter_credit.specs.declared.requirement.TheConstants.{MAX_PART}
 use Rattle.inter_credit.specs.declared.commodity_state.CommodityState.{CommodityState}
-use Rattle.plan_ir.specs.Figures.{delivery_at, deltas_at, figures_from, figures_of, held_at, minimum_at, net_value_at, scan_at, tiers_at}
-use Rattle.plan_ir.specs.Values.{no_figures}
+use Rattle.plan_ir.specs.Figures.{delivery_at, deltas_at, figures_from, held_at, is_commodity_held, minimum_at, net_value_at, scan_at}
+use Rattle.plan_ir.specs.Figures.{tiers_at}
 use Rattle.plan_ir.specs.declared.figures.Figures.{Figures}
-use Rattle.step_scheduler.specs.declared.blank.Blank.{Blank}
 use Rattle.step_scheduler.specs.declared.parts.Part.{Part}
 
 -- nothing is held of the commodities from one number up to another
 abbrev pub NoneHeld : AcceptedTables → List Holding → ℕ → ℕ → Type 0
 NoneHeld t holdings from to = (c : ℕ) → from ≤ c → c < to → held_at t holdings c ≡ []
 
--- the commodity of this number is the first of which something may be held, from a number on
+-- the commodity of this number is the first of which something is held, from a number on
 pub record IsNext (t : AcceptedTables) (holdings : List Holding) (from c : ℕ) : Type 0 where
   pub known : c < length t.commodities
   pub behind : from ≤ c
   pub none : NoneHeld t holdings from c
+  pub held : is_commodity_held t holdings c ≡ true
 
 -- nothing is held from a number on
 pub record IsEnd (t : AcceptedTables) (holdings : List Holding) (from : ℕ) : Type 0 where
@@ -74,14 +73,3 @@ pub record CanBeLoaded (states : List CommodityState) (p : Part) : Type 0 where
 -- the figures of a part, with the commodities after all spreads between them
 abbrev pub figures_of_part : Part → List CommodityState → Figures
 figures_of_part p states = figures_from p.scan p.charge p.delivery p.minimum states p.commodity
-
--- what an account has of n commodities that holds nothing
-pub record IsBlank (n : ℕ) (blank : Blank) : Type 0 where
-  pub states : blank.states ≡ replicate n (unspread_state (pos 0) 0)
-  pub figures : blank.figures.items ≡ replicate n no_figures
-
--- the figures of the first commodities stand in front of those of nothing held
-pub record AreWritten (t : AcceptedTables) (holdings : List Holding) (n : ℕ) (figures : List Figures) : Type 0 where
-  pub many : length figures ≡ length t.commodities
-  pub done : (k : ℕ) → k < n → (d : Figures) → slice_index_or figures k d ≡ figures_of t holdings k
-  pub left : (k : ℕ) → n ≤ k → k < length figures → (d : Figures) → slice_index_or figures k d ≡ no_figures

@@ -5,12 +5,12 @@ use Rattle.step_scheduler.proofs.RunOnce.{run_once}
 use Rattle.step_scheduler.proofs.boards.Board.history.Goals as goal
 
 pub returns-clause-run : goal.returns-clause-run
-returns-clause-run c = rw (← c.self.view_is) (board_runs _ _ _ _ c.self.invariant).run
+returns-clause-run c = rw (← c.self.view_is) (board_runs _ _ c.self.invariant).run
 
 pub returns-clause-values : goal.returns-clause-values
 returns-clause-values c =
     rw (← c.self.view_is)
-    (let b = board_runs _ _ _ _ c.self.invariant in run_means (arc_value c.self.inside.job) b.compiled b.fits _ b.run)
+    (let b = board_runs _ _ c.self.invariant in run_means (arc_value c.self.inside.job) b.compiled b.fits _ b.run)
 
 pub returns-clause-once : goal.returns-clause-once
-returns-clause-once c = rw (← c.self.view_is) (run_once _ _ (board_runs _ _ _ _ c.self.invariant).run)
+returns-clause-once c = rw (← c.self.view_is) (run_once _ _ (board_runs _ _ c.self.invariant).run)

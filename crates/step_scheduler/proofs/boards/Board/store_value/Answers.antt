@@ -6,7 +6,7 @@ use Rattle.step_scheduler.proofs.boards.Board.store_value.Goals as goal
 pub push_reserved-requires : goal.push_reserved-requires
 push_reserved-requires c =
     let b = (rw c.in-Stepped.is at c.self.invariant).board in
-    let way = rw (← c.self.view_is) at c.requires.under_way in
+    let way = rw (← c.self.view_is, c.in-Stepped.is) at c.requires.under_way in
     let range = rw (← c.self.view_is, ← b.long) at c.requires.in_range in
     let room = has_room _ _ _ _ _ b range (sym (b.finished _) ∙ way.unfinished) in
     omega arith
@@ -14,7 +14,7 @@ push_reserved-requires c =
 pub invariant_of-self : goal.invariant_of-self
 invariant_of-self c =
     let b = rw c.in-Stepped.is at c.self.invariant in
-    let way = rw (← c.self.view_is) at c.requires.under_way in
+    let way = rw (← c.self.view_is, c.in-Stepped.is) at c.requires.under_way in
     let range = rw (← c.self.view_is, ← b.board.long) at c.requires.in_range in
     let right = rw (← c.self.view_is) at c.requires.means in
     let released = rw (c.users.ensures, c.plan.ensures.plan, c.deref.ensures) at c.release.ensures in
@@ -25,7 +25,7 @@ invariant_of-self c =
 pub release-requires : goal.release-requires
 release-requires c =
     let b = rw c.in-Stepped.is at c.self.invariant in
-    let way = rw (← c.self.view_is) at c.requires.under_way in
+    let way = rw (← c.self.view_is, c.in-Stepped.is) at c.requires.under_way in
     let range = rw (← c.self.view_is, ← b.board.long) at c.requires.in_range in
     rw (c.users.ensures, c.plan.ensures.plan, c.deref.ensures)
     (users_can_be_released _ _ _ _ _ _ _ _ _ b range (sym (b.board.finished _) ∙ way.unfinished))

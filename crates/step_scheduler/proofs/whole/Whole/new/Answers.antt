@@ -1,6 +1,6 @@
 use Rattle.plan_compiler.proofs.StageLemmas.{states_are}
 use Rattle.step_scheduler.proofs.whole.Whole.new.Goals as goal
 
-pub write_figures-requires-clause-states : goal.write_figures-requires-clause-states
-write_figures-requires-clause-states c =
+pub figures_of_all-requires-clause-states : goal.figures_of_all-requires-clause-states
+figures_of_all-requires-clause-states c =
     states_are _ _ _ _ _ c.form_inters.ensures c.in_ok-states.ensures.value c.inters.ensures.value

@@ -1,6 +1,6 @@
 use Rattle.std.proofs.Common.{◌≡◌, length}
 use Rattle.step_scheduler.specs.near.Figures.{AreFirstFigures}
-use Rattle.step_scheduler.proofs.rows.figures_of_all.Given as goal
+use Rattle.step_scheduler.proofs.boards.all_figures.Given as goal
 
 abbrev pub invariant-loop-commodity : goal.invariant-loop-commodity
 invariant-loop-commodity l =
