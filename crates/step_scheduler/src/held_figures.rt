@@ -21,7 +21,10 @@ pub(crate) struct HeldFigures {
 
 impl HeldFigures {
     // The figures of an account that holds nothing, with room for so many commodities.
-    pub(crate) fn with_capacity(alloc: Global, commodities: usize) -> Result<HeldFigures, AllocError>
+    pub(crate) fn with_capacity(
+        alloc: Global,
+        commodities: usize,
+    ) -> Result<HeldFigures, AllocError>
         requires { commodities ≤ MAX_COMMODITIES }
         ensures figures { IfOk result (λ held. held.figures.items ≡ no_figures ∷ []) }
         ensures places { IfOk result (λ held. held.places ≡ replicate MAX_COMMODITIES 0) }
