@@ -17,7 +17,11 @@ pub fn ceil_div(n: u128, d: u128) -> u128
     requires { 0 < d }
     ensures { result ≡ div_ceil n d }
 {
-    if n % d == 0 { n / d } else { n / d + 1 }
+    // Nearly all numbers fit 64 bits, by which the processor itself divides.
+    match (u64::try_from(n), u64::try_from(d)) {
+        (Ok(n), Ok(d)) => u128::from(n.div_ceil(d)),
+        _ => n.div_ceil(d),
+    }
 }
 
 /// The greatest number n with `n * ratio` at most `rest` (in units of 10^-8): how many 10^-4 spreads fit.

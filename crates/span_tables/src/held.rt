@@ -22,6 +22,9 @@ use std::alloc::{AllocError, Global};
 use std::marker::Model;
 use std::sync::Arc;
 
+// The number of held commodities for which memory is taken at once.
+const FEW_COMMODITIES: usize = 8;
+
 /// The contracts of one commodity that an account holds, by rising contract number, each with its net quantity.
 ///
 /// Contracts see the list of them, each with its whole record. No record is copied: all that is kept of the tables
@@ -188,7 +191,7 @@ fn held_by_commodity(
 {
     tables.known();
     let holdings = portfolio.holdings();
-    let mut lists = Vec::new(alloc);
+    let mut lists = Vec::with_capacity(alloc, holdings.len().min(FEW_COMMODITIES))?;
     let mut done = 0;
     while done < holdings.len() {
         let commodity = tables.commodity_of(holdings[done].contract);
