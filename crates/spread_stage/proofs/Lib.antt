@@ -9,6 +9,7 @@ pub mod SizeLemmas
 pub mod SpreadLemmas
 pub mod FallLemmas
 pub mod ClosedLemmas
+mod SpotLemmas
 pub mod BesideLemmas
 pub mod ApartLaws
 pub mod SpreadBounds

@@ -7,6 +7,7 @@ ghost use Rattle.spread_stage.specs.Deltas.{units_at};
 ghost use Rattle.spread_stage.specs.Months.{Shrinks, total_size};
 
 use crate::months::{MonthUnits, Months};
+use crate::open_months::{may_have_units, open_sides};
 use crate::tiers::{TierState, at_rate};
 use span_money::amounts::{Money, Units};
 use span_money::division::ceil_div;
@@ -101,7 +102,8 @@ fn spot_charge(months: &[MonthUnits], rests: &[MonthUnits], spot: &Spot) -> u128
     at_rate(used, spot.spread_rate) + at_rate(left, spot.outright_rate)
 }
 
-// The charges of spot months, in 10^-8 minor units.
+// The charges of spot months, in 10^-8 minor units. For most spot months the open sides of the months show that there are no
+// units, and so no charge.
 fn spot_charges(months: &[MonthUnits], rests: &[MonthUnits], spots: &[Spot]) -> u128
     requires months { total_size months.now ≤ MAX_UNITS }
     requires rests { total_size rests.now ≤ MAX_UNITS }
@@ -111,9 +113,15 @@ fn spot_charges(months: &[MonthUnits], rests: &[MonthUnits], spots: &[Spot]) -> 
     ensures value { result ≡ sum_by (spot_charge months.now rests.now) spots.now }
     ensures bound { result ≤ 2 * (MAX_UNITS * MAX_RATE) * MAX_SPOT_MONTHS }
 {
+    if spots.is_empty() {
+        return 0;
+    }
+    let sides = open_sides(months);
     let mut sum = 0;
     for spot in spots {
-        sum += spot_charge(months, rests, spot);
+        if may_have_units(&sides, spot.month) {
+            sum += spot_charge(months, rests, spot);
+        }
     }
     sum
 }
