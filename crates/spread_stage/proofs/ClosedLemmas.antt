@@ -22,8 +22,10 @@ use Rattle.spread_stage.specs.Charges.{delivery_charge, spot_charge}
 use Rattle.spread_stage.specs.Months.{IsPartOf, MonthsRise, Shrinks, total_size}
 use Rattle.spread_stage.specs.Spreads.{after_spreads, is_in_tier, spread_both_ways, spread_one_way, TierRests, tier_rooms, tier_side}
 use Rattle.spread_stage.specs.Spreads.{unspread}
+use Rattle.spread_stage.specs.near.Places.{ArePlaces}
 use Rattle.spread_stage.specs.near.Sides.{AreTiers, HaveSides}
 use Rattle.spread_stage.specs.declared.months.MonthUnits.{MonthUnits}
+use Rattle.spread_stage.specs.declared.tier_places.TierPlaces.{TierPlaces}
 use Rattle.spread_stage.proofs.SpreadLemmas.{legs_none}
 use Rattle.spread_stage.proofs.UseLaws.{side-cons, weight}
 
@@ -65,12 +67,14 @@ have_rests sides (m ∷ months) (r ∷ rests) h have =
     (have_rests sides months rests (h.1).1 (All-tail P m months have))
 
 -- rests and charge after spreads stay within their bounds, and on the sides of the rests before them
-pub tiers_after : (t : TierRests) (sides : OpenSides) (rests : List MonthUnits) (charge : ℕ) → AreTiers t sides
-    → MonthsRise rests → Shrinks t.rests rests → charge + MAX_RATE * total_size rests ≤ t.charge + MAX_RATE * total_size t.rests
-    → AreTiers (record { rests = rests; charge = charge }) sides
-tiers_after t sides rests charge are rise shrinks small = record {
-  rests = record { rise = rise; small = (let before = (are.rests).small in omega (arith, before, small)) };
+pub tiers_after : (t : TierRests) (sides : OpenSides) (before after : TierPlaces) (rests : List MonthUnits) (charge : ℕ)
+    → AreTiers t sides before → MonthsRise rests → Shrinks t.rests rests
+    → charge + MAX_RATE * total_size rests ≤ t.charge + MAX_RATE * total_size t.rests → ArePlaces after rests
+    → AreTiers (record { rests = rests; charge = charge }) sides after
+tiers_after t sides before after rests charge are rise shrinks small at = record {
+  rests = record { rise = rise; small = (let old = (are.rests).small in omega (arith, old, small)) };
   have = have_rests sides t.rests rests shrinks are.have;
+  at = at;
 }
 
 -- ---- a leg that has something to use

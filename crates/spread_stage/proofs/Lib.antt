@@ -5,6 +5,7 @@ pub mod ForwardLemmas
 pub mod GatherLemmas
 pub mod UseLemmas
 pub mod PlaceLemmas
+mod KeptPlaces
 pub mod SizeLemmas
 pub mod SpreadLemmas
 pub mod FallLemmas

@@ -41,7 +41,7 @@ module _ (on : MarketSide) (needed : ℕ) (rests : List MonthUnits) (leg : Month
   pub leg_less : total_size (rests_after_leg on needed rests leg) ≤ total_size rests
   leg_less = let e = leg_size in omega (arith, e)
 
-  leg_shrinks : (deltas : List MonthUnits) → Shrinks deltas rests → Shrinks deltas (rests_after_leg on needed rests leg)
+  pub leg_shrinks : (deltas : List MonthUnits) → Shrinks deltas rests → Shrinks deltas (rests_after_leg on needed rests leg)
   leg_shrinks deltas h = shrinks_after on (used_of_month rests on leg needed) (within rests on leg needed) deltas rests h
 
   -- the sizes fall by just what the leg needs

@@ -7,5 +7,6 @@ pub mod deltas;
 pub mod laws;
 pub mod months;
 mod open_months;
+mod tier_places;
 pub mod tiers;
 mod worked;

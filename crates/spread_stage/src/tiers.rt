@@ -1,20 +1,19 @@
 //! The rests of months after intracommodity spreads, and the exact charge of the spreads (docs/METHOD.md, Intracommodity
 //! spreads; Charges).
 ghost use Rattle.std.specs.Prelude.{◌≡◌, false, ◌+◌, ◌*◌, ◌<◌, ◌≤◌, List, [], ◌∷◌, length, sum_by, All, IfOk};
-ghost use Rattle.std.specs.List.{AllWithin};
-ghost use Rattle.std.specs.List.Sorted.{IsPartitionPoint};
 ghost use Rattle.span_tables.specs.Accepted.{IsIntra};
 ghost use Rattle.span_tables.specs.Sides.{part_on, spreads_formed};
 ghost use Rattle.span_tables.specs.declared.limits.TheConstants.{MAX_RATE, MAX_UNITS};
 ghost use Rattle.spread_stage.specs.Months.{AreTierRests, MonthsRise, Shrinks, total_size};
 ghost use Rattle.spread_stage.specs.Spreads.{formed_both, formed_in, rests_after, rests_after_leg, spread_both_ways};
 ghost use Rattle.spread_stage.specs.Spreads.{spread_one_way, tier_rooms, tier_side, unspread};
-ghost use Rattle.spread_stage.specs.near.Places.{IsTierAt};
+ghost use Rattle.spread_stage.specs.near.Places.{ArePlaces};
 ghost use Rattle.spread_stage.specs.near.Uses.{used_in_turn};
 ghost use Rattle.spread_stage.specs.declared.months.MonthUnits.{MonthUnits};
 
 use crate::months::{MonthUnits, Months};
 use crate::open_months::open_sides;
+use crate::tier_places::TierPlaces;
 use span_money::division::greatest_fit;
 use span_tables::legs::MonthLeg;
 use span_tables::records::Intra;
@@ -22,9 +21,6 @@ use span_tables::sides::{Direction, MarketSide, SpreadsFormed, less_used, market
 use span_tables::slots::OpenSides;
 use std::alloc::{AllocError, Global};
 use std::marker::Model;
-
-// The number of months, at most, that are gone through one by one.
-const FEW_MONTHS: usize = 8;
 
 /// What spreads left of the delta of each month, and the exact sum of the spreads formed times their rates.
 ///
@@ -34,6 +30,7 @@ pub struct TierState {
     rests: Vec<MonthUnits>,
     charge: u128,
     sides: OpenSides,
+    places: TierPlaces,
 }
 
 impl Model for TierState {
@@ -44,7 +41,7 @@ impl Model for TierState {
 
     ghost view = { λ t. record { rests = t.rests.items; charge = t.charge } };
 
-    ghost invariant = { λ t. AreTiers (record { rests = t.rests.items; charge = t.charge }) t.sides };
+    ghost invariant = { λ t. AreTiers (record { rests = t.rests.items; charge = t.charge }) t.sides t.places };
 }
 
 impl TierState {
@@ -73,6 +70,7 @@ impl TierState {
             rests,
             charge: self.charge,
             sides: self.sides,
+            places: self.places,
         })
     }
 
@@ -121,56 +119,10 @@ impl TierState {
         if !intra.may_form(direction, &self.sides) {
             return 0;
         }
-        let formed = form(&mut self.rests, direction, intra.legs());
+        let formed = form(&mut self.rests, &mut self.places, direction, intra.legs());
         self.charge += at_rate(formed, intra.rate());
         formed
     }
-}
-
-// A place that no month from this one on stands before, near to the first place of such a month: the months are halved
-// until few are left.
-fn place_near(rests: &[MonthUnits], month: u32) -> usize
-    requires { MonthsRise rests.now }
-    ensures bound { result ≤ length rests.now }
-    ensures earlier { AllWithin (λ m. m.month < month) rests.now 0 result }
-{
-    let mut place = 0;
-    let mut left = rests.len();
-    while left > FEW_MONTHS {
-        let half = left / 2;
-        if rests[place + half].month < month {
-            place += half;
-        }
-        left -= half;
-    }
-    place
-}
-
-// How many months are earlier than this one.
-fn months_before(rests: &[MonthUnits], month: u32) -> usize
-    requires { MonthsRise rests.now }
-    ensures bound { result ≤ length rests.now }
-    ensures parted { IsPartitionPoint (λ m. m.month < month) (λ m. month ≤ m.month) rests.now result }
-{
-    let mut place = place_near(rests, month);
-    while place < rests.len() && rests[place].month < month {
-        place += 1;
-    }
-    place
-}
-
-// Where the months of a leg's tier stand: from the first of the two places on, and before the second. They stand together,
-// since months rise.
-fn tier_places(rests: &[MonthUnits], leg: &MonthLeg) -> (usize, usize)
-    requires { MonthsRise rests.now }
-    ensures { IsTierAt leg.now rests.now result.0 result.1 }
-{
-    let start = months_before(rests, leg.first);
-    let mut end = start;
-    while end < rests.len() && rests[end].month <= leg.last {
-        end += 1;
-    }
-    (start, end)
 }
 
 // What months have on a side of the market, in units of 10^-8.
@@ -182,23 +134,27 @@ fn sum_on(months: &[MonthUnits], on: MarketSide) -> u64
 }
 
 // The side of a leg's tier, in units of 10^-8: the sum of its months' parts.
-fn tier_side(rests: &[MonthUnits], on: MarketSide, leg: &MonthLeg) -> u64
+fn tier_side(rests: &[MonthUnits], places: &mut TierPlaces, on: MarketSide, leg: &MonthLeg) -> u64
     requires rise { MonthsRise rests.now }
     requires small { total_size rests.now ≤ MAX_UNITS }
-    ensures { result ≡ tier_side rests.now on leg.now }
+    requires places { ArePlaces places.old rests.now }
+    ensures side { result ≡ tier_side rests.now on leg.now }
+    ensures places { ArePlaces places.new rests.now }
 {
-    let (start, end) = tier_places(rests, leg);
+    let (start, end) = places.find(rests, leg);
     sum_on(&rests[start..end], on)
 }
 
 // How many spreads a leg has room for, in 10^-4 spreads.
-fn room(rests: &[MonthUnits], direction: Direction, leg: &MonthLeg) -> u64
+fn room(rests: &[MonthUnits], places: &mut TierPlaces, direction: Direction, leg: &MonthLeg) -> u64
     requires rise { MonthsRise rests.now }
     requires small { total_size rests.now ≤ MAX_UNITS }
+    requires places { ArePlaces places.old rests.now }
     requires ratio { 0 < leg.now.ratio }
-    ensures { result ≡ spreads_formed (tier_rooms direction (leg.now ∷ []) rests.now) }
+    ensures room { result ≡ spreads_formed (tier_rooms direction (leg.now ∷ []) rests.now) }
+    ensures places { ArePlaces places.new rests.now }
 {
-    let side = tier_side(rests, market_side(direction, leg.side), leg);
+    let side = tier_side(rests, places, market_side(direction, leg.side), leg);
     if side == 0 {
         return 0;
     }
@@ -206,21 +162,28 @@ fn room(rests: &[MonthUnits], direction: Direction, leg: &MonthLeg) -> u64
 }
 
 // The number of spreads that the legs have room for, in 10^-4 spreads.
-fn spreads_formed(rests: &[MonthUnits], direction: Direction, legs: &[MonthLeg]) -> u64
+fn spreads_formed(
+    rests: &[MonthUnits],
+    places: &mut TierPlaces,
+    direction: Direction,
+    legs: &[MonthLeg],
+) -> u64
     requires rise { MonthsRise rests.now }
     requires small { total_size rests.now ≤ MAX_UNITS }
+    requires places { ArePlaces places.old rests.now }
     requires ratios { All (λ leg. 0 < leg.ratio) legs.now }
-    ensures { result ≡ spreads_formed (tier_rooms direction legs.now rests.now) }
+    ensures formed { result ≡ spreads_formed (tier_rooms direction legs.now rests.now) }
+    ensures places { ArePlaces places.new rests.now }
 {
     match legs {
         [] => 0,
-        [leg] => room(rests, direction, leg),
+        [leg] => room(rests, places, direction, leg),
         [leg, others @ ..] => {
-            let formed = room(rests, direction, leg);
+            let formed = room(rests, places, direction, leg);
             if formed == 0 {
                 return 0;
             }
-            formed.min(spreads_formed(rests, direction, others))
+            formed.min(spreads_formed(rests, places, direction, others))
         }
     }
 }
@@ -239,33 +202,55 @@ fn use_months(months: &mut [MonthUnits], on: MarketSide, needed: u64)
 }
 
 // Takes what a leg needs of its tier's side, from the earliest month on.
-fn use_leg(rests: &mut [MonthUnits], on: MarketSide, leg: &MonthLeg, needed: u64)
+fn use_leg(
+    rests: &mut [MonthUnits],
+    places: &mut TierPlaces,
+    on: MarketSide,
+    leg: &MonthLeg,
+    needed: u64,
+)
     requires rise { MonthsRise rests.old }
     requires small { total_size rests.old ≤ MAX_UNITS }
-    ensures { rests.new ≡ rests_after_leg on needed rests.old leg.now }
+    requires places { ArePlaces places.old rests.old }
+    ensures rests { rests.new ≡ rests_after_leg on needed rests.old leg.now }
+    ensures places { ArePlaces places.new rests.new }
 {
-    let (start, end) = tier_places(rests, leg);
+    let (start, end) = places.find(rests, leg);
     use_months(&mut rests[start..end], on, needed);
 }
 
 // Takes what each leg of so many spreads needs, one leg after the other.
-fn use_legs(rests: &mut [MonthUnits], direction: Direction, legs: &[MonthLeg], formed: u64)
+fn use_legs(
+    rests: &mut [MonthUnits],
+    places: &mut TierPlaces,
+    direction: Direction,
+    legs: &[MonthLeg],
+    formed: u64,
+)
     requires rise { MonthsRise rests.old }
     requires small { total_size rests.old ≤ MAX_UNITS }
+    requires places { ArePlaces places.old rests.old }
     requires fit { All (λ leg. formed * leg.ratio ≤ MAX_UNITS) legs.now }
-    ensures { rests.new ≡ rests_after direction formed legs.now rests.old }
+    ensures rests { rests.new ≡ rests_after direction formed legs.now rests.old }
+    ensures places { ArePlaces places.new rests.new }
 {
     for leg in legs {
         let needed = formed * u64::from(leg.ratio.get());
-        use_leg(rests, market_side(direction, leg.side), leg, needed);
+        use_leg(rests, places, market_side(direction, leg.side), leg, needed);
     }
 }
 
 // Forms a spread in one direction, and gives the number of spreads formed, in 10^-4 spreads.
 #[inline(never)]
-fn form(rests: &mut [MonthUnits], direction: Direction, legs: &[MonthLeg]) -> u64
+fn form(
+    rests: &mut [MonthUnits],
+    places: &mut TierPlaces,
+    direction: Direction,
+    legs: &[MonthLeg],
+) -> u64
     requires rise { MonthsRise rests.old }
     requires small { total_size rests.old ≤ MAX_UNITS }
+    requires places { ArePlaces places.old rests.old }
     requires legs { 0 < length legs.now }
     requires ratios { All (λ leg. 0 < leg.ratio) legs.now }
     ensures formed { result ≡ spreads_formed (tier_rooms direction legs.now rests.old) }
@@ -273,10 +258,11 @@ fn form(rests: &mut [MonthUnits], direction: Direction, legs: &[MonthLeg]) -> u6
     ensures rise { MonthsRise rests.new }
     ensures less { result + total_size rests.new ≤ total_size rests.old }
     ensures shrinks { (months : List MonthUnits) → Shrinks months rests.old → Shrinks months rests.new }
+    ensures places { ArePlaces places.new rests.new }
 {
-    let formed = spreads_formed(rests, direction, legs);
+    let formed = spreads_formed(rests, places, direction, legs);
     if formed > 0 {
-        use_legs(rests, direction, legs, formed);
+        use_legs(rests, places, direction, legs, formed);
     }
     formed
 }
@@ -302,6 +288,7 @@ pub fn start(alloc: Global, months: &Months) -> Result<TierState, AllocError>
         rests,
         charge: 0,
         sides,
+        places: TierPlaces::none(),
     })
 }
 

@@ -1,9 +1,11 @@
 -- Where the months of a tier stand.
-use Rattle.std.specs.Prelude.{◌≡◌, ℕ, ◌≤◌, true, false, List, length}
+use Rattle.std.specs.Prelude.{◌≡◌, ℕ, ◌≤◌, true, false, List, length, All}
 use Rattle.std.specs.List.{AllWithin}
 use Rattle.span_tables.specs.declared.legs.MonthLeg.{MonthLeg}
 use Rattle.spread_stage.specs.Spreads.{is_in_tier}
 use Rattle.spread_stage.specs.declared.months.MonthUnits.{MonthUnits}
+use Rattle.spread_stage.specs.declared.tier_places.TierPlace.{TierPlace}
+use Rattle.spread_stage.specs.declared.tier_places.TierPlaces.{TierPlaces}
 
 -- the months of the leg's tier are those from one place on and before another
 pub record IsTierAt (leg : MonthLeg) (rests : List MonthUnits) (start stop : ℕ) : Type 0 where
@@ -12,3 +14,12 @@ pub record IsTierAt (leg : MonthLeg) (rests : List MonthUnits) (start stop : ℕ
   pub before : AllWithin (λ m. is_in_tier leg m ≡ false) rests 0 start
   pub inside : AllWithin (λ m. is_in_tier leg m ≡ true) rests start stop
   pub behind : AllWithin (λ m. is_in_tier leg m ≡ false) rests stop (length rests)
+
+-- a leg with the first and the last month of the entry has its months there
+abbrev pub IsPlaceOf : List MonthUnits → TierPlace → Type 0
+IsPlaceOf rests place =
+    (leg : MonthLeg) → leg.first ≡ place.first → leg.last ≡ place.last → IsTierAt leg rests place.start place.end
+
+-- each entry has the places of its tier's months
+abbrev pub ArePlaces : TierPlaces → List MonthUnits → Type 0
+ArePlaces places rests = All (IsPlaceOf rests) places.places

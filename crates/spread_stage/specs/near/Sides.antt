@@ -4,13 +4,16 @@ use Rattle.span_tables.specs.Slots.{IsOpenAt, month_count}
 use Rattle.span_tables.specs.declared.slots.OpenSides.{OpenSides}
 use Rattle.spread_stage.specs.Months.{AreTierRests}
 use Rattle.spread_stage.specs.Spreads.{TierRests}
+use Rattle.spread_stage.specs.near.Places.{ArePlaces}
 use Rattle.spread_stage.specs.declared.months.MonthUnits.{MonthUnits}
+use Rattle.spread_stage.specs.declared.tier_places.TierPlaces.{TierPlaces}
 
 -- each month's rest is marked on its side
 abbrev pub HaveSides : OpenSides → List MonthUnits → Type 0
 HaveSides sides months = All (λ m. IsOpenAt sides (month_count m.month) m.units) months
 
--- rests and charge within their bounds, with the sides of the rests
-pub record AreTiers (t : TierRests) (sides : OpenSides) : Type 0 where
+-- rests and charge within their bounds, with the sides of the rests and the places of tiers among them
+pub record AreTiers (t : TierRests) (sides : OpenSides) (places : TierPlaces) : Type 0 where
   pub rests : AreTierRests t
   pub have : HaveSides sides t.rests
+  pub at : ArePlaces places t.rests

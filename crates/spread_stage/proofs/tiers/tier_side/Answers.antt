@@ -5,10 +5,10 @@ use Rattle.spread_stage.proofs.tiers.tier_side.Goals as goal
 
 pub sum_on-requires : goal.sum_on-requires
 sum_on-requires c =
-    let same = side_at c.args.leg.now c.args.rests.now _ _ c.tier_places-start.ensures c.args.on in
+    let same = side_at c.args.leg.now c.args.rests.now _ _ c.find-start.ensures.at c.args.on in
     let less = tier_side-le c.args.on c.args.leg.now c.args.rests.now in
     let small = c.requires.small in
     omega (arith, same, less, small)
 
-pub returns : goal.returns
-returns c = c.sum_on.ensures ∙ side_at c.args.leg.now c.args.rests.now _ _ c.tier_places-start.ensures c.args.on
+pub returns-clause-side : goal.returns-clause-side
+returns-clause-side c = c.sum_on.ensures ∙ side_at c.args.leg.now c.args.rests.now _ _ c.find-start.ensures.at c.args.on

@@ -1,7 +1,7 @@
 use Rattle.std.proofs.Common.{◌≡◌, ◌-◌, ◌≤◌, true, length}
 use Rattle.std.specs.List.{AllWithin}
 use Rattle.spread_stage.specs.Spreads.{is_in_tier}
-use Rattle.spread_stage.proofs.tiers.tier_places.Given as goal
+use Rattle.spread_stage.proofs.tier_places.tier_places.Given as goal
 
 abbrev pub invariant-loop-end : goal.invariant-loop-end
 invariant-loop-end l = record {

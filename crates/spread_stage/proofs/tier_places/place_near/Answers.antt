@@ -1,8 +1,8 @@
 use Rattle.std.proofs.Common.{◌+◌, ◌/◌, ◌<◌, ℕ, arith, length, subst, sym}
 use Rattle.std.specs.List.{AllWithin}
 use Rattle.spread_stage.proofs.PlaceLemmas.{earlier_before}
-use Rattle.spread_stage.proofs.tiers.place_near.Goals as goal
-use Rattle.spread_stage.proofs.tiers.place_near.Goals.{then-rests-place, else-rests-place}
+use Rattle.spread_stage.proofs.tier_places.place_near.Goals as goal
+use Rattle.spread_stage.proofs.tier_places.place_near.Goals.{then-rests-place, else-rests-place}
 
 pub loop-left-preserved : goal.loop-left-preserved
 loop-left-preserved c =

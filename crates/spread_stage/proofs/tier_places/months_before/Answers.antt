@@ -1,6 +1,6 @@
 use Rattle.std.proofs.Common.{arith}
 use Rattle.spread_stage.proofs.PlaceLemmas.{earlier_more, not_earlier_from}
-use Rattle.spread_stage.proofs.tiers.months_before.Goals as goal
+use Rattle.spread_stage.proofs.tier_places.months_before.Goals as goal
 
 pub loop-place-preserved : goal.loop-place-preserved
 loop-place-preserved c = record {

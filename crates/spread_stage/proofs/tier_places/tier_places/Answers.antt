@@ -6,7 +6,7 @@ use Rattle.spread_stage.specs.Spreads.{is_in_tier}
 use Rattle.spread_stage.specs.near.Places.{IsTierAt}
 use Rattle.spread_stage.specs.declared.months.MonthUnits.{MonthUnits}
 use Rattle.spread_stage.proofs.PlaceLemmas.{before_tier, behind_tier, one_more, rise_by_place}
-use Rattle.spread_stage.proofs.tiers.tier_places.Goals as goal
+use Rattle.spread_stage.proofs.tier_places.tier_places.Goals as goal
 
 pub loop-end-init : goal.loop-end-init
 loop-end-init c = record {

@@ -1,0 +1,132 @@
+//! Where the months of tiers stand among the rests (docs/METHOD.md, Intracommodity spreads).
+ghost use Rattle.std.specs.Prelude.{◌<◌, ◌≤◌, List, length};
+ghost use Rattle.std.specs.List.{AllWithin};
+ghost use Rattle.std.specs.List.Sorted.{IsPartitionPoint};
+ghost use Rattle.spread_stage.specs.Months.{MonthsRise};
+ghost use Rattle.spread_stage.specs.near.Places.{ArePlaces, IsTierAt};
+ghost use Rattle.spread_stage.specs.declared.months.MonthUnits.{MonthUnits};
+
+use crate::months::MonthUnits;
+use span_tables::legs::MonthLeg;
+
+// The number of months, at most, that are gone through one by one.
+const FEW_MONTHS: usize = 8;
+
+// The number of tiers, at most, whose places are remembered.
+const REMEMBERED_TIERS: usize = 16;
+
+// The first and the last month of a tier (`yyyymm`), and where its months stand: from `start` on, and before `end`.
+#[derive(Clone, Copy)]
+struct TierPlace {
+    first: u32,
+    last: u32,
+    start: u32,
+    end: u32,
+}
+
+/// Where the months of tiers stand, for the tiers that were searched last.
+///
+/// Spreads change the units of months and never the months, so a place stays as it was found. Each tier has one entry, by the
+/// remainder of its first month. Tiers that share an entry take it from each other.
+#[derive(Clone, Copy)]
+pub struct TierPlaces {
+    places: [TierPlace; REMEMBERED_TIERS],
+}
+
+impl TierPlaces {
+    /// No tier was searched: each entry has a tier without months.
+    pub fn none() -> TierPlaces
+        ensures { (rests : List MonthUnits) → ArePlaces result rests }
+    {
+        let place = TierPlace {
+            first: 1,
+            last: 0,
+            start: 0,
+            end: 0,
+        };
+        TierPlaces {
+            places: [place; REMEMBERED_TIERS],
+        }
+    }
+
+    /// Where the months of a leg's tier stand: from the first of the two places on, and before the second.
+    #[inline(always)]
+    pub fn find(&mut self, rests: &[MonthUnits], leg: &MonthLeg) -> (usize, usize)
+        requires rise { MonthsRise rests.now }
+        requires places { ArePlaces self.old rests.now }
+        ensures at { IsTierAt leg.now rests.now result.0 result.1 }
+        ensures places { ArePlaces self.new rests.now }
+    {
+        let place = self.places[leg.first as usize % REMEMBERED_TIERS];
+        if place.first == leg.first && place.last == leg.last {
+            return (place.start as usize, place.end as usize);
+        }
+        self.search(rests, leg)
+    }
+
+    // Searches the months of a leg's tier, and remembers where they stand.
+    #[inline(never)]
+    fn search(&mut self, rests: &[MonthUnits], leg: &MonthLeg) -> (usize, usize)
+        requires rise { MonthsRise rests.now }
+        requires places { ArePlaces self.old rests.now }
+        ensures at { IsTierAt leg.now rests.now result.0 result.1 }
+        ensures places { ArePlaces self.new rests.now }
+    {
+        let (start, end) = tier_places(rests, leg);
+        if let Ok(stop) = u32::try_from(end) {
+            self.places[leg.first as usize % REMEMBERED_TIERS] = TierPlace {
+                first: leg.first,
+                last: leg.last,
+                start: start as u32,
+                end: stop,
+            };
+        }
+        (start, end)
+    }
+}
+
+// A place that no month from this one on stands before, near to the first place of such a month: the months are halved
+// until few are left.
+fn place_near(rests: &[MonthUnits], month: u32) -> usize
+    requires { MonthsRise rests.now }
+    ensures bound { result ≤ length rests.now }
+    ensures earlier { AllWithin (λ m. m.month < month) rests.now 0 result }
+{
+    let mut place = 0;
+    let mut left = rests.len();
+    while left > FEW_MONTHS {
+        let half = left / 2;
+        if rests[place + half].month < month {
+            place += half;
+        }
+        left -= half;
+    }
+    place
+}
+
+// How many months are earlier than this one.
+fn months_before(rests: &[MonthUnits], month: u32) -> usize
+    requires { MonthsRise rests.now }
+    ensures bound { result ≤ length rests.now }
+    ensures parted { IsPartitionPoint (λ m. m.month < month) (λ m. month ≤ m.month) rests.now result }
+{
+    let mut place = place_near(rests, month);
+    while place < rests.len() && rests[place].month < month {
+        place += 1;
+    }
+    place
+}
+
+// Where the months of a leg's tier stand: from the first of the two places on, and before the second. They stand together,
+// since months rise.
+fn tier_places(rests: &[MonthUnits], leg: &MonthLeg) -> (usize, usize)
+    requires { MonthsRise rests.now }
+    ensures { IsTierAt leg.now rests.now result.0 result.1 }
+{
+    let start = months_before(rests, leg.first);
+    let mut end = start;
+    while end < rests.len() && rests[end].month <= leg.last {
+        end += 1;
+    }
+    (start, end)
+}
