@@ -19,6 +19,9 @@ const WHOLE_SPREAD: u128 = 10_000;
 // One delta in units of 10^-8, and so one minor unit of the exact sum of units times rates.
 const WHOLE_DELTA: u128 = 100_000_000;
 
+// The number of spot months, at most, that are looked up one by one. To make the open sides of the months takes longer.
+const FEW_SPOT_MONTHS: usize = 8;
+
 /// The largest intracommodity charge, in minor units: as many 10^-4 spreads as there are units, at the largest rate.
 pub const MAX_INTRA_CHARGE: u128 = MAX_UNITS as u128 * MAX_RATE as u128 / WHOLE_SPREAD;
 
@@ -102,8 +105,28 @@ fn spot_charge(months: &[MonthUnits], rests: &[MonthUnits], spot: &Spot) -> u128
     at_rate(used, spot.spread_rate) + at_rate(left, spot.outright_rate)
 }
 
-// The charges of spot months, in 10^-8 minor units. For most spot months the open sides of the months show that there are no
+// The charges of many spot months, in 10^-8 minor units. For most of them the open sides of the months show that there are no
 // units, and so no charge.
+fn many_spot_charges(months: &[MonthUnits], rests: &[MonthUnits], spots: &[Spot]) -> u128
+    requires months { total_size months.now ≤ MAX_UNITS }
+    requires rests { total_size rests.now ≤ MAX_UNITS }
+    requires shrinks { Shrinks months.now rests.now }
+    requires few { length spots.now ≤ MAX_SPOT_MONTHS }
+    requires spots { All IsSpot spots.now }
+    ensures value { result ≡ sum_by (spot_charge months.now rests.now) spots.now }
+    ensures bound { result ≤ 2 * (MAX_UNITS * MAX_RATE) * MAX_SPOT_MONTHS }
+{
+    let sides = open_sides(months);
+    let mut sum = 0;
+    for spot in spots {
+        if may_have_units(&sides, spot.month) {
+            sum += spot_charge(months, rests, spot);
+        }
+    }
+    sum
+}
+
+// The charges of spot months, in 10^-8 minor units.
 fn spot_charges(months: &[MonthUnits], rests: &[MonthUnits], spots: &[Spot]) -> u128
     requires months { total_size months.now ≤ MAX_UNITS }
     requires rests { total_size rests.now ≤ MAX_UNITS }
@@ -113,15 +136,12 @@ fn spot_charges(months: &[MonthUnits], rests: &[MonthUnits], spots: &[Spot]) -> 
     ensures value { result ≡ sum_by (spot_charge months.now rests.now) spots.now }
     ensures bound { result ≤ 2 * (MAX_UNITS * MAX_RATE) * MAX_SPOT_MONTHS }
 {
-    if spots.is_empty() {
-        return 0;
+    if spots.len() > FEW_SPOT_MONTHS {
+        return many_spot_charges(months, rests, spots);
     }
-    let sides = open_sides(months);
     let mut sum = 0;
     for spot in spots {
-        if may_have_units(&sides, spot.month) {
-            sum += spot_charge(months, rests, spot);
-        }
+        sum += spot_charge(months, rests, spot);
     }
     sum
 }

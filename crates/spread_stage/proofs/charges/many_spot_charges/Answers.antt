@@ -2,8 +2,8 @@ use Rattle.std.proofs.Common.{ap, arith}
 use Rattle.std.proofs.lemmas.List.Sums.{sum_by_more}
 use Rattle.spread_stage.specs.Charges.{spot_charge}
 use Rattle.spread_stage.proofs.SpotLemmas.{no_charge}
-use Rattle.spread_stage.proofs.charges.spot_charges.Goals as goal
-use Rattle.spread_stage.proofs.charges.spot_charges.Goals.{then-may_have_units, else-may_have_units}
+use Rattle.spread_stage.proofs.charges.many_spot_charges.Goals as goal
+use Rattle.spread_stage.proofs.charges.many_spot_charges.Goals.{then-may_have_units, else-may_have_units}
 
 pub loop-spot-preserved : goal.loop-spot-preserved
 loop-spot-preserved c =
