@@ -19,13 +19,14 @@ use Rattle.span_tables.specs.declared.legs.MonthLeg.{MonthLeg}
 use Rattle.span_tables.specs.declared.records.Spot.{Spot}
 use Rattle.span_tables.specs.declared.limits.TheConstants.{MAX_RATE}
 use Rattle.spread_stage.specs.Charges.{delivery_charge, spot_charge}
-use Rattle.spread_stage.specs.Months.{IsPartOf, MonthsRise, Shrinks, total_size}
+use Rattle.spread_stage.specs.Months.{AreMonths, IsPartOf, MonthsRise, Shrinks, total_size}
 use Rattle.spread_stage.specs.Spreads.{after_spreads, is_in_tier, spread_both_ways, spread_one_way, TierRests, tier_rooms, tier_side}
 use Rattle.spread_stage.specs.Spreads.{unspread}
 use Rattle.spread_stage.specs.near.Places.{ArePlaces}
 use Rattle.spread_stage.specs.near.Sides.{AreTiers, HaveSides}
 use Rattle.spread_stage.specs.declared.months.MonthUnits.{MonthUnits}
 use Rattle.spread_stage.specs.declared.tier_places.TierPlaces.{TierPlaces}
+use Rattle.spread_stage.proofs.SpreadBounds.{no_months, unspread_are}
 use Rattle.spread_stage.proofs.SpreadLemmas.{legs_none}
 use Rattle.spread_stage.proofs.UseLaws.{side-cons, weight}
 
@@ -76,6 +77,16 @@ tiers_after t sides before after rests charge are rise shrinks small at = record
   have = have_rests sides t.rests rests shrinks are.have;
   at = at;
 }
+
+-- rests and charge before any spread are within their bounds
+pub tiers_before : (months : List MonthUnits) (sides : OpenSides) (places : TierPlaces) → AreMonths months → HaveSides sides months
+    → ArePlaces places months → AreTiers (unspread months) sides places
+tiers_before months sides places are have at = record { rests = unspread_are months are; have = have; at = at }
+
+-- so they are without months, whatever the sides
+pub tiers_of_nothing : (sides : OpenSides) (places : TierPlaces) → ArePlaces places [] → AreTiers (unspread []) sides places
+tiers_of_nothing sides places at =
+    tiers_before [] sides places no_months (All-nil (λ (m : MonthUnits). IsOpenAt sides (month_count m.month) m.units)) at
 
 -- ---- a leg that has something to use
 

@@ -10,7 +10,6 @@ use Rattle.span_tables.specs.Tables.{placed_by, rising_by}
 use Rattle.spread_stage.specs.Months.{MonthsRise, total_size}
 use Rattle.spread_stage.specs.near.Uses.{gathered, with_units, with_units_last}
 use Rattle.spread_stage.specs.declared.months.MonthUnits.{MonthUnits}
-use Rattle.spread_stage.proofs.DeltaLemmas.{size-with_units}
 use Rattle.spread_stage.proofs.ForwardLemmas.{before, either_first, here, of_month}
 
 -- ---- the end of a list
@@ -101,14 +100,6 @@ size-last p u (m ∷ n ∷ ms) =
     let a = sum_by-cons (λ (x : MonthUnits). nat_abs x.units) m (n ∷ ms) in
     let b = sum_by-cons (λ (x : MonthUnits). nat_abs x.units) m (with_units_last p u (n ∷ ms)) in
     let less = size-last p u (n ∷ ms) in omega (arith, a, b, less)
-
--- gathered months have no larger size than the months
-pub size-gathered : (ms : List MonthUnits) → total_size (gathered ms) ≤ total_size ms
-size-gathered [] = omega arith
-size-gathered (m ∷ ms) =
-    let a = sum_by-cons (λ (x : MonthUnits). nat_abs x.units) m ms in
-    let b = size-with_units m.month m.units (gathered ms) in
-    let less = size-gathered ms in omega (arith, a, b, less)
 
 -- ---- order
 

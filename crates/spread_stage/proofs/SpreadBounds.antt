@@ -66,6 +66,10 @@ months_are held are =
       small = omega (arith, all, few);
     }
 
+-- no months
+pub no_months : AreMonths []
+no_months = record { rise = tt; small = omega arith }
+
 -- a net delta is at most as large as the months' deltas together
 net_size : (months : List MonthUnits) → nat_abs (net_delta months) ≤ total_size months
 net_size [] = omega arith

@@ -1,10 +1,10 @@
 //! The deltas of the months in which an account holds contracts of a commodity (docs/METHOD.md, Deltas).
-ghost use Rattle.std.specs.Prelude.{◌≡◌, ◌+◌, ◌*◌, ◌≤◌, nat_abs, OnOk, IfOk};
+ghost use Rattle.std.specs.Prelude.{◌≡◌, ◌+◌, ◌*◌, ◌≤◌, nat_abs, [], OnOk, OnErr, IfOk};
 ghost use Rattle.std.specs.List.Sorted.{IsNonDecreasingBy};
 ghost use Rattle.span_tables.specs.Accepted.{IsContract};
 ghost use Rattle.span_tables.specs.declared.limits.TheConstants.{MAX_DELTA, MAX_NET, MAX_SCALE, MAX_UNITS};
 ghost use Rattle.spread_stage.specs.Deltas.{month_deltas, units_of};
-ghost use Rattle.spread_stage.specs.Months.{total_size};
+ghost use Rattle.spread_stage.specs.Months.{AreMonths, total_size};
 ghost use Rattle.spread_stage.specs.near.Uses.{gathered, with_units_last};
 
 use crate::months::{MonthUnits, Months};
@@ -59,22 +59,25 @@ fn joined(alloc: Global, sorted: &[MonthUnits]) -> Result<Vec<MonthUnits>, Alloc
 }
 
 // The months of a list in any order, rising and each once, with the sum of its units.
-fn rising(alloc: Global, mut months: Vec<MonthUnits>) -> Result<Vec<MonthUnits>, AllocError>
+fn rising(mut months: Vec<MonthUnits>) -> Result<Vec<MonthUnits>, AllocError>
     requires { total_size months.items ≤ MAX_UNITS }
     ensures { IfOk result (λ rising. rising.items ≡ gathered months.items) }
 {
     months.sort_by_key(|m| m.month)?;
-    joined(alloc, months.as_slice())
+    joined(*months.allocator(), months.as_slice())
 }
 
-/// The months (`yyyymm`) in which contracts are held, rising, each with the sum of its contracts' deltas in units of 10^-8.
-///
-/// Where the contracts stand by rising month, as they mostly do, they are gone over once and nothing is sorted.
+// The months in which contracts are held, rising, each with the sum of its contracts' deltas. They use the memory of the list
+// that is passed.
+//
+// If the contracts stand by rising month, as they mostly do, they are gone over once and nothing is sorted.
 #[tactic(auto, unfolding(crate::specs::Deltas::month_deltas))]
-pub fn month_deltas(alloc: Global, held: &Held) -> Result<Months, AllocError>
-    ensures { IfOk result (λ months. months ≡ month_deltas held.now) }
+fn refilled(mut months: Vec<MonthUnits>, held: &Held) -> Result<Vec<MonthUnits>, AllocError>
+    ensures value { IfOk result (λ months. months.items ≡ month_deltas held.now) }
+    ensures kept { IfOk result (λ months. AreMonths months.items) }
 {
-    let mut months = Vec::with_capacity(alloc, held.len())?;
+    months.clear();
+    months.reserve(held.len())?;
     let mut latest = 0;
     let mut rise = true;
     for i in 0..held.len() {
@@ -84,7 +87,30 @@ pub fn month_deltas(alloc: Global, held: &Held) -> Result<Months, AllocError>
         add(&mut months, contract.month, units_of(contract, held.net(i)))?;
     }
     if rise {
-        return Ok(Months::new(months));
+        return Ok(months);
     }
-    Ok(Months::new(rising(alloc, months)?))
+    rising(months)
+}
+
+impl Months {
+    /// Makes these the months in which contracts are held, as `month_deltas` gives them, and uses their memory again.
+    ///
+    /// If memory runs out, there are no months.
+    pub fn refill(&mut self, held: &Held) -> Result<(), AllocError>
+        ensures ok { OnOk result (self.new ≡ month_deltas held.now) }
+        ensures err { OnErr result (self.new ≡ []) }
+    {
+        let months = refilled(self.take(), held)?;
+        *self = Months::new(months);
+        Ok(())
+    }
+}
+
+/// The months (`yyyymm`) in which contracts are held, rising, each with the sum of its contracts' deltas in units of 10^-8.
+pub fn month_deltas(alloc: Global, held: &Held) -> Result<Months, AllocError>
+    ensures { IfOk result (λ months. months ≡ month_deltas held.now) }
+{
+    let mut months = Months::none(alloc);
+    months.refill(held)?;
+    Ok(months)
 }

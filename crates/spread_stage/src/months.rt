@@ -1,11 +1,13 @@
 //! Months with their delta positions (docs/METHOD.md, Deltas).
-ghost use Rattle.std.specs.Prelude.{◌≡◌, ◌≤◌, nat_abs};
+ghost use Rattle.std.specs.Prelude.{◌≡◌, ◌≤◌, nat_abs, []};
 ghost use Rattle.span_tables.specs.declared.limits.TheConstants.{MAX_UNITS};
 ghost use Rattle.spread_stage.specs.Deltas.{net_delta};
 ghost use Rattle.spread_stage.specs.Months.{AreMonths};
 
 use span_money::amounts::Units;
+use std::alloc::Global;
 use std::marker::Model;
+use std::mem;
 
 /// A month (`yyyymm`) and a delta position in it, in units of 10^-8: its delta, or what spreads left of it.
 #[derive(Clone, Copy, Debug, PartialEq, Eq)]
@@ -46,12 +48,30 @@ fn net_delta(months: &[MonthUnits]) -> i64
 }
 
 impl Months {
+    /// No months. They take no memory.
+    pub fn none(alloc: Global) -> Months
+        ensures { result ≡ [] }
+    {
+        Months {
+            months: Vec::new(alloc),
+        }
+    }
+
     /// Months that rise.
     pub(crate) fn new(months: Vec<MonthUnits>) -> Months
         requires { AreMonths months.items }
         ensures { result ≡ months.items }
     {
         Months { months }
+    }
+
+    /// Takes the months out, and leaves none.
+    pub(crate) fn take(&mut self) -> Vec<MonthUnits>
+        ensures taken { result.items ≡ self.old }
+        ensures left { self.new ≡ [] }
+    {
+        let alloc = *self.months.allocator();
+        mem::replace(&mut self.months, Vec::new(alloc))
     }
 
     /// The months in order, each with its delta.

@@ -1,6 +1,6 @@
 //! The rests of months after intracommodity spreads, and the exact charge of the spreads (docs/METHOD.md, Intracommodity
 //! spreads; Charges).
-ghost use Rattle.std.specs.Prelude.{◌≡◌, false, ◌+◌, ◌*◌, ◌<◌, ◌≤◌, List, [], ◌∷◌, length, sum_by, All, IfOk};
+ghost use Rattle.std.specs.Prelude.{◌≡◌, false, ◌+◌, ◌*◌, ◌<◌, ◌≤◌, List, [], ◌∷◌, length, sum_by, All, IfOk, OnOk, OnErr};
 ghost use Rattle.span_tables.specs.Accepted.{IsIntra};
 ghost use Rattle.span_tables.specs.Sides.{part_on, spreads_formed};
 ghost use Rattle.span_tables.specs.declared.limits.TheConstants.{MAX_RATE, MAX_UNITS};
@@ -45,6 +45,33 @@ impl Model for TierState {
 }
 
 impl TierState {
+    /// No months, and nothing charged. It takes no memory.
+    pub fn none(alloc: Global) -> TierState
+        ensures { result ≡ unspread [] }
+    {
+        TierState {
+            rests: Vec::new(alloc),
+            charge: 0,
+            sides: OpenSides::none(),
+            places: TierPlaces::none(),
+        }
+    }
+
+    /// Makes this the state of these months before any spread, as `start` gives it, and uses its memory again.
+    ///
+    /// If memory runs out, there are no months, and nothing is charged.
+    pub fn restart(&mut self, months: &Months) -> Result<(), AllocError>
+        ensures value { OnOk result (self.new ≡ unspread months.now) }
+        ensures shrinks { OnOk result (Shrinks months.now self.new.rests) }
+        ensures err { OnErr result (self.new ≡ unspread []) }
+    {
+        self.charge = 0;
+        self.sides = open_sides(months.as_slice());
+        self.places = TierPlaces::none();
+        self.rests.clear();
+        self.rests.extend_from_slice(months.as_slice())
+    }
+
     /// The months in order, each with what spreads left of its delta.
     pub fn rests(&self) -> &[MonthUnits]
         ensures value { result.now ≡ self.now.rests }
@@ -282,14 +309,9 @@ pub fn start(alloc: Global, months: &Months) -> Result<TierState, AllocError>
     ensures value { IfOk result (λ tiers. tiers ≡ unspread months.now) }
     ensures shrinks { IfOk result (λ tiers. Shrinks months.now tiers.rests) }
 {
-    let rests = Vec::from_slice(alloc, months.as_slice())?;
-    let sides = open_sides(&rests);
-    Ok(TierState {
-        rests,
-        charge: 0,
-        sides,
-        places: TierPlaces::none(),
-    })
+    let mut tiers = TierState::none(alloc);
+    tiers.restart(months)?;
+    Ok(tiers)
 }
 
 /// The state after one more spread, formed in both directions, with side A long first.

@@ -4,19 +4,20 @@ use Rattle.std.proofs.lemmas.Bool.Decides.{nat_tests}
 use Rattle.std.proofs.lemmas.List.{take_all}
 use Rattle.std.proofs.Math.Seq.{take-suc}
 use Rattle.std.proofs.lemmas.Int.{to_z-of_z}
+use Rattle.std.proofs.lemmas.Result.{IfOk-weaker}
 use Rattle.span_money.proofs.WordLemmas.{same_64}
 use Rattle.span_tables.specs.Net.{HeldContract}
-use Rattle.span_tables.specs.declared.limits.TheConstants.{MAX_DELTA, MAX_HELD, MAX_NET, MAX_SCALE}
+use Rattle.span_tables.specs.declared.limits.TheConstants.{MAX_DELTA, MAX_NET, MAX_SCALE}
 use Rattle.span_tables.proofs.HeldLemmas.{held_here}
-use Rattle.spread_stage.specs.Months.{total_size, MonthsRise}
+use Rattle.spread_stage.specs.Months.{AreMonths, MonthsRise, total_size}
 use Rattle.spread_stage.specs.Deltas.{month_deltas, units_of}
 use Rattle.spread_stage.specs.near.Uses.{gathered, with_units, with_units_last}
-use Rattle.spread_stage.proofs.MonthLaws.{month_deltas_rise}
+use Rattle.spread_stage.proofs.SpreadBounds.{months_are}
 use Rattle.spread_stage.proofs.ForwardLemmas.{month_deltas-push}
 use Rattle.spread_stage.proofs.GatherLemmas.{NoneLater, gathered-last, gathered-rise, none_later_after, none_later_than}
-use Rattle.spread_stage.proofs.GatherLemmas.{rise_after, size-gathered, size-last}
-use Rattle.spread_stage.proofs.deltas.month_deltas.Goals.{then-rise, else-rise}
-use Rattle.spread_stage.proofs.deltas.month_deltas.Goals as goal
+use Rattle.spread_stage.proofs.GatherLemmas.{rise_after, size-last}
+use Rattle.spread_stage.proofs.deltas.refilled.Goals.{then-rise, else-rise}
+use Rattle.spread_stage.proofs.deltas.refilled.Goals as goal
 
 pub loop-i-preserved : goal.loop-i-preserved
 loop-i-preserved c =
@@ -62,25 +63,25 @@ loop-i-preserved c =
       small = omega (arith, larger, same, bound, before);
     }
 
-pub returns-then-rise-2 : goal.returns-then-rise-2
-returns-then-rise-2 c =
-    let held = c.args.held.now in
-    let done : length held ≤ c.loop-i.i = search rules in
+-- once all contracts are gone over, the list has their months
+pub returns-then-rise-2-clause-value : goal.returns-then-rise-2-clause-value
+returns-then-rise-2-clause-value c =
     let up = c.loop-i.invariant.rise c.if-rise-2.true in
-    c.new.ensures ∙ sym (gathered-rise c.loop-i.months.items up.0) ∙ c.loop-i.invariant.value
-    ∙ ap month_deltas (take_all c.loop-i.i held done)
+    sym (gathered-rise c.loop-i.months.items up.0) ∙ c.loop-i.invariant.value
+    ∙ ap month_deltas (take_all c.loop-i.i c.args.held.now (search rules))
 
-pub new-requires-2 : goal.new-requires-2
-new-requires-2 c =
-    let held = c.args.held.now in
-    let months = c.loop-i.months.items in
-    let now : c.in_ok-rising.field-0.items ≡ gathered months = c.in_ok-rising.ensures in
-    let of_held : c.in_ok-rising.field-0.items ≡ month_deltas (take c.loop-i.i held) = now ∙ c.loop-i.invariant.value in
-    let smaller = size-gathered months in
-    let size : total_size c.in_ok-rising.field-0.items ≡ total_size (gathered months) = ap total_size now in
-    let few : length held ≤ MAX_HELD = c.len-i-end.ensures.kept.few in
-    let done : c.loop-i.i ≤ length held = search rules in
-    record {
-      rise = subst MonthsRise (sym of_held) (month_deltas_rise (take c.loop-i.i held));
-      small = omega (arith, smaller, size, few, done, c.loop-i.invariant.small);
-    }
+pub returns-then-rise-2-clause-kept : goal.returns-then-rise-2-clause-kept
+returns-then-rise-2-clause-kept c =
+    subst AreMonths (sym (returns-then-rise-2-clause-value c)) (months_are c.args.held.now c.len.ensures.kept)
+
+pub returns-clause-value : goal.returns-clause-value
+returns-clause-value c =
+    IfOk-weaker c.rising.result (λ rising. rising.items ≡ gathered c.loop-i.months.items)
+    (λ months. months.items ≡ month_deltas c.args.held.now)
+    (λ months same. same ∙ c.loop-i.invariant.value ∙ ap month_deltas (take_all c.loop-i.i c.args.held.now (search rules)))
+    c.rising.ensures
+
+pub returns-clause-kept : goal.returns-clause-kept
+returns-clause-kept c =
+    IfOk-weaker c.rising.result (λ months. months.items ≡ month_deltas c.args.held.now) (λ months. AreMonths months.items)
+    (λ months same. subst AreMonths (sym same) (months_are c.args.held.now c.len.ensures.kept)) (returns-clause-value c)

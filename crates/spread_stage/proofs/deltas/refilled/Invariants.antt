@@ -4,7 +4,7 @@ use Rattle.spread_stage.specs.Deltas.{month_deltas}
 use Rattle.spread_stage.specs.Months.{MonthsRise, total_size}
 use Rattle.spread_stage.specs.near.Uses.{gathered}
 use Rattle.spread_stage.proofs.GatherLemmas.{NoneLater}
-use Rattle.spread_stage.proofs.deltas.month_deltas.Given as goal
+use Rattle.spread_stage.proofs.deltas.refilled.Given as goal
 
 abbrev pub invariant-loop-i : goal.invariant-loop-i
 invariant-loop-i l = record {
