@@ -29,8 +29,8 @@ use span_tables::portfolios::Portfolio;
 use span_tables::records::{Inter, Intra};
 use span_tables::tables::Tables;
 use spread_stage::charges::delivery;
-use spread_stage::deltas::month_deltas;
-use spread_stage::tiers::{TierState, start};
+use spread_stage::months::Months;
+use spread_stage::tiers::TierState;
 use std::alloc::{AllocError, Global};
 
 // What a held commodity has before any spread between commodities: its number, its scan, its net delta, the exact sum of its
@@ -69,13 +69,14 @@ fn worth_of(tables: &Tables, held: &Held) -> Money
     net_value(held)
 }
 
-// What a commodity has, of the contracts that are held of it.
+// What a commodity has, of the contracts that are held of it. It fills `months` and `tiers` again, whatever they have before.
 #[inline(always)]
 fn part_of(
-    alloc: Global,
     tables: &Tables,
     commodity: usize,
     held: &Held,
+    months: &mut Months,
+    tiers: &mut TierState,
 ) -> Result<Part, AllocError>
     requires { commodity < length tables.now.commodities }
     ensures commodity { IfOk result (λ part. part.commodity ≡ commodity) }
@@ -85,10 +86,10 @@ fn part_of(
     let of = &tables.commodities()[commodity];
     let sums = sums(held);
     let scan = scan(&sums);
-    let months = month_deltas(alloc, held)?;
-    let mut tiers = start(alloc, &months)?;
-    form_intras(&mut tiers, tables.intras(commodity));
-    let delivery = delivery(&months, &tiers, tables.spots(commodity));
+    months.refill(held)?;
+    tiers.restart(months)?;
+    form_intras(tiers, tables.intras(commodity));
+    let delivery = delivery(months, tiers, tables.spots(commodity));
     let minimum = minimum(held, of.minimum_rate, of.method);
     Ok(Part {
         commodity,
@@ -111,9 +112,12 @@ pub(crate) fn parts_of(
     ensures { IfOk result (λ parts. ArePartsFrom tables.now portfolio.now.holdings 0 parts.items) }
 {
     let list = gather_held(alloc, tables, portfolio)?;
+    let mut months = Months::none(alloc);
+    let mut tiers = TierState::none(alloc);
     let mut parts = Vec::with_capacity(alloc, list.len())?;
     for one in &list {
-        parts.push(part_of(alloc, tables, one.commodity, &one.held)?)?;
+        let part = part_of(tables, one.commodity, &one.held, &mut months, &mut tiers)?;
+        parts.push(part)?;
     }
     Ok(parts)
 }

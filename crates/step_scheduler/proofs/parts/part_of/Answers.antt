@@ -15,10 +15,10 @@ returns-clause-part c = λ holdings is.
     let t = c.args.tables.now in
     let i = c.args.commodity in
     let commodity = c.index-commodities-commodity.result in
-    let months : c.in_ok-months.months ≡ deltas_at t holdings i = c.in_ok-months.ensures ∙ ap month_deltas is in
+    let months : c.refill.new.self ≡ deltas_at t holdings i = c.in_ok-refill.ensures.ok ∙ ap month_deltas is in
     let tiers : c.form_intras.new.tiers ≡ tiers_at t holdings i =
-    tiers_are t holdings i c.in_ok-months.months c.in_ok-tiers.tiers c.form_intras.new.tiers c.intras.result.now months
-    c.in_ok-tiers.ensures.value c.form_intras.ensures.value c.intras.ensures.value in
+    tiers_are t holdings i c.refill.new.self c.restart.new.self c.form_intras.new.tiers c.intras.result.now months
+    c.in_ok-restart.ensures.value c.form_intras.ensures.value c.intras.ensures.value in
     let commodity_is : commodity ≡ commodity_at t i =
     c.index-commodities-commodity.is ∙ ap (λ cs. get_or cs i commodity) c.commodities.ensures.value
     ∙ get_or_default t.commodities i commodity no_commodity c.requires in

@@ -23,13 +23,13 @@ loop-one-preserved c =
     let t = c.args.tables.now in
     let holdings = (c.args.portfolio.now).holdings in
     let h = c.one-item.result in
-    let part = c.in_ok-part_of.field-0 in
+    let part = c.in_ok-part.part in
     let before = c.loop-one.invariant in
     let here = next_held t holdings c.deref-one-items.result.now c.loop-one.one-index c.loop-one.invariant.0 h c.loop-one-test.true
     c.one-item.is before.1 in
-    let number : part.commodity ≡ h.commodity = c.in_ok-part_of.ensures.commodity in
+    let number : part.commodity ≡ h.commodity = c.in_ok-part.ensures.commodity in
     let next : IsNext t holdings before.0 part.commodity = subst (IsNext t holdings before.0) (sym number) here.0 in
-    let is = c.in_ok-part_of.ensures.part holdings in (
+    let is = c.in_ok-part.ensures.part holdings in (
       h.commodity + 1,
       here.2,
       λ rest parts.
