@@ -3,6 +3,7 @@ use Rattle.std.proofs.Common.{◌≡◌, ◌∙◌, ℕ, zero, suc, ◌+◌, ◌
 use Rattle.std.proofs.Common.{Bool, true, false, ◌&&◌, ◌||◌, ◌==◌}
 use Rattle.std.proofs.Common.{if◌then◌else◌, inl, inr, List, [], ◌∷◌, ◌++◌}
 use Rattle.std.proofs.Common.{Some, None, length, refl, sym, ap, subst, arith, append_assoc}
+use Rattle.std.specs.List.{list_any}
 use Rattle.std.proofs.Math.Bool.{and-false}
 use Rattle.std.proofs.lemmas.Bool.{cases_Bool, eqb-true, or_parts}
 use Rattle.std.proofs.lemmas.List.Folds.{list_any-append}
@@ -14,19 +15,9 @@ use Rattle.csv.specs.declared.parser.Action.{Action}
 use Rattle.csv.specs.declared.parser.Action.TheVariants as act
 use Rattle.span_csv.specs.Records.{Fields, records_of}
 use Rattle.span_csv.specs.Cuts.{BeginsWithNoMark, EndsInLineFeed, has_quote}
+use Rattle.span_csv.specs.near.Rows.{rows, rows_by}
 
 -- ---- the records of a text, byte by byte
-
--- what follows a byte: a record, or more of the record at hand
-abbrev rows_by : State → Action → Fields → List ℕ → ℕ → (State → Fields → List ℕ → List Fields) → List Fields
-rows_by s a fields field c more =
-    if is_end a then fields_after a fields field ∷ more s [] [] else more s (fields_after a fields field) (field_after a c field)
-
--- the records from a state on, with the fields and the field at hand
-abbrev rows : State → Fields → List ℕ → List ℕ → List Fields
-rows s fields field [] = if ends_at_end s then (fields ++ field ∷ []) ∷ [] else []
-rows s fields field (c ∷ rest) =
-    rows_by (step default_config s c).0 (step default_config s c).1 fields field c (λ s2 fields2 field2. rows s2 fields2 field2 rest)
 
 -- at the end of a text no record is left
 none_at_end : (n : ℕ) → records_from default_config n state.StartRecord [] ≡ []
@@ -72,7 +63,7 @@ rows_are (c ∷ rest) n s fields field le =
     by s2 act.EndField more behind = more s2 (fields ++ field ∷ []) []
 
 -- the records of a file, byte by byte
-records_are : (xs : List ℕ) → records_of xs ≡ rows state.StartRecord [] [] (strip_bom xs)
+pub records_are : (xs : List ℕ) → records_of xs ≡ rows state.StartRecord [] [] (strip_bom xs)
 unfolding records_of
 records_are xs =
     behind_record (length (strip_bom xs) + 1) state.StartRecord (strip_bom xs) (omega arith)
@@ -182,19 +173,19 @@ mark_front (a ∷ b ∷ c ∷ front) ys = by (is_bom a b c) where
   by true = refl
   by false = refl
 
--- bytes without a quote have none once their mark is taken
-mark_free : (front : List ℕ) → has_quote front ≡ false → has_quote (strip_bom front) ≡ false
+-- where no byte passes a test, none does once the mark is taken
+pub mark_free : (test : ℕ → Bool) (front : List ℕ) → list_any test front ≡ false → list_any test (strip_bom front) ≡ false
 unfolding strip_bom
-mark_free [] free = free
-mark_free (a ∷ []) free = free
-mark_free (a ∷ b ∷ []) free = free
-mark_free (a ∷ b ∷ c ∷ front) free = by (is_bom a b c) where
-  rest_free : has_quote front ≡ false
+mark_free test [] free = free
+mark_free test (a ∷ []) free = free
+mark_free test (a ∷ b ∷ []) free = free
+mark_free test (a ∷ b ∷ c ∷ front) free = by (is_bom a b c) where
+  rest_free : list_any test front ≡ false
   rest_free =
-      (or_parts (c == 34) (has_quote front)
-      (or_parts (b == 34) (has_quote (c ∷ front)) (or_parts (a == 34) (has_quote (b ∷ c ∷ front)) free).1).1).1
+      (or_parts (test c) (list_any test front)
+      (or_parts (test b) (list_any test (c ∷ front)) (or_parts (test a) (list_any test (b ∷ c ∷ front)) free).1).1).1
 
-  by : (z : Bool) → has_quote (if z then front else a ∷ b ∷ c ∷ front) ≡ false
+  by : (z : Bool) → list_any test (if z then front else a ∷ b ∷ c ∷ front) ≡ false
   by true = rest_free
   by false = free
 
@@ -206,7 +197,7 @@ lines_cut : (front second : List ℕ) → has_quote front ≡ false → BeginsWi
 lines_cut front second free unmarked =
     records_are (front ++ 10 ∷ second)
     ∙ ap (rows state.StartRecord [] []) (mark_front front second)
-    ∙ rows_cut (strip_bom front) state.StartRecord [] [] second (refl, refl) (mark_free front free)
+    ∙ rows_cut (strip_bom front) state.StartRecord [] [] second (refl, refl) (mark_free (λ b. b == 34) front free)
     ∙ (λ i. sym one i ++ sym other i)
   where
     one : records_of (front ++ 10 ∷ []) ≡ rows state.StartRecord [] [] (strip_bom front ++ 10 ∷ [])

@@ -1,16 +1,21 @@
 -- What the record behind numbered ones is.
 use Rattle.std.proofs.Common.{◌≡◌, refl, sym, ap, inl, inr, arith, ℕ, ◌+◌, ◌-◌, ◌≤◌, Bool, cond, true, false}
-use Rattle.std.proofs.Common.{◌==◌, ℤ, List, [], ◌∷◌, length, get_or, Some, Ok, Err, slice_get}
-use Rattle.std.proofs.lemmas.Bool.{cases_Bool, eqb-false}
+use Rattle.std.proofs.Common.{◌==◌, ℤ, List, [], ◌∷◌, ◌++◌, length, get_or, nat_abs, Some, Ok, Err, slice_get}
+use Rattle.std.proofs.lemmas.Bool.{cases_Bool, eqb-false, leb-true}
 use Rattle.std.proofs.lemmas.List.{length-map, length-append}
 use Rattle.span_tables.specs.Names.{is_among, is_name}
 use Rattle.span_tables.specs.near.Positions.{named_position, named_positions, AreNumbered}
-use Rattle.span_tables.proofs.NumberedLaws.{among_at, name_there}
+use Rattle.span_tables.proofs.NumberedLaws.{among_at, name_there, named_more, numbered_more}
+use Rattle.span_tables.specs.declared.limits.TheConstants.{MAX_QUANTITY}
 use Rattle.span_tables.specs.declared.records.NumberedPosition.{NumberedPosition}
 use Rattle.span_csv.specs.Records.{Fields, text_at}
 use Rattle.span_csv.specs.declared.faults.PositionFault.{PositionFault}
 use Rattle.span_csv.specs.declared.faults.PositionFault.TheVariants as fault
 use Rattle.span_csv.specs.near.NumberedReading.{are_names, is_one_too_many, next_position, quantity_alone, with_name}
+use Rattle.span_csv.specs.near.PlainPositions.{IsPositionIn}
+use Rattle.span_csv.specs.near.RecordReading.{records_after}
+use Rattle.span_csv.proofs.FormLemmas.{size_within}
+use Rattle.span_csv.proofs.RecordLemmas.{records_after-ok}
 
 -- ---- the limit
 
@@ -60,3 +65,35 @@ module _ (names most : ℕ) (keys : List (List ℕ)) (earlier : List NumberedPos
       ≡ Ok (record { account = get_or keys' a []; contract = text_at r (names - 1); quantity = q })
   unfolding next_position
   next_read keys' a q alone room at = rw (count_same, alone, sym was.accounts_are, room, name_there keys' a (text_at r 0) at) refl
+
+-- ---- a position in a plain line
+
+module _ (most : ℕ) (keys : List (List ℕ)) (earlier : List NumberedPosition) (was : AreNumbered keys earlier) (a : ℕ)
+    (account contract : List ℕ) (q : ℤ) (rest rows : List Fields) (at : slice_get keys a ≡ Some account)
+    (is : IsPositionIn account contract q rest rows) where
+  -- the position, numbered
+  abbrev pub plain_position : NumberedPosition
+  plain_position = record { contract = contract; account = a; quantity = q }
+
+  abbrev row : Fields
+  row = account ∷ contract ∷ is.text ∷ []
+
+  alone : quantity_alone 2 (length earlier + 1) row ≡ Ok q
+  unfolding quantity_alone
+  alone = rw (is.account_named, is.contract_named, is.number, is.small) refl
+
+  plain_next : next_position 2 most (named_positions keys earlier) row ≡ Ok (named_position keys plain_position)
+  plain_next = next_read 2 most keys earlier row was keys a q alone (stands_there most keys a account at).0 at
+
+  -- the records behind it are read as they are behind the earlier ones and this one
+  pub plain_read : records_after (next_position 2 most) (named_positions keys (earlier ++ plain_position ∷ [])) rest
+      ≡ records_after (next_position 2 most) (named_positions keys earlier) rows
+  plain_read =
+      let named = named_more keys keys earlier plain_position account was (stands_there most keys a account at).1 at in
+      rw (named, is.rows_are)
+      (sym (records_after-ok (next_position 2 most) (named_positions keys earlier) row rest (named_position keys plain_position) plain_next))
+
+  pub plain_numbered : AreNumbered keys (earlier ++ plain_position ∷ [])
+  plain_numbered =
+      let small = leb-true (nat_abs q) MAX_QUANTITY (size_within (MAX_QUANTITY - 1) (Some q) is.small) in
+      numbered_more keys keys earlier plain_position account was (stands_there most keys a account at).1 at was.few small

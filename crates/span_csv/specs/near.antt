@@ -5,6 +5,7 @@ pub mod OnLiterals
 pub mod NumberedReading
 pub mod OrderReading
 pub mod Pieces
+pub mod PlainPositions
 pub mod RecordReading
 pub mod Rows
 pub mod Telling

@@ -21,8 +21,8 @@ use span_tables::limits::MAX_QUANTITY;
 use span_tables::name::{Name, is_name};
 use span_tables::records::NumberedPosition;
 
-// Whether a quantity is in its range.
-fn is_quantity(quantity: i64) -> bool
+/// Whether a quantity is in its range.
+pub(crate) fn is_quantity(quantity: i64) -> bool
     ensures value { result ≡ is_quantity quantity }
     ensures size { result ≡ true → nat_abs quantity ≤ MAX_QUANTITY }
 {

@@ -26,6 +26,35 @@ use std::alloc::{AllocError, Global};
 // The names of a record, in front of its quantity: an account's and a contract's.
 const POSITION_NAMES: usize = 2;
 
+// Reads the rows in front onto `records`, as long as each is a position in a plain line of the last record's account.
+fn read_same_account(
+    rows: &mut Rows,
+    accounts: &[Name],
+    records: &mut Vec<NumberedPosition>,
+) -> Result<(), AllocError>
+    requires numbered { AreNumbered accounts.now records.old.items }
+    requires few { length accounts.now ≤ MAX_ACCOUNTS }
+    ensures read { OnOk result
+        (records_after (next_position POSITION_NAMES MAX_ACCOUNTS) (named_positions accounts.now records.new.items) rows.new
+        ≡ records_after (next_position POSITION_NAMES MAX_ACCOUNTS) (named_positions accounts.now records.old.items) rows.old) }
+    ensures left { OnOk result (length rows.new ≤ length rows.old) }
+    ensures numbered { OnOk result (AreNumbered accounts.now records.new.items) }
+{
+    let Some(last) = records.last() else {
+        return Ok(());
+    };
+    let number = last.account;
+    let account = &accounts[number as usize];
+    while let Some((contract, quantity)) = rows.next_of(account) {
+        records.push(NumberedPosition {
+            contract,
+            account: number,
+            quantity,
+        })?;
+    }
+    Ok(())
+}
+
 /// Reads each row that is left of a file onto `records`, and its account, where it is new, into `accounts`.
 pub(crate) fn read_rows(
     rows: &mut Rows,
@@ -46,6 +75,7 @@ pub(crate) fn read_rows(
     while rows.next(row)? {
         let position = next_position(POSITION_NAMES, MAX_ACCOUNTS, records, accounts, row)?;
         records.push(position)?;
+        read_same_account(rows, accounts.as_slice(), records)?;
     }
     Ok(())
 }

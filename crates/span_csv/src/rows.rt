@@ -2,10 +2,14 @@
 ghost use Rattle.std.specs.Prelude.{◌≡◌, [], ◌∷◌, IfOk, OnErr, MatchBool, ◌<◌, length};
 ghost use Rattle.csv.specs.Records.{fields_of};
 ghost use Rattle.span_csv.specs.Records.{text_at};
+ghost use Rattle.span_csv.specs.near.PlainPositions.{IsPositionIn};
 ghost use Rattle.span_csv.specs.near.Rows.{rows_left, CanRead};
 
+use crate::lines::{are_lines, next_line, without_mark};
+use crate::plain_positions::next_position_in;
 use csv::{ByteRecord, Reader, ReaderBuilder};
 use span_tables::limits::SCENARIOS;
+use span_tables::name::Name;
 use std::alloc::{AllocError, Global};
 use std::marker::Model;
 
@@ -15,21 +19,28 @@ pub(crate) const FIRST_VALUE: usize = 7;
 /// The place of what a profile adds, behind the risk array.
 pub(crate) const EXTRAS: usize = FIRST_VALUE + SCENARIOS;
 
-/// The records that are left of a file. After memory ran out there is none.
+// What is left of a file: bytes whose lines are its records, or what `csv` reads.
+#[derive(Drop)]
+pub enum Form<'a> {
+    Lines(&'a [u8]),
+    Csv(Reader<&'a [u8]>),
+}
+
+/// The records that are left of a file. After memory ran out there may be none.
 #[derive(Drop)]
 pub(crate) struct Rows<'a> {
-    reader: Reader<&'a [u8]>,
+    form: Form<'a>,
 }
 
 impl<'a> Model for Rows<'a> {
     ghost use Rattle.std.specs.Prelude.{ℕ, List};
-    ghost use Rattle.span_csv.specs.near.Rows.{rows_left, CanRead};
+    ghost use Rattle.span_csv.specs.near.Rows.{rows_of, GoesOn};
 
     ghost Value = { List (List (List ℕ)) };
 
-    ghost view = { λ rows. rows_left rows.reader };
+    ghost view = { λ rows. rows_of rows.form };
 
-    ghost invariant = { λ rows. CanRead rows.reader };
+    ghost invariant = { λ rows. GoesOn rows.form };
 }
 
 // The next record into `row`, and whether there was one.
@@ -47,25 +58,50 @@ fn read_row(reader: &mut Reader<&[u8]>, row: &mut ByteRecord) -> Result<bool, Al
 }
 
 impl<'a> Rows<'a> {
+    ghost use Rattle.std.specs.Prelude.{None, IfSome};
     ghost use Rattle.span_csv.specs.Records.{records_of};
 
     /// The records of a file with these bytes.
+    ///
+    /// If it has no double quote and no carriage return, its lines are read as they stand. `csv` reads any other file.
     #[tactic(auto, unfolding(crate::specs::Records::records_of))]
     pub(crate) fn new(alloc: Global, bytes: &'a [u8]) -> Rows<'a>
         ensures { result ≡ records_of bytes.now }
     {
+        if are_lines(bytes) {
+            return Rows {
+                form: Form::Lines(without_mark(bytes)),
+            };
+        }
         let reader = ReaderBuilder::new()
             .has_headers(false)
             .flexible(true)
             .from_reader(alloc, bytes);
-        Rows { reader }
+        Rows {
+            form: Form::Csv(reader),
+        }
     }
 
     /// The next record into `row`, and whether there was one.
     pub(crate) fn next(&mut self, row: &mut ByteRecord) -> Result<bool, AllocError>
         ensures found { IfOk result (λ found. MatchBool found (self.old ≡ fields_of row.new ∷ self.new) (self.old ≡ [])) }
     {
-        read_row(&mut self.reader, row)
+        match &mut self.form {
+            Form::Lines(bytes) => next_line(bytes, row),
+            Form::Csv(reader) => read_row(reader, row),
+        }
+    }
+
+    /// The contract and the quantity of the next record, if it is a position of this account in a plain line.
+    #[inline(always)]
+    pub(crate) fn next_of(&mut self, account: &Name) -> Option<(Name, i32)>
+        ensures found { IfSome result (λ p. IsPositionIn account.now p.0 p.1 self.new self.old) }
+        ensures none { result ≡ None → self.new ≡ self.old }
+    {
+        match &mut self.form {
+            Form::Lines(bytes) => next_position_in(bytes, account),
+            Form::Csv(_) => None,
+        }
     }
 }
 

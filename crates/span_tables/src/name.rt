@@ -1,6 +1,6 @@
 //! Names of sets, commodities, contracts and accounts.
-ghost use Rattle.std.specs.Prelude.{◌≡◌, ◌≤◌, length, true, Option, Some, None};
-ghost use Rattle.std.specs.List.{list_all};
+ghost use Rattle.std.specs.Prelude.{◌≡◌, ◌≤◌, ◌++◌, length, option_map, true, IfSome, Option, Some, None};
+ghost use Rattle.std.specs.List.{list_all, prefix_len, take_while};
 ghost use Rattle.span_tables.specs.Names.{is_name, is_name_byte, name_of};
 
 use std::cmp::Ordering;
@@ -63,6 +63,13 @@ pub fn is_name(text: &[u8]) -> bool
     !text.is_empty() && text.len() <= 16 && has_name_bytes(text)
 }
 
+// How many bytes of names a text begins with.
+fn count_name_bytes(text: &[u8]) -> usize
+    ensures { result ≡ prefix_len is_name_byte text.now }
+{
+    text.iter().take_while(|byte| is_name_byte(**byte)).count()
+}
+
 impl Name {
     /// The name that a text is, or `None` where it is none.
     pub fn new(text: &[u8]) -> Option<Name>
@@ -85,6 +92,18 @@ impl Name {
             places,
             len: text.len() as u8,
         }
+    }
+
+    /// The name that all bytes of names in front of a text are, and the bytes behind it; `None` if they are no name.
+    pub fn split_front(text: &[u8]) -> Option<(Name, &[u8])>
+        ensures name { option_map (λ p. p.0) result ≡ name_of (take_while is_name_byte text.now) }
+        ensures parts { IfSome result (λ p. p.0 ++ p.1.now ≡ text.now) }
+    {
+        let (front, rest) = text.split_at(count_name_bytes(text));
+        if front.is_empty() || front.len() > 16 {
+            return None;
+        }
+        Some((Name::of(front), rest))
     }
 
     /// The bytes of the name.

@@ -29,10 +29,12 @@ loop-records-preserved c =
     let position = named_position c.next_position.new.known.keys c.in_ok-position.position in
     let named = rw c.deref.ensures.value at c.in_ok-position.ensures.named in
     let read = rw c.deref.ensures.value at c.in_ok-position.ensures.found in
+    let more = c.in_ok-read_same_account.ensures in
     record {
-      numbered = rw items (rw c.deref.ensures.value at c.in_ok-position.ensures.numbered);
+      numbered = rw c.as_slice.ensures.keys at more.numbered;
       few = c.in_ok-position.ensures.few;
-      rest = rw (items, named) (sym (records_after-ok (next_position POSITION_NAMES MAX_ACCOUNTS) earlier (fields_of c.next.new.row)
+      rest = (rw c.as_slice.ensures.keys at more.read)
+          ∙ rw (items, named) (sym (records_after-ok (next_position POSITION_NAMES MAX_ACCOUNTS) earlier (fields_of c.next.new.row)
           c.next.new.self position read) ∙ rest);
     }
 

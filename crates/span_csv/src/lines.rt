@@ -1,0 +1,83 @@
+//! The records of bytes that have no double quote and no carriage return: each line that is not empty is one, and each comma in it ends a
+//! field.
+ghost use Rattle.std.specs.Prelude.{◌≡◌, ◌∷◌, [], ◌<◌, IfOk, MatchBool, length, true};
+ghost use Rattle.csv.specs.Reading.{strip_bom};
+ghost use Rattle.csv.specs.Records.{fields_of, partial_of};
+ghost use Rattle.csv.specs.declared.parser.State.TheVariants as state;
+ghost use Rattle.span_csv.specs.near.Rows.{rows, rows_in, AreLines};
+
+use csv::ByteRecord;
+use memchr::memchr2;
+use std::alloc::AllocError;
+
+// The byte order mark.
+const MARK: [u8; 3] = [0xEF, 0xBB, 0xBF];
+
+/// Whether bytes have no double quote and no carriage return.
+pub(crate) fn are_lines(bytes: &[u8]) -> bool
+    ensures { result ≡ true → AreLines bytes.now }
+{
+    memchr2(b'"', b'\r', bytes).is_none()
+}
+
+/// The bytes behind a byte order mark, if they begin with one.
+#[tactic(auto, using(crate::proofs::PlainLines::mark_taken))]
+pub(crate) fn without_mark(bytes: &[u8]) -> &[u8]
+    ensures { result.now ≡ strip_bom bytes.now }
+{
+    if bytes.starts_with(&MARK) {
+        &bytes[MARK.len()..]
+    } else {
+        bytes
+    }
+}
+
+// The bytes behind the line feeds in front, which are empty lines.
+fn without_empty_lines(bytes: &[u8]) -> &[u8]
+    requires { AreLines bytes.now }
+    ensures lines { AreLines result.now }
+    ensures same { rows_in result.now ≡ rows_in bytes.now }
+    ensures begins { 0 < length result.now → rows_in result.now ≡ rows state.StartField [] [] result.now }
+{
+    let mut left = bytes;
+    while let [b'\n', rest @ ..] = left {
+        left = rest;
+    }
+    left
+}
+
+// Puts the fields of the line in front behind those of a row. Returns the bytes behind the line.
+fn push_fields<'a>(row: &mut ByteRecord, bytes: &'a [u8]) -> Result<&'a [u8], AllocError>
+    requires lines { AreLines bytes.now }
+    requires whole { partial_of row.old ≡ [] }
+    ensures lines { IfOk result (λ rest. AreLines rest.now) }
+    ensures row { IfOk result (λ rest. rows state.StartField (fields_of row.old) [] bytes.now ≡ fields_of row.new ∷ rows_in rest.now) }
+{
+    let mut left = bytes;
+    while let Some(end) = memchr2(b',', b'\n', left) {
+        row.push_field(&left[..end])?;
+        let ends_line = left[end] == b'\n';
+        left = &left[end + 1..];
+        if ends_line {
+            return Ok(left);
+        }
+    }
+    row.push_field(left)?;
+    Ok(&[])
+}
+
+/// The record in front of what is left into `row`, and whether there was one.
+pub(crate) fn next_line(left: &mut &[u8], row: &mut ByteRecord) -> Result<bool, AllocError>
+    requires { AreLines left.old.now }
+    ensures found { IfOk result (λ found. MatchBool found (rows_in left.old.now ≡ fields_of row.new ∷ rows_in left.new.now)
+        (rows_in left.old.now ≡ [])) }
+    ensures lines { AreLines left.new.now }
+{
+    let bytes = without_empty_lines(left);
+    if bytes.is_empty() {
+        return Ok(false);
+    }
+    row.clear();
+    *left = push_fields(row, bytes)?;
+    Ok(true)
+}

@@ -1,0 +1,84 @@
+//! Positions in plain lines, which are most of a file: the account of the record before, a contract and a quantity.
+ghost use Rattle.std.specs.Prelude.{◌≡◌, ◌++◌, ◌∷◌, ℕ, List, None, Some, IfSome, true};
+ghost use Rattle.span_money.specs.Numbers.{whole_number};
+ghost use Rattle.span_csv.specs.near.NumberedReading.{is_quantity};
+ghost use Rattle.span_csv.specs.near.PlainPositions.{IsPlainLine, IsPositionIn};
+ghost use Rattle.span_csv.specs.near.Rows.{rows_in, AreLines};
+ghost use Rattle.span_tables.specs.Names.{is_name};
+
+use crate::numbered::is_quantity;
+use span_money::texts::parse_whole;
+use span_tables::name::Name;
+
+// The bytes behind a field and the comma that ends it, if bytes begin with them.
+fn behind_field<'a>(bytes: &'a [u8], field: &[u8]) -> Option<&'a [u8]>
+    ensures { IfSome result (λ rest. bytes.now ≡ field.now ++ 44 ∷ rest.now) }
+{
+    let end = field.len();
+    if end < bytes.len() && bytes[end] == b',' && bytes.starts_with(field) {
+        Some(&bytes[end + 1..])
+    } else {
+        None
+    }
+}
+
+// The name that bytes begin with and the bytes behind its comma, if a comma ends it.
+fn split_name(bytes: &[u8]) -> Option<(Name, &[u8])>
+    ensures parts { IfSome result (λ p. bytes.now ≡ p.0 ++ 44 ∷ p.1.now) }
+    ensures is_name { IfSome result (λ p. is_name p.0 ≡ true) }
+{
+    match Name::split_front(bytes)? {
+        (name, [b',', rest @ ..]) => Some((name, rest)),
+        _ => None,
+    }
+}
+
+// The quantity that bytes begin with and the bytes behind its line, if a line feed ends it.
+fn split_quantity(bytes: &[u8]) -> Option<(i32, &[u8])>
+    ensures { IfSome result (λ p. (text : List ℕ) × (bytes.now ≡ text ++ 10 ∷ p.1.now) × (whole_number text ≡ Some p.0)
+        × (is_quantity p.0 ≡ true)) }
+{
+    let end = bytes.iter().position(|byte| *byte == b'\n')?;
+    let quantity = parse_whole(&bytes[..end])?;
+    if !is_quantity(quantity) {
+        return None;
+    }
+    Some((quantity as i32, &bytes[end + 1..]))
+}
+
+// The contract and the quantity of a position, and the bytes behind its line.
+struct PlainPosition<'a> {
+    contract: Name,
+    quantity: i32,
+    rest: &'a [u8],
+}
+
+// The position of an account whose line bytes begin with, if it is plain.
+fn position_in<'a>(bytes: &'a [u8], account: &[u8]) -> Option<PlainPosition<'a>>
+    ensures { IfSome result (λ p. IsPlainLine account.now p.contract p.quantity p.rest.now bytes.now) }
+{
+    let (contract, bytes) = split_name(behind_field(bytes, account)?)?;
+    let (quantity, rest) = split_quantity(bytes)?;
+    Some(PlainPosition {
+        contract,
+        quantity,
+        rest,
+    })
+}
+
+/// The contract and the quantity of the position in front of what is left, if it is one of this account in a plain line.
+#[inline(always)]
+pub(crate) fn next_position_in(left: &mut &[u8], account: &Name) -> Option<(Name, i32)>
+    requires { AreLines left.old.now }
+    ensures found { IfSome result (λ p. IsPositionIn account.now p.0 p.1 (rows_in left.new.now) (rows_in left.old.now)) }
+    ensures none { result ≡ None → left.new ≡ left.old }
+    ensures lines { AreLines left.new.now }
+{
+    let PlainPosition {
+        contract,
+        quantity,
+        rest,
+    } = position_in(left, account.as_bytes())?;
+    *left = rest;
+    Some((contract, quantity))
+}
