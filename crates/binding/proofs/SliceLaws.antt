@@ -1,16 +1,16 @@
 -- What is gathered for some of the accounts, from one on.
-use Rattle.std.proofs.Common.{◌≡◌, ℕ, ◌+◌, ◌-◌, ◌<◌, ◌≤◌, Bool, true, false, cond, not, ◌&&◌, ◌||◌, List, [], ◌∷◌, ◌++◌}
-use Rattle.std.proofs.Common.{Some, None, length, get_or, drop, map, set, take, refl, sym, ap, ◌∙◌, arith}
+use Rattle.std.proofs.Common.{◌≡◌, ℕ, zero, suc, ◌+◌, ◌-◌, ◌<◌, ◌≤◌, Bool, true, false, cond, not, ◌&&◌, ◌||◌, List, [], ◌∷◌, ◌++◌}
+use Rattle.std.proofs.Common.{Some, None, length, get_or, drop, map, pos, set, take, refl, sym, ap, subst, ◌∙◌, arith, true≢false}
 use Rattle.std.specs.Prelude.{All, bytes_eq, nat_lt}
-use Rattle.std.specs.List.{list_all, list_any, position_or_len}
+use Rattle.std.specs.List.{AllWithin, list_all, list_any, position_or_len}
 use Rattle.std.proofs.Math.Seq.{take-length}
-use Rattle.std.proofs.lemmas.Bool.{lt-ltb}
-use Rattle.std.proofs.lemmas.List.{get_or-map, length-map}
+use Rattle.std.proofs.lemmas.Bool.{le-leb, lt-ltb}
+use Rattle.std.proofs.lemmas.List.{get_or-map, get_or_default, length-map}
 use Rattle.span_tables.specs.Net.{accounts_of}
 use Rattle.span_tables.specs.near.Positions.{named_position, named_positions}
 use Rattle.span_tables.specs.declared.records.NumberedPosition.{NumberedPosition}
 use Rattle.span_tables.specs.declared.records.PositionRecord.{PositionRecord}
-use Rattle.binding.specs.near.Ledgers.{contract_place, is_foreign, slice_nets}
+use Rattle.binding.specs.near.Ledgers.{contract_place, is_foreign, is_of, slice_nets}
 use Rattle.binding.specs.near.Nets.{entry_of, entries_of}
 use Rattle.binding.specs.near.Sums.{kept_holdings}
 use Rattle.binding.specs.declared.ledgers.Entry.{Entry}
@@ -119,3 +119,26 @@ module _ (positions : List PositionRecord) (records : List NumberedPosition)
         (entries_of ids (before ++ p ∷ [])) r.account (entry_of ids p) (number_within positions records named known i r lt at)
         (entries_push ids before p) other
         ∙ next
+
+  module _ (within : f + c ≤ length (accounts_of positions)) (ledgers : List (List Entry)) where
+    -- the ledgers have the entries of so many records
+    abbrev Hold : ℕ → Type 0
+    Hold i = ledgers ≡ map (entries_of ids (take i positions)) (take c (drop f (accounts_of positions)))
+
+    pub other_account : (r : NumberedPosition) → is_of f c r ≡ false → (k : ℕ) → k < c → r.account ≡ f + k → ⊥
+    other_account r other k less is =
+        let first : f ≤ r.account = omega (arith, is) in
+        let last : r.account - f < c = omega (arith, is, less) in
+        true≢false (rw (le-leb f r.account first, lt-ltb (r.account - f) c last) at other)
+
+    -- records of other accounts add nothing to them
+    pub others_stay : (n i j : ℕ) → i + n ≡ j → j ≤ length records → AllWithin (λ p. is_of f c p ≡ false) records i j → Hold i → Hold j
+    others_stay zero i j e le others was = subst Hold (omega (arith, e)) was
+    others_stay (suc n) i j e le others was =
+        let none : NumberedPosition = record { contract = []; account = 0; quantity = pos 0 } in
+        let r = get_or records i none in
+        let lt : i < length records = omega (arith, e, le) in
+        let at : r ≡ get_or records i r = get_or_default records i none r lt in
+        let next : Hold (i + 1) =
+        slice_stay within i r ledgers lt at was (other_account r (others i none (omega arith) (omega (arith, e)))) in
+        others_stay n (i + 1) j (omega (arith, e)) le (λ k d low high. others k d (omega (arith, low)) high) next

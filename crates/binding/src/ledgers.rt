@@ -1,8 +1,9 @@
 //! The entries of each account, gathered from the records of a position file.
-ghost use Rattle.std.specs.Prelude.{◌≡◌, ◌<◌, ◌≤◌, ◌+◌, ◌++◌, ◌∷◌, [], drop, map, take};
+ghost use Rattle.std.specs.Prelude.{◌≡◌, ◌<◌, ◌≤◌, ◌+◌, ◌++◌, ◌∷◌, [], drop, false, map, take};
 ghost use Rattle.std.specs.Prelude.{length, nat_abs, replicate, slice_index_or, All, IfOk, IfSome, OnOk};
+ghost use Rattle.std.specs.List.{AllWithin};
 ghost use Rattle.span_tables.specs.declared.limits.TheConstants.{MAX_QUANTITY};
-ghost use Rattle.binding.specs.near.Ledgers.{contract_place, foreign_faults, held_entries, known_entry, listed_records};
+ghost use Rattle.binding.specs.near.Ledgers.{contract_place, foreign_faults, held_entries, is_of, known_entry, listed_records};
 ghost use Rattle.binding.specs.near.Nets.{entries_of};
 ghost use Rattle.span_tables.specs.Net.{accounts_of};
 ghost use Rattle.span_tables.specs.Holdings.{ArePortfolio};
@@ -111,17 +112,50 @@ fn known_entry(numbers: &IndexSet<Name>, position: &NumberedPosition) -> Option<
     })
 }
 
-// How many records there are of each of so many accounts from one on: the room that its ledger needs.
+// Whether a record is of one of so many accounts from one on.
+#[inline(always)]
+fn is_of(position: &NumberedPosition, first: usize, count: usize) -> bool
+    ensures { result ≡ is_of first count position.now }
+{
+    let account = position.account as usize;
+    first <= account && account - first < count
+}
+
+// How many records stand in front of the first one of these accounts.
+fn records_before(records: &[NumberedPosition], first: usize, count: usize) -> usize
+    ensures bound { result ≤ length records.now }
+    ensures others { AllWithin (λ p. is_of first count p ≡ false) records.now 0 result }
+{
+    let mut start = 0;
+    while start < records.len() && !is_of(&records[start], first, count) {
+        start += 1;
+    }
+    start
+}
+
+// Where the records of these accounts end: behind the last of them.
+fn records_end(records: &[NumberedPosition], first: usize, count: usize) -> usize
+    ensures bound { result ≤ length records.now }
+    ensures others { AllWithin (λ p. is_of first count p ≡ false) records.now result (length records.now) }
+{
+    let mut end = records.len();
+    while end > 0 && !is_of(&records[end - 1], first, count) {
+        end -= 1;
+    }
+    end
+}
+
+// How many of these records there are of each of so many accounts from one on: the room that its ledger needs.
 fn rooms(
     alloc: Global,
-    positions: &RawPositions,
+    records: &[NumberedPosition],
     first: usize,
     count: usize,
 ) -> Result<Vec<usize>, AllocError>
     ensures { IfOk result (λ rooms. length rooms.items ≡ count) }
 {
     let mut rooms = vec![in alloc; 0usize; count]?;
-    for position in positions.records() {
+    for position in records {
         let place = (position.account as usize).wrapping_sub(first);
         if place < count {
             rooms[place] = rooms[place].wrapping_add(1);
@@ -130,16 +164,16 @@ fn rooms(
     Ok(rooms)
 }
 
-// A ledger without an entry for each of so many accounts from one on, with room for its records.
+// A ledger without an entry for each of so many accounts from one on, with room for those of these records.
 fn empty_ledgers(
     alloc: Global,
-    positions: &RawPositions,
+    records: &[NumberedPosition],
     first: usize,
     count: usize,
 ) -> Result<Vec<Ledger>, AllocError>
     ensures { IfOk result (λ ledgers. ledgers.items ≡ replicate count []) }
 {
-    let rooms = rooms(alloc, positions, first, count)?;
+    let rooms = rooms(alloc, records, first, count)?;
     let mut ledgers = Vec::with_capacity(alloc, count)?;
     for room in &rooms {
         ledgers.push(Ledger::with_room(alloc, *room)?)?;
@@ -168,7 +202,7 @@ pub(crate) fn gather(
         ≡ map (entries_of numbers.now.keys (listed_records numbers.now.keys positions.now)) (accounts_of positions.now)) }
 {
     let accounts = positions.accounts();
-    let mut ledgers = empty_ledgers(alloc, positions, 0, accounts.len())?;
+    let mut ledgers = empty_ledgers(alloc, positions.records(), 0, accounts.len())?;
     let mut unknown = Vec::new(alloc);
     for (number, position) in positions.records().iter().enumerate() {
         let account = position.account as usize;
@@ -196,7 +230,8 @@ fn found_entry(found: &[u16], number: usize, position: &NumberedPosition) -> Ent
 }
 
 /// The ledgers of so many accounts from one on, where the places of the contracts of all records were found before; a contract that is not
-/// among the ids has the place behind them.
+/// among the ids has the place behind them. In a file that is in the order of its accounts the records of others are looked at once, and
+/// no more.
 pub(crate) fn ledgers_from(
     alloc: Global,
     numbers: &IndexSet<Name>,
@@ -210,13 +245,16 @@ pub(crate) fn ledgers_from(
     ensures { IfOk result (λ ledgers. ledgers.items
         ≡ map (entries_of numbers.now.keys positions.now) (take count (drop first (accounts_of positions.now)))) }
 {
-    let mut ledgers = empty_ledgers(alloc, positions, first, count)?;
-    for (number, position) in positions.records().iter().enumerate() {
-        let account = position.account as usize;
-        if account < first || first + count <= account {
-            continue;
+    let records = positions.records();
+    let start = records_before(records, first, count);
+    let end = records_end(records, first, count).max(start);
+    let mut ledgers = empty_ledgers(alloc, &records[start..end], first, count)?;
+    for number in start..end {
+        let position = &records[number];
+        if is_of(position, first, count) {
+            let place = position.account as usize - first;
+            ledgers[place].push(found_entry(found, number, position))?;
         }
-        ledgers[account - first].push(found_entry(found, number, position))?;
     }
     Ok(ledgers)
 }

@@ -94,7 +94,7 @@ pub(crate) fn quantity(
 }
 
 /// Whether a name stands at a place.
-pub(crate) fn stands_at(known: &[Name], place: u32, name: &[u8]) -> bool
+pub(crate) fn stands_at(known: &[Name], place: u16, name: &[u8]) -> bool
     ensures at { IsTrue result ↔ (slice_get known.now place ≡ Some name.now) }
     ensures is_name { IsTrue result → is_name name.now ≡ true }
 {
@@ -118,10 +118,10 @@ pub(crate) fn place(
     most: usize,
     at: usize,
     stands: bool,
-    last: u32,
+    last: u16,
     known: &mut IndexSet<Name>,
     name: &[u8],
-) -> Result<u32, PositionFault>
+) -> Result<u16, PositionFault>
     requires name { is_name name.now ≡ true }
     requires stands { IsTrue stands → slice_get known.old.keys last ≡ Some name.now }
     requires few { length known.old.keys ≤ most }
@@ -142,11 +142,11 @@ pub(crate) fn place(
     if too_many {
         return Err(PositionFault::TooManyAccounts { at });
     }
-    Ok(place as u32)
+    Ok(place as u16)
 }
 
 // A position in a contract of this name, which was tested.
-fn position_at(account: u32, quantity: i32, contract: &[u8]) -> NumberedPosition
+fn position_at(account: u16, quantity: i32, contract: &[u8]) -> NumberedPosition
     requires { is_name contract.now ≡ true }
     ensures { result ≡ record { contract = contract.now; account = account; quantity = quantity } }
 {
@@ -158,7 +158,7 @@ fn position_at(account: u32, quantity: i32, contract: &[u8]) -> NumberedPosition
 }
 
 // The place of the last record's name, or the first one where there is no record.
-fn last_place(earlier: &[NumberedPosition]) -> u32 {
+fn last_place(earlier: &[NumberedPosition]) -> u16 {
     earlier.last().map_or(0, |position| position.account)
 }
 

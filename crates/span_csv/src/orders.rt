@@ -28,7 +28,7 @@ const ORDER_NAMES: usize = 3;
 fn take_account(
     at: usize,
     accounts: &mut Vec<Name>,
-    place: u32,
+    place: u16,
     account: &[u8],
 ) -> Result<(), OrderFault>
     requires name { is_name account.now ≡ true }

@@ -107,7 +107,7 @@ fn check_row(
     if accounts.len() > MAX_ACCOUNTS {
         return Ok(());
     }
-    let last = accounts.len().saturating_sub(1) as u32;
+    let last = accounts.len().saturating_sub(1) as u16;
     let stands = stands_at(accounts.as_slice(), last, field(row, 0));
     place(MAX_ACCOUNTS, at, stands, last, accounts, field(row, 0))?;
     Ok(())

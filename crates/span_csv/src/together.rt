@@ -42,13 +42,13 @@ fn add_names(names: &[Name], accounts: &mut IndexSet<Name>) -> Result<(), AllocE
 }
 
 // The place of an account among these; that of one that is not among them is behind them.
-fn place_of(accounts: &IndexSet<Name>, name: &Name) -> u32
+fn place_of(accounts: &IndexSet<Name>, name: &Name) -> u16
     requires { length accounts.now.keys ≤ MAX_ACCOUNTS }
     ensures { result ≡ place_among accounts.now.keys name.now }
 {
     match accounts.get_index_of(name) {
-        Some(place) => place as u32,
-        None => accounts.len() as u32,
+        Some(place) => place as u16,
+        None => accounts.len() as u16,
     }
 }
 
@@ -57,7 +57,7 @@ fn places_of(
     alloc: Global,
     accounts: &IndexSet<Name>,
     names: &[Name],
-) -> Result<Vec<u32>, AllocError>
+) -> Result<Vec<u16>, AllocError>
     requires { length accounts.now.keys ≤ MAX_ACCOUNTS }
     ensures { IfOk result (λ places. places.items ≡ map (place_among accounts.now.keys) names.now) }
 {
@@ -69,7 +69,7 @@ fn places_of(
 }
 
 // Gives each record the number that stands at the place of its old one.
-fn renumber(places: &[u32], records: &mut [NumberedPosition])
+fn renumber(places: &[u16], records: &mut [NumberedPosition])
     requires { All (λ p. p.account < length places.now) records.old }
     ensures { records.new ≡ map (renumbered places.now) records.old }
 {

@@ -208,7 +208,7 @@ pub struct PositionRecord {
 #[derive(Drop)]
 pub struct NumberedPosition {
     pub contract: Name,
-    pub account: u32,
+    pub account: u16,
     pub quantity: i32,
 }
 

@@ -1,11 +1,12 @@
 -- The entries of each account as the binding gathers them, by account in the order of first appearance.
-use Rattle.std.specs.Prelude.{◌≡◌, ◌≤◌, ℕ, ℤ, Bool, false, not, if◌then◌else◌, List, drop, filter, length, map, take}
+use Rattle.std.specs.Prelude.{◌≡◌, ◌≤◌, ◌-◌, ◌&&◌, ℕ, ℤ, Bool, false, nat_le, nat_lt, not, if◌then◌else◌, List, drop, filter, length, map, take}
 use Rattle.std.specs.Prelude.{Option, Some, None, bytes_eq}
 use Rattle.std.specs.List.{list_any, position_or_len}
 use Rattle.span_tables.specs.Names.{has_repeat}
 use Rattle.span_tables.specs.Net.{accounts_of}
 use Rattle.span_tables.specs.declared.limits.TheConstants.{MAX_CONTRACTS}
 use Rattle.span_tables.specs.declared.portfolios.Holding.{Holding}
+use Rattle.span_tables.specs.declared.records.NumberedPosition.{NumberedPosition}
 use Rattle.span_tables.specs.declared.records.Contract.{Contract}
 use Rattle.span_tables.specs.declared.records.PositionRecord.{PositionRecord}
 use Rattle.binding.specs.Binding.{all_unfit}
@@ -53,6 +54,10 @@ foreign_faults ids positions = all_unfit fault.UnknownContract (λ earlier p. is
 pub record AreNumbers (ids : List (List ℕ)) : Type 0 where
   pub apart : has_repeat bytes_eq ids ≡ false
   pub few : length ids ≤ MAX_CONTRACTS
+
+-- the record is of one of so many accounts from one on
+abbrev pub is_of : ℕ → ℕ → NumberedPosition → Bool
+is_of first count p = nat_le first p.account && nat_lt (p.account - first) count
 
 -- what so many accounts from one on hold, as it is kept
 unfoldable pub slice_nets : List (List ℕ) → List PositionRecord → ℕ → ℕ → List (List Holding)
