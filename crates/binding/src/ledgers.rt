@@ -164,7 +164,7 @@ fn rooms(
     Ok(rooms)
 }
 
-// A ledger without an entry for each of so many accounts from one on, with room for those of these records.
+// A ledger without an entry for each of so many accounts from one on, with room for its entries in these records.
 fn empty_ledgers(
     alloc: Global,
     records: &[NumberedPosition],

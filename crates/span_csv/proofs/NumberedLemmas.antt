@@ -91,7 +91,8 @@ module _ (most : ℕ) (keys : List (List ℕ)) (earlier : List NumberedPosition)
   plain_read =
       let named = named_more keys keys earlier plain_position account was (stands_there most keys a account at).1 at in
       rw (named, is.rows_are)
-      (sym (records_after-ok (next_position 2 most) (named_positions keys earlier) row rest (named_position keys plain_position) plain_next))
+      (sym (records_after-ok (next_position 2 most) (named_positions keys earlier) row rest (named_position keys plain_position)
+      plain_next))
 
   pub plain_numbered : AreNumbered keys (earlier ++ plain_position ∷ [])
   plain_numbered =

@@ -198,7 +198,8 @@ minus_joins [] joins = tt
 minus_joins (b ∷ text) joins =
     elim (cases_Bool (b == 45)) [
       | inl is ↦
-          let minus : Joins b = subst Joins (sym (eqb-true b 45 is)) (record { comma = refl; carriage = refl; line = refl; quote = refl }) in
+          let sign : Joins 45 = record { comma = refl; carriage = refl; line = refl; quote = refl } in
+          let minus : Joins b = subst Joins (sym (eqb-true b 45 is)) sign in
           (minus, rw is at joins)
       | inr other ↦ rw other at joins
     ]

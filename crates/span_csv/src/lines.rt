@@ -46,7 +46,7 @@ fn without_empty_lines(bytes: &[u8]) -> &[u8]
     left
 }
 
-// Puts the fields of the line in front behind those of a row. Returns the bytes behind the line.
+// Appends the fields of the line in front to a row. Returns the bytes behind the line.
 fn push_fields<'a>(row: &mut ByteRecord, bytes: &'a [u8]) -> Result<&'a [u8], AllocError>
     requires lines { AreLines bytes.now }
     requires whole { partial_of row.old ≡ [] }

@@ -1,4 +1,5 @@
-use Rattle.std.proofs.Common.{◌≡◌, ◌<◌, ◌≤◌, ◌+◌, ◌-◌, ◌++◌, ◌∷◌, [], ◌∙◌, ap, arith, drop, length, map, replicate, rules, set, subst, sym, take}
+use Rattle.std.proofs.Common.{◌≡◌, ◌<◌, ◌≤◌, ◌+◌, ◌-◌, ◌++◌, ◌∷◌, [], ◌∙◌, ap, arith, drop, length, map, replicate}
+use Rattle.std.proofs.Common.{rules, set, subst, sym, take}
 use Rattle.std.proofs.Math.Seq.{take-length}
 use Rattle.std.proofs.lemmas.Bool.{and_parts, leb-true, ltb-true}
 use Rattle.std.proofs.lemmas.List.{get_or_default, length-map}
@@ -55,7 +56,8 @@ loop-number-preserved c =
       | else-is_of w ↦
           rw w.ledgers-is
           (slice_stay positions records named known ids first count c.requires.within i r ledgers lt at was
-          (other_account positions records named known ids first count c.requires.within ledgers r (sym c.is_of.ensures ∙ w.if-is_of.false)))
+          (other_account positions records named known ids first count c.requires.within ledgers r
+          (sym c.is_of.ensures ∙ w.if-is_of.false)))
     ]
 
 pub returns : goal.returns
