@@ -1,6 +1,5 @@
 //! The faults of a single record: its kind, its number of fields, and their forms and ranges.
 ghost use Rattle.std.specs.Prelude.{◌≡◌, ◌++◌, IfOk, MatchResult, OnOk, Some};
-ghost use Rattle.csv.specs.Records.{fields_of};
 ghost use Rattle.span_csv.specs.near.Checks.{IsFaultOf, IsFree, field_faults, kind_faults};
 ghost use Rattle.span_csv.specs.near.Grammar.{FitsKind, HasValues};
 ghost use Rattle.span_csv.specs.ParamFaults.{is_set};
@@ -8,22 +7,21 @@ ghost use Rattle.span_csv.specs.Records.{kind_of};
 
 use crate::faults::ParamFault;
 use crate::grammar::{FieldTest, Kind, fits, kind_named};
-use crate::rows::text_at;
-use csv::ByteRecord;
+use crate::row::{Row, text_at};
 use span_tables::limits::SCENARIOS;
 
 /// Whether a record is a SET.
-pub(crate) fn is_set(row: &ByteRecord) -> bool
-    ensures { result ≡ is_set (fields_of row.now) }
+pub(crate) fn is_set(row: &Row) -> bool
+    ensures { result ≡ is_set row.now }
 {
     text_at(row, 0) == b"SET".as_slice()
 }
 
 // The kind of a record, which is a SET where it is the first, and nowhere else.
-fn check_kind(first: bool, at: usize, row: &ByteRecord) -> Result<Kind, ParamFault>
+fn check_kind(first: bool, at: usize, row: &Row) -> Result<Kind, ParamFault>
     ensures { MatchResult result
-        (λ kind. (kind_of (fields_of row.now) ≡ Some kind) × IsFree (kind_faults first (fields_of row.now)))
-        (λ e. IsFaultOf (kind_faults first (fields_of row.now)) at e) }
+        (λ kind. (kind_of row.now ≡ Some kind) × IsFree (kind_faults first row.now))
+        (λ e. IsFaultOf (kind_faults first row.now) at e) }
 {
     let set = is_set(row);
     if first && !set {
@@ -43,14 +41,14 @@ fn check_fields(
     at: usize,
     profile: u8,
     kind: Kind,
-    row: &ByteRecord,
+    row: &Row,
     values: &mut [i64; SCENARIOS],
 ) -> Result<(), ParamFault>
-    requires { kind_of (fields_of row.now) ≡ Some kind }
-    ensures values { OnOk result (HasValues kind (fields_of row.now) values.new) }
+    requires { kind_of row.now ≡ Some kind }
+    ensures values { OnOk result (HasValues kind row.now values.new) }
     ensures told { MatchResult result
-        (λ _. FitsKind kind (fields_of row.now) × IsFree (field_faults profile (fields_of row.now)))
-        (λ e. IsFaultOf (field_faults profile (fields_of row.now)) at e) }
+        (λ _. FitsKind kind row.now × IsFree (field_faults profile row.now))
+        (λ e. IsFaultOf (field_faults profile row.now) at e) }
 {
     let Some(layout) = kind.layout(profile, row) else {
         return Err(ParamFault::FieldCount { at });
@@ -75,14 +73,14 @@ pub(crate) fn check_form(
     first: bool,
     at: usize,
     profile: u8,
-    row: &ByteRecord,
+    row: &Row,
     values: &mut [i64; SCENARIOS],
 ) -> Result<Kind, ParamFault>
-    ensures values { IfOk result (λ kind. HasValues kind (fields_of row.now) values.new) }
+    ensures values { IfOk result (λ kind. HasValues kind row.now values.new) }
     ensures kind { MatchResult result
-        (λ kind. (kind_of (fields_of row.now) ≡ Some kind) × FitsKind kind (fields_of row.now))
-        (λ e. IsFaultOf (kind_faults first (fields_of row.now) ++ field_faults profile (fields_of row.now)) at e) }
-    ensures free { OnOk result (IsFree (kind_faults first (fields_of row.now) ++ field_faults profile (fields_of row.now))) }
+        (λ kind. (kind_of row.now ≡ Some kind) × FitsKind kind row.now)
+        (λ e. IsFaultOf (kind_faults first row.now ++ field_faults profile row.now) at e) }
+    ensures free { OnOk result (IsFree (kind_faults first row.now ++ field_faults profile row.now)) }
 {
     let kind = check_kind(first, at, row)?;
     check_fields(at, profile, kind, row, values)?;

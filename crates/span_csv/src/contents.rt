@@ -1,6 +1,5 @@
 //! What a record says, whose fields have their forms.
 ghost use Rattle.std.specs.Prelude.{◌≡◌, ◌+◌, ◌<◌, ◌^◌, drop, map, true};
-ghost use Rattle.csv.specs.Records.{fields_of};
 ghost use Rattle.span_csv.specs.near.Grammar.{array_values, FitsKind, HasValues, leg_at};
 ghost use Rattle.span_csv.specs.Records.{commodity_record, contract_record, count_at, extras_in, inter_leg};
 ghost use Rattle.span_csv.specs.Records.{inter_record, intra_leg, intra_record, legs_of, ratio_at, record_of_kind, set_record};
@@ -14,18 +13,18 @@ use crate::fields::{
     scale_at, side_at,
 };
 use crate::grammar::Kind;
+use crate::row::Row;
 use crate::rows::EXTRAS;
 use arrayvec::ArrayVec;
-use csv::ByteRecord;
 use span_tables::limits::SCENARIOS;
 use span_tables::records::{
     Commodity, Contract, ContractExtras, InterLeg, InterRecord, IntraLeg, IntraRecord, Record,
     SetRecord, Spot, Tier,
 };
 
-fn set_record(row: &ByteRecord) -> SetRecord
-    requires { FitsKind kind.Set (fields_of row.now) }
-    ensures { result ≡ set_record (fields_of row.now) }
+fn set_record(row: &Row) -> SetRecord
+    requires { FitsKind kind.Set row.now }
+    ensures { result ≡ set_record row.now }
 {
     SetRecord {
         id: name_at(row, 1),
@@ -34,9 +33,9 @@ fn set_record(row: &ByteRecord) -> SetRecord
     }
 }
 
-fn commodity_record(row: &ByteRecord) -> Commodity
-    requires { FitsKind kind.Commodity (fields_of row.now) }
-    ensures { result ≡ commodity_record (fields_of row.now) }
+fn commodity_record(row: &Row) -> Commodity
+    requires { FitsKind kind.Commodity row.now }
+    ensures { result ≡ commodity_record row.now }
 {
     Commodity {
         id: name_at(row, 1),
@@ -46,9 +45,9 @@ fn commodity_record(row: &ByteRecord) -> Commodity
 }
 
 // What the profile adds: nothing where the record ends with its risk array.
-fn extras(row: &ByteRecord) -> ContractExtras
-    requires { count_at (fields_of row.now) EXTRAS < 2 ^ 32 }
-    ensures { result ≡ extras_in (fields_of row.now) }
+fn extras(row: &Row) -> ContractExtras
+    requires { count_at row.now EXTRAS < 2 ^ 32 }
+    ensures { result ≡ extras_in row.now }
 {
     if row.len() <= EXTRAS {
         return ContractExtras::none();
@@ -58,10 +57,10 @@ fn extras(row: &ByteRecord) -> ContractExtras
     }
 }
 
-fn contract_record(row: &ByteRecord, values: &[i64; SCENARIOS]) -> Contract
-    requires fits { FitsKind kind.Contract (fields_of row.now) }
-    requires values { values.now ≡ array_values (fields_of row.now) }
-    ensures { result ≡ contract_record (fields_of row.now) }
+fn contract_record(row: &Row, values: &[i64; SCENARIOS]) -> Contract
+    requires fits { FitsKind kind.Contract row.now }
+    requires values { values.now ≡ array_values row.now }
+    ensures { result ≡ contract_record row.now }
 {
     Contract {
         id: name_at(row, 1),
@@ -75,9 +74,9 @@ fn contract_record(row: &ByteRecord, values: &[i64; SCENARIOS]) -> Contract
     }
 }
 
-fn tier_record(row: &ByteRecord) -> Tier
-    requires { FitsKind kind.Tier (fields_of row.now) }
-    ensures { result ≡ tier_record (fields_of row.now) }
+fn tier_record(row: &Row) -> Tier
+    requires { FitsKind kind.Tier row.now }
+    ensures { result ≡ tier_record row.now }
 {
     Tier {
         commodity: name_at(row, 1),
@@ -88,11 +87,11 @@ fn tier_record(row: &ByteRecord) -> Tier
 }
 
 // The leg whose fields begin at a place.
-fn intra_leg(row: &ByteRecord, at: usize) -> IntraLeg
+fn intra_leg(row: &Row, at: usize) -> IntraLeg
     requires inside { at + 2 < 2 ^ 64 }
-    requires tier { count_at (fields_of row.now) at < 2 ^ 32 }
-    requires ratio { ratio_at (fields_of row.now) (at + 2) < 2 ^ 32 }
-    ensures { result ≡ intra_leg (leg_at (fields_of row.now) at) }
+    requires tier { count_at row.now at < 2 ^ 32 }
+    requires ratio { ratio_at row.now (at + 2) < 2 ^ 32 }
+    ensures { result ≡ intra_leg (leg_at row.now at) }
 {
     IntraLeg {
         tier: count_at(row, at),
@@ -101,9 +100,9 @@ fn intra_leg(row: &ByteRecord, at: usize) -> IntraLeg
     }
 }
 
-fn intra_legs(row: &ByteRecord) -> ArrayVec<IntraLeg, 4>
-    requires { FitsKind kind.Intra (fields_of row.now) }
-    ensures { result.items ≡ map intra_leg (legs_of (drop 4 (fields_of row.now))) }
+fn intra_legs(row: &Row) -> ArrayVec<IntraLeg, 4>
+    requires { FitsKind kind.Intra row.now }
+    ensures { result.items ≡ map intra_leg (legs_of (drop 4 row.now)) }
 {
     let mut legs = ArrayVec::new();
     for i in 0..(row.len() - 4) / 3 {
@@ -112,9 +111,9 @@ fn intra_legs(row: &ByteRecord) -> ArrayVec<IntraLeg, 4>
     legs
 }
 
-fn intra_record(row: &ByteRecord) -> IntraRecord
-    requires { FitsKind kind.Intra (fields_of row.now) }
-    ensures { result ≡ intra_record (fields_of row.now) }
+fn intra_record(row: &Row) -> IntraRecord
+    requires { FitsKind kind.Intra row.now }
+    ensures { result ≡ intra_record row.now }
 {
     IntraRecord {
         commodity: name_at(row, 1),
@@ -124,9 +123,9 @@ fn intra_record(row: &ByteRecord) -> IntraRecord
     }
 }
 
-fn spot_record(row: &ByteRecord) -> Spot
-    requires { FitsKind kind.Spot (fields_of row.now) }
-    ensures { result ≡ spot_record (fields_of row.now) }
+fn spot_record(row: &Row) -> Spot
+    requires { FitsKind kind.Spot row.now }
+    ensures { result ≡ spot_record row.now }
 {
     Spot {
         commodity: name_at(row, 1),
@@ -137,11 +136,11 @@ fn spot_record(row: &ByteRecord) -> Spot
 }
 
 // The leg whose fields begin at a place.
-fn inter_leg(row: &ByteRecord, at: usize) -> InterLeg
+fn inter_leg(row: &Row, at: usize) -> InterLeg
     requires inside { at + 2 < 2 ^ 64 }
-    requires commodity { is_name (text_at (fields_of row.now) at) ≡ true }
-    requires ratio { ratio_at (fields_of row.now) (at + 2) < 2 ^ 32 }
-    ensures { result ≡ inter_leg (leg_at (fields_of row.now) at) }
+    requires commodity { is_name (text_at row.now at) ≡ true }
+    requires ratio { ratio_at row.now (at + 2) < 2 ^ 32 }
+    ensures { result ≡ inter_leg (leg_at row.now at) }
 {
     InterLeg {
         commodity: name_at(row, at),
@@ -150,9 +149,9 @@ fn inter_leg(row: &ByteRecord, at: usize) -> InterLeg
     }
 }
 
-fn inter_legs(row: &ByteRecord) -> ArrayVec<InterLeg, 4>
-    requires { FitsKind kind.Inter (fields_of row.now) }
-    ensures { result.items ≡ map inter_leg (legs_of (drop 3 (fields_of row.now))) }
+fn inter_legs(row: &Row) -> ArrayVec<InterLeg, 4>
+    requires { FitsKind kind.Inter row.now }
+    ensures { result.items ≡ map inter_leg (legs_of (drop 3 row.now)) }
 {
     let mut legs = ArrayVec::new();
     for i in 0..(row.len() - 3) / 3 {
@@ -161,9 +160,9 @@ fn inter_legs(row: &ByteRecord) -> ArrayVec<InterLeg, 4>
     legs
 }
 
-fn inter_record(row: &ByteRecord) -> InterRecord
-    requires { FitsKind kind.Inter (fields_of row.now) }
-    ensures { result ≡ inter_record (fields_of row.now) }
+fn inter_record(row: &Row) -> InterRecord
+    requires { FitsKind kind.Inter row.now }
+    ensures { result ≡ inter_record row.now }
 {
     InterRecord {
         priority: count_at(row, 1),
@@ -173,10 +172,10 @@ fn inter_record(row: &ByteRecord) -> InterRecord
 }
 
 /// What a record of a kind says. The values are those of the risk array of a CONTRACT, which were read before.
-pub(crate) fn record_of_kind(kind: Kind, row: &ByteRecord, values: &[i64; SCENARIOS]) -> Record
-    requires fits { FitsKind kind (fields_of row.now) }
-    requires values { HasValues kind (fields_of row.now) values.now }
-    ensures { result ≡ record_of_kind kind (fields_of row.now) }
+pub(crate) fn record_of_kind(kind: Kind, row: &Row, values: &[i64; SCENARIOS]) -> Record
+    requires fits { FitsKind kind row.now }
+    requires values { HasValues kind row.now values.now }
+    ensures { result ≡ record_of_kind kind row.now }
 {
     match kind {
         Kind::Set => Record::Set(set_record(row)),

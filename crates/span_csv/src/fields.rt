@@ -1,12 +1,10 @@
 //! What a field says that has its form.
 ghost use Rattle.std.specs.Prelude.{◌≡◌, ◌<◌, ◌^◌, length, nat_abs, true};
-ghost use Rattle.csv.specs.Records.{fields_of};
 ghost use Rattle.span_csv.specs.Records.{count_at, decimal_at, method_at, product_at, ratio_at, side_at, text_at, whole_at};
 ghost use Rattle.span_money.specs.Numbers.{positive_part};
 ghost use Rattle.span_tables.specs.Names.{is_name};
 
-use crate::rows::text_at;
-use csv::ByteRecord;
+use crate::row::{Row, text_at};
 use span_money::amounts::{Delta, Ratio, Scale};
 use span_money::texts::{parse_decimal, parse_whole};
 use span_tables::name::Name;
@@ -14,17 +12,17 @@ use span_tables::records::{MinimumMethod, ProductKind};
 use span_tables::sides::Side;
 
 /// The name at a place.
-pub(crate) fn name_at(row: &ByteRecord, i: usize) -> Name
-    requires { is_name (text_at (fields_of row.now) i) ≡ true }
-    ensures { result ≡ text_at (fields_of row.now) i }
+pub(crate) fn name_at(row: &Row, i: usize) -> Name
+    requires { is_name (text_at row.now i) ≡ true }
+    ensures { result ≡ text_at row.now i }
 {
     Name::new(text_at(row, i)).unwrap()
 }
 
 /// The currency at a place.
-pub(crate) fn currency_at(row: &ByteRecord, i: usize) -> [u8; 3]
-    requires { length (text_at (fields_of row.now) i) ≡ 3 }
-    ensures { result ≡ text_at (fields_of row.now) i }
+pub(crate) fn currency_at(row: &Row, i: usize) -> [u8; 3]
+    requires { length (text_at row.now i) ≡ 3 }
+    ensures { result ≡ text_at row.now i }
 {
     let mut currency = [0; 3];
     currency.copy_from_slice(text_at(row, i));
@@ -32,8 +30,8 @@ pub(crate) fn currency_at(row: &ByteRecord, i: usize) -> [u8; 3]
 }
 
 /// The kind of contract at a place.
-pub(crate) fn product_at(row: &ByteRecord, i: usize) -> ProductKind
-    ensures { result ≡ product_at (fields_of row.now) i }
+pub(crate) fn product_at(row: &Row, i: usize) -> ProductKind
+    ensures { result ≡ product_at row.now i }
 {
     match text_at(row, i) {
         b"F" => ProductKind::Future,
@@ -43,8 +41,8 @@ pub(crate) fn product_at(row: &ByteRecord, i: usize) -> ProductKind
 }
 
 /// The method at a place.
-pub(crate) fn method_at(row: &ByteRecord, i: usize) -> MinimumMethod
-    ensures { result ≡ method_at (fields_of row.now) i }
+pub(crate) fn method_at(row: &Row, i: usize) -> MinimumMethod
+    ensures { result ≡ method_at row.now i }
 {
     match text_at(row, i) {
         b"SUM" => MinimumMethod::Sum,
@@ -53,8 +51,8 @@ pub(crate) fn method_at(row: &ByteRecord, i: usize) -> MinimumMethod
 }
 
 /// The side at a place.
-pub(crate) fn side_at(row: &ByteRecord, i: usize) -> Side
-    ensures { result ≡ side_at (fields_of row.now) i }
+pub(crate) fn side_at(row: &Row, i: usize) -> Side
+    ensures { result ≡ side_at row.now i }
 {
     match text_at(row, i) {
         b"A" => Side::A,
@@ -70,61 +68,61 @@ fn positive_part(n: i64) -> u64
 }
 
 // The whole number at a place, or 0.
-fn whole_at(row: &ByteRecord, i: usize) -> i64
-    ensures { result ≡ whole_at (fields_of row.now) i }
+fn whole_at(row: &Row, i: usize) -> i64
+    ensures { result ≡ whole_at row.now i }
 {
     parse_whole(text_at(row, i)).unwrap_or(0)
 }
 
 /// The whole number at a place, which is not negative.
-pub(crate) fn count_at(row: &ByteRecord, i: usize) -> u32
-    requires { count_at (fields_of row.now) i < 2 ^ 32 }
-    ensures { result ≡ count_at (fields_of row.now) i }
+pub(crate) fn count_at(row: &Row, i: usize) -> u32
+    requires { count_at row.now i < 2 ^ 32 }
+    ensures { result ≡ count_at row.now i }
 {
     positive_part(whole_at(row, i)) as u32
 }
 
 /// The profile that the version at a place tells.
-pub(crate) fn profile_at(row: &ByteRecord, i: usize) -> u8
-    requires { count_at (fields_of row.now) i < 2 ^ 8 }
-    ensures { result ≡ count_at (fields_of row.now) i }
+pub(crate) fn profile_at(row: &Row, i: usize) -> u8
+    requires { count_at row.now i < 2 ^ 8 }
+    ensures { result ≡ count_at row.now i }
 {
     count_at(row, i) as u8
 }
 
-fn decimal_at(row: &ByteRecord, i: usize) -> i64
-    ensures { result ≡ decimal_at (fields_of row.now) i }
+fn decimal_at(row: &Row, i: usize) -> i64
+    ensures { result ≡ decimal_at row.now i }
 {
     parse_decimal(text_at(row, i)).unwrap_or(0)
 }
 
-fn ten_thousandths_at(row: &ByteRecord, i: usize) -> u32
-    requires { ratio_at (fields_of row.now) i < 2 ^ 32 }
-    ensures { result ≡ ratio_at (fields_of row.now) i }
+fn ten_thousandths_at(row: &Row, i: usize) -> u32
+    requires { ratio_at row.now i < 2 ^ 32 }
+    ensures { result ≡ ratio_at row.now i }
 {
     positive_part(decimal_at(row, i)) as u32
 }
 
 /// The delta at a place.
-pub(crate) fn delta_at(row: &ByteRecord, i: usize) -> Delta
-    requires { nat_abs (decimal_at (fields_of row.now) i) < 2 ^ 31 }
-    ensures { result ≡ decimal_at (fields_of row.now) i }
+pub(crate) fn delta_at(row: &Row, i: usize) -> Delta
+    requires { nat_abs (decimal_at row.now i) < 2 ^ 31 }
+    ensures { result ≡ decimal_at row.now i }
 {
     Delta::new(decimal_at(row, i) as i32)
 }
 
 /// The scale at a place.
-pub(crate) fn scale_at(row: &ByteRecord, i: usize) -> Scale
-    requires { ratio_at (fields_of row.now) i < 2 ^ 32 }
-    ensures { result ≡ ratio_at (fields_of row.now) i }
+pub(crate) fn scale_at(row: &Row, i: usize) -> Scale
+    requires { ratio_at row.now i < 2 ^ 32 }
+    ensures { result ≡ ratio_at row.now i }
 {
     Scale::new(ten_thousandths_at(row, i))
 }
 
 /// The ratio at a place.
-pub(crate) fn ratio_at(row: &ByteRecord, i: usize) -> Ratio
-    requires { ratio_at (fields_of row.now) i < 2 ^ 32 }
-    ensures { result ≡ ratio_at (fields_of row.now) i }
+pub(crate) fn ratio_at(row: &Row, i: usize) -> Ratio
+    requires { ratio_at row.now i < 2 ^ 32 }
+    ensures { result ≡ ratio_at row.now i }
 {
     Ratio::new(ten_thousandths_at(row, i))
 }

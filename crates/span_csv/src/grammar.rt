@@ -3,7 +3,6 @@ ghost use Rattle.std.specs.Char.{is_ascii_uppercase};
 ghost use Rattle.std.specs.List.{list_all, repeat};
 ghost use Rattle.std.specs.Prelude.{◌≡◌, ◌≤◌, ◌<◌, ◌&&◌, ◌++◌, ◌==◌, ◌+◌, ◌-◌, ◌^◌, [], IfSome, Some, drop, length};
 ghost use Rattle.std.specs.Prelude.{replicate, slice_index_or, take, true};
-ghost use Rattle.csv.specs.Records.{fields_of};
 ghost use Rattle.span_csv.specs.near.Grammar.{array_values, HasValues, passes};
 ghost use Rattle.span_csv.specs.Records.{all_have, contract_back, contract_forms, forms_of, has_number_form, has_word_form};
 ghost use Rattle.span_csv.specs.Records.{an_array_value, array_place, is_in_range, is_within, kind_named, product_at, with_legs};
@@ -11,8 +10,8 @@ ghost use Rattle.span_csv.specs.declared.rows.TheConstants.{EXTRAS};
 ghost use Rattle.span_csv.specs.declared.grammar.FieldTest.TheVariants as field_test;
 
 use crate::fields::product_at;
-use crate::rows::{EXTRAS, FIRST_VALUE, field, text_at};
-use csv::ByteRecord;
+use crate::row::{Row, field, text_at};
+use crate::rows::{EXTRAS, FIRST_VALUE};
 use span_money::texts::{is_month, parse_decimal, parse_month, parse_whole};
 use span_tables::limits::{
     MAX_ARRAY_VALUE, MAX_BASIS_POINTS, MAX_DELTA, MAX_OPTION_VALUE, MAX_PRIORITY, MAX_PROFILE,
@@ -235,10 +234,10 @@ fn with_legs(
 }
 
 // Whether each field from a place on passes the test of its form, one for each form.
-fn all_from(test: FieldTest, forms: &[FieldForm], row: &ByteRecord, place: usize) -> bool
-    requires room { place + length forms.now ≤ length (fields_of row.now) }
+fn all_from(test: FieldTest, forms: &[FieldForm], row: &Row, place: usize) -> bool
+    requires room { place + length forms.now ≤ length row.now }
     requires small { place + length forms.now < 2 ^ 64 }
-    ensures { result ≡ all_have (passes test) forms.now (drop place (fields_of row.now)) }
+    ensures { result ≡ all_have (passes test) forms.now (drop place row.now) }
 {
     for (i, form) in forms.iter().enumerate() {
         if !form.passes(test, text_at(row, place + i)) {
@@ -249,10 +248,10 @@ fn all_from(test: FieldTest, forms: &[FieldForm], row: &ByteRecord, place: usize
 }
 
 // Whether each value of a risk array is a number in its range. If so, `values` has them.
-fn read_values(row: &ByteRecord, values: &mut [i64; SCENARIOS]) -> bool
-    requires { EXTRAS ≤ length (fields_of row.now) }
-    ensures told { result ≡ list_all (passes field_test.All an_array_value) (take SCENARIOS (drop array_place (fields_of row.now))) }
-    ensures values { result ≡ true → values.new ≡ array_values (fields_of row.now) }
+fn read_values(row: &Row, values: &mut [i64; SCENARIOS]) -> bool
+    requires { EXTRAS ≤ length row.now }
+    ensures told { result ≡ list_all (passes field_test.All an_array_value) (take SCENARIOS (drop array_place row.now)) }
+    ensures values { result ≡ true → values.new ≡ array_values row.now }
 {
     for i in 0..SCENARIOS {
         let value = parse_whole(field(row, FIRST_VALUE + i));
@@ -265,11 +264,11 @@ fn read_values(row: &ByteRecord, values: &mut [i64; SCENARIOS]) -> bool
 }
 
 // Whether each field of a CONTRACT behind the first passes all tests of its form. If so, `values` has those of its risk array.
-fn fits_contract(profile: u8, row: &ByteRecord, values: &mut [i64; SCENARIOS]) -> bool
-    requires { length (fields_of row.now) ≡ length (contract_forms profile (product_at (fields_of row.now) 3)) + 1 }
+fn fits_contract(profile: u8, row: &Row, values: &mut [i64; SCENARIOS]) -> bool
+    requires { length row.now ≡ length (contract_forms profile (product_at row.now 3)) + 1 }
     ensures told { result
-        ≡ all_have (passes field_test.All) (contract_forms profile (product_at (fields_of row.now) 3)) (drop 1 (fields_of row.now)) }
-    ensures values { result ≡ true → values.new ≡ array_values (fields_of row.now) }
+        ≡ all_have (passes field_test.All) (contract_forms profile (product_at row.now 3)) (drop 1 row.now) }
+    ensures values { result ≡ true → values.new ≡ array_values row.now }
 {
     if !all_from(FieldTest::All, &CONTRACT_FRONT, row, 1) {
         return false;
@@ -283,7 +282,6 @@ fn fits_contract(profile: u8, row: &ByteRecord, values: &mut [i64; SCENARIOS]) -
 
 impl Layout {
     ghost use Rattle.std.specs.Prelude.{◌≡◌, ◌+◌, drop, length};
-    ghost use Rattle.csv.specs.Records.{fields_of};
     ghost use Rattle.span_csv.specs.near.Grammar.{passes};
     ghost use Rattle.span_csv.specs.Records.{all_have, exactly};
 
@@ -307,9 +305,9 @@ impl Layout {
     }
 
     /// Whether each field behind the first passes the test of its form.
-    pub(crate) fn all_have(&self, test: FieldTest, row: &ByteRecord) -> bool
-        requires { length (fields_of row.now) ≡ length self.now + 1 }
-        ensures { result ≡ all_have (passes test) self.now (drop 1 (fields_of row.now)) }
+    pub(crate) fn all_have(&self, test: FieldTest, row: &Row) -> bool
+        requires { length row.now ≡ length self.now + 1 }
+        ensures { result ≡ all_have (passes test) self.now (drop 1 row.now) }
     {
         let middle = 1 + self.front.len();
         let back = middle + self.middle.len();
@@ -325,10 +323,10 @@ impl Layout {
 
 impl Kind {
     /// The forms of a record's fields behind the first under a profile, if the kind may have so many of them.
-    pub(crate) fn layout(self, profile: u8, row: &ByteRecord) -> Option<Layout>
-        requires { 1 ≤ length (fields_of row.now) }
-        ensures value { result ≡ forms_of self profile (product_at (fields_of row.now) 3) (length (fields_of row.now) - 1) }
-        ensures count { IfSome result (λ forms. length (fields_of row.now) ≡ length forms + 1) }
+    pub(crate) fn layout(self, profile: u8, row: &Row) -> Option<Layout>
+        requires { 1 ≤ length row.now }
+        ensures value { result ≡ forms_of self profile (product_at row.now 3) (length row.now - 1) }
+        ensures count { IfSome result (λ forms. length row.now ≡ length forms + 1) }
     {
         let fields = row.len() - 1;
         match self {
@@ -349,13 +347,13 @@ pub(crate) fn fits(
     kind: Kind,
     profile: u8,
     layout: &Layout,
-    row: &ByteRecord,
+    row: &Row,
     values: &mut [i64; SCENARIOS],
 ) -> bool
-    requires found { forms_of kind profile (product_at (fields_of row.now) 3) (length (fields_of row.now) - 1) ≡ Some layout.now }
-    requires count { length (fields_of row.now) ≡ length layout.now + 1 }
-    ensures told { result ≡ all_have (passes field_test.All) layout.now (drop 1 (fields_of row.now)) }
-    ensures values { result ≡ true → HasValues kind (fields_of row.now) values.new }
+    requires found { forms_of kind profile (product_at row.now 3) (length row.now - 1) ≡ Some layout.now }
+    requires count { length row.now ≡ length layout.now + 1 }
+    ensures told { result ≡ all_have (passes field_test.All) layout.now (drop 1 row.now) }
+    ensures values { result ≡ true → HasValues kind row.now values.new }
 {
     match kind {
         Kind::Contract => fits_contract(profile, row, values),

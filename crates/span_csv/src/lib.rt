@@ -18,6 +18,7 @@ pub mod pieces;
 mod plain_positions;
 pub mod position_laws;
 pub mod positions;
+mod row;
 mod rows;
 mod tally;
 pub mod together;

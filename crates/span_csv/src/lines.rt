@@ -1,11 +1,14 @@
 //! The records of bytes that have no double quote and no carriage return: each line that is not empty is one, and each comma in it ends a
 //! field.
-ghost use Rattle.std.specs.Prelude.{◌≡◌, ◌∷◌, [], ◌<◌, IfOk, MatchBool, length, true};
+ghost use Rattle.std.specs.Prelude.{◌≡◌, ◌∷◌, [], ◌<◌, IfOk, MatchBool, length, true, IfSome};
 ghost use Rattle.csv.specs.Reading.{strip_bom};
 ghost use Rattle.csv.specs.Records.{fields_of, partial_of};
 ghost use Rattle.csv.specs.declared.parser.State.TheVariants as state;
-ghost use Rattle.span_csv.specs.near.Rows.{rows, rows_in, AreLines};
+ghost use Rattle.memchr.specs.Find.{is_byte2, IsFirstByte};
+ghost use Rattle.span_csv.specs.near.Rows.{rows, rows_in, texts_of, AreLines};
 
+use crate::row::{LENT_FIELDS, Row};
+use arrayvec::ArrayVec;
 use csv::ByteRecord;
 use memchr::memchr2;
 use std::alloc::AllocError;
@@ -46,15 +49,54 @@ fn without_empty_lines(bytes: &[u8]) -> &[u8]
     left
 }
 
-// Appends the fields of the line in front to a row. Returns the bytes behind the line.
-fn push_fields<'a>(row: &mut ByteRecord, bytes: &'a [u8]) -> Result<&'a [u8], AllocError>
+// Where the first comma or line feed is.
+fn field_end(bytes: &[u8]) -> Option<usize>
+    ensures { IsFirstByte (is_byte2 44 10) bytes.now result }
+{
+    bytes
+        .iter()
+        .position(|byte| *byte == b',' || *byte == b'\n')
+}
+
+/// Lends the fields of the line in front, behind those that are there. Returns the bytes behind the line, or `None` if there are more fields
+/// than are lent.
+pub(crate) fn lend_fields<'a>(
+    fields: &mut ArrayVec<&'a [u8], LENT_FIELDS>,
+    bytes: &'a [u8],
+) -> Option<&'a [u8]>
+    requires { AreLines bytes.now }
+    ensures lines { IfSome result (λ rest. AreLines rest.now) }
+    ensures row { IfSome result (λ rest. rows state.StartField (texts_of fields.old.items) [] bytes.now
+        ≡ texts_of fields.new.items ∷ rows_in rest.now) }
+{
+    let mut left = bytes;
+    while let Some(end) = field_end(left) {
+        if fields.is_full() {
+            return None;
+        }
+        fields.push(&left[..end]);
+        let ends_line = left[end] == b'\n';
+        left = &left[end + 1..];
+        if ends_line {
+            return Some(left);
+        }
+    }
+    if fields.is_full() {
+        return None;
+    }
+    fields.push(left);
+    Some(&[])
+}
+
+/// Appends the fields of the line in front to a row. Returns the bytes behind the line.
+pub(crate) fn push_fields<'a>(row: &mut ByteRecord, bytes: &'a [u8]) -> Result<&'a [u8], AllocError>
     requires lines { AreLines bytes.now }
     requires whole { partial_of row.old ≡ [] }
     ensures lines { IfOk result (λ rest. AreLines rest.now) }
     ensures row { IfOk result (λ rest. rows state.StartField (fields_of row.old) [] bytes.now ≡ fields_of row.new ∷ rows_in rest.now) }
 {
     let mut left = bytes;
-    while let Some(end) = memchr2(b',', b'\n', left) {
+    while let Some(end) = field_end(left) {
         row.push_field(&left[..end])?;
         let ends_line = left[end] == b'\n';
         left = &left[end + 1..];
@@ -67,9 +109,9 @@ fn push_fields<'a>(row: &mut ByteRecord, bytes: &'a [u8]) -> Result<&'a [u8], Al
 }
 
 /// The record in front of what is left into `row`, and whether there was one.
-pub(crate) fn next_line(left: &mut &[u8], row: &mut ByteRecord) -> Result<bool, AllocError>
+pub(crate) fn next_line<'a>(left: &mut &'a [u8], row: &mut Row<'a>) -> Result<bool, AllocError>
     requires { AreLines left.old.now }
-    ensures found { IfOk result (λ found. MatchBool found (rows_in left.old.now ≡ fields_of row.new ∷ rows_in left.new.now)
+    ensures found { IfOk result (λ found. MatchBool found (rows_in left.old.now ≡ row.new ∷ rows_in left.new.now)
         (rows_in left.old.now ≡ [])) }
     ensures lines { AreLines left.new.now }
 {
@@ -77,7 +119,6 @@ pub(crate) fn next_line(left: &mut &[u8], row: &mut ByteRecord) -> Result<bool, 
     if bytes.is_empty() {
         return Ok(false);
     }
-    row.clear();
-    *left = push_fields(row, bytes)?;
+    *left = row.take_line(bytes)?;
     Ok(true)
 }

@@ -1,7 +1,6 @@
 //! Records with a name in front that numbers them: a position's account, or an order, which stands in place of an account.
 ghost use Rattle.std.specs.Prelude.{◌≡◌, ◌+◌, ◌<◌, ◌++◌, ◌∷◌, [], ◌≤◌, ⊤, ℕ, IfOk, IsTrue, ◌↔◌, MatchBool};
 ghost use Rattle.std.specs.Prelude.{cond, MatchResult, OnOk, Ok, Err, Some, false, length, nat_abs, slice_get, true};
-ghost use Rattle.csv.specs.Records.{fields_of};
 ghost use Rattle.span_money.specs.Numbers.{whole_number};
 ghost use Rattle.span_csv.specs.PositionFaults.{is_memory};
 ghost use Rattle.span_csv.specs.Records.{text_at};
@@ -13,8 +12,7 @@ ghost use Rattle.span_tables.specs.near.Positions.{named_position, named_positio
 ghost use Rattle.span_tables.specs.declared.limits.TheConstants.{MAX_ORDERS, MAX_QUANTITY};
 
 use crate::faults::PositionFault;
-use crate::rows::{field, text_at};
-use csv::ByteRecord;
+use crate::row::{Row, field, text_at};
 use indexmap::IndexSet;
 use span_money::texts::parse_whole;
 use span_tables::limits::MAX_QUANTITY;
@@ -52,12 +50,12 @@ fn known_names(stands: bool) -> usize
 
 // Whether so many fields in front are names, of which the first `tested` are known to be.
 #[inline(always)]
-fn are_names(row: &ByteRecord, tested: usize, names: usize) -> bool
+fn are_names(row: &Row, tested: usize, names: usize) -> bool
     requires few { tested ≤ names }
-    requires room { names ≤ length (fields_of row.now) }
-    requires tested { are_names tested (fields_of row.now) ≡ true }
-    ensures value { result ≡ are_names names (fields_of row.now) }
-    ensures each { result ≡ true → (i : ℕ) → i < names → is_name (text_at (fields_of row.now) i) ≡ true }
+    requires room { names ≤ length row.now }
+    requires tested { are_names tested row.now ≡ true }
+    ensures value { result ≡ are_names names row.now }
+    ensures each { result ≡ true → (i : ℕ) → i < names → is_name (text_at row.now i) ≡ true }
 {
     for i in tested..names {
         if !is_name(field(row, i)) {
@@ -74,14 +72,14 @@ pub(crate) fn quantity(
     names: usize,
     tested: usize,
     at: usize,
-    row: &ByteRecord,
+    row: &Row,
 ) -> Result<i32, PositionFault>
     requires few { names ≤ 3 }
     requires front { tested ≤ names }
-    requires tested { are_names tested (fields_of row.now) ≡ true }
-    ensures value { result ≡ quantity_alone names at (fields_of row.now) }
-    ensures fields { OnOk result (length (fields_of row.now) ≡ names + 1) }
-    ensures named { OnOk result ((i : ℕ) → i < names → is_name (text_at (fields_of row.now) i) ≡ true) }
+    requires tested { are_names tested row.now ≡ true }
+    ensures value { result ≡ quantity_alone names at row.now }
+    ensures fields { OnOk result (length row.now ≡ names + 1) }
+    ensures named { OnOk result ((i : ℕ) → i < names → is_name (text_at row.now i) ≡ true) }
     ensures size { IfOk result (λ quantity. nat_abs quantity ≤ MAX_QUANTITY) }
 {
     if row.len() != names + 1 {
@@ -171,7 +169,7 @@ pub(crate) fn next_position(
     most: usize,
     earlier: &[NumberedPosition],
     known: &mut IndexSet<Name>,
-    row: &ByteRecord,
+    row: &Row,
 ) -> Result<NumberedPosition, PositionFault>
     requires at_least { 1 ≤ names }
     requires at_most { names ≤ 3 }
@@ -179,16 +177,16 @@ pub(crate) fn next_position(
     requires few { length known.old.keys ≤ most }
     requires most { most ≤ MAX_ORDERS }
     ensures found { MatchResult result
-        (λ p. next_position names most (named_positions known.old.keys earlier.now) (fields_of row.now)
+        (λ p. next_position names most (named_positions known.old.keys earlier.now) row.now
         ≡ Ok (named_position known.new.keys p))
         (λ e. MatchBool (is_memory e) ⊤
-        (next_position names most (named_positions known.old.keys earlier.now) (fields_of row.now) ≡ Err e)) }
+        (next_position names most (named_positions known.old.keys earlier.now) row.now ≡ Err e)) }
     ensures named { IfOk result (λ p. named_positions known.new.keys (earlier.now ++ p ∷ [])
         ≡ named_positions known.old.keys earlier.now ++ named_position known.new.keys p ∷ []) }
     ensures numbered { IfOk result (λ p. AreNumbered known.new.keys (earlier.now ++ p ∷ [])) }
     ensures few { OnOk result (length known.new.keys ≤ most) }
-    ensures fields { OnOk result (length (fields_of row.now) ≡ names + 1) }
-    ensures names { OnOk result ((i : ℕ) → i < names → is_name (text_at (fields_of row.now) i) ≡ true) }
+    ensures fields { OnOk result (length row.now ≡ names + 1) }
+    ensures names { OnOk result ((i : ℕ) → i < names → is_name (text_at row.now i) ≡ true) }
 {
     let at = earlier.len() + 1;
     let last = last_place(earlier);

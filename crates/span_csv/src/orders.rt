@@ -1,6 +1,5 @@
 //! The reader of order files: each record is read as a position under its order's name, with the account of each order beside.
 ghost use Rattle.std.specs.Prelude.{◌≡◌, ◌≤◌, ◌++◌, ◌∷◌, [], ⊤, IfOk, MatchBool, MatchResult, OnOk, Ok, Err, false, length, true};
-ghost use Rattle.csv.specs.Records.{fields_of};
 ghost use Rattle.span_csv.specs.OrderFaults.{is_memory, orders_of};
 ghost use Rattle.span_csv.specs.declared.faults.OrderFault.TheVariants as fault;
 ghost use Rattle.span_csv.specs.near.OrderReading.{accounts_with, is_of_another, next_order, numbered_order, numbered_orders};
@@ -12,8 +11,8 @@ ghost use Rattle.span_tables.specs.declared.limits.TheConstants.{MAX_ORDERS};
 
 use crate::faults::OrderFault;
 use crate::numbered::{next_position, stands_at};
-use crate::rows::{Rows, field};
-use csv::ByteRecord;
+use crate::row::{Row, field};
+use crate::rows::Rows;
 use indexmap::IndexSet;
 use span_tables::limits::MAX_ORDERS;
 use span_tables::name::Name;
@@ -53,15 +52,15 @@ fn next_order(
     earlier: &[NumberedPosition],
     orders: &mut IndexSet<Name>,
     accounts: &mut Vec<Name>,
-    row: &ByteRecord,
+    row: &Row,
 ) -> Result<NumberedPosition, OrderFault>
     requires numbered { AreNumbered orders.old.keys earlier.now }
     requires each { length accounts.old.items ≡ length orders.old.keys }
     ensures found { MatchResult result
-        (λ p. next_order (numbered_orders orders.old.keys accounts.old.items earlier.now) (fields_of row.now)
+        (λ p. next_order (numbered_orders orders.old.keys accounts.old.items earlier.now) row.now
         ≡ Ok (numbered_order orders.new.keys accounts.new.items p))
         (λ e. MatchBool (is_memory e) ⊤
-        (next_order (numbered_orders orders.old.keys accounts.old.items earlier.now) (fields_of row.now) ≡ Err e)) }
+        (next_order (numbered_orders orders.old.keys accounts.old.items earlier.now) row.now ≡ Err e)) }
     ensures named { IfOk result (λ p. numbered_orders orders.new.keys accounts.new.items (earlier.now ++ p ∷ [])
         ≡ numbered_orders orders.old.keys accounts.old.items earlier.now
         ++ numbered_order orders.new.keys accounts.new.items p ∷ []) }
@@ -74,9 +73,9 @@ fn next_order(
 }
 
 // Reads each row that is left of a file onto `records`, and its order, where it is new, into `orders`, with its account in `accounts`.
-fn read_order_rows(
-    rows: &mut Rows,
-    row: &mut ByteRecord,
+fn read_order_rows<'a>(
+    rows: &mut Rows<'a>,
+    row: &mut Row<'a>,
     orders: &mut IndexSet<Name>,
     accounts: &mut Vec<Name>,
     records: &mut Vec<NumberedPosition>,
@@ -104,7 +103,7 @@ pub fn read_orders(alloc: Global, bytes: &[u8]) -> Result<RawOrders, OrderFault>
     ensures { Gives is_memory result (orders_of bytes.now) }
 {
     let mut rows = Rows::new(alloc, bytes);
-    let mut row = ByteRecord::new(alloc);
+    let mut row = Row::new(alloc);
     let mut orders = IndexSet::new(alloc);
     let mut accounts: Vec<Name> = Vec::new(alloc);
     let mut records: Vec<NumberedPosition> = Vec::new(alloc);

@@ -1,6 +1,5 @@
 //! The reader of parameter files.
 ghost use Rattle.std.specs.Prelude.{◌≡◌, ◌+◌, ◌<◌, ◌^◌, [], Err, IfOk, List, MatchBool, MatchResult, Ok, OnOk, length, ⊤};
-ghost use Rattle.csv.specs.Records.{fields_of};
 ghost use Rattle.span_csv.specs.near.Checks.{HasTallied, NextIs, Tallies, params_in};
 ghost use Rattle.span_csv.specs.near.Telling.{Tells};
 ghost use Rattle.span_csv.specs.ParamFaults.{faults_in, is_memory, param_faults, params_of};
@@ -10,9 +9,9 @@ ghost use Rattle.span_tables.specs.Gives.{Gives};
 use crate::checks::check_form;
 use crate::contents::record_of_kind;
 use crate::faults::ParamFault;
+use crate::row::Row;
 use crate::rows::Rows;
 use crate::tally::Tally;
-use csv::ByteRecord;
 use span_tables::limits::SCENARIOS;
 use span_tables::raw::RawTables;
 use span_tables::records::Record;
@@ -20,11 +19,11 @@ use std::alloc::{AllocError, Global};
 
 // What the record says behind `earlier` others, of which those were counted that count. It is counted itself also where it has the fault
 // that it is one too many.
-fn next_record(tally: &mut Tally, earlier: usize, row: &ByteRecord) -> Result<Record, ParamFault>
+fn next_record(tally: &mut Tally, earlier: usize, row: &Row) -> Result<Record, ParamFault>
     requires tallied { HasTallied tally.old earlier }
     requires room { earlier + 1 < 2 ^ 64 }
-    ensures judged { (rs : List Fields) → length rs ≡ earlier → Tallies tally.old rs → NextIs rs (fields_of row.now) result tally.new }
-    ensures said { IfOk result (λ x. x ≡ param_record (fields_of row.now)) }
+    ensures judged { (rs : List Fields) → length rs ≡ earlier → Tallies tally.old rs → NextIs rs row.now result tally.new }
+    ensures said { IfOk result (λ x. x ≡ param_record row.now) }
 {
     let at = earlier + 1;
     let profile = tally.profile();
@@ -40,9 +39,9 @@ fn next_record(tally: &mut Tally, earlier: usize, row: &ByteRecord) -> Result<Re
 }
 
 // Reads each row of a file onto `records`, of which there are none before.
-fn read_params_onto(
-    rows: &mut Rows,
-    row: &mut ByteRecord,
+fn read_params_onto<'a>(
+    rows: &mut Rows<'a>,
+    row: &mut Row<'a>,
     tally: &mut Tally,
     records: &mut Vec<Record>,
 ) -> Result<(), ParamFault>
@@ -67,7 +66,7 @@ pub fn read_params(alloc: Global, bytes: &[u8]) -> Result<RawTables, ParamFault>
     ensures { Gives is_memory result (params_of bytes.now) }
 {
     let mut rows = Rows::new(alloc, bytes);
-    let mut row = ByteRecord::new(alloc);
+    let mut row = Row::new(alloc);
     let mut tally = Tally::new(alloc);
     let mut records = Vec::new(alloc);
     read_params_onto(&mut rows, &mut row, &mut tally, &mut records)?;
@@ -86,9 +85,9 @@ fn tell(answer: Result<Record, ParamFault>, faults: &mut Vec<ParamFault>) -> Res
 }
 
 // Tells the fault of each row of a file onto `faults`, of which there are none before.
-fn tell_params(
-    rows: &mut Rows,
-    row: &mut ByteRecord,
+fn tell_params<'a>(
+    rows: &mut Rows<'a>,
+    row: &mut Row<'a>,
     tally: &mut Tally,
     faults: &mut Vec<ParamFault>,
 ) -> Result<(), AllocError>
@@ -114,7 +113,7 @@ pub fn param_faults(alloc: Global, bytes: &[u8]) -> Result<Vec<ParamFault>, Allo
     ensures { IfOk result (λ faults. faults.items ≡ param_faults bytes.now) }
 {
     let mut rows = Rows::new(alloc, bytes);
-    let mut row = ByteRecord::new(alloc);
+    let mut row = Row::new(alloc);
     let mut tally = Tally::new(alloc);
     let mut faults = Vec::new(alloc);
     tell_params(&mut rows, &mut row, &mut tally, &mut faults)?;

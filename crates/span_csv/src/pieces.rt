@@ -4,8 +4,8 @@ ghost use Rattle.span_csv.specs.near.Pieces.{piece_of};
 
 use crate::faults::PositionFault;
 use crate::positions::read_rows;
+use crate::row::Row;
 use crate::rows::Rows;
-use csv::ByteRecord;
 use indexmap::IndexSet;
 use span_tables::name::Name;
 use span_tables::records::NumberedPosition;
@@ -38,7 +38,7 @@ pub fn read_piece(alloc: Global, bytes: &[u8]) -> Result<Option<Piece>, AllocErr
     ensures { IfOk result (λ piece. piece ≡ piece_of bytes.now) }
 {
     let mut rows = Rows::new(alloc, bytes);
-    let mut row = ByteRecord::new(alloc);
+    let mut row = Row::new(alloc);
     let mut accounts = IndexSet::new(alloc);
     let mut records: Vec<NumberedPosition> = Vec::new(alloc);
     match read_rows(&mut rows, &mut row, &mut accounts, &mut records) {

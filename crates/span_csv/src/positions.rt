@@ -1,7 +1,6 @@
 //! The reader of position files.
 ghost use Rattle.std.specs.Prelude.{◌≡◌, ◌≤◌, ◌<◌, ◌+◌, ◌^◌, [], List, ⊤, IfOk, MatchBool, MatchResult};
 ghost use Rattle.std.specs.Prelude.{OnOk, Ok, Err, length};
-ghost use Rattle.csv.specs.Records.{fields_of};
 ghost use Rattle.span_csv.specs.PositionFaults.{is_memory, position_faults, positions_of, record_fault};
 ghost use Rattle.span_csv.specs.Records.{Fields};
 ghost use Rattle.span_csv.specs.near.NumberedReading.{next_position};
@@ -14,8 +13,8 @@ ghost use Rattle.span_tables.specs.declared.limits.TheConstants.{MAX_ACCOUNTS};
 
 use crate::faults::PositionFault;
 use crate::numbered::{next_position, place, quantity, stands_at};
-use crate::rows::{Rows, field};
-use csv::ByteRecord;
+use crate::row::{Row, field};
+use crate::rows::Rows;
 use indexmap::IndexSet;
 use span_tables::limits::MAX_ACCOUNTS;
 use span_tables::name::Name;
@@ -56,9 +55,9 @@ fn read_same_account(
 }
 
 /// Reads each row that is left of a file onto `records`, and its account, where it is new, into `accounts`.
-pub(crate) fn read_rows(
-    rows: &mut Rows,
-    row: &mut ByteRecord,
+pub(crate) fn read_rows<'a>(
+    rows: &mut Rows<'a>,
+    row: &mut Row<'a>,
     accounts: &mut IndexSet<Name>,
     records: &mut Vec<NumberedPosition>,
 ) -> Result<(), PositionFault>
@@ -86,7 +85,7 @@ pub fn read_positions(alloc: Global, bytes: &[u8]) -> Result<RawPositions, Posit
     ensures { Gives is_memory result (positions_of bytes.now) }
 {
     let mut rows = Rows::new(alloc, bytes);
-    let mut row = ByteRecord::new(alloc);
+    let mut row = Row::new(alloc);
     let mut accounts = IndexSet::new(alloc);
     let mut records: Vec<NumberedPosition> = Vec::new(alloc);
     read_rows(&mut rows, &mut row, &mut accounts, &mut records)?;
@@ -95,13 +94,9 @@ pub fn read_positions(alloc: Global, bytes: &[u8]) -> Result<RawPositions, Posit
 
 // Looks at the record of a number behind others, where these are the accounts of those that count; its own is put behind them, where it
 // counts and is new. Behind one account too many there is no second one, and only the fields of a record can have faults.
-fn check_row(
-    at: usize,
-    accounts: &mut IndexSet<Name>,
-    row: &ByteRecord,
-) -> Result<(), PositionFault>
+fn check_row(at: usize, accounts: &mut IndexSet<Name>, row: &Row) -> Result<(), PositionFault>
     ensures { (rs : List Fields) → length rs + 1 ≡ at → accounts.old.keys ≡ accounts_counted rs
-        → CheckIs rs (fields_of row.now) result accounts.new.keys }
+        → CheckIs rs row.now result accounts.new.keys }
 {
     quantity(POSITION_NAMES, 0, at, row)?;
     if accounts.len() > MAX_ACCOUNTS {
@@ -128,9 +123,9 @@ fn tell(
 }
 
 // Tells the fault of each row of a file onto `faults`, of which there are none before.
-fn tell_rows(
-    rows: &mut Rows,
-    row: &mut ByteRecord,
+fn tell_rows<'a>(
+    rows: &mut Rows<'a>,
+    row: &mut Row<'a>,
     accounts: &mut IndexSet<Name>,
     faults: &mut Vec<PositionFault>,
 ) -> Result<(), AllocError>
@@ -153,7 +148,7 @@ pub fn position_faults(alloc: Global, bytes: &[u8]) -> Result<Vec<PositionFault>
     ensures { IfOk result (λ faults. faults.items ≡ position_faults bytes.now) }
 {
     let mut rows = Rows::new(alloc, bytes);
-    let mut row = ByteRecord::new(alloc);
+    let mut row = Row::new(alloc);
     let mut accounts = IndexSet::new(alloc);
     let mut faults = Vec::new(alloc);
     tell_rows(&mut rows, &mut row, &mut accounts, &mut faults)?;

@@ -1,13 +1,11 @@
 //! The records of a file, one after another.
-ghost use Rattle.std.specs.Prelude.{◌≡◌, [], ◌∷◌, IfOk, OnErr, MatchBool, ◌<◌, length};
-ghost use Rattle.csv.specs.Records.{fields_of};
-ghost use Rattle.span_csv.specs.Records.{text_at};
+ghost use Rattle.std.specs.Prelude.{◌≡◌, [], ◌∷◌, IfOk, MatchBool};
 ghost use Rattle.span_csv.specs.near.PlainPositions.{IsPositionIn};
-ghost use Rattle.span_csv.specs.near.Rows.{rows_left, CanRead};
 
 use crate::lines::{are_lines, next_line, without_mark};
 use crate::plain_positions::next_position_in;
-use csv::{ByteRecord, Reader, ReaderBuilder};
+use crate::row::Row;
+use csv::{Reader, ReaderBuilder};
 use span_tables::limits::SCENARIOS;
 use span_tables::name::Name;
 use std::alloc::{AllocError, Global};
@@ -43,20 +41,6 @@ impl<'a> Model for Rows<'a> {
     ghost invariant = { λ rows. GoesOn rows.form };
 }
 
-// The next record into `row`, and whether there was one.
-fn read_row(reader: &mut Reader<&[u8]>, row: &mut ByteRecord) -> Result<bool, AllocError>
-    requires { CanRead reader.old }
-    ensures found { IfOk result (λ found. MatchBool found (rows_left reader.old ≡ fields_of row.new ∷ rows_left reader.new)
-        (rows_left reader.old ≡ [])) }
-    ensures goes_on { CanRead reader.new }
-{
-    // A slice is read to its end, and a record may have any number of fields, so memory alone may be lacking.
-    let Ok(found) = reader.read_byte_record(row) else {
-        return Err(AllocError);
-    };
-    Ok(found)
-}
-
 impl<'a> Rows<'a> {
     ghost use Rattle.std.specs.Prelude.{None, IfSome};
     ghost use Rattle.span_csv.specs.Records.{records_of};
@@ -83,12 +67,12 @@ impl<'a> Rows<'a> {
     }
 
     /// The next record into `row`, and whether there was one.
-    pub(crate) fn next(&mut self, row: &mut ByteRecord) -> Result<bool, AllocError>
-        ensures found { IfOk result (λ found. MatchBool found (self.old ≡ fields_of row.new ∷ self.new) (self.old ≡ [])) }
+    pub(crate) fn next(&mut self, row: &mut Row<'a>) -> Result<bool, AllocError>
+        ensures found { IfOk result (λ found. MatchBool found (self.old ≡ row.new ∷ self.new) (self.old ≡ [])) }
     {
         match &mut self.form {
             Form::Lines(bytes) => next_line(bytes, row),
-            Form::Csv(reader) => read_row(reader, row),
+            Form::Csv(reader) => row.take_record(reader),
         }
     }
 
@@ -103,19 +87,4 @@ impl<'a> Rows<'a> {
             Form::Csv(_) => None,
         }
     }
-}
-
-/// The field at a place.
-pub(crate) fn field(row: &ByteRecord, i: usize) -> &[u8]
-    requires { i < length (fields_of row.now) }
-    ensures { result.now ≡ text_at (fields_of row.now) i }
-{
-    row.get(i).unwrap()
-}
-
-/// The field at a place, or an empty text past the end.
-pub(crate) fn text_at(row: &ByteRecord, i: usize) -> &[u8]
-    ensures { result.now ≡ text_at (fields_of row.now) i }
-{
-    if i < row.len() { field(row, i) } else { &[] }
 }

@@ -1,6 +1,5 @@
 //! How many records of each kind were read, as far as there is a limit, and under which profile.
 ghost use Rattle.std.specs.Prelude.{◌≡◌, ◌+◌, ◌<◌, ◌^◌, List, OnOk, [], ◌∷◌, ℕ};
-ghost use Rattle.csv.specs.Records.{fields_of};
 ghost use Rattle.span_csv.specs.near.Checks.{CountsOne, count_in, limit_of};
 ghost use Rattle.span_csv.specs.near.Grammar.{FitsKind};
 ghost use Rattle.span_csv.specs.ParamFaults.{profile_of};
@@ -9,8 +8,7 @@ ghost use Rattle.span_csv.specs.Records.{text_at};
 use crate::checks::is_set;
 use crate::fields::{name_at, profile_at};
 use crate::grammar::{FieldTest, Kind, VERSION};
-use crate::rows::text_at;
-use csv::ByteRecord;
+use crate::row::{Row, text_at};
 use indexmap::IndexMap;
 use span_tables::limits::{
     MAX_COMMODITIES, MAX_CONTRACTS, MAX_INTER_SPREADS, MAX_INTRA_SPREADS, MAX_SPOT_MONTHS,
@@ -42,8 +40,8 @@ fn count_one(counts: &mut IndexMap<Name, usize>, commodity: Name) -> Result<(), 
 }
 
 // The profile of a file that begins with this record.
-fn profile_from(first: &ByteRecord) -> u8
-    ensures { result ≡ profile_of (fields_of first.now ∷ []) }
+fn profile_from(first: &Row) -> u8
+    ensures { result ≡ profile_of (first.now ∷ []) }
 {
     if is_set(first) && VERSION.passes(FieldTest::All, text_at(first, 2)) {
         profile_at(first, 2)
@@ -108,9 +106,9 @@ impl Tally {
     }
 
     /// How many records the limit of a record's kind counts.
-    pub(crate) fn count(&self, kind: Kind, row: &ByteRecord) -> usize
-        requires { FitsKind kind (fields_of row.now) }
-        ensures { result ≡ count_for self.now kind (text_at (fields_of row.now) 1) }
+    pub(crate) fn count(&self, kind: Kind, row: &Row) -> usize
+        requires { FitsKind kind row.now }
+        ensures { result ≡ count_for self.now kind (text_at row.now 1) }
     {
         match kind {
             Kind::Set => 0,
@@ -125,8 +123,8 @@ impl Tally {
 
     /// Keeps the profile of a file whose first record this is, where it is the first.
     #[inline(always)]
-    pub(crate) fn keep_profile(&mut self, first: bool, row: &ByteRecord)
-        ensures { KeepsProfile first (fields_of row.now) self.old self.new }
+    pub(crate) fn keep_profile(&mut self, first: bool, row: &Row)
+        ensures { KeepsProfile first row.now self.old self.new }
     {
         if first {
             self.profile = profile_from(row);
@@ -134,10 +132,10 @@ impl Tally {
     }
 
     /// Counts a record, where its kind has a limit.
-    pub(crate) fn add(&mut self, kind: Kind, row: &ByteRecord) -> Result<(), AllocError>
-        requires forms { FitsKind kind (fields_of row.now) }
-        requires room { count_for self.old kind (text_at (fields_of row.now) 1) + 1 < 2 ^ 64 }
-        ensures { OnOk result (AddsRecord kind (fields_of row.now) self.old self.new) }
+    pub(crate) fn add(&mut self, kind: Kind, row: &Row) -> Result<(), AllocError>
+        requires forms { FitsKind kind row.now }
+        requires room { count_for self.old kind (text_at row.now 1) + 1 < 2 ^ 64 }
+        ensures { OnOk result (AddsRecord kind row.now self.old self.new) }
     {
         match kind {
             Kind::Set => {}

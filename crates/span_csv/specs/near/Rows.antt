@@ -1,5 +1,5 @@
 -- The records of a file, as `csv` reads its bytes, and as they stand in lines.
-use Rattle.std.specs.Prelude.{◌≡◌, ◌⊎◌, ℕ, ◌+◌, true, false, if◌then◌else◌, List, [], ◌∷◌, ◌++◌, length, Option, Some, None, IsSome}
+use Rattle.std.specs.Prelude.{◌≡◌, ◌⊎◌, ℕ, ◌+◌, true, false, if◌then◌else◌, List, [], ◌∷◌, ◌++◌, length, map, Option, Some, None, IsSome}
 use Rattle.std.specs.Borrow.{Bor}
 use Rattle.std.specs.List.{list_any}
 use Rattle.memchr.specs.Find.{is_byte2}
@@ -58,6 +58,10 @@ AreLines bytes = list_any (is_byte2 34 13) bytes ≡ false
 -- the records of lines
 abbrev pub rows_in : List ℕ → List Fields
 rows_in bytes = rows state.StartRecord [] [] bytes
+
+-- the bytes that lent fields show
+abbrev pub texts_of : List (Bor (List ℕ)) → Fields
+texts_of lent = map (λ text. text.now) lent
 
 -- ---- both
 

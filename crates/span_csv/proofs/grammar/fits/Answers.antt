@@ -1,5 +1,4 @@
 use Rattle.std.proofs.Common.{◌≡◌, ◌-◌, ◌∙◌, ap, refl, drop, length, ℤ, List, Some}
-use Rattle.csv.specs.Records.{fields_of}
 use Rattle.span_csv.specs.near.Grammar.{passes, HasValues}
 use Rattle.span_csv.specs.Records.{Fields, all_have, contract_forms, exactly, product_at}
 use Rattle.span_csv.specs.declared.grammar.FieldTest.TheVariants as field_test
@@ -14,7 +13,7 @@ no_values _ r values other = tt
 
 pub returns-in-Contract-clause-told : goal.returns-in-Contract-clause-told
 returns-in-Contract-clause-told c =
-    let fields = fields_of c.args.row.now in
+    let fields = c.args.row.now in
     let forms = contract_forms c.args.profile (product_at fields 3) in
     let found : exactly forms (length fields - 1) ≡ Some c.args.layout.now = rw c.in-Contract.is at c.requires.found in
     c.fits_contract.ensures.told
@@ -26,5 +25,5 @@ returns-in-Contract-clause-values c = λ told. rw c.in-Contract.is (c.fits_contr
 pub returns-in_default : goal.returns-in_default
 returns-in_default c = record {
   told = c.all_have.ensures;
-  values = λ told. no_values c.args.kind (fields_of c.args.row.now) c.args.values.now c.in_default.not-Contract;
+  values = λ told. no_values c.args.kind c.args.row.now c.args.values.now c.in_default.not-Contract;
 }

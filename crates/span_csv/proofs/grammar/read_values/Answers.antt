@@ -2,7 +2,6 @@ use Rattle.std.proofs.Common.{◌≡◌, ◌<◌, ◌+◌, ◌∙◌, ap, sym, l
 use Rattle.std.specs.Prelude.{unwrap_or}
 use Rattle.std.proofs.lemmas.Int.{to_z-of_z}
 use Rattle.std.proofs.Math.ListN.{length-set}
-use Rattle.csv.specs.Records.{fields_of}
 use Rattle.span_money.specs.Numbers.{whole_number}
 use Rattle.span_tables.specs.declared.limits.TheConstants.{SCENARIOS}
 use Rattle.span_csv.specs.declared.rows.TheConstants.{FIRST_VALUE}
@@ -14,12 +13,12 @@ pub returns-then-not-is_within-clause-told : goal.returns-then-not-is_within-cla
 returns-then-not-is_within-clause-told c =
     let answer : c.is_within.result ≡ is_in_range an_array_value c.field.result.now =
     rw c.parse_whole-value.ensures.value at c.is_within.ensures in
-    value_failed (fields_of c.args.row.now) c.requires c.loop-i.i c.loop-i-test.true c.field.result.now c.field.ensures
+    value_failed c.args.row.now c.requires c.loop-i.i c.loop-i-test.true c.field.result.now c.field.ensures
     c.is_within.result answer c.if-not-is_within.true
 
 pub loop-i-preserved : goal.loop-i-preserved
 loop-i-preserved c =
-    let fields = fields_of c.args.row.now in
+    let fields = c.args.row.now in
     let answer : c.is_within.result ≡ is_in_range an_array_value c.field.result.now =
     rw c.parse_whole-value.ensures.value at c.is_within.ensures in
     let number : c.unwrap_or.result ≡ whole_at fields (FIRST_VALUE + c.loop-i.i) =
@@ -44,5 +43,5 @@ returns-clause-told c =
 
 pub returns-clause-values : goal.returns-clause-values
 returns-clause-values c = λ told.
-    values_all c.loop-i.values (fields_of c.args.row.now) c.loop-i.invariant.sixteen c.requires
+    values_all c.loop-i.values c.args.row.now c.loop-i.invariant.sixteen c.requires
     (λ k h. c.loop-i.invariant.each k (omega arith))

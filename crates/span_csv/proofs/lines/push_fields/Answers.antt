@@ -37,4 +37,4 @@ returns-clause-row c =
     rw (c.in_ok-push_field-2.ensures.fields, c.loop-end.invariant.whole)
     (sym c.loop-end.invariant.same
     ∙ rows_at_end c.loop-end.left.now c.loop-end.invariant.lines (fields_of c.loop-end.row)
-    (rw c.in_default.is at c.memchr2.ensures))
+    (rw c.in_default.is at c.field_end.ensures))

@@ -1,7 +1,6 @@
 use Rattle.std.proofs.Common.{◌≡◌, ◌∙◌, sym, rules, true}
 use Rattle.std.specs.Result.{is_ok}
 use Rattle.std.proofs.lemmas.Result.{err_from_is_err_and}
-use Rattle.csv.specs.Records.{fields_of}
 use Rattle.span_csv.specs.OrderFaults.{is_memory}
 use Rattle.span_csv.specs.near.OrderReading.{next_order, numbered_order, numbered_orders}
 use Rattle.span_csv.proofs.RecordLemmas.{records_after-ok, records_after-refused, records_after-end}
@@ -13,7 +12,7 @@ returns-in_err-order-clause-read c =
     let next = rw c.if-branch.true at c.in_ok-next.ensures.found in
     let earlier = numbered_orders c.loop-records.orders.keys c.loop-records.accounts.items c.loop-records.records.items in
     rw (p.1, p.2, ← c.loop-records.invariant.rest, next)
-    (records_after-refused next_order is_memory earlier (fields_of c.next.new.row) c.next.new.self
+    (records_after-refused next_order is_memory earlier c.next.new.row c.next.new.self
     _ (rw c.deref.ensures.value at c.in_err-order.ensures.found))
 
 pub loop-records-preserved : goal.loop-records-preserved
@@ -30,7 +29,7 @@ loop-records-preserved c =
       numbered = rw items (rw c.deref.ensures.value at c.in_ok-order.ensures.numbered);
       each = c.in_ok-order.ensures.each;
       rest = rw (items, named)
-          (sym (records_after-ok next_order earlier (fields_of c.next.new.row) c.next.new.self order read) ∙ rest);
+          (sym (records_after-ok next_order earlier c.next.new.row c.next.new.self order read) ∙ rest);
     }
 
 pub returns-clause-read : goal.returns-clause-read

@@ -1,5 +1,4 @@
 use Rattle.std.proofs.Common.{◌≡◌, ◌∙◌, rules, arith, Err}
-use Rattle.csv.specs.Records.{fields_of}
 use Rattle.span_csv.specs.Records.{text_at}
 use Rattle.span_csv.proofs.StepLemmas.{next_fault, next_formed, next_free, next_too_many, next_unformed, record_of}
 use Rattle.span_csv.proofs.TallyLemmas.{count_full, count_small, count_within, kept_counts, tally_more, tally_same}
@@ -7,7 +6,7 @@ use Rattle.span_csv.proofs.params.next_record.Goals as goal
 
 pub returns-in_err-kind-clause-judged : goal.returns-in_err-kind-clause-judged
 returns-in_err-kind-clause-judged c = λ rs len tallies.
-    let r = fields_of c.args.row.now in
+    let r = c.args.row.now in
     let under = c.profile-profile.ensures ∙ tallies.profile in
     let answer = c.in_err-kind.field-0.0 in
     let e : c.from_residual.result ≡ Err answer = search rules in
@@ -17,7 +16,7 @@ returns-in_err-kind-clause-judged c = λ rs len tallies.
 
 pub returns-then-count-limit-clause-judged : goal.returns-then-count-limit-clause-judged
 returns-then-count-limit-clause-judged c = λ rs len tallies.
-    let r = fields_of c.args.row.now in
+    let r = c.args.row.now in
     let under = c.profile-profile.ensures ∙ tallies.profile in
     let is = c.in_ok-kind.ensures.kind.0 in
     let kept = kept_counts c.args.tally.now c.keep_profile.new.self rs r c.args.earlier len c.keep_profile.ensures tallies in
@@ -31,7 +30,7 @@ returns-then-count-limit-clause-judged c = λ rs len tallies.
 
 pub add-requires-clause-room : goal.add-requires-clause-room
 add-requires-clause-room c =
-    let r = fields_of c.args.row.now in
+    let r = c.args.row.now in
     let rs = c.requires.tallied.0 in
     let kept = kept_counts c.args.tally.now c.keep_profile.new.self rs r c.args.earlier c.requires.tallied.1 c.keep_profile.ensures
     c.requires.tallied.2 in
@@ -39,7 +38,7 @@ add-requires-clause-room c =
 
 pub returns-clause-judged : goal.returns-clause-judged
 returns-clause-judged c = λ rs len tallies.
-    let r = fields_of c.args.row.now in
+    let r = c.args.row.now in
     let under = c.profile-profile.ensures ∙ tallies.profile in
     let is = c.in_ok-kind.ensures.kind.0 in
     let kept = kept_counts c.args.tally.now c.keep_profile.new.self rs r c.args.earlier len c.keep_profile.ensures tallies in
@@ -52,4 +51,4 @@ returns-clause-judged c = λ rs len tallies.
     )
 
 pub returns-clause-said : goal.returns-clause-said
-returns-clause-said c = c.record_of_kind.ensures ∙ record_of (fields_of c.args.row.now) c.in_ok-kind.kind c.in_ok-kind.ensures.kind.0
+returns-clause-said c = c.record_of_kind.ensures ∙ record_of c.args.row.now c.in_ok-kind.kind c.in_ok-kind.ensures.kind.0

@@ -2,7 +2,6 @@ use Rattle.std.proofs.Common.{◌≡◌, ◌∙◌, length, rules, sym, Err}
 use Rattle.std.specs.Prelude.{vec_len}
 use Rattle.std.proofs.lemmas.Bool.{eqb-false, eqb-true}
 use Rattle.std.proofs.lemmas.Bool.Decides.{when_false, when_true}
-use Rattle.csv.specs.Records.{fields_of}
 use Rattle.span_csv.proofs.ReadLemmas.{read_all, read_empty, read_fault, read_more}
 use Rattle.span_csv.proofs.params.read_params_onto.Goals as goal
 
@@ -11,7 +10,7 @@ returns-in_err-record c =
     let so_far = c.loop-tally.invariant in
     let count : length c.loop-tally.records.items ≡ c.len.result = search rules in
     let e : c.from_residual-in_err-record.result ≡ Err c.in_err-record.field-0.0 = search rules in
-    rw e (read_fault so_far (fields_of c.next.new.row) c.next.new.self c.in_err-record.field-0.0 c.next_record.new.tally
+    rw e (read_fault so_far c.next.new.row c.next.new.self c.in_err-record.field-0.0 c.next_record.new.tally
     (when_true _ _ c.if-branch.true c.in_ok-next.ensures.found)
     (c.in_err-record.ensures.judged so_far.earlier (so_far.count ∙ count) so_far.kept.1))
 
@@ -19,7 +18,7 @@ pub loop-tally-preserved : goal.loop-tally-preserved
 loop-tally-preserved c =
     let so_far = c.loop-tally.invariant in
     let count : length c.loop-tally.records.items ≡ c.len.result = search rules in
-    rw c.in_ok-push.ensures.items (read_more so_far (fields_of c.next.new.row) c.next.new.self c.in_ok-record.record c.next_record.new.tally
+    rw c.in_ok-push.ensures.items (read_more so_far c.next.new.row c.next.new.self c.in_ok-record.record c.next_record.new.tally
     (when_true _ _ c.if-branch.true c.in_ok-next.ensures.found) c.in_ok-record.ensures.said
     (c.in_ok-record.ensures.judged so_far.earlier (so_far.count ∙ count) so_far.kept.1))
 

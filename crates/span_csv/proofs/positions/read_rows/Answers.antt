@@ -1,7 +1,6 @@
 use Rattle.std.proofs.Common.{◌≡◌, ◌∙◌, sym, rules, true}
 use Rattle.std.specs.Result.{is_ok}
 use Rattle.std.proofs.lemmas.Result.{err_from_is_err_and}
-use Rattle.csv.specs.Records.{fields_of}
 use Rattle.span_csv.specs.PositionFaults.{is_memory}
 use Rattle.span_csv.specs.near.NumberedReading.{next_position}
 use Rattle.span_csv.specs.declared.positions.TheConstants.{POSITION_NAMES}
@@ -16,7 +15,7 @@ returns-in_err-position-clause-read c =
     let next = rw c.if-branch.true at c.in_ok-next.ensures.found in
     let earlier = named_positions c.loop-records.accounts.keys c.loop-records.records.items in
     rw (p.1, p.2, ← c.loop-records.invariant.rest, next)
-    (records_after-refused (next_position POSITION_NAMES MAX_ACCOUNTS) is_memory earlier (fields_of c.next.new.row) c.next.new.self
+    (records_after-refused (next_position POSITION_NAMES MAX_ACCOUNTS) is_memory earlier c.next.new.row c.next.new.self
     _ (rw c.deref.ensures.value at c.in_err-position.ensures.found))
 
 pub loop-records-preserved : goal.loop-records-preserved
@@ -34,7 +33,7 @@ loop-records-preserved c =
       numbered = rw c.as_slice.ensures.keys at more.numbered;
       few = c.in_ok-position.ensures.few;
       rest = (rw c.as_slice.ensures.keys at more.read)
-          ∙ rw (items, named) (sym (records_after-ok (next_position POSITION_NAMES MAX_ACCOUNTS) earlier (fields_of c.next.new.row)
+          ∙ rw (items, named) (sym (records_after-ok (next_position POSITION_NAMES MAX_ACCOUNTS) earlier c.next.new.row
           c.next.new.self position read) ∙ rest);
     }
 
