@@ -1,6 +1,7 @@
 -- Every leg with the same first and last month has its months at the same places, and they stay there when units change.
-use Rattle.std.proofs.Common.{◌≡◌, ℕ, zero, suc, List, [], ◌∷◌}
+use Rattle.std.proofs.Common.{◌≡◌, ◌&&◌, ℕ, zero, suc, nat_le, false, List, [], ◌∷◌}
 use Rattle.std.proofs.Common.{refl, ◌∙◌, arith, get_or, length}
+use Rattle.std.proofs.lemmas.Grind.{common_steps}
 use Rattle.span_tables.specs.declared.legs.MonthLeg.{MonthLeg}
 use Rattle.spread_stage.specs.Months.{Shrinks}
 use Rattle.spread_stage.specs.Spreads.{is_in_tier}
@@ -27,6 +28,19 @@ pub same_tier : (leg : MonthLeg) (rests : List MonthUnits) (place : TierPlace) �
 same_tier leg rests place first last at other f l =
     stands_too leg other rests rests place.start place.end refl
     (λ k d. let low : other.first ≡ leg.first = f ∙ first in let high : other.last ≡ leg.last = l ∙ last in rw (low, high) refl) at
+
+after_and_before : (month : ℕ) → (nat_le 1 month && nat_le month 0) ≡ false
+after_and_before month = grind (arith, common_steps)
+
+-- the entry of a tier whose first month is after its last, so that it has no months
+pub no_months : (rests : List MonthUnits) → IsPlaceOf rests (record { first = 1; last = 0; start = 0; end = 0 })
+no_months rests leg first last = record {
+  order = omega arith;
+  stops = omega arith;
+  before = λ k d low below. absurd (omega (arith, below));
+  inside = λ k d low below. absurd (omega (arith, below));
+  behind = λ k d low below. rw (first, last) (after_and_before (get_or rests k d).month);
+}
 
 same_length : (rests later : List MonthUnits) → Shrinks rests later → length later ≡ length rests
 same_length [] [] h = refl

@@ -13,15 +13,15 @@ use span_tables::legs::MonthLeg;
 const FEW_MONTHS: usize = 8;
 
 // The number of tiers, at most, whose places are remembered.
-const REMEMBERED_TIERS: usize = 16;
+const REMEMBERED_TIERS: usize = 29;
 
 // The first and the last month of a tier (`yyyymm`), and where its months stand: from `start` on, and before `end`.
 #[derive(Clone, Copy)]
 struct TierPlace {
     first: u32,
     last: u32,
-    start: u32,
-    end: u32,
+    start: u16,
+    end: u16,
 }
 
 /// Where the months of tiers stand, for the tiers that were searched last.
@@ -73,11 +73,11 @@ impl TierPlaces {
         ensures places { ArePlaces self.new rests.now }
     {
         let (start, end) = tier_places(rests, leg);
-        if let Ok(stop) = u32::try_from(end) {
+        if let Ok(stop) = u16::try_from(end) {
             self.places[leg.first as usize % REMEMBERED_TIERS] = TierPlace {
                 first: leg.first,
                 last: leg.last,
-                start: start as u32,
+                start: start as u16,
                 end: stop,
             };
         }
