@@ -19,7 +19,7 @@ use Rattle.step_scheduler.specs.near.Figures.{AreFilled, AreHeldFigures, HasFigu
 use Rattle.step_scheduler.specs.near.Parts.{IsEnd, IsNext, IsPart, NoneHeld, figures_of_part}
 use Rattle.step_scheduler.proofs.NothingLemmas.{figures_of_nothing}
 
--- the figures of a held commodity are those of its part and the commodities after all spreads
+-- the figures of a held commodity follow from its part and from the commodities after all spreads
 pub figures_are : (t : AcceptedTables) (holdings : List Holding) (p : Part) (states : List CommodityState) → IsPart t holdings p
     → states ≡ inter_states t holdings
     → figures_of_part p states ≡ figures_of t holdings p.commodity

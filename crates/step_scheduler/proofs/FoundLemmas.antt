@@ -24,7 +24,7 @@ abbrev pub all_held : JobView → List (List HeldContract)
 all_held job =
     map (λ c. held_of job.set.tables.contracts (job.portfolio).holdings c.id) job.set.tables.commodities
 
--- what the slots have after the first commodities, of which the others are left
+-- what the slots have after the first commodities, while the others are left
 pub record AreFound (job : JobView) (commodity : ℕ) (left : List (List HeldContract)) (slots : List Slot) : Type 0 where
   pub long : length slots ≡ length job.set.plan
   pub means : StoresMeanings job slots

@@ -72,7 +72,7 @@ module _ (set : SetView) (compiled : IsCompiled set) (history : List Event) wher
         | inr one ↦ unfinished_goes_on (suc (compiled.rank one.0)) one.0 (omega arith) one.1 one.2
       ]
 
--- a board of which not all steps have their values has one that can go on
+-- a board on which some step has no value yet has a step that can go on
 pub board_goes_on : (job : JobView) (steps : List Progress) (history : List Event) (capacity : ℕ)
     → IsRunBoard job steps history capacity → (((k : ℕ) → k < length steps → is_done (progress_at steps k) ≡ true) → ⊥)
     → (k : ℕ) × CanGoOn job.set.plan history k

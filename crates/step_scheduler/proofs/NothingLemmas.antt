@@ -1,4 +1,4 @@
--- A commodity of which nothing is held.
+-- A commodity that is not held.
 use Rattle.std.proofs.Common.{◌≡◌, ◌<◌, ℕ, List, [], length, refl, ap, ◌∙◌}
 use Rattle.std.specs.Prelude.{None, Option, Some, nat_abs, option_map, pos, slice_get, unwrap_or}
 use Rattle.span_tables.specs.Tables.{AcceptedTables}
@@ -60,7 +60,7 @@ module _ (t : AcceptedTables) (holdings : List Holding) (c : ℕ) (none : held_a
   pub no_state : state_of t holdings c ≡ unspread_state (pos 0) 0
   no_state = λ k. unspread_state (net_delta (no_months k)) (nothing_scanned k).price2
 
-  -- a commodity of which nothing is held adds nothing to the option value
+  -- a commodity that is not held adds nothing to the option value
   pub no_value : net_value_at t holdings c ≡ pos 0
   no_value = ap net_value_of none ∙ value_of_nothing
 
@@ -68,7 +68,7 @@ module _ (t : AcceptedTables) (holdings : List Holding) (c : ℕ) (none : held_a
   no_net lt =
       kept_at t holdings (λ state. state.net) (λ on used bp state. refl) c lt ∙ ap (λ (state : CommodityState). state.net) no_state
 
-  -- the figures are those of nothing held
+  -- its figures are the figures of a commodity that is not held
   pub figures_of_nothing : c < length t.commodities → figures_of t holdings c ≡ no_figures
   unfolding figures_of
   figures_of_nothing lt =

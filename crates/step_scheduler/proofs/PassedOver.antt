@@ -1,4 +1,4 @@
--- The commodities are loaded by their numbers; those of which nothing is held change nothing.
+-- The commodities are loaded by their numbers. A commodity that is not held changes nothing.
 use Rattle.std.proofs.Common.{◌≡◌, ℕ, zero, suc, ◌+◌, ◌-◌, ◌<◌, ◌≤◌, List, [], ◌∷◌, ◌++◌, length, map}
 use Rattle.std.proofs.Common.{sym, ap, ◌∙◌, append_assoc, slice_set, zero-add, arith}
 use Rattle.std.specs.Prelude.{◌+ℤ◌, ℤ, pos, replicate, slice_index_or, true}
@@ -63,7 +63,7 @@ module _ (t : AcceptedTables) (holdings : List Holding) where
       ap (λ (f : Figures). f.requirement) (figures_of_nothing t holdings c none lt) in
       sym (+ℤ_idr (total_to t holdings c)) ∙ ap (λ z. total_to t holdings c +ℤ z) (sym nothing) ∙ total_more t holdings c
 
-  -- commodities of which nothing is held add nothing to the total
+  -- commodities that are not held add nothing to the total
   pub totals_over : (from to : ℕ) → from ≤ to → to ≤ length t.commodities → NoneHeld t holdings from to
       → total_to t holdings from ≡ total_to t holdings to
   totals_over from to le few none =
@@ -81,11 +81,11 @@ module _ (t : AcceptedTables) (holdings : List Holding) where
       sym (+ℤ_idr (value_to t holdings c)) ∙ ap (λ z. value_to t holdings c +ℤ z) (sym (no_value t holdings c none))
       ∙ value_more t holdings c
 
-  -- commodities of which nothing is held add nothing to the option value
+  -- commodities that are not held add nothing to the option value
   pub values_over : (from to : ℕ) → from ≤ to → NoneHeld t holdings from to → value_to t holdings from ≡ value_to t holdings to
   values_over from to le none = steady_up_to (value_to t holdings) from to le (λ c a b. value_over c (none c a b))
 
-  -- the option value up to the next that is held, with that of the next
+  -- the option value up to and with the next held commodity
   pub value_with : (p : Part) (from : ℕ) (value : ℤ) → IsNext t holdings from p.commodity → IsPart t holdings p
       → (facts_in t).options_have_value ≡ true → value ≡ value_to t holdings from
       → value +ℤ p.worth ≡ value_to t holdings p.commodity +ℤ net_value_at t holdings p.commodity

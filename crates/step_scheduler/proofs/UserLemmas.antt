@@ -11,7 +11,7 @@ use Rattle.plan_ir.proofs.UserLaws.{users_are_steps, users_just, users_rise}
 use Rattle.plan_compiler.specs.Compiled.{IsCompiled, SetView}
 use Rattle.plan_compiler.specs.near.Beginnings.{times}
 
--- a number stands once, or not at all, among numbers of which none stands twice
+-- a number is at most once among numbers that do not repeat
 or_no : (a b : Bool) → (a || b) ≡ false → (a ≡ false) × (b ≡ false)
 or_no true b e = absurd (false≢true (sym e))
 or_no false b e = (refl, e)

@@ -12,13 +12,13 @@ use std::alloc::{AllocError, Global};
 use std::marker::Model;
 use std::sync::Arc;
 
-/// A run of a set's plan in which every step is taken and finished. It is that of an account that holds nothing, and so one
-/// of every account: which step may come next does not depend on what is held.
+/// A run of a set's plan in which every step is taken and finished, made for an account that holds nothing. It is a run of every
+/// account, since which step may come next does not depend on what is held.
 #[derive(Drop)]
 pub struct Course {
     set: Arc<CompiledSet>,
     events: Arc<Vec<Event>>,
-    // What an account has of each commodity that holds nothing, before any spread between commodities.
+    // The state of each commodity of an account that holds nothing, before any spread between commodities.
     blank: InterState,
 }
 

@@ -13,7 +13,7 @@ use std::alloc::{AllocError, Global};
 // The figures of the commodities of an account.
 #[derive(Drop)]
 pub(crate) struct HeldFigures {
-    // The figures of a commodity that is not held, and behind them those of each held commodity, by rising number.
+    // The figures of a commodity that is not held, and then the figures of each held commodity, by rising number.
     figures: Vec<Figures>,
     // The place of each commodity's figures among them: 0 if it is not held.
     places: [u8; MAX_COMMODITIES],

@@ -17,7 +17,7 @@ use Rattle.step_scheduler.specs.declared.parts.Part.{Part}
 abbrev pub NoneHeld : AcceptedTables → List Holding → ℕ → ℕ → Type 0
 NoneHeld t holdings from to = (c : ℕ) → from ≤ c → c < to → held_at t holdings c ≡ []
 
--- the commodity of this number is the first of which something is held, from a number on
+-- the commodity of this number is the first held one from a number on
 pub record IsNext (t : AcceptedTables) (holdings : List Holding) (from c : ℕ) : Type 0 where
   pub known : c < length t.commodities
   pub behind : from ≤ c
