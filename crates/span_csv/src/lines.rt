@@ -58,8 +58,8 @@ fn field_end(bytes: &[u8]) -> Option<usize>
         .position(|byte| *byte == b',' || *byte == b'\n')
 }
 
-/// Lends the fields of the line in front, behind those that are there. Returns the bytes behind the line, or `None` if there are more fields
-/// than are lent.
+/// Appends the fields of the line in front, which are lent from the bytes. Returns the bytes behind the line, or `None` if there is no room
+/// for all its fields.
 pub(crate) fn lend_fields<'a>(
     fields: &mut ArrayVec<&'a [u8], LENT_FIELDS>,
     bytes: &'a [u8],

@@ -1,4 +1,4 @@
--- The bytes of a name are those of a text, and the bytes of names in front of a text.
+-- The bytes of a name as the bytes of a text, and the name that the bytes of a text begin with.
 use Rattle.std.proofs.Common.{◌≡◌, refl, inl, inr, ℕ, ◌<◌, Bool, true, ◌&&◌, List, [], ◌∷◌, arith, length}
 use Rattle.std.specs.List.{AllByRecursion, list_all, take_while}
 use Rattle.std.specs.Prelude.{nat_le}

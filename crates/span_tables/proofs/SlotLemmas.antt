@@ -1,6 +1,6 @@
 -- What marking the slot of a number does to a word, and when a word has all slots of another.
 use Rattle.std.proofs.Common.{◌≡◌, ◌≢◌, ◌≤◌, ◌%◌, ◌^◌, ◌==◌, ℕ, ℤ}
-use Rattle.std.proofs.Common.{pos, negsuc, ◌<ℤ◌, Bool, true, false, bit_and, refl, ap, arith}
+use Rattle.std.proofs.Common.{pos, negsuc, ◌≤ℤ◌, Bool, true, false, bit_and, refl, ap, arith}
 use Rattle.std.specs.Int.{bit_at}
 use Rattle.std.proofs.lemmas.Bool.Decides.{nat_tests}
 use Rattle.std.proofs.lemmas.Nat.Bits.{bit_at-lt, bit_at-pow_other, bit_at-pow_same, bit_at-zero, bit_at_and, bit_at_or, same_from_bits}
@@ -51,11 +51,11 @@ within_has_all word other within =
     grind (arith, nat_tests, same)
 
 -- a rest is on one side of the market at most
-pub not_long : (z : ℤ) → z <ℤ pos 0 → positive_part z ≡ 0
-not_long (pos n) below = absurd (omega (arith, ints, below))
+pub not_long : (z : ℤ) → z ≤ℤ pos 0 → positive_part z ≡ 0
+not_long (pos n) below = omega (arith, ints, below)
 not_long (negsuc n) below = refl
 
-pub not_short : (z : ℤ) → pos 0 <ℤ z → negative_part z ≡ 0
+pub not_short : (z : ℤ) → pos 0 ≤ℤ z → negative_part z ≡ 0
 not_short (pos n) above = refl
 not_short (negsuc n) above = absurd (omega (arith, ints, above))
 

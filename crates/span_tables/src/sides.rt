@@ -51,12 +51,12 @@ pub fn part_on(side: MarketSide, rest: Units) -> u64
     ensures value { result ≡ part_on side rest }
     ensures bound { result ≤ nat_abs rest }
 {
-    let units = rest.get();
-    match side {
-        MarketSide::Long if units > 0 => units.unsigned_abs(),
-        MarketSide::Short if units < 0 => units.unsigned_abs(),
-        _ => 0,
-    }
+    // No branch depends on the sign, which no processor can predict.
+    let on_side = match side {
+        MarketSide::Long => rest.get().max(0),
+        MarketSide::Short => rest.get().min(0),
+    };
+    on_side.unsigned_abs()
 }
 
 /// A rest, in units of 10^-8, of which so many on a market side were used.

@@ -112,19 +112,11 @@ impl OpenSides {
         ensures added { IsOpenAt result number rest }
         ensures kept { (other : ℕ) (z : ℤ) → IsOpenAt self other z → IsOpenAt result other z }
     {
+        // Both words are made, so that no branch depends on the sign.
+        let OpenSides { long, short } = self;
         let units = rest.get();
-        if units > 0 {
-            OpenSides {
-                long: self.long.with(number),
-                ..self
-            }
-        } else if units < 0 {
-            OpenSides {
-                short: self.short.with(number),
-                ..self
-            }
-        } else {
-            self
-        }
+        let long = if units > 0 { long.with(number) } else { long };
+        let short = if units < 0 { short.with(number) } else { short };
+        OpenSides { long, short }
     }
 }

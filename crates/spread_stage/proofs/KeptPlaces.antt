@@ -1,7 +1,8 @@
 -- Every leg with the same first and last month has its months at the same places, and they stay there when units change.
-use Rattle.std.proofs.Common.{◌≡◌, ◌&&◌, ℕ, zero, suc, nat_le, false, List, [], ◌∷◌}
-use Rattle.std.proofs.Common.{refl, ◌∙◌, arith, get_or, length}
-use Rattle.std.proofs.lemmas.Grind.{common_steps}
+use Rattle.std.proofs.Common.{◌≡◌, ◌≢◌, ◌<◌, ◌==◌, Bool, ℕ, zero, suc, true, false, List, [], ◌∷◌, replicate}
+use Rattle.std.proofs.Common.{refl, sym, subst, inl, inr, ◌∙◌, arith, get_or, set, length}
+use Rattle.std.proofs.lemmas.Bool.{cases_Bool, eqb-false, eqb-true, true≢false}
+use Rattle.std.proofs.lemmas.List.{get_or-set_other, get_or-set_same}
 use Rattle.span_tables.specs.declared.legs.MonthLeg.{MonthLeg}
 use Rattle.spread_stage.specs.Months.{Shrinks}
 use Rattle.spread_stage.specs.Spreads.{is_in_tier}
@@ -29,18 +30,30 @@ same_tier leg rests place first last at other f l =
     stands_too leg other rests rests place.start place.end refl
     (λ k d. let low : other.first ≡ leg.first = f ∙ first in let high : other.last ≡ leg.last = l ∙ last in rw (low, high) refl) at
 
-after_and_before : (month : ℕ) → (nat_le 1 month && nat_le month 0) ≡ false
-after_and_before month = grind (arith, common_steps)
+none_of : (n entry : ℕ) → get_or (replicate n false) entry false ≡ false
+none_of zero entry = refl
+none_of (suc n) zero = refl
+none_of (suc n) (suc entry) = none_of n entry
 
--- the entry of a tier whose first month is after its last, so that it has no months
-pub no_months : (rests : List MonthUnits) → IsPlaceOf rests (record { first = 1; last = 0; start = 0; end = 0 })
-no_months rests leg first last = record {
-  order = omega arith;
-  stops = omega arith;
-  before = λ k d low below. absurd (omega (arith, below));
-  inside = λ k d low below. absurd (omega (arith, below));
-  behind = λ k d low below. rw (first, last) (after_and_before (get_or rests k d).month);
-}
+-- no entry is known
+pub never_known : (entry : ℕ) → get_or (replicate 29 false) entry false ≡ true → ⊥
+never_known entry known = true≢false (sym known ∙ none_of 29 entry)
+
+-- one more tier is remembered
+pub remembered : (known : List Bool) (places : List TierPlace) (i : ℕ) (place : TierPlace) (rests : List MonthUnits) → i < length places
+    → ((entry : ℕ) → get_or known entry false ≡ true → (d : TierPlace) → IsPlaceOf rests (get_or places entry d))
+    → IsPlaceOf rests place → (entry : ℕ) → get_or (set known i true) entry false ≡ true → (d : TierPlace)
+    → IsPlaceOf rests (get_or (set places i place) entry d)
+remembered known places i place rests inside are new entry is d =
+    elim (cases_Bool (entry == i)) [
+      | inl same ↦
+          subst (λ (n : ℕ). IsPlaceOf rests (get_or (set places i place) n d)) (sym (eqb-true entry i same))
+          (subst (IsPlaceOf rests) (sym (get_or-set_same places i place d inside)) new)
+      | inr other ↦
+          let apart : entry ≢ i = eqb-false entry i other in
+          subst (IsPlaceOf rests) (sym (get_or-set_other places i entry place d apart))
+          (are entry (sym (get_or-set_other known i entry true false apart) ∙ is) d)
+    ]
 
 same_length : (rests later : List MonthUnits) → Shrinks rests later → length later ≡ length rests
 same_length [] [] h = refl
@@ -59,7 +72,7 @@ same_month (m ∷ rests) (r ∷ later) h (suc k) d = same_month rests later (h.1
 -- what spreads left stands at the same places
 pub places_stay : (places : TierPlaces) (rests later : List MonthUnits) → Shrinks rests later → ArePlaces places rests
     → ArePlaces places later
-places_stay places rests later h are k d lt leg f l =
-    let place = get_or places.places k d in
+places_stay places rests later h are entry known d leg f l =
+    let place = get_or places.places entry d in
     stands_too leg leg rests later place.start place.end (same_length rests later h)
-    (λ i x. let same = same_month rests later h i x in rw same refl) (are k d lt leg f l)
+    (λ i x. let same = same_month rests later h i x in rw same refl) (are entry known d leg f l)

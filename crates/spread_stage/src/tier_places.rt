@@ -16,7 +16,7 @@ const FEW_MONTHS: usize = 8;
 const REMEMBERED_TIERS: usize = 29;
 
 // The first and the last month of a tier (`yyyymm`), and where its months stand: from `start` on, and before `end`.
-#[derive(Clone, Copy)]
+#[derive(Clone, Copy, Default)]
 struct TierPlace {
     first: u32,
     last: u32,
@@ -30,23 +30,27 @@ struct TierPlace {
 /// remainder of its first month. Tiers that share an entry take it from each other.
 #[derive(Clone, Copy)]
 pub struct TierPlaces {
+    // Which entries have a tier: after `forget` none has.
+    known: [bool; REMEMBERED_TIERS],
     places: [TierPlace; REMEMBERED_TIERS],
 }
 
 impl TierPlaces {
-    /// No tier was searched: each entry has a tier without months.
+    /// No tier was searched.
     pub fn none() -> TierPlaces
         ensures { (rests : List MonthUnits) → ArePlaces result rests }
     {
-        let place = TierPlace {
-            first: 1,
-            last: 0,
-            start: 0,
-            end: 0,
-        };
         TierPlaces {
-            places: [place; REMEMBERED_TIERS],
+            known: [false; REMEMBERED_TIERS],
+            places: [TierPlace::default(); REMEMBERED_TIERS],
         }
+    }
+
+    /// Forgets all tiers, so that other months can be searched.
+    pub fn forget(&mut self)
+        ensures { (rests : List MonthUnits) → ArePlaces self.new rests }
+    {
+        self.known = [false; REMEMBERED_TIERS];
     }
 
     /// Where the months of a leg's tier stand: from the first of the two places on, and before the second.
@@ -57,8 +61,9 @@ impl TierPlaces {
         ensures at { IsTierAt leg.now rests.now result.0 result.1 }
         ensures places { ArePlaces self.new rests.now }
     {
-        let place = self.places[leg.first as usize % REMEMBERED_TIERS];
-        if place.first == leg.first && place.last == leg.last {
+        let entry = leg.first as usize % REMEMBERED_TIERS;
+        let place = self.places[entry];
+        if self.known[entry] && place.first == leg.first && place.last == leg.last {
             return (place.start as usize, place.end as usize);
         }
         self.search(rests, leg)
@@ -74,7 +79,9 @@ impl TierPlaces {
     {
         let (start, end) = tier_places(rests, leg);
         if let Ok(stop) = u16::try_from(end) {
-            self.places[leg.first as usize % REMEMBERED_TIERS] = TierPlace {
+            let entry = leg.first as usize % REMEMBERED_TIERS;
+            self.known[entry] = true;
+            self.places[entry] = TierPlace {
                 first: leg.first,
                 last: leg.last,
                 start: start as u16,

@@ -67,7 +67,7 @@ impl TierState {
     {
         self.charge = 0;
         self.sides = open_sides(months.as_slice());
-        self.places = TierPlaces::none();
+        self.places.forget();
         self.rests.clear();
         self.rests.reserve(USUAL_MONTHS)?;
         self.rests.extend_from_slice(months.as_slice())

@@ -1,5 +1,5 @@
 -- Where the months of a tier stand.
-use Rattle.std.specs.Prelude.{◌≡◌, ℕ, ◌≤◌, true, false, List, length, All}
+use Rattle.std.specs.Prelude.{◌≡◌, ℕ, ◌≤◌, true, false, List, length, slice_index_or}
 use Rattle.std.specs.List.{AllWithin}
 use Rattle.span_tables.specs.declared.legs.MonthLeg.{MonthLeg}
 use Rattle.spread_stage.specs.Spreads.{is_in_tier}
@@ -20,6 +20,7 @@ abbrev pub IsPlaceOf : List MonthUnits → TierPlace → Type 0
 IsPlaceOf rests place =
     (leg : MonthLeg) → leg.first ≡ place.first → leg.last ≡ place.last → IsTierAt leg rests place.start place.end
 
--- each entry has the places of its tier's months
+-- each known entry has the places of its tier's months
 abbrev pub ArePlaces : TierPlaces → List MonthUnits → Type 0
-ArePlaces places rests = All (IsPlaceOf rests) places.places
+ArePlaces places rests =
+    (entry : ℕ) → slice_index_or places.known entry false ≡ true → (d : TierPlace) → IsPlaceOf rests (slice_index_or places.places entry d)
