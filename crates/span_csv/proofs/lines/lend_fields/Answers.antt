@@ -16,8 +16,11 @@ returns-then-ends_line-clause-lines c =
 
 pub returns-then-ends_line-clause-row : goal.returns-then-ends_line-clause-row
 returns-then-ends_line-clause-row c =
-    rw (take_rest c.loop-end.left.now (c.in-Some.end + 1), c.push.ensures.items,
-    map-append (λ text. text.now) c.loop-end.fields.items (_ ∷ []))
+    rw (
+      take_rest c.loop-end.left.now (c.in-Some.end + 1),
+      c.push.ensures.items,
+      map-append (λ text. text.now) c.loop-end.fields.items (_ ∷ []),
+    )
     (sym c.loop-end.invariant.same
     ∙ rows_at_line c.loop-end.left.now c.loop-end.invariant.lines c.in-Some.end c.in-Some.ensures (texts_of c.loop-end.fields.items)
     c.if-ends_line.true)
