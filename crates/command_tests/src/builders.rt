@@ -1,6 +1,6 @@
 //! What the tests share: a writer that breaks, and what a command line gives.
+use sources::Sources;
 use span_cli::outputs::{ErrorStream, OutputStream};
-use span_cli::sources::Sources;
 use span_cli::words::run_words;
 use statement::marked_writer::MarkedWriter;
 use std::alloc::Global;

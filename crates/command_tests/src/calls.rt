@@ -2,11 +2,11 @@
 //! succeeds where there is memory and nothing fails, once; and the texts of what cannot be read.
 use crate::builders::run_on;
 use sample_files::calendar::{COUNTS, PARAMS};
+use sources::{ReadFault, Sources};
 use span_cli::disk::Disk;
 use span_cli::memory::InMemory;
 use span_cli::reading::{Turns, read_file, read_within};
 use span_cli::serving::{Request, serve};
-use span_cli::sources::{ReadFault, Sources};
 use span_cli::streams::Streams;
 use span_cli::words::request;
 use statement::marked_writer::MarkedWriter;

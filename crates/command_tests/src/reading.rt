@@ -1,6 +1,6 @@
 //! Readers that give little at a time, are interrupted, break, or come to no end.
+use sources::ReadFault;
 use span_cli::reading::{Turns, read_within};
-use span_cli::sources::ReadFault;
 use std::alloc::Global;
 use std::io;
 use std::io::{ErrorKind, Read};

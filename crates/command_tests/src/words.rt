@@ -1,9 +1,9 @@
 //! Command lines where a file cannot be read, or a stream fails.
 use crate::builders::{Breaking, run_on};
 use sample_files::one_future::{PARAMS, POSITIONS, STATEMENT};
+use sources::{ReadFault, Sources};
 use span_cli::memory::InMemory;
 use span_cli::outputs::{ErrorStream, OutputStream};
-use span_cli::sources::{ReadFault, Sources};
 use span_cli::words::{refuse_words, run_words};
 use statement::marked_writer::MarkedWriter;
 use std::alloc::Global;

@@ -4,7 +4,8 @@ use Rattle.std.proofs.Common.{drop, Bor}
 use Rattle.std.proofs.lemmas.List.{at_drop_all, at_drop_more}
 use Rattle.std.specs.Prelude.{if◌then◌else◌}
 use Rattle.clap.specs.Words.{Text}
-use Rattle.span_cli.specs.Reads.{ReadsAsked, ReadsInOrder}
+use Rattle.sources.specs.Reads.{ReadsInOrder}
+use Rattle.span_cli.specs.Reads.{ReadsAsked}
 use Rattle.span_cli.specs.Words.{asked_in, is_request, request_in}
 
 -- the texts of names

@@ -14,7 +14,7 @@ use Rattle.statement_text.specs.declared.faults.SpanFault.{SpanFault}
 use Rattle.statement_text.specs.declared.faults.SpanFault.TheVariants as fault
 use Rattle.span_cli.specs.Serving.{Answer, Asked, Found, IsAnswer, IsAnswered, IsOfRoll, all_read, answer_of, answered, memory}
 use Rattle.span_cli.specs.Serving.{done, read_before, refused}
-use Rattle.span_cli.specs.Sources.{File}
+use Rattle.sources.specs.Files.{File}
 use Rattle.span_cli.specs.Telling.{AnswersWords, RefusesWordsBy, Serves, ServesAsked, Tells}
 use Rattle.span_cli.specs.Telling as telling
 use Rattle.span_cli.specs.near.Refusals.{Loads, MayGive, read_then, refusal_answer, refusal_line, refusal_status}

@@ -11,9 +11,9 @@ use Rattle.statement.specs.Margin.{margin_of}
 use Rattle.statement_text.specs.declared.faults.SpanFault.{SpanFault}
 use Rattle.statement_text.specs.declared.statuses.TheConstants.{DONE, FILE_FAILED, OUT_OF_MEMORY}
 use Rattle.whatif.specs.Whatif.{whatif_of}
-use Rattle.span_cli.specs.Sources.{File}
-use Rattle.span_cli.specs.declared.sources.ReadFault.{ReadFault}
-use Rattle.span_cli.specs.declared.sources.ReadFault.TheVariants as read
+use Rattle.sources.specs.Files.{File}
+use Rattle.sources.specs.declared.ReadFault.{ReadFault}
+use Rattle.sources.specs.declared.ReadFault.TheVariants as read
 use Rattle.span_cli.specs.declared.serving.Request.{Request}
 use Rattle.span_cli.specs.declared.serving.Request.TheVariants as request
 

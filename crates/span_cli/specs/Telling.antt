@@ -6,7 +6,7 @@ use Rattle.clap.specs.declared.error.kind.ErrorKind.TheVariants as kind
 use Rattle.statement_text.specs.Streams.{Says, Stream}
 use Rattle.statement_text.specs.declared.statuses.TheConstants.{FILE_FAILED, USAGE}
 use Rattle.span_cli.specs.Serving.{Answer, Asked, IsAnswer, done, file_line, memory, refused}
-use Rattle.span_cli.specs.Sources.{File}
+use Rattle.sources.specs.Files.{File}
 
 -- the output could not be written
 abbrev pub unwritten : Answer

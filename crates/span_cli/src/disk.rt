@@ -1,12 +1,12 @@
 //! Files of the system.
-ghost use Rattle.span_cli.specs.Sources.{IsOpened};
-ghost use Rattle.span_cli.specs.declared.sources.TheConstants.{FILE_CAP};
+ghost use Rattle.span_cli.specs.Disk.{IsOpened};
+ghost use Rattle.sources.specs.declared.TheConstants.{FILE_CAP};
 ghost use Rattle.span_tables.specs.Names.{is_among};
 ghost use Rattle.std.specs.Prelude.{[], ◌∷◌, ◌≡◌, ◌≢◌, ◌<◌, ◌≤◌, ◌⊎◌, ◌++◌, Err, IfErr, IfOk, IfSome, length, true, vec_len};
 
 use crate::reading::read_file;
-use crate::sources::{ReadFault, Sources};
 use crate::streams::Streams;
+use sources::{ReadFault, Sources};
 use std::alloc::Global;
 use std::fs::{Metadata, OpenFile};
 use std::io;

@@ -8,7 +8,8 @@ pub mod memory;
 pub mod outputs;
 pub mod reading;
 pub mod serving;
-pub mod sources;
 pub mod streams;
 pub mod words;
 pub mod worked;
+
+pub use sources::{FILE_CAP, ReadFault, Sources};

@@ -2,7 +2,7 @@
 ghost use Rattle.std.specs.Prelude.{◌≡◌, option_map};
 ghost use Rattle.span_cli.specs.near.Memory.{bytes_in};
 
-use crate::sources::{FILE_CAP, ReadFault, Sources};
+use sources::{FILE_CAP, ReadFault, Sources};
 use std::alloc::Global;
 
 /// Names, each with the bytes of its file.
@@ -23,7 +23,7 @@ fn bytes_of<'a>(files: &'a [(&'a str, &'a [u8])], name: &str) -> Option<&'a [u8]
 }
 
 impl<'a> Sources for InMemory<'a> {
-    ghost use Rattle.span_cli.specs.declared.sources.TheConstants.{FILE_CAP};
+    ghost use Rattle.sources.specs.declared.TheConstants.{FILE_CAP};
     ghost use Rattle.std.specs.Prelude.{Some};
     ghost use Rattle.span_cli.specs.near.Memory.{bytes_in, capped};
 

@@ -1,12 +1,12 @@
 //! Reading to the end, within a limit.
-ghost use Rattle.span_cli.specs.declared.sources.TheConstants.{FILE_CAP};
+ghost use Rattle.sources.specs.declared.TheConstants.{FILE_CAP};
 ghost use Rattle.std.specs.Io.KnownBytes.{IsAtEnd, ReadConsumes};
 ghost use Rattle.std.specs.Io.{ReadsAtMost};
 ghost use Rattle.std.specs.IoError.{error_kind};
 ghost use Rattle.std.specs.Prelude.{◌+◌, ◌<◌, ◌≡◌, ◌≢◌, ◌≤◌, ◌⊎◌, Err, IfErr, IfOk};
 ghost use Rattle.std.specs.Prelude.{IfSome, OnOk, false, length, true, vec_len};
 
-use crate::sources::{FILE_CAP, ReadFault};
+use sources::{FILE_CAP, ReadFault};
 use std::alloc::{AllocError, Global};
 use std::io;
 use std::io::{ErrorKind, Read};

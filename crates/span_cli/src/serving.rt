@@ -1,5 +1,6 @@
 //! Requests, and the bytes that answer them.
-ghost use Rattle.span_cli.specs.Reads.{ReadsAsked, ReadsInOrder};
+ghost use Rattle.sources.specs.Reads.{ReadsInOrder};
+ghost use Rattle.span_cli.specs.Reads.{ReadsAsked};
 ghost use Rattle.span_cli.specs.Serving.{IsAnswer, IsOfRoll, all_read, answer_of_faults, answered, asked_by, done};
 ghost use Rattle.span_cli.specs.Telling.{Serves, Tells};
 ghost use Rattle.span_cli.specs.near.Refusals.{Loads, LoadsAll, MayGive, Runs, given_answer, refusal_line, refusal_status};
@@ -8,10 +9,10 @@ ghost use Rattle.statement.specs.AllFaults.{faults_of};
 ghost use Rattle.statement_text.specs.Streams.{Says};
 ghost use Rattle.std.specs.Prelude.{◌≡◌, ◌≤◌, IfOk, IfSome, List, Some, false, is_ok, length, map, option_map, ℕ};
 
-use crate::sources::{ReadFault, Sources};
 use arrayvec::ArrayVec;
 use explanation::explaining::explain;
 use result_book::books::ResultBook;
+use sources::{ReadFault, Sources};
 use span_tables::name::Name;
 use statement::all_faults::{faults, faults_status, faults_text};
 use statement::counts::check_plain;

@@ -3,7 +3,7 @@ ghost use Rattle.span_tables.specs.Names.{is_among};
 ghost use Rattle.std.specs.Fs.{IsFile, file_type};
 ghost use Rattle.std.specs.Prelude.{[], ◌∷◌, ◌≡◌, ◌++◌, IfErr, List, OnOk, map, not, string_bytes, ℕ};
 
-use crate::sources::ReadFault;
+use sources::ReadFault;
 use std::alloc::Global;
 use std::fs::Metadata;
 use std::marker::Model;

@@ -18,10 +18,10 @@ ghost use Rattle.std.specs.Prelude.{◌≡◌, ◌≢◌, ◌⊎◌, IfErr, IfOk
 use crate::joining::join_words;
 use crate::outputs::{ErrorStream, OutputStream};
 use crate::serving::{Request, ServingMeans, serve};
-use crate::sources::Sources;
 use clap::builder::ValueParser;
 use clap::error::ErrorKind;
 use clap::{Arg, ArgMatches, Command, Error};
+use sources::Sources;
 use span_tables::name::Name;
 use statement_text::marked_writer::MarkedWriter;
 use statement_text::statuses::{DONE, FILE_FAILED, OUT_OF_MEMORY, USAGE};

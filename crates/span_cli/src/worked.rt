@@ -5,8 +5,8 @@ ghost use Rattle.clap.specs.declared.error.kind.ErrorKind.TheVariants as kind;
 ghost use Rattle.span_cli.specs.Serving.{Check, Explain, Faults, IsAnswer, Margin, Plan, Roll, WhatIf, done, refused};
 ghost use Rattle.span_cli.specs.Words.{asked_in, is_request, joined_words, kinds_of};
 ghost use Rattle.span_cli.specs.declared.reading.TheConstants.{MAX_TURNS};
-ghost use Rattle.span_cli.specs.declared.sources.ReadFault.TheVariants as read;
-ghost use Rattle.span_cli.specs.declared.sources.TheConstants.{FILE_CAP};
+ghost use Rattle.sources.specs.declared.ReadFault.TheVariants as read;
+ghost use Rattle.sources.specs.declared.TheConstants.{FILE_CAP};
 ghost use Rattle.std.specs.Prelude.{◌≡◌, ◌∷◌, Err, None, Ok, Some, [], bytes_eq, codes, if◌then◌else◌, true};
 
 // `span check p` is taken, and asks for just that.

@@ -1,8 +1,8 @@
 -- The files that lie in memory.
 use Rattle.std.specs.Prelude.{ℕ, List, Option, Some, None, Ok, Err, length, nat_le, find, option_map, bytes_eq, if◌then◌else◌}
 use Rattle.std.proofs.Common.{Bor}
-use Rattle.span_cli.specs.Sources.{File}
-use Rattle.span_cli.specs.declared.sources.ReadFault.TheVariants as fault
+use Rattle.sources.specs.Files.{File}
+use Rattle.sources.specs.declared.ReadFault.TheVariants as fault
 
 -- the bytes of the first file of a name
 abbrev pub bytes_in : List (Bor (List ℕ) × Bor (List ℕ)) → List ℕ → Option (List ℕ)

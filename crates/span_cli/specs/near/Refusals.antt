@@ -5,11 +5,11 @@ use Rattle.statement_text.specs.declared.faults.SpanFault.{SpanFault}
 use Rattle.statement_text.specs.declared.faults.SpanFault.TheVariants as fault
 use Rattle.statement_text.specs.declared.statuses.TheConstants.{FILE_FAILED}
 use Rattle.span_cli.specs.Serving.{Answer, Found, answer_of, file_line, refused}
-use Rattle.span_cli.specs.Sources.{File}
+use Rattle.sources.specs.Files.{File}
 use Rattle.span_cli.specs.declared.serving.Given.{Given}
 use Rattle.span_cli.specs.declared.serving.Refusal.{Refusal}
 use Rattle.span_cli.specs.declared.serving.Refusal.TheVariants as refusal
-use Rattle.span_cli.specs.declared.sources.ReadFault.TheVariants as read
+use Rattle.sources.specs.declared.ReadFault.TheVariants as read
 
 -- the line of a refusal
 abbrev pub refusal_line : Refusal → List ℕ

@@ -1,5 +1,7 @@
-//! Where files come from.
-ghost use Rattle.span_cli.specs.Sources.{File, ReadGives};
+//! Where files come from: something that gives the bytes of a file by its name.
+#![tactic(auto)]
+
+ghost use Rattle.sources.specs.Files.{File, ReadGives};
 ghost use Rattle.std.specs.Prelude.{◌≡◌, Bool, IfSome, List, None, Option, Some, is_ok, ℕ};
 
 use std::alloc::Global;
