@@ -1,0 +1,2 @@
+-- What no promise's words stand on: forms near to the code.
+pub mod FieldTests
