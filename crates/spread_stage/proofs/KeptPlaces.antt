@@ -36,8 +36,8 @@ none_of (suc n) zero = refl
 none_of (suc n) (suc entry) = none_of n entry
 
 -- no entry is known
-pub never_known : (entry : ℕ) → get_or (replicate 29 false) entry false ≡ true → ⊥
-never_known entry known = true≢false (sym known ∙ none_of 29 entry)
+pub never_known : (entry : ℕ) → get_or (replicate 16 false) entry false ≡ true → ⊥
+never_known entry known = true≢false (sym known ∙ none_of 16 entry)
 
 -- one more tier is remembered
 pub remembered : (known : List Bool) (places : List TierPlace) (i : ℕ) (place : TierPlace) (rests : List MonthUnits) → i < length places

@@ -7,7 +7,7 @@ ghost use Rattle.spread_stage.specs.Deltas.{month_deltas, units_of};
 ghost use Rattle.spread_stage.specs.Months.{AreMonths, total_size};
 ghost use Rattle.spread_stage.specs.near.Uses.{gathered, with_units_last};
 
-use crate::months::{MonthUnits, Months, USUAL_MONTHS};
+use crate::months::{MonthUnits, Months};
 use span_money::amounts::Units;
 use span_tables::held::Held;
 use span_tables::records::Contract;
@@ -77,7 +77,7 @@ fn refilled(mut months: Vec<MonthUnits>, held: &Held) -> Result<Vec<MonthUnits>,
     ensures kept { IfOk result (λ months. AreMonths months.items) }
 {
     months.clear();
-    months.reserve(held.len().max(USUAL_MONTHS))?;
+    months.reserve(held.len())?;
     let mut latest = 0;
     let mut rise = true;
     for i in 0..held.len() {

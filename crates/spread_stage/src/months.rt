@@ -9,9 +9,6 @@ use std::alloc::Global;
 use std::marker::Model;
 use std::mem;
 
-/// The number of months for which lists take memory at once, so that they seldom grow.
-pub(crate) const USUAL_MONTHS: usize = 16;
-
 /// A month (`yyyymm`) and a delta position in it, in units of 10^-8: its delta, or what spreads left of it.
 #[derive(Clone, Copy, Debug, PartialEq, Eq)]
 pub struct MonthUnits {

@@ -13,7 +13,7 @@ use span_tables::legs::MonthLeg;
 const FEW_MONTHS: usize = 8;
 
 // The number of tiers, at most, whose places are remembered.
-const REMEMBERED_TIERS: usize = 29;
+const REMEMBERED_TIERS: usize = 16;
 
 // The first and the last month of a tier (`yyyymm`), and where its months stand: from `start` on, and before `end`.
 #[derive(Clone, Copy, Default)]

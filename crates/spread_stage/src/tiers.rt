@@ -11,7 +11,7 @@ ghost use Rattle.spread_stage.specs.near.Places.{ArePlaces};
 ghost use Rattle.spread_stage.specs.near.Uses.{used_in_turn};
 ghost use Rattle.spread_stage.specs.declared.months.MonthUnits.{MonthUnits};
 
-use crate::months::{MonthUnits, Months, USUAL_MONTHS};
+use crate::months::{MonthUnits, Months};
 use crate::open_months::open_sides;
 use crate::tier_places::TierPlaces;
 use span_money::division::greatest_fit;
@@ -69,7 +69,6 @@ impl TierState {
         self.sides = open_sides(months.as_slice());
         self.places.forget();
         self.rests.clear();
-        self.rests.reserve(USUAL_MONTHS)?;
         self.rests.extend_from_slice(months.as_slice())
     }
 

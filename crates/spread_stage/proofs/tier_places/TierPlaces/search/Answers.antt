@@ -12,5 +12,5 @@ returns-in-Ok-clause-places c =
     let place : TierPlace = record { first = leg.first; last = leg.last; start = at.result.0; end = c.in-Ok.stop } in
     let here : IsTierAt leg rests place.start place.end =
     subst (λ (stop : ℕ). IsTierAt leg rests at.result.0 stop) (sym c.in-Ok.ensures.1) at.ensures in
-    remembered c.args.self.now.known c.args.self.now.places (leg.first % 29) place rests (omega arith) c.requires.places
+    remembered c.args.self.now.known c.args.self.now.places (leg.first % 16) place rests (omega arith) c.requires.places
     (same_tier leg rests place refl refl here)

@@ -26,17 +26,11 @@ shrinks_if_ok (Err x) months rests e = tt
 
 pub invariant_of-self : goal.invariant_of-self
 invariant_of-self c =
-    let sides = c.open_sides-self-inside.result in
-    let places = c.forget.new.self in
-    rw (c.reserve.ensures.items, c.clear.ensures.items) (tiers_of_nothing sides places (c.forget.ensures []))
-
-pub invariant_of-self-2 : goal.invariant_of-self-2
-invariant_of-self-2 c =
     let months = c.args.months.now in
     let sides = c.open_sides-self-inside.result in
     let places = c.forget.new.self in
     holds_of (λ (ms : List MonthUnits). AreTiers (unspread ms) sides places) c.extend_from_slice.result months _
-    (rests_are c.extend_from_slice.result months _ _ _ (c.reserve.ensures.items ∙ c.clear.ensures.items) c.as_slice-2.ensures.value
+    (rests_are c.extend_from_slice.result months _ _ _ c.clear.ensures.items c.as_slice-2.ensures.value
     c.extend_from_slice.ensures.items)
     (tiers_before months sides places c.as_slice.ensures.kept
     (subst (HaveSides sides) c.as_slice.ensures.value c.open_sides-self-inside.ensures) (c.forget.ensures months))
@@ -45,5 +39,5 @@ invariant_of-self-2 c =
 pub returns-clause-shrinks : goal.returns-clause-shrinks
 returns-clause-shrinks c =
     shrinks_if_ok c.extend_from_slice.result c.args.months.now _
-    (rests_are c.extend_from_slice.result c.args.months.now _ _ _ (c.reserve.ensures.items ∙ c.clear.ensures.items)
+    (rests_are c.extend_from_slice.result c.args.months.now _ _ _ c.clear.ensures.items
     c.as_slice-2.ensures.value c.extend_from_slice.ensures.items)
