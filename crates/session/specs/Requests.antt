@@ -172,7 +172,7 @@ asked_by (request.Fill account trades) = Fill account trades.items
 asked_by (request.Set file) = Set file.now
 asked_by request.Positions = Positions
 
--- the fault is out of memory, of which the definition does not speak
+-- the fault is out of memory, which the definition says nothing about
 abbrev pub is_memory : RequestFault → Bool
 is_memory fault.OutOfMemory = true
 is_memory _ = false

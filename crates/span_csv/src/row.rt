@@ -1,4 +1,4 @@
-//! A record's fields: those of a plain line, which are lent from the bytes of the file, or copied ones.
+//! A record's fields: lent from the bytes of the file if the record is a plain line, or else copied.
 ghost use Rattle.std.specs.Prelude.{◌≡◌, ◌<◌, ◌∷◌, [], IfOk, MatchBool, length};
 ghost use Rattle.csv.specs.Records.{fields_of};
 ghost use Rattle.csv.specs.declared.parser.State.TheVariants as state;
@@ -11,10 +11,10 @@ use csv::{ByteRecord, Reader};
 use std::alloc::{AllocError, Global};
 use std::marker::Model;
 
-/// How many fields of a line are lent. No kind of record has more, so those of a longer one are copied.
+/// How many fields of a line are lent. No kind of record has more. The fields of a longer line are copied.
 pub(crate) const LENT_FIELDS: usize = 32;
 
-/// The fields of a record: those of a line, lent from the bytes of the file, or copied ones.
+/// The fields of a record: lent from the bytes of the file if the record is a plain line, or else copied.
 #[derive(Drop)]
 pub(crate) struct Row<'a> {
     is_lent: bool,
