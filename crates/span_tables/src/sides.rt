@@ -51,7 +51,6 @@ pub fn part_on(side: MarketSide, rest: Units) -> u64
     ensures value { result ≡ part_on side rest }
     ensures bound { result ≤ nat_abs rest }
 {
-    // No branch depends on the sign, which no processor can predict.
     let on_side = match side {
         MarketSide::Long => rest.get().max(0),
         MarketSide::Short => rest.get().min(0),

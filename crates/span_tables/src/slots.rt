@@ -112,7 +112,6 @@ impl OpenSides {
         ensures added { IsOpenAt result number rest }
         ensures kept { (other : ℕ) (z : ℤ) → IsOpenAt self other z → IsOpenAt result other z }
     {
-        // Both words are made, so that no branch depends on the sign.
         let OpenSides { long, short } = self;
         let units = rest.get();
         let long = if units > 0 { long.with(number) } else { long };
