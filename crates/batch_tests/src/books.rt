@@ -7,13 +7,14 @@ use std::alloc::Global;
 use std::process::Abort;
 use std::sync::Arc;
 use step_scheduler::rows::Row;
-use worker_pool::plain::run_account;
+use worker_pool::plain::Runs;
 
 // The row of the account that is long one future.
 fn row_of_one_future(rt: &impl Abort, alloc: Global) -> Arc<Row> {
     let set = set_of(alloc, PARAMS).expect(rt, "a set");
     let account = account_of(alloc, &set, POSITIONS).expect(rt, "an account");
-    run_account(alloc, &set, account).expect(rt, "a row")
+    let mut runs = Runs::new(alloc, &set).expect(rt, "runs");
+    runs.row(account).expect(rt, "a row")
 }
 
 // The row that comes back where it is refused for this reason.

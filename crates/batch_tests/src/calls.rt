@@ -12,13 +12,14 @@ use std::thread::Threads;
 use std::time::Clock;
 use worker_pool::batch::{MAX_WORKERS, run_batch, run_by_team};
 use worker_pool::gates::OpenGate;
-use worker_pool::plain::{run_account, run_plain};
+use worker_pool::plain::{Runs, run_plain};
 use worker_pool::teams::Team;
 
 // One account, which is long one future and loses 1200 at most.
 fn of_one(rt: &impl Abort, alloc: Global, set: &Arc<CompiledSet>) {
     let account = account_of(alloc, set, POSITIONS).expect(rt, "an account");
-    let row = run_account(alloc, set, account).expect(rt, "a row");
+    let mut runs = Runs::new(alloc, set).expect(rt, "runs");
+    let row = runs.row(account).expect(rt, "a row");
     assert!(rt; row.total().get() == 1200);
 }
 

@@ -15,19 +15,20 @@ use span_tables::portfolios::{Portfolio, Portfolios};
 use statement_text::faults::SpanFault;
 use std::alloc::{AllocError, Global};
 use std::sync::Arc;
-use worker_pool::plain::run_account;
+use worker_pool::plain::Runs;
 
-// Appends the lines of the account of a portfolio under a set. Its figures come from a run of the plan.
+// Appends the lines of the account of a portfolio. Its figures come from a run of the plan.
 fn push_portfolio(
     alloc: Global,
     out: &mut Vec<u8>,
-    set: &Arc<CompiledSet>,
+    runs: &mut Runs,
     portfolio: Portfolio,
 ) -> Result<(), AllocError>
-    requires { FitsSet (arc_value set.now) portfolio }
-    ensures { OnOk result (out.new.items ≡ out.old.items ++ account_text (arc_value set.now).tables portfolio) }
+    requires { FitsSet runs.old portfolio }
+    ensures same { runs.new ≡ runs.old }
+    ensures lines { OnOk result (out.new.items ≡ out.old.items ++ account_text runs.old.tables portfolio) }
 {
-    let row = run_account(alloc, set, portfolio)?;
+    let row = runs.row(portfolio)?;
     push_account(alloc, out, &row)?;
     Ok(())
 }
@@ -42,8 +43,9 @@ fn all_lines(
     ensures { IfOk result (λ text. text.items ≡ flat_map (account_text (arc_value set.now).tables) portfolios.items) }
 {
     let mut out = Vec::new(alloc);
+    let mut runs = Runs::new(alloc, set)?;
     for portfolio in portfolios {
-        push_portfolio(alloc, &mut out, set, portfolio)?;
+        push_portfolio(alloc, &mut out, &mut runs, portfolio)?;
     }
     Ok(out)
 }
@@ -67,7 +69,8 @@ fn lines_of(
     ensures { IfOk result (λ text. text.items ≡ account_text (arc_value set.now).tables portfolio) }
 {
     let mut out = Vec::new(alloc);
-    push_portfolio(alloc, &mut out, set, portfolio)?;
+    let mut runs = Runs::new(alloc, set)?;
+    push_portfolio(alloc, &mut out, &mut runs, portfolio)?;
     Ok(out)
 }
 

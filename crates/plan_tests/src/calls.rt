@@ -28,6 +28,7 @@ use step_scheduler::courses::Course;
 use step_scheduler::evaluation::evaluate;
 use step_scheduler::jobs::Job;
 use step_scheduler::rows::Row;
+use step_scheduler::run_memory::RunMemory;
 use step_scheduler::watches::NoWatch;
 
 #[test]
@@ -111,7 +112,11 @@ fn figures_handed_over(rt: &impl Abort, alloc: Global, board: Board)
 fn whole_row(rt: &impl Abort, alloc: Global, job: &Arc<Job>) -> Arc<Row> {
     let course = Course::of(alloc, job.set()).expect(rt, "a course");
     let hold = Arc::try_clone(job).expect(rt, "a hold on the job");
-    let board = Board::whole(alloc, hold, &course, &NoWatch).expect(rt, "a whole board");
+    let mut memory = RunMemory::new(alloc);
+    let board = Board::whole(alloc, hold, &course, &mut memory, &NoWatch).expect(
+        rt,
+        "a whole board",
+    );
     Row::from_board(alloc, board).expect(rt, "its row")
 }
 

@@ -12,6 +12,7 @@ use step_scheduler::courses::Course;
 use step_scheduler::evaluation::evaluate;
 use step_scheduler::events::Event;
 use step_scheduler::jobs::Job;
+use step_scheduler::run_memory::RunMemory;
 use step_scheduler::watches::Watch;
 
 /// The files of an account: parameters and positions.
@@ -112,22 +113,23 @@ fn expect_equal(rt: &impl Abort, one: &Board, other: &Board) {
 }
 
 // The whole board of a job, whose history is the course that its watch was told.
-fn whole_board(rt: &impl Abort, alloc: Global, job: &Arc<Job>) -> Board {
+fn whole_board(rt: &impl Abort, alloc: Global, job: &Arc<Job>, memory: &mut RunMemory) -> Board {
     let course = Course::of(alloc, job.set()).expect(rt, "a course");
     let watch = InOrder::of_takes(rt, alloc, course.events());
     let hold = Arc::try_clone(job).expect(rt, "a hold on the job");
-    let whole = Board::whole(alloc, hold, &course, &watch).expect(rt, "a whole board");
+    let whole = Board::whole(alloc, hold, &course, memory, &watch).expect(rt, "a whole board");
     assert!(rt; watch.was_told_all() && whole.history() == course.events());
     whole
 }
 
-// A whole board of each account, watched, beside one that goes by steps.
+// A whole board of each account, watched, next to one that goes by steps. All work in the same memory.
 #[test]
 fn whole_boards_beside_boards_by_steps(rt: HostRuntime) {
     let alloc = rt.alloc();
+    let mut memory = RunMemory::new(alloc);
     for (params, positions) in ACCOUNTS {
         let job = job_of(alloc, params, positions).expect(&rt, "a job");
-        let whole = whole_board(&rt, alloc, &job);
+        let whole = whole_board(&rt, alloc, &job, &mut memory);
         expect_equal(&rt, &whole, &run_by_steps(&rt, alloc, &job));
     }
 }

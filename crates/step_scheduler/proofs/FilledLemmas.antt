@@ -14,7 +14,7 @@ use Rattle.plan_ir.specs.Figures.{figures_from, figures_of, held_at, inter_state
 use Rattle.plan_ir.specs.Values.{no_figures}
 use Rattle.plan_ir.specs.declared.figures.Figures.{Figures}
 use Rattle.step_scheduler.specs.declared.held_figures.HeldFigures.{HeldFigures}
-use Rattle.step_scheduler.specs.declared.parts.Part.{Part}
+use Rattle.step_scheduler.specs.declared.run_memory.Part.{Part}
 use Rattle.step_scheduler.specs.near.Figures.{AreFilled, AreHeldFigures, HasFigures, place_of}
 use Rattle.step_scheduler.specs.near.Parts.{IsEnd, IsNext, IsPart, NoneHeld, figures_of_part}
 use Rattle.step_scheduler.proofs.NothingLemmas.{figures_of_nothing}

@@ -12,7 +12,7 @@ use Rattle.span_tables.specs.declared.portfolios.Holding.{Holding}
 use Rattle.plan_ir.specs.Figures.{held_at}
 use Rattle.span_tables.specs.declared.held.CommodityHeld.{CommodityHeld}
 use Rattle.span_tables.specs.near.HeldCommodities.{AreHeldCommodities}
-use Rattle.step_scheduler.specs.declared.parts.Part.{Part}
+use Rattle.step_scheduler.specs.declared.run_memory.Part.{Part}
 use Rattle.step_scheduler.specs.near.Parts.{AreHeldFrom, ArePartsFrom, IsEnd, IsNext, IsPart}
 
 module _ (t : AcceptedTables) (holdings : List Holding) where

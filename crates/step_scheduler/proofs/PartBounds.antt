@@ -12,7 +12,7 @@ use Rattle.plan_ir.proofs.FigureBounds.{deltas_at_are, delivery_at_small, minimu
 use Rattle.plan_ir.proofs.FigureBounds.{length-inter_states}
 use Rattle.plan_compiler.specs.Meaning.{states_loaded}
 use Rattle.plan_compiler.proofs.Taken.{length_partly, not_loaded, unspread}
-use Rattle.step_scheduler.specs.declared.parts.Part.{Part}
+use Rattle.step_scheduler.specs.declared.run_memory.Part.{Part}
 use Rattle.step_scheduler.specs.near.Parts.{CanBeLoaded, HasState, IsNext, IsPart, IsSmall}
 use Rattle.step_scheduler.proofs.PassedOver.{states_over}
 

@@ -13,7 +13,7 @@ use Rattle.plan_ir.specs.Figures.{figures_of, held_at, state_of, net_value_at, t
 use Rattle.plan_ir.specs.declared.figures.Figures.{Figures}
 use Rattle.plan_compiler.specs.Meaning.{states_loaded}
 use Rattle.plan_compiler.proofs.Meanings.{load_more, total_more, value_more}
-use Rattle.step_scheduler.specs.declared.parts.Part.{Part}
+use Rattle.step_scheduler.specs.declared.run_memory.Part.{Part}
 use Rattle.step_scheduler.specs.near.Parts.{IsNext, IsPart, NoneHeld}
 use Rattle.step_scheduler.specs.declared.held_figures.HeldFigures.{HeldFigures}
 use Rattle.step_scheduler.specs.near.Figures.{HasFigures, place_of}

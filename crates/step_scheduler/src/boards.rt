@@ -22,6 +22,7 @@ use crate::held_figures::HeldFigures;
 use crate::jobs::Job;
 use crate::opening::found_values;
 use crate::progress::{Progress, all_done, is_under_way};
+use crate::run_memory::RunMemory;
 use crate::stepped::Stepped;
 use crate::tasks::Task;
 use crate::watches::{Watch, pass_steps};
@@ -117,11 +118,12 @@ impl Board {
     /// A board of a job on which every step of its plan was run, in one call: its history is the course of the set, which it shares.
     ///
     /// The watch is passed for each step in the order of that history, before the first is evaluated. It is passed also for the
-    /// steps of what is not held, of which nothing is evaluated.
+    /// steps of what is not held, of which nothing is evaluated. What an earlier run left in the memory changes nothing.
     pub fn whole<W: Watch>(
         alloc: Global,
         job: Arc<Job>,
         course: &Course,
+        memory: &mut RunMemory,
         watch: &W,
     ) -> Result<Board, AllocError>
         requires { course.now.set ≡ (arc_value job).set }
@@ -131,7 +133,7 @@ impl Board {
         // Called for its clauses: the plan keeps the plan law, and the portfolio fits the tables.
         let _plan = job.plan();
         pass_steps(course.events(), watch);
-        let whole = Whole::new(alloc, &job, course)?;
+        let whole = Whole::new(alloc, &job, course, memory)?;
         Ok(Board {
             alloc,
             job,

@@ -52,6 +52,13 @@ impl Course {
         Ok(Course { set, events, blank })
     }
 
+    /// The set.
+    pub fn set(&self) -> &Arc<CompiledSet>
+        ensures { arc_value result.now ≡ self.now.set }
+    {
+        &self.set
+    }
+
     // The commodities of an account that holds nothing, before any spread between them.
     pub(crate) fn blank(&self) -> &InterState
         ensures { result.now ≡ replicate (length self.now.set.tables.commodities) (unspread_state (pos 0) 0) }

@@ -16,6 +16,7 @@ mod opening;
 mod parts;
 pub mod progress;
 pub mod rows;
+pub mod run_memory;
 mod stepped;
 pub mod tasks;
 pub mod watches;

@@ -1,5 +1,5 @@
 //! The figures of all commodities of a job, its total and its option value, with no value kept for a step.
-ghost use Rattle.std.specs.Prelude.{◌≡◌, ◌<◌, ◌≤◌, ◌+ℤ◌, All, IfOk, List, fold, length, nat_abs, pos, replicate};
+ghost use Rattle.std.specs.Prelude.{◌≡◌, ◌<◌, ◌≤◌, ◌+ℤ◌, All, IfOk, List, OnOk, fold, length, nat_abs, pos, replicate};
 ghost use Rattle.std.specs.Prelude.{slice_set, true};
 ghost use Rattle.span_money.specs.declared.amounts.TheConstants.{MAX_MONEY};
 ghost use Rattle.span_tables.specs.Accepted.{IsInter, IsIntra};
@@ -16,14 +16,14 @@ ghost use Rattle.step_scheduler.specs.near.Figures.{AreHeldFigures};
 ghost use Rattle.step_scheduler.specs.near.Parts.{ArePartsFrom, CanBeLoaded, HasState, IsPart, figures_of_part};
 
 use crate::held_figures::HeldFigures;
+use crate::run_memory::{Part, RunMemory};
 use inter_credit::option_value::net_value;
 use inter_credit::requirement::minimum;
 use inter_credit::state::InterState;
 use plan_ir::figures::Figures;
-use scan_risk::Scan;
 use scan_risk::scanning::scan;
 use scan_risk::scenarios::sums;
-use span_money::amounts::{Money, Units};
+use span_money::amounts::Money;
 use span_tables::held::{Held, gather_held};
 use span_tables::portfolios::Portfolio;
 use span_tables::records::{Inter, Intra};
@@ -32,19 +32,6 @@ use spread_stage::charges::delivery;
 use spread_stage::months::Months;
 use spread_stage::tiers::TierState;
 use std::alloc::{AllocError, Global};
-
-// What a held commodity has before any spread between commodities: its number, its scan, its net delta, the exact sum of its
-// spreads times their rates in 10^-4 minor units, its amounts, and its option value where options have one.
-#[derive(Clone, Copy)]
-pub(crate) struct Part {
-    pub(crate) commodity: usize,
-    pub(crate) scan: Scan,
-    pub(crate) net: Units,
-    pub(crate) charge: u128,
-    pub(crate) delivery: Money,
-    pub(crate) minimum: Money,
-    pub(crate) worth: Money,
-}
 
 // Forms the spreads of a commodity in their order.
 #[inline(always)]
@@ -102,24 +89,30 @@ fn part_of(
     })
 }
 
-// What each held commodity of a job has, by rising numbers.
-pub(crate) fn parts_of(
+// What each held commodity of a job has, by rising numbers. It replaces the parts in the memory that is passed.
+pub(crate) fn find_parts(
     alloc: Global,
     tables: &Tables,
     portfolio: &Portfolio,
-) -> Result<Vec<Part>, AllocError>
+    memory: &mut RunMemory,
+) -> Result<(), AllocError>
     requires { fits (length tables.now.contracts) portfolio.now.holdings ≡ true }
-    ensures { IfOk result (λ parts. ArePartsFrom tables.now portfolio.now.holdings 0 parts.items) }
+    ensures { OnOk result (ArePartsFrom tables.now portfolio.now.holdings 0 memory.new.parts.items) }
 {
     let list = gather_held(alloc, tables, portfolio)?;
-    let mut months = Months::none(alloc);
-    let mut tiers = TierState::none(alloc);
-    let mut parts = Vec::with_capacity(alloc, list.len())?;
+    memory.parts.clear();
+    memory.parts.reserve(list.len())?;
     for one in &list {
-        let part = part_of(tables, one.commodity, &one.held, &mut months, &mut tiers)?;
-        parts.push(part)?;
+        let part = part_of(
+            tables,
+            one.commodity,
+            &one.held,
+            &mut memory.months,
+            &mut memory.tiers,
+        )?;
+        memory.parts.push(part)?;
     }
-    Ok(parts)
+    Ok(())
 }
 
 // Loads the net delta and the price risk of a commodity.

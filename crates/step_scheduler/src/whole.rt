@@ -7,7 +7,8 @@ use crate::courses::Course;
 use crate::events::Event;
 use crate::held_figures::HeldFigures;
 use crate::jobs::Job;
-use crate::parts::{figures_of_all, form_inters, loaded, parts_of, total_of, value_of_all};
+use crate::parts::{figures_of_all, find_parts, form_inters, loaded, total_of, value_of_all};
+use crate::run_memory::RunMemory;
 use span_money::amounts::Money;
 use std::alloc::{AllocError, Global};
 use std::sync::Arc;
@@ -24,19 +25,25 @@ pub(crate) struct Whole {
 
 impl Whole {
     // What a run of a job gives in the order of its set's course.
-    pub(crate) fn new(alloc: Global, job: &Job, course: &Course) -> Result<Whole, AllocError>
+    pub(crate) fn new(
+        alloc: Global,
+        job: &Job,
+        course: &Course,
+        memory: &mut RunMemory,
+    ) -> Result<Whole, AllocError>
         requires { course.now.set ≡ job.now.set }
         ensures events { IfOk result (λ whole. (arc_value whole.events).items ≡ course.now.events) }
         ensures results { IfOk result (λ whole. HasResults job.now whole) }
     {
         let tables = job.set().tables();
         let portfolio = job.portfolio();
-        let parts = parts_of(alloc, tables, portfolio)?;
-        let mut states = loaded(alloc, tables, portfolio, &parts, course.blank())?;
+        find_parts(alloc, tables, portfolio, memory)?;
+        let parts = memory.parts.as_slice();
+        let mut states = loaded(alloc, tables, portfolio, parts, course.blank())?;
         form_inters(&mut states, tables.inters());
-        let figures = figures_of_all(alloc, tables, portfolio, &parts, &states)?;
-        let total = total_of(tables, portfolio, &parts, &figures);
-        let value = value_of_all(tables, portfolio, &parts);
+        let figures = figures_of_all(alloc, tables, portfolio, parts, &states)?;
+        let total = total_of(tables, portfolio, parts, &figures);
+        let value = value_of_all(tables, portfolio, parts);
         Ok(Whole {
             events: course.share_events()?,
             figures,

@@ -11,12 +11,14 @@ use plan_compiler::set::CompiledSet;
 use span_tables::name::Name;
 use span_tables::portfolios::Portfolio;
 use std::alloc::{AllocError, Global};
+use std::marker::Model;
 use std::sync::Arc;
 use step_scheduler::boards::Board;
 use step_scheduler::courses::Course;
 use step_scheduler::jobs::Job;
 use step_scheduler::rows::Row;
-use step_scheduler::watches::Watch;
+use step_scheduler::run_memory::RunMemory;
+use step_scheduler::watches::{NoWatch, Watch};
 
 /// The place in its team of the worker that hands out steps, which is the only one where there are no helpers.
 pub(crate) const COORDINATOR: usize = 0;
@@ -36,72 +38,85 @@ impl<G: Gate> Watch for StepsOf<'_, G> {
     }
 }
 
-// What the runs of a batch on one thread share: the set with its course, the gate, and the team that has the one worker.
+/// Runs of one account after another under a set, on one thread. The set's course is made once, and the runs share the memory that
+/// they work in.
+///
+/// Contracts see the set.
 #[derive(Drop)]
-struct Runs<'a, G: Gate> {
+pub struct Runs {
     alloc: Global,
-    set: &'a Arc<CompiledSet>,
     course: Course,
-    team: Team,
-    gate: &'a G,
-    ghost of_set: { course.set ≡ arc_value set.now },
+    memory: RunMemory,
 }
 
-impl<'a, G: Gate> Runs<'a, G> {
-    fn new(
-        alloc: Global,
-        set: &'a Arc<CompiledSet>,
-        team: Team,
-        gate: &'a G,
-    ) -> Result<Runs<'a, G>, AllocError>
-        ensures { IfOk result (λ runs. runs.set.now ≡ set.now) }
+impl Model for Runs {
+    ghost use Rattle.plan_compiler.specs.Compiled.{SetView};
+
+    ghost Value = { SetView };
+
+    ghost view = { λ runs. (runs.course).set };
+}
+
+impl Runs {
+    /// Runs under a set, of which none has begun.
+    pub fn new(alloc: Global, set: &Arc<CompiledSet>) -> Result<Runs, AllocError>
+        ensures { IfOk result (λ runs. runs ≡ arc_value set.now) }
     {
         let course = Course::of(alloc, set)?;
         Ok(Runs {
             alloc,
-            set,
             course,
-            team,
-            gate,
+            memory: RunMemory::new(alloc),
         })
     }
 
-    // The row of an account.
-    fn row(&self, portfolio: Portfolio, place: usize) -> Result<Arc<Row>, AllocError>
-        requires { FitsSet (arc_value self.now.set.now) portfolio }
-        ensures { IfOk result (λ row. arc_value row ≡ record { set = arc_value self.now.set.now; portfolio = portfolio }) }
+    /// The row of an account. The portfolio fits the set's tables. If memory runs out, the next account can still be run.
+    pub fn row(&mut self, portfolio: Portfolio) -> Result<Arc<Row>, AllocError>
+        requires { FitsSet self.old portfolio }
+        ensures same { self.new ≡ self.old }
+        ensures row { IfOk result (λ row. arc_value row ≡ record { set = self.old; portfolio = portfolio }) }
     {
-        let set = Arc::try_clone(self.set)?;
+        self.watched_row(portfolio, 0, &NoWatch)
+    }
+
+    // The row of the account at a place in its batch. The watch is passed for each step.
+    fn watched_row<W: Watch>(
+        &mut self,
+        portfolio: Portfolio,
+        place: usize,
+        watch: &W,
+    ) -> Result<Arc<Row>, AllocError>
+        requires { FitsSet self.old portfolio }
+        ensures same { self.new ≡ self.old }
+        ensures row { IfOk result (λ row. arc_value row ≡ record { set = self.old; portfolio = portfolio }) }
+    {
+        let set = Arc::try_clone(self.course.set())?;
         let job = Arc::new(self.alloc, Job::new(set, portfolio, place))?;
-        let steps = StepsOf {
-            gate: self.gate,
-            team: self.team,
-            account: job.portfolio().account(),
-        };
-        let board = Board::whole(self.alloc, Arc::try_clone(&job)?, &self.course, &steps)?;
+        let board = Board::whole(self.alloc, job, &self.course, &mut self.memory, watch)?;
         Row::from_board(self.alloc, board)
     }
 
-    // The outcome of an account.
-    fn outcome(&self, portfolio: Portfolio, place: usize) -> Outcome
-        requires { FitsSet (arc_value self.now.set.now) portfolio }
-        ensures { IsOutcome (arc_value self.now.set.now) portfolio result }
+    // The outcome of the account at a place in its batch, which passes the gate before each evaluation.
+    fn outcome<G: Gate>(
+        &mut self,
+        portfolio: Portfolio,
+        place: usize,
+        team: Team,
+        gate: &G,
+    ) -> Outcome
+        requires { FitsSet self.old portfolio }
+        ensures same { self.new ≡ self.old }
+        ensures outcome { IsOutcome self.old portfolio result }
     {
         let account = portfolio.account().copied();
-        Outcome::of(account, self.row(portfolio, place))
+        let steps = StepsOf {
+            gate,
+            team,
+            account: &account,
+        };
+        let row = self.watched_row(portfolio, place, &steps);
+        Outcome::of(account, row)
     }
-}
-
-/// The row of an account under a set, on one thread. The portfolio fits the set's tables.
-pub fn run_account(
-    alloc: Global,
-    set: &Arc<CompiledSet>,
-    portfolio: Portfolio,
-) -> Result<Arc<Row>, AllocError>
-    requires { FitsSet (arc_value set.now) portfolio }
-    ensures { IfOk result (λ row. arc_value row ≡ record { set = arc_value set.now; portfolio = portfolio }) }
-{
-    Runs::new(alloc, set, Team::ALONE, &OpenGate)?.row(portfolio, 0)
 }
 
 /// The outcomes of accounts under a set, on the coordinator of a team, which passes a gate before each evaluation. All else is as
@@ -116,11 +131,11 @@ pub(crate) fn run_on_one<G: Gate>(
     requires { AllFit (arc_value set.now) portfolios.items }
     ensures { IfOk result (λ outcomes. AreOutcomes (arc_value set.now) portfolios.items outcomes.items) }
 {
-    let runs = Runs::new(alloc, set, team, gate)?;
+    let mut runs = Runs::new(alloc, set)?;
     let mut outcomes = Vec::with_capacity(alloc, portfolios.len())?;
     for portfolio in portfolios {
         let place = outcomes.len();
-        outcomes.push(runs.outcome(portfolio, place))?;
+        outcomes.push(runs.outcome(portfolio, place, team, gate))?;
     }
     Ok(outcomes)
 }

@@ -11,7 +11,7 @@ use Rattle.inter_credit.specs.declared.commodity_state.CommodityState.{Commodity
 use Rattle.plan_ir.specs.Figures.{delivery_at, deltas_at, figures_from, held_at, is_commodity_held, minimum_at, net_value_at, scan_at}
 use Rattle.plan_ir.specs.Figures.{tiers_at}
 use Rattle.plan_ir.specs.declared.figures.Figures.{Figures}
-use Rattle.step_scheduler.specs.declared.parts.Part.{Part}
+use Rattle.step_scheduler.specs.declared.run_memory.Part.{Part}
 
 -- nothing is held of the commodities from one number up to another
 abbrev pub NoneHeld : AcceptedTables → List Holding → ℕ → ℕ → Type 0

@@ -2,7 +2,7 @@ use Rattle.std.proofs.Common.{◌≡◌, ◌+◌, [], ◌∷◌, ◌++◌, sym, 
 use Rattle.std.proofs.lemmas.List.{append-nil}
 use Rattle.step_scheduler.specs.near.Parts.{AreHeldFrom, ArePartsFrom, IsNext}
 use Rattle.step_scheduler.proofs.HeldLemmas.{held_from, next_held, no_held}
-use Rattle.step_scheduler.proofs.parts.parts_of.Goals as goal
+use Rattle.step_scheduler.proofs.parts.find_parts.Goals as goal
 
 pub loop-one-init : goal.loop-one-init
 loop-one-init c =
@@ -11,7 +11,7 @@ loop-one-init c =
       0,
       subst (AreHeldFrom t holdings 0) (sym c.deref-one-items.ensures.value)
           (held_from t holdings c.in_ok-list.list.items c.in_ok-list.ensures),
-      λ rest parts. rw c.in_ok-parts.ensures.items parts,
+      λ rest parts. rw c.in_ok-reserve.ensures.items (rw c.clear.ensures.items parts),
     )
 
 pub part_of-requires : goal.part_of-requires
@@ -35,7 +35,7 @@ loop-one-preserved c =
       λ rest parts.
           let from = subst (λ n. ArePartsFrom t holdings (n + 1) rest) (sym number) parts in
           subst (ArePartsFrom t holdings 0) (sym (ap (λ ps. ps ++ rest) c.in_ok-push.ensures.items
-          ∙ append_assoc c.loop-one.parts.items (part ∷ []) rest)) (before.2 (part ∷ rest) (next, is here.1, from)),
+          ∙ append_assoc c.loop-one.memory.parts.items (part ∷ []) rest)) (before.2 (part ∷ rest) (next, is here.1, from)),
     )
 
 pub returns : goal.returns
@@ -44,4 +44,4 @@ returns c =
     let holdings = (c.args.portfolio.now).holdings in
     let before = c.loop-one.invariant in
     let end = no_held t holdings c.deref-one-items.result.now c.loop-one.one-index c.loop-one.invariant.0 c.loop-one-test.false before.1 in
-    subst (ArePartsFrom t holdings 0) (append-nil c.loop-one.parts.items) (before.2 [] end)
+    subst (ArePartsFrom t holdings 0) (append-nil c.loop-one.memory.parts.items) (before.2 [] end)
