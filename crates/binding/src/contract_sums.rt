@@ -137,7 +137,7 @@ impl Sums {
         self.marks.fill(0);
     }
 
-    /// Makes it so many sums of 0. It allocates only if there were more or fewer.
+    /// Sets how many sums there are, and each sum to 0. It allocates only if their number changes.
     pub(crate) fn start(&mut self, alloc: Global, count: usize) -> Result<(), AllocError>
         ensures { OnOk result (self.new ≡ replicate count (pos 0)) }
     {

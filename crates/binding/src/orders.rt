@@ -166,10 +166,10 @@ fn bind_orders_of(
     }
 }
 
-/// The ids of the contracts that orders are bound to, by the contracts' numbers, and a sum for each contract. Contracts see the list of
-/// the ids.
+/// Binds orders to the contracts of accepted tables. Clauses see the list of the contracts' ids, by contract number.
 ///
-/// It is made once for a set. A call then takes time for the orders and the portfolios that it is given, and a word for each 64 contracts.
+/// It is made once for a set, and binds any number of orders. Each order costs one word for each 64 contracts of the set, and otherwise
+/// only what the order and its account hold; no call goes over the contracts themselves.
 #[derive(Drop)]
 pub struct OrderBinder {
     numbers: IndexSet<Name>,
@@ -188,7 +188,7 @@ impl Model for OrderBinder {
 }
 
 impl OrderBinder {
-    /// The contracts of these tables.
+    /// A binder to the contracts of these tables. It fails only if it runs out of memory, as does `portfolio_after`.
     pub fn new(alloc: Global, tables: &Tables) -> Result<OrderBinder, AllocError>
         ensures { IfOk result (λ binder. binder ≡ ids_of tables.now.contracts) }
     {
@@ -211,8 +211,8 @@ impl OrderBinder {
         bind_orders_of(alloc, &self.numbers, &mut self.sums, portfolios, orders)
     }
 
-    /// The portfolio of the account of the order of a number, from 0, with that order. If the orders were bound to another number of
-    /// contracts, the sums are allocated anew.
+    /// The portfolio of the account of the order of a number, from 0, with that order. These may be orders of another binder; if it has
+    /// more or fewer contracts, memory for their sums is allocated again.
     pub fn portfolio_after(
         &mut self,
         alloc: Global,

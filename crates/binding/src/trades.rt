@@ -49,12 +49,14 @@ pub fn order_of_trades(
     requires { All (λ trade. nat_abs trade.quantity ≤ MAX_QUANTITY) trades.now }
     ensures { IfOk result (λ orders. orders ≡ map (trade_record order.now account.now) trades.now) }
 {
-    let mut orders = IndexSet::new(alloc);
-    let mut accounts = Vec::new(alloc);
-    if !trades.is_empty() {
-        orders.insert(order.copied())?;
-        accounts.push(account.copied())?;
+    if trades.is_empty() {
+        let none = RawPositions::new(IndexSet::new(alloc), Vec::new(alloc));
+        return Ok(RawOrders::new(none, Vec::new(alloc)));
     }
+    let mut orders = IndexSet::new(alloc);
+    orders.insert(order.copied())?;
+    let mut accounts = Vec::new(alloc);
+    accounts.push(account.copied())?;
     let records = numbered_trades(alloc, trades)?;
     Ok(RawOrders::new(RawPositions::new(orders, records), accounts))
 }
