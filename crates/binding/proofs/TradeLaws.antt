@@ -12,7 +12,7 @@ use Rattle.span_tables.specs.declared.limits.TheConstants.{MAX_QUANTITY}
 use Rattle.span_tables.specs.declared.records.NumberedPosition.{NumberedPosition}
 use Rattle.span_tables.specs.declared.records.OrderRecord.{OrderRecord}
 use Rattle.span_tables.specs.declared.records.PositionRecord.{PositionRecord}
-use Rattle.binding.specs.Trades.{trade_record}
+use Rattle.binding.specs.OrderBinding.{trade_record}
 use Rattle.binding.specs.near.Trades.{numbered_trade}
 use Rattle.binding.specs.declared.trades.Trade.{Trade}
 use Rattle.binding.proofs.AccountLaws.{bytes_eq-refl}

@@ -197,7 +197,7 @@ impl OrderBinder {
         Ok(OrderBinder { numbers, sums })
     }
 
-    /// The orders of a file, tried on the portfolios of accounts, or the fault of the orders, of B1 to B3 (docs/FORMATS.md, "Faults").
+    /// The orders of a file with the portfolios of their accounts, or the fault of the orders, of B1 to B3 (docs/FORMATS.md, "Faults").
     pub fn bind(
         &mut self,
         alloc: Global,
