@@ -96,20 +96,6 @@ impl Orders {
         let orders = some_of(&self.orders, first, count);
         portfolios_after(alloc, self.contracts, self.portfolios.as_slice(), orders)
     }
-
-    // The portfolio of the account of the order of a number with it.
-    fn portfolio_with(
-        &self,
-        alloc: Global,
-        sums: &mut Sums,
-        order: usize,
-    ) -> Result<Portfolio, AllocError>
-        requires { order < length self.now.orders }
-        ensures { IfOk result (λ after. option_map (λ o. o.after) (slice_get self.now.orders order) ≡ Some after) }
-    {
-        let portfolios = self.portfolios.as_slice();
-        portfolio_after(alloc, sums, self.contracts, portfolios, &self.orders[order])
-    }
 }
 
 // A fault of positions that are records of orders under their names, as one of orders.
@@ -223,7 +209,9 @@ impl OrderBinder {
         ensures after { IfOk result (λ after. option_map (λ o. o.after) (slice_get orders.now.orders order) ≡ Some after) }
         ensures binder { self.new ≡ self.old }
     {
-        orders.portfolio_with(alloc, &mut self.sums, order)
+        let portfolios = orders.portfolios.as_slice();
+        let order = &orders.orders[order];
+        portfolio_after(alloc, &mut self.sums, orders.contracts, portfolios, order)
     }
 }
 

@@ -1,5 +1,5 @@
 //! Trades, and the records of an order that consists of them.
-ghost use Rattle.std.specs.Prelude.{◌≡◌, ◌≤◌, All, IfOk, length, map, nat_abs};
+ghost use Rattle.std.specs.Prelude.{◌≡◌, ◌≤◌, All, IfOk, map, nat_abs};
 ghost use Rattle.binding.specs.OrderBinding.{trade_record};
 ghost use Rattle.binding.specs.near.Trades.{numbered_trade};
 ghost use Rattle.span_tables.specs.declared.limits.TheConstants.{MAX_QUANTITY};
