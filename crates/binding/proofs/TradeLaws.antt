@@ -4,7 +4,6 @@ use Rattle.std.proofs.Common.{subst, sym}
 use Rattle.std.specs.Prelude.{◌==◌, All, nat_abs, slice_index_or}
 use Rattle.std.proofs.lemmas.Bool.{eqb-false}
 use Rattle.std.proofs.lemmas.List.Elements.{All-map}
-use Rattle.span_tables.specs.Names.{distinct}
 use Rattle.span_tables.specs.Net.{accounts_of}
 use Rattle.span_tables.specs.near.Orders.{order_record, order_records}
 use Rattle.span_tables.specs.near.Positions.{named_position, named_positions, AreNumbered}

@@ -1,9 +1,8 @@
-use Rattle.std.proofs.Common.{◌≡◌, ◌∙◌, ap, subst, sym, Err, List}
+use Rattle.std.proofs.Common.{◌≡◌, ◌∙◌, ap, subst, sym, Err}
 use Rattle.std.specs.Prelude.{MatchBool, ⊤}
 use Rattle.std.proofs.lemmas.List.Elements.{All-same}
-use Rattle.span_tables.specs.declared.records.Contract.{Contract}
 use Rattle.binding.specs.OrderBinding.{is_memory, orders_bound}
-use Rattle.binding.specs.near.Holdings.{found_faults, ids_of}
+use Rattle.binding.specs.near.Holdings.{found_faults}
 use Rattle.binding.specs.near.Orders.{all_kept_as, HasPlace}
 use Rattle.binding.specs.declared.faults.OrderBindFault.{OrderBindFault}
 use Rattle.binding.specs.declared.orders.kept_orders.KeptOrder.{KeptOrder}

@@ -1,4 +1,4 @@
-use Rattle.std.proofs.Common.{◌≡◌, ◌∙◌, [], ◌∷◌, ◌++◌, ap, bytes_eq, sym}
+use Rattle.std.proofs.Common.{◌∙◌, [], ◌∷◌, ◌++◌, ap, bytes_eq, sym}
 use Rattle.indexmap.specs.IndexSet.{insert_key}
 use Rattle.binding.proofs.TradeLaws.{one_account, trades_are, trades_numbered}
 use Rattle.binding.proofs.trades.order_of_trades.Goals as goal
