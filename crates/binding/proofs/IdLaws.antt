@@ -1,6 +1,6 @@
 -- Laws of the ids of contracts that stand apart.
 use Rattle.std.proofs.Common.{◌≡◌, ℕ, zero, suc, ◌+◌, ◌<◌, ◌||◌, false, cond, List, []}
-use Rattle.std.proofs.Common.{◌∷◌, ◌++◌, ◌≤◌, length, get_or, take, refl, sym, ap, subst, ◌∙◌, arith}
+use Rattle.std.proofs.Common.{◌∷◌, ◌++◌, ◌≤◌, length, get_or, map, take, refl, sym, ap, subst, ◌∙◌, arith}
 use Rattle.std.specs.Prelude.{bytes_eq}
 use Rattle.std.specs.List.{list_any}
 use Rattle.std.proofs.lemmas.Bool.{or_parts, or_from, true≢false, false_from_ne_true}
@@ -12,6 +12,7 @@ use Rattle.span_tables.specs.declared.records.Contract.{Contract}
 use Rattle.span_tables.specs.declared.limits.TheConstants.{MAX_CONTRACTS}
 use Rattle.binding.specs.near.Holdings.{ids_of}
 use Rattle.binding.specs.near.Ledgers.{AreNumbers}
+use Rattle.binding.specs.near.Samples.{contract_of}
 use Rattle.binding.proofs.AccountLaws.{bytes_eq-flip}
 
 -- no id before a contract is that contract's
@@ -50,6 +51,20 @@ pub ids_apart : (contracts : List Contract)
     → has_repeat (λ x y. bytes_eq x.id y.id) contracts ≡ has_repeat bytes_eq (ids_of contracts)
 ids_apart [] = refl
 ids_apart (x ∷ contracts) = let here = any_ids x.id contracts in let rest = ids_apart contracts in λ i. here i || rest i
+
+-- contracts with ids that stand apart do so by these
+pub apart_by_ids : (contracts : List Contract) (ids : List (List ℕ)) → ids_of contracts ≡ ids → has_repeat bytes_eq ids ≡ false
+    → has_repeat (λ x y. bytes_eq x.id y.id) contracts ≡ false
+apart_by_ids contracts ids are apart = ids_apart contracts ∙ ap (has_repeat bytes_eq) are ∙ apart
+
+-- some contracts have these ids
+pub contracts_of : List (List ℕ) → List Contract
+contracts_of ids = map contract_of ids
+
+pub contracts_of_are : (ids : List (List ℕ)) → ids_of (contracts_of ids) ≡ ids
+unfolding contracts_of
+contracts_of_are [] = refl
+contracts_of_are (id ∷ ids) = ap (λ rest. id ∷ rest) (contracts_of_are ids)
 
 -- the ids of contracts of tables are such as positions are bound to
 pub numbers_of : (contracts : List Contract) → has_repeat (λ x y. bytes_eq x.id y.id) contracts ≡ false

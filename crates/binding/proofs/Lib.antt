@@ -19,6 +19,7 @@ pub mod PlaceLaws
 pub mod PortfolioLaws
 pub mod SliceLaws
 pub mod ToldOnce
+pub mod TradeLaws
 pub mod UnfitLaws
 pub mod UnfitWalk
 pub mod MergedFit

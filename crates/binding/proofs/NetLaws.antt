@@ -158,13 +158,10 @@ holdings_in_table n entries nets e =
 -- the table of an account's entries, from one of as many nets of 0
 module _ (n : ℕ) (entries ledger : List Entry) (zeros nets : List ℤ) (cleared : zeros ≡ replicate n (pos 0)) (is : entries ≡ ledger)
     (added : nets ≡ map (entry_net entries) (range_with_len 0 (length zeros))) where
-  pub table_is : nets ≡ map (entry_net ledger) (range_with_len 0 n)
+  table_is : nets ≡ map (entry_net ledger) (range_with_len 0 n)
   table_is =
       added ∙ ap (λ es. map (entry_net es) (range_with_len 0 (length zeros))) is
       ∙ ap (λ m. map (entry_net ledger) (range_with_len 0 m)) (ap length cleared ∙ length-replicate n (pos 0))
-
-  pub table_long : length nets ≡ n
-  table_long = ap length table_is ∙ length-map-range_with_len (entry_net ledger) 0 n
 
   pub table_holds : holdings_from nets (length nets) ≡ entry_holdings n ledger
   table_holds = holdings_in_table n ledger nets table_is

@@ -6,3 +6,4 @@ pub mod Orders
 pub mod Sums
 pub mod OnLiterals
 pub mod Samples
+pub mod Trades

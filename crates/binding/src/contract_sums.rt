@@ -1,4 +1,4 @@
-//! Sums by contract number, which cost nothing where nothing was added.
+//! Sums by contract number, which cost nothing if nothing was added.
 ghost use Rattle.std.specs.Prelude.{◌≡◌, ◌==◌, ◌<◌, ◌+◌, ◌*◌, ◌^◌, ◌++◌, ◌+ℤ◌};
 ghost use Rattle.std.specs.Prelude.{length, map, nat_abs, replicate, pos, slice_index_or, slice_set, IfOk, OnOk};
 ghost use Rattle.std.specs.Int.{bit_at};
@@ -16,7 +16,7 @@ const MARKS: usize = u64::BITS as usize;
 
 /// A sum for each contract number. Contracts see the list of them.
 ///
-/// A bit says of each number whether something was added to its sum since they were cleared. Where it is not set the
+/// A bit says of each number whether something was added to its sum since they were cleared. If it is not set, the
 /// sum is 0, whatever stands in its place.
 #[derive(Drop)]
 pub(crate) struct Sums {
@@ -130,11 +130,23 @@ impl Sums {
         }
     }
 
-    /// Makes each sum 0.
-    pub(crate) fn clear(&mut self)
+    // Makes each sum 0.
+    fn clear(&mut self)
         ensures { self.new ≡ replicate (length self.old) (pos 0) }
     {
         self.marks.fill(0);
+    }
+
+    /// Sets how many sums there are, and each sum to 0. It allocates only if their number changes.
+    pub(crate) fn start(&mut self, alloc: Global, count: usize) -> Result<(), AllocError>
+        ensures { OnOk result (self.new ≡ replicate count (pos 0)) }
+    {
+        if self.len() != count {
+            *self = Sums::new(alloc, count)?;
+            return Ok(());
+        }
+        self.clear();
+        Ok(())
     }
 
     /// Adds a quantity to the sum of a number; one of no number adds nothing.

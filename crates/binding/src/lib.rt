@@ -13,5 +13,6 @@ mod order_worked;
 pub mod orders;
 mod over_limits;
 pub mod positions;
+pub mod trades;
 mod worked;
 mod worked_faults;

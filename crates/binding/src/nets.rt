@@ -102,17 +102,17 @@ fn add_all(nets: &mut Sums, entries: &[Entry])
     }
 }
 
-/// What an account of these entries holds, by sums that have a place for each contract.
+/// What an account of these entries holds, of so many contracts. What was in the sums is lost.
 pub(crate) fn account_nets(
     alloc: Global,
     sums: &mut Sums,
+    contracts: usize,
     ledger: &Ledger,
 ) -> Result<AccountNets, AllocError>
-    ensures nets { IfOk result (λ nets. nets ≡ kept_holdings (length sums.old) ledger.now) }
-    ensures places { length sums.new ≡ length sums.old }
+    ensures { IfOk result (λ nets. nets ≡ kept_holdings contracts ledger.now) }
 {
     let entries = ledger.as_slice();
-    sums.clear();
+    sums.start(alloc, contracts)?;
     add_all(sums, entries);
     let holdings = sums.holdings(alloc, entries.len().min(sums.len()))?;
     Ok(AccountNets { holdings })
@@ -126,10 +126,11 @@ pub(crate) fn all_nets(
 ) -> Result<Vec<AccountNets>, AllocError>
     ensures { IfOk result (λ nets. nets.items ≡ map (kept_holdings (length numbers.now.keys)) ledgers.items) }
 {
-    let mut sums = Sums::new(alloc, numbers.len())?;
+    let contracts = numbers.len();
+    let mut sums = Sums::new(alloc, contracts)?;
     let mut nets = Vec::with_capacity(alloc, ledgers.len())?;
     for ledger in ledgers {
-        nets.push(account_nets(alloc, &mut sums, &ledger)?)?;
+        nets.push(account_nets(alloc, &mut sums, contracts, &ledger)?)?;
     }
     Ok(nets)
 }

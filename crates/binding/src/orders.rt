@@ -1,24 +1,27 @@
 //! The binding of orders to tables and to the portfolios of accounts.
 pub(crate) mod kept_orders;
 
-ghost use Rattle.std.specs.Prelude.{◌≡◌, ◌<◌, [], IfOk, MatchOption, Some, bytes_eq, drop, false, length};
-ghost use Rattle.std.specs.Prelude.{map, option_map, slice_get, take};
+ghost use Rattle.std.specs.Prelude.{◌≡◌, ◌<◌, [], IfOk, List, MatchOption, Some, drop, length, map, option_map, slice_get, take};
 ghost use Rattle.binding.specs.OrderBinding.{is_memory, orders_bound};
+ghost use Rattle.binding.specs.near.Holdings.{ids_of};
+ghost use Rattle.binding.specs.near.Ledgers.{AreNumbers};
 ghost use Rattle.binding.specs.near.Orders.{order_fault};
 ghost use Rattle.span_tables.specs.Gives.{Gives};
-ghost use Rattle.span_tables.specs.Names.{has_repeat};
+ghost use Rattle.span_tables.specs.declared.records.Contract.{Contract};
 
 use crate::contract_ids::ids_of;
+use crate::contract_sums::Sums;
 use crate::faults::{BindFault, OrderBindFault};
 use crate::ledgers::gather;
 use crate::orders::kept_orders::{
-    KeptOrder, OrderAccount, kept_orders, order_excesses, portfolios_after, some_of,
+    KeptOrder, OrderAccount, kept_orders, order_excesses, portfolio_after, portfolios_after,
+    some_of,
 };
 use crate::over_limits::{all_faults, first};
+use indexmap::IndexSet;
 use span_tables::name::Name;
 use span_tables::portfolios::{Portfolio, Portfolios};
 use span_tables::raw::RawOrders;
-use span_tables::records::Contract;
 use span_tables::tables::Tables;
 use std::alloc::{AllocError, Global};
 use std::marker::Model;
@@ -67,7 +70,7 @@ impl Orders {
         &self.orders[order].name
     }
 
-    /// The place of the portfolio of an order's account, or `None` where the account holds nothing without the order.
+    /// The place of the portfolio of an order's account, or `None` if the account holds nothing without the order.
     pub fn place(&self, order: usize) -> Option<usize>
         requires { order < length self.now.orders }
         ensures { MatchOption result
@@ -114,19 +117,21 @@ fn order_fault(fault: BindFault) -> OrderBindFault
     }
 }
 
-// The orders of a file, tried on the portfolios of accounts, or their fault; the ids of the contracts are apart.
+// The orders of a file, tried on the portfolios of accounts, or their fault, by the ids of the contracts.
 fn bind_orders_of(
     alloc: Global,
-    contracts: &[Contract],
+    numbers: &IndexSet<Name>,
+    sums: &mut Sums,
     portfolios: Portfolios,
     records: &RawOrders,
 ) -> Result<Orders, OrderBindFault>
-    requires { has_repeat (λ x y. bytes_eq x.id y.id) contracts.now ≡ false }
-    ensures { Gives is_memory result (orders_bound contracts.now portfolios records.now) }
+    requires { AreNumbers numbers.now.keys }
+    ensures { (contracts : List Contract) → ids_of contracts ≡ numbers.now.keys
+        → Gives is_memory result (orders_bound contracts portfolios records.now) }
 {
-    let numbers = ids_of(alloc, contracts)?;
+    let contracts = numbers.len();
     let positions = records.by_order();
-    let gathered = gather(alloc, &numbers, positions)?;
+    let gathered = gather(alloc, numbers, positions)?;
     let held = portfolios.as_slice();
     let orders = kept_orders(
         alloc,
@@ -135,15 +140,78 @@ fn bind_orders_of(
         records.accounts(),
         gathered.ledgers,
     )?;
-    let excesses = order_excesses(alloc, contracts.len(), held, &orders)?;
-    let faults = all_faults(alloc, &numbers, gathered.unknown, &excesses, positions)?;
+    let excesses = order_excesses(alloc, sums, contracts, held, &orders)?;
+    let faults = all_faults(alloc, numbers, gathered.unknown, &excesses, positions)?;
     match first(faults) {
         Some(fault) => Err(order_fault(fault)),
         None => Ok(Orders {
-            contracts: contracts.len(),
+            contracts,
             portfolios,
             orders,
         }),
+    }
+}
+
+/// Binds orders to the contracts of accepted tables. Clauses see the list of the contracts' ids, by contract number.
+///
+/// It is made once for a set, and binds any number of orders. Each order costs one word for each 64 contracts of the set, and otherwise
+/// only what the order and its account hold; no call goes over the contracts themselves.
+#[derive(Drop)]
+pub struct OrderBinder {
+    numbers: IndexSet<Name>,
+    sums: Sums,
+}
+
+impl Model for OrderBinder {
+    ghost use Rattle.std.specs.Prelude.{ℕ, List};
+    ghost use Rattle.binding.specs.near.Ledgers.{AreNumbers};
+
+    ghost Value = { List (List ℕ) };
+
+    ghost view = { λ binder. binder.numbers.keys };
+
+    ghost invariant = { λ binder. AreNumbers binder.numbers.keys };
+}
+
+impl OrderBinder {
+    /// A binder to the contracts of these tables. It fails only if it runs out of memory, as does `portfolio_after`.
+    pub fn new(alloc: Global, tables: &Tables) -> Result<OrderBinder, AllocError>
+        ensures { IfOk result (λ binder. binder ≡ ids_of tables.now.contracts) }
+    {
+        let numbers = ids_of(alloc, tables.contracts())?;
+        let sums = Sums::new(alloc, numbers.len())?;
+        Ok(OrderBinder { numbers, sums })
+    }
+
+    /// The orders of a file with the portfolios of their accounts, or the fault of the orders, of B1 to B3 (docs/FORMATS.md, "Faults").
+    pub fn bind(
+        &mut self,
+        alloc: Global,
+        portfolios: Portfolios,
+        orders: &RawOrders,
+    ) -> Result<Orders, OrderBindFault>
+        ensures orders { (contracts : List Contract) → ids_of contracts ≡ self.old
+            → Gives is_memory result (orders_bound contracts portfolios orders.now) }
+        ensures binder { self.new ≡ self.old }
+    {
+        bind_orders_of(alloc, &self.numbers, &mut self.sums, portfolios, orders)
+    }
+
+    /// The portfolio of the account of the order of a number, from 0, with that order. These may be orders of another binder; if it has
+    /// more or fewer contracts, memory for their sums is allocated again.
+    pub fn portfolio_after(
+        &mut self,
+        alloc: Global,
+        orders: &Orders,
+        order: usize,
+    ) -> Result<Portfolio, AllocError>
+        requires { order < length orders.now.orders }
+        ensures after { IfOk result (λ after. option_map (λ o. o.after) (slice_get orders.now.orders order) ≡ Some after) }
+        ensures binder { self.new ≡ self.old }
+    {
+        let portfolios = orders.portfolios.as_slice();
+        let order = &orders.orders[order];
+        portfolio_after(alloc, &mut self.sums, orders.contracts, portfolios, order)
     }
 }
 
@@ -156,5 +224,5 @@ pub fn bind_orders(
 ) -> Result<Orders, OrderBindFault>
     ensures { Gives is_memory result (orders_bound tables.now.contracts portfolios orders.now) }
 {
-    bind_orders_of(alloc, tables.contracts(), portfolios, orders)
+    OrderBinder::new(alloc, tables)?.bind(alloc, portfolios, orders)
 }

@@ -107,26 +107,27 @@ pub(crate) fn held_before<'a>(portfolios: &'a [Portfolio], account: &OrderAccoun
     }
 }
 
-// What the account of an order holds with it, whatever the sizes of its nets, by sums that have a place for each contract.
+// What the account of an order holds with it, of so many contracts, whatever the sizes of its nets.
 fn nets_after(
     alloc: Global,
     sums: &mut Sums,
+    contracts: usize,
     portfolios: &[Portfolio],
     order: &KeptOrder,
 ) -> Result<AccountNets, AllocError>
     requires { HasPlace portfolios.now order.now.account }
-    ensures nets { IfOk result (λ nets. nets ≡ kept_after (length sums.old) portfolios.now order.now) }
-    ensures places { length sums.new ≡ length sums.old }
+    ensures nets { IfOk result (λ nets. nets ≡ kept_after contracts portfolios.now order.now) }
     ensures before { ArePortfolio (portfolio_before portfolios.now order.now.account).holdings }
 {
     let held = held_before(portfolios, &order.account);
     let ledger = Ledger::after(alloc, held, &order.entries)?;
-    account_nets(alloc, sums, &ledger)
+    account_nets(alloc, sums, contracts, &ledger)
 }
 
-/// What of what the account of each order holds with it is over a limit, of so many contracts.
+/// What the account of each order holds with it that is over a limit, of so many contracts.
 pub(crate) fn order_excesses(
     alloc: Global,
+    sums: &mut Sums,
     contracts: usize,
     portfolios: &[Portfolio],
     orders: &[KeptOrder],
@@ -136,10 +137,9 @@ pub(crate) fn order_excesses(
         ≡ map (λ o. excess_of (kept_after contracts portfolios.now o)) orders.now) }
     ensures before { IfOk result (λ excesses. All (λ o. ArePortfolio (portfolio_before portfolios.now o.account).holdings) orders.now) }
 {
-    let mut sums = Sums::new(alloc, contracts)?;
     let mut excesses = Vec::with_capacity(alloc, orders.len())?;
     for order in orders {
-        let nets = nets_after(alloc, &mut sums, portfolios, order)?;
+        let nets = nets_after(alloc, sums, contracts, portfolios, order)?;
         excesses.push(excess_of(alloc, &nets)?)?;
     }
     Ok(excesses)
@@ -156,18 +156,18 @@ fn account_of<'a>(portfolios: &'a [Portfolio], account: &'a OrderAccount) -> &'a
     }
 }
 
-// The portfolio of the account of an order with it, by sums that have a place for each contract.
-fn portfolio_after(
+/// The portfolio of the account of an order with it, of so many contracts.
+pub(crate) fn portfolio_after(
     alloc: Global,
     sums: &mut Sums,
+    contracts: usize,
     portfolios: &[Portfolio],
     order: &KeptOrder,
 ) -> Result<Portfolio, AllocError>
-    requires { IsKept (length sums.old) portfolios.now order.now }
-    ensures after { IfOk result (λ after. after ≡ (kept_order (length sums.old) portfolios.now order.now).after) }
-    ensures places { length sums.new ≡ length sums.old }
+    requires { IsKept contracts portfolios.now order.now }
+    ensures { IfOk result (λ after. after ≡ (kept_order contracts portfolios.now order.now).after) }
 {
-    let nets = nets_after(alloc, sums, portfolios, order)?;
+    let nets = nets_after(alloc, sums, contracts, portfolios, order)?;
     let account = account_of(portfolios, &order.account).copied();
     Ok(Portfolio::new(account, nets.into_vec()))
 }
@@ -185,7 +185,7 @@ pub(crate) fn portfolios_after(
     let mut sums = Sums::new(alloc, contracts)?;
     let mut all = Vec::with_capacity(alloc, orders.len())?;
     for order in orders {
-        all.push(portfolio_after(alloc, &mut sums, portfolios, order)?)?;
+        all.push(portfolio_after(alloc, &mut sums, contracts, portfolios, order)?)?;
     }
     Ok(all)
 }

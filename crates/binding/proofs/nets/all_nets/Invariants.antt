@@ -3,7 +3,4 @@ use Rattle.binding.specs.near.Sums.{kept_holdings}
 use Rattle.binding.proofs.nets.all_nets.Given as goal
 
 abbrev pub invariant-loop-ledger : goal.invariant-loop-ledger
-invariant-loop-ledger l = record {
-  nets : l.nets.items ≡ map (kept_holdings (length l.numbers.keys)) l.yielded;
-  places : length l.sums ≡ length l.numbers.keys;
-}
+invariant-loop-ledger l = l.nets.items ≡ map (kept_holdings (length l.numbers.keys)) l.yielded

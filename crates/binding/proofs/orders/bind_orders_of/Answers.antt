@@ -6,14 +6,15 @@ use Rattle.binding.specs.near.Holdings.{found_faults}
 use Rattle.binding.specs.near.Orders.{all_kept_as, HasPlace}
 use Rattle.binding.specs.declared.faults.OrderBindFault.{OrderBindFault}
 use Rattle.binding.specs.declared.orders.kept_orders.KeptOrder.{KeptOrder}
+use Rattle.binding.proofs.IdLaws.{apart_by_ids, contracts_of, contracts_of_are}
 use Rattle.binding.proofs.KeptOrderLaws.{all_have_places}
 use Rattle.binding.proofs.OrderBindLaws.{as_many_accounts, first_given, orders_fit, orders_given, orders_kept}
 use Rattle.binding.proofs.orders.bind_orders_of.Goals as goal
 
 pub kept_orders-requires-clause-accounts : goal.kept_orders-requires-clause-accounts
 kept_orders-requires-clause-accounts c =
-    as_many_accounts c.args.contracts.now c.args.portfolios c.args.records.now _ _ _ c.in_ok-gathered.gathered.ledgers.items
-    c.by_order-positions.ensures c.accounts-2.ensures.value c.in_ok-gathered.ensures.ledgers
+    as_many_accounts (contracts_of c.args.numbers.now.keys) c.args.portfolios c.args.records.now _ _ _
+    c.in_ok-gathered.gathered.ledgers.items c.by_order-positions.ensures c.accounts-2.ensures.value c.in_ok-gathered.ensures.ledgers
 
 pub order_excesses-requires : goal.order_excesses-requires
 order_excesses-requires c =
@@ -25,42 +26,44 @@ order_excesses-requires c =
     (all_have_places held names accounts c.in_ok-gathered.gathered.ledgers.items)
 
 pub returns-in-Some : goal.returns-in-Some
-returns-in-Some c =
-    let contracts = c.args.contracts.now in
+returns-in-Some c = λ contracts is.
+    let ids = c.args.numbers.now.keys in
     let portfolios = c.args.portfolios in
     let records = c.args.records.now in
-    let kept = orders_kept contracts portfolios records _ _ _ _ _ _ _ c.in_ok-numbers.ensures c.by_order-positions.ensures
+    let kept = orders_kept contracts portfolios records _ _ _ _ _ _ _ (sym is) c.by_order-positions.ensures
     c.as_slice-held.ensures c.accounts.ensures.value c.accounts-2.ensures.value c.in_ok-gathered.ensures.ledgers c.in_ok-orders.ensures in
     subst (λ (e : OrderBindFault). MatchBool (is_memory e) ⊤ (orders_bound contracts portfolios records ≡ Err e))
     (sym c.order_fault.ensures)
-    (first_given contracts portfolios records _ _ _ _ _ _ _ _ c.requires c.accounts-2.ensures.one c.in_ok-numbers.ensures
-    c.by_order-positions.ensures c.as_slice-held.ensures kept c.deref.ensures.value c.in_ok-gathered.ensures.unknown
-    c.in_ok-excesses.ensures.excesses (c.in_ok-faults.ensures
-    ∙ ap (λ xs. found_faults c.in_ok-numbers.numbers.keys c.in_ok-gathered.gathered.unknown.items xs c.by_order-positions.result.now)
+    (first_given contracts portfolios records _ _ _ _ _ _ _ _ _ (apart_by_ids contracts ids is c.requires.apart)
+    c.accounts-2.ensures.one (sym is) c.len-contracts.ensures.len c.by_order-positions.ensures c.as_slice-held.ensures kept
+    c.deref.ensures.value c.in_ok-gathered.ensures.unknown c.in_ok-excesses.ensures.excesses (c.in_ok-faults.ensures
+    ∙ ap (λ xs. found_faults ids c.in_ok-gathered.gathered.unknown.items xs c.by_order-positions.result.now)
     c.deref-2.ensures.value) c.in-Some.fault c.in-Some.ensures)
 
 pub invariant_of-result : goal.invariant_of-result
 invariant_of-result c =
-    let contracts = c.args.contracts.now in
+    let ids = c.args.numbers.now.keys in
     let portfolios = c.args.portfolios in
     let records = c.args.records.now in
-    let kept = orders_kept contracts portfolios records _ _ _ _ _ _ _ c.in_ok-numbers.ensures c.by_order-positions.ensures
+    let contracts = contracts_of ids in
+    let is = contracts_of_are ids in
+    let kept = orders_kept contracts portfolios records _ _ _ _ _ _ _ (sym is) c.by_order-positions.ensures
     c.as_slice-held.ensures c.accounts.ensures.value c.accounts-2.ensures.value c.in_ok-gathered.ensures.ledgers c.in_ok-orders.ensures in
-    orders_fit contracts portfolios records _ _ _ _ _ _ _ _ c.requires c.accounts-2.ensures.one c.in_ok-numbers.ensures
-    c.by_order-positions.ensures c.as_slice-held.ensures kept c.deref.ensures.value c.in_ok-gathered.ensures.unknown
-    c.in_ok-excesses.ensures.excesses (c.in_ok-faults.ensures
-    ∙ ap (λ xs. found_faults c.in_ok-numbers.numbers.keys c.in_ok-gathered.gathered.unknown.items xs c.by_order-positions.result.now)
+    orders_fit contracts portfolios records _ _ _ _ _ _ _ _ _ (apart_by_ids contracts ids is c.requires.apart)
+    c.accounts-2.ensures.one (sym is) c.len-contracts.ensures.len c.by_order-positions.ensures c.as_slice-held.ensures kept
+    c.deref.ensures.value c.in_ok-gathered.ensures.unknown c.in_ok-excesses.ensures.excesses (c.in_ok-faults.ensures
+    ∙ ap (λ xs. found_faults ids c.in_ok-gathered.gathered.unknown.items xs c.by_order-positions.result.now)
     c.deref-2.ensures.value) c.in-None.ensures c.in_ok-excesses.ensures.before
 
 pub returns-in-None : goal.returns-in-None
-returns-in-None c =
-    let contracts = c.args.contracts.now in
+returns-in-None c = λ contracts is.
+    let ids = c.args.numbers.now.keys in
     let portfolios = c.args.portfolios in
     let records = c.args.records.now in
-    let kept = orders_kept contracts portfolios records _ _ _ _ _ _ _ c.in_ok-numbers.ensures c.by_order-positions.ensures
+    let kept = orders_kept contracts portfolios records _ _ _ _ _ _ _ (sym is) c.by_order-positions.ensures
     c.as_slice-held.ensures c.accounts.ensures.value c.accounts-2.ensures.value c.in_ok-gathered.ensures.ledgers c.in_ok-orders.ensures in
-    orders_given contracts portfolios records _ _ _ _ _ _ _ _ c.requires c.accounts-2.ensures.one c.in_ok-numbers.ensures
-    c.by_order-positions.ensures c.as_slice-held.ensures kept c.deref.ensures.value c.in_ok-gathered.ensures.unknown
-    c.in_ok-excesses.ensures.excesses (c.in_ok-faults.ensures
-    ∙ ap (λ xs. found_faults c.in_ok-numbers.numbers.keys c.in_ok-gathered.gathered.unknown.items xs c.by_order-positions.result.now)
+    orders_given contracts portfolios records _ _ _ _ _ _ _ _ _ (apart_by_ids contracts ids is c.requires.apart)
+    c.accounts-2.ensures.one (sym is) c.len-contracts.ensures.len c.by_order-positions.ensures c.as_slice-held.ensures kept
+    c.deref.ensures.value c.in_ok-gathered.ensures.unknown c.in_ok-excesses.ensures.excesses (c.in_ok-faults.ensures
+    ∙ ap (λ xs. found_faults ids c.in_ok-gathered.gathered.unknown.items xs c.by_order-positions.result.now)
     c.deref-2.ensures.value) c.in-None.ensures c.in_ok-excesses.ensures.before

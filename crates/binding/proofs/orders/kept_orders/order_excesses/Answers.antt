@@ -22,12 +22,11 @@ loop-order-preserved c =
       are =
           c.in_ok-push.ensures.items
           ∙ ap (λ x. c.loop-order.excesses.items ++ x ∷ [])
-          (c.in_ok-excess_of.ensures ∙ ap excess_of (c.in_ok-nets.ensures.nets ∙ ap (λ n. kept_after n portfolios o) was.places))
+          (c.in_ok-excess_of.ensures ∙ ap excess_of c.in_ok-nets.ensures.nets)
           ∙ ap (λ xs. xs ++ of_order o ∷ []) was.are
           ∙ sym (map_more of_order orders i o lt ∙ ap (λ x. map of_order (take i orders) ++ of_order x ∷ []) (sym c.order-item.is));
       before = subst (All holds) (sym (take_more orders i o lt ∙ ap (λ x. take i orders ++ x ∷ []) (sym c.order-item.is)))
           (All-push holds (take i orders) o was.before c.nets_after.ensures.before);
-      places = c.nets_after.ensures.places ∙ was.places;
     }
 
 pub returns-clause-before : goal.returns-clause-before

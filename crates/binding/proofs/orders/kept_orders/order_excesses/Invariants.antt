@@ -1,4 +1,4 @@
-use Rattle.std.proofs.Common.{◌≡◌, length, map, take}
+use Rattle.std.proofs.Common.{◌≡◌, map, take}
 use Rattle.std.specs.Prelude.{All}
 use Rattle.span_tables.specs.Holdings.{ArePortfolio}
 use Rattle.binding.specs.near.Holdings.{excess_of}
@@ -9,5 +9,4 @@ abbrev pub invariant-loop-order : goal.invariant-loop-order
 invariant-loop-order l = record {
   are : l.excesses.items ≡ map (λ o. excess_of (kept_after l.contracts l.portfolios o)) (take l.order-index l.orders);
   before : All (λ o. ArePortfolio (portfolio_before l.portfolios o.account).holdings) (take l.order-index l.orders);
-  places : length l.sums ≡ l.contracts;
 }
