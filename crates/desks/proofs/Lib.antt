@@ -1,1 +1,4 @@
 mod Walks
+mod ReadingLemmas
+mod KeepLemmas
+mod FeedLemmas

@@ -1,5 +1,8 @@
 //! Desks: devices over which a session takes requests, one a line, and gives answers.
 #![tactic(auto)]
 
+mod blocks;
 pub mod desk;
 mod histories;
+mod kept_lines;
+mod marked_reader;
