@@ -2,3 +2,6 @@ mod Walks
 mod ReadingLemmas
 mod KeepLemmas
 mod FeedLemmas
+mod RequestLemmas
+mod IntakeLemmas
+mod SayingLemmas

@@ -4,3 +4,6 @@ pub mod Readings
 pub mod Keeping
 pub mod Closing
 pub mod Blocks
+pub mod Intakes
+pub mod Saying
+pub mod Dealing

@@ -4,5 +4,7 @@
 mod blocks;
 pub mod desk;
 mod histories;
+pub mod intake;
 mod kept_lines;
 mod marked_reader;
+pub mod stream_desk;
