@@ -2,7 +2,7 @@
 use sources::Sources;
 use span_cli::outputs::{ErrorStream, OutputStream};
 use span_cli::words::run_words;
-use statement::marked_writer::MarkedWriter;
+use writers::marked_writer::MarkedWriter;
 use std::alloc::Global;
 use std::io;
 use std::io::{ErrorKind, Write};

@@ -9,7 +9,7 @@ use span_cli::reading::{Turns, read_file, read_within};
 use span_cli::serving::{Request, serve};
 use span_cli::streams::Streams;
 use span_cli::words::request;
-use statement::marked_writer::MarkedWriter;
+use writers::marked_writer::MarkedWriter;
 use std::alloc::Global;
 use std::fs::Metadata;
 use std::process::Abort;

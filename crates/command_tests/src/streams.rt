@@ -3,7 +3,7 @@ use sample_files::one_future;
 use sample_files::three_commodities::{PARAMS, POSITIONS, STATEMENT};
 use span_cli::memory::InMemory;
 use span_cli::serving::{Request, serve};
-use statement::marked_writer::MarkedWriter;
+use writers::marked_writer::MarkedWriter;
 use std::alloc::Global;
 use std::io;
 use std::io::{ErrorKind, Write};

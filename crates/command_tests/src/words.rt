@@ -5,7 +5,7 @@ use sources::{ReadFault, Sources};
 use span_cli::memory::InMemory;
 use span_cli::outputs::{ErrorStream, OutputStream};
 use span_cli::words::{refuse_words, run_words};
-use statement::marked_writer::MarkedWriter;
+use writers::marked_writer::MarkedWriter;
 use std::alloc::Global;
 use std::io;
 use std::io::ErrorKind;

@@ -3,7 +3,7 @@
 
 use span_cli::disk::Disk;
 use span_cli::words::{refuse_words, run_words};
-use statement_text::marked_writer::MarkedWriter;
+use writers::marked_writer::MarkedWriter;
 use std::alloc::Global;
 use std::process::ExitCode;
 use std::{env, io};

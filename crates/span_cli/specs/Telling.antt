@@ -3,7 +3,7 @@ use Rattle.std.specs.Prelude.{◌≡◌, ◌⊎◌, ℕ, Bool, true, List, [], �
 use Rattle.clap.specs.Words.{Kinds}
 use Rattle.clap.specs.declared.error.kind.ErrorKind.{ErrorKind}
 use Rattle.clap.specs.declared.error.kind.ErrorKind.TheVariants as kind
-use Rattle.statement_text.specs.Streams.{Says, Stream}
+use Rattle.writers.specs.Streams.{Says, Stream}
 use Rattle.statement_text.specs.declared.statuses.TheConstants.{FILE_FAILED, USAGE}
 use Rattle.span_cli.specs.Serving.{Answer, Asked, IsAnswer, done, file_line, memory, refused}
 use Rattle.sources.specs.Files.{File}

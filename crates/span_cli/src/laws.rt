@@ -5,7 +5,7 @@ ghost use Rattle.span_cli.specs.Telling.{Tells};
 ghost use Rattle.span_cli.specs.Words.{is_request, kinds_of, span_app};
 ghost use Rattle.span_tables.specs.Names.{is_among};
 ghost use Rattle.statement.specs.AllFaults.{faults_status, faults_text};
-ghost use Rattle.statement_text.specs.Streams.{Stream};
+ghost use Rattle.writers.specs.Streams.{Stream};
 ghost use Rattle.statement_text.specs.FaultLines.{fault_line, fault_status};
 ghost use Rattle.statement_text.specs.declared.faults.SpanFault.{SpanFault};
 ghost use Rattle.std.specs.Io.KnownBytes.{Appends};

@@ -6,7 +6,7 @@ ghost use Rattle.span_cli.specs.Telling.{Serves, Tells};
 ghost use Rattle.span_cli.specs.near.Refusals.{Loads, LoadsAll, MayGive, Runs, given_answer, refusal_line, refusal_status};
 ghost use Rattle.span_cli.specs.declared.serving.Refusal.TheVariants as refusal;
 ghost use Rattle.statement.specs.AllFaults.{faults_of};
-ghost use Rattle.statement_text.specs.Streams.{Says};
+ghost use Rattle.writers.specs.Streams.{Says};
 ghost use Rattle.std.specs.Prelude.{◌≡◌, ◌≤◌, IfOk, IfSome, List, Some, false, is_ok, length, map, option_map, ℕ};
 
 use arrayvec::ArrayVec;
@@ -21,7 +21,7 @@ use statement::plans::plan_plain;
 use statement::roll::roll;
 use statement_text::fault_lines::tell_fault;
 use statement_text::faults::{SpanFault, status};
-use statement_text::marked_writer::MarkedWriter;
+use writers::marked_writer::MarkedWriter;
 use statement_text::statuses::{DONE, FILE_FAILED};
 use std::alloc::{AllocError, Global};
 use std::io::Write;

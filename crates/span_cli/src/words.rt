@@ -9,7 +9,7 @@ ghost use Rattle.span_cli.specs.Words.{account_in, account_rule, app_without_com
 ghost use Rattle.span_cli.specs.Words.{is_request, joined_words, kinds_of, number_in, request_in, span_app};
 ghost use Rattle.span_cli.specs.Words.{with_commands, with_rules, workers_in, workers_rule};
 ghost use Rattle.span_cli.specs.near.Rows.{file_rule_of, option_rule, row_app};
-ghost use Rattle.statement_text.specs.Streams.{Says};
+ghost use Rattle.writers.specs.Streams.{Says};
 ghost use Rattle.statement_text.specs.FaultLines.{memory_line};
 ghost use Rattle.std.specs.IoError.{error_kind};
 ghost use Rattle.std.specs.declared.io.ErrorKind.TheVariants as kind;
@@ -23,7 +23,7 @@ use clap::error::ErrorKind;
 use clap::{Arg, ArgMatches, Command, Error};
 use sources::Sources;
 use span_tables::name::Name;
-use statement_text::marked_writer::MarkedWriter;
+use writers::marked_writer::MarkedWriter;
 use statement_text::statuses::{DONE, FILE_FAILED, OUT_OF_MEMORY, USAGE};
 use std::alloc::{AllocError, Global};
 use std::convert::AsStr;

@@ -12,4 +12,4 @@ pub mod roll;
 pub mod worked;
 
 pub use acceptance::accepting;
-pub use statement_text::{fault_lines, faults, lines, marked_writer, statuses};
+pub use statement_text::{fault_lines, faults, lines, statuses};

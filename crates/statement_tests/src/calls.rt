@@ -21,7 +21,7 @@ use statement::fault_lines::{tell_fault, write_fault};
 use statement::faults::SpanFault;
 use statement::lines::{push_commodity_of, push_row, push_total_of, write};
 use statement::margin::{margin, margin_plain};
-use statement::marked_writer::MarkedWriter;
+use writers::marked_writer::MarkedWriter;
 use statement::plans::plan_plain;
 use statement::roll::roll;
 use std::alloc::{AllocError, Global};

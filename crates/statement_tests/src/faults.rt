@@ -7,7 +7,7 @@ use span_csv::faults::{ParamFault, PositionFault};
 use span_tables::name::Name;
 use statement::fault_lines::{tell_fault, write_fault};
 use statement::faults::{SpanFault, status};
-use statement::marked_writer::MarkedWriter;
+use writers::marked_writer::MarkedWriter;
 use std::alloc::Global;
 use std::fmt::Display;
 use std::process::Abort;

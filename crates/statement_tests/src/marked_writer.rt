@@ -1,5 +1,5 @@
 //! Writers that fail: no clause says when a write does.
-use statement::marked_writer::MarkedWriter;
+use writers::marked_writer::MarkedWriter;
 use std::fmt;
 use std::fmt::{Display, Formatter};
 use std::io::Write;

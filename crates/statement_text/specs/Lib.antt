@@ -1,5 +1,4 @@
 pub mod FaultLines
 pub mod Gives
 pub mod Statement
-pub mod Streams
 pub mod near

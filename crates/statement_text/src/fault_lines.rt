@@ -1,11 +1,11 @@
 //! The lines that say why there is no statement (docs/FORMATS.md, Fault lines and statuses).
 ghost use Rattle.statement_text.specs.FaultLines.{fault_line};
-ghost use Rattle.statement_text.specs.Streams.{Says};
+ghost use Rattle.writers.specs.Streams.{Says};
 ghost use Rattle.std.specs.Io.KnownBytes.{Appends};
 ghost use Rattle.std.specs.Prelude.{OnOk};
 
 use crate::faults::SpanFault;
-use crate::marked_writer::MarkedWriter;
+use writers::marked_writer::MarkedWriter;
 use std::fmt::Display;
 use std::io::Write;
 use std::{fmt, io};

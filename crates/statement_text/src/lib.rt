@@ -5,6 +5,5 @@ pub mod fault_lines;
 pub mod faults;
 pub mod laws;
 pub mod lines;
-pub mod marked_writer;
 pub mod statuses;
 pub mod worked;

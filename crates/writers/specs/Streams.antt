@@ -2,11 +2,12 @@
 use Rattle.std.specs.Prelude.{◌≡◌, ⊤, ℕ, Bool, false, List, Option, MatchBool}
 use Rattle.std.specs.Io.KnownBytes.{Appends}
 
--- what a writer holds, where that is known, and whether a write to it failed
+-- what a writer holds, if that is known; whether a write or a flush failed; and whether all that was written was flushed
 pub record Stream : Type 0 where
   pub held : Option (List ℕ)
   pub failed : Bool
+  pub flushed : Bool
 
--- just these bytes were added, unless a write has failed
+-- exactly these bytes were added, unless a write has failed
 abbrev pub Says : Stream → Stream → List ℕ → Type 0
 Says old new bytes = MatchBool new.failed ⊤ ((old.failed ≡ false) × Appends old.held new.held bytes)

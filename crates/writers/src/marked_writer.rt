@@ -1,5 +1,5 @@
 //! Writers that remember whether a write failed.
-ghost use Rattle.std.specs.Io.KnownBytes.{Appends};
+ghost use Rattle.std.specs.Io.KnownBytes.{Appends, Keeps};
 ghost use Rattle.std.specs.Prelude.{◌≡◌, IfSome, OnErr, OnOk, false, true};
 
 use std::fmt::Display;
@@ -7,20 +7,21 @@ use std::io;
 use std::io::Write;
 use std::marker::Model;
 
-/// A writer, and whether a write to it failed. Only a write that failed sets the mark, and nothing takes it back, so
-/// that a caller who promises its bytes `Says` has to try to write them.
+/// A writer, and whether a write to it failed. Only a write or a flush that failed sets the mark, and nothing takes it back, so that a
+/// caller who promises its bytes `Says` has to try to write them. It remembers too whether all that was written was flushed.
 #[derive(Drop)]
 pub struct MarkedWriter<W: Write> {
     writer: W,
     failed: bool,
+    flushed: bool,
 }
 
 impl<W: Write> Model for MarkedWriter<W> {
-    ghost use Rattle.statement_text.specs.Streams.{Stream};
+    ghost use Rattle.writers.specs.Streams.{Stream};
 
     ghost Value = { Stream };
 
-    ghost view = { λ t. record { held = W.contents t.writer; failed = t.failed } };
+    ghost view = { λ t. record { held = W.contents t.writer; failed = t.failed; flushed = t.flushed } };
 }
 
 impl<W: Write> MarkedWriter<W> {
@@ -28,10 +29,12 @@ impl<W: Write> MarkedWriter<W> {
     pub fn new(writer: W) -> MarkedWriter<W>
         ensures held { result.held ≡ W.contents writer }
         ensures failed { result.failed ≡ false }
+        ensures flushed { result.flushed ≡ true }
     {
         MarkedWriter {
             writer,
             failed: false,
+            flushed: true,
         }
     }
 
@@ -40,7 +43,9 @@ impl<W: Write> MarkedWriter<W> {
         ensures written { OnOk result (Appends self.old.held self.new.held bytes.now) }
         ensures same { OnOk result (self.new.failed ≡ self.old.failed) }
         ensures failed { OnErr result (self.new.failed ≡ true) }
+        ensures flushed { self.new.flushed ≡ false }
     {
+        self.flushed = false;
         let result = self.writer.write_all(bytes);
         self.remember(result)
     }
@@ -50,8 +55,23 @@ impl<W: Write> MarkedWriter<W> {
         ensures written { OnOk result (IfSome (D.output text) (Appends self.old.held self.new.held)) }
         ensures same { OnOk result (self.new.failed ≡ self.old.failed) }
         ensures failed { OnErr result (self.new.failed ≡ true) }
+        ensures flushed { self.new.flushed ≡ false }
     {
+        self.flushed = false;
         let result = self.writer.write_fmt(text);
+        self.remember(result)
+    }
+
+    /// Flushes what was written, or remembers the failure. What the writer holds stays the same.
+    pub fn flush(&mut self) -> io::Result<()>
+        ensures held { Keeps self.old.held self.new.held }
+        ensures same { OnOk result (self.new.failed ≡ self.old.failed) }
+        ensures failed { OnErr result (self.new.failed ≡ true) }
+        ensures flushed { OnOk result (self.new.flushed ≡ true) }
+        ensures unflushed { OnErr result (self.new.flushed ≡ false) }
+    {
+        let result = self.writer.flush();
+        self.flushed = result.is_ok();
         self.remember(result)
     }
 
@@ -60,6 +80,7 @@ impl<W: Write> MarkedWriter<W> {
         ensures held { self.new.held ≡ self.old.held }
         ensures ok { OnOk result (self.new.failed ≡ self.old.failed) }
         ensures failed { OnErr result (self.new.failed ≡ true) }
+        ensures flushed { self.new.flushed ≡ self.old.flushed }
         ensures handed { result ≡ written }
     {
         if written.is_err() {
@@ -68,7 +89,7 @@ impl<W: Write> MarkedWriter<W> {
         written
     }
 
-    /// Whether a write failed.
+    /// Whether a write or a flush failed.
     pub fn failed(&self) -> bool
         ensures { result ≡ self.now.failed }
     {

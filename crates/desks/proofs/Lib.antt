@@ -1,0 +1,7 @@
+mod Walks
+mod ReadingLemmas
+mod KeepLemmas
+mod FeedLemmas
+mod RequestLemmas
+mod IntakeLemmas
+mod SayingLemmas

@@ -1,0 +1,4 @@
+pub mod Requests
+pub mod Events
+pub mod Desks
+pub mod near

@@ -1,0 +1,9 @@
+pub mod Histories
+pub mod Notes
+pub mod Readings
+pub mod Keeping
+pub mod Closing
+pub mod Blocks
+pub mod Intakes
+pub mod Saying
+pub mod Dealing

@@ -1,0 +1,105 @@
+//! What is kept of a line while it is read.
+ghost use Rattle.desks.specs.near.Closing.{closed_as};
+ghost use Rattle.desks.specs.near.Keeping.{added, kept_of, request_kept};
+ghost use Rattle.std.specs.Io.BufRead.{strip_last};
+ghost use Rattle.std.specs.Prelude.{◌≡◌, ◌<◌, ◌≤◌, [], IfOk, length, vec_capacity};
+
+use crate::desk::MAX_LINE;
+use std::alloc::{AllocError, Global};
+use std::marker::Model;
+
+// How many bytes of a line are kept: those of a request, and a carriage return.
+const KEPT: usize = MAX_LINE + 1;
+
+// What a line is: no request, a request that is kept, or one that is too long.
+#[derive(Clone, Copy)]
+pub(crate) enum Closed {
+    Empty,
+    Line,
+    TooLong,
+}
+
+// The first bytes of a line, and whether it has more. The room for them was made when the session opened.
+#[derive(Drop)]
+pub(crate) struct KeptLine {
+    bytes: Vec<u8>,
+    more: bool,
+}
+
+impl Model for KeptLine {
+    ghost use Rattle.desks.specs.declared.kept_lines.TheConstants.{KEPT};
+    ghost use Rattle.desks.specs.near.Keeping.{Kept};
+    ghost use Rattle.std.specs.Prelude.{◌≤◌, length, vec_capacity};
+
+    ghost Value = { Kept };
+
+    ghost view = { λ k. record { bytes = k.bytes.items; more = k.more } };
+
+    ghost invariant = { λ k. (KEPT ≤ vec_capacity k.bytes) × (length k.bytes.items ≤ KEPT) };
+}
+
+// Takes a carriage return away from the end of a text.
+fn strip(text: &mut Vec<u8>)
+    ensures text { text.new.items ≡ strip_last 13 text.old.items }
+    ensures capacity { vec_capacity text.new ≡ vec_capacity text.old }
+{
+    if text.last() == Some(&b'\r') {
+        text.pop();
+    }
+}
+
+impl KeptLine {
+    // A line that has no bytes yet.
+    pub(crate) fn new(alloc: Global) -> Result<KeptLine, AllocError>
+        ensures { IfOk result (λ line. line ≡ kept_of []) }
+    {
+        Ok(KeptLine {
+            bytes: Vec::with_capacity(alloc, KEPT)?,
+            more: false,
+        })
+    }
+
+    // Begins a new line.
+    pub(crate) fn clear(&mut self)
+        ensures { self.new ≡ kept_of [] }
+    {
+        self.bytes.clear();
+        self.more = false;
+    }
+
+    // Goes on with these bytes, of which it keeps what it has room for.
+    pub(crate) fn add(&mut self, bytes: &[u8])
+        ensures { self.new ≡ added self.old bytes.now }
+    {
+        let room = KEPT - self.bytes.len();
+        if bytes.len() <= room {
+            self.bytes.extend_from_slice(bytes).unwrap();
+        } else {
+            self.bytes.extend_from_slice(&bytes[..room]).unwrap();
+            self.more = true;
+        }
+    }
+
+    // Ends the line, and takes a carriage return away from its end.
+    pub(crate) fn close(&mut self) -> Closed
+        ensures request { request_kept self.old ≡ closed_as result self.new.bytes }
+        ensures kept { result ≡ Closed.Line → (0 < length self.new.bytes) × (length self.new.bytes ≤ MAX_LINE) }
+    {
+        if self.more {
+            return Closed::TooLong;
+        }
+        strip(&mut self.bytes);
+        match self.bytes.len() {
+            0 => Closed::Empty,
+            1..=MAX_LINE => Closed::Line,
+            _ => Closed::TooLong,
+        }
+    }
+
+    // The bytes that are kept.
+    pub(crate) fn as_slice(&self) -> &[u8]
+        ensures { result.now ≡ self.now.bytes }
+    {
+        self.bytes.as_slice()
+    }
+}

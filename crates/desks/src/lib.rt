@@ -1,0 +1,10 @@
+//! Desks: devices over which a session takes requests, one a line, and gives answers.
+#![tactic(auto)]
+
+mod blocks;
+pub mod desk;
+mod histories;
+pub mod intake;
+mod kept_lines;
+mod marked_reader;
+pub mod stream_desk;

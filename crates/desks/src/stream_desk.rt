@@ -1,0 +1,75 @@
+//! The desk of the program: requests come from a reader, and answers go to a writer.
+ghost use Rattle.desks.specs.Events.{asked_by, asked_in, told_in};
+ghost use Rattle.desks.specs.Requests.{requests_in};
+ghost use Rattle.desks.specs.near.Intakes.{IsFresh, IsIntake, settled};
+ghost use Rattle.desks.specs.near.Saying.{Says-prop};
+ghost use Rattle.std.specs.Io.KnownBytes.{Appends};
+ghost use Rattle.std.specs.Prelude.{◌≡◌, ◌++◌, [], Ok, OnErr, OnOk, true};
+ghost use Rattle.writers.specs.Streams.{Says};
+
+use crate::desk::{Desk, DeskFault, Taken};
+use crate::histories::{History, Note};
+use crate::intake::Requests;
+use std::io;
+use std::io::{Read, Write};
+use std::snapshot::Snapshot;
+use writers::marked_writer::MarkedWriter;
+
+/// A desk over two streams: it reads requests in blocks, and it writes and flushes each answer.
+///
+/// However it was used, the output has grown by exactly the answers, unless a write failed, and the requests in the log are those in the
+/// bytes that were read.
+#[derive(Drop)]
+pub struct StreamDesk<'a, R: Read, W: Write> {
+    requests: Requests<R>,
+    output: &'a mut MarkedWriter<W>,
+    began: Snapshot<MarkedWriter<W>>,
+    history: History,
+    ghost told: { Says began.value output.now (told_in history.past.log) } by { Says-prop began.value output.now (told_in history.past.log) },
+    ghost asked: { asked_in history.past.log ≡ requests_in (settled requests) },
+    ghost known: { IsIntake requests.reading requests.unread },
+}
+
+// The past with a request that was taken.
+fn noted(history: &History, taken: Taken, line: &[u8]) -> History
+    ensures { result.past.log ≡ history.now.past.log ++ asked_by (Ok taken) line.now }
+{
+    match taken {
+        Taken::Line => history.then(&Note::Asked(line)),
+        Taken::TooLong => history.then(&Note::AskedTooLong),
+        Taken::End => history.then(&Note::Received(&[])),
+    }
+}
+
+// Writes and flushes an answer.
+fn send<W: Write>(output: &mut MarkedWriter<W>, text: &[u8]) -> io::Result<()>
+    ensures sent { OnOk result (Appends output.old.held output.new.held text.now) }
+    ensures same { OnOk result (output.new.failed ≡ output.old.failed) }
+    ensures flushed { OnOk result (output.new.flushed ≡ true) }
+    ensures failed { OnErr result (output.new.failed ≡ true) }
+{
+    output.write_all(text)?;
+    output.flush()
+}
+
+impl<'a, R: Read, W: Write> StreamDesk<'a, R, W> {
+    ghost use Rattle.desks.specs.near.Dealing.{dealings};
+
+    /// The desk of these requests, of which none was taken, and of this output.
+    pub fn new(requests: Requests<R>, output: &'a mut MarkedWriter<W>) -> StreamDesk<'a, R, W>
+        requires { IsFresh requests }
+        ensures name { result.output.ghost_name ≡ output.entry.ghost_name }
+        ensures given { (dealings result).given ≡ requests.reading.given }
+        ensures received { (dealings result).received ≡ [] }
+        ensures began { (dealings result).began ≡ output.old }
+        ensures log { (dealings result).log ≡ [] }
+    {
+        let began = Snapshot::of(&*output);
+        StreamDesk {
+            requests,
+            output,
+            began,
+            history: History::new(),
+        }
+    }
+}
