@@ -5,3 +5,4 @@ mod FeedLemmas
 mod RequestLemmas
 mod IntakeLemmas
 mod SayingLemmas
+mod DealingLemmas

@@ -112,3 +112,33 @@ requests_in-whole xs ys whole =
     ∙ append-nil (flat_map request_of_line cut.lines) in
     ap (flat_map request_of_line) (cut.before ys) ∙ flat_map-append request_of_line cut.lines (slice_split is_feed ys)
     ∙ ap (λ requests. requests ++ requests_in ys) (sym alone)
+
+-- ---- bytes that are cut off
+
+any_whole : (xs : List ℕ) → list_any is_feed (whole_lines xs) ≡ list_any is_feed xs
+any_whole [] = refl
+any_whole (x ∷ xs) =
+    elim (cases_Bool (list_any is_feed (x ∷ xs))) [
+      | inl some ↦ rw some (ap (λ found. is_feed x || found) (any_whole xs) ∙ some)
+      | inr none ↦ rw none refl
+    ]
+
+-- whole lines are whole
+pub whole_lines-whole : (xs : List ℕ) → whole_lines (whole_lines xs) ≡ whole_lines xs
+whole_lines-whole [] = refl
+whole_lines-whole (x ∷ xs) =
+    elim (cases_Bool (list_any is_feed (x ∷ xs))) [
+      | inl some ↦
+        let still : list_any is_feed (x ∷ whole_lines xs) ≡ true = ap (λ found. is_feed x || found) (any_whole xs) ∙ some in
+        rw (some, still) (ap (λ ys. x ∷ ys) (whole_lines-whole xs))
+      | inr none ↦ rw none refl
+    ]
+
+-- what lies behind the whole lines
+pub behind_whole : (xs : List ℕ) → (tail : List ℕ) × (xs ≡ whole_lines xs ++ tail)
+behind_whole [] = ([], refl)
+behind_whole (x ∷ xs) =
+    elim (cases_Bool (list_any is_feed (x ∷ xs))) [
+      | inl some ↦ (let rest = behind_whole xs in (rest.0, rw some (ap (λ ys. x ∷ ys) rest.1)))
+      | inr none ↦ (x ∷ xs, rw none refl)
+    ]

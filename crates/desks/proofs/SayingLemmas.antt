@@ -64,3 +64,9 @@ pub says_more : (old now new : Stream) (bytes more : List ℕ) → Says old now 
 says_more old now new bytes more said appended fresh same =
     let was = rw fresh at said in
     rw (same, fresh) (was.0, Appends-trans old.held now.held new.held bytes more was.1 appended)
+
+-- the requests of a log that goes on with a request that was taken
+pub next_asked : (log : List Event) (taken : Taken) (line : List ℕ) (old new : List (Option (List ℕ))) → asked_in log ≡ old
+    → new ≡ old ++ request_of (Ok taken) line → asked_in (log ++ asked_by (Ok taken) line) ≡ new
+next_asked log taken line old new asked is =
+    asked_in-next log (Ok taken) line ∙ ap (λ requests. requests ++ request_of (Ok taken) line) asked ∙ sym is

@@ -53,6 +53,7 @@ fn send<W: Write>(output: &mut MarkedWriter<W>, text: &[u8]) -> io::Result<()>
 }
 
 impl<'a, R: Read, W: Write> StreamDesk<'a, R, W> {
+    ghost use Rattle.desks.specs.Desks.{IsDealt};
     ghost use Rattle.desks.specs.near.Dealing.{dealings};
 
     /// The desk of these requests, of which none was taken, and of this output.
@@ -72,4 +73,83 @@ impl<'a, R: Read, W: Write> StreamDesk<'a, R, W> {
             history: History::new(),
         }
     }
+
+    /// Gives the output back.
+    pub fn close(self) -> &'a mut MarkedWriter<W>
+    where
+        R: Drop,
+        ensures name { result.ghost_name ≡ self.entry.output.ghost_name }
+        ensures output { result.now ≡ (dealings self.entry).output }
+        ensures dealt { IsDealt (dealings self.entry) }
+    {
+        let StreamDesk {
+            requests: _,
+            output,
+            began: _,
+            history: _,
+        } = self;
+        output
+    }
+}
+
+impl<'a, R: Read, W: Write> Desk for StreamDesk<'a, R, W> {
+    ghost use Rattle.desks.specs.Desks.{IsAtEnd, IsCutOff};
+    ghost use Rattle.desks.specs.Events.{asked_by, told_by};
+    ghost use Rattle.desks.specs.near.Dealing.{dealings};
+    ghost use Rattle.std.specs.Io.KnownBytes.{Appends};
+    ghost use Rattle.std.specs.Prelude.{◌≡◌, ◌++◌, IfErr, OnOk, false, true};
+    ghost use Rattle.std.proofs.Common.{◌∙◌, refl};
+
+    ghost log = { λ d. d.history.past.log };
+
+    ghost line = { λ d. d.requests.line };
+
+    ghost same = { λ old new. (new.output.ghost_name ≡ old.output.ghost_name) × (new.began.value ≡ old.began.value)
+        × (new.requests.reading.given ≡ old.requests.reading.given) };
+
+    ghost at_end = { λ d. IsAtEnd (dealings d) };
+
+    ghost cut_off = { λ d. IsCutOff (dealings d) };
+
+    ghost unwritten = { λ d. d.output.now.failed ≡ true };
+
+    fn next(&mut self) -> Result<Taken, DeskFault> {
+        match self.requests.next() {
+            Ok(taken) => {
+                self.history = noted(&self.history, taken, self.requests.line());
+                Ok(taken)
+            }
+            Err(_) => Err(DeskFault::Input),
+        }
+    }
+
+    fn line(&self) -> &[u8] {
+        self.requests.line()
+    }
+
+    fn tell(&mut self, text: &[u8]) -> Result<(), DeskFault>
+        ensures log { self.new.history.past.log ≡ self.old.history.past.log ++ told_by result text.now }
+        ensures fault { IfErr result (λ e. (e ≡ DeskFault.Output) × (self.new.output.now.failed ≡ true)) }
+        ensures same { (self.new.output.ghost_name ≡ self.old.output.ghost_name) × (self.new.began.value ≡ self.old.began.value)
+            × (self.new.requests.reading.given ≡ self.old.requests.reading.given) }
+
+        // The whole answer was written and flushed.
+        ensures told { OnOk result (Appends self.old.output.now.held self.new.output.now.held text.now) }
+        ensures flushed { OnOk result ((self.new.output.now.failed ≡ false) × (self.new.output.now.flushed ≡ true)) }
+    {
+        if self.output.failed() {
+            return Err(DeskFault::Output);
+        }
+        match send(self.output, text) {
+            Ok(()) => {
+                self.history = self.history.then(&Note::Told(text));
+                Ok(())
+            }
+            Err(_) => Err(DeskFault::Output),
+        }
+    }
+
+    ghost same_as_itself = { λ a. (refl, refl, refl) };
+
+    ghost same_as_before = { λ a b c h k. (k.0 ∙ h.0, k.1 ∙ h.1, k.2 ∙ h.2) };
 }
