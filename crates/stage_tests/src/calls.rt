@@ -6,8 +6,9 @@ ghost use Rattle.std.specs.Prelude.{◌≡◌, IfOk, length, true};
 use crate::credits::{loaded, two_commodities};
 use binding::binder::Binder;
 use binding::faults::BindFault;
-use binding::orders::{Orders, bind_orders};
+use binding::orders::{OrderBinder, Orders, bind_orders};
 use binding::positions::{bind, bind_faults, bind_positions};
+use binding::trades::{Trade, order_of_trades};
 use inter_credit::credit::credit;
 use inter_credit::spreads::inter_spread;
 use inter_credit::state::InterState;
@@ -27,7 +28,7 @@ use span_tables::groups::{empty_lists, push_at};
 use span_tables::held::{Held, gather, gather_all, gather_held};
 use span_tables::name::Name;
 use span_tables::portfolios::{Portfolio, Portfolios};
-use span_tables::raw::RawPositions;
+use span_tables::raw::{RawOrders, RawPositions};
 use span_tables::tables::Tables;
 use spread_stage::deltas::month_deltas;
 use spread_stage::months::MonthUnits;
@@ -49,6 +50,7 @@ fn calls_succeed(rt: HostRuntime) -> Result<(), Fail> {
     faults_found(&rt, alloc, &tables)?;
     let account = account_read(&rt, alloc, &tables)?;
     orders_read(&rt, alloc, &tables)?;
+    order_made(&rt, alloc, &tables)?;
     lists_held(&rt, alloc, &tables, &account)?;
     let held = held_of(&rt, alloc, &tables, &account)?;
     spreads_of_months(&rt, alloc, &tables, &held)?;
@@ -249,6 +251,39 @@ fn orders_read(rt: &impl Abort, alloc: Global, tables: &Tables) -> Result<(), Fa
     let after = orders.portfolios_with(alloc, 0, 2)?;
     assert_eq!(rt; after.len(), 2);
     assert!(rt; holds(&after[0], 0, 2) && holds(&after[1], 0, 4));
+    Ok(())
+}
+
+// A trade in a contract of this id.
+fn trade(id: &[u8], quantity: i32) -> Result<Trade, Fail>
+    ensures { IfOk result (λ trade. trade.quantity ≡ quantity) }
+{
+    let contract = Name::new(id).ok_or("a contract")?;
+    Ok(Trade { contract, quantity })
+}
+
+// The records of an order that closes the short contract and sells one of the other.
+fn closing(alloc: Global) -> Result<RawOrders, Fail> {
+    let order = Name::new(b"CLOSE").ok_or("an order")?;
+    let account = Name::new(b"X").ok_or("an account")?;
+    let mut trades = Vec::new(alloc);
+    trades.push(trade(b"FA2", 2)?)?;
+    trades.push(trade(b"FA", -1)?)?;
+    let raw = order_of_trades(alloc, &order, &account, &trades)?;
+    Ok(raw)
+}
+
+// `binding`: such an order, bound twice by one binder.
+fn order_made(rt: &impl Abort, alloc: Global, tables: &Tables) -> Result<(), Fail> {
+    let mut binder = OrderBinder::new(alloc, tables)?;
+    let raw = closing(alloc)?;
+    for _ in 0..2 {
+        let portfolios = portfolios_read(rt, alloc, tables)?;
+        let orders = binder.bind(alloc, portfolios, &raw)?;
+        assert_eq!(rt; orders.len(), 1);
+        let after = binder.portfolio_after(alloc, &orders, 0)?;
+        assert!(rt; holds(&after, 0, 2));
+    }
     Ok(())
 }
 
