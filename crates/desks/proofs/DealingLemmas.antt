@@ -33,9 +33,11 @@ module _ (reading : Reading) (unread : List ℕ) (intake : IsIntake reading unre
   -- the requests of all bytes begin with those of the settled ones
   settled_first : (all : List ℕ) → reading.given ≡ Some all → (ended : Bool) → reading.ended ≡ ended
       → (more : List (Option (List ℕ))) × (requests_in all ≡ requests_in (settled_of reading unread) ++ more)
-  settled_first all given true is =
-      ([], ap requests_in (sym (settled_at_end reading unread intake is ∙ sym (intake.known.whole is all given)))
-      ∙ sym (append-nil (requests_in (settled_of reading unread))))
+  settled_first all given true is = (
+    [],
+    ap requests_in (sym (settled_at_end reading unread intake is ∙ sym (intake.known.whole is all given)))
+        ∙ sym (append-nil (requests_in (settled_of reading unread))),
+  )
   settled_first all given false is =
       let taken = taken_of reading.received unread in
       let tail = behind_whole taken in

@@ -35,17 +35,17 @@ pub added_to : (line bytes : List ℕ) → added (kept_of line) bytes ≡ kept_o
 added_to line bytes =
     elim (cases_lt KEPT (length line)) [
       | inl long ↦
-        let kept : length (take KEPT line) ≡ KEPT = length-take-le KEPT line (omega arith) in
-        let front : take KEPT (take KEPT line ++ bytes) ≡ take KEPT (line ++ bytes) =
-        take-append-le KEPT (take KEPT line) bytes (omega arith) ∙ take_all KEPT (take KEPT line) (omega arith)
-        ∙ sym (take-append-le KEPT line bytes (omega arith)) in
-        let more : nat_lt KEPT (length line) ≡ true = lt-ltb KEPT (length line) long in
-        let both : nat_lt KEPT (length (line ++ bytes)) ≡ true = lt-ltb KEPT _ (simp length-append (omega arith)) in
-        rw (front, more, both) refl
+          let kept : length (take KEPT line) ≡ KEPT = length-take-le KEPT line (omega arith) in
+          let front : take KEPT (take KEPT line ++ bytes) ≡ take KEPT (line ++ bytes) =
+          take-append-le KEPT (take KEPT line) bytes (omega arith) ∙ take_all KEPT (take KEPT line) (omega arith)
+          ∙ sym (take-append-le KEPT line bytes (omega arith)) in
+          let more : nat_lt KEPT (length line) ≡ true = lt-ltb KEPT (length line) long in
+          let both : nat_lt KEPT (length (line ++ bytes)) ≡ true = lt-ltb KEPT _ (simp length-append (omega arith)) in
+          rw (front, more, both) refl
       | inr short ↦
-        let whole : take KEPT line ≡ line = take_all KEPT line short in
-        let less : nat_lt KEPT (length line) ≡ false = le-ltb KEPT (length line) short in
-        rw (whole, less, length-append) refl
+          let whole : take KEPT line ≡ line = take_all KEPT line short in
+          let less : nat_lt KEPT (length line) ≡ false = le-ltb KEPT (length line) short in
+          rw (whole, less, length-append) refl
     ]
 
 -- a text that is too long
@@ -68,10 +68,10 @@ pub request_kept_of : (line : List ℕ) → request_kept (kept_of line) ≡ requ
 request_kept_of line =
     elim (cases_lt KEPT (length line)) [
       | inl long ↦
-        let more : nat_lt KEPT (length line) ≡ true = lt-ltb KEPT (length line) long in
-        let text : MAX_LINE < length (strip_last 13 line) = omega (arith, stripped_length line) in
-        rw more (sym (long_text (strip_last 13 line) text))
+          let more : nat_lt KEPT (length line) ≡ true = lt-ltb KEPT (length line) long in
+          let text : MAX_LINE < length (strip_last 13 line) = omega (arith, stripped_length line) in
+          rw more (sym (long_text (strip_last 13 line) text))
       | inr short ↦
-        let less : nat_lt KEPT (length line) ≡ false = le-ltb KEPT (length line) short in
-        rw (less, take_all KEPT line short) refl
+          let less : nat_lt KEPT (length line) ≡ false = le-ltb KEPT (length line) short in
+          rw (less, take_all KEPT line short) refl
     ]

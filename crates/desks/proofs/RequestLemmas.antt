@@ -57,8 +57,8 @@ whole_tail : (x : ℕ) (xs : List ℕ) → whole_lines (x ∷ xs) ≡ x ∷ xs �
 whole_tail x xs whole =
     elim (cases_Bool (list_any is_feed (x ∷ xs))) [
       | inl some ↦
-        let tail : whole_lines xs ≡ xs = (let e = rw some at whole in cc) in
-        (some, tail)
+          let tail : whole_lines xs ≡ xs = (let e = rw some at whole in cc) in
+          (some, tail)
       | inr none ↦ let e = rw none at whole in cc
     ]
 
@@ -72,8 +72,8 @@ alone_no_feed [] alone = refl
 alone_no_feed (x ∷ xs) alone =
     elim (cases_Bool (is_feed x)) [
       | inl feed ↦
-        let e : slice_split is_feed xs ≡ [] = (let parts = sym (slice_split-cons_yes is_feed x xs feed) ∙ alone in cc) in
-        absurd (omega (arith, length-slice_split is_feed xs, ap length e))
+          let e : slice_split is_feed xs ≡ [] = (let parts = sym (slice_split-cons_yes is_feed x xs feed) ∙ alone in cc) in
+          absurd (omega (arith, length-slice_split is_feed xs, ap length e))
       | inr other ↦ absurd (onto_some x (slice_split is_feed xs) (sym (slice_split-cons_no is_feed x xs other) ∙ alone))
     ]
 
@@ -96,10 +96,10 @@ whole_is_cut (x ∷ xs) whole =
     let cut : IsCut xs = whole_is_cut xs tail.1 in
     elim (cases_Bool (is_feed x)) [
       | inl feed ↦ record {
-          lines = [] ∷ cut.lines;
-          alone = slice_split-cons_yes is_feed x xs feed ∙ ap (λ ls. [] ∷ ls) cut.alone;
-          before = λ ys. slice_split-cons_yes is_feed x (xs ++ ys) feed ∙ ap (λ ls. [] ∷ ls) (cut.before ys);
-        }
+        lines = [] ∷ cut.lines;
+        alone = slice_split-cons_yes is_feed x xs feed ∙ ap (λ ls. [] ∷ ls) cut.alone;
+        before = λ ys. slice_split-cons_yes is_feed x (xs ++ ys) feed ∙ ap (λ ls. [] ∷ ls) (cut.before ys);
+      }
       | inr other ↦ onto_line x xs other tail.0 cut
     ]
 
@@ -129,8 +129,8 @@ whole_lines-whole [] = refl
 whole_lines-whole (x ∷ xs) =
     elim (cases_Bool (list_any is_feed (x ∷ xs))) [
       | inl some ↦
-        let still : list_any is_feed (x ∷ whole_lines xs) ≡ true = ap (λ found. is_feed x || found) (any_whole xs) ∙ some in
-        rw (some, still) (ap (λ ys. x ∷ ys) (whole_lines-whole xs))
+          let still : list_any is_feed (x ∷ whole_lines xs) ≡ true = ap (λ found. is_feed x || found) (any_whole xs) ∙ some in
+          rw (some, still) (ap (λ ys. x ∷ ys) (whole_lines-whole xs))
       | inr none ↦ rw none refl
     ]
 
