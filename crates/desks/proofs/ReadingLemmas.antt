@@ -1,5 +1,5 @@
 -- What is received of a reader whose bytes are known.
-use Rattle.std.proofs.Common.{◌≡◌, ◌∙◌, ℕ, Bool, true, List, ◌++◌, None, Some, ap, sym, subst, length, take, append-nil}
+use Rattle.std.proofs.Common.{◌≡◌, ◌∙◌, ℕ, Bool, List, ◌++◌, None, Some, ap, sym, length, take, append-nil}
 use lib.Seq.{take-append_seam}
 use Rattle.std.specs.Prelude.{Option}
 use Rattle.std.specs.Option.{ForSome}

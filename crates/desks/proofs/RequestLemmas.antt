@@ -1,13 +1,12 @@
 -- The requests in bytes that are cut at line feeds.
-use Rattle.std.proofs.Common.{◌≡◌, ◌∙◌, ◌+◌, ◌-◌, ℕ, Bool, true, false, List, [], ◌∷◌, ◌++◌, Option, refl, sym, ap, subst, arith, inl, inr, length, take, drop, cond}
-use Rattle.std.proofs.Common.{append_assoc, append-nil, length-append}
+use Rattle.std.proofs.Common.{◌≡◌, ◌∙◌, ℕ, true, false, List, [], ◌∷◌, ◌++◌, refl, sym, ap, arith, inl, inr, length}
+use Rattle.std.proofs.Common.{append-nil}
 use Rattle.std.proofs.Math.Bool.{or-false, or-true}
-use Rattle.std.proofs.Math.Seq.{take-append_seam}
 use Rattle.std.proofs.lemmas.Bool.{cases_Bool}
 use Rattle.std.proofs.lemmas.Grind.{flat_map-append}
 use Rattle.std.proofs.lemmas.List.Folds.{list_any-append, list_any_none}
 use Rattle.std.proofs.lemmas.List.Splits.{slice_split-cons_no, slice_split-cons_yes, length-slice_split, slice_split_at, slice_split_none}
-use Rattle.std.specs.Prelude.{◌||◌, ◌==◌, All}
+use Rattle.std.specs.Prelude.{◌||◌}
 use Rattle.std.specs.List.{flat_map, list_any, onto_first, slice_split}
 use Rattle.desks.specs.Requests.{is_feed, request_of_line, requests_in, whole_lines}
 use Rattle.desks.specs.near.Keeping.{HasNoFeed}

@@ -1,4 +1,4 @@
-use Rattle.std.proofs.Common.{◌≡◌, ◌++◌, ◌-◌, ◌<◌, ◌≤◌, true, arith, length, take}
+use Rattle.std.proofs.Common.{◌≡◌, ◌++◌, arith, length}
 use Rattle.desks.specs.near.Keeping.{Kept}
 use Rattle.desks.proofs.KeepLemmas.{added_front, added_whole}
 use Rattle.desks.proofs.kept_lines.KeptLine.add.Goals as goal
