@@ -1,5 +1,6 @@
 -- What is kept of a line.
-use Rattle.std.proofs.Common.{◌≡◌, ◌∙◌, ◌+◌, ◌-◌, ◌<◌, ◌≤◌, ℕ, true, false, List, [], ◌∷◌, ◌++◌, None, refl, sym, ap, arith, inl, inr, length, take}
+use Rattle.std.proofs.Common.{◌≡◌, ◌∙◌, ◌+◌, ◌-◌, ◌<◌, ◌≤◌, ℕ, true, false, List, [], ◌∷◌, ◌++◌, None, refl, sym, ap, arith, inl, inr}
+use Rattle.std.proofs.Common.{length, take}
 use Rattle.std.proofs.Common.{length-append}
 use Rattle.std.proofs.Math.Bool.{or-false, or-true}
 use Rattle.std.proofs.Math.Seq.{take-append-add}

@@ -7,7 +7,8 @@ use Rattle.std.specs.Io.{StartsWith}
 use Rattle.std.specs.Io.KnownBytes.{Consumes, IsAtEnd}
 use Rattle.desks.specs.near.Readings.{IsReading, IsReceived}
 
-received_front : (given rest : Option (List ℕ)) (received : List ℕ) → Consumes given rest received → ForSome given (λ all. StartsWith all received)
+received_front : (given rest : Option (List ℕ)) (received : List ℕ) → Consumes given rest received
+    → ForSome given (λ all. StartsWith all received)
 received_front None rest received consumed all is = cc
 received_front (Some xs) None received consumed all is = absurd consumed
 received_front (Some xs) (Some ys) received consumed all is =
