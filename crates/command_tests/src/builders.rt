@@ -2,7 +2,6 @@
 use sources::Sources;
 use span_cli::outputs::{ErrorStream, OutputStream};
 use span_cli::words::run_words;
-use writers::marked_writer::MarkedWriter;
 use std::alloc::Global;
 use std::io;
 use std::io::{ErrorKind, Write};
@@ -10,6 +9,7 @@ use std::sync::Wait;
 use std::thread::Threads;
 use std::time::Clock;
 use worker_pool::gates::Gate;
+use writers::marked_writer::MarkedWriter;
 
 /// A status, and what was written.
 #[derive(Drop)]

@@ -9,7 +9,6 @@ use span_cli::reading::{Turns, read_file, read_within};
 use span_cli::serving::{Request, serve};
 use span_cli::streams::Streams;
 use span_cli::words::request;
-use writers::marked_writer::MarkedWriter;
 use std::alloc::Global;
 use std::fs::Metadata;
 use std::process::Abort;
@@ -18,6 +17,7 @@ use std::sync::Wait;
 use std::thread::Threads;
 use std::time::Clock;
 use worker_pool::gates::OpenGate;
+use writers::marked_writer::MarkedWriter;
 
 // The file of a calendar spread, in memory.
 const FILES: [(&str, &[u8]); 1] = [("params.csv", PARAMS)];

@@ -3,7 +3,6 @@ use sample_files::one_future;
 use sample_files::three_commodities::{PARAMS, POSITIONS, STATEMENT};
 use span_cli::memory::InMemory;
 use span_cli::serving::{Request, serve};
-use writers::marked_writer::MarkedWriter;
 use std::alloc::Global;
 use std::io;
 use std::io::{ErrorKind, Write};
@@ -11,6 +10,7 @@ use std::sync::Wait;
 use std::thread::Threads;
 use std::time::Clock;
 use worker_pool::gates::OpenGate;
+use writers::marked_writer::MarkedWriter;
 
 // Keeps what is written, up to a number of bytes, and then fails.
 #[derive(Drop)]

@@ -5,7 +5,6 @@ use sources::{ReadFault, Sources};
 use span_cli::memory::InMemory;
 use span_cli::outputs::{ErrorStream, OutputStream};
 use span_cli::words::{refuse_words, run_words};
-use writers::marked_writer::MarkedWriter;
 use std::alloc::Global;
 use std::io;
 use std::io::ErrorKind;
@@ -13,6 +12,7 @@ use std::sync::Wait;
 use std::thread::Threads;
 use std::time::Clock;
 use worker_pool::gates::OpenGate;
+use writers::marked_writer::MarkedWriter;
 
 const FILES: [(&str, &[u8]); 4] = [
     ("params.csv", PARAMS),

@@ -1,5 +1,6 @@
 -- What a desk has asked of an input whose bytes are known.
-use Rattle.std.proofs.Common.{◌≡◌, ◌∙◌, ℕ, Bool, true, false, List, [], ◌∷◌, ◌++◌, None, Some, refl, sym, ap, subst, append_assoc, append-nil, length, drop, inl, inr}
+use Rattle.std.proofs.Common.{◌≡◌, ◌∙◌, ℕ, Bool, true, false, List, [], ◌++◌, None, Some, refl, sym, ap, append_assoc, append-nil, length}
+use Rattle.std.proofs.Common.{drop, inl, inr}
 use Rattle.std.proofs.KnownBytes.{starts_with_rest}
 use Rattle.std.specs.Prelude.{Option, IfSome}
 use Rattle.std.specs.Option.{ForSome}
@@ -14,7 +15,8 @@ if_some None P h = tt
 if_some (Some x) P h = h x refl
 
 -- what was taken, where nothing is left of what was received
-taken_all : (reading : Reading) (unread : List ℕ) → IsIntake reading unread → unread ≡ [] → taken_of reading.received unread ≡ reading.received
+taken_all : (reading : Reading) (unread : List ℕ) → IsIntake reading unread → unread ≡ []
+    → taken_of reading.received unread ≡ reading.received
 taken_all reading unread intake none =
     sym (intake.parts ∙ ap (λ rest. taken_of reading.received unread ++ rest) none ∙ append-nil (taken_of reading.received unread))
 
@@ -33,9 +35,11 @@ module _ (reading : Reading) (unread : List ℕ) (intake : IsIntake reading unre
   -- the requests of all bytes begin with those of the settled ones
   settled_first : (all : List ℕ) → reading.given ≡ Some all → (ended : Bool) → reading.ended ≡ ended
       → (more : List (Option (List ℕ))) × (requests_in all ≡ requests_in (settled_of reading unread) ++ more)
-  settled_first all given true is =
-      ([], ap requests_in (sym (settled_at_end reading unread intake is ∙ sym (intake.known.whole is all given)))
-      ∙ sym (append-nil (requests_in (settled_of reading unread))))
+  settled_first all given true is = (
+    [],
+    ap requests_in (sym (settled_at_end reading unread intake is ∙ sym (intake.known.whole is all given)))
+        ∙ sym (append-nil (requests_in (settled_of reading unread))),
+  )
   settled_first all given false is =
       let taken = taken_of reading.received unread in
       let tail = behind_whole taken in

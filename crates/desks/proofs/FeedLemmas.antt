@@ -1,11 +1,10 @@
 -- Where a block is cut.
-use Rattle.std.proofs.Common.{◌≡◌, ◌∙◌, ◌+◌, ◌-◌, ◌<◌, ◌≤◌, add-one, ℕ, true, false, List, [], ◌∷◌, ◌++◌, take, drop, get_or, length}
-use Rattle.std.proofs.Common.{Some, None, sym, ap, subst, inl, inr, arith}
+use Rattle.std.proofs.Common.{◌≡◌, ◌∙◌, ◌+◌, ◌<◌, add-one, ℕ, true, false, List, ◌∷◌, ◌++◌, take, drop, get_or}
+use Rattle.std.proofs.Common.{Some, None, sym, ap, inl, inr, arith}
 use Rattle.std.proofs.Math.Seq.{drop-cons}
 use Rattle.std.proofs.lemmas.Bool.{cases_Bool}
 use Rattle.std.proofs.lemmas.List.{get_or-take, length-take, take-append-drop}
 use Rattle.std.proofs.lemmas.List.Elements.{All-from_get_or}
-use Rattle.std.specs.Prelude.{slice_range, ◌==◌}
 use Rattle.memchr.specs.Find.{is_byte, IsFirstByte}
 use Rattle.desks.specs.Requests.{is_feed}
 use Rattle.desks.specs.near.Keeping.{HasNoFeed}

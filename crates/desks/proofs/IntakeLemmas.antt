@@ -1,5 +1,5 @@
 -- How bytes are taken line by line.
-use Rattle.std.proofs.Common.{◌≡◌, ◌∙◌, ◌+◌, ◌-◌, ◌*◌, ◌<◌, ◌≤◌, ◌⊎◌, ℕ, Bool, true, false, List, [], ◌∷◌, ◌++◌, refl, sym, ap, subst, arith, inl, inr, length, take}
+use Rattle.std.proofs.Common.{◌≡◌, ◌∙◌, ◌-◌, ℕ, Bool, true, false, List, [], ◌∷◌, ◌++◌, refl, sym, ap, arith, inl, inr, length, take}
 use Rattle.std.proofs.Common.{append_assoc, append-nil, length-append}
 use Rattle.std.proofs.Math.Seq.{take-append_seam}
 use Rattle.std.proofs.lemmas.List.Elements.{All-append, All-nil}
@@ -7,9 +7,9 @@ use Rattle.std.proofs.lemmas.Bool.{cases_Bool}
 use Rattle.std.specs.Prelude.{Option, Result, Ok, Err}
 use Rattle.desks.specs.declared.desk.DeskFault.{DeskFault}
 use Rattle.desks.specs.Requests.{is_feed, request_of_line, requests_in, whole_lines}
-use Rattle.desks.specs.near.Blocks.{Cuts, CutsAll, CutsLine}
+use Rattle.desks.specs.near.Blocks.{CutsAll, CutsLine}
 use Rattle.desks.specs.near.Intakes.{Goes, IsIntake, IsLeft, Reads, behind, settled_of, taken_of}
-use Rattle.desks.specs.near.Keeping.{HasNoFeed, Kept, added, kept_of, request_kept}
+use Rattle.desks.specs.near.Keeping.{Kept, added, kept_of, request_kept}
 use Rattle.desks.specs.near.Readings.{IsReceived, IsStill, Reading}
 use Rattle.desks.proofs.KeepLemmas.{added_to, request_kept_of}
 use Rattle.desks.proofs.RequestLemmas.{requests_in-last, requests_in-line, requests_in-whole, whole_lines-at_feed, whole_lines-no_feed}

@@ -1,11 +1,12 @@
 -- What is kept of a line.
-use Rattle.std.proofs.Common.{◌≡◌, ◌∙◌, ◌+◌, ◌-◌, ◌<◌, ◌≤◌, ℕ, Bool, true, false, List, [], ◌∷◌, ◌++◌, None, refl, sym, ap, arith, inl, inr, length, take, cond}
+use Rattle.std.proofs.Common.{◌≡◌, ◌∙◌, ◌+◌, ◌-◌, ◌<◌, ◌≤◌, ℕ, true, false, List, [], ◌∷◌, ◌++◌, None, refl, sym, ap, arith, inl, inr}
+use Rattle.std.proofs.Common.{length, take}
 use Rattle.std.proofs.Common.{length-append}
 use Rattle.std.proofs.Math.Bool.{or-false, or-true}
 use Rattle.std.proofs.Math.Seq.{take-append-add}
 use Rattle.std.proofs.lemmas.Bool.{cases_Bool, cases_lt, le-ltb, lt-ltb}
 use Rattle.std.proofs.lemmas.List.{length-take, length-take-le, take-append-le, take_all}
-use Rattle.std.specs.Prelude.{nat_lt, ◌||◌, ◌==◌}
+use Rattle.std.specs.Prelude.{nat_lt, ◌==◌}
 use Rattle.std.specs.Io.BufRead.{ends_with_byte, strip_last}
 use Rattle.desks.specs.Requests.{request_of_line, request_of_text}
 use Rattle.desks.specs.declared.desk.TheConstants.{MAX_LINE}
@@ -35,17 +36,17 @@ pub added_to : (line bytes : List ℕ) → added (kept_of line) bytes ≡ kept_o
 added_to line bytes =
     elim (cases_lt KEPT (length line)) [
       | inl long ↦
-        let kept : length (take KEPT line) ≡ KEPT = length-take-le KEPT line (omega arith) in
-        let front : take KEPT (take KEPT line ++ bytes) ≡ take KEPT (line ++ bytes) =
-        take-append-le KEPT (take KEPT line) bytes (omega arith) ∙ take_all KEPT (take KEPT line) (omega arith)
-        ∙ sym (take-append-le KEPT line bytes (omega arith)) in
-        let more : nat_lt KEPT (length line) ≡ true = lt-ltb KEPT (length line) long in
-        let both : nat_lt KEPT (length (line ++ bytes)) ≡ true = lt-ltb KEPT _ (simp length-append (omega arith)) in
-        rw (front, more, both) refl
+          let kept : length (take KEPT line) ≡ KEPT = length-take-le KEPT line (omega arith) in
+          let front : take KEPT (take KEPT line ++ bytes) ≡ take KEPT (line ++ bytes) =
+          take-append-le KEPT (take KEPT line) bytes (omega arith) ∙ take_all KEPT (take KEPT line) (omega arith)
+          ∙ sym (take-append-le KEPT line bytes (omega arith)) in
+          let more : nat_lt KEPT (length line) ≡ true = lt-ltb KEPT (length line) long in
+          let both : nat_lt KEPT (length (line ++ bytes)) ≡ true = lt-ltb KEPT _ (simp length-append (omega arith)) in
+          rw (front, more, both) refl
       | inr short ↦
-        let whole : take KEPT line ≡ line = take_all KEPT line short in
-        let less : nat_lt KEPT (length line) ≡ false = le-ltb KEPT (length line) short in
-        rw (whole, less, length-append) refl
+          let whole : take KEPT line ≡ line = take_all KEPT line short in
+          let less : nat_lt KEPT (length line) ≡ false = le-ltb KEPT (length line) short in
+          rw (whole, less, length-append) refl
     ]
 
 -- a text that is too long
@@ -68,10 +69,10 @@ pub request_kept_of : (line : List ℕ) → request_kept (kept_of line) ≡ requ
 request_kept_of line =
     elim (cases_lt KEPT (length line)) [
       | inl long ↦
-        let more : nat_lt KEPT (length line) ≡ true = lt-ltb KEPT (length line) long in
-        let text : MAX_LINE < length (strip_last 13 line) = omega (arith, stripped_length line) in
-        rw more (sym (long_text (strip_last 13 line) text))
+          let more : nat_lt KEPT (length line) ≡ true = lt-ltb KEPT (length line) long in
+          let text : MAX_LINE < length (strip_last 13 line) = omega (arith, stripped_length line) in
+          rw more (sym (long_text (strip_last 13 line) text))
       | inr short ↦
-        let less : nat_lt KEPT (length line) ≡ false = le-ltb KEPT (length line) short in
-        rw (less, take_all KEPT line short) refl
+          let less : nat_lt KEPT (length line) ≡ false = le-ltb KEPT (length line) short in
+          rw (less, take_all KEPT line short) refl
     ]

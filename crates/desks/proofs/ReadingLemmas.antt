@@ -1,5 +1,5 @@
 -- What is received of a reader whose bytes are known.
-use Rattle.std.proofs.Common.{◌≡◌, ◌∙◌, ℕ, Bool, true, List, ◌++◌, None, Some, ap, sym, subst, length, take, append-nil}
+use Rattle.std.proofs.Common.{◌≡◌, ◌∙◌, ℕ, Bool, List, ◌++◌, None, Some, ap, sym, length, take, append-nil}
 use lib.Seq.{take-append_seam}
 use Rattle.std.specs.Prelude.{Option}
 use Rattle.std.specs.Option.{ForSome}
@@ -7,7 +7,8 @@ use Rattle.std.specs.Io.{StartsWith}
 use Rattle.std.specs.Io.KnownBytes.{Consumes, IsAtEnd}
 use Rattle.desks.specs.near.Readings.{IsReading, IsReceived}
 
-received_front : (given rest : Option (List ℕ)) (received : List ℕ) → Consumes given rest received → ForSome given (λ all. StartsWith all received)
+received_front : (given rest : Option (List ℕ)) (received : List ℕ) → Consumes given rest received
+    → ForSome given (λ all. StartsWith all received)
 received_front None rest received consumed all is = cc
 received_front (Some xs) None received consumed all is = absurd consumed
 received_front (Some xs) (Some ys) received consumed all is =

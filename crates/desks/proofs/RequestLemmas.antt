@@ -1,13 +1,12 @@
 -- The requests in bytes that are cut at line feeds.
-use Rattle.std.proofs.Common.{◌≡◌, ◌∙◌, ◌+◌, ◌-◌, ℕ, Bool, true, false, List, [], ◌∷◌, ◌++◌, Option, refl, sym, ap, subst, arith, inl, inr, length, take, drop, cond}
-use Rattle.std.proofs.Common.{append_assoc, append-nil, length-append}
+use Rattle.std.proofs.Common.{◌≡◌, ◌∙◌, ℕ, true, false, List, [], ◌∷◌, ◌++◌, refl, sym, ap, arith, inl, inr, length}
+use Rattle.std.proofs.Common.{append-nil}
 use Rattle.std.proofs.Math.Bool.{or-false, or-true}
-use Rattle.std.proofs.Math.Seq.{take-append_seam}
 use Rattle.std.proofs.lemmas.Bool.{cases_Bool}
 use Rattle.std.proofs.lemmas.Grind.{flat_map-append}
 use Rattle.std.proofs.lemmas.List.Folds.{list_any-append, list_any_none}
 use Rattle.std.proofs.lemmas.List.Splits.{slice_split-cons_no, slice_split-cons_yes, length-slice_split, slice_split_at, slice_split_none}
-use Rattle.std.specs.Prelude.{◌||◌, ◌==◌, All}
+use Rattle.std.specs.Prelude.{◌||◌}
 use Rattle.std.specs.List.{flat_map, list_any, onto_first, slice_split}
 use Rattle.desks.specs.Requests.{is_feed, request_of_line, requests_in, whole_lines}
 use Rattle.desks.specs.near.Keeping.{HasNoFeed}
@@ -57,8 +56,8 @@ whole_tail : (x : ℕ) (xs : List ℕ) → whole_lines (x ∷ xs) ≡ x ∷ xs �
 whole_tail x xs whole =
     elim (cases_Bool (list_any is_feed (x ∷ xs))) [
       | inl some ↦
-        let tail : whole_lines xs ≡ xs = (let e = rw some at whole in cc) in
-        (some, tail)
+          let tail : whole_lines xs ≡ xs = (let e = rw some at whole in cc) in
+          (some, tail)
       | inr none ↦ let e = rw none at whole in cc
     ]
 
@@ -72,8 +71,8 @@ alone_no_feed [] alone = refl
 alone_no_feed (x ∷ xs) alone =
     elim (cases_Bool (is_feed x)) [
       | inl feed ↦
-        let e : slice_split is_feed xs ≡ [] = (let parts = sym (slice_split-cons_yes is_feed x xs feed) ∙ alone in cc) in
-        absurd (omega (arith, length-slice_split is_feed xs, ap length e))
+          let e : slice_split is_feed xs ≡ [] = (let parts = sym (slice_split-cons_yes is_feed x xs feed) ∙ alone in cc) in
+          absurd (omega (arith, length-slice_split is_feed xs, ap length e))
       | inr other ↦ absurd (onto_some x (slice_split is_feed xs) (sym (slice_split-cons_no is_feed x xs other) ∙ alone))
     ]
 
@@ -96,10 +95,10 @@ whole_is_cut (x ∷ xs) whole =
     let cut : IsCut xs = whole_is_cut xs tail.1 in
     elim (cases_Bool (is_feed x)) [
       | inl feed ↦ record {
-          lines = [] ∷ cut.lines;
-          alone = slice_split-cons_yes is_feed x xs feed ∙ ap (λ ls. [] ∷ ls) cut.alone;
-          before = λ ys. slice_split-cons_yes is_feed x (xs ++ ys) feed ∙ ap (λ ls. [] ∷ ls) (cut.before ys);
-        }
+        lines = [] ∷ cut.lines;
+        alone = slice_split-cons_yes is_feed x xs feed ∙ ap (λ ls. [] ∷ ls) cut.alone;
+        before = λ ys. slice_split-cons_yes is_feed x (xs ++ ys) feed ∙ ap (λ ls. [] ∷ ls) (cut.before ys);
+      }
       | inr other ↦ onto_line x xs other tail.0 cut
     ]
 
@@ -129,8 +128,8 @@ whole_lines-whole [] = refl
 whole_lines-whole (x ∷ xs) =
     elim (cases_Bool (list_any is_feed (x ∷ xs))) [
       | inl some ↦
-        let still : list_any is_feed (x ∷ whole_lines xs) ≡ true = ap (λ found. is_feed x || found) (any_whole xs) ∙ some in
-        rw (some, still) (ap (λ ys. x ∷ ys) (whole_lines-whole xs))
+          let still : list_any is_feed (x ∷ whole_lines xs) ≡ true = ap (λ found. is_feed x || found) (any_whole xs) ∙ some in
+          rw (some, still) (ap (λ ys. x ∷ ys) (whole_lines-whole xs))
       | inr none ↦ rw none refl
     ]
 

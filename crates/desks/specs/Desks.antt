@@ -1,5 +1,5 @@
 -- What a desk over two streams has done.
-use Rattle.std.specs.Prelude.{◌≡◌, ℕ, true, List, ◌++◌, Option, IfSome}
+use Rattle.std.specs.Prelude.{◌≡◌, ℕ, List, ◌++◌, Option, IfSome}
 use Rattle.writers.specs.Streams.{Says, Stream}
 use Rattle.desks.specs.Events.{Event, asked_in, told_in}
 use Rattle.desks.specs.Requests.{requests_in, whole_lines}

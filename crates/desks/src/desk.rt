@@ -61,7 +61,7 @@ pub trait Desk {
     ghost unwritten: { Self → Type 0 } = { λ _. Unit {0} };
 
     /// Hands over the next request. Lines that have no bytes are passed over, and one carriage return at the end of a line is none of its
-    /// bytes. After an `Err` each further call answers the same.
+    /// bytes.
     fn next(&mut self) -> Result<Taken, DeskFault>
         ensures log { log self.new ≡ log self.old ++ asked_by result (line self.new) }
         ensures kept { result ≡ Ok taken.Line → (0 < length (line self.new)) × (length (line self.new) ≤ MAX_LINE) }
@@ -73,8 +73,7 @@ pub trait Desk {
     fn line(&self) -> &[u8]
         ensures { result.now ≡ line self.now };
 
-    /// Takes an answer: it is written and flushed, whole, at an `Ok`. A part of it may have gone out at an `Err`, and after one each further
-    /// call answers the same.
+    /// Takes an answer, which was written and flushed, whole, at an `Ok`. A part of it may have gone out at an `Err`.
     fn tell(&mut self, text: &[u8]) -> Result<(), DeskFault>
         ensures log { log self.new ≡ log self.old ++ told_by result text.now }
         ensures fault { IfErr result (λ e. (e ≡ DeskFault.Output) × unwritten self.new) }

@@ -8,3 +8,4 @@ pub mod intake;
 mod kept_lines;
 mod marked_reader;
 pub mod stream_desk;
+mod worked;

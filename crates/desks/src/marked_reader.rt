@@ -27,8 +27,13 @@ impl<R: Read> Model for MarkedReader<R> {
 
     ghost Value = { Reading };
 
-    ghost view = { λ r. record { given = R.remaining r.began.value; received = r.history.past.received;
-        ended = r.ended; failed = r.failed; turns = r.turns } };
+    ghost view = { λ r. record {
+      given = R.remaining r.began.value;
+      received = r.history.past.received;
+      ended = r.ended;
+      failed = r.failed;
+      turns = r.turns;
+    } };
 
     ghost invariant = { λ r. IsReading (R.remaining r.began.value) (R.remaining r.reader) r.history.past.received r.ended r.failed };
 }

@@ -3,11 +3,11 @@
 
 use span_cli::disk::Disk;
 use span_cli::words::{refuse_words, run_words};
-use writers::marked_writer::MarkedWriter;
 use std::alloc::Global;
 use std::process::ExitCode;
 use std::{env, io};
 use worker_pool::gates::OpenGate;
+use writers::marked_writer::MarkedWriter;
 
 fn words_of(rt: &HostRuntime, alloc: Global) -> io::Result<Vec<String>> {
     let words = env::args(rt)?.collect(alloc)?;

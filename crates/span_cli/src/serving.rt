@@ -21,7 +21,6 @@ use statement::plans::plan_plain;
 use statement::roll::roll;
 use statement_text::fault_lines::tell_fault;
 use statement_text::faults::{SpanFault, status};
-use writers::marked_writer::MarkedWriter;
 use statement_text::statuses::{DONE, FILE_FAILED};
 use std::alloc::{AllocError, Global};
 use std::io::Write;
@@ -30,6 +29,7 @@ use std::thread::Threads;
 use std::time::Clock;
 use whatif::trying::whatif;
 use worker_pool::gates::Gate;
+use writers::marked_writer::MarkedWriter;
 
 /// What the program is asked for, with the names of its files.
 #[derive(Debug, Drop)]

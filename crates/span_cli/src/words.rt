@@ -23,7 +23,6 @@ use clap::error::ErrorKind;
 use clap::{Arg, ArgMatches, Command, Error};
 use sources::Sources;
 use span_tables::name::Name;
-use writers::marked_writer::MarkedWriter;
 use statement_text::statuses::{DONE, FILE_FAILED, OUT_OF_MEMORY, USAGE};
 use std::alloc::{AllocError, Global};
 use std::convert::AsStr;
@@ -34,6 +33,7 @@ use std::thread::Threads;
 use std::time::Clock;
 use worker_pool::batch::MAX_WORKERS;
 use worker_pool::gates::Gate;
+use writers::marked_writer::MarkedWriter;
 
 /// The program's version, and the profiles of the method that it follows (docs/METHOD.md).
 const VERSION: &str = "1.2.0 (profile 1 and profile 2)";

@@ -21,7 +21,6 @@ use statement::fault_lines::{tell_fault, write_fault};
 use statement::faults::SpanFault;
 use statement::lines::{push_commodity_of, push_row, push_total_of, write};
 use statement::margin::{margin, margin_plain};
-use writers::marked_writer::MarkedWriter;
 use statement::plans::plan_plain;
 use statement::roll::roll;
 use std::alloc::{AllocError, Global};
@@ -34,6 +33,7 @@ use whatif::trying::whatif;
 use worker_pool::gates::OpenGate;
 use worker_pool::outcomes::Outcome;
 use worker_teams::teams::run_in_teams;
+use writers::marked_writer::MarkedWriter;
 
 // The plan of a calendar spread.
 const PLAN: &[u8] = b"\

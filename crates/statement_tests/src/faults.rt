@@ -7,12 +7,12 @@ use span_csv::faults::{ParamFault, PositionFault};
 use span_tables::name::Name;
 use statement::fault_lines::{tell_fault, write_fault};
 use statement::faults::{SpanFault, status};
-use writers::marked_writer::MarkedWriter;
 use std::alloc::Global;
 use std::fmt::Display;
 use std::process::Abort;
 use step_scheduler::boards::Refused;
 use worker_pool::batch::PoolFault;
+use writers::marked_writer::MarkedWriter;
 
 // The account of the faults below.
 fn account() -> Name {

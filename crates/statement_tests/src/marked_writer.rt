@@ -1,9 +1,9 @@
 //! Writers that fail: no clause says when a write does.
-use writers::marked_writer::MarkedWriter;
 use std::fmt;
 use std::fmt::{Display, Formatter};
 use std::io::Write;
 use std::test::Fail;
+use writers::marked_writer::MarkedWriter;
 
 // A text that cannot be formatted.
 #[derive(Drop)]

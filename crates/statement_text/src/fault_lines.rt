@@ -5,10 +5,10 @@ ghost use Rattle.std.specs.Io.KnownBytes.{Appends};
 ghost use Rattle.std.specs.Prelude.{OnOk};
 
 use crate::faults::SpanFault;
-use writers::marked_writer::MarkedWriter;
 use std::fmt::Display;
 use std::io::Write;
 use std::{fmt, io};
+use writers::marked_writer::MarkedWriter;
 
 // The line of a fault.
 #[derive(Clone, Copy)]

@@ -1,5 +1,5 @@
 -- What is known of a reader whose bytes are cut into requests.
-use Rattle.std.specs.Prelude.{◌≡◌, ℕ, ◌+◌, ◌-◌, ◌*◌, ◌≤◌, Bool, true, false, List, [], ◌∷◌, ◌++◌, Option, Result, Ok, Err, length, take, if◌then◌else◌}
+use Rattle.std.specs.Prelude.{◌≡◌, ℕ, ◌+◌, ◌-◌, ◌*◌, Bool, true, false, List, [], ◌∷◌, ◌++◌, Result, Ok, Err, length, take, if◌then◌else◌}
 use Rattle.desks.specs.Requests.{requests_in, whole_lines}
 use Rattle.desks.specs.declared.blocks.TheConstants.{BLOCK}
 use Rattle.desks.specs.declared.desk.DeskFault.{DeskFault}

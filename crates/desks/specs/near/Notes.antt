@@ -1,5 +1,5 @@
 -- What a note makes of the past.
-use Rattle.std.specs.Prelude.{ℕ, List, [], ◌∷◌, ◌++◌, Some, None}
+use Rattle.std.specs.Prelude.{[], ◌∷◌, ◌++◌, Some, None}
 use Rattle.desks.specs.Events.{Asked, Told}
 use Rattle.desks.specs.near.Histories.{Past}
 use Rattle.desks.specs.declared.histories.Note.{Note}

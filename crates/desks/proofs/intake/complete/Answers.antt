@@ -1,6 +1,5 @@
-use Rattle.std.proofs.Common.{rules, ◌≡◌, ◌∙◌, ◌<◌, refl, arith, sym, ap, inl, inr}
+use Rattle.std.proofs.Common.{◌∙◌, ◌<◌, refl, arith, sym}
 use Rattle.std.proofs.lemmas.Result.{err_from_is_err_and}
-use Rattle.desks.specs.near.Readings.{IsStill}
 use Rattle.desks.proofs.IntakeLemmas.{reads_all, reads_end, reads_line, reads_more, reads_none, reads_over, stays}
 use Rattle.desks.proofs.intake.complete.Goals as goal
 

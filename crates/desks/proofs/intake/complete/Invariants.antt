@@ -1,4 +1,4 @@
-use Rattle.std.proofs.Common.{◌≡◌, ◌+◌, ◌≤◌, length}
+use Rattle.std.proofs.Common.{◌≡◌, ◌≤◌}
 use Rattle.desks.specs.near.Intakes.{Reads, measure_of}
 use Rattle.desks.specs.near.Readings.{IsReceived}
 use Rattle.desks.proofs.intake.complete.Given as goal

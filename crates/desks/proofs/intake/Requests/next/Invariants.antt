@@ -1,6 +1,6 @@
 use Rattle.std.proofs.Common.{◌≡◌}
 use Rattle.desks.specs.Requests.{requests_in}
-use Rattle.desks.specs.near.Intakes.{IsIntake, measure_of, settled}
+use Rattle.desks.specs.near.Intakes.{measure_of, settled}
 use Rattle.desks.proofs.intake.Requests.next.Given as goal
 
 abbrev pub invariant-loop-taken : goal.invariant-loop-taken

@@ -1,10 +1,9 @@
-use Rattle.std.proofs.Common.{rules, ◌≡◌, ◌∙◌, ◌++◌, refl, sym, ap, arith}
+use Rattle.std.proofs.Common.{◌≡◌, ◌∙◌, ◌++◌, refl, ap}
 use Rattle.std.proofs.lemmas.Result.{err_from_is_err_and}
-use Rattle.std.specs.Prelude.{Result}
 use Rattle.desks.specs.Requests.{requests_in}
 use Rattle.desks.specs.near.Closing.{closed_as, request_taken}
-use Rattle.desks.specs.near.Intakes.{Intake, settled, settled_of}
-use Rattle.desks.proofs.IntakeLemmas.{Settles, settle}
+use Rattle.desks.specs.near.Intakes.{settled_of}
+use Rattle.desks.proofs.IntakeLemmas.{settle}
 use Rattle.desks.proofs.intake.Requests.take_line.Goals as goal
 use Rattle.desks.proofs.intake.Requests.take_line.Goals.{in-Line, in-TooLong, in-Empty, in-Empty-2}
 

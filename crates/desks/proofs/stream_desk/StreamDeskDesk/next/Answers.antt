@@ -1,8 +1,7 @@
-use Rattle.std.proofs.Common.{rules, ◌≡◌, ◌∙◌, ◌++◌, Ok, List, ℕ, ap, sym}
-use Rattle.desks.specs.Events.{Event, asked_by, asked_in, told_in}
+use Rattle.std.proofs.Common.{◌≡◌, ◌∙◌, ◌++◌, Ok, List, ℕ, ap}
+use Rattle.desks.specs.Events.{asked_by}
 use Rattle.desks.specs.Requests.{requests_in}
 use Rattle.desks.specs.near.Intakes.{settled}
-use Rattle.desks.proofs.DealingLemmas.{asked_all, settled_at_end, settled_cut_off}
 use Rattle.desks.proofs.SayingLemmas.{next_asked, told_in-next}
 use Rattle.desks.proofs.stream_desk.StreamDeskDesk.next.Goals as goal
 

@@ -1,4 +1,4 @@
-use Rattle.std.proofs.Common.{rules, ◌≡◌, ◌∙◌, ◌++◌, [], ◌∷◌, false, ap, sym}
+use Rattle.std.proofs.Common.{◌≡◌, ◌∙◌, ◌++◌, [], ◌∷◌, false, ap, sym}
 use Rattle.desks.specs.Events.{Told, told_in}
 use Rattle.desks.specs.near.Histories.{Past}
 use Rattle.desks.proofs.SayingLemmas.{asked_in-last, says_more, told_in-last}
