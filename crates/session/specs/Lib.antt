@@ -1,2 +1,5 @@
+pub mod Accounts
+pub mod Positions
+pub mod Refusals
 pub mod Requests
 pub mod near

@@ -1,2 +1,3 @@
 -- What no promise's words stand on: forms near to the code.
 pub mod FieldTests
+pub mod Kept
