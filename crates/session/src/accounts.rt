@@ -1,11 +1,15 @@
 //! The accounts of a session and what they hold.
-ghost use Rattle.session.specs.Accounts.{account_named, with_account};
+ghost use Rattle.session.specs.Accounts.{account_named, position_records, with_account};
+ghost use Rattle.session.specs.Positions.{position_lines};
 ghost use Rattle.session.specs.near.Kept.{AreOnce};
-ghost use Rattle.std.specs.Prelude.{◌≡◌, [], IfOk, OnErr, OnOk, length, option_copied};
+ghost use Rattle.span_tables.specs.Holdings.{fits};
+ghost use Rattle.std.specs.Prelude.{◌≡◌, ◌++◌, [], All, IfOk, OnErr, OnOk, length, option_copied, true};
 
+use crate::positions::push_records;
 use indexmap::IndexMap;
 use span_tables::name::Name;
 use span_tables::portfolios::{Portfolio, Portfolios};
+use span_tables::records::Contract;
 use std::alloc::{AllocError, Global};
 use std::marker::Model;
 
@@ -73,6 +77,21 @@ impl Accounts {
     {
         let name = portfolio.account().copied();
         self.by_name.insert(name, portfolio)?;
+        Ok(())
+    }
+
+    /// Appends the position records of all accounts, in their order.
+    pub(crate) fn push_records(
+        &self,
+        out: &mut Vec<u8>,
+        contracts: &[Contract],
+    ) -> Result<(), AllocError>
+        requires { All (λ p. fits (length contracts.now) p.holdings ≡ true) self.now }
+        ensures { OnOk result (out.new.items ≡ out.old.items ++ position_lines (position_records contracts.now self.now)) }
+    {
+        for portfolio in self.by_name.values() {
+            push_records(out, contracts, portfolio)?;
+        }
         Ok(())
     }
 

@@ -2,8 +2,11 @@
 #![tactic(auto)]
 
 mod accounts;
+mod answer_texts;
 pub mod faults;
 mod positions;
 pub mod refusals;
 pub mod requests;
 mod worked;
+mod worked_sessions;
+mod worked_sets;
