@@ -1,3 +1,5 @@
 mod CutLemmas
 mod FieldLemmas
 mod FormLemmas
+mod TradeLemmas
+pub mod AccountLemmas

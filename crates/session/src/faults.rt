@@ -1,5 +1,8 @@
 //! Why a request is refused. `field` counts the fields of its line from 1.
 use std::alloc::AllocError;
+use std::error::Error;
+use std::fmt;
+use std::fmt::Display;
 
 /// Why a line is no request that can be answered, lowest number first.
 #[derive(Clone, Copy, Debug, Drop, PartialEq, Eq)]
@@ -19,6 +22,31 @@ pub enum RequestFault {
     /// Out of memory.
     OutOfMemory,
 }
+
+impl Display for RequestFault {
+    ghost use Rattle.session.specs.Refusals.{form_text};
+    ghost use Rattle.std.specs.Prelude.{Some};
+
+    ghost output = { λ fault. Some (form_text fault) };
+
+    fn fmt<W: fmt::Write>(&self, f: &mut fmt::Formatter<W>) -> fmt::Result {
+        match self {
+            RequestFault::LineTooLong => write!(f, "request: X1 LineTooLong at field 0"),
+            RequestFault::UnknownRequest => write!(f, "request: X2 UnknownRequest at field 1"),
+            RequestFault::FieldCount => write!(f, "request: X3 FieldCount at field 0"),
+            RequestFault::BadName { field } => write!(f, "request: X4 BadName at field {field}"),
+            RequestFault::BadNumber { field } => {
+                write!(f, "request: X5 BadNumber at field {field}")
+            }
+            RequestFault::OutOfRange { field } => {
+                write!(f, "request: X6 OutOfRange at field {field}")
+            }
+            RequestFault::OutOfMemory => write!(f, "memory"),
+        }
+    }
+}
+
+impl Error for RequestFault {}
 
 impl From<AllocError> for RequestFault {
     ghost use Rattle.session.specs.declared.faults.RequestFault.TheVariants as fault;

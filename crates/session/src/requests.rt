@@ -4,7 +4,7 @@ ghost use Rattle.std.specs.Prelude.{drop, false, length, pos, true, unwrap_or};
 ghost use Rattle.session.specs.Requests.{asked_by, asked_for, fields_of, file_request, form_fault, has_trades, is_file_name};
 ghost use Rattle.session.specs.Requests.{is_memory, is_quantity, is_quantity_field, may_have, names_of, request_by, request_of};
 ghost use Rattle.session.specs.Requests.{request_with, texts_of, trades_of, word_named};
-ghost use Rattle.session.specs.near.FieldTests.{AreTrades, fails, field_failing};
+ghost use Rattle.session.specs.near.FieldTests.{AreTradable, AreTrades, IsTradable, fails, field_failing};
 ghost use Rattle.span_csv.specs.Records.{text_at};
 ghost use Rattle.span_money.specs.Numbers.{whole_number};
 ghost use Rattle.span_tables.specs.Names.{is_name};
@@ -221,8 +221,10 @@ fn trade_of(contract: &[u8], quantity: &[u8]) -> Trade
 
 // The contracts and quantities of fields without a fault.
 fn trades_of(alloc: Global, fields: &[&[u8]]) -> Result<Vec<Trade>, AllocError>
-    requires { AreTrades (texts_of fields.now) }
-    ensures { IfOk result (λ trades. trades.items ≡ trades_of (texts_of fields.now)) }
+    requires trades { AreTrades (texts_of fields.now) }
+    requires some { 2 ≤ length fields.now }
+    ensures value { IfOk result (λ trades. trades.items ≡ trades_of (texts_of fields.now)) }
+    ensures tradable { IfOk result (λ trades. AreTradable trades.items) }
 {
     let mut trades = Vec::with_capacity(alloc, fields.len() / 2)?;
     let mut left = fields;
@@ -241,7 +243,8 @@ fn request_for<'a>(
 ) -> Result<Request<'a>, AllocError>
     requires count { may_have word (length fields.now) ≡ true }
     requires free { form_fault word (texts_of fields.now) ≡ None }
-    ensures { IfOk result (λ request. asked_by request ≡ asked_for word (texts_of fields.now)) }
+    ensures value { IfOk result (λ request. asked_by request ≡ asked_for word (texts_of fields.now)) }
+    ensures tradable { IfOk result IsTradable }
 {
     match (word, fields) {
         (Word::Margin, [_, account]) => Ok(Request::MarginOf {
@@ -287,7 +290,8 @@ fn file_named(text: &[u8]) -> Option<&str>
 // What a line asks for whose word is SET.
 fn file_request(line: &[u8], fields: usize) -> Result<Request<'_>, RequestFault>
     requires { length (fields_of line.now) ≡ fields }
-    ensures { MatchResult result (λ request. file_request line.now ≡ Ok (asked_by request)) (λ e. file_request line.now ≡ Err e) }
+    ensures value { MatchResult result (λ request. file_request line.now ≡ Ok (asked_by request)) (λ e. file_request line.now ≡ Err e) }
+    ensures tradable { IfOk result IsTradable }
 {
     if fields == 1 {
         return Err(RequestFault::FieldCount);
@@ -319,8 +323,9 @@ fn fields_request<'a>(
     fields: &[&'a [u8]],
 ) -> Result<Request<'a>, RequestFault>
     requires { length fields.now < 2 ^ 63 }
-    ensures { MatchResult result (λ request. request_by word (texts_of fields.now) ≡ Ok (asked_by request))
+    ensures value { MatchResult result (λ request. request_by word (texts_of fields.now) ≡ Ok (asked_by request))
         (λ e. MatchBool (is_memory e) ⊤ (request_by word (texts_of fields.now) ≡ Err e)) }
+    ensures tradable { IfOk result IsTradable }
 {
     if !word.may_have(fields.len()) {
         return Err(RequestFault::FieldCount);
@@ -340,8 +345,9 @@ fn word_request<'a>(
 ) -> Result<Request<'a>, RequestFault>
     requires fields { texts_of fields.now ≡ fields_of line.now }
     requires few { length fields.now < 2 ^ 63 }
-    ensures { MatchResult result (λ request. request_with (Some word) line.now ≡ Ok (asked_by request))
+    ensures value { MatchResult result (λ request. request_with (Some word) line.now ≡ Ok (asked_by request))
         (λ e. MatchBool (is_memory e) ⊤ (request_with (Some word) line.now ≡ Err e)) }
+    ensures tradable { IfOk result IsTradable }
 {
     match word {
         Word::Set => file_request(line, fields.len()),
@@ -352,8 +358,9 @@ fn word_request<'a>(
 /// What a line asks for, or its lowest-numbered fault.
 #[tactic(auto, unfolding(crate::specs::Requests::request_of))]
 pub fn read_request(alloc: Global, line: &[u8]) -> Result<Request<'_>, RequestFault>
-    ensures { MatchResult result (λ request. request_of line.now ≡ Ok (asked_by request))
+    ensures value { MatchResult result (λ request. request_of line.now ≡ Ok (asked_by request))
         (λ e. MatchBool (is_memory e) ⊤ (request_of line.now ≡ Err e)) }
+    ensures tradable { IfOk result IsTradable }
 {
     if line.len() > MAX_LINE {
         return Err(RequestFault::LineTooLong);

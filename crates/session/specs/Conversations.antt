@@ -1,0 +1,103 @@
+-- A whole conversation: the answers to a list of requests, one after the other.
+use Rattle.std.specs.Prelude.{ℕ, ◌+◌, Bool, if◌then◌else◌, List, [], ◌∷◌, ◌++◌, filter_map, map, codes, decimal}
+use Rattle.std.specs.Prelude.{Option, Some, None, IfSome, Result, Ok, Err, is_ok}
+use Rattle.span_money.specs.LineFields.{Line, line}
+use Rattle.sources.specs.Files.{File, ReadGives}
+use Rattle.statement.specs.Counts.{counts_line}
+use Rattle.statement_text.specs.Statement.{and_then, same}
+use Rattle.statement_text.specs.declared.faults.SpanFault.{SpanFault}
+use Rattle.session.specs.Answers.{Answered, State, answer_to, is_stdin, opened, unchanged}
+use Rattle.session.specs.Refusals.{Refused, refusal_text}
+use Rattle.session.specs.Refusals as refused
+use Rattle.session.specs.Requests.{Asked, request_of}
+use Rattle.session.specs.Requests as asked
+use Rattle.session.specs.declared.faults.RequestFault.{RequestFault}
+use Rattle.session.specs.declared.faults.RequestFault.TheVariants as form
+
+-- ---- one request
+
+-- A request, and what happened while it was answered: its line, or `None` for one that is too long; what the file gave that it asks for, if
+-- it asked for one; and whether a growth of memory was refused.
+pub record Turn : Type 0 where
+  pub request : Option (List ℕ)
+  pub file : Option File
+  pub is_out_of_memory : Bool
+
+-- what a line asks for, or its fault
+abbrev pub request_on : Option (List ℕ) → Result Asked RequestFault
+request_on None = Err form.LineTooLong
+request_on (Some text) = request_of text
+
+-- the answer to what a line asks for, or the refusal of its fault
+abbrev pub answer_on : State → Option File → Result Asked RequestFault → Result Answered Refused
+answer_on s file (Ok what) = answer_to s file what
+answer_on s file (Err e) = Err (refused.Form e)
+
+-- the answer of a turn in a state
+abbrev pub answer_of : State → Turn → Result Answered Refused
+answer_of s turn = if turn.is_out_of_memory then Err refused.Memory else answer_on s turn.file (request_on turn.request)
+
+-- the last line of the answer of a number, and the one line of a refusal
+abbrev pub done_line : ℕ → Line
+done_line n = record { word = codes "done"; fields = decimal n ∷ [] }
+
+abbrev pub refused_line : ℕ → Refused → Line
+refused_line n what = record { word = codes "refused"; fields = decimal n ∷ refusal_text what ∷ [] }
+
+-- the text of the answer of a number: its lines and the last one, or the one line of a refusal
+abbrev pub answer_text : ℕ → Result Answered Refused → List ℕ
+answer_text n (Ok a) = a.lines ++ line (done_line n)
+answer_text n (Err what) = line (refused_line n what)
+
+-- the state behind an answer; a refusal leaves it as it is
+abbrev pub state_after : State → Result Answered Refused → State
+state_after s (Ok a) = a.state
+state_after s (Err what) = s
+
+-- ---- all requests
+
+-- the texts of the answers to requests, numbered from the first on
+abbrev pub answers_from : ℕ → State → List Turn → List (List ℕ)
+answers_from n s [] = []
+answers_from n s (turn ∷ turns) = answer_text n (answer_of s turn) ∷ answers_from (n + 1) (state_after s (answer_of s turn)) turns
+
+-- the state behind requests
+abbrev pub state_behind : State → List Turn → State
+state_behind s [] = s
+state_behind s (turn ∷ turns) = state_behind (state_after s (answer_of s turn)) turns
+
+-- answer 0, which opens a session
+abbrev pub opening_text : State → List ℕ
+opening_text s = answer_text 0 (unchanged s (line (counts_line s.tables)))
+
+-- the answers of a session over two files to requests, the opening's first; or the first fault of the files
+unfoldable pub session_of : List ℕ → List ℕ → List Turn → Result (List (List ℕ)) SpanFault
+session_of params positions turns = and_then same (opened params positions) (λ s. Ok (opening_text s ∷ answers_from 1 s turns))
+
+-- ---- files
+
+-- the file that a request asks for, if it asks for one that is not the stream of requests
+abbrev pub file_in : Result Asked RequestFault → Option (List ℕ)
+file_in (Ok (asked.Set name)) = if is_stdin name then None else Some name
+file_in _ = None
+
+-- a file that was asked for, and what it gave
+abbrev pub given : Option (List ℕ) → Option File → Option (List ℕ × File)
+given (Some name) (Some file) = Some (name, file)
+given _ _ = None
+
+-- the file that was asked for in a turn, and what it gave
+abbrev pub file_of : Turn → Option (List ℕ × File)
+file_of turn = given (file_in (request_on turn.request)) turn.file
+
+-- the files that were asked for, each with what it gave
+abbrev pub files_of : List Turn → List (List ℕ × File)
+files_of turns = filter_map file_of turns
+
+-- the same files, each with whether it could be read
+abbrev pub reads_of : List Turn → List (List ℕ × Bool)
+reads_of turns = map (λ f. (f.0, is_ok f.1)) (files_of turns)
+
+-- a file gave what a source has under its name, as far as that is known
+abbrev pub IsFromSource : (List ℕ → Option File) → List ℕ × File → Type 0
+IsFromSource known asked = IfSome (known asked.0) (λ file. ReadGives (λ bytes. bytes) file asked.1)
