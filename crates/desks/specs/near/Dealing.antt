@@ -8,6 +8,7 @@ abbrev pub dealings : {R W : Type 0} {r : reads.Ghosts R} {w : writes.Ghosts W} 
 dealings d = record {
   given = d.requests.reading.given;
   received = d.requests.reading.received;
+  unreadable = d.requests.reading.failed;
   began = d.began.value;
   output = d.output.now;
   log = d.history.past.log;
