@@ -3,3 +3,4 @@ mod FieldLemmas
 mod FormLemmas
 mod TradeLemmas
 pub mod AccountLemmas
+pub mod TriedLemmas

@@ -1,5 +1,5 @@
 -- The trades of a request.
-use Rattle.std.proofs.Common.{◌≡◌, ◌∙◌, ◌<◌, ◌≤◌, ℕ, Bool, true, false, refl, List, [], ◌∷◌, length, sym, arith, pos, ◌+◌, ◌-◌, inl, inr}
+use Rattle.std.proofs.Common.{◌≡◌, ◌≤◌, ℕ, Bool, true, false, refl, List, [], ◌∷◌, length, sym, arith, pos, ◌+◌, ◌-◌, inl, inr}
 use Rattle.std.specs.Prelude.{◌==◌, ◌%◌, ◌&&◌, ◌*◌, All, nat_abs, nat_le, nat_lt, unwrap_or}
 use Rattle.std.proofs.lemmas.List.Elements.{All-cons, All-nil}
 use Rattle.std.proofs.lemmas.Bool.{cases_lt, leb-true, ltb-true, true≢false}

@@ -1,5 +1,5 @@
 -- What a session answers to a request in a state, and the state behind the answer.
-use Rattle.std.specs.Prelude.{ℕ, ◌+◌, ◌*◌, Bool, not, ◌&&◌, nat_le, if◌then◌else◌, List, [], ◌∷◌, ◌++◌, length, map, flat_map, bytes_eq}
+use Rattle.std.specs.Prelude.{ℕ, ◌+◌, ◌*◌, Bool, not, ◌&&◌, nat_le, if◌then◌else◌, List, length, map, bytes_eq}
 use Rattle.std.specs.Prelude.{codes, Option, Some, None, is_some, Result, Ok, Err}
 use Rattle.span_money.specs.LineFields.{line}
 use Rattle.span_csv.specs.PositionFaults.{positions_of}
@@ -14,7 +14,6 @@ use Rattle.binding.specs.declared.faults.OrderBindFault.{OrderBindFault}
 use Rattle.binding.specs.declared.faults.OrderBindFault.TheVariants as bind
 use Rattle.plan_ir.specs.Figures.{option_value_of}
 use Rattle.sources.specs.Files.{File}
-use Rattle.sources.specs.declared.ReadFault.{ReadFault}
 use Rattle.sources.specs.declared.ReadFault.TheVariants as read
 use Rattle.statement_text.specs.Statement.{accepted_of, and_then, portfolios_under, row_text, same, statement_text, total_line}
 use Rattle.statement_text.specs.Statement.{total_numbers, total_of}

@@ -1,4 +1,4 @@
-//! Requests of a session, which are lines: what each asks for, or why it is refused.
+//! Sessions: requests, which are lines, the accounts that they are about, and what they are answered.
 #![tactic(auto)]
 
 mod accounts;

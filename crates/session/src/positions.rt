@@ -25,11 +25,7 @@ fn push_position(
 }
 
 // Appends the record of an account that holds nothing, if the set has a contract.
-fn push_flat(
-    out: &mut Vec<u8>,
-    contracts: &[Contract],
-    account: &Name,
-) -> Result<(), AllocError>
+fn push_flat(out: &mut Vec<u8>, contracts: &[Contract], account: &Name) -> Result<(), AllocError>
     ensures { OnOk result (out.new.items ≡ out.old.items ++ position_lines (flat_records contracts.now account.now)) }
 {
     match contracts.first() {

@@ -1,4 +1,4 @@
-use Rattle.std.proofs.Common.{◌≡◌, ◌∙◌, ◌++◌, ◌∷◌, ap, sym}
+use Rattle.std.proofs.Common.{◌∙◌, ◌++◌, ap, sym}
 use Rattle.session.proofs.AccountLemmas.{put-next}
 use Rattle.session.proofs.accounts.Accounts.new.Goals as goal
 

@@ -1,4 +1,4 @@
-use Rattle.std.proofs.Common.{◌≡◌, ◌++◌, flat_map}
+use Rattle.std.proofs.Common.{◌≡◌, ◌++◌}
 use Rattle.session.specs.Accounts.{position_records}
 use Rattle.session.specs.Positions.{position_lines}
 use Rattle.session.proofs.accounts.Accounts.push_records.Given as goal
