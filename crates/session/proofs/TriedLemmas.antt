@@ -51,7 +51,8 @@ module _ (contracts : List Contract) (over others_over : List ℕ → List ℕ �
       others_over others_many all
   owner_agree all are =
       let unknown = faults_after (λ (earlier : List OrderRecord) r.
-      if not (is_of_known (λ (x : OrderRecord). x.contract) contracts r) then Some (λ at. fault.UnknownContract at r.order) else None) [] all in
+      if not (is_of_known (λ (x : OrderRecord). x.contract) contracts r)
+      then Some (λ at. fault.UnknownContract at r.order) else None) [] all in
       let nets = faults_agree
       (λ earlier r. if (is_of_known (λ (x : OrderRecord). x.contract) contracts r
       && (not (list_any (λ (x : OrderRecord). bytes_eq x.order r.order && bytes_eq x.contract r.contract)
@@ -98,7 +99,8 @@ find_own test (x ∷ xs) = by (test x) refl (find_own test xs)
 own_holdings : (accounts : List AccountHoldings) (account : List ℕ)
     → holdings_among (option_to_list (account_named accounts account)) account ≡ holdings_among accounts account
 own_holdings accounts account =
-    ap (λ found. unwrap_or (option_map (λ p. p.holdings) found) []) (find_own (λ (p : AccountHoldings). bytes_eq p.account account) accounts)
+    ap (λ found. unwrap_or (option_map (λ p. p.holdings) found) [])
+    (find_own (λ (p : AccountHoldings). bytes_eq p.account account) accounts)
 
 module _ (order account : List ℕ) where
   Records : List Trade → List OrderRecord
@@ -156,11 +158,14 @@ module _ (order account : List ℕ) where
         (trade_records order account (t ∷ trades)) o)))
         (λ o. nat_lt MAX_HELD (length (holdings_after contracts accounts (trade_records order account (t ∷ trades)) o)))
         order
-        (λ c. ap (λ held. nat_lt MAX_NET (nat_abs (net_among held (position_or_len (λ (x : Contract). bytes_eq x.id c) contracts)))) same_after)
+        (λ c. ap (λ held. nat_lt MAX_NET (nat_abs (net_among held (position_or_len (λ (x : Contract). bytes_eq x.id c) contracts))))
+        same_after)
         (ap (λ held. nat_lt MAX_HELD (length held)) same_after)
         (trade_records order account (t ∷ trades)) (of_order (t ∷ trades)))
 
-    pub same_tried : tried_order contracts (option_to_list (account_named accounts account)) (trade_records order account (t ∷ trades)) order
+    -- and so are what it holds before them and after them
+    pub same_tried : tried_order contracts (option_to_list (account_named accounts account))
+        (trade_records order account (t ∷ trades)) order
         ≡ tried_order contracts accounts (trade_records order account (t ∷ trades)) order
     same_tried =
         let name = account_of_order (trade_records order account (t ∷ trades)) order in
