@@ -64,7 +64,7 @@ stripped_length line =
       | inr not ↦ rw not (omega arith)
     ]
 
--- what is kept tells the request
+-- the request of what is kept
 pub request_kept_of : (line : List ℕ) → request_kept (kept_of line) ≡ request_of_line line
 request_kept_of line =
     elim (cases_lt KEPT (length line)) [

@@ -30,7 +30,7 @@ asked_in-next log (Ok taken.TooLong) line = asked_in-append log (asked_by (Ok ta
 asked_in-next log (Ok taken.End) line = asked_in-append log []
 asked_in-next log (Err fault) line = asked_in-append log []
 
--- handing over a request tells nothing
+-- handing over a request writes nothing
 pub told_in-next : (log : List Event) (r : Result Taken DeskFault) (line : List ℕ) → told_in (log ++ asked_by r line) ≡ told_in log
 told_in-next log (Ok taken.Line) line = told_in-append log (asked_by (Ok taken.Line) line) ∙ append-nil (told_in log)
 told_in-next log (Ok taken.TooLong) line = told_in-append log (asked_by (Ok taken.TooLong) line) ∙ append-nil (told_in log)

@@ -11,7 +11,7 @@ use std::marker::Model;
 use std::snapshot::Snapshot;
 
 // A reader, and whether it came to its end or a read of it failed. It is read no more after that. Only a read that failed sets the mark, or
-// a reader that was read 2^64 - 1 times; one that was interrupted is tried again.
+// a reader that was read 2^64 - 1 times; one that was interrupted is repeated.
 #[derive(Drop)]
 pub(crate) struct MarkedReader<R: Read> {
     reader: R,

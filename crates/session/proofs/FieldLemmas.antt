@@ -8,7 +8,7 @@ use Rattle.std.specs.List.{enumerate_from}
 use Rattle.span_money.specs.Numbers.{whole_number}
 use Rattle.session.specs.Requests.{texts_of, trades_of}
 use Rattle.session.specs.near.FieldTests.{AreTrades}
-use Rattle.session.specs.declared.requests.Trade.{Trade}
+use Rattle.binding.specs.declared.trades.Trade.{Trade}
 
 -- the number of the first field from a place on for which a test holds
 abbrev pub found_from : (ℕ → List ℕ → Bool) → List (List ℕ) → ℕ → Option ℕ

@@ -10,7 +10,7 @@ use Rattle.span_money.specs.Numbers.{whole_number}
 use Rattle.span_tables.specs.Names.{is_name}
 use Rattle.session.specs.Requests.{field_where, fields_of, form_fault, is_bad_name, is_bad_number, is_out_of_range, is_quantity}
 use Rattle.session.specs.Requests.{is_quantity_field, names_of, or_else, request_by, request_of, request_with, word_named}
-use Rattle.session.specs.declared.requests.TheConstants.{MAX_LINE}
+use Rattle.desks.specs.declared.desk.TheConstants.{MAX_LINE}
 use Rattle.span_csv.specs.Records.{text_at}
 use Rattle.session.specs.near.FieldTests.{AreTrades}
 use Rattle.session.specs.declared.faults.RequestFault.{RequestFault}

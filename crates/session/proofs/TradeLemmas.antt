@@ -7,7 +7,7 @@ use Rattle.span_money.specs.Numbers.{whole_number}
 use Rattle.span_tables.specs.declared.limits.TheConstants.{MAX_QUANTITY}
 use Rattle.session.specs.Requests.{has_trades, is_quantity, trades_of}
 use Rattle.session.specs.near.FieldTests.{AreTradable, AreTrades}
-use Rattle.session.specs.declared.requests.Trade.{Trade}
+use Rattle.binding.specs.declared.trades.Trade.{Trade}
 use Rattle.session.specs.declared.requests.TheConstants.{MAX_TRADES}
 
 few : (text : List ℕ) → is_quantity (unwrap_or (whole_number text) (pos 0)) ≡ true

@@ -1,4 +1,4 @@
--- Trades that are tried on what their account holds, beside all accounts.
+-- Trades evaluated on what their account holds, compared with all accounts.
 use Rattle.std.proofs.Common.{◌≡◌, ◌∙◌, ◌+◌, ◌∷◌, ◌++◌, ℕ, Bool, true, false, cond, not, ◌&&◌, List, [], length, map, filter, refl, sym, ap}
 use Rattle.std.proofs.Common.{Option, Some, None, bytes_eq}
 use Rattle.std.specs.Prelude.{find, if◌then◌else◌, nat_abs, nat_lt, option_map, unwrap_or}
@@ -17,7 +17,7 @@ use Rattle.binding.specs.OrderBinding.{holdings_after, holdings_before, net_exce
 use Rattle.binding.specs.declared.faults.OrderBindFault.TheVariants as fault
 use Rattle.session.specs.Accounts.{account_named}
 use Rattle.session.specs.Answers.{trade_records}
-use Rattle.session.specs.declared.requests.Trade.{Trade}
+use Rattle.binding.specs.declared.trades.Trade.{Trade}
 
 -- ---- faults of the same records
 

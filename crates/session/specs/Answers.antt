@@ -9,7 +9,7 @@ use Rattle.span_tables.specs.Tables.{AcceptedTables}
 use Rattle.span_tables.specs.declared.limits.TheConstants.{MAX_ACCOUNTS}
 use Rattle.span_tables.specs.declared.records.OrderRecord.{OrderRecord}
 use Rattle.span_tables.specs.declared.records.PositionRecord.{PositionRecord}
-use Rattle.binding.specs.OrderBinding.{TriedOrder, order_bind_fault, tried_order}
+use Rattle.binding.specs.OrderBinding.{TriedOrder, order_bind_fault, trade_record, tried_order}
 use Rattle.binding.specs.declared.faults.OrderBindFault.{OrderBindFault}
 use Rattle.binding.specs.declared.faults.OrderBindFault.TheVariants as bind
 use Rattle.plan_ir.specs.Figures.{option_value_of}
@@ -28,7 +28,7 @@ use Rattle.session.specs.Refusals.{Refused}
 use Rattle.session.specs.Refusals as refused
 use Rattle.session.specs.Requests.{Asked, names_of}
 use Rattle.session.specs.Requests as asked
-use Rattle.session.specs.declared.requests.Trade.{Trade}
+use Rattle.binding.specs.declared.trades.Trade.{Trade}
 use Rattle.session.specs.declared.requests.Word.TheVariants as word
 
 -- the state of a session: accepted tables, and its accounts with what they hold under them, in their order
@@ -61,10 +61,9 @@ lines_of s text (Some p) = unchanged s (text s.tables p)
 
 -- trades as the records of an order of an account
 abbrev pub trade_records : List ℕ → List ℕ → List Trade → List OrderRecord
-trade_records order account trades =
-    map (λ t. record { order = order; account = account; contract = t.contract; quantity = t.quantity }) trades
+trade_records order account trades = map (trade_record order account) trades
 
--- trades tried on the accounts of a state, as the one order of an order file is, or their fault
+-- trades evaluated on the accounts of a state, as the one order of an order file is, or their fault
 abbrev pub tried : State → List ℕ → List ℕ → List Trade → Result TriedOrder OrderBindFault
 tried s order account trades =
     ok_unless (order_bind_fault s.tables.contracts s.accounts (trade_records order account trades))
@@ -82,7 +81,7 @@ abbrev pub if_fit : ℕ → (TriedOrder → Answered) → Result TriedOrder Orde
 if_fit names answer (Ok o) = Ok (answer o)
 if_fit names answer (Err e) = Err (unfit names e)
 
--- an order that is tried: its lines, and the state as it is
+-- the answer to a TRY: the lines of the order, and the state as it is
 abbrev pub tried_answer : State → TriedOrder → Answered
 tried_answer s o = record { lines = order_text s.tables o; state = s }
 

@@ -13,10 +13,11 @@ use Rattle.session.specs.declared.faults.RequestFault.{RequestFault}
 use Rattle.session.specs.declared.faults.RequestFault.TheVariants as fault
 use Rattle.session.specs.declared.requests.Request.{Request}
 use Rattle.session.specs.declared.requests.Request.TheVariants as request
-use Rattle.session.specs.declared.requests.Trade.{Trade}
+use Rattle.binding.specs.declared.trades.Trade.{Trade}
 use Rattle.session.specs.declared.requests.Word.{Word}
 use Rattle.session.specs.declared.requests.Word.TheVariants as word
-use Rattle.session.specs.declared.requests.TheConstants.{MAX_LINE, MAX_TRADES}
+use Rattle.desks.specs.declared.desk.TheConstants.{MAX_LINE}
+use Rattle.session.specs.declared.requests.TheConstants.{MAX_TRADES}
 
 -- ---- fields
 

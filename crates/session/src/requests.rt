@@ -10,6 +10,8 @@ ghost use Rattle.span_money.specs.Numbers.{whole_number};
 ghost use Rattle.span_tables.specs.Names.{is_name};
 
 use crate::faults::RequestFault;
+use binding::trades::Trade;
+use desks::desk::MAX_LINE;
 use memchr::memchr;
 use span_money::texts::parse_whole;
 use span_tables::limits::MAX_QUANTITY;
@@ -17,18 +19,8 @@ use span_tables::name::{Name, is_name};
 use std::alloc::{AllocError, Global};
 use std::str;
 
-/// How many bytes a request may have.
-pub const MAX_LINE: usize = 4096;
-
 /// How many contracts with their quantities a request may have.
 pub const MAX_TRADES: usize = 64;
-
-/// A contract and the quantity that is traded in it, in contracts: what is sold is negative.
-#[derive(Drop)]
-pub struct Trade {
-    pub contract: Name,
-    pub quantity: i32,
-}
 
 /// What a session is asked for.
 #[derive(Drop)]

@@ -6,7 +6,7 @@ ghost use Rattle.session.specs.near.Samples.{asking, asking_in_vain, too_long};
 ghost use Rattle.statement_text.specs.near.Samples.{one_future};
 ghost use Rattle.std.specs.Prelude.{◌++◌, ◌∷◌, ◌≡◌, Ok, [], codes};
 
-// An order that is tried changes nothing; trades that are done are kept.
+// A TRY changes nothing; a FILL is kept.
 fn trades()
     ensures { session_of one_future (codes "X,FA,1\n") (asking (codes "TRY,BUY,X,FA,2") ∷ asking (codes "FILL,X,FA,2")
         ∷ asking (codes "MARGIN,N") ∷ asking (codes "POSITIONS") ∷ asking (codes "MARGIN,X") ∷ [])

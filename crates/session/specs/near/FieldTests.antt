@@ -7,7 +7,7 @@ use Rattle.session.specs.declared.requests.FieldTest.{FieldTest}
 use Rattle.session.specs.declared.requests.FieldTest.TheVariants as test
 use Rattle.session.specs.declared.requests.Request.{Request}
 use Rattle.session.specs.declared.requests.Request.TheVariants as request
-use Rattle.session.specs.declared.requests.Trade.{Trade}
+use Rattle.binding.specs.declared.trades.Trade.{Trade}
 use Rattle.session.specs.declared.requests.Word.{Word}
 use Rattle.span_tables.specs.declared.limits.TheConstants.{MAX_QUANTITY}
 

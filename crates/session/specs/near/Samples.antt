@@ -1,4 +1,4 @@
--- Requests that worked values share.
+-- Requests that test vectors share.
 use Rattle.std.specs.Prelude.{ℕ, false, true, List, ◌++◌, codes, None, Option, Some, Ok, Result}
 use Rattle.session.specs.Answers.{answer_to, opened}
 use Rattle.session.specs.Conversations.{Turn, answer_text, state_after}
