@@ -5,8 +5,8 @@ use Rattle.std.proofs.lemmas.List.Elements.{All-cons, All-nil}
 use Rattle.std.proofs.lemmas.Bool.{cases_lt, leb-true, ltb-true, true≢false}
 use Rattle.span_money.specs.Numbers.{whole_number}
 use Rattle.span_tables.specs.declared.limits.TheConstants.{MAX_QUANTITY}
-use Rattle.session.specs.Requests.{has_trades, is_quantity, trades_of}
-use Rattle.session.specs.near.FieldTests.{AreTradable, AreTrades}
+use Rattle.session.specs.Requests.{AreTradable, has_trades, is_quantity, trades_of}
+use Rattle.session.specs.near.FieldTests.{AreTrades}
 use Rattle.binding.specs.declared.trades.Trade.{Trade}
 use Rattle.session.specs.declared.requests.TheConstants.{MAX_TRADES}
 

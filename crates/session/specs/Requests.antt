@@ -1,5 +1,5 @@
 -- What a line of a session asks for, or why it is refused.
-use Rattle.std.specs.Prelude.{ℕ, ◌+◌, ◌-◌, ◌*◌, ◌%◌, Bool, not, ◌&&◌, ◌||◌, ◌==◌, nat_le, nat_lt, if◌then◌else◌, false, true}
+use Rattle.std.specs.Prelude.{◌<◌, ◌≤◌, ⊤, All, ℕ, ◌+◌, ◌-◌, ◌*◌, ◌%◌, Bool, not, ◌&&◌, ◌||◌, ◌==◌, nat_le, nat_lt, if◌then◌else◌, false, true}
 use Rattle.std.specs.Prelude.{List, [], ◌∷◌, drop, length, map, find, codes, bytes_eq, ℤ, pos, nat_abs}
 use Rattle.std.specs.Prelude.{Option, Some, None, is_some, option_map, unwrap_or, Result, Ok, Err}
 use Rattle.std.specs.Borrow.{Bor}
@@ -177,3 +177,16 @@ asked_by request.Positions = Positions
 abbrev pub is_memory : RequestFault → Bool
 is_memory fault.OutOfMemory = true
 is_memory _ = false
+
+-- ---- trades that can be bound
+
+-- there are trades, and each quantity is in its range
+pub record AreTradable (trades : List Trade) : Type 0 where
+  pub some : 0 < length trades
+  pub small : All (λ t. nat_abs t.quantity ≤ MAX_QUANTITY) trades
+
+-- if a request has trades, they are such
+abbrev pub IsTradable : Request → Type 0
+IsTradable (request.Try order account trades) = AreTradable trades.items
+IsTradable (request.Fill account trades) = AreTradable trades.items
+IsTradable _ = ⊤

@@ -3,8 +3,8 @@ ghost use Rattle.std.specs.Prelude.{◌≡◌, ◌<◌, ◌≤◌, ◌^◌, ⊤,
 ghost use Rattle.std.specs.Prelude.{drop, false, length, pos, true, unwrap_or};
 ghost use Rattle.session.specs.Requests.{asked_by, asked_for, fields_of, file_request, form_fault, has_trades, is_file_name};
 ghost use Rattle.session.specs.Requests.{is_memory, is_quantity, is_quantity_field, may_have, names_of, request_by, request_of};
-ghost use Rattle.session.specs.Requests.{request_with, texts_of, trades_of, word_named};
-ghost use Rattle.session.specs.near.FieldTests.{AreTradable, AreTrades, IsTradable, fails, field_failing};
+ghost use Rattle.session.specs.Requests.{AreTradable, IsTradable, request_with, texts_of, trades_of, word_named};
+ghost use Rattle.session.specs.near.FieldTests.{AreTrades, fails, field_failing};
 ghost use Rattle.span_csv.specs.Records.{text_at};
 ghost use Rattle.span_money.specs.Numbers.{whole_number};
 ghost use Rattle.span_tables.specs.Names.{is_name};

@@ -1,7 +1,6 @@
 use Rattle.std.proofs.Common.{◌∙◌, arith, subst, sym}
 use Rattle.std.proofs.lemmas.List.{length-map, take_rest}
-use Rattle.session.specs.Requests.{texts_of}
-use Rattle.session.specs.near.FieldTests.{AreTradable}
+use Rattle.session.specs.Requests.{AreTradable, texts_of}
 use Rattle.session.proofs.FieldLemmas.{few_trades, push_trade, trades_behind}
 use Rattle.session.proofs.TradeLemmas.{tradable}
 use Rattle.session.proofs.requests.trades_of.Goals as goal
