@@ -1,5 +1,6 @@
 -- What a line of a session asks for, or why it is refused.
-use Rattle.std.specs.Prelude.{◌<◌, ◌≤◌, ⊤, All, ℕ, ◌+◌, ◌-◌, ◌*◌, ◌%◌, Bool, not, ◌&&◌, ◌||◌, ◌==◌, nat_le, nat_lt, if◌then◌else◌, false, true}
+use Rattle.std.specs.Prelude.{◌<◌, ◌≤◌, ⊤, All}
+use Rattle.std.specs.Prelude.{ℕ, ◌+◌, ◌-◌, ◌*◌, ◌%◌, Bool, not, ◌&&◌, ◌||◌, ◌==◌, nat_le, nat_lt, if◌then◌else◌, false, true}
 use Rattle.std.specs.Prelude.{List, [], ◌∷◌, drop, length, map, find, codes, bytes_eq, ℤ, pos, nat_abs}
 use Rattle.std.specs.Prelude.{Option, Some, None, is_some, option_map, unwrap_or, Result, Ok, Err}
 use Rattle.std.specs.Borrow.{Bor}
