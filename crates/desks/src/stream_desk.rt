@@ -1,5 +1,5 @@
 //! The desk of the program: requests come from a reader, and answers go to a writer.
-ghost use Rattle.desks.specs.Events.{asked_by, asked_in, told_in};
+ghost use Rattle.desks.specs.Events.{asked_by, asked_in, told_in as said};
 ghost use Rattle.desks.specs.Requests.{requests_in};
 ghost use Rattle.desks.specs.near.Intakes.{IsFresh, IsIntake, settled};
 ghost use Rattle.desks.specs.near.Saying.{Says-prop};
@@ -25,7 +25,7 @@ pub struct StreamDesk<'a, R: Read, W: Write> {
     output: &'a mut MarkedWriter<W>,
     began: Snapshot<MarkedWriter<W>>,
     history: History,
-    ghost told: { Says began.value output.now (told_in history.past.log) } by { Says-prop began.value output.now (told_in history.past.log) },
+    ghost told: { Says began.value output.now (said history.past.log) } by { Says-prop began.value output.now (said history.past.log) },
     ghost asked: { asked_in history.past.log ≡ requests_in (settled requests) },
     ghost known: { IsIntake requests.reading requests.unread },
 }
