@@ -38,7 +38,7 @@ fn push_commodity(
 
 /// Appends the lines of an account: for each commodity that it holds the reasons and the figures, and its total.
 #[tactic(auto, unfolding(crate::specs::Explanation::account_text))]
-pub(crate) fn push_account(alloc: Global, out: &mut Vec<u8>, row: &Row) -> Result<(), AllocError>
+pub fn push_account(alloc: Global, out: &mut Vec<u8>, row: &Row) -> Result<(), AllocError>
     requires { FitsSet row.now.set row.now.portfolio }
     ensures { OnOk result (out.new.items ≡ out.old.items ++ account_text row.now.set.tables row.now.portfolio) }
 {

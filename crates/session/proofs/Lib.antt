@@ -1,6 +1,8 @@
+mod CarriedLemmas
 mod CutLemmas
 mod FieldLemmas
 mod FormLemmas
+mod LossLemmas
 mod TradeLemmas
 pub mod AccountLemmas
 pub mod TriedLemmas

@@ -1,15 +1,19 @@
 -- A whole conversation: the answers to a list of requests, one after the other.
-use Rattle.std.specs.Prelude.{ℕ, ◌+◌, Bool, if◌then◌else◌, List, [], ◌∷◌, ◌++◌, filter_map, map, codes, decimal}
-use Rattle.std.specs.Prelude.{Option, Some, None, IfSome, Result, Ok, Err, is_ok}
+use Rattle.std.specs.Prelude.{ℕ, ◌+◌, Bool, if◌then◌else◌, List, [], ◌∷◌, ◌++◌, All, filter_map, map, codes, decimal}
+use Rattle.std.specs.Prelude.{◌≡◌, ◌⊎◌, Option, Some, None, IfSome, Result, Ok, Err, false, is_ok}
 use Rattle.span_money.specs.LineFields.{Line, line}
+use Rattle.desks.specs.Events.{Event, Asked, Told}
+use Rattle.desks.specs.declared.desk.DeskFault.{DeskFault}
+use Rattle.desks.specs.declared.desk.DeskFault.TheVariants as desk
 use Rattle.sources.specs.Files.{File, ReadGives}
+use Rattle.sources.specs.Reads.{ReadsAll}
 use Rattle.statement.specs.Counts.{counts_line}
 use Rattle.statement_text.specs.Statement.{and_then, same}
 use Rattle.statement_text.specs.declared.faults.SpanFault.{SpanFault}
 use Rattle.session.specs.Answers.{Answered, State, answer_to, is_stdin, opened, unchanged}
 use Rattle.session.specs.Refusals.{Refused, refusal_text}
 use Rattle.session.specs.Refusals as refused
-use Rattle.session.specs.Requests.{Asked, request_of}
+use Rattle.session.specs.Requests.{request_of}
 use Rattle.session.specs.Requests as asked
 use Rattle.session.specs.declared.faults.RequestFault.{RequestFault}
 use Rattle.session.specs.declared.faults.RequestFault.TheVariants as form
@@ -24,12 +28,12 @@ pub record Turn : Type 0 where
   pub is_out_of_memory : Bool
 
 -- what a line asks for, or its fault
-abbrev pub request_on : Option (List ℕ) → Result Asked RequestFault
+abbrev pub request_on : Option (List ℕ) → Result asked.Asked RequestFault
 request_on None = Err form.LineTooLong
 request_on (Some text) = request_of text
 
 -- the answer to what a line asks for, or the refusal of its fault
-abbrev pub answer_on : State → Option File → Result Asked RequestFault → Result Answered Refused
+abbrev pub answer_on : State → Option File → Result asked.Asked RequestFault → Result Answered Refused
 answer_on s file (Ok what) = answer_to s file what
 answer_on s file (Err e) = Err (refused.Form e)
 
@@ -54,30 +58,10 @@ abbrev pub state_after : State → Result Answered Refused → State
 state_after s (Ok a) = a.state
 state_after s (Err what) = s
 
--- ---- all requests
-
--- the texts of the answers to requests, numbered from the first on
-abbrev pub answers_from : ℕ → State → List Turn → List (List ℕ)
-answers_from n s [] = []
-answers_from n s (turn ∷ turns) = answer_text n (answer_of s turn) ∷ answers_from (n + 1) (state_after s (answer_of s turn)) turns
-
--- the state behind requests
-abbrev pub state_behind : State → List Turn → State
-state_behind s [] = s
-state_behind s (turn ∷ turns) = state_behind (state_after s (answer_of s turn)) turns
-
--- answer 0, which opens a session
-abbrev pub opening_text : State → List ℕ
-opening_text s = answer_text 0 (unchanged s (line (counts_line s.tables)))
-
--- the answers of a session over two files to requests, the opening's first; or the first fault of the files
-unfoldable pub session_of : List ℕ → List ℕ → List Turn → Result (List (List ℕ)) SpanFault
-session_of params positions turns = and_then same (opened params positions) (λ s. Ok (opening_text s ∷ answers_from 1 s turns))
-
 -- ---- files
 
 -- the file that a request asks for, if it asks for one that is not the stream of requests
-abbrev pub file_in : Result Asked RequestFault → Option (List ℕ)
+abbrev pub file_in : Result asked.Asked RequestFault → Option (List ℕ)
 file_in (Ok (asked.Set name)) = if is_stdin name then None else Some name
 file_in _ = None
 
@@ -101,3 +85,58 @@ reads_of turns = map (λ f. (f.0, is_ok f.1)) (files_of turns)
 -- a file gave what a source has under its name, as far as that is known
 abbrev pub IsFromSource : (List ℕ → Option File) → List ℕ × File → Type 0
 IsFromSource known asked = IfSome (known asked.0) (λ file. ReadGives (λ bytes. bytes) file asked.1)
+
+-- The files that were asked for in some turns were those of a source, as far as these are known, and no others were read. `known` says what
+-- the source has under a name, and `reads` that a file was asked for, as in `ReadsAll`.
+pub record AreFromSource {S : Type 0} (known : List ℕ → Option File) (reads : S → List ℕ → Bool → S → Type 0) (before : S)
+    (turns : List Turn) (after : S) : Type 0 where
+  pub files : All (IsFromSource known) (files_of turns)
+  pub reads : ReadsAll reads before (reads_of turns) after
+
+-- A request of a number was answered: with this turn, from one state to another, and with a text unless memory ran out.
+pub record IsTurn {S : Type 0} (known : List ℕ → Option File) (reads : S → List ℕ → Bool → S → Type 0) (before : S) (s : State) (n : ℕ)
+    (turn : Turn) (after : S) (next : State) (text : List ℕ) : Type 0 where
+  pub source : AreFromSource known reads before (turn ∷ []) after
+  pub state : next ≡ state_after s (answer_of s turn)
+  pub answer : turn.is_out_of_memory ≡ false → text ≡ answer_text n (answer_of s turn)
+
+-- ---- all requests
+
+-- the texts of the answers to requests, numbered from the first on
+abbrev pub answers_from : ℕ → State → List Turn → List (List ℕ)
+answers_from n s [] = []
+answers_from n s (turn ∷ turns) = answer_text n (answer_of s turn) ∷ answers_from (n + 1) (state_after s (answer_of s turn)) turns
+
+-- the state behind requests
+abbrev pub state_behind : State → List Turn → State
+state_behind s [] = s
+state_behind s (turn ∷ turns) = state_behind (state_after s (answer_of s turn)) turns
+
+-- answer 0, which opens a session
+abbrev pub opening_text : State → List ℕ
+opening_text s = answer_text 0 (unchanged s (line (counts_line s.tables)))
+
+-- the answers of a session over two files to requests, the opening's first; or the first fault of the files
+unfoldable pub session_of : List ℕ → List ℕ → List Turn → Result (List (List ℕ)) SpanFault
+session_of params positions turns = and_then same (opened params positions) (λ s. Ok (opening_text s ∷ answers_from 1 s turns))
+
+-- ---- the log of a desk
+
+-- each request, and its answer behind it, numbered from the first on
+abbrev pub events_from : ℕ → State → List Turn → List Event
+events_from n s [] = []
+events_from n s (turn ∷ turns) =
+    Asked turn.request ∷ Told (answer_text n (answer_of s turn)) ∷ events_from (n + 1) (state_after s (answer_of s turn)) turns
+
+-- the log of a session: answer 0, and then each request and its answer
+abbrev pub log_of : State → List Turn → List Event
+log_of s turns = Told (opening_text s) ∷ events_from 1 s turns
+
+-- What a session wrote to the log of a desk, and how it ended: with an answer, unless an answer could not be written; then the last
+-- request has none.
+abbrev pub IsServed : State → Result (Unit {0}) DeskFault → List Turn → List Event → List Event → Type 0
+IsServed s (Ok done) turns before after = after ≡ before ++ log_of s turns
+IsServed s (Err desk.Input) turns before after = after ≡ before ++ log_of s turns
+IsServed s (Err desk.Output) turns before after =
+    ((turns ≡ []) × (after ≡ before))
+    ⊎ ((done : List Turn) × (last : Turn) × (turns ≡ done ++ last ∷ []) × (after ≡ before ++ log_of s done ++ Asked last.request ∷ []))

@@ -1,17 +1,27 @@
 //! The accounts of a session and what they hold.
-ghost use Rattle.session.specs.Accounts.{account_named, position_records, with_account};
+ghost use Rattle.session.specs.Accounts.{account_named, lost_record, position_records, under_contracts, with_account};
 ghost use Rattle.session.specs.Positions.{position_lines};
+ghost use Rattle.session.specs.Refusals.{refused_by};
+ghost use Rattle.session.specs.Refusals as refused;
+ghost use Rattle.session.specs.near.Answering.{is_memory};
 ghost use Rattle.session.specs.near.Kept.{AreOnce};
 ghost use Rattle.span_tables.specs.Holdings.{fits};
-ghost use Rattle.std.specs.Prelude.{◌≡◌, ◌++◌, [], All, IfOk, OnErr, OnOk, length, option_copied, true};
+ghost use Rattle.std.specs.Prelude.{◌≡◌, ◌++◌, [], ⊤, All, IfErr, IfOk, MatchBool, None, OnErr, OnOk, Some, length, map};
+ghost use Rattle.std.specs.Prelude.{option_copied, option_map, true};
+ghost use Rattle.worker_pool.specs.Batches.{AllFit};
 
+use crate::carried::carried;
 use crate::positions::push_records;
+use crate::refusals::Refusal;
+use crate::set_in_use::SetInUse;
 use indexmap::IndexMap;
 use span_tables::name::Name;
 use span_tables::portfolios::{Portfolio, Portfolios};
 use span_tables::records::Contract;
+use span_tables::tables::Tables;
 use std::alloc::{AllocError, Global};
 use std::marker::Model;
+use whatif::portfolios::copied;
 
 /// The accounts of a session with what they hold, in their order, found by their names. Contracts see the list of portfolios.
 #[derive(Drop)]
@@ -53,6 +63,41 @@ impl Accounts {
             accounts.put(portfolio)?;
         }
         Ok(accounts)
+    }
+
+    /// The portfolios of all accounts, in their order.
+    pub(crate) fn portfolios(&self, alloc: Global) -> Result<Portfolios, AllocError>
+        ensures { IfOk result (λ portfolios. portfolios ≡ self.now) }
+    {
+        let mut all = Vec::with_capacity(alloc, self.len())?;
+        for portfolio in self.by_name.values() {
+            all.push(copied(alloc, portfolio)?)?;
+        }
+        Ok(Portfolios::new(all))
+    }
+
+    /// The accounts as they hold under a set what they held under one with other contracts; or the first contract that the set lacks, by
+    /// the order of the accounts, and of one account by the order of these contracts.
+    pub(crate) fn under_set(
+        &self,
+        alloc: Global,
+        set: &mut SetInUse,
+        old: &Tables,
+    ) -> Result<Accounts, Refusal<'static>>
+        requires { All (λ p. fits (length old.now.contracts) p.holdings ≡ true) self.now }
+        ensures same { set.new ≡ set.old }
+        ensures accounts { IfOk result (λ accounts. accounts ≡ map (under_contracts old.now.contracts set.old.tables.contracts) self.now) }
+        ensures fits { IfOk result (AllFit set.old) }
+        ensures known { OnOk result (lost_record old.now.contracts set.old.tables.contracts self.now ≡ None) }
+        ensures lost { IfErr result (λ r. MatchBool (is_memory r) ⊤ (option_map (λ held. refused.Lost held.account held.contract)
+            (lost_record old.now.contracts set.old.tables.contracts self.now) ≡ Some (refused_by r))) }
+    {
+        let mut all = Vec::with_capacity(alloc, self.len())?;
+        for portfolio in self.by_name.values() {
+            let carried = carried(alloc, set, old, portfolio)?;
+            all.push(carried).map_err(AllocError::from)?;
+        }
+        Ok(Accounts::new(alloc, Portfolios::new(all))?)
     }
 
     /// How many accounts there are.

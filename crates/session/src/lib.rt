@@ -3,10 +3,15 @@
 
 mod accounts;
 mod answer_texts;
+mod answers;
+mod carried;
+pub mod conversation;
 pub mod faults;
 mod positions;
 pub mod refusals;
 pub mod requests;
+pub mod session;
+mod set_in_use;
 mod worked;
 mod worked_sessions;
 mod worked_sets;

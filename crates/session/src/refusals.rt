@@ -18,11 +18,11 @@ pub enum Refusal<'a> {
     /// Q5: a new account, and there are as many as there may be.
     TooManyAccounts,
     /// B1: a contract that the set does not have.
-    UnknownContract { field: usize },
+    UnknownContract { field: u128 },
     /// B2: a net of the account would be out of range.
-    NetOutOfRange { field: usize },
+    NetOutOfRange { field: u128 },
     /// B3: the account would hold too many contracts.
-    TooManyHeld { field: usize },
+    TooManyHeld { field: u128 },
     /// The parameter file is not read, or breaks a rule.
     Parameters(SpanFault),
     /// B1: the parameter file lacks a contract that an account holds.

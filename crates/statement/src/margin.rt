@@ -1,15 +1,19 @@
 //! From the bytes of both files to the bytes of a statement.
 ghost use Rattle.statement_text.specs.Gives.{Gives};
 ghost use Rattle.statement.specs.Margin.{margin_of};
-ghost use Rattle.statement_text.specs.Statement.{statement_of};
-ghost use Rattle.std.specs.Prelude.{◌≡◌, ◌<◌, ◌⊎◌, ◌↔◌, Err};
+ghost use Rattle.statement_text.specs.Statement.{statement_of, statement_text};
+ghost use Rattle.std.specs.Arc.{arc_value};
+ghost use Rattle.std.specs.Prelude.{◌≡◌, ◌<◌, ◌⊎◌, ◌↔◌, Err, IfOk};
+ghost use Rattle.worker_pool.specs.Batches.{AllFit};
 ghost use Rattle.statement_text.specs.declared.faults.SpanFault.TheVariants as fault;
 
 use crate::batches::{text_of, text_together};
 use acceptance::accepting::{Accepted, accept, accept_together};
+use plan_compiler::set::CompiledSet;
+use span_tables::portfolios::Portfolios;
 use statement_text::faults::SpanFault;
-use std::alloc::Global;
-use std::sync::Wait;
+use std::alloc::{AllocError, Global};
+use std::sync::{Arc, Wait};
 use std::thread::Threads;
 use std::time::Clock;
 use worker_pool::batch::MAX_WORKERS;
@@ -29,6 +33,22 @@ pub fn margin_plain(alloc: Global, params: &[u8], positions: &[u8]) -> Result<Ve
     let rows = rows_alone(alloc, &set, portfolios)?;
     let text = text_of(alloc, &rows)?;
     Ok(text)
+}
+
+/// The statement of portfolios under a compiled set, on 1 to 16 workers. If memory runs out for one account, there is no statement.
+pub fn margin_of_portfolios<R: Threads + Wait + Clock + Sync, G: Gate>(
+    rt: &R,
+    alloc: Global,
+    set: &Arc<CompiledSet>,
+    portfolios: Portfolios,
+    workers: usize,
+    gate: &G,
+) -> Result<Vec<u8>, AllocError>
+    requires { AllFit (arc_value set.now) portfolios }
+    ensures { IfOk result (λ text. text.items ≡ statement_text (arc_value set.now).tables portfolios) }
+{
+    let rows = rows_together(rt, alloc, set, portfolios, workers, gate)?;
+    text_together(rt, alloc, &rows, workers)
 }
 
 /// The statement of two files on so many workers, in whatever order they finish the steps: the very text, or the very
@@ -55,7 +75,6 @@ pub fn margin<R: Threads + Wait + Clock + Sync, G: Gate>(
         portfolios,
         ..
     } = accept_together(rt, alloc, params, positions, workers)?;
-    let rows = rows_together(rt, alloc, &set, portfolios, workers, gate)?;
-    let text = text_together(rt, alloc, &rows, workers)?;
+    let text = margin_of_portfolios(rt, alloc, &set, portfolios, workers, gate)?;
     Ok(text)
 }

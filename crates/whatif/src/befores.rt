@@ -9,6 +9,7 @@ ghost use Rattle.whatif.specs.near.Numbers.{AreOfRow, order_at};
 
 use crate::margining::{BatchMeans, MOST_AT_ONCE, rows_of};
 use crate::numbers::{Numbers, all_numbers};
+use crate::portfolios::copied;
 use binding::orders::Orders;
 use span_tables::name::Name;
 use span_tables::portfolios::Portfolio;
@@ -49,14 +50,6 @@ impl Befores {
     {
         &self.numbers[self.slots[order]]
     }
-}
-
-// A copy of a portfolio.
-fn copied(alloc: Global, portfolio: &Portfolio) -> Result<Portfolio, AllocError>
-    ensures { IfOk result (λ copy. copy ≡ portfolio.now) }
-{
-    let holdings = Vec::from_slice(alloc, portfolio.holdings())?;
-    Ok(Portfolio::new(portfolio.account().copied(), holdings))
 }
 
 // A portfolio that holds nothing.

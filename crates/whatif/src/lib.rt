@@ -5,8 +5,9 @@
 mod batches;
 mod befores;
 pub mod laws;
-mod lines;
+pub mod lines;
 mod margining;
-mod numbers;
+pub mod numbers;
+pub mod portfolios;
 pub mod trying;
 mod worked;

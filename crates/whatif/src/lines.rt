@@ -20,7 +20,7 @@ use step_scheduler::rows::Row;
 /// An order that is tried: its number among the orders, the numbers of its account before it, and the row after it. Contracts see the
 /// tables and the order.
 #[derive(Drop)]
-pub(crate) struct Trial<'a> {
+pub struct Trial<'a> {
     tables: &'a Tables,
     orders: &'a Orders,
     number: usize,
@@ -65,7 +65,7 @@ fn push_changed(
 
 impl<'a> Trial<'a> {
     /// The order of a number, with the numbers of its account before it and the row after it.
-    pub(crate) fn new(
+    pub fn new(
         tables: &'a Tables,
         orders: &'a Orders,
         number: usize,
@@ -158,7 +158,7 @@ impl<'a> Trial<'a> {
 
     /// Appends the lines of the order.
     #[tactic(auto, unfolding(crate::specs::Whatif::order_text))]
-    pub(crate) fn push_to(&self, out: &mut Vec<u8>) -> Result<(), AllocError>
+    pub fn push_to(&self, out: &mut Vec<u8>) -> Result<(), AllocError>
         ensures { OnOk result (out.new.items ≡ out.old.items ++ order_text self.now.tables self.now.order) }
     {
         self.push_changes(out)?;

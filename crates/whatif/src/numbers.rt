@@ -11,10 +11,10 @@ use step_scheduler::rows::Row;
 
 /// What a portfolio is margined at: the requirement of each commodity, the total and the option value.
 #[derive(Drop)]
-pub(crate) struct Numbers {
-    pub(crate) requirements: Vec<Money>,
-    pub(crate) total: Money,
-    pub(crate) value: Money,
+pub struct Numbers {
+    pub requirements: Vec<Money>,
+    pub total: Money,
+    pub value: Money,
 }
 
 // The requirement of each commodity of a row.
@@ -30,8 +30,8 @@ fn requirements_of(alloc: Global, row: &Row) -> Result<Vec<Money>, AllocError>
     Ok(all)
 }
 
-// The numbers of a row.
-fn numbers_of(alloc: Global, row: &Row) -> Result<Numbers, AllocError>
+/// The numbers of a row. It fails only if it runs out of memory.
+pub fn numbers_of(alloc: Global, row: &Row) -> Result<Numbers, AllocError>
     ensures { IfOk result (AreNumbers row.now.set.tables row.now.portfolio.holdings) }
 {
     let requirements = requirements_of(alloc, row)?;

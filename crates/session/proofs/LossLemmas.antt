@@ -1,0 +1,179 @@
+-- The fault of what an account held under a set that lacks a contract, and that there is none if it lacks none.
+use Rattle.std.proofs.Common.{◌≡◌, ◌∙◌, ℕ, suc, zero, ◌+◌, ◌-◌, ◌<◌, ◌≤◌, Bool, true, false, cond, not, ◌&&◌, ◌||◌, List, [], ◌∷◌, ◌++◌}
+use Rattle.std.proofs.Common.{length, map, filter, Option, Some, None, slice_get, refl, sym, ap, subst, arith}
+use Rattle.std.specs.Prelude.{bytes_eq, find, nat_abs, nat_lt, option_map, unwrap_or}
+use Rattle.std.specs.List.{list_any, position_or_len}
+use Rattle.std.specs.Option.{option_or}
+use Rattle.std.proofs.lemmas.Bool.{le-ltb}
+use Rattle.std.proofs.lemmas.List.{length-append}
+use Rattle.span_tables.specs.Faults.{first_fault_after, first_of}
+use Rattle.span_tables.specs.Holdings.{ArePortfolio, fits}
+use Rattle.span_tables.specs.Names.{has_repeat}
+use Rattle.span_tables.specs.Net.{AccountHoldings, holdings_of}
+use Rattle.span_tables.specs.Orders.{account_of_order, as_position, net_among, positions_of_order}
+use Rattle.span_tables.specs.declared.limits.TheConstants.{MAX_HELD, MAX_NET}
+use Rattle.span_tables.specs.declared.portfolios.Holding.{Holding}
+use Rattle.span_tables.specs.declared.records.Contract.{Contract}
+use Rattle.span_tables.specs.declared.records.OrderRecord.{OrderRecord}
+use Rattle.span_tables.specs.declared.records.PositionRecord.{PositionRecord}
+use Rattle.span_tables.proofs.FaultLaws.{first_fault_next}
+use Rattle.span_tables.proofs.Places.{same_name}
+use Rattle.binding.specs.Binding.{first_unfit_by, is_of_known, is_unknown}
+use Rattle.binding.specs.OrderBinding.{holdings_after, net_exceeds_with, order_bind_fault, tried_order}
+use Rattle.binding.specs.declared.faults.OrderBindFault.{OrderBindFault}
+use Rattle.binding.specs.declared.faults.OrderBindFault.TheVariants as fault
+use Rattle.binding.specs.declared.trades.Trade.{Trade}
+use Rattle.binding.proofs.OrderLaws.{among_within}
+use Rattle.binding.proofs.OwnerLaws.{first_is_unknown, none_from}
+use Rattle.binding.proofs.UnfitLaws.{fit_from_none}
+use Rattle.session.specs.Accounts.{contract_of, held_record, held_records, under_contracts}
+use Rattle.session.specs.Answers.{trade_records}
+use Rattle.session.specs.near.Carried.{held_trade, held_trades, IsLoss}
+use Rattle.session.proofs.CarriedLemmas.{carried_holds, holdings_alone}
+use Rattle.session.proofs.TriedLemmas.{account_is}
+
+module _ (old new : List Contract) (account : List ℕ) where
+  abbrev records : List Holding → List OrderRecord
+  records hs = trade_records account account (held_trades old hs)
+
+  abbrev held : List Holding → List PositionRecord
+  held hs = map (held_record old account) hs
+
+  abbrev foreign : OrderRecord → Bool
+  foreign r = not (is_of_known (λ (x : OrderRecord). x.contract) new r)
+
+  abbrev test : List OrderRecord → OrderRecord → Option (ℕ → OrderBindFault)
+  test earlier r = cond (foreign r) (Some (λ at. fault.UnknownContract at r.order)) None
+
+  -- what is found of holdings behind so many records
+  Found : ℕ → List Holding → Option OrderBindFault → Type 0
+  Found n hs None = find (is_unknown new) (held hs) ≡ None
+  Found n hs (Some (fault.UnknownContract at order)) =
+      (k : ℕ) × (at ≡ n + 1 + k) × (k < length hs) × (find (is_unknown new) (held hs) ≡ slice_get (held hs) k)
+  Found n hs (Some _) = ⊥
+
+  found_later : (n : ℕ) (h : Holding) (hs : List Holding) (o : Option OrderBindFault)
+      → is_unknown new (held_record old account h) ≡ false → Found (n + 1) hs o → Found n (h ∷ hs) o
+  found_later n h hs None e found = ap (λ b. cond b (Some (held_record old account h)) (find (is_unknown new) (held hs))) e ∙ found
+  found_later n h hs (Some (fault.UnknownContract at order)) e found = (
+    suc (found.0),
+    (let at_is = found.1 in omega (arith, at_is)),
+    (let lt = found.2 in omega (arith, lt)),
+    ap (λ b. cond b (Some (held_record old account h)) (find (is_unknown new) (held hs))) e ∙ found.3,
+  )
+  found_later n h hs (Some (fault.NetOutOfRange at order)) e found = found
+  found_later n h hs (Some (fault.TooManyHeld at order)) e found = found
+  found_later n h hs (Some fault.OutOfMemory) e found = found
+
+  found_after : (earlier : List OrderRecord) (hs : List Holding)
+      → Found (length earlier) hs (first_fault_after test earlier (records hs))
+  found_after earlier [] = refl
+  found_after earlier (h ∷ hs) = by (foreign r) refl (found_after (earlier ++ r ∷ []) hs)
+    where
+      r : OrderRecord
+      r = record { order = account; account = account; contract = contract_of old h; quantity = h.net }
+
+      next : first_fault_after test earlier (records (h ∷ hs))
+          ≡ option_or (option_map (λ f. f (length earlier + 1)) (test earlier r)) (first_fault_after test (earlier ++ r ∷ []) (records hs))
+      next = first_fault_next test earlier r (records hs)
+
+      by : (b : Bool) → foreign r ≡ b
+          → Found (length (earlier ++ r ∷ [])) hs (first_fault_after test (earlier ++ r ∷ []) (records hs))
+          → Found (length earlier) (h ∷ hs) (first_fault_after test earlier (records (h ∷ hs)))
+      by true e more =
+          subst (Found (length earlier) (h ∷ hs))
+          (sym (next ∙ ap (λ b. option_or (option_map (λ f. f (length earlier + 1)) (cond b (Some (λ at. fault.UnknownContract at account)) None))
+          (first_fault_after test (earlier ++ r ∷ []) (records hs))) e))
+          (0, omega arith, omega arith,
+          ap (λ b. cond b (Some (held_record old account h)) (find (is_unknown new) (held hs))) e)
+      by false e more =
+          let size : length (earlier ++ r ∷ []) ≡ length earlier + 1 = length-append earlier (r ∷ []) in
+          subst (Found (length earlier) (h ∷ hs))
+          (sym (next ∙ ap (λ b. option_or (option_map (λ f. f (length earlier + 1)) (cond b (Some (λ at. fault.UnknownContract at account)) None))
+          (first_fault_after test (earlier ++ r ∷ []) (records hs))) e))
+          (found_later (length earlier) h hs (first_fault_after test (earlier ++ r ∷ []) (records hs)) e
+          (subst (λ n. Found n hs (first_fault_after test (earlier ++ r ∷ []) (records hs))) size more))
+
+  -- ---- what the account comes to hold
+
+  -- the records of the one order are those of what was held
+  positions_are : (hs : List Holding) → positions_of_order (records hs) account ≡ held hs
+  positions_are [] = refl
+  positions_are (h ∷ hs) =
+      ap (λ b. map as_position (cond b (record { order = account; account = account; contract = contract_of old h; quantity = h.net }
+      ∷ filter (λ r. bytes_eq r.order account) (records hs)) (filter (λ r. bytes_eq r.order account) (records hs)))) (same_name account)
+      ∙ ap (λ rest. held_record old account h ∷ rest) (positions_are hs)
+
+  module _ (h : Holding) (hs : List Holding) where
+    after_is : holdings_after new [] (records (h ∷ hs)) account ≡ holdings_of new (held (h ∷ hs)) account
+    after_is =
+        holdings_alone new (positions_of_order (records (h ∷ hs)) account) (account_of_order (records (h ∷ hs)) account)
+        ∙ (λ i. holdings_of new (positions_are (h ∷ hs) i) (account_is account account (held_trade old h) (held_trades old hs) i))
+
+    pub carried_is : (tried_order new [] (records (h ∷ hs)) account).after
+        ≡ record { account = account; holdings = holdings_of new (held (h ∷ hs)) account }
+    carried_is =
+        let name = account_is account account (held_trade old h) (held_trades old hs) in
+        λ i. record { account = name i; holdings = after_is i }
+
+    module _ (apart : has_repeat (λ x y. bytes_eq x.id y.id) old ≡ false) (new_apart : has_repeat (λ x y. bytes_eq x.id y.id) new ≡ false)
+        (fit : fits (length old) (h ∷ hs) ≡ true) (portfolio : ArePortfolio (h ∷ hs)) where
+      after_holds : ArePortfolio (holdings_after new [] (records (h ∷ hs)) account)
+      after_holds = subst ArePortfolio (sym after_is) (carried_holds old new apart new_apart account (h ∷ hs) fit portfolio)
+
+      within : (contract : List ℕ) → net_exceeds_with new [] (records (h ∷ hs)) account contract ≡ false
+      within contract =
+          le-ltb MAX_NET (nat_abs (net_among (holdings_after new [] (records (h ∷ hs)) account)
+          (position_or_len (λ (x : Contract). bytes_eq x.id contract) new)))
+          (among_within (holdings_after new [] (records (h ∷ hs)) account) after_holds
+          (position_or_len (λ (x : Contract). bytes_eq x.id contract) new))
+
+      none_over : (xs : List Holding)
+          → list_any (λ r. net_exceeds_with new [] (records (h ∷ hs)) r.order r.contract) (records xs) ≡ false
+      none_over [] = refl
+      none_over (x ∷ xs) =
+          ap (λ b. b || list_any (λ r. net_exceeds_with new [] (records (h ∷ hs)) r.order r.contract) (records xs))
+          (within (contract_of old x)) ∙ none_over xs
+
+      none_many : (xs : List Holding)
+          → list_any (λ r. nat_lt MAX_HELD (length (holdings_after new [] (records (h ∷ hs)) r.order))) (records xs) ≡ false
+      none_many [] = refl
+      none_many (x ∷ xs) =
+          ap (λ b. b || list_any (λ r. nat_lt MAX_HELD (length (holdings_after new [] (records (h ∷ hs)) r.order))) (records xs))
+          (le-ltb MAX_HELD (length (holdings_after new [] (records (h ∷ hs)) account)) after_holds.few) ∙ none_many xs
+
+      -- the one fault that there may be is that of an unknown contract
+      pub fault_is : order_bind_fault new [] (records (h ∷ hs)) ≡ first_fault_after test [] (records (h ∷ hs))
+      unfolding order_bind_fault
+      fault_is = by (first_fault_after test [] (records (h ∷ hs))) refl
+        where
+          by : (o : Option OrderBindFault) → first_fault_after test [] (records (h ∷ hs)) ≡ o
+              → order_bind_fault new [] (records (h ∷ hs)) ≡ first_fault_after test [] (records (h ∷ hs))
+          by (Some y) e =
+              first_is_unknown (λ (r : OrderRecord). r.order) (λ (r : OrderRecord). r.contract) fault.UnknownContract fault.NetOutOfRange
+              fault.TooManyHeld new (net_exceeds_with new [] (records (h ∷ hs)))
+              (λ order. nat_lt MAX_HELD (length (holdings_after new [] (records (h ∷ hs)) order))) (records (h ∷ hs)) y e ∙ sym e
+          by None e =
+              none_from (λ (r : OrderRecord). r.order) (λ (r : OrderRecord). r.contract) fault.UnknownContract fault.NetOutOfRange
+              fault.TooManyHeld new (net_exceeds_with new [] (records (h ∷ hs)))
+              (λ order. nat_lt MAX_HELD (length (holdings_after new [] (records (h ∷ hs)) order))) (records (h ∷ hs))
+              (fit_from_none (λ (r : OrderRecord). r.order) fault.UnknownContract foreign (records (h ∷ hs)) e)
+              (none_over (h ∷ hs)) (none_many (h ∷ hs)) ∙ sym e
+
+      found : Found 0 (h ∷ hs) (order_bind_fault new [] (records (h ∷ hs)))
+      found = subst (Found 0 (h ∷ hs)) (sym fault_is) (found_after [] (h ∷ hs))
+
+      -- if there is none, the set has all contracts that are held
+      pub none_lost : order_bind_fault new [] (records (h ∷ hs)) ≡ None → find (is_unknown new) (held (h ∷ hs)) ≡ None
+      none_lost e = subst (Found 0 (h ∷ hs)) e found
+
+      loss_of : (e : OrderBindFault) → Found 0 (h ∷ hs) (Some e) → IsLoss (length (h ∷ hs)) e
+      loss_of (fault.UnknownContract at order) found =
+          (let at_is = found.1 in omega (arith, at_is), let at_is = found.1 in let lt = found.2 in omega (arith, at_is, lt))
+      loss_of (fault.NetOutOfRange at order) found = found
+      loss_of (fault.TooManyHeld at order) found = found
+      loss_of fault.OutOfMemory found = tt
+
+      -- if there is one, it names one of the trades
+      pub some_lost : (e : OrderBindFault) → order_bind_fault new [] (records (h ∷ hs)) ≡ Some e → IsLoss (length (h ∷ hs)) e
+      some_lost e is = loss_of e (subst (Found 0 (h ∷ hs)) is found)

@@ -1,0 +1,350 @@
+//! Sessions: a set and accounts, and the answers to requests about them (docs/FORMATS.md, Sessions).
+ghost use Rattle.session.specs.Answers.{State, answer_to, opened, unchanged, under_accepted, under_file};
+ghost use Rattle.session.specs.Conversations.{IsTurn, answer_text, file_in, opening_text, refused_line, state_after};
+ghost use Rattle.session.specs.Refusals.{refused_by};
+ghost use Rattle.session.specs.Refusals as refused;
+ghost use Rattle.session.specs.declared.faults.RequestFault.TheVariants as form;
+ghost use Rattle.session.specs.Requests.{IsTradable, asked_by};
+ghost use Rattle.session.specs.Requests.{is_memory as is_memory_fault};
+ghost use Rattle.session.specs.declared.refusals.Refusal.TheVariants as refusal;
+ghost use Rattle.session.specs.near.Answering.{Answers, ChangeFits, IsRead, changed, file_given, file_read, is_memory};
+ghost use Rattle.sources.specs.Files.{File};
+ghost use Rattle.statement.specs.Counts.{counts_line};
+ghost use Rattle.statement_text.specs.Gives.{Gives};
+ghost use Rattle.statement_text.specs.Statement.{statement_text};
+ghost use Rattle.span_money.specs.LineFields.{line};
+ghost use Rattle.std.specs.Arc.{arc_value};
+ghost use Rattle.std.specs.Prelude.{◌≡◌, ◌++◌, [], ⊤, Err, IfErr, IfOk, List, MatchBool, Ok, OnErr, OnOk, Option, Some, false, is_err, ℕ};
+
+use crate::accounts::Accounts;
+use crate::answer_texts::{push_done, push_refused};
+use crate::answers::{push_explanation, push_fill, push_margin_of, push_positions, push_try};
+use crate::faults::RequestFault;
+use crate::refusals::Refusal;
+use crate::requests::{Request, read_request};
+use crate::set_in_use::SetInUse;
+use acceptance::accepting::{Accepted, accept_together, set_of};
+use plan_compiler::set::CompiledSet;
+use sources::{ReadFault, Sources};
+use span_tables::portfolios::Portfolio;
+use statement::counts::write_counts;
+use statement::margin::margin_of_portfolios;
+use statement_text::faults::SpanFault;
+use std::alloc::{AllocError, Global};
+use std::marker::Model;
+use std::sync::{Arc, Wait};
+use std::thread::Threads;
+use std::time::Clock;
+use worker_pool::gates::Gate;
+
+/// The file that is the stream of requests. No other name of that stream is looked for.
+const STDIN: &str = "/dev/stdin";
+
+// Room for a request and the longest last line of an answer: made once, so that a refusal needs no more.
+const ROOM: usize = 8192;
+
+/// What the statement of all accounts is computed on: so many workers of a runtime, from 1 to 16, which pass a gate before each step.
+#[derive(Drop)]
+pub struct Workers<'a, R, G: Gate> {
+    pub rt: &'a R,
+    pub count: usize,
+    pub gate: &'a G,
+}
+
+/// What a request changes in a session.
+#[derive(Drop)]
+pub(crate) enum Change {
+    Nothing,
+    /// An account holds what this portfolio has.
+    Account(Portfolio),
+    /// There is another set, under which the accounts are these.
+    Set(SetInUse, Accounts),
+}
+
+/// A session: an accepted set, and accounts with what they hold, in their order. Contracts see both.
+#[derive(Drop)]
+pub struct Session {
+    alloc: Global,
+    set: SetInUse,
+    accounts: Accounts,
+}
+
+impl Model for Session {
+    ghost use Rattle.session.specs.Answers.{State};
+    ghost use Rattle.session.specs.near.InUse.{state_of};
+    ghost use Rattle.worker_pool.specs.Batches.{AllFit};
+
+    ghost Value = { State };
+
+    ghost view = { λ s. state_of s.set s.accounts };
+
+    ghost invariant = { λ s. AllFit s.set s.accounts };
+}
+
+/// A session that is open, and its first answer, which is that to request 0.
+#[derive(Drop)]
+pub struct Opened {
+    pub session: Session,
+    pub text: Vec<u8>,
+}
+
+// Appends the line of counts of a set.
+fn push_counts(alloc: Global, out: &mut Vec<u8>, set: &SetInUse) -> Result<(), AllocError>
+    ensures { OnOk result (out.new.items ≡ out.old.items ++ line (counts_line set.now.tables)) }
+{
+    let counts = write_counts(alloc, set.tables())?;
+    out.extend_from_slice(&counts)
+}
+
+// The answer that opens a session. It has room for the last line of any answer.
+fn opening(alloc: Global, set: &SetInUse) -> Result<Vec<u8>, AllocError>
+    ensures { (s : State) → s.tables ≡ set.now.tables → IfOk result (λ text. text.items ≡ opening_text s) }
+{
+    let mut text = Vec::with_capacity(alloc, ROOM)?;
+    push_counts(alloc, &mut text, set)?;
+    push_done(&mut text, 0)?;
+    Ok(text)
+}
+
+// The compiled set of a file that was read, or why it is refused. The file has this name.
+fn set_read<'a>(
+    alloc: Global,
+    name: &'a str,
+    read: Result<Vec<u8>, ReadFault>,
+) -> Result<Arc<CompiledSet>, Refusal<'a>>
+    ensures set { IfOk result (λ set. (s : State) → under_file s name.now (file_read (λ v. v.items) read)
+        ≡ under_accepted s (Ok (arc_value set).tables)) }
+    ensures refused { IfErr result (λ r. MatchBool (is_memory r) ⊤ ((s : State)
+        → under_file s name.now (file_read (λ v. v.items) read) ≡ Err (refused_by r))) }
+{
+    let params = match read {
+        Ok(params) => params,
+        Err(ReadFault::OutOfMemory) => return Err(Refusal::Memory),
+        Err(_) => return Err(Refusal::File { name }),
+    };
+    match set_of(alloc, &params) {
+        Ok(set) => Ok(set),
+        Err(fault) if fault.is_memory() => Err(Refusal::Memory),
+        Err(fault) => Err(Refusal::Parameters(fault)),
+    }
+}
+
+// The file that a request asks for, if it asks for one that is not the stream of requests, as it was read.
+fn read_asked<S: Sources>(
+    alloc: Global,
+    sources: &mut S,
+    request: &Request<'_>,
+) -> Option<Result<Vec<u8>, ReadFault>>
+    ensures read { IsRead (S.file sources.old) S.reads sources.old (file_in (Ok (asked_by request.now)))
+        (file_given (λ v. v.items) result) sources.new }
+    ensures same { (n : List ℕ) → S.file sources.new n ≡ S.file sources.old n }
+{
+    match request {
+        Request::Set { file } if *file != STDIN => Some(sources.read(alloc, file)),
+        _ => None,
+    }
+}
+
+// Why a request is refused that has a fault.
+fn refusal_of(fault: RequestFault) -> Refusal<'static>
+    ensures { MatchBool (is_memory_fault fault) (result ≡ refusal.Memory) (result ≡ refusal.Form fault) }
+{
+    match fault {
+        RequestFault::OutOfMemory => Refusal::Memory,
+        fault => Refusal::Form(fault),
+    }
+}
+
+// The line of a refusal, in place of what the text had.
+fn refuse(out: &mut Vec<u8>, number: u64, refusal: Refusal<'_>) -> Result<(), AllocError>
+    ensures { OnOk result ((is_memory refusal ≡ false) × (out.new.items ≡ line (refused_line number (refused_by refusal)))) }
+{
+    if matches!(refusal, Refusal::Memory) {
+        return Err(AllocError);
+    }
+    out.clear();
+    push_refused(out, number, &refusal)
+}
+
+impl Session {
+    /// Opens a session over two files: the first fault in reading the parameters, checking them, reading the positions and binding them; or
+    /// out of memory.
+    pub fn open<R: Threads + Sync>(
+        rt: &R,
+        alloc: Global,
+        params: &[u8],
+        positions: &[u8],
+        workers: usize,
+    ) -> Result<Opened, SpanFault>
+        ensures state { Gives (λ (o : Opened). o.session) result (opened params.now positions.now) }
+        ensures text { IfOk result (λ o. o.text.items ≡ opening_text o.session) }
+    {
+        let Accepted {
+            set,
+            portfolios,
+            ..
+        } = accept_together(rt, alloc, params, positions, workers)?;
+        let accounts = Accounts::new(alloc, portfolios)?;
+        let set = SetInUse::new(alloc, set)?;
+        let text = opening(alloc, &set)?;
+        let session = Session {
+            alloc,
+            set,
+            accounts,
+        };
+        Ok(Opened { session, text })
+    }
+
+    // Appends the statement of all accounts.
+    fn push_margin<R: Threads + Wait + Clock + Sync, G: Gate>(
+        &self,
+        workers: &Workers<'_, R, G>,
+        out: &mut Vec<u8>,
+    ) -> Result<(), Refusal<'static>>
+        requires { out.old.items ≡ [] }
+        ensures { Answers (λ done. self.now) result out.new.items (unchanged self.now (statement_text self.now.tables self.now.accounts)) }
+    {
+        let portfolios = self.accounts.portfolios(self.alloc)?;
+        let (rt, gate) = (workers.rt, workers.gate);
+        let text = margin_of_portfolios(rt, self.alloc, self.set.set(), portfolios, workers.count, gate)?;
+        out.extend_from_slice(&text)?;
+        Ok(())
+    }
+
+    // The set of a file that was read, and the accounts under it. Its line of counts is appended.
+    fn push_set<'a>(
+        &self,
+        out: &mut Vec<u8>,
+        name: &'a str,
+        read: Result<Vec<u8>, ReadFault>,
+    ) -> Result<Change, Refusal<'a>>
+        requires { out.old.items ≡ [] }
+        ensures answer { Answers (changed self.now) result out.new.items (under_file self.now name.now (file_read (λ v. v.items) read)) }
+        ensures fits { IfOk result (ChangeFits self.now) }
+    {
+        let set = set_read(self.alloc, name, read)?;
+        let mut set = SetInUse::new(self.alloc, set)?;
+        let accounts = self.accounts.under_set(self.alloc, &mut set, self.set.tables())?;
+        push_counts(self.alloc, out, &set)?;
+        Ok(Change::Set(set, accounts))
+    }
+
+    // Appends the lines of the answer to a request, and gives what it changes. The file is the one that it asks for, as it was read.
+    fn push_lines<'a, R: Threads + Wait + Clock + Sync, G: Gate>(
+        &mut self,
+        workers: &Workers<'_, R, G>,
+        out: &mut Vec<u8>,
+        request: Request<'a>,
+        file: Option<Result<Vec<u8>, ReadFault>>,
+    ) -> Result<Change, Refusal<'a>>
+        requires empty { out.old.items ≡ [] }
+        requires tradable { IsTradable request }
+        ensures same { self.new ≡ self.old }
+        ensures answer { Answers (changed self.old) result out.new.items
+            (answer_to self.old (file_given (λ v. v.items) file) (asked_by request)) }
+        ensures fits { IfOk result (ChangeFits self.old) }
+    {
+        let (alloc, set, accounts) = (self.alloc, &mut self.set, &self.accounts);
+        match request {
+            Request::Margin => self.push_margin(workers, out)?,
+            Request::MarginOf { account } => push_margin_of(alloc, out, set, accounts, &account)?,
+            Request::Explain { account } => push_explanation(alloc, out, set, accounts, &account)?,
+            Request::Try {
+                order,
+                account,
+                trades,
+            } => push_try(out, set, accounts, &order, &account, &trades)?,
+            Request::Fill { account, trades } => {
+                let after = push_fill(out, set, accounts, &account, &trades)?;
+                return Ok(Change::Account(after));
+            }
+            Request::Set { file: name } => {
+                return match file {
+                    Some(read) => self.push_set(out, name, read),
+                    None if name == STDIN => Err(Refusal::File { name }),
+                    None => Err(Refusal::Memory),
+                };
+            }
+            Request::Positions => push_positions(out, set, accounts)?,
+        }
+        Ok(Change::Nothing)
+    }
+
+    // Makes a change. If memory runs out the session stays as it was.
+    fn apply(&mut self, change: Change) -> Result<(), AllocError>
+        requires { ChangeFits self.old change }
+        ensures done { OnOk result (self.new ≡ changed self.old change) }
+        ensures refused { OnErr result (self.new ≡ self.old) }
+    {
+        match change {
+            Change::Nothing => {}
+            Change::Account(after) => self.accounts.put(after)?,
+            Change::Set(set, accounts) => {
+                self.set = set;
+                self.accounts = accounts;
+            }
+        }
+        Ok(())
+    }
+
+    // Answers a request that a line asks for.
+    fn answer_request<'a, R: Threads + Wait + Clock + Sync, G: Gate>(
+        &mut self,
+        workers: &Workers<'_, R, G>,
+        out: &mut Vec<u8>,
+        number: u64,
+        request: Request<'a>,
+        file: Option<Result<Vec<u8>, ReadFault>>,
+    ) -> Result<(), Refusal<'a>>
+        requires empty { out.old.items ≡ [] }
+        requires tradable { IsTradable request }
+        ensures text { OnOk result (out.new.items
+            ≡ answer_text number (answer_to self.old (file_given (λ v. v.items) file) (asked_by request))) }
+        ensures state { OnOk result (self.new
+            ≡ state_after self.old (answer_to self.old (file_given (λ v. v.items) file) (asked_by request))) }
+        ensures same { OnErr result (self.new ≡ self.old) }
+        ensures refused { IfErr result (λ r. MatchBool (is_memory r) ⊤
+            (answer_to self.old (file_given (λ v. v.items) file) (asked_by request) ≡ Err (refused_by r))) }
+    {
+        let change = self.push_lines(workers, out, request, file)?;
+        push_done(out, number)?;
+        self.apply(change)?;
+        Ok(())
+    }
+
+    /// Answers the request of a number, which has this line. The text of the answer stands in `out`, in place of what was there. If memory
+    /// runs out the session is as it was, and the request is refused for that.
+    pub fn answer<R: Threads + Wait + Clock + Sync, G: Gate, S: Sources>(
+        &mut self,
+        workers: &Workers<'_, R, G>,
+        sources: &mut S,
+        out: &mut Vec<u8>,
+        number: u64,
+        line: &[u8],
+    ) -> Result<(), AllocError>
+        ensures turn { (file : Option File) × IsTurn (S.file sources.old) S.reads sources.old self.old number
+            (record { request = Some line.now; file = file; is_out_of_memory = is_err result })
+            sources.new self.new out.new.items }
+        ensures same { (n : List ℕ) → S.file sources.new n ≡ S.file sources.old n }
+    {
+        out.clear();
+        let answered = match read_request(self.alloc, line) {
+            Ok(request) => {
+                let file = read_asked(self.alloc, sources, &request);
+                self.answer_request(workers, out, number, request, file)
+            }
+            Err(fault) => Err(refusal_of(fault)),
+        };
+        match answered {
+            Ok(()) => Ok(()),
+            Err(refusal) => refuse(out, number, refusal),
+        }
+    }
+}
+
+/// The text of the answer to the request of a number that is too long, in place of what `out` had.
+pub fn refuse_long(out: &mut Vec<u8>, number: u64) -> Result<(), AllocError>
+    ensures { OnOk result (out.new.items ≡ line (refused_line number (refused.Form form.LineTooLong))) }
+{
+    refuse(out, number, Refusal::Form(RequestFault::LineTooLong))
+}

@@ -1,0 +1,188 @@
+//! The set that a session works under.
+ghost use Rattle.binding.specs.OrderBinding.{is_memory, order_bind_fault, orders_bound, tried_order};
+ghost use Rattle.session.specs.Answers.{total_text, trade_records};
+ghost use Rattle.session.specs.Requests.{AreTradable};
+ghost use Rattle.span_tables.specs.Gives.{Gives};
+ghost use Rattle.std.specs.Arc.{arc_value};
+ghost use Rattle.std.specs.Option.{option_copied, option_to_list};
+ghost use Rattle.std.specs.Prelude.{◌≡◌, ◌++◌, ◌<◌, ⊤, IfErr, IfOk, MatchBool, None, OnOk, Some, length, option_map, slice_get};
+ghost use Rattle.whatif.specs.Whatif.{order_text};
+ghost use Rattle.worker_pool.specs.Batches.{AllFit, FitsSet};
+
+use binding::faults::OrderBindFault;
+use binding::orders::{OrderBinder, Orders};
+use binding::trades::{Trade, order_of_trades};
+use plan_compiler::set::CompiledSet;
+use span_tables::name::Name;
+use span_tables::portfolios::{Portfolio, Portfolios};
+use span_tables::tables::Tables;
+use statement_text::lines::push_total_of;
+use std::alloc::{AllocError, Global};
+use std::marker::Model;
+use std::sync::Arc;
+use step_scheduler::rows::Row;
+use whatif::lines::Trial;
+use whatif::numbers::numbers_of;
+use whatif::portfolios::copied;
+use worker_pool::plain::Runs;
+
+/// A compiled set, with what is made once for it: runs under it, and the binder of trades to its contracts. Contracts see the set.
+#[derive(Drop)]
+pub(crate) struct SetInUse {
+    alloc: Global,
+    set: Arc<CompiledSet>,
+    runs: Runs,
+    binder: OrderBinder,
+}
+
+impl Model for SetInUse {
+    ghost use Rattle.plan_compiler.specs.Compiled.{SetView};
+    ghost use Rattle.session.specs.near.InUse.{IsInUse};
+    ghost use Rattle.std.specs.Arc.{arc_value};
+
+    ghost Value = { SetView };
+
+    ghost view = { λ s. arc_value s.set };
+
+    ghost invariant = { λ s. IsInUse (arc_value s.set) s.runs s.binder };
+}
+
+// The portfolios of an account that is known, or none.
+fn own_portfolios(alloc: Global, known: Option<&Portfolio>) -> Result<Portfolios, AllocError>
+    ensures { IfOk result (λ own. own ≡ option_to_list (option_copied known.entry)) }
+{
+    let mut own = Vec::new(alloc);
+    if let Some(portfolio) = known {
+        own.push(copied(alloc, portfolio)?)?;
+    }
+    Ok(Portfolios::new(own))
+}
+
+// What the account of the first of some orders holds without it.
+fn before(alloc: Global, orders: &Orders, account: &Name) -> Result<Portfolio, AllocError>
+    requires { 0 < length orders.now.orders }
+    ensures { IfOk result (λ p. option_map (λ o. o.before.holdings) (slice_get orders.now.orders 0) ≡ Some p.holdings) }
+{
+    match orders.place(0) {
+        Some(place) => copied(alloc, &orders.portfolios()[place]),
+        None => Ok(Portfolio::new(account.copied(), Vec::new(alloc))),
+    }
+}
+
+impl SetInUse {
+    /// A set with what is made once for it.
+    pub(crate) fn new(alloc: Global, set: Arc<CompiledSet>) -> Result<SetInUse, AllocError>
+        ensures { IfOk result (λ s. s ≡ arc_value set) }
+    {
+        let runs = Runs::new(alloc, &set)?;
+        let binder = OrderBinder::new(alloc, set.tables())?;
+        Ok(SetInUse {
+            alloc,
+            set,
+            runs,
+            binder,
+        })
+    }
+
+    /// The compiled set.
+    pub(crate) fn set(&self) -> &Arc<CompiledSet>
+        ensures { arc_value result.now ≡ self.now }
+    {
+        &self.set
+    }
+
+    /// The tables of the set.
+    pub(crate) fn tables(&self) -> &Tables
+        ensures { result.now ≡ self.now.tables }
+    {
+        self.set.tables()
+    }
+
+    /// The row of a portfolio under the set.
+    pub(crate) fn row(&mut self, portfolio: Portfolio) -> Result<Arc<Row>, AllocError>
+        requires { FitsSet self.old portfolio }
+        ensures same { self.new ≡ self.old }
+        ensures row { IfOk result (λ row. arc_value row ≡ record { set = self.old; portfolio = portfolio }) }
+    {
+        self.runs.row(portfolio)
+    }
+
+    // Trades as the one order of an account, or the fault of B1 to B3 that they have.
+    fn bind(
+        &mut self,
+        known: Option<&Portfolio>,
+        order: &Name,
+        account: &Name,
+        trades: &[Trade],
+    ) -> Result<Orders, OrderBindFault>
+        requires { AreTradable trades.now }
+        ensures same { self.new ≡ self.old }
+        ensures orders { Gives is_memory result (orders_bound self.old.tables.contracts
+            (option_to_list (option_copied known.entry)) (trade_records order.now account.now trades.now)) }
+    {
+        let own = own_portfolios(self.alloc, known)?;
+        let records = order_of_trades(self.alloc, order, account, trades)?;
+        self.binder.bind(self.alloc, own, &records)
+    }
+
+    /// Appends the lines of trades that are tried as an order of an account, or tells the fault of B1 to B3 that they have. `known` is what
+    /// the account holds, if it is known.
+    pub(crate) fn push_tried(
+        &mut self,
+        out: &mut Vec<u8>,
+        known: Option<&Portfolio>,
+        order: &Name,
+        account: &Name,
+        trades: &[Trade],
+    ) -> Result<(), OrderBindFault>
+        requires fits { AllFit self.old (option_to_list (option_copied known.entry)) }
+        requires trades { AreTradable trades.now }
+        ensures same { self.new ≡ self.old }
+        ensures fit { OnOk result (order_bind_fault self.old.tables.contracts (option_to_list (option_copied known.entry))
+            (trade_records order.now account.now trades.now) ≡ None) }
+        ensures lines { OnOk result (out.new.items ≡ out.old.items ++ order_text self.old.tables
+            (tried_order self.old.tables.contracts (option_to_list (option_copied known.entry))
+            (trade_records order.now account.now trades.now) order.now)) }
+        ensures unfit { IfErr result (λ e. MatchBool (is_memory e) ⊤ (order_bind_fault self.old.tables.contracts
+            (option_to_list (option_copied known.entry)) (trade_records order.now account.now trades.now) ≡ Some e)) }
+    {
+        let orders = self.bind(known, order, account, trades)?;
+        let without = self.row(before(self.alloc, &orders, account)?)?;
+        let numbers = numbers_of(self.alloc, &without)?;
+        let after = self.binder.portfolio_after(self.alloc, &orders, 0)?;
+        let with = self.row(after)?;
+        Trial::new(self.set.tables(), &orders, 0, &numbers, &with).push_to(out)?;
+        Ok(())
+    }
+
+    /// What an account holds after trades, or the fault of B1 to B3 that they have. `known` is what the account holds before, if it is known.
+    pub(crate) fn after(
+        &mut self,
+        known: Option<&Portfolio>,
+        account: &Name,
+        trades: &[Trade],
+    ) -> Result<Portfolio, OrderBindFault>
+        requires { AreTradable trades.now }
+        ensures same { self.new ≡ self.old }
+        ensures fit { OnOk result (order_bind_fault self.old.tables.contracts (option_to_list (option_copied known.entry))
+            (trade_records account.now account.now trades.now) ≡ None) }
+        ensures after { IfOk result (λ after. after ≡ (tried_order self.old.tables.contracts (option_to_list (option_copied known.entry))
+            (trade_records account.now account.now trades.now) account.now).after) }
+        ensures fits { IfOk result (FitsSet self.old) }
+        ensures unfit { IfErr result (λ e. MatchBool (is_memory e) ⊤ (order_bind_fault self.old.tables.contracts
+            (option_to_list (option_copied known.entry)) (trade_records account.now account.now trades.now) ≡ Some e)) }
+    {
+        let orders = self.bind(known, account, account, trades)?;
+        Ok(self.binder.portfolio_after(self.alloc, &orders, 0)?)
+    }
+
+    /// Appends the line of the total of an account.
+    pub(crate) fn push_total(&mut self, out: &mut Vec<u8>, portfolio: &Portfolio) -> Result<(), AllocError>
+        requires { FitsSet self.old portfolio.now }
+        ensures same { self.new ≡ self.old }
+        ensures line { OnOk result (out.new.items ≡ out.old.items ++ total_text self.old.tables portfolio.now) }
+    {
+        let row = self.row(copied(self.alloc, portfolio)?)?;
+        push_total_of(out, &row)
+    }
+}

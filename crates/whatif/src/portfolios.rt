@@ -1,0 +1,13 @@
+//! Portfolios that are copied.
+ghost use Rattle.std.specs.Prelude.{◌≡◌, IfOk};
+
+use span_tables::portfolios::Portfolio;
+use std::alloc::{AllocError, Global};
+
+/// A copy of a portfolio. It fails only if it runs out of memory.
+pub fn copied(alloc: Global, portfolio: &Portfolio) -> Result<Portfolio, AllocError>
+    ensures { IfOk result (λ copy. copy ≡ portfolio.now) }
+{
+    let holdings = Vec::from_slice(alloc, portfolio.holdings())?;
+    Ok(Portfolio::new(portfolio.account().copied(), holdings))
+}
