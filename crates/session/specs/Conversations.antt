@@ -91,7 +91,7 @@ IsFromSource known asked = IfSome (known asked.0) (λ file. ReadGives (λ bytes.
 pub record AreFromSource {S : Type 0} (known : List ℕ → Option File) (reads : S → List ℕ → Bool → S → Type 0) (before : S)
     (turns : List Turn) (after : S) : Type 0 where
   pub files : All (IsFromSource known) (files_of turns)
-  pub reads : ReadsAll reads before (reads_of turns) after
+  pub in_order : ReadsAll reads before (reads_of turns) after
 
 -- A request of a number was answered: with this turn, from one state to another, and with a text unless memory ran out.
 pub record IsTurn {S : Type 0} (known : List ℕ → Option File) (reads : S → List ℕ → Bool → S → Type 0) (before : S) (s : State) (n : ℕ)

@@ -39,7 +39,7 @@ file_given view read = option_map (file_read view) read
 pub record IsRead {S : Type 0} (known : List ℕ → Option File) (reads : S → List ℕ → Bool → S → Type 0) (before : S)
     (name : Option (List ℕ)) (file : Option File) (after : S) : Type 0 where
   pub files : All (IsFromSource known) (option_to_list (given name file))
-  pub reads : ReadsAll reads before (map (λ f. (f.0, is_ok f.1)) (option_to_list (given name file))) after
+  pub in_order : ReadsAll reads before (map (λ f. (f.0, is_ok f.1)) (option_to_list (given name file))) after
 
 -- the state behind a change
 abbrev pub changed : State → Change → State

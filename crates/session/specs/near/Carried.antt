@@ -1,5 +1,5 @@
 -- What an account holds, as trades that come to it.
-use Rattle.std.specs.Prelude.{◌<◌, ◌≤◌, ⊤, ⊥, ℕ, ◌-◌, List, [], map, option_map, slice_get, unwrap_or}
+use Rattle.std.specs.Prelude.{◌<◌, ◌≤◌, ⊤, ℕ, ◌-◌, List, [], map, option_map, slice_get, unwrap_or}
 use Rattle.span_tables.specs.declared.portfolios.Holding.{Holding}
 use Rattle.span_tables.specs.declared.records.Contract.{Contract}
 use Rattle.binding.specs.declared.trades.Trade.{Trade}
