@@ -1,4 +1,5 @@
 mod CarriedLemmas
+mod CarryLemmas
 mod CutLemmas
 mod FieldLemmas
 mod FormLemmas

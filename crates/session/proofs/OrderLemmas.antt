@@ -1,19 +1,35 @@
 -- Trades of one order that are bound on what its account holds.
 use Rattle.std.proofs.Common.{◌≡◌, ◌∙◌, ◌<◌, ℕ, Bool, true, false, List, [], ◌∷◌, length, map, sym, ap, subst, arith, slice_get}
-use Rattle.std.proofs.Common.{Option, Some, None, Ok, Err}
-use Rattle.std.specs.Prelude.{MatchBool, ⊤, option_map}
+use Rattle.std.proofs.Common.{Option, Some, None, Ok, Err, refl}
+use Rattle.std.specs.Prelude.{All, MatchBool, ⊤, bytes_eq, find, option_map, slice_index_or, unwrap_or}
 use Rattle.span_tables.specs.Faults.{ok_unless}
 use Rattle.span_tables.specs.Holdings.{fits}
 use Rattle.span_tables.specs.Net.{AccountHoldings}
-use Rattle.span_tables.specs.Orders.{account_of_order, orders_in, positions_of_order}
+use Rattle.span_tables.specs.Orders.{account_of_order, holdings_among, orders_in, positions_of_order}
+use Rattle.span_tables.specs.Tables.{AcceptedTables}
+use Rattle.span_tables.specs.declared.portfolios.Holding.{Holding}
 use Rattle.span_tables.specs.declared.records.Contract.{Contract}
 use Rattle.span_tables.specs.declared.records.OrderRecord.{OrderRecord}
 use Rattle.span_tables.proofs.MergedLaws.{holdings_with_fits}
 use Rattle.binding.specs.OrderBinding.{TriedOrder, TriedOrders, holdings_before, order_bind_fault, orders_bound, tried_order}
 use Rattle.binding.specs.declared.faults.OrderBindFault.{OrderBindFault}
 use Rattle.binding.specs.declared.trades.Trade.{Trade}
+use Rattle.explanation.proofs.FileLemmas.{found_fits}
+use Rattle.step_scheduler.specs.Rows.{RowView}
+use Rattle.whatif.specs.near.Numbers.{AreNumbers, IsTried, no_order, order_at}
+use Rattle.whatif.specs.declared.numbers.Numbers.{Numbers}
 use Rattle.session.specs.Answers.{trade_records}
 use Rattle.session.proofs.TriedLemmas.{one_order}
+
+-- what an account holds among portfolios fits, if they do
+among_fits : (n : ℕ) (own : List AccountHoldings) (name : List ℕ) → All (λ p. fits n p.holdings ≡ true) own
+    → fits n (holdings_among own name) ≡ true
+among_fits n own name all = by (find (λ p. bytes_eq p.account name) own) refl
+  where
+    by : (o : Option AccountHoldings) → find (λ p. bytes_eq p.account name) own ≡ o
+        → fits n (unwrap_or (option_map (λ (p : AccountHoldings). p.holdings) o) []) ≡ true
+    by None e = refl
+    by (Some p) e = found_fits n name own p e all
 
 module _ (contracts : List Contract) (own : List AccountHoldings) where
   abbrev found : List OrderRecord → TriedOrders
@@ -77,3 +93,34 @@ module _ (contracts : List Contract) (own : List AccountHoldings) where
         subst (λ (p : AccountHoldings). fits (length contracts) p.holdings ≡ true) (sym (after_is after e))
         (holdings_with_fits contracts (holdings_before own records order) (positions_of_order records order)
         (account_of_order records order))
+
+    -- what the account holds before them
+    pub before_is : (hs : List Holding) → option_map (λ (o : TriedOrder). o.before.holdings) (slice_get tried.orders 0) ≡ Some hs
+        → hs ≡ (tried_order contracts own (trade_records order account trades) order).before.holdings
+    before_is hs e =
+        let first = ap (λ orders. option_map (λ (o : TriedOrder). o.before.holdings) (slice_get orders 0)) one_tried in
+        let both : Some (this.before.holdings) ≡ Some hs = sym first ∙ e in
+        cc
+
+    pub before_fits : All (λ p. fits (length contracts) p.holdings ≡ true) own → (hs : List Holding)
+        → option_map (λ (o : TriedOrder). o.before.holdings) (slice_get tried.orders 0) ≡ Some hs → fits (length contracts) hs ≡ true
+    before_fits all hs e =
+        subst (λ held. fits (length contracts) held ≡ true) (sym (before_is hs e))
+        (among_fits (length contracts) own (account_of_order (trade_records order account trades) order) all)
+
+    -- they are the order of number 0
+    pub first_is : order_at tried 0 ≡ tried_order contracts own (trade_records order account trades) order
+    first_is = ap (λ orders. slice_index_or orders 0 no_order) one_tried
+
+    -- and are tried, by the numbers before them and the row behind them
+    pub tried_is : (t : AcceptedTables) (numbers : Numbers) (row : RowView) (hs : List Holding) (after : AccountHoldings)
+        → row.set.tables ≡ t → row.portfolio ≡ after → AreNumbers t hs numbers
+        → option_map (λ (o : TriedOrder). o.before.holdings) (slice_get tried.orders 0) ≡ Some hs
+        → option_map (λ (o : TriedOrder). o.after) (slice_get tried.orders 0) ≡ Some after
+        → IsTried t (order_at tried 0) numbers row
+    tried_is t numbers row hs after tables portfolio are before behind = record {
+      tables_are = tables;
+      before_is = subst (λ held. AreNumbers t held numbers)
+          (before_is hs before ∙ sym (ap (λ (o : TriedOrder). o.before.holdings) first_is)) are;
+      after_is = portfolio ∙ after_is after behind ∙ sym (ap (λ (o : TriedOrder). o.after) first_is);
+    }
