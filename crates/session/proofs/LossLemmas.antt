@@ -74,7 +74,7 @@ module _ (old new : List Contract) (account : List ℕ) where
   test earlier r = cond (foreign r) (Some (λ at. fault.UnknownContract at r.order)) None
 
   -- what is found of holdings behind so many records
-  Found : ℕ → List Holding → Option OrderBindFault → Type 0
+  abbrev Found : ℕ → List Holding → Option OrderBindFault → Type 0
   Found n hs None = find (is_unknown new) (held hs) ≡ None
   Found n hs (Some (fault.UnknownContract at order)) =
       (k : ℕ) × (at ≡ n + 1 + k) × (k < length hs) × (find (is_unknown new) (held hs) ≡ slice_get (held hs) k)
@@ -134,11 +134,11 @@ module _ (old new : List Contract) (account : List ℕ) where
   both_at (h ∷ hs) zero lt = refl
   both_at (h ∷ hs) (suc k) lt = both_at hs k (omega (arith, lt))
 
-  loss_memory : (e : OrderBindFault) → is_bind_memory e ≡ true → {trades : List Trade} → loss account trades e ≡ refused.Memory
-  loss_memory (fault.UnknownContract at order) memory = cc
-  loss_memory (fault.NetOutOfRange at order) memory = refl
-  loss_memory (fault.TooManyHeld at order) memory = refl
-  loss_memory fault.OutOfMemory memory = refl
+  loss_memory : (trades : List Trade) (e : OrderBindFault) → is_bind_memory e ≡ true → loss account trades e ≡ refused.Memory
+  loss_memory trades (fault.UnknownContract at order) memory = cc
+  loss_memory trades (fault.NetOutOfRange at order) memory = refl
+  loss_memory trades (fault.TooManyHeld at order) memory = refl
+  loss_memory trades fault.OutOfMemory memory = refl
 
   -- ---- what the account comes to hold
 
@@ -214,11 +214,11 @@ module _ (old new : List Contract) (account : List ℕ) where
       none_lost e = subst (Found 0 (h ∷ hs)) e found
 
       loss_of : (e : OrderBindFault) → Found 0 (h ∷ hs) (Some e) → IsLoss (length (h ∷ hs)) e
-      loss_of (fault.UnknownContract at order) found =
-          (let at_is = found.1 in omega (arith, at_is), let at_is = found.1 in let lt = found.2 in omega (arith, at_is, lt))
-      loss_of (fault.NetOutOfRange at order) found = found
-      loss_of (fault.TooManyHeld at order) found = found
-      loss_of fault.OutOfMemory found = tt
+      loss_of (fault.UnknownContract at order) f =
+          (let at_is = f.1 in omega (arith, at_is), let at_is = f.1 in let lt = f.2 in omega (arith, at_is, lt))
+      loss_of (fault.NetOutOfRange at order) f = f
+      loss_of (fault.TooManyHeld at order) f = f
+      loss_of fault.OutOfMemory f = tt
 
       -- if there is one, it names one of the trades
       some_lost : (e : OrderBindFault) → order_bind_fault new [] (records (h ∷ hs)) ≡ Some e → IsLoss (length (h ∷ hs)) e
@@ -233,15 +233,15 @@ module _ (old new : List Contract) (account : List ℕ) where
 
       found_lost : (e : OrderBindFault) → is_bind_memory e ≡ false → Found 0 (h ∷ hs) (Some e)
           → option_map lost_by (find (is_unknown new) (held (h ∷ hs))) ≡ Some (loss account (held_trades old (h ∷ hs)) e)
-      found_lost (fault.UnknownContract at order) named found =
-          let at_is = found.1 in
-          let k : at - 1 ≡ found.0 = omega (arith, at_is) in
-          ap (option_map lost_by) found.3 ∙ both_at (h ∷ hs) found.0 found.2
+      found_lost (fault.UnknownContract at order) named f =
+          let at_is = f.1 in
+          let k : at - 1 ≡ f.0 = omega (arith, at_is) in
+          ap (option_map lost_by) f.3 ∙ both_at (h ∷ hs) f.0 f.2
           ∙ ap (λ n. Some (refused.Lost account
           (unwrap_or (option_map (λ (t : Trade). t.contract) (slice_get (held_trades old (h ∷ hs)) n)) []))) (sym k)
-      found_lost (fault.NetOutOfRange at order) named found = absurd found
-      found_lost (fault.TooManyHeld at order) named found = absurd found
-      found_lost fault.OutOfMemory named found = cc
+      found_lost (fault.NetOutOfRange at order) named f = absurd f
+      found_lost (fault.TooManyHeld at order) named f = absurd f
+      found_lost fault.OutOfMemory named f = cc
 
       -- and what is refused is the contract that is lost
       pub lost_if : (e : OrderBindFault) → MatchBool (is_bind_memory e) ⊤ (order_bind_fault new [] (records (h ∷ hs)) ≡ Some e)
@@ -253,7 +253,7 @@ module _ (old new : List Contract) (account : List ℕ) where
               → MatchBool (is_memory r) ⊤ (option_map lost_by (find (is_unknown new) (held (h ∷ hs))) ≡ Some (refused_by r))
           by true memory unfit =
               if_memory (option_map lost_by (find (is_unknown new) (held (h ∷ hs))) ≡ Some (refused_by r)) (is_memory r)
-              (refuses_memory r (refuses ∙ loss_memory e memory))
+              (refuses_memory r (refuses ∙ loss_memory (held_trades old (h ∷ hs)) e memory))
           by false named unfit =
               if_either (is_memory r) (found_lost e named (subst (Found 0 (h ∷ hs)) unfit found) ∙ ap Some (sym refuses))
 

@@ -18,67 +18,89 @@ returns-then-is_empty-clause-carried c =
     c.in_ok-copied.ensures
     ∙ carried_none c.args.old.now.contracts c.args.set.now.tables.contracts c.args.portfolio.now.account c.args.portfolio.now.holdings none
 
--- the trades are those of what is held
-trades : (c : goal.After-deref) → c.deref.result.now ≡ held_trades c.args.old.now.contracts c.args.portfolio.now.holdings
-trades c =
-    c.deref.ensures.value ∙ c.in_ok-trades.ensures
-    ∙ ap (λ contracts. held_trades contracts c.args.portfolio.now.holdings) c.contracts.ensures.value
-
-some : (c : goal.After-deref) → 0 < length c.args.portfolio.now.holdings
-some c = search rules
-
-apart : (c : goal.After-deref) → has_repeat (λ x y. bytes_eq x.id y.id) c.args.set.now.tables.contracts ≡ false
-apart c =
-    subst (λ (t : AcceptedTables). has_repeat (λ x y. bytes_eq x.id y.id) t.contracts ≡ false) c.tables.ensures c.known.ensures.contracts_apart
-
 pub after-requires : goal.after-requires
 after-requires c =
-    subst AreTradable (sym (trades c))
-    (trades_tradable c.args.old.now.contracts c.args.portfolio.now.holdings (some c) c.holdings.ensures.kept.nets)
+    let old = c.args.old.now.contracts in
+    let new = c.args.set.now.tables.contracts in
+    let hs = c.args.portfolio.now.holdings in
+    let account = c.args.portfolio.now.account in
+    let some : 0 < length hs = search rules in
+    let trades : c.deref.result.now ≡ held_trades old hs =
+    c.deref.ensures.value ∙ c.in_ok-trades.ensures ∙ ap (λ contracts. held_trades contracts hs) c.contracts.ensures.value in
+    subst AreTradable (sym trades) (trades_tradable old hs some c.holdings.ensures.kept.nets)
 
 pub returns-in-Ok-clause-carried : goal.returns-in-Ok-clause-carried
 returns-in-Ok-clause-carried c =
+    let old = c.args.old.now.contracts in
     let new = c.args.set.now.tables.contracts in
-    let name = c.account.ensures in
-    carried_some c.args.old.now.contracts new c.args.portfolio.now.account c.contracts.ensures.limits.contracts_apart (apart c)
-    c.args.portfolio.now.holdings (some c) c.in-Ok.after
-    (c.in-Ok.ensures.after ∙ (λ i. (tried_order new [] (trade_records (name i) (name i) (trades c i)) (name i)).after))
+    let hs = c.args.portfolio.now.holdings in
+    let account = c.args.portfolio.now.account in
+    let some : 0 < length hs = search rules in
+    let apart : has_repeat (λ x y. bytes_eq x.id y.id) new ≡ false =
+    subst (λ (t : AcceptedTables). has_repeat (λ x y. bytes_eq x.id y.id) t.contracts ≡ false) c.tables.ensures c.known.ensures.contracts_apart in
+    let trades : c.deref.result.now ≡ held_trades old hs =
+    c.deref.ensures.value ∙ c.in_ok-trades.ensures ∙ ap (λ contracts. held_trades contracts hs) c.contracts.ensures.value in
+    let name : c.account.result.now ≡ account = c.account.ensures in
+    carried_some old new account c.contracts.ensures.limits.contracts_apart apart hs some c.in-Ok.after
+    (c.in-Ok.ensures.after ∙ (λ i. (tried_order new [] (trade_records (name i) (name i) (trades i)) (name i)).after))
 
 pub returns-in-Ok-clause-known : goal.returns-in-Ok-clause-known
 returns-in-Ok-clause-known c =
+    let old = c.args.old.now.contracts in
     let new = c.args.set.now.tables.contracts in
-    let name = c.account.ensures in
-    none_lost_some c.args.old.now.contracts new c.args.portfolio.now.account c.contracts.ensures.limits.contracts_apart (apart c)
-    c.args.portfolio.now.holdings (some c) c.requires c.holdings.ensures.kept
-    (sym (λ i. order_bind_fault new [] (trade_records (name i) (name i) (trades c i))) ∙ c.in-Ok.ensures.fit)
+    let hs = c.args.portfolio.now.holdings in
+    let account = c.args.portfolio.now.account in
+    let some : 0 < length hs = search rules in
+    let apart : has_repeat (λ x y. bytes_eq x.id y.id) new ≡ false =
+    subst (λ (t : AcceptedTables). has_repeat (λ x y. bytes_eq x.id y.id) t.contracts ≡ false) c.tables.ensures c.known.ensures.contracts_apart in
+    let trades : c.deref.result.now ≡ held_trades old hs =
+    c.deref.ensures.value ∙ c.in_ok-trades.ensures ∙ ap (λ contracts. held_trades contracts hs) c.contracts.ensures.value in
+    let name : c.account.result.now ≡ account = c.account.ensures in
+    let same : order_bind_fault new [] (trade_records c.account.result.now c.account.result.now c.deref.result.now)
+    ≡ order_bind_fault new [] (trade_records account account (held_trades old hs)) =
+    λ i. order_bind_fault new [] (trade_records (name i) (name i) (trades i)) in
+    none_lost_some old new account c.contracts.ensures.limits.contracts_apart apart hs some c.requires c.holdings.ensures.kept
+    (sym same ∙ c.in-Ok.ensures.fit)
 
 pub lost-requires : goal.lost-requires
 lost-requires c =
+    let old = c.args.old.now.contracts in
     let new = c.args.set.now.tables.contracts in
-    let name = c.account.ensures in
-    let held = c.deref-in-Err.ensures.value ∙ c.in_ok-trades.ensures
-    ∙ ap (λ contracts. held_trades contracts c.args.portfolio.now.holdings) c.contracts.ensures.value in
+    let hs = c.args.portfolio.now.holdings in
+    let account = c.args.portfolio.now.account in
+    let some : 0 < length hs = search rules in
+    let apart : has_repeat (λ x y. bytes_eq x.id y.id) new ≡ false =
+    subst (λ (t : AcceptedTables). has_repeat (λ x y. bytes_eq x.id y.id) t.contracts ≡ false) c.tables.ensures c.known.ensures.contracts_apart in
+    let trades : c.deref.result.now ≡ held_trades old hs =
+    c.deref.ensures.value ∙ c.in_ok-trades.ensures ∙ ap (λ contracts. held_trades contracts hs) c.contracts.ensures.value in
+    let name : c.account.result.now ≡ account = c.account.ensures in
+    let held : c.deref-in-Err.result.now ≡ held_trades old hs =
+    c.deref-in-Err.ensures.value ∙ c.in_ok-trades.ensures ∙ ap (λ contracts. held_trades contracts hs) c.contracts.ensures.value in
     let same : order_bind_fault new [] (trade_records c.account.result.now c.account.result.now c.deref.result.now)
-    ≡ order_bind_fault new [] (trade_records c.args.portfolio.now.account c.args.portfolio.now.account
-    (held_trades c.args.old.now.contracts c.args.portfolio.now.holdings)) =
-    λ i. order_bind_fault new [] (trade_records (name i) (name i) (trades c i)) in
-    subst (λ n. IsLoss n c.in-Err.fault)
-    (sym (ap length held ∙ length-map c.args.portfolio.now.holdings (held_trade c.args.old.now.contracts)))
-    (loss_some c.args.old.now.contracts new c.args.portfolio.now.account c.contracts.ensures.limits.contracts_apart (apart c)
-    c.args.portfolio.now.holdings (some c) c.requires c.holdings.ensures.kept c.in-Err.fault
-    (subst (λ found. MatchBool (is_memory c.in-Err.fault) ⊤ (found ≡ Some c.in-Err.fault)) same c.in-Err.ensures.unfit))
+    ≡ order_bind_fault new [] (trade_records account account (held_trades old hs)) =
+    λ i. order_bind_fault new [] (trade_records (name i) (name i) (trades i)) in
+    let unfit = subst (λ found. MatchBool (is_memory c.in-Err.fault) ⊤ (found ≡ Some c.in-Err.fault)) same c.in-Err.ensures.unfit in
+    subst (λ n. IsLoss n c.in-Err.fault) (sym (ap length held ∙ length-map hs (held_trade old)))
+    (loss_some old new account c.contracts.ensures.limits.contracts_apart apart hs some c.requires c.holdings.ensures.kept
+    c.in-Err.fault unfit)
 
 pub returns-clause-lost : goal.returns-clause-lost
 returns-clause-lost c =
+    let old = c.args.old.now.contracts in
     let new = c.args.set.now.tables.contracts in
-    let name = c.account.ensures in
-    let held = c.deref-in-Err.ensures.value ∙ c.in_ok-trades.ensures
-    ∙ ap (λ contracts. held_trades contracts c.args.portfolio.now.holdings) c.contracts.ensures.value in
+    let hs = c.args.portfolio.now.holdings in
+    let account = c.args.portfolio.now.account in
+    let some : 0 < length hs = search rules in
+    let apart : has_repeat (λ x y. bytes_eq x.id y.id) new ≡ false =
+    subst (λ (t : AcceptedTables). has_repeat (λ x y. bytes_eq x.id y.id) t.contracts ≡ false) c.tables.ensures c.known.ensures.contracts_apart in
+    let trades : c.deref.result.now ≡ held_trades old hs =
+    c.deref.ensures.value ∙ c.in_ok-trades.ensures ∙ ap (λ contracts. held_trades contracts hs) c.contracts.ensures.value in
+    let name : c.account.result.now ≡ account = c.account.ensures in
+    let held : c.deref-in-Err.result.now ≡ held_trades old hs =
+    c.deref-in-Err.ensures.value ∙ c.in_ok-trades.ensures ∙ ap (λ contracts. held_trades contracts hs) c.contracts.ensures.value in
     let same : order_bind_fault new [] (trade_records c.account.result.now c.account.result.now c.deref.result.now)
-    ≡ order_bind_fault new [] (trade_records c.args.portfolio.now.account c.args.portfolio.now.account
-    (held_trades c.args.old.now.contracts c.args.portfolio.now.holdings)) =
-    λ i. order_bind_fault new [] (trade_records (name i) (name i) (trades c i)) in
-    lost_some c.args.old.now.contracts new c.args.portfolio.now.account c.contracts.ensures.limits.contracts_apart (apart c)
-    c.args.portfolio.now.holdings (some c) c.requires c.holdings.ensures.kept c.in-Err.fault
-    (subst (λ found. MatchBool (is_memory c.in-Err.fault) ⊤ (found ≡ Some c.in-Err.fault)) same c.in-Err.ensures.unfit)
-    c.lost.result (c.lost.ensures ∙ ap (λ ts. loss c.args.portfolio.now.account ts c.in-Err.fault) held)
+    ≡ order_bind_fault new [] (trade_records account account (held_trades old hs)) =
+    λ i. order_bind_fault new [] (trade_records (name i) (name i) (trades i)) in
+    let unfit = subst (λ found. MatchBool (is_memory c.in-Err.fault) ⊤ (found ≡ Some c.in-Err.fault)) same c.in-Err.ensures.unfit in
+    lost_some old new account c.contracts.ensures.limits.contracts_apart apart hs some c.requires c.holdings.ensures.kept
+    c.in-Err.fault unfit c.lost.result (c.lost.ensures ∙ ap (λ ts. loss account ts c.in-Err.fault) held)
