@@ -1,7 +1,7 @@
 -- The accounts of a session that are carried to another set, one after the other.
 use Rattle.std.proofs.Common.{◌≡◌, ◌∙◌, ℕ, suc, Bool, true, false, cond, List, [], ◌∷◌, ◌++◌, length, map, flat_map, Option, Some, None}
 use Rattle.std.proofs.Common.{refl, sym, ap, subst, arith, append_assoc}
-use Rattle.std.specs.Prelude.{All, bytes_eq, find}
+use Rattle.std.specs.Prelude.{⊤, All, MatchBool, bytes_eq, find, option_map}
 use Rattle.std.specs.List.{IsDistinct}
 use Rattle.std.proofs.lemmas.List.{append-nil}
 use Rattle.std.proofs.lemmas.List.Elements.{All-append, All-cons}
@@ -13,6 +13,8 @@ use Rattle.span_tables.specs.declared.records.PositionRecord.{PositionRecord}
 use Rattle.binding.specs.Binding.{is_unknown}
 use Rattle.worker_pool.specs.Batches.{FitsSet}
 use Rattle.session.specs.Accounts.{held_records, lost_record, under_contracts}
+use Rattle.session.specs.Refusals.{Refused}
+use Rattle.session.specs.Refusals as refused
 use Rattle.session.specs.near.Carried.{AreCarried}
 use Rattle.session.specs.near.Kept.{AreOnce}
 
@@ -76,6 +78,22 @@ module _ (set : SetView) (old : List Contract) (all : List AccountHoldings) wher
     first_lost held found =
         so_far.lost
         ∙ find_front (is_unknown set.tables.contracts) (held_records old p) (flat_map (held_records old) left) held found
+
+    abbrev lost_by : PositionRecord → Refused
+    lost_by held = refused.Lost held.account held.contract
+
+    pub lost_first : (b : Bool) (w : Refused)
+        → MatchBool b ⊤ (option_map (λ held. refused.Lost held.account held.contract)
+        (find (is_unknown set.tables.contracts) (held_records old p)) ≡ Some w)
+        → MatchBool b ⊤ (option_map (λ held. refused.Lost held.account held.contract)
+        (lost_record old set.tables.contracts all) ≡ Some w)
+    lost_first true w h = tt
+    lost_first false w h = by (find (is_unknown set.tables.contracts) (held_records old p)) refl h
+      where
+        by : (o : Option PositionRecord) → find (is_unknown set.tables.contracts) (held_records old p) ≡ o
+            → option_map lost_by o ≡ Some w → option_map lost_by (lost_record old set.tables.contracts all) ≡ Some w
+        by (Some held) e h = ap (option_map lost_by) (first_lost held e) ∙ h
+        by None e h = cc
 
   -- at the end all are carried
   pub all_carried : (carried : List AccountHoldings) → AreCarried set old all [] carried
