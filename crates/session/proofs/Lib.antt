@@ -1,3 +1,4 @@
+mod AnswerLemmas
 mod CarriedLemmas
 mod CarryLemmas
 mod CutLemmas

@@ -40,7 +40,7 @@ use Rattle.session.specs.near.Carried.{IsLoss, held_trade, held_trades, loss}
 use Rattle.session.proofs.CarriedLemmas.{carried_holds, holdings_alone}
 use Rattle.session.proofs.TriedLemmas.{account_is}
 
-refuses_memory : (r : Refusal) → refused_by r ≡ refused.Memory → is_memory r ≡ true
+pub refuses_memory : (r : Refusal) → refused_by r ≡ refused.Memory → is_memory r ≡ true
 refuses_memory (refusal.Form e) is = cc
 refuses_memory refusal.UnknownAccount is = cc
 refuses_memory refusal.TooManyAccounts is = cc
@@ -52,11 +52,11 @@ refuses_memory (refusal.Lost a c) is = cc
 refuses_memory (refusal.File name) is = cc
 refuses_memory refusal.Memory is = refl
 
-if_memory : (A : Type 0) (b : Bool) → b ≡ true → MatchBool b ⊤ A
+pub if_memory : (A : Type 0) (b : Bool) → b ≡ true → MatchBool b ⊤ A
 if_memory A true is = tt
 if_memory A false is = cc
 
-if_either : {A : Type 0} (b : Bool) → A → MatchBool b ⊤ A
+pub if_either : {A : Type 0} (b : Bool) → A → MatchBool b ⊤ A
 if_either true a = tt
 if_either false a = a
 

@@ -11,7 +11,7 @@ ghost use Rattle.session.specs.near.Answering.{Answers, is_memory};
 ghost use Rattle.session.specs.near.InUse.{state_of};
 ghost use Rattle.statement_text.specs.Statement.{row_text};
 ghost use Rattle.std.specs.Arc.{arc_value};
-ghost use Rattle.std.specs.Prelude.{◌≡◌, [], ⊤, IfErr, IfOk, MatchBool, None, Some};
+ghost use Rattle.std.specs.Prelude.{◌≡◌, ◌+◌, ◌*◌, [], ⊤, IfErr, IfOk, MatchBool, None, Some};
 ghost use Rattle.worker_pool.specs.Batches.{AllFit, FitsSet};
 
 use crate::accounts::Accounts;
