@@ -3,6 +3,7 @@ use Rattle.std.proofs.Common.{◌≡◌, ◌∙◌, ◌<◌, ◌++◌, ℕ, suc,
 use Rattle.std.proofs.Common.{Option, Some, None, Result, Ok, Err, refl}
 use Rattle.std.specs.Prelude.{All, MatchBool, ⊤, bytes_eq, find, if◌then◌else◌}
 use Rattle.std.specs.Option.{option_to_list}
+use Rattle.std.proofs.lemmas.List.Elements.{All-cons}
 use Rattle.span_tables.specs.Faults.{ok_unless}
 use Rattle.span_tables.specs.Holdings.{fits}
 use Rattle.span_tables.specs.Net.{AccountHoldings}
@@ -29,12 +30,9 @@ own_fits n accounts name all = by (account_named accounts name) refl
   where
     by : (o : Option AccountHoldings) → account_named accounts name ≡ o → All (λ p. fits n p.holdings ≡ true) (option_to_list o)
     by None e = λ k d lt. absurd (omega (arith, lt))
-    by (Some p) e = one where
-      here : fits n p.holdings ≡ true
-      here = found_fits n name accounts p e all
-
-      one : (k : ℕ) (d : AccountHoldings) → k < 1 → fits n (cond true p d).holdings ≡ true
-      one k d lt = here
+    by (Some p) e =
+        All-cons (λ (q : AccountHoldings). fits n q.holdings ≡ true) p [] (found_fits n name accounts p e all)
+        (λ k d lt. absurd (omega (arith, lt)))
 
 unfit_memory : (names : ℕ) (e : OrderBindFault) → is_bind_memory e ≡ true → unfit names e ≡ refused.Memory
 unfit_memory names (fault.UnknownContract at order) memory = cc
