@@ -157,7 +157,7 @@ fn refusal_of(fault: RequestFault) -> Refusal<'static>
 
 // The line of a refusal, in place of what the text had.
 fn refuse(out: &mut Vec<u8>, number: u64, refusal: Refusal<'_>) -> Result<(), AllocError>
-    ensures { OnOk result ((is_memory refusal ≡ false) × (out.new.items ≡ line (refused_line number (refused_by refusal)))) }
+    ensures { OnOk result ((is_memory refusal.entry ≡ false) × (out.new.items ≡ line (refused_line number (refused_by refusal.entry)))) }
 {
     if matches!(refusal, Refusal::Memory) {
         return Err(AllocError);
@@ -260,8 +260,8 @@ impl Session {
             }
             Request::Set { file: name } => {
                 return match file {
+                    _ if name == STDIN => Err(Refusal::File { name }),
                     Some(read) => self.push_set(out, name, read),
-                    None if name == STDIN => Err(Refusal::File { name }),
                     None => Err(Refusal::Memory),
                 };
             }
