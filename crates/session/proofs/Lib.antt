@@ -4,5 +4,6 @@ mod FieldLemmas
 mod FormLemmas
 mod LossLemmas
 mod TradeLemmas
+pub mod TurnLemmas
 pub mod AccountLemmas
 pub mod TriedLemmas
