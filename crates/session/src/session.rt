@@ -247,6 +247,7 @@ impl Session {
     }
 
     // Appends the lines of the answer to a request, and gives what it changes. The file is the one that it asks for, as it was read.
+    #[tactic(auto, unfolding(crate::specs::Answers::answer_to))]
     fn push_lines<'a, R: Threads + Wait + Clock + Sync, G: Gate>(
         &mut self,
         workers: &Workers<'_, R, G>,
