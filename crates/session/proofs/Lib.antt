@@ -1,4 +1,5 @@
 mod CarriedLemmas
+pub mod ConversationLemmas
 mod CutLemmas
 mod FieldLemmas
 mod FormLemmas
