@@ -8,4 +8,6 @@ mod LossLemmas
 mod OrderLemmas
 mod TradeLemmas
 pub mod AccountLemmas
+pub mod ConversationLemmas
 pub mod TriedLemmas
+pub mod TurnLemmas

@@ -8,6 +8,8 @@ ghost use Rattle.session.specs.Requests.{IsTradable, asked_by};
 ghost use Rattle.session.specs.Requests.{is_memory as is_memory_fault};
 ghost use Rattle.session.specs.declared.refusals.Refusal.TheVariants as refusal;
 ghost use Rattle.session.specs.near.Answering.{Answers, ChangeFits, IsRead, changed, file_given, file_read, is_memory};
+ghost use Rattle.session.specs.near.InUse.{state_of};
+ghost use Rattle.session.specs.near.Kept.{AreOnce};
 ghost use Rattle.sources.specs.Files.{File};
 ghost use Rattle.statement.specs.Counts.{counts_line};
 ghost use Rattle.statement_text.specs.Gives.{Gives};
@@ -15,6 +17,7 @@ ghost use Rattle.statement_text.specs.Statement.{statement_text};
 ghost use Rattle.span_money.specs.LineFields.{line};
 ghost use Rattle.std.specs.Arc.{arc_value};
 ghost use Rattle.std.specs.Prelude.{◌≡◌, ◌++◌, [], ⊤, Err, IfErr, IfOk, List, MatchBool, Ok, OnErr, OnOk, Option, Some, false, is_err, ℕ};
+ghost use Rattle.worker_pool.specs.Batches.{AllFit};
 
 use crate::accounts::Accounts;
 use crate::answer_texts::{push_done, push_refused};
@@ -26,7 +29,7 @@ use crate::set_in_use::SetInUse;
 use acceptance::accepting::{Accepted, accept_together, set_of};
 use plan_compiler::set::CompiledSet;
 use sources::{ReadFault, Sources};
-use span_tables::portfolios::Portfolio;
+use span_tables::portfolios::{Portfolio, Portfolios};
 use statement::counts::write_counts;
 use statement::margin::margin_of_portfolios;
 use statement_text::faults::SpanFault;
@@ -157,7 +160,7 @@ fn refusal_of(fault: RequestFault) -> Refusal<'static>
 
 // The line of a refusal, in place of what the text had.
 fn refuse(out: &mut Vec<u8>, number: u64, refusal: Refusal<'_>) -> Result<(), AllocError>
-    ensures { OnOk result ((is_memory refusal ≡ false) × (out.new.items ≡ line (refused_line number (refused_by refusal)))) }
+    ensures { OnOk result ((is_memory refusal.entry ≡ false) × (out.new.items ≡ line (refused_line number (refused_by refusal.entry)))) }
 {
     if matches!(refusal, Refusal::Memory) {
         return Err(AllocError);
@@ -184,6 +187,20 @@ impl Session {
             portfolios,
             ..
         } = accept_together(rt, alloc, params, positions, workers)?;
+        Ok(Session::over(alloc, set, portfolios)?)
+    }
+
+    // Opens a session over a set and portfolios.
+    fn over(
+        alloc: Global,
+        set: Arc<CompiledSet>,
+        portfolios: Portfolios,
+    ) -> Result<Opened, AllocError>
+        requires fits { AllFit (arc_value set) portfolios }
+        requires once { AreOnce portfolios }
+        ensures state { IfOk result (λ o. o.session ≡ state_of (arc_value set) portfolios) }
+        ensures text { IfOk result (λ o. o.text.items ≡ opening_text o.session) }
+    {
         let accounts = Accounts::new(alloc, portfolios)?;
         let set = SetInUse::new(alloc, set)?;
         let text = opening(alloc, &set)?;
@@ -230,6 +247,7 @@ impl Session {
     }
 
     // Appends the lines of the answer to a request, and gives what it changes. The file is the one that it asks for, as it was read.
+    #[tactic(auto, unfolding(crate::specs::Answers::answer_to))]
     fn push_lines<'a, R: Threads + Wait + Clock + Sync, G: Gate>(
         &mut self,
         workers: &Workers<'_, R, G>,
@@ -241,7 +259,7 @@ impl Session {
         requires tradable { IsTradable request }
         ensures same { self.new ≡ self.old }
         ensures answer { Answers (changed self.old) result out.new.items
-            (answer_to self.old (file_given (λ v. v.items) file) (asked_by request)) }
+            (answer_to self.old (file_given (λ v. v.items) file) (asked_by request.entry)) }
         ensures fits { IfOk result (ChangeFits self.old) }
     {
         let (alloc, set, accounts) = (self.alloc, &mut self.set, &self.accounts);
@@ -260,8 +278,8 @@ impl Session {
             }
             Request::Set { file: name } => {
                 return match file {
+                    _ if name == STDIN => Err(Refusal::File { name }),
                     Some(read) => self.push_set(out, name, read),
-                    None if name == STDIN => Err(Refusal::File { name }),
                     None => Err(Refusal::Memory),
                 };
             }
@@ -299,12 +317,12 @@ impl Session {
         requires empty { out.old.items ≡ [] }
         requires tradable { IsTradable request }
         ensures text { OnOk result (out.new.items
-            ≡ answer_text number (answer_to self.old (file_given (λ v. v.items) file) (asked_by request))) }
+            ≡ answer_text number (answer_to self.old (file_given (λ v. v.items) file) (asked_by request.entry))) }
         ensures state { OnOk result (self.new
-            ≡ state_after self.old (answer_to self.old (file_given (λ v. v.items) file) (asked_by request))) }
+            ≡ state_after self.old (answer_to self.old (file_given (λ v. v.items) file) (asked_by request.entry))) }
         ensures same { OnErr result (self.new ≡ self.old) }
         ensures refused { IfErr result (λ r. MatchBool (is_memory r) ⊤
-            (answer_to self.old (file_given (λ v. v.items) file) (asked_by request) ≡ Err (refused_by r))) }
+            (answer_to self.old (file_given (λ v. v.items) file) (asked_by request.entry) ≡ Err (refused_by r))) }
     {
         let change = self.push_lines(workers, out, request, file)?;
         push_done(out, number)?;
