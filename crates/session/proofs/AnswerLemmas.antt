@@ -98,7 +98,7 @@ module _ (s : State) (order account : List ℕ) (trades : List Trade) (some : 0 
       ap (if_fit 2 (tried_answer s)) (tried_ok none)
       ∙ (λ i. Ok (let a : Answered = record { lines = sym is i; state = s } in a))
 
-if_no : {A : Type 0} (b : Bool) (x y : A) → b ≡ false → (if b then x else y) ≡ y
+pub if_no : {A : Type 0} (b : Bool) (x y : A) → b ≡ false → (if b then x else y) ≡ y
 if_no true x y e = cc
 if_no false x y e = refl
 

@@ -1,8 +1,10 @@
 mod AnswerLemmas
 mod CarriedLemmas
 mod CarryLemmas
+mod ConversationLaws
 mod CutLemmas
 mod FieldLemmas
+mod FillLemmas
 mod FormLemmas
 mod LossLemmas
 mod OrderLemmas

@@ -112,6 +112,16 @@ abbrev pub state_behind : State → List Turn → State
 state_behind s [] = s
 state_behind s (turn ∷ turns) = state_behind (state_after s (answer_of s turn)) turns
 
+-- the answers to requests without their numbers
+abbrev pub outcomes : State → List Turn → List (Result Answered Refused)
+outcomes s [] = []
+outcomes s (turn ∷ turns) = answer_of s turn ∷ outcomes (state_after s (answer_of s turn)) turns
+
+-- the texts of answers, numbered from the first on
+abbrev pub numbered_from : ℕ → List (Result Answered Refused) → List (List ℕ)
+numbered_from n [] = []
+numbered_from n (answer ∷ answers) = answer_text n answer ∷ numbered_from (n + 1) answers
+
 -- answer 0, which opens a session
 abbrev pub opening_text : State → List ℕ
 opening_text s = answer_text 0 (unchanged s (line (counts_line s.tables)))
