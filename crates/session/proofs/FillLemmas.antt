@@ -40,10 +40,10 @@ first_renamed f (x ∷ xs) = refl
 module _ (these those : Trade → OrderRecord) (f g : List OrderRecord → OrderRecord → Option (ℕ → OrderBindFault))
     (rename : OrderBindFault → OrderBindFault)
     (same : (es : List Trade) (t : Trade)
-    → option_map (λ (h : ℕ → OrderBindFault). λ (at : ℕ). rename (h at)) (f (map these es) (these t)) ≡ g (map those es) (those t)) where
+    → option_map {T = ℕ → OrderBindFault} {U = ℕ → OrderBindFault} (λ h. λ at. rename (h at)) (f (map these es) (these t)) ≡ g (map those es) (those t)) where
   one_renamed : (o : Option (ℕ → OrderBindFault)) (n : ℕ)
       → map rename (option_to_list (option_map (λ (h : ℕ → OrderBindFault). h n) o))
-      ≡ option_to_list (option_map (λ (h : ℕ → OrderBindFault). h n) (option_map (λ (h : ℕ → OrderBindFault). λ (at : ℕ). rename (h at)) o))
+      ≡ option_to_list (option_map (λ (h : ℕ → OrderBindFault). h n) (option_map {T = ℕ → OrderBindFault} {U = ℕ → OrderBindFault} (λ h. λ at. rename (h at)) o))
   one_renamed None n = refl
   one_renamed (Some h) n = refl
 
@@ -131,7 +131,7 @@ module _ (contracts : List Contract) (accounts : List AccountHoldings) (order ac
 
   if_renamed : (name : ℕ → List ℕ → OrderBindFault) → ((at : ℕ) → renamed account (name at order) ≡ name at account)
       → (b d : Bool) → b ≡ d
-      → option_map (λ (h : ℕ → OrderBindFault). λ (at : ℕ). renamed account (h at)) (cond b (Some (λ at. name at order)) None)
+      → option_map {T = ℕ → OrderBindFault} {U = ℕ → OrderBindFault} (λ h. λ at. renamed account (h at)) (cond b (Some (λ at. name at order)) None)
       ≡ cond d (Some (λ at. name at account)) None
   if_renamed name is true true e = λ i. Some (λ at. is at i)
   if_renamed name is false false e = refl
@@ -150,15 +150,30 @@ module _ (contracts : List Contract) (accounts : List AccountHoldings) (order ac
   many_same : many (map these all) order ≡ many (map those all) account
   many_same = ap (λ held. nat_lt MAX_HELD (length held)) after_same
 
-  pub fault_same : option_map (renamed account) (order_bind_fault contracts accounts (map these all))
-      ≡ order_bind_fault contracts accounts (map those all)
-  unfolding order_bind_fault
-  fault_same =
-      let unknown = faults_renamed these those
+  abbrev foreign_of : (Trade → OrderRecord) → List OrderBindFault
+  foreign_of r = all_unfit_by (λ (x : OrderRecord). x.order) fault.UnknownContract (λ earlier x. not (known x)) (map r all)
+
+  abbrev nets_of : (Trade → OrderRecord) → List OrderBindFault
+  nets_of r =
+      all_unfit_by (λ (x : OrderRecord). x.order) fault.NetOutOfRange (among (λ (x : OrderRecord). x.contract) contracts (λ earlier x.
+      not (list_any (λ y. bytes_eq y.order x.order && bytes_eq y.contract x.contract) earlier) && over (map r all) x.order x.contract))
+      (map r all)
+
+  abbrev held_of : (Trade → OrderRecord) → List OrderBindFault
+  held_of r =
+      all_unfit_by (λ (x : OrderRecord). x.order) fault.TooManyHeld (among (λ (x : OrderRecord). x.contract) contracts (λ earlier x.
+      not (list_any (λ y. bytes_eq y.order x.order) earlier) && many (map r all) x.order)) (map r all)
+
+  foreign_same : map (renamed account) (foreign_of these) ≡ foreign_of those
+  foreign_same =
+      faults_renamed these those
       (λ earlier r. if not (known r) then Some (λ at. fault.UnknownContract at r.order) else None)
       (λ earlier r. if not (known r) then Some (λ at. fault.UnknownContract at r.order) else None) (renamed account)
-      (λ es t. if_renamed fault.UnknownContract (λ at. refl) (not (known (these t))) (not (known (those t))) refl) [] all in
-      let nets = faults_renamed these those
+      (λ es t. if_renamed fault.UnknownContract (λ at. refl) (not (known (these t))) (not (known (those t))) refl) [] all
+
+  nets_same : map (renamed account) (nets_of these) ≡ nets_of those
+  nets_same =
+      faults_renamed these those
       (λ earlier r. if (known r && (not (list_any (λ x. bytes_eq x.order r.order && bytes_eq x.contract r.contract) (filter known earlier))
       && over (map these all) r.order r.contract)) then Some (λ at. fault.NetOutOfRange at r.order) else None)
       (λ earlier r. if (known r && (not (list_any (λ x. bytes_eq x.order r.order && bytes_eq x.contract r.contract) (filter known earlier))
@@ -168,8 +183,11 @@ module _ (contracts : List Contract) (accounts : List AccountHoldings) (order ac
       && over (map these all) order t.contract))
       (known (those t) && (not (list_any (λ x. bytes_eq x.order account && bytes_eq x.contract t.contract) (filter known (map those es)))
       && over (map those all) account t.contract))
-      (λ i. known (these t) && (not (any_same t.contract es i) && over_same t.contract i))) [] all in
-      let held = faults_renamed these those
+      (λ i. known (these t) && (not (any_same t.contract es i) && over_same t.contract i))) [] all
+
+  held_same : map (renamed account) (held_of these) ≡ held_of those
+  held_same =
+      faults_renamed these those
       (λ earlier r. if (known r && (not (list_any (λ x. bytes_eq x.order r.order) (filter known earlier))
       && many (map these all) r.order)) then Some (λ at. fault.TooManyHeld at r.order) else None)
       (λ earlier r. if (known r && (not (list_any (λ x. bytes_eq x.order r.order) (filter known earlier))
@@ -177,17 +195,17 @@ module _ (contracts : List Contract) (accounts : List AccountHoldings) (order ac
       (λ es t. if_renamed fault.TooManyHeld (λ at. refl)
       (known (these t) && (not (list_any (λ x. bytes_eq x.order order) (filter known (map these es))) && many (map these all) order))
       (known (those t) && (not (list_any (λ x. bytes_eq x.order account) (filter known (map those es))) && many (map those all) account))
-      (λ i. known (these t) && (not (owner_same es i) && many_same i))) [] all in
-      let f1 = all_unfit_by (λ (r : OrderRecord). r.order) fault.UnknownContract (λ earlier r. not (known r)) (map these all) in
-      let f2 = all_unfit_by (λ (r : OrderRecord). r.order) fault.NetOutOfRange (among (λ (r : OrderRecord). r.contract) contracts (λ earlier r.
-      not (list_any (λ x. bytes_eq x.order r.order && bytes_eq x.contract r.contract) earlier) && over (map these all) r.order r.contract))
-      (map these all) in
-      let f3 = all_unfit_by (λ (r : OrderRecord). r.order) fault.TooManyHeld (among (λ (r : OrderRecord). r.contract) contracts (λ earlier r.
-      not (list_any (λ x. bytes_eq x.order r.order) earlier) && many (map these all) r.order)) (map these all) in
-      sym (first_renamed (renamed account) (f1 ++ f2 ++ f3))
-      ∙ ap first_of (map-append (renamed account) f1 (f2 ++ f3)
-      ∙ ap (λ back. map (renamed account) f1 ++ back) (map-append (renamed account) f2 f3)
-      ∙ (λ i. unknown i ++ nets i ++ held i))
+      (λ i. known (these t) && (not (owner_same es i) && many_same i))) [] all
+
+  -- the fault of the trades is the same, but for the name
+  pub fault_same : option_map (renamed account) (order_bind_fault contracts accounts (map these all))
+      ≡ order_bind_fault contracts accounts (map those all)
+  unfolding order_bind_fault
+  fault_same =
+      sym (first_renamed (renamed account) (foreign_of these ++ (nets_of these ++ held_of these)))
+      ∙ ap first_of (map-append (renamed account) (foreign_of these) (nets_of these ++ held_of these)
+      ∙ ap (λ back. map (renamed account) (foreign_of these) ++ back) (map-append (renamed account) (nets_of these) (held_of these))
+      ∙ (λ i. foreign_same i ++ (nets_same i ++ held_same i)))
 
 -- ---- a FILL behind a TRY
 

@@ -1,4 +1,5 @@
 mod AnswerLemmas
+mod BookLemmas
 mod CarriedLemmas
 mod CarryLemmas
 mod ConversationLaws
