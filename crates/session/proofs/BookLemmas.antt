@@ -1,12 +1,13 @@
 -- The fills of a session as records behind those of the position file.
 use Rattle.std.proofs.Common.{◌≡◌, ◌∙◌, ◌<◌, ℕ, suc, zero, Bool, true, false, cond, not, ◌||◌, ◌&&◌, List, [], ◌∷◌, ◌++◌, length, map, filter}
 use Rattle.std.proofs.Common.{Option, Some, None, Result, Ok, Err, refl, sym, ap, subst, arith, append_assoc}
-use Rattle.std.specs.Prelude.{ℤ, pos, ◌+ℤ◌, All, bytes_eq, find, if◌then◌else◌}
+use Rattle.std.specs.Prelude.{ℤ, pos, ◌+ℤ◌, ◌+◌, ◌-◌, ◌*◌, ◌%◌, ◌==◌, ⊤, All, bytes_eq, drop, find, if◌then◌else◌, is_ok, nat_le, nat_lt}
 use Rattle.std.specs.List.{list_any}
-use Rattle.std.proofs.lemmas.Bool.{or_parts}
+use Rattle.std.proofs.lemmas.Bool.{and_parts, eqb-true, ltb-true, or_parts}
 use Rattle.std.proofs.lemmas.Int.{ints}
 use Rattle.std.proofs.lemmas.List.{append-nil}
-use Rattle.std.proofs.lemmas.List.Elements.{All-map}
+use Rattle.std.proofs.Common.{length-drop}
+use Rattle.std.proofs.lemmas.List.Elements.{All-head, All-map, All-tail}
 use Rattle.span_money.specs.Numbers.{int_sum_by}
 use Rattle.span_tables.specs.Faults.{ok_unless}
 use Rattle.span_tables.specs.Names.{distinct, has_repeat, is_among}
@@ -27,12 +28,30 @@ use Rattle.binding.specs.declared.faults.OrderBindFault.{OrderBindFault}
 use Rattle.binding.specs.declared.trades.Trade.{Trade}
 use Rattle.binding.proofs.AccountLaws.{bytes_eq-flip, bytes_eq-refl}
 use Rattle.binding.proofs.TriedLaws.{after_by_positions}
-use Rattle.statement_text.specs.Statement.{accepted_of, portfolios_under}
+use Rattle.desks.specs.declared.desk.TheConstants.{MAX_LINE}
+use Rattle.explanation.specs.Explanation.{account_text}
+use Rattle.sources.specs.Files.{File}
+use Rattle.span_csv.specs.PositionFaults.{positions_of}
+use Rattle.span_csv.specs.Records.{text_at}
+use Rattle.statement_text.specs.Statement.{accepted_of, and_then, portfolios_under, row_text, same, statement_bound, statement_of}
+use Rattle.statement_text.specs.Statement.{statement_text, statement_under}
+use Rattle.statement_text.specs.declared.faults.SpanFault.{SpanFault}
 use Rattle.statement_text.specs.declared.faults.SpanFault.TheVariants as span
 use Rattle.whatif.proofs.BehindLaws.{accepted_behind}
-use Rattle.session.specs.Accounts.{with_account}
-use Rattle.session.specs.Answers.{Answered, State, fill_answer, filled_answer, has_no_place, if_fit, trade_records, tried}
-use Rattle.session.specs.Conversations.{booked_records}
+use Rattle.session.specs.Accounts.{account_named, position_records, with_account}
+use Rattle.session.specs.Answers.{Answered, State, answer_to, fill_answer, filled_answer, has_no_place, if_fit, lines_of, opened}
+use Rattle.session.specs.Answers.{trade_records, tried, tried_answer, unchanged}
+use Rattle.session.specs.Conversations.{Turn, answer_of, answer_on, booked_by, booked_in, booked_records, is_set, request_on}
+use Rattle.session.specs.Conversations.{state_after, state_behind}
+use Rattle.session.specs.Positions.{position_lines}
+use Rattle.session.specs.Requests.{Asked, asked_for, fields_of, file_request, form_fault, has_trades, is_file_name, may_have}
+use Rattle.session.specs.Requests.{request_by, request_of, request_with, trades_of, unless, word_named}
+use Rattle.session.specs.Requests as asked
+use Rattle.session.specs.declared.faults.RequestFault.{RequestFault}
+use Rattle.session.specs.declared.faults.RequestFault.TheVariants as form
+use Rattle.session.specs.declared.requests.TheConstants.{MAX_TRADES}
+use Rattle.session.specs.declared.requests.Word.{Word}
+use Rattle.session.specs.declared.requests.Word.TheVariants as word
 use Rattle.session.specs.Refusals.{Refused}
 use Rattle.session.specs.Refusals as refused
 use Rattle.session.proofs.TriedLemmas.{account_is, one_order}
@@ -272,3 +291,203 @@ module _ (params : List ℕ) (t : AcceptedTables) (accepted : accepted_of params
             ∙ accounts_behind t.contracts positions account u us)),
         ap (λ (s : State). s.tables) is.state,
       )
+
+-- ---- a FILL has trades
+
+trades_some : (fields : List (List ℕ)) → 1 < length fields → 0 < length (trades_of fields)
+trades_some [] some = absurd (omega (arith, some))
+trades_some (c ∷ []) some = absurd (omega (arith, some))
+trades_some (c ∷ q ∷ rest) some = omega arith
+
+-- what is asked for is no FILL without trades
+HasTrades : Asked → Type 0
+HasTrades (asked.Fill account trades) = 0 < length trades
+HasTrades _ = ⊤
+
+fill_some : (fields : List (List ℕ)) → has_trades 1 (length fields) ≡ true → 0 < length (trades_of (drop 2 fields))
+fill_some fields has =
+    let parts = and_parts (nat_lt 2 (length fields) && nat_le (length fields) (2 + 2 * MAX_TRADES)) ((length fields - 2) % 2 == 0) has in
+    let front = and_parts (nat_lt 2 (length fields)) (nat_le (length fields) (2 + 2 * MAX_TRADES)) parts.0 in
+    let most : 2 < length fields = ltb-true 2 (length fields) front.0 in
+    let even : (length fields - 2) % 2 ≡ 0 = eqb-true ((length fields - 2) % 2) 0 parts.1 in
+    let size = length-drop 2 fields in
+    trades_some (drop 2 fields) (omega (arith, most, even, size))
+
+unless_has : (o : Option RequestFault) (what found : Asked) → HasTrades what → unless o what ≡ Ok found → HasTrades found
+unfolding HasTrades
+unless_has None what found has e = subst HasTrades (let same : what ≡ found = cc in same) has
+unless_has (Some f) what found has e = cc
+
+asked_has : (w : Word) (fields : List (List ℕ)) → may_have w (length fields) ≡ true → HasTrades (asked_for w fields)
+unfolding HasTrades
+asked_has word.Margin fields may = by (length fields == 1)
+  where
+    by : (b : Bool) → HasTrades (if b then asked.Margin else asked.MarginOf (text_at fields 1))
+    by true = tt
+    by false = tt
+asked_has word.Explain fields may = tt
+asked_has word.Try fields may = tt
+asked_has word.Fill fields may = fill_some fields may
+asked_has word.Set fields may = tt
+asked_has word.Positions fields may = tt
+
+by_has : (w : Word) (fields : List (List ℕ)) (found : Asked) → request_by w fields ≡ Ok found → HasTrades found
+by_has w fields found e = by (may_have w (length fields)) refl e
+  where
+    by : (b : Bool) → may_have w (length fields) ≡ b
+        → (if b then unless (form_fault w fields) (asked_for w fields) else Err form.FieldCount) ≡ Ok found → HasTrades found
+    by true may e = unless_has (form_fault w fields) (asked_for w fields) found (asked_has w fields may) e
+    by false may e = cc
+
+file_has : (line : List ℕ) (found : Asked) → file_request line ≡ Ok found → HasTrades found
+unfolding HasTrades
+file_has line found e = by (length (fields_of line) == 1) (is_file_name (drop 4 line)) e
+  where
+    by : (b d : Bool) → (if b then Err form.FieldCount else if d then Ok (asked.Set (drop 4 line)) else Err (form.BadName 2)) ≡ Ok found
+        → HasTrades found
+    by true d e = cc
+    by false true e = subst HasTrades (let same : asked.Set (drop 4 line) ≡ found = cc in same) tt
+    by false false e = cc
+
+with_has : (o : Option Word) (line : List ℕ) (found : Asked) → request_with o line ≡ Ok found → HasTrades found
+with_has None line found e = cc
+with_has (Some word.Margin) line found e = by_has word.Margin (fields_of line) found e
+with_has (Some word.Explain) line found e = by_has word.Explain (fields_of line) found e
+with_has (Some word.Try) line found e = by_has word.Try (fields_of line) found e
+with_has (Some word.Fill) line found e = by_has word.Fill (fields_of line) found e
+with_has (Some word.Set) line found e = file_has line found e
+with_has (Some word.Positions) line found e = by_has word.Positions (fields_of line) found e
+
+line_has : (line : List ℕ) (found : Asked) → request_of line ≡ Ok found → HasTrades found
+unfolding request_of
+line_has line found e = by (nat_lt MAX_LINE (length line)) e
+  where
+    by : (b : Bool) → (if b then Err form.LineTooLong else request_with (word_named (text_at (fields_of line) 0)) line) ≡ Ok found
+        → HasTrades found
+    by true e = cc
+    by false e = with_has (word_named (text_at (fields_of line) 0)) line found e
+
+request_has : (request : Option (List ℕ)) (found : Asked) → request_on request ≡ Ok found → HasTrades found
+request_has None found e = cc
+request_has (Some line) found e = line_has line found e
+
+-- ---- all requests
+
+module _ (params : List ℕ) (t : AcceptedTables) (accepted : accepted_of params ≡ Ok t) where
+  -- the state is that of positions
+  abbrev IsOf : List PositionRecord → State → Type 0
+  IsOf positions s = (portfolios_under t positions ≡ Ok s.accounts) × (s.tables ≡ t)
+
+  stays : (positions : List PositionRecord) (s : State) → IsOf positions s → IsOf (positions ++ []) s
+  stays positions s is = subst (λ ps. IsOf ps s) (sym (append-nil positions)) is
+
+  stays_as : (positions : List PositionRecord) (s : State) (a : Answered) → IsOf positions s → a.state ≡ s
+      → IsOf (positions ++ []) a.state
+  stays_as positions s a is same = subst (IsOf (positions ++ [])) (sym same) (stays positions s is)
+
+  lines_stay : (s : State) (text : AcceptedTables → AccountHoldings → List ℕ) (o : Option AccountHoldings) (a : Answered)
+      → lines_of s text o ≡ Ok a → a.state ≡ s
+  lines_stay s text None a e = cc
+  lines_stay s text (Some p) a e = cc
+
+  try_stays : (s : State) (r : Result TriedOrder OrderBindFault) (a : Answered) → if_fit 2 (tried_answer s) r ≡ Ok a → a.state ≡ s
+  try_stays s (Ok o) a e = cc
+  try_stays s (Err f) a e = cc
+
+  unchanged_stays : (s : State) (lines : List ℕ) (a : Answered) → unchanged s lines ≡ Ok a → a.state ≡ s
+  unchanged_stays s lines a e = cc
+
+  fill_behind : (positions : List PositionRecord) (s : State) (account : List ℕ) (trades : List Trade) → 0 < length trades
+      → IsOf positions s → (a : Answered) → fill_answer s account trades ≡ Ok a → IsOf (positions ++ booked_records account trades) a.state
+  fill_behind positions s account [] some is a e = absurd (omega (arith, some))
+  fill_behind positions s account (u ∷ us) some is a e =
+      let same : s ≡ record { tables = t; accounts = s.accounts } = λ i. record { tables = is.1 i; accounts = s.accounts } in
+      filled_behind params t accepted positions s.accounts is.0 account u us a
+      (ap (λ (x : State). fill_answer x account (u ∷ us)) (sym same) ∙ e)
+
+  asked_behind : (positions : List PositionRecord) (s : State) (file : Option File) (what : Asked) → HasTrades what
+      → is_set (Ok what) ≡ false → IsOf positions s → (a : Answered) → answer_to s file what ≡ Ok a
+      → IsOf (positions ++ booked_by (Ok what)) a.state
+  unfolding answer_to HasTrades
+  asked_behind positions s file asked.Margin has no is a e =
+      stays_as positions s a is (unchanged_stays s (statement_text s.tables s.accounts) a e)
+  asked_behind positions s file (asked.MarginOf name) has no is a e =
+      stays_as positions s a is (lines_stay s row_text (account_named s.accounts name) a e)
+  asked_behind positions s file (asked.Explain name) has no is a e =
+      stays_as positions s a is (lines_stay s account_text (account_named s.accounts name) a e)
+  asked_behind positions s file (asked.Try order name trades) has no is a e =
+      stays_as positions s a is (try_stays s (tried s order name trades) a e)
+  asked_behind positions s file (asked.Fill name trades) has no is a e = fill_behind positions s name trades has is a e
+  asked_behind positions s file (asked.Set name) has no is a e = cc
+  asked_behind positions s file asked.Positions has no is a e =
+      stays_as positions s a is (unchanged_stays s (position_lines (position_records s.tables.contracts s.accounts)) a e)
+
+  turn_behind : (positions : List PositionRecord) (s : State) (turn : Turn) → is_set (request_on turn.request) ≡ false
+      → IsOf positions s
+      → IsOf (positions ++ (if is_ok (answer_of s turn) then booked_by (request_on turn.request) else [])) (state_after s (answer_of s turn))
+  turn_behind positions s turn no is = by (answer_of s turn) refl
+    where
+      asked_of : (r : Result Asked RequestFault) → request_on turn.request ≡ r → (a : Answered) (b : Bool)
+          → (if b then Err refused.Memory else answer_on s turn.file r) ≡ Ok a → is_set r ≡ false
+          → IsOf (positions ++ booked_by r) a.state
+      asked_of r is_r a true e no = cc
+      asked_of (Err f) is_r a false e no = cc
+      asked_of (Ok what) is_r a false e no = asked_behind positions s turn.file what (request_has turn.request what is_r) no is a e
+
+      by : (r : Result Answered Refused) → answer_of s turn ≡ r
+          → IsOf (positions ++ (if is_ok r then booked_by (request_on turn.request) else [])) (state_after s r)
+      by (Err f) e = stays positions s is
+      by (Ok a) e = asked_of (request_on turn.request) refl a turn.is_out_of_memory e no
+
+  turns_behind : (turns : List Turn) (positions : List PositionRecord) (s : State)
+      → All (λ turn. is_set (request_on turn.request) ≡ false) turns → IsOf positions s
+      → IsOf (positions ++ booked_in s turns) (state_behind s turns)
+  turns_behind [] positions s no is = stays positions s is
+  turns_behind (turn ∷ turns) positions s no is =
+      let this : List PositionRecord = if is_ok (answer_of s turn) then booked_by (request_on turn.request) else [] in
+      let next = state_after s (answer_of s turn) in
+      subst (λ ps. IsOf ps (state_behind next turns)) (append_assoc positions this (booked_in next turns))
+      (turns_behind turns (positions ++ this) next
+      (All-tail (λ (x : Turn). is_set (request_on x.request) ≡ false) turn turns no)
+      (turn_behind positions s turn (All-head (λ (x : Turn). is_set (request_on x.request) ≡ false) turn turns no) is))
+
+  -- the accounts behind requests are those of the records with all that they book behind them
+  pub all_behind : (records : List PositionRecord) (accounts : List AccountHoldings) (turns : List Turn)
+      → portfolios_under t records ≡ Ok accounts → All (λ turn. is_set (request_on turn.request) ≡ false) turns
+      → (portfolios_under t (records ++ booked_in (record { tables = t; accounts = accounts }) turns)
+      ≡ Ok (state_behind (record { tables = t; accounts = accounts }) turns).accounts)
+      × ((state_behind (record { tables = t; accounts = accounts }) turns).tables ≡ t)
+  all_behind records accounts turns bound no =
+      turns_behind turns records (record { tables = t; accounts = accounts }) no (bound, refl)
+
+-- so the statement of a file with these records is what MARGIN answers
+pub margin_behind : (params positions more : List ℕ) (s : State) (turns : List Turn) (records : List PositionRecord)
+    → opened params positions ≡ Ok s → positions_of positions ≡ Ok records
+    → All (λ turn. is_set (request_on turn.request) ≡ false) turns → positions_of more ≡ Ok (records ++ booked_in s turns)
+    → statement_of params more ≡ Ok (statement_text (state_behind s turns).tables (state_behind s turns).accounts)
+unfolding opened statement_of statement_under statement_bound
+margin_behind params positions more s turns records open read no behind = by (accepted_of params) refl open
+  where
+    -- the tables are accepted
+    by : (r : Result AcceptedTables SpanFault) → accepted_of params ≡ r
+        → and_then same r (λ t. and_then span.Positions (positions_of positions) (λ rs.
+        and_then same (portfolios_under t rs) (λ accounts. Ok (record { tables = t; accounts = accounts })))) ≡ Ok s
+        → statement_of params more ≡ Ok (statement_text (state_behind s turns).tables (state_behind s turns).accounts)
+    by (Err f) is e = cc
+    by (Ok t) is e = bound_by (portfolios_under t records) refl
+        (ap (λ r. and_then span.Positions r (λ rs.
+        and_then same (portfolios_under t rs) (λ accounts. Ok (let x : State = record { tables = t; accounts = accounts } in x)))) (sym read) ∙ e)
+      where
+        bound_by : (r : Result (List AccountHoldings) SpanFault) → portfolios_under t records ≡ r
+            → and_then same (portfolios_under t records) (λ accounts. Ok (let x : State = record { tables = t; accounts = accounts } in x)) ≡ Ok s
+            → statement_of params more ≡ Ok (statement_text (state_behind s turns).tables (state_behind s turns).accounts)
+        bound_by (Err f) found e = let known = rw found at e in cc
+        bound_by (Ok accounts) found e =
+            let state : record { tables = t; accounts = accounts } ≡ s = (let known = rw found at e in cc) in
+            let done = all_behind params t is records accounts turns found no in
+            let after = ap (λ (x : State). state_behind x turns) state in
+            let file : positions_of more ≡ Ok (records ++ booked_in (record { tables = t; accounts = accounts }) turns) =
+            behind ∙ ap (λ (x : State). Ok (records ++ booked_in x turns)) (sym state) in
+            rw (is, file, done.0)
+            (λ i. Ok (statement_text ((sym (done.1)) i) (state_behind (record { tables = t; accounts = accounts }) turns).accounts))
+            ∙ ap (λ (x : State). Ok (statement_text x.tables x.accounts)) after

@@ -2,10 +2,16 @@
 ghost use Rattle.binding.specs.OrderBinding.{TriedOrder};
 ghost use Rattle.binding.specs.declared.faults.OrderBindFault.{OrderBindFault};
 ghost use Rattle.binding.specs.declared.trades.Trade.{Trade};
-ghost use Rattle.session.specs.Answers.{State, fill_answer, filled_answer, has_no_place, tried, unfit};
-ghost use Rattle.session.specs.Conversations.{Turn, answer_of, answers_from, numbered_from, outcomes, state_after, state_behind};
+ghost use Rattle.session.specs.Answers.{State, fill_answer, filled_answer, has_no_place, opened, tried, unfit};
+ghost use Rattle.session.specs.Conversations.{Turn, answer_of, answers_from, booked_in, is_set, numbered_from, outcomes, request_on};
+ghost use Rattle.session.specs.Conversations.{state_after, state_behind};
 ghost use Rattle.session.specs.Refusals.{Refused};
-ghost use Rattle.std.specs.Prelude.{◌≡◌, ◌+◌, ◌<◌, ◌++◌, ◌∷◌, Err, List, Ok, false, length, ℕ};
+ghost use Rattle.span_csv.specs.PositionFaults.{positions_of};
+ghost use Rattle.span_tables.specs.Net.{AccountHoldings};
+ghost use Rattle.span_tables.specs.Tables.{AcceptedTables};
+ghost use Rattle.span_tables.specs.declared.records.PositionRecord.{PositionRecord};
+ghost use Rattle.statement_text.specs.Statement.{accepted_of, portfolios_under, statement_of, statement_text};
+ghost use Rattle.std.specs.Prelude.{◌≡◌, ◌+◌, ◌<◌, ◌++◌, ◌∷◌, All, Err, List, Ok, false, length, ℕ};
 
 /// The answers to requests are the first answers to these requests and any that follow.
 pub fn answers_are_the_first_of_more()
@@ -39,4 +45,19 @@ pub fn a_fill_behind_a_try_has_its_total()
     ensures refused { (s : State) (order account : List ℕ) (trades : List Trade) (e : OrderBindFault) → 0 < length trades
         → has_no_place s account ≡ false → tried s order account trades ≡ Err e
         → fill_answer s account trades ≡ Err (unfit 1 e) }
+{}
+
+/// Without another set, the accounts behind requests are those of the records that the session was opened with and, behind these, the
+/// records of all fills that were not refused. So MARGIN answers what `margin` prints for the parameter file and a position file that has
+/// these records.
+pub fn fills_are_records_behind_the_positions()
+    ensures accounts { (params : List ℕ) (t : AcceptedTables) (records : List PositionRecord) (accounts : List AccountHoldings)
+        (turns : List Turn) → accepted_of params ≡ Ok t → portfolios_under t records ≡ Ok accounts
+        → All (λ turn. is_set (request_on turn.request) ≡ false) turns
+        → portfolios_under t (records ++ booked_in (record { tables = t; accounts = accounts }) turns)
+        ≡ Ok (state_behind (record { tables = t; accounts = accounts }) turns).accounts }
+    ensures margin { (params positions more : List ℕ) (s : State) (turns : List Turn) (records : List PositionRecord)
+        → opened params positions ≡ Ok s → positions_of positions ≡ Ok records
+        → All (λ turn. is_set (request_on turn.request) ≡ false) turns → positions_of more ≡ Ok (records ++ booked_in s turns)
+        → statement_of params more ≡ Ok (statement_text (state_behind s turns).tables (state_behind s turns).accounts) }
 {}
