@@ -466,7 +466,7 @@ pub margin_behind : (params positions more : List ℕ) (s : State) (turns : List
     → All (λ turn. is_set (request_on turn.request) ≡ false) turns → positions_of more ≡ Ok (records ++ booked_in s turns)
     → statement_of params more ≡ Ok (statement_text (state_behind s turns).tables (state_behind s turns).accounts)
 unfolding opened statement_of statement_under statement_bound
-margin_behind params positions more s turns records open read no behind = by (accepted_of params) refl open
+margin_behind params positions more s turns records begun read no behind = by (accepted_of params) refl begun
   where
     -- the tables are accepted
     by : (r : Result AcceptedTables SpanFault) → accepted_of params ≡ r

@@ -202,10 +202,10 @@ module _ (contracts : List Contract) (accounts : List AccountHoldings) (order ac
       ≡ order_bind_fault contracts accounts (map those all)
   unfolding order_bind_fault
   fault_same =
-      sym (first_renamed (renamed account) (foreign_of these ++ (nets_of these ++ held_of these)))
-      ∙ ap first_of (map-append (renamed account) (foreign_of these) (nets_of these ++ held_of these)
-      ∙ ap (λ back. map (renamed account) (foreign_of these) ++ back) (map-append (renamed account) (nets_of these) (held_of these))
-      ∙ (λ i. foreign_same i ++ (nets_same i ++ held_same i)))
+      sym (first_renamed (renamed account) ((foreign_of these ++ nets_of these) ++ held_of these))
+      ∙ ap first_of (map-append (renamed account) (foreign_of these ++ nets_of these) (held_of these)
+      ∙ ap (λ front. front ++ map (renamed account) (held_of these)) (map-append (renamed account) (foreign_of these) (nets_of these))
+      ∙ (λ i. (foreign_same i ++ nets_same i) ++ held_same i))
 
 -- ---- a FILL behind a TRY
 

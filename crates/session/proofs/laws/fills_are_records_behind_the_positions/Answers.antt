@@ -6,4 +6,4 @@ returns-clause-accounts c = λ params t records accounts turns accepted bound no
 
 pub returns-clause-margin : goal.returns-clause-margin
 returns-clause-margin c =
-    λ params positions more s turns records open read no behind. margin_behind params positions more s turns records open read no behind
+    λ params positions more s turns records begun read no behind. margin_behind params positions more s turns records begun read no behind
