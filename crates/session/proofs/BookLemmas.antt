@@ -409,47 +409,47 @@ module _ (params : List ℕ) (t : AcceptedTables) (accepted : accepted_of params
       → is_set (Ok what) ≡ false → IsOf positions s → (a : Answered) → answer_to s file what ≡ Ok a
       → IsOf (positions ++ booked_by (Ok what)) a.state
   unfolding answer_to HasTrades
-  asked_behind positions s file asked.Margin has no is a e =
+  asked_behind positions s file asked.Margin has kept is a e =
       stays_as positions s a is (unchanged_stays s (statement_text s.tables s.accounts) a e)
-  asked_behind positions s file (asked.MarginOf name) has no is a e =
+  asked_behind positions s file (asked.MarginOf name) has kept is a e =
       stays_as positions s a is (lines_stay s row_text (account_named s.accounts name) a e)
-  asked_behind positions s file (asked.Explain name) has no is a e =
+  asked_behind positions s file (asked.Explain name) has kept is a e =
       stays_as positions s a is (lines_stay s account_text (account_named s.accounts name) a e)
-  asked_behind positions s file (asked.Try order name trades) has no is a e =
+  asked_behind positions s file (asked.Try order name trades) has kept is a e =
       stays_as positions s a is (try_stays s (tried s order name trades) a e)
-  asked_behind positions s file (asked.Fill name trades) has no is a e = fill_behind positions s name trades has is a e
-  asked_behind positions s file (asked.Set name) has no is a e = cc
-  asked_behind positions s file asked.Positions has no is a e =
+  asked_behind positions s file (asked.Fill name trades) has kept is a e = fill_behind positions s name trades has is a e
+  asked_behind positions s file (asked.Set name) has kept is a e = cc
+  asked_behind positions s file asked.Positions has kept is a e =
       stays_as positions s a is (unchanged_stays s (position_lines (position_records s.tables.contracts s.accounts)) a e)
 
   turn_behind : (positions : List PositionRecord) (s : State) (turn : Turn) → is_set (request_on turn.request) ≡ false
       → IsOf positions s
       → IsOf (positions ++ (if is_ok (answer_of s turn) then booked_by (request_on turn.request) else [])) (state_after s (answer_of s turn))
-  turn_behind positions s turn no is = by (answer_of s turn) refl
+  turn_behind positions s turn kept is = by (answer_of s turn) refl
     where
       asked_of : (r : Result Asked RequestFault) → request_on turn.request ≡ r → (a : Answered) (b : Bool)
           → (if b then Err refused.Memory else answer_on s turn.file r) ≡ Ok a → is_set r ≡ false
           → IsOf (positions ++ booked_by r) a.state
-      asked_of r is_r a true e no = cc
-      asked_of (Err f) is_r a false e no = cc
-      asked_of (Ok what) is_r a false e no = asked_behind positions s turn.file what (request_has turn.request what is_r) no is a e
+      asked_of r is_r a true e kept = cc
+      asked_of (Err f) is_r a false e kept = cc
+      asked_of (Ok what) is_r a false e kept = asked_behind positions s turn.file what (request_has turn.request what is_r) kept is a e
 
       by : (r : Result Answered Refused) → answer_of s turn ≡ r
           → IsOf (positions ++ (if is_ok r then booked_by (request_on turn.request) else [])) (state_after s r)
       by (Err f) e = stays positions s is
-      by (Ok a) e = asked_of (request_on turn.request) refl a turn.is_out_of_memory e no
+      by (Ok a) e = asked_of (request_on turn.request) refl a turn.is_out_of_memory e kept
 
   turns_behind : (turns : List Turn) (positions : List PositionRecord) (s : State)
       → All (λ turn. is_set (request_on turn.request) ≡ false) turns → IsOf positions s
       → IsOf (positions ++ booked_in s turns) (state_behind s turns)
-  turns_behind [] positions s no is = stays positions s is
-  turns_behind (turn ∷ turns) positions s no is =
+  turns_behind [] positions s kept is = stays positions s is
+  turns_behind (turn ∷ turns) positions s kept is =
       let this : List PositionRecord = if is_ok (answer_of s turn) then booked_by (request_on turn.request) else [] in
       let next = state_after s (answer_of s turn) in
       subst (λ ps. IsOf ps (state_behind next turns)) (append_assoc positions this (booked_in next turns))
       (turns_behind turns (positions ++ this) next
-      (All-tail (λ (x : Turn). is_set (request_on x.request) ≡ false) turn turns no)
-      (turn_behind positions s turn (All-head (λ (x : Turn). is_set (request_on x.request) ≡ false) turn turns no) is))
+      (All-tail (λ (x : Turn). is_set (request_on x.request) ≡ false) turn turns kept)
+      (turn_behind positions s turn (All-head (λ (x : Turn). is_set (request_on x.request) ≡ false) turn turns kept) is))
 
   -- the accounts behind requests are those of the records with all that they book behind them
   pub all_behind : (records : List PositionRecord) (accounts : List AccountHoldings) (turns : List Turn)
@@ -457,8 +457,8 @@ module _ (params : List ℕ) (t : AcceptedTables) (accepted : accepted_of params
       → (portfolios_under t (records ++ booked_in (record { tables = t; accounts = accounts }) turns)
       ≡ Ok (state_behind (record { tables = t; accounts = accounts }) turns).accounts)
       × ((state_behind (record { tables = t; accounts = accounts }) turns).tables ≡ t)
-  all_behind records accounts turns bound no =
-      turns_behind turns records (record { tables = t; accounts = accounts }) no (bound, refl)
+  all_behind records accounts turns bound kept =
+      turns_behind turns records (record { tables = t; accounts = accounts }) kept (bound, refl)
 
 -- so the statement of a file with these records is what MARGIN answers
 pub margin_behind : (params positions more : List ℕ) (s : State) (turns : List Turn) (records : List PositionRecord)
@@ -466,7 +466,7 @@ pub margin_behind : (params positions more : List ℕ) (s : State) (turns : List
     → All (λ turn. is_set (request_on turn.request) ≡ false) turns → positions_of more ≡ Ok (records ++ booked_in s turns)
     → statement_of params more ≡ Ok (statement_text (state_behind s turns).tables (state_behind s turns).accounts)
 unfolding opened statement_of statement_under statement_bound
-margin_behind params positions more s turns records begun read no behind = by (accepted_of params) refl begun
+margin_behind params positions more s turns records begun read kept behind = by (accepted_of params) refl begun
   where
     -- the tables are accepted
     by : (r : Result AcceptedTables SpanFault) → accepted_of params ≡ r
@@ -484,7 +484,7 @@ margin_behind params positions more s turns records begun read no behind = by (a
         bound_by (Err f) found e = let known = rw found at e in cc
         bound_by (Ok accounts) found e =
             let state : record { tables = t; accounts = accounts } ≡ s = (let known = rw found at e in cc) in
-            let done = all_behind params t is records accounts turns found no in
+            let done = all_behind params t is records accounts turns found kept in
             let after = ap (λ (x : State). state_behind x turns) state in
             let file : positions_of more ≡ Ok (records ++ booked_in (record { tables = t; accounts = accounts }) turns) =
             behind ∙ ap (λ (x : State). Ok (records ++ booked_in x turns)) (sym state) in
