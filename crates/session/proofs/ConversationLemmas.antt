@@ -4,6 +4,8 @@ use Rattle.std.proofs.Common.{◌∙◌, ap, subst, arith}
 use Rattle.std.specs.List.{cons_option}
 use Rattle.std.specs.Option.{option_to_list}
 use Rattle.std.specs.Prelude.{⊤, All, MatchBool, OnOk, if◌then◌else◌, is_err, is_ok}
+use Rattle.desks.specs.Events.{Event, told_by}
+use Rattle.desks.specs.declared.desk.DeskFault.{DeskFault}
 use Rattle.sources.specs.Files.{File}
 use Rattle.sources.specs.Reads.{ReadsAll}
 use Rattle.span_money.specs.LineFields.{line}
@@ -15,6 +17,7 @@ use Rattle.session.specs.Refusals as refused
 use Rattle.session.specs.Requests.{Asked, request_of}
 use Rattle.session.specs.Requests.{is_memory as is_memory_fault}
 use Rattle.session.specs.declared.faults.RequestFault.{RequestFault}
+use Rattle.session.specs.declared.faults.RequestFault.TheVariants as form
 use Rattle.session.specs.declared.refusals.Refusal.{Refusal}
 use Rattle.session.specs.declared.refusals.Refusal.TheVariants as refusal
 use Rattle.session.specs.near.Answering.{IsRead, is_memory}
@@ -116,3 +119,20 @@ module _ {S : Type 0} (known : List ℕ → Option File) (reads : S → List ℕ
         state = same ∙ refused_state s turn.is_out_of_memory answer r is (λ saved. (spoken saved).0);
         answer = λ saved. (spoken saved).1 ∙ refused_text n turn.is_out_of_memory answer r is (λ h. (spoken h).0) saved;
       }
+
+  -- a request that is too long was refused
+  pub turn_too_long : (memory : Bool) → after ≡ before → next ≡ s
+      → (memory ≡ false → written ≡ line (refused_line n (refused.Form form.LineTooLong)))
+      → IsTurn known reads before s n (record { request = None; file = None; is_out_of_memory = memory }) after next written
+  turn_too_long memory source same spoken =
+      turn_refused (record { request = None; file = None; is_out_of_memory = memory }) (refusal.Form form.LineTooLong)
+      (turn_reads_none known reads before after None memory source) same refl (λ saved. (refl, spoken saved))
+
+  -- a request whose answer a desk was told
+  pub turn_served : (turn : Turn) (request : Option (List ℕ)) (old new : List Event) (result : Result (Unit {0}) DeskFault)
+      (text : List ℕ) → IsTurn known reads before s n turn after next written → turn.request ≡ request
+      → text ≡ answer_text n (answer_of s turn) → new ≡ old ++ told_by result text
+      → (x : Turn) × (x.request ≡ request) × AreFromSource known reads before (x ∷ []) after
+      × (next ≡ state_after s (answer_of s x)) × (new ≡ old ++ told_by result (answer_text n (answer_of s x)))
+  turn_served turn request old new result text is asked told log =
+      (turn, asked, is.source, is.state, log ∙ ap (λ t. old ++ told_by result t) told)
