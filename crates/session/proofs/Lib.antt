@@ -1,10 +1,11 @@
 mod CarriedLemmas
-pub mod ConversationLemmas
+mod ConversationLemmas
 mod CutLemmas
 mod FieldLemmas
 mod FormLemmas
 mod LossLemmas
+mod SessionLemmas
 mod TradeLemmas
-pub mod TurnLemmas
+mod TurnLemmas
 pub mod AccountLemmas
 pub mod TriedLemmas
