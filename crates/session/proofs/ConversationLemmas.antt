@@ -1,118 +1,75 @@
 -- Turns of a session, one after the other: the files that they read, the states behind them, and what a desk logs of them.
-use Rattle.std.proofs.Common.{◌≡◌, ℕ, ◌+◌, Bool, true, false, List, [], ◌∷◌, ◌++◌, Ok, Err, Option, Some, None, Result, map, refl, sym}
-use Rattle.std.proofs.Common.{◌∙◌, ap, subst, arith}
-use Rattle.std.specs.List.{cons_option}
-use Rattle.std.specs.Option.{option_to_list}
-use Rattle.std.specs.Prelude.{⊤, All, MatchBool, OnOk, if◌then◌else◌, is_err, is_ok}
-use Rattle.sources.specs.Files.{File}
+use Rattle.std.proofs.Common.{◌≡◌, ℕ, ◌+◌, Bool, List, [], ◌∷◌, ◌++◌, Ok, Option, None, Some, get_or, length, map, refl, sym, ap, subst, ◌∙◌}
+use Rattle.std.proofs.Common.{append_assoc, arith}
+use Rattle.std.proofs.lemmas.List.{map-append}
+use Rattle.std.proofs.lemmas.List.Elements.{All-append, filter_map-append}
+use Rattle.std.specs.Prelude.{All, IfSome, if◌then◌else◌, is_ok}
+use Rattle.desks.specs.Events.{Asked, Event, Told, asked_by}
+use Rattle.desks.specs.declared.desk.DeskFault.{DeskFault}
+use Rattle.desks.specs.declared.desk.Taken.{Taken}
+use Rattle.desks.specs.declared.desk.Taken.TheVariants as taken
+use Rattle.sources.specs.Files.{File, ReadGives}
 use Rattle.sources.specs.Reads.{ReadsAll}
-use Rattle.span_money.specs.LineFields.{line}
-use Rattle.session.specs.Answers.{Answered, State, answer_to}
-use Rattle.session.specs.Conversations.{AreFromSource, IsFromSource, IsTurn, Turn, answer_of, answer_on, answer_text, file_in, file_of}
-use Rattle.session.specs.Conversations.{files_of, given, refused_line, request_on, state_after}
-use Rattle.session.specs.Refusals.{Refused, refused_by}
-use Rattle.session.specs.Refusals as refused
-use Rattle.session.specs.Requests.{Asked, request_of}
-use Rattle.session.specs.Requests.{is_memory as is_memory_fault}
-use Rattle.session.specs.declared.faults.RequestFault.{RequestFault}
-use Rattle.session.specs.declared.refusals.Refusal.{Refusal}
-use Rattle.session.specs.declared.refusals.Refusal.TheVariants as refusal
-use Rattle.session.specs.near.Answering.{IsRead, is_memory}
+use Rattle.session.specs.Answers.{State}
+use Rattle.session.specs.Conversations.{AreFromSource, IsFromSource, Turn, answer_of, answer_text, events_from, file_of, files_of, log_of}
+use Rattle.session.specs.Conversations.{reads_of, state_after, state_behind}
 
--- ---- the file of a turn
+-- ---- files
 
-one_file : {X : Type 0} (o : Option X) → option_to_list o ≡ cons_option o []
-one_file (Some x) = refl
-one_file None = refl
+-- files that are read after others
+read_more : {S : Type 0} (reads : S → List ℕ → Bool → S → Type 0) (first last : List (List ℕ × Bool)) (old mid new : S)
+    → ReadsAll reads old first mid → ReadsAll reads mid last new → ReadsAll reads old (first ++ last) new
+read_more reads [] last old mid new done more = subst (λ at. ReadsAll reads at last new) done more
+read_more reads (asked ∷ first) last old mid new done more =
+    (done.0, done.1, read_more reads first last done.0 mid new done.2 more)
 
-not_given : (name : Option (List ℕ)) → given name None ≡ None
-not_given (Some name) = refl
-not_given None = refl
+module _ {S : Type 0} (known : List ℕ → Option File) (reads : S → List ℕ → Bool → S → Type 0) where
+  -- no turns read no files
+  pub no_turns : (old : S) → AreFromSource known reads old [] old
+  no_turns old = record { files = λ k d lt. absurd (omega arith); in_order = refl }
 
-module _ {S : Type 0} (known : List ℕ → Option File) (reads : S → List ℕ → Bool → S → Type 0) (before after : S) where
-  -- a turn reads the file that its line asks for
-  pub turn_reads : (text : List ℕ) (file : Option File) (memory : Bool) (asked : Result Asked RequestFault) → request_of text ≡ asked
-      → IsRead known reads before (file_in asked) file after
-      → AreFromSource known reads before (record { request = Some text; file = file; is_out_of_memory = memory } ∷ []) after
-  turn_reads text file memory asked is read =
-      let turn : Turn = record { request = Some text; file = file; is_out_of_memory = memory } in
-      let e : option_to_list (given (file_in asked) file) ≡ files_of (turn ∷ []) =
-      ap (λ q. option_to_list (given (file_in q) file)) (sym is) ∙ one_file (file_of turn) in
+  -- one more turn reads its file, of a source that has the same files
+  pub one_more_turn : (later : List ℕ → Option File) (old mid new : S) (turns : List Turn) (turn : Turn)
+      → ((name : List ℕ) → later name ≡ known name) → AreFromSource known reads old turns mid
+      → AreFromSource later reads mid (turn ∷ []) new → AreFromSource known reads old (turns ++ turn ∷ []) new
+  one_more_turn later old mid new turns turn same done more =
+      let shown : List ℕ × File → List ℕ × Bool = λ f. (f.0, is_ok f.1) in
+      let files : files_of (turns ++ turn ∷ []) ≡ files_of turns ++ files_of (turn ∷ []) = filter_map-append file_of turns (turn ∷ []) in
+      let from : All (IsFromSource known) (files_of (turn ∷ [])) =
+      λ k d lt.
+      let asked = get_or (files_of (turn ∷ [])) k d in
+      subst (λ o. IfSome o (λ file. ReadGives (λ bytes. bytes) file asked.1)) (same asked.0) (more.files k d lt) in
       record {
-        files = subst (λ files. All (IsFromSource known) files) e read.files;
-        in_order = subst (λ files. ReadsAll reads before (map (λ f. (f.0, is_ok f.1)) files) after) e read.in_order;
+        files = subst (λ all. All (IsFromSource known) all) (sym files)
+            (All-append (IsFromSource known) (files_of turns) (files_of (turn ∷ [])) done.files from);
+        in_order = subst (λ all. ReadsAll reads old all new)
+            (sym (ap (map shown) files ∙ map-append shown (files_of turns) (files_of (turn ∷ []))))
+            (read_more reads (reads_of turns) (reads_of (turn ∷ [])) old mid new done.in_order more.in_order);
       }
 
-  -- a turn that has no file reads none
-  pub turn_reads_none : (request : Option (List ℕ)) (memory : Bool) → after ≡ before
-      → AreFromSource known reads before (record { request = request; file = None; is_out_of_memory = memory } ∷ []) after
-  turn_reads_none request memory is =
-      let turn : Turn = record { request = request; file = None; is_out_of_memory = memory } in
-      let e : [] ≡ files_of (turn ∷ []) = ap (λ o. cons_option o []) (sym (not_given (file_in (request_on request)))) in
-      record {
-        files = subst (λ files. All (IsFromSource known) files) e (λ k d lt. absurd (omega arith));
-        in_order = subst (λ files. ReadsAll reads before (map (λ f. (f.0, is_ok f.1)) files) after) e is;
-      }
+-- ---- states and the log
 
--- ---- the answer of a turn
+-- the state behind one more turn
+pub state_behind_more : (turns : List Turn) (s : State) (turn : Turn)
+    → state_behind s (turns ++ turn ∷ []) ≡ state_after (state_behind s turns) (answer_of (state_behind s turns) turn)
+state_behind_more [] s turn = refl
+state_behind_more (x ∷ turns) s turn = state_behind_more turns (state_after s (answer_of s x)) turn
 
--- what an error does not rule out
-pub unless_err : {A E : Type 0} (r : Result A E) (P : Type 0) → OnOk r P → is_err r ≡ false → P
-unless_err (Ok x) P h ok = h
-unless_err (Err e) P h ok = cc
+-- the events of one more turn
+events_more : (turns : List Turn) (n m : ℕ) (s : State) (turn : Turn) → m ≡ n + length turns
+    → events_from n s (turns ++ turn ∷ [])
+    ≡ events_from n s turns ++ Asked turn.request ∷ Told (answer_text m (answer_of (state_behind s turns) turn)) ∷ []
+events_more [] n m s turn is =
+    let same : n ≡ m = omega arith in
+    ap (λ k. Asked turn.request ∷ Told (answer_text k (answer_of s turn)) ∷ []) same
+events_more (x ∷ turns) n m s turn is =
+    ap (λ events. Asked x.request ∷ Told (answer_text n (answer_of s x)) ∷ events)
+    (events_more turns (n + 1) m (state_after s (answer_of s x)) turn (omega arith))
 
--- a line that is no request is refused for its fault
-pub form_refused : (s : State) (file : Option File) (asked : Result Asked RequestFault) (e : RequestFault) (r : Refusal)
-    → MatchBool (is_memory_fault e) (r ≡ refusal.Memory) (r ≡ refusal.Form e)
-    → MatchBool (is_memory_fault e) ⊤ (asked ≡ Err e)
-    → MatchBool (is_memory r) ⊤ (answer_on s file asked ≡ Err (refused_by r))
-form_refused s file asked e r is fault = by_fault (is_memory_fault e) is fault where
-  by_fault : (b : Bool) → MatchBool b (r ≡ refusal.Memory) (r ≡ refusal.Form e) → MatchBool b ⊤ (asked ≡ Err e)
-      → MatchBool (is_memory r) ⊤ (answer_on s file asked ≡ Err (refused_by r))
-  by_fault true is fault = rw is fault
-  by_fault false is fault = rw (is, fault) refl
-
--- a refusal leaves the state as it is, and so does a growth of memory that is refused
-refused_state : (s : State) (memory : Bool) (answer : Result Answered Refused) (r : Refusal)
-    → MatchBool (is_memory r) ⊤ (answer ≡ Err (refused_by r)) → (memory ≡ false → is_memory r ≡ false)
-    → s ≡ state_after s (if memory then Err refused.Memory else answer)
-refused_state s true answer r is spoken = refl
-refused_state s false answer r is spoken =
-    let none = spoken refl in
-    let e : answer ≡ Err (refused_by r) = rw none at is in
-    rw e refl
-
-refused_text : (n : ℕ) (memory : Bool) (answer : Result Answered Refused) (r : Refusal)
-    → MatchBool (is_memory r) ⊤ (answer ≡ Err (refused_by r)) → (memory ≡ false → is_memory r ≡ false) → memory ≡ false
-    → line (refused_line n (refused_by r)) ≡ answer_text n (if memory then Err refused.Memory else answer)
-refused_text n true answer r is spoken saved = cc
-refused_text n false answer r is spoken saved =
-    let none = spoken refl in
-    let e : answer ≡ Err (refused_by r) = rw none at is in
-    rw e refl
-
-module _ {S : Type 0} (known : List ℕ → Option File) (reads : S → List ℕ → Bool → S → Type 0) (before after : S)
-    (s next : State) (n : ℕ) (written : List ℕ) where
-  -- a request that was answered
-  pub turn_answered : (text : List ℕ) (file : Option File) (asked : Asked) → request_of text ≡ Ok asked
-      → IsRead known reads before (file_in (Ok asked)) file after
-      → next ≡ state_after s (answer_to s file asked) → written ≡ answer_text n (answer_to s file asked)
-      → IsTurn known reads before s n (record { request = Some text; file = file; is_out_of_memory = false }) after next written
-  turn_answered text file asked is read state answer = record {
-    source = turn_reads known reads before after text file false (Ok asked) is read;
-    state = rw is state;
-    answer = λ saved. rw is answer;
-  }
-
-  -- a request that was refused
-  pub turn_refused : (turn : Turn) (r : Refusal) → AreFromSource known reads before (turn ∷ []) after → next ≡ s
-      → MatchBool (is_memory r) ⊤ (answer_on s turn.file (request_on turn.request) ≡ Err (refused_by r))
-      → (turn.is_out_of_memory ≡ false → (is_memory r ≡ false) × (written ≡ line (refused_line n (refused_by r))))
-      → IsTurn known reads before s n turn after next written
-  turn_refused turn r source same is spoken =
-      let answer = answer_on s turn.file (request_on turn.request) in
-      record {
-        source = source;
-        state = same ∙ refused_state s turn.is_out_of_memory answer r is (λ saved. (spoken saved).0);
-        answer = λ saved. (spoken saved).1 ∙ refused_text n turn.is_out_of_memory answer r is (λ h. (spoken h).0) saved;
-      }
+-- the log of one more turn
+pub log_more : (turns : List Turn) (m : ℕ) (s : State) (turn : Turn) (old log mid new : List Event)
+    → m ≡ length turns + 1 → log ≡ old ++ log_of s turns → mid ≡ log ++ Asked turn.request ∷ []
+    → new ≡ mid ++ Told (answer_text m (answer_of (state_behind s turns) turn)) ∷ [] → new ≡ old ++ log_of s (turns ++ turn ∷ [])
+log_more turns m s turn old log mid new count is_log is_mid is_new =
+    let more = events_more turns 1 m s turn (omega arith) in
+    rw (is_new, is_mid, is_log, more) (simp append_assoc)

@@ -9,6 +9,7 @@ mod FillLemmas
 mod FormLemmas
 mod LossLemmas
 mod OrderLemmas
+mod SessionLemmas
 mod TradeLemmas
 pub mod AccountLemmas
 pub mod ConversationLemmas

@@ -4,7 +4,7 @@ use Rattle.session.specs.Conversations.{Turn}
 use Rattle.session.specs.Requests.{asked_by, request_of}
 use Rattle.session.specs.declared.refusals.Refusal.{Refusal}
 use Rattle.session.specs.near.Answering.{file_given}
-use Rattle.session.proofs.ConversationLemmas.{form_refused, turn_answered, turn_reads, turn_reads_none, turn_refused, unless_err}
+use Rattle.session.proofs.TurnLemmas.{form_refused, turn_answered, turn_reads, turn_reads_none, turn_refused, unless_err}
 use Rattle.session.proofs.session.Session.answer.Goals as goal
 use Rattle.session.proofs.session.Session.answer.Goals.{in-Ok, in-Err}
 

@@ -2,7 +2,7 @@ use Rattle.std.proofs.Common.{◌≡◌, List, rules, sym, subst}
 use Rattle.span_tables.specs.Net.{AccountHoldings}
 use Rattle.worker_pool.specs.Batches.{AllFit, FitsSet}
 use Rattle.session.specs.Accounts.{with_account}
-use Rattle.session.proofs.TurnLemmas.{all_with_account}
+use Rattle.session.proofs.SessionLemmas.{all_with_account}
 use Rattle.session.proofs.session.Session.apply.Goals as goal
 
 pub invariant_of-self : goal.invariant_of-self

@@ -1,6 +1,6 @@
 use Rattle.std.proofs.Common.{◌≡◌, ◌∙◌, Err, Ok, ap, inl, inr, rules, sym}
 use Rattle.std.specs.Arc.{arc_value}
-use Rattle.session.proofs.TurnLemmas.{accepted_opened, faults_opened}
+use Rattle.session.proofs.SessionLemmas.{accepted_opened, faults_opened}
 use Rattle.session.proofs.session.Session.open.Goals as goal
 
 pub returns-in_err-set-clause-state : goal.returns-in_err-set-clause-state

@@ -4,7 +4,7 @@ use Rattle.std.specs.Arc.{arc_value}
 use Rattle.plan_compiler.specs.Compiled.{SetView}
 use Rattle.span_tables.specs.Tables.{AcceptedTables}
 use Rattle.session.specs.Answers.{State}
-use Rattle.session.proofs.TurnLemmas.{lost_refused}
+use Rattle.session.proofs.SessionLemmas.{lost_refused}
 use Rattle.session.proofs.session.Session.push_set.Goals as goal
 
 pub returns-in_err-accounts-clause-answer : goal.returns-in_err-accounts-clause-answer
