@@ -64,7 +64,8 @@ module _ (s : State) (order account : List ℕ) (trades : List Trade) (some : 0 
       ∙ ap Ok (sym (tried_among trades some))
 
   tried_err : (e : OrderBindFault)
-      → order_bind_fault s.tables.contracts (option_to_list (account_named s.accounts account)) (trade_records order account trades) ≡ Some e
+      → order_bind_fault s.tables.contracts (option_to_list (account_named s.accounts account)) (trade_records order account trades)
+      ≡ Some e
       → tried s order account trades ≡ Err e
   tried_err e is =
       ap (λ o. ok_unless o (tried_order s.tables.contracts s.accounts (trade_records order account trades) order))
@@ -114,9 +115,9 @@ no_place_refused s account trades place =
 
 -- the answer to a FILL
 module _ (s : State) (account : List ℕ) (trades : List Trade) (some : 0 < length trades) where
-
   pub filled_lines : (text : List ℕ) (after : AccountHoldings) → has_no_place s account ≡ false
-      → order_bind_fault s.tables.contracts (option_to_list (account_named s.accounts account)) (trade_records account account trades) ≡ None
+      → order_bind_fault s.tables.contracts (option_to_list (account_named s.accounts account))
+      (trade_records account account trades) ≡ None
       → after ≡ (tried_order s.tables.contracts (option_to_list (account_named s.accounts account))
       (trade_records account account trades) account).after
       → text ≡ total_text s.tables after
@@ -140,5 +141,6 @@ module _ (s : State) (account : List ℕ) (trades : List Trade) (some : 0 < leng
       → refused_by r ≡ unfit 1 e → MatchBool (is_memory r) ⊤ (fill_answer s account trades ≡ Err (refused_by r))
   unfilled e r place unfits refuses =
       subst (λ (answer : Result Answered Refused). MatchBool (is_memory r) ⊤ (answer ≡ Err (refused_by r)))
-      (sym (if_no (has_no_place s account) (Err refused.TooManyAccounts) (if_fit 1 (filled_answer s) (tried s account account trades)) place))
+      (sym (if_no (has_no_place s account) (Err refused.TooManyAccounts) (if_fit 1 (filled_answer s)
+      (tried s account account trades)) place))
       (unfit_refused s account account trades some 1 (filled_answer s) e r unfits refuses)

@@ -1,5 +1,6 @@
--- The fills of a session as records behind those of the position file.
-use Rattle.std.proofs.Common.{◌≡◌, ◌∙◌, ◌<◌, ℕ, suc, zero, Bool, true, false, cond, not, ◌||◌, ◌&&◌, List, [], ◌∷◌, ◌++◌, length, map, filter}
+-- The fills of a session as records behind the records of the position file.
+use Rattle.std.proofs.Common.{◌≡◌, ◌∙◌, ◌<◌, ℕ, suc, zero, Bool, true, false, cond, not, ◌||◌, ◌&&◌, List, [], ◌∷◌, ◌++◌, length, map}
+use Rattle.std.proofs.Common.{filter}
 use Rattle.std.proofs.Common.{Option, Some, None, Result, Ok, Err, refl, sym, ap, subst, arith, append_assoc}
 use Rattle.std.specs.Prelude.{ℤ, pos, ◌+ℤ◌, ◌+◌, ◌-◌, ◌*◌, ◌%◌, ◌==◌, ⊤, All, bytes_eq, drop, find, if◌then◌else◌, is_ok, nat_le, nat_lt}
 use Rattle.std.specs.List.{list_any}
@@ -172,7 +173,7 @@ module _ (contracts : List Contract) (positions : List PositionRecord) (account 
       let none = none_booked name other x.id ts in
       omega (arith, ints, whole, none)))
 
-  -- the accounts behind a FILL are those of the records with its own behind them
+  -- the records with the records of a FILL behind them have the accounts behind the FILL
   accounts_behind : (t : Trade) (ts : List Trade)
       → with_account (portfolios_of contracts positions)
       (record { account = account; holdings = holdings_of contracts (positions ++ booked_records account (t ∷ ts)) account })
@@ -247,7 +248,8 @@ filled_is s account trades a e =
         record { none = is; state = ap (λ (x : Answered). x.state) (sym same) }
 
 module _ (params : List ℕ) (t : AcceptedTables) (accepted : accepted_of params ≡ Ok t) (positions : List PositionRecord)
-    (accounts : List AccountHoldings) (bound : portfolios_under t positions ≡ Ok accounts) (account : List ℕ) (u : Trade) (us : List Trade) where
+    (accounts : List AccountHoldings) (bound : portfolios_under t positions
+    ≡ Ok accounts) (account : List ℕ) (u : Trade) (us : List Trade) where
   abbrev records : List OrderRecord
   records = trade_records account account (u ∷ us)
 
@@ -374,7 +376,7 @@ request_has (Some line) found e = line_has line found e
 -- ---- all requests
 
 module _ (params : List ℕ) (t : AcceptedTables) (accepted : accepted_of params ≡ Ok t) where
-  -- the state is that of positions
+  -- the state has the accounts of positions
   abbrev IsOf : List PositionRecord → State → Type 0
   IsOf positions s = (portfolios_under t positions ≡ Ok s.accounts) × (s.tables ≡ t)
 
@@ -424,7 +426,8 @@ module _ (params : List ℕ) (t : AcceptedTables) (accepted : accepted_of params
 
   turn_behind : (positions : List PositionRecord) (s : State) (turn : Turn) → is_set (request_on turn.request) ≡ false
       → IsOf positions s
-      → IsOf (positions ++ (if is_ok (answer_of s turn) then booked_by (request_on turn.request) else [])) (state_after s (answer_of s turn))
+      → IsOf (positions ++ (if is_ok (answer_of s turn) then booked_by (request_on turn.request) else [])) (state_after s
+      (answer_of s turn))
   turn_behind positions s turn kept is = by (answer_of s turn) refl
     where
       asked_of : (r : Result Asked RequestFault) → request_on turn.request ≡ r → (a : Answered) (b : Bool)
@@ -451,7 +454,7 @@ module _ (params : List ℕ) (t : AcceptedTables) (accepted : accepted_of params
       (All-tail (λ (x : Turn). is_set (request_on x.request) ≡ false) turn turns kept)
       (turn_behind positions s turn (All-head (λ (x : Turn). is_set (request_on x.request) ≡ false) turn turns kept) is))
 
-  -- the accounts behind requests are those of the records with all that they book behind them
+  -- the records with all that requests book behind them have the accounts behind the requests
   pub all_behind : (records : List PositionRecord) (accounts : List AccountHoldings) (turns : List Turn)
       → portfolios_under t records ≡ Ok accounts → All (λ turn. is_set (request_on turn.request) ≡ false) turns
       → (portfolios_under t (records ++ booked_in (record { tables = t; accounts = accounts }) turns)
@@ -476,10 +479,12 @@ margin_behind params positions more s turns records begun read kept behind = by 
     by (Err f) is e = cc
     by (Ok t) is e = bound_by (portfolios_under t records) refl
         (ap (λ r. and_then span.Positions r (λ rs.
-        and_then same (portfolios_under t rs) (λ accounts. Ok (let x : State = record { tables = t; accounts = accounts } in x)))) (sym read) ∙ e)
+        and_then same (portfolios_under t rs) (λ accounts. Ok (let x : State = record { tables = t; accounts = accounts } in x))))
+        (sym read) ∙ e)
       where
         bound_by : (r : Result (List AccountHoldings) SpanFault) → portfolios_under t records ≡ r
-            → and_then same (portfolios_under t records) (λ accounts. Ok (let x : State = record { tables = t; accounts = accounts } in x)) ≡ Ok s
+            → and_then same (portfolios_under t records) (λ accounts. Ok
+            (let x : State = record { tables = t; accounts = accounts } in x)) ≡ Ok s
             → statement_of params more ≡ Ok (statement_text (state_behind s turns).tables (state_behind s turns).accounts)
         bound_by (Err f) found e = let known = rw found at e in cc
         bound_by (Ok accounts) found e =

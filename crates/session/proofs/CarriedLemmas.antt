@@ -153,7 +153,7 @@ module _ (old : List Contract) (apart : has_repeat (λ x y. bytes_eq x.id y.id) 
           ∙ eqb_flip (position_or_len (bytes_eq id) (ids_of old)) h.contract
       by (inr past) = absurd (omega (arith, lt, past.0))
 
-  -- the net of a name, by the records of what is held, is that of its contract's number
+  -- the net of a name, by the records of what is held, is the net of its contract's number
   pub net_named : (hs : List Holding) → fits (length old) hs ≡ true
       → net_of (map (held_record old account) hs) account id ≡ net_among hs (position_or_len (bytes_eq id) (ids_of old))
   unfolding place

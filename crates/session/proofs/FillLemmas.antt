@@ -26,7 +26,7 @@ use Rattle.session.proofs.TriedLemmas.{account_is}
 
 -- ---- faults by another name
 
--- a fault of an order as that of an order of another name
+-- a fault of an order under the name of another order
 abbrev renamed : List ℕ → OrderBindFault → OrderBindFault
 renamed name (fault.UnknownContract at order) = fault.UnknownContract at name
 renamed name (fault.NetOutOfRange at order) = fault.NetOutOfRange at name
@@ -40,10 +40,12 @@ first_renamed f (x ∷ xs) = refl
 module _ (these those : Trade → OrderRecord) (f g : List OrderRecord → OrderRecord → Option (ℕ → OrderBindFault))
     (rename : OrderBindFault → OrderBindFault)
     (same : (es : List Trade) (t : Trade)
-    → option_map {T = ℕ → OrderBindFault} {U = ℕ → OrderBindFault} (λ h. λ at. rename (h at)) (f (map these es) (these t)) ≡ g (map those es) (those t)) where
+    → option_map {T = ℕ → OrderBindFault} {U = ℕ → OrderBindFault} (λ h. λ at. rename (h at)) (f (map these es) (these t))
+    ≡ g (map those es) (those t)) where
   one_renamed : (o : Option (ℕ → OrderBindFault)) (n : ℕ)
       → map rename (option_to_list (option_map (λ (h : ℕ → OrderBindFault). h n) o))
-      ≡ option_to_list (option_map (λ (h : ℕ → OrderBindFault). h n) (option_map {T = ℕ → OrderBindFault} {U = ℕ → OrderBindFault} (λ h. λ at. rename (h at)) o))
+      ≡ option_to_list (option_map (λ (h : ℕ → OrderBindFault). h n) (option_map {T = ℕ → OrderBindFault} {U = ℕ
+      → OrderBindFault} (λ h. λ at. rename (h at)) o))
   one_renamed None n = refl
   one_renamed (Some h) n = refl
 
@@ -53,12 +55,14 @@ module _ (these those : Trade → OrderRecord) (f g : List OrderRecord → Order
   faults_renamed es (t ∷ ts) =
       let count : length (map these es) + 1 ≡ length (map those es) + 1 =
       ap (λ n. n + 1) (length-map es these ∙ sym (length-map es those)) in
-      map-append rename (option_to_list (option_map (λ (h : ℕ → OrderBindFault). h (length (map these es) + 1)) (f (map these es) (these t))))
+      map-append rename (option_to_list (option_map (λ (h : ℕ → OrderBindFault). h (length (map these es) + 1)) (f (map these es)
+      (these t))))
       (faults_after f (map these es ++ these t ∷ []) (map these ts))
       ∙ ap (λ front. front ++ map rename (faults_after f (map these es ++ these t ∷ []) (map these ts)))
       (one_renamed (f (map these es) (these t)) (length (map these es) + 1)
       ∙ (λ i. option_to_list (option_map (λ (h : ℕ → OrderBindFault). h (count i)) (same es t i))))
-      ∙ ap (λ back. option_to_list (option_map (λ (h : ℕ → OrderBindFault). h (length (map those es) + 1)) (g (map those es) (those t))) ++ back)
+      ∙ ap (λ back. option_to_list (option_map (λ (h : ℕ → OrderBindFault). h (length (map those es) + 1)) (g (map those es)
+      (those t))) ++ back)
       (ap (λ front. map rename (faults_after f front (map these ts))) (sym (map-append these es (t ∷ [])))
       ∙ faults_renamed (es ++ t ∷ []) ts
       ∙ ap (λ front. faults_after g front (map those ts)) (map-append those es (t ∷ [])))
@@ -131,7 +135,8 @@ module _ (contracts : List Contract) (accounts : List AccountHoldings) (order ac
 
   if_renamed : (name : ℕ → List ℕ → OrderBindFault) → ((at : ℕ) → renamed account (name at order) ≡ name at account)
       → (b d : Bool) → b ≡ d
-      → option_map {T = ℕ → OrderBindFault} {U = ℕ → OrderBindFault} (λ h. λ at. renamed account (h at)) (cond b (Some (λ at. name at order)) None)
+      → option_map {T = ℕ → OrderBindFault} {U = ℕ → OrderBindFault} (λ h. λ at. renamed account (h at)) (cond b (Some
+      (λ at. name at order)) None)
       ≡ cond d (Some (λ at. name at account)) None
   if_renamed name is true true e = λ i. Some (λ at. is at i)
   if_renamed name is false false e = refl
@@ -145,7 +150,8 @@ module _ (contracts : List Contract) (accounts : List AccountHoldings) (order ac
   many records name = nat_lt MAX_HELD (length (holdings_after contracts accounts records name))
 
   over_same : (c : List ℕ) → over (map these all) order c ≡ over (map those all) account c
-  over_same c = ap (λ held. nat_lt MAX_NET (nat_abs (net_among held (position_or_len (λ (x : Contract). bytes_eq x.id c) contracts)))) after_same
+  over_same c = ap (λ held. nat_lt MAX_NET (nat_abs (net_among held (position_or_len (λ
+      (x : Contract). bytes_eq x.id c) contracts)))) after_same
 
   many_same : many (map these all) order ≡ many (map those all) account
   many_same = ap (λ held. nat_lt MAX_HELD (length held)) after_same

@@ -102,7 +102,8 @@ module _ (old new : List Contract) (account : List ℕ) where
       r = record { order = account; account = account; contract = contract_of old h; quantity = h.net }
 
       next : first_fault_after test earlier (records (h ∷ hs))
-          ≡ option_or (option_map (λ (f : ℕ → OrderBindFault). f (length earlier + 1)) (test earlier r)) (first_fault_after test (earlier ++ r ∷ []) (records hs))
+          ≡ option_or (option_map (λ (f : ℕ → OrderBindFault). f (length earlier + 1)) (test earlier r)) (first_fault_after test
+          (earlier ++ r ∷ []) (records hs))
       next = first_fault_next test earlier r (records hs)
 
       by : (b : Bool) → foreign r ≡ b
@@ -110,14 +111,19 @@ module _ (old new : List Contract) (account : List ℕ) where
           → Found (length earlier) (h ∷ hs) (first_fault_after test earlier (records (h ∷ hs)))
       by true e more =
           subst (Found (length earlier) (h ∷ hs))
-          (sym (next ∙ ap (λ b. option_or (option_map (λ (f : ℕ → OrderBindFault). f (length earlier + 1)) (cond b (Some (λ at. fault.UnknownContract at account)) None))
-          (first_fault_after test (earlier ++ r ∷ []) (records hs))) e))
-          (0, omega arith, omega arith,
-          ap (λ b. cond b (Some (held_record old account h)) (find (is_unknown new) (held hs))) e)
+          (sym (next ∙ ap (λ b. option_or (option_map (λ (f : ℕ → OrderBindFault). f (length earlier + 1)) (cond b (Some
+          (λ at. fault.UnknownContract at account)) None))
+          (first_fault_after test (earlier ++ r ∷ []) (records hs))) e)) (
+            0,
+            omega arith,
+            omega arith,
+            ap (λ b. cond b (Some (held_record old account h)) (find (is_unknown new) (held hs))) e,
+          )
       by false e more =
           let size : length (earlier ++ r ∷ []) ≡ length earlier + 1 = length-append earlier (r ∷ []) in
           subst (Found (length earlier) (h ∷ hs))
-          (sym (next ∙ ap (λ b. option_or (option_map (λ (f : ℕ → OrderBindFault). f (length earlier + 1)) (cond b (Some (λ at. fault.UnknownContract at account)) None))
+          (sym (next ∙ ap (λ b. option_or (option_map (λ (f : ℕ → OrderBindFault). f (length earlier + 1)) (cond b (Some
+          (λ at. fault.UnknownContract at account)) None))
           (first_fault_after test (earlier ++ r ∷ []) (records hs))) e))
           (found_later (length earlier) h hs (first_fault_after test (earlier ++ r ∷ []) (records hs)) e
           (subst (λ n. Found n hs (first_fault_after test (earlier ++ r ∷ []) (records hs))) size more))
@@ -142,7 +148,7 @@ module _ (old new : List Contract) (account : List ℕ) where
 
   -- ---- what the account comes to hold
 
-  -- the records of the one order are those of what was held
+  -- the records of the one order are the records of what was held
   positions_are : (hs : List Holding) → positions_of_order (records hs) account ≡ held hs
   positions_are [] = refl
   positions_are (h ∷ hs) =
@@ -188,7 +194,7 @@ module _ (old new : List Contract) (account : List ℕ) where
           ap (λ b. b || list_any (λ r. nat_lt MAX_HELD (length (holdings_after new [] (records (h ∷ hs)) r.order))) (records xs))
           (le-ltb MAX_HELD (length (holdings_after new [] (records (h ∷ hs)) account)) after_holds.few) ∙ none_many xs
 
-      -- the one fault that there may be is that of an unknown contract
+      -- the one fault that there may be is an unknown contract
       pub fault_is : order_bind_fault new [] (records (h ∷ hs)) ≡ first_fault_after test [] (records (h ∷ hs))
       unfolding order_bind_fault
       fault_is = by (first_fault_after test [] (records (h ∷ hs))) refl

@@ -128,7 +128,7 @@ module _ {S : Type 0} (known : List ℕ → Option File) (reads : S → List ℕ
       turn_refused (record { request = None; file = None; is_out_of_memory = memory }) (refusal.Form form.LineTooLong)
       (turn_reads_none known reads before after None memory source) same refl (λ saved. (refl, spoken saved))
 
-  -- a request whose answer a desk was told
+  -- a request whose answer a desk took
   pub turn_served : (turn : Turn) (request : Option (List ℕ)) (old new : List Event) (result : Result (Unit {0}) DeskFault)
       (text : List ℕ) → IsTurn known reads before s n turn after next written → turn.request ≡ request
       → text ≡ answer_text n (answer_of s turn) → new ≡ old ++ told_by result text

@@ -29,8 +29,9 @@ use std::sync::Arc;
 use step_scheduler::rows::Row;
 use whatif::portfolios::copied;
 
-// How many names stand in front of the trades of a TRY, and of those of a FILL.
+// How many names a TRY and a FILL have in front of their trades.
 const NAMES_OF_TRY: u8 = 2;
+
 const NAMES_OF_FILL: u8 = 1;
 
 // The row of an account.

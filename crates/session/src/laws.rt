@@ -36,8 +36,8 @@ pub fn a_request_that_changes_nothing_may_be_left_out()
     ensures numbers { (n : ℕ) (s : State) (turns : List Turn) → answers_from n s turns ≡ numbered_from n (outcomes s turns) }
 {}
 
-/// A FILL right behind a TRY of the same account and trades answers the total that the TRY shows as that after the order, unless the account
-/// has no place. What the trades are refused for is the same, one field apart.
+/// A FILL right behind a TRY of the same account and trades answers the total that the TRY shows as the total after the order, unless the
+/// account has no place. Both are refused for the same fault, one field apart.
 pub fn a_fill_behind_a_try_has_its_total()
     ensures total { (s : State) (order account : List ℕ) (trades : List Trade) (o : TriedOrder) → 0 < length trades
         → has_no_place s account ≡ false → tried s order account trades ≡ Ok o
@@ -47,8 +47,8 @@ pub fn a_fill_behind_a_try_has_its_total()
         → fill_answer s account trades ≡ Err (unfit 1 e) }
 {}
 
-/// Without another set, the accounts behind requests are those of the records that the session was opened with and, behind these, the
-/// records of all fills that were not refused. So MARGIN answers what `margin` prints for the parameter file and a position file that has
+/// Without another set, a session has the accounts of the records that it was opened with and, behind these, of the records of all fills
+/// that were not refused. So MARGIN answers what `margin` prints for the parameter file and a position file that has
 /// these records.
 pub fn fills_are_records_behind_the_positions()
     ensures accounts { (params : List ℕ) (t : AcceptedTables) (records : List PositionRecord) (accounts : List AccountHoldings)

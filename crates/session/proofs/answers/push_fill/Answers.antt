@@ -33,5 +33,6 @@ returns-in-Err-clause-answer c =
     unfilled (state_of c.args.set.now c.args.accounts.now) account c.args.trades.now c.requires.trades.some c.in-Err.fault c.unfit.result
     (sym (c.has_no_place.ensures c.args.set.now) ∙ c.if-has_no_place.false)
     (subst (λ o. MatchBool (is_bind_memory c.in-Err.fault) ⊤
-    (order_bind_fault c.args.set.now.tables.contracts (option_to_list o) records ≡ Some c.in-Err.fault)) c.get.ensures c.in-Err.ensures.unfit)
+    (order_bind_fault c.args.set.now.tables.contracts (option_to_list o) records
+    ≡ Some c.in-Err.fault)) c.get.ensures c.in-Err.ensures.unfit)
     c.unfit.ensures

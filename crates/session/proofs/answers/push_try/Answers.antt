@@ -33,5 +33,6 @@ returns-in-Err-clause-answer c =
     unfit_refused (state_of c.args.set.now c.args.accounts.now) c.args.order.now c.args.account.now c.args.trades.now
     c.requires.trades.some 2 (tried_answer (state_of c.args.set.now c.args.accounts.now)) c.in-Err.fault c.unfit.result
     (subst (λ o. MatchBool (is_bind_memory c.in-Err.fault) ⊤
-    (order_bind_fault c.args.set.now.tables.contracts (option_to_list o) records ≡ Some c.in-Err.fault)) c.get.ensures c.in-Err.ensures.unfit)
+    (order_bind_fault c.args.set.now.tables.contracts (option_to_list o) records
+    ≡ Some c.in-Err.fault)) c.get.ensures c.in-Err.ensures.unfit)
     c.unfit.ensures

@@ -37,7 +37,8 @@ returns-in-Ok-clause-carried c =
     let account = c.args.portfolio.now.account in
     let some : 0 < length hs = search rules in
     let apart : has_repeat (λ x y. bytes_eq x.id y.id) new ≡ false =
-    subst (λ (t : AcceptedTables). has_repeat (λ x y. bytes_eq x.id y.id) t.contracts ≡ false) c.tables.ensures c.known.ensures.contracts_apart in
+    subst (λ (t : AcceptedTables). has_repeat (λ x y. bytes_eq x.id y.id) t.contracts
+    ≡ false) c.tables.ensures c.known.ensures.contracts_apart in
     let trades : c.deref.result.now ≡ held_trades old hs =
     c.deref.ensures.value ∙ c.in_ok-trades.ensures ∙ ap (λ contracts. held_trades contracts hs) c.contracts.ensures.value in
     let name : c.account.result.now ≡ account = c.account.ensures in
@@ -52,7 +53,8 @@ returns-in-Ok-clause-known c =
     let account = c.args.portfolio.now.account in
     let some : 0 < length hs = search rules in
     let apart : has_repeat (λ x y. bytes_eq x.id y.id) new ≡ false =
-    subst (λ (t : AcceptedTables). has_repeat (λ x y. bytes_eq x.id y.id) t.contracts ≡ false) c.tables.ensures c.known.ensures.contracts_apart in
+    subst (λ (t : AcceptedTables). has_repeat (λ x y. bytes_eq x.id y.id) t.contracts
+    ≡ false) c.tables.ensures c.known.ensures.contracts_apart in
     let trades : c.deref.result.now ≡ held_trades old hs =
     c.deref.ensures.value ∙ c.in_ok-trades.ensures ∙ ap (λ contracts. held_trades contracts hs) c.contracts.ensures.value in
     let name : c.account.result.now ≡ account = c.account.ensures in
@@ -70,7 +72,8 @@ lost-requires c =
     let account = c.args.portfolio.now.account in
     let some : 0 < length hs = search rules in
     let apart : has_repeat (λ x y. bytes_eq x.id y.id) new ≡ false =
-    subst (λ (t : AcceptedTables). has_repeat (λ x y. bytes_eq x.id y.id) t.contracts ≡ false) c.tables.ensures c.known.ensures.contracts_apart in
+    subst (λ (t : AcceptedTables). has_repeat (λ x y. bytes_eq x.id y.id) t.contracts
+    ≡ false) c.tables.ensures c.known.ensures.contracts_apart in
     let trades : c.deref.result.now ≡ held_trades old hs =
     c.deref.ensures.value ∙ c.in_ok-trades.ensures ∙ ap (λ contracts. held_trades contracts hs) c.contracts.ensures.value in
     let name : c.account.result.now ≡ account = c.account.ensures in
@@ -92,7 +95,8 @@ returns-clause-lost c =
     let account = c.args.portfolio.now.account in
     let some : 0 < length hs = search rules in
     let apart : has_repeat (λ x y. bytes_eq x.id y.id) new ≡ false =
-    subst (λ (t : AcceptedTables). has_repeat (λ x y. bytes_eq x.id y.id) t.contracts ≡ false) c.tables.ensures c.known.ensures.contracts_apart in
+    subst (λ (t : AcceptedTables). has_repeat (λ x y. bytes_eq x.id y.id) t.contracts
+    ≡ false) c.tables.ensures c.known.ensures.contracts_apart in
     let trades : c.deref.result.now ≡ held_trades old hs =
     c.deref.ensures.value ∙ c.in_ok-trades.ensures ∙ ap (λ contracts. held_trades contracts hs) c.contracts.ensures.value in
     let name : c.account.result.now ≡ account = c.account.ensures in

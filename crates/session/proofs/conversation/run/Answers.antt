@@ -1,4 +1,5 @@
-use Rattle.std.proofs.Common.{◌≡◌, ◌∙◌, ◌+◌, ◌++◌, ℕ, Bool, List, [], ◌∷◌, Err, None, Ok, Option, Some, ap, append-nil, arith, inl, inr, length, length-append, refl, sym}
+use Rattle.std.proofs.Common.{◌≡◌, ◌∙◌, ◌+◌, ◌++◌, ℕ, Bool, List, [], ◌∷◌, Err, None, Ok, Option, Some, ap, append-nil, arith, inl, inr}
+use Rattle.std.proofs.Common.{length, length-append, refl, sym}
 use Rattle.std.proofs.lemmas.Result.{err_from_is_err_and}
 use denote.Enum.Bare.{sameb}
 use Rattle.std.specs.Prelude.{false, if◌then◌else◌}
@@ -23,8 +24,12 @@ pub returns-in_err-tell-clause-served : goal.returns-in_err-tell-clause-served
 returns-in_err-tell-clause-served g c =
     let p = err_from_is_err_and c.from_residual.result c.from_residual.ensures.1 in
     let is : c.from_residual.result ≡ Err desk.Output = p.1 ∙ ap Err (p.2 ∙ c.in_err-tell.ensures.fault.0) in
-    rw is ([], no_turns (g.S.Sources.file c.args.sources.now) g.S.Sources.reads c.args.sources.now,
-    inl (refl, c.in_err-tell.ensures.log ∙ append-nil (g.D.Desk.log c.args.desk.now)), tt)
+    rw is (
+      [],
+      no_turns (g.S.Sources.file c.args.sources.now) g.S.Sources.reads c.args.sources.now,
+      inl (refl, c.in_err-tell.ensures.log ∙ append-nil (g.D.Desk.log c.args.desk.now)),
+      tt,
+    )
 
 pub loop-number-init : goal.loop-number-init
 loop-number-init g c = (

@@ -39,7 +39,8 @@ loop-portfolio-preserved c =
       carried = subst (AreCarried set old c.args.self.now c.next.new.self) (sym items)
           (one_carried set old c.args.self.now p c.next.new.self c.loop-portfolio.all.items
           (subst (λ left. AreCarried set old c.args.self.now left c.loop-portfolio.all.items) steps c.loop-portfolio.invariant.carried)
-          (ap (λ (view : SetView). find (is_unknown view.tables.contracts) (held_records old p)) (sym same) ∙ c.in_ok-carried.ensures.known) q
+          (ap (λ (view : SetView). find (is_unknown view.tables.contracts) (held_records old p)) (sym same)
+          ∙ c.in_ok-carried.ensures.known) q
           (c.in_ok-carried.ensures.carried ∙ ap (λ (view : SetView). under_contracts old view.tables.contracts p) same)
           (subst (λ (view : SetView). FitsSet view q) same c.in_ok-carried.ensures.fits));
       set = c.in_ok-carried.ensures.same ∙ same;
