@@ -162,7 +162,7 @@ fn has_no_place(accounts: &Accounts, account: &Name) -> bool
     accounts.get(account).is_none() && MAX_ACCOUNTS <= accounts.len()
 }
 
-/// What an account holds after trades, of whose total the line is appended.
+/// Appends the total that an account has after trades, and gives what it then holds.
 pub(crate) fn push_fill(
     out: &mut Vec<u8>,
     set: &mut SetInUse,
