@@ -1,7 +1,7 @@
 -- Answers about trades, by what their account holds by itself.
-use Rattle.std.proofs.Common.{◌≡◌, ◌∙◌, ◌<◌, ◌++◌, ℕ, suc, Bool, true, false, cond, List, [], ◌∷◌, length, sym, ap, subst, arith}
+use Rattle.std.proofs.Common.{◌≡◌, ◌∙◌, ◌<◌, ℕ, Bool, true, false, List, [], ◌∷◌, length, sym, ap, subst, arith}
 use Rattle.std.proofs.Common.{Option, Some, None, Result, Ok, Err, refl}
-use Rattle.std.specs.Prelude.{All, MatchBool, ⊤, bytes_eq, find, if◌then◌else◌}
+use Rattle.std.specs.Prelude.{All, MatchBool, ⊤, if◌then◌else◌}
 use Rattle.std.specs.Option.{option_to_list}
 use Rattle.std.proofs.lemmas.List.Elements.{All-cons}
 use Rattle.span_tables.specs.Faults.{ok_unless}

@@ -1,5 +1,5 @@
 -- Laws of conversations.
-use Rattle.std.proofs.Common.{◌≡◌, ◌∙◌, ◌+◌, ℕ, List, [], ◌∷◌, ◌++◌, Err, length, refl, sym, ap, arith}
+use Rattle.std.proofs.Common.{◌≡◌, ◌∙◌, ◌+◌, ℕ, List, [], ◌∷◌, ◌++◌, Err, length, refl, ap, arith}
 use Rattle.session.specs.Answers.{State}
 use Rattle.session.specs.Conversations.{Turn, answer_of, answer_text, answers_from, numbered_from, outcomes, state_after, state_behind}
 use Rattle.session.specs.Refusals.{Refused}

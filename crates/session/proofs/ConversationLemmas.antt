@@ -1,14 +1,11 @@
 -- Turns of a session, one after the other: the files that they read, the states behind them, and what a desk logs of them.
-use Rattle.std.proofs.Common.{◌≡◌, ℕ, ◌+◌, Bool, List, [], ◌∷◌, ◌++◌, Ok, Option, None, Some, get_or, length, map, refl, sym, ap, subst}
+use Rattle.std.proofs.Common.{◌≡◌, ℕ, ◌+◌, Bool, List, [], ◌∷◌, ◌++◌, Option, get_or, length, map, refl, sym, ap, subst}
 use Rattle.std.proofs.Common.{◌∙◌}
 use Rattle.std.proofs.Common.{append_assoc, arith}
 use Rattle.std.proofs.lemmas.List.{map-append}
 use Rattle.std.proofs.lemmas.List.Elements.{All-append, filter_map-append}
-use Rattle.std.specs.Prelude.{All, IfSome, if◌then◌else◌, is_ok}
-use Rattle.desks.specs.Events.{Asked, Event, Told, asked_by}
-use Rattle.desks.specs.declared.desk.DeskFault.{DeskFault}
-use Rattle.desks.specs.declared.desk.Taken.{Taken}
-use Rattle.desks.specs.declared.desk.Taken.TheVariants as taken
+use Rattle.std.specs.Prelude.{All, IfSome, is_ok}
+use Rattle.desks.specs.Events.{Asked, Event, Told}
 use Rattle.sources.specs.Files.{File, ReadGives}
 use Rattle.sources.specs.Reads.{ReadsAll}
 use Rattle.session.specs.Answers.{State}

@@ -1,6 +1,6 @@
 -- Trades under the name of another order have the same fault, and their account comes to hold the same.
 use Rattle.std.proofs.Common.{◌≡◌, ◌∙◌, ◌<◌, ◌+◌, ◌++◌, ℕ, Bool, true, false, cond, not, ◌&&◌, ◌||◌, List, [], ◌∷◌, length, map, filter}
-use Rattle.std.proofs.Common.{Option, Some, None, Ok, Err, Result, refl, sym, ap, arith}
+use Rattle.std.proofs.Common.{Option, Some, None, Ok, Err, refl, sym, ap, arith}
 use Rattle.std.specs.Prelude.{bytes_eq, if◌then◌else◌, nat_abs, nat_lt, option_map}
 use Rattle.std.specs.List.{list_any, position_or_len}
 use Rattle.std.specs.Option.{option_to_list}
@@ -11,14 +11,13 @@ use Rattle.span_tables.specs.Orders.{account_of_order, as_position, holdings_amo
 use Rattle.span_tables.specs.declared.limits.TheConstants.{MAX_HELD, MAX_NET}
 use Rattle.span_tables.specs.declared.records.Contract.{Contract}
 use Rattle.span_tables.specs.declared.records.OrderRecord.{OrderRecord}
-use Rattle.span_tables.specs.declared.records.PositionRecord.{PositionRecord}
 use Rattle.span_tables.proofs.Places.{same_name}
-use Rattle.binding.specs.Binding.{all_unfit_by, among, is_of_known, owner_faults}
+use Rattle.binding.specs.Binding.{all_unfit_by, among, is_of_known}
 use Rattle.binding.specs.OrderBinding.{TriedOrder, holdings_after, net_exceeds_with, order_bind_fault, trade_record, tried_order}
 use Rattle.binding.specs.declared.faults.OrderBindFault.{OrderBindFault}
 use Rattle.binding.specs.declared.faults.OrderBindFault.TheVariants as fault
 use Rattle.binding.specs.declared.trades.Trade.{Trade}
-use Rattle.session.specs.Answers.{Answered, State, fill_answer, filled_answer, has_no_place, if_fit, trade_records, tried, unfit}
+use Rattle.session.specs.Answers.{State, fill_answer, filled_answer, has_no_place, if_fit, trade_records, tried, unfit}
 use Rattle.session.specs.Refusals.{Refused}
 use Rattle.session.specs.Refusals as refused
 use Rattle.session.proofs.AnswerLemmas.{if_no}

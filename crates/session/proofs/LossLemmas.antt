@@ -1,5 +1,5 @@
 -- The fault of what an account held under a set that lacks a contract, and that there is none if it lacks none.
-use Rattle.std.proofs.Common.{◌≡◌, ◌∙◌, ℕ, suc, zero, ◌+◌, ◌-◌, ◌<◌, ◌≤◌, Bool, true, false, cond, not, ◌&&◌, ◌||◌, List, [], ◌∷◌, ◌++◌}
+use Rattle.std.proofs.Common.{◌≡◌, ◌∙◌, ℕ, suc, zero, ◌+◌, ◌-◌, ◌<◌, ◌≤◌, Bool, true, false, cond, not, ◌||◌, List, [], ◌∷◌, ◌++◌}
 use Rattle.std.proofs.Common.{length, map, filter, Option, Some, None, slice_get, refl, sym, ap, subst, arith}
 use Rattle.std.specs.Prelude.{⊤, All, MatchBool, bytes_eq, find, nat_abs, nat_lt, option_map, unwrap_or}
 use Rattle.std.specs.List.{list_any, position_or_len}
@@ -7,7 +7,7 @@ use Rattle.std.specs.Option.{option_or}
 use Rattle.std.proofs.lemmas.Bool.{le-ltb}
 use Rattle.std.proofs.lemmas.List.{length-append, length-map}
 use Rattle.std.proofs.lemmas.List.Elements.{All-map, All-weaker}
-use Rattle.span_tables.specs.Faults.{first_fault_after, first_of}
+use Rattle.span_tables.specs.Faults.{first_fault_after}
 use Rattle.span_tables.specs.Holdings.{ArePortfolio, fits}
 use Rattle.span_tables.specs.Names.{has_repeat}
 use Rattle.span_tables.specs.Net.{AccountHoldings, holdings_of, net_of}
@@ -20,7 +20,7 @@ use Rattle.span_tables.specs.declared.records.PositionRecord.{PositionRecord}
 use Rattle.span_tables.proofs.FaultLaws.{first_fault_next}
 use Rattle.span_tables.proofs.MergedLaws.{held_of_all}
 use Rattle.span_tables.proofs.Places.{same_name}
-use Rattle.binding.specs.Binding.{first_unfit_by, is_of_known, is_unknown}
+use Rattle.binding.specs.Binding.{is_of_known, is_unknown}
 use Rattle.binding.specs.OrderBinding.{holdings_after, is_memory as is_bind_memory, net_exceeds_with, order_bind_fault, tried_order}
 use Rattle.binding.specs.declared.faults.OrderBindFault.{OrderBindFault}
 use Rattle.binding.specs.declared.faults.OrderBindFault.TheVariants as fault

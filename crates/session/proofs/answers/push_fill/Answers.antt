@@ -1,5 +1,5 @@
-use Rattle.std.proofs.Common.{◌≡◌, ◌∙◌, ◌++◌, None, Some, subst, sym}
-use Rattle.std.specs.Option.{option_copied, option_to_list}
+use Rattle.std.proofs.Common.{◌≡◌, ◌∙◌, ◌++◌, Some, subst, sym}
+use Rattle.std.specs.Option.{option_to_list}
 use Rattle.std.specs.Prelude.{⊤, MatchBool}
 use Rattle.binding.specs.OrderBinding.{is_memory as is_bind_memory, order_bind_fault, tried_order}
 use Rattle.session.specs.Answers.{total_text, trade_records}

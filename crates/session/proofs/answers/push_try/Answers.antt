@@ -1,10 +1,9 @@
-use Rattle.std.proofs.Common.{◌≡◌, ◌∙◌, ◌++◌, None, Some, length, subst, sym, true}
-use Rattle.std.specs.Option.{option_copied, option_to_list}
+use Rattle.std.proofs.Common.{◌≡◌, ◌∙◌, ◌++◌, Some, length, subst, sym, true}
+use Rattle.std.specs.Option.{option_to_list}
 use Rattle.std.specs.Prelude.{⊤, All, MatchBool}
 use Rattle.span_tables.specs.Holdings.{fits}
 use Rattle.binding.specs.OrderBinding.{is_memory as is_bind_memory, order_bind_fault, tried_order}
 use Rattle.whatif.specs.Whatif.{order_text}
-use Rattle.session.specs.Accounts.{account_named}
 use Rattle.session.specs.Answers.{trade_records, tried_answer}
 use Rattle.session.specs.near.InUse.{state_of}
 use Rattle.session.proofs.AnswerLemmas.{own_fits, tried_lines, unfit_refused}

@@ -1,11 +1,10 @@
-use Rattle.std.proofs.Common.{rules, ◌≡◌, ◌∙◌, ◌<◌, ℕ, List, [], None, ap, arith, bytes_eq, false, length, subst, sym}
+use Rattle.std.proofs.Common.{rules, ◌≡◌, ◌∙◌, ◌<◌, [], ap, bytes_eq, false, length, subst, sym}
 use Rattle.std.specs.Prelude.{MatchBool, ⊤}
 use Rattle.std.specs.Prelude.{Some}
 use Rattle.std.proofs.lemmas.List.{length-map}
 use Rattle.span_tables.specs.Names.{has_repeat}
 use Rattle.span_tables.specs.Tables.{AcceptedTables}
 use Rattle.binding.specs.OrderBinding.{is_memory, order_bind_fault, tried_order}
-use Rattle.binding.specs.declared.trades.Trade.{Trade}
 use Rattle.session.specs.Answers.{trade_records}
 use Rattle.session.specs.Requests.{AreTradable}
 use Rattle.session.specs.near.Carried.{IsLoss, held_trade, held_trades, loss}

@@ -9,7 +9,7 @@ use Rattle.desks.specs.declared.desk.Taken.{Taken}
 use Rattle.desks.specs.declared.desk.Taken.TheVariants as taken
 use Rattle.desks.specs.declared.desk.DeskFault.TheVariants as desk
 use Rattle.session.specs.Answers.{State}
-use Rattle.session.specs.Conversations.{Turn, answer_of, answer_text, state_after}
+use Rattle.session.specs.Conversations.{answer_of, answer_text, state_after}
 use Rattle.session.proofs.ConversationLemmas.{log_more, no_turns, one_more_turn, state_behind_more}
 use Rattle.session.proofs.conversation.run.Goals as goal
 

@@ -1,7 +1,7 @@
 use Rattle.std.proofs.Common.{◌≡◌, ◌∙◌, Err, None, Ok, Some, ap, refl, sym}
-use Rattle.std.specs.Prelude.{false, if◌then◌else◌, is_err, true}
+use Rattle.std.specs.Prelude.{false, true}
 use Rattle.session.specs.Conversations.{Turn}
-use Rattle.session.proofs.TurnLemmas.{turn_served, turn_too_long, unless_err}
+use Rattle.session.proofs.TurnLemmas.{turn_served, turn_too_long}
 use Rattle.session.proofs.conversation.serve_one.Goals as goal
 use Rattle.session.proofs.conversation.serve_one.Goals.{then-is_kept, else-is_kept}
 

@@ -1,4 +1,4 @@
-use Rattle.std.proofs.Common.{rules, ◌≡◌, ◌∙◌, ◌∷◌, [], ◌++◌, Err, None, Some, ap, subst, sym}
+use Rattle.std.proofs.Common.{rules, ◌≡◌, ◌∙◌, ◌∷◌, [], ◌++◌, Err, Some, ap, subst, sym}
 use Rattle.std.specs.Prelude.{⊤, MatchBool, find, option_map}
 use Rattle.plan_compiler.specs.Compiled.{SetView}
 use Rattle.span_tables.specs.declared.records.PositionRecord.{PositionRecord}
