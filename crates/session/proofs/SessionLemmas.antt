@@ -1,5 +1,5 @@
 -- What a session opens with, what its accounts keep, and why another set is refused.
-use Rattle.std.proofs.Common.{◌≡◌, ℕ, Bool, true, false, List, [], ◌∷◌, Ok, Err, Option, Some, None, Result, refl}
+use Rattle.std.proofs.Common.{◌≡◌, ℕ, Bool, true, false, List, [], ◌∷◌, Ok, Err, Option, Some, None, refl}
 use Rattle.std.specs.Prelude.{⊤, All, MatchBool, bytes_eq, if◌then◌else◌, option_map}
 use Rattle.std.proofs.lemmas.List.Elements.{All-cons, All-head, All-tail}
 use Rattle.span_csv.specs.PositionFaults.{positions_of}

@@ -1,8 +1,7 @@
-use Rattle.std.proofs.Common.{◌≡◌, ◌∙◌, Err, Ok, None, Some, Result, Vec, Global, ℕ, false, refl, sym}
+use Rattle.std.proofs.Common.{◌≡◌, ◌∙◌, Err, Ok, None, Some, Vec, Global, ℕ, false, refl, sym}
 use Rattle.std.specs.Prelude.{is_err}
 use Rattle.session.specs.Conversations.{Turn}
 use Rattle.session.specs.Requests.{asked_by, request_of}
-use Rattle.session.specs.declared.refusals.Refusal.{Refusal}
 use Rattle.session.specs.near.Answering.{file_given}
 use Rattle.session.proofs.TurnLemmas.{form_refused, turn_answered, turn_reads, turn_reads_none, turn_refused, unless_err}
 use Rattle.session.proofs.session.Session.answer.Goals as goal
