@@ -44,9 +44,9 @@ pub all_with_account : (P : AccountHoldings → Type 0) (accounts : List Account
 all_with_account P [] p here all = All-cons P p [] here all
 all_with_account P (q ∷ rest) p here all =
     by_name (bytes_eq p.account q.account) (all_with_account P rest p here (All-tail P q rest all)) where
-  by_name : (b : Bool) → All P (with_account rest p) → All P (if b then p ∷ rest else q ∷ with_account rest p)
-  by_name true more = All-cons P p rest here (All-tail P q rest all)
-  by_name false more = All-cons P q (with_account rest p) (All-head P q rest all) more
+      by_name : (b : Bool) → All P (with_account rest p) → All P (if b then p ∷ rest else q ∷ with_account rest p)
+      by_name true more = All-cons P p rest here (All-tail P q rest all)
+      by_name false more = All-cons P q (with_account rest p) (All-head P q rest all) more
 
 -- ---- another set
 

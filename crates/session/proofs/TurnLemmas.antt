@@ -129,13 +129,13 @@ module _ {S : Type 0} (known : List ℕ → Option File) (reads : S → List ℕ
       (turn_reads_none known reads before after None memory source) same refl (λ saved. (refl, spoken saved))
 
   -- a desk was given the answer to a request
-  pub turn_told : (request asked : Option (List ℕ)) (file : Option File) (old new : List Event) (result : Result (Unit {0}) DeskFault)
+  pub turn_written : (request asked : Option (List ℕ)) (file : Option File) (old new : List Event) (result : Result (Unit {0}) DeskFault)
       (text : List ℕ)
       → IsTurn known reads before s n (record { request = request; file = file; is_out_of_memory = false }) after next written
       → request ≡ asked → text ≡ written → new ≡ old ++ told_by result text
       → (x : Turn) × (x.request ≡ asked) × AreFromSource known reads before (x ∷ []) after
       × (next ≡ state_after s (answer_of s x)) × (new ≡ old ++ told_by result (answer_text n (answer_of s x)))
-  turn_told request asked file old new result text is same told log = (
+  turn_written request asked file old new result text is same told log = (
     record { request = request; file = file; is_out_of_memory = false },
     same,
     is.source,

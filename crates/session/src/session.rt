@@ -223,7 +223,14 @@ impl Session {
     {
         let portfolios = self.accounts.portfolios(self.alloc)?;
         let (rt, gate) = (workers.rt, workers.gate);
-        let text = margin_of_portfolios(rt, self.alloc, self.set.set(), portfolios, workers.count, gate)?;
+        let text = margin_of_portfolios(
+            rt,
+            self.alloc,
+            self.set.set(),
+            portfolios,
+            workers.count,
+            gate,
+        )?;
         out.extend_from_slice(&text)?;
         Ok(())
     }
@@ -241,7 +248,9 @@ impl Session {
     {
         let set = set_read(self.alloc, name, read)?;
         let mut set = SetInUse::new(self.alloc, set)?;
-        let accounts = self.accounts.under_set(self.alloc, &mut set, self.set.tables())?;
+        let accounts = self
+            .accounts
+            .under_set(self.alloc, &mut set, self.set.tables())?;
         push_counts(self.alloc, out, &set)?;
         Ok(Change::Set(set, accounts))
     }

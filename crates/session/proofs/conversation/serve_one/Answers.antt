@@ -1,6 +1,6 @@
 use Rattle.std.proofs.Common.{◌≡◌, ◌∙◌, Err, None, Ok, Some, ap, refl, sym}
 use Rattle.std.specs.Prelude.{false, true}
-use Rattle.session.proofs.TurnLemmas.{turn_lost, turn_told, turn_too_long}
+use Rattle.session.proofs.TurnLemmas.{turn_lost, turn_written, turn_too_long}
 use Rattle.session.proofs.conversation.serve_one.Goals as goal
 use Rattle.session.proofs.conversation.serve_one.Goals.{then-is_kept, else-is_kept}
 
@@ -19,14 +19,14 @@ returns-in-Ok-clause-served g c =
           let answer = w.answer-answered in
           let done : answer.result ≡ Ok c.in-Ok.field-0 = sym w.answered-is ∙ c.in-Ok.is in
           let one = rw done at answer.ensures.turn in
-          rw (w.if-is_kept.true, w.sources-is, w.opened-is) (turn_told known reads before answer.new.sources s answer.new.self n
+          rw (w.if-is_kept.true, w.sources-is, w.opened-is) (turn_written known reads before answer.new.sources s answer.new.self n
           answer.new.out.items (Some w.line.result.now) (Some (g.D.Desk.line c.args.desk.now)) one.0 old new c.tell.result text one.1
           (ap Some w.line.ensures) (c.deref.ensures.value ∙ ap (λ out. out.items) w.text-is) c.tell.ensures.log)
       | else-is_kept w ↦
           let out = w.refuse_long-answered.new.out.items in
           let done : w.refuse_long-answered.result ≡ Ok c.in-Ok.field-0 = sym w.answered-is ∙ c.in-Ok.is in
           let one = turn_too_long known reads before before s s n out false refl refl (λ h. rw done at w.refuse_long-answered.ensures) in
-          rw (w.if-is_kept.false, w.sources-is, w.opened-is) (turn_told known reads before before s s n out None None None old new
+          rw (w.if-is_kept.false, w.sources-is, w.opened-is) (turn_written known reads before before s s n out None None None old new
           c.tell.result text one refl (c.deref.ensures.value ∙ ap (λ out. out.items) w.text-is) c.tell.ensures.log)
     ]
 
