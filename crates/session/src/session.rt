@@ -339,8 +339,8 @@ impl Session {
         Ok(())
     }
 
-    /// Answers the request of this number and line. The text of the answer replaces what was in `out`. If memory runs out, the session stays
-    /// as it was, and the caller has to answer that.
+    /// Answers the request of this number and line. The text of the answer replaces what was in `out`. If memory runs out, the session
+    /// stays as it was, and the caller has to write the refusal.
     pub fn answer<R: Threads + Wait + Clock + Sync, G: Gate, S: Sources>(
         &mut self,
         workers: &Workers<'_, R, G>,
