@@ -1,7 +1,6 @@
 -- Turns of a session, one after the other: the files that they read, the states behind them, and what a desk logs of them.
-use Rattle.std.proofs.Common.{◌≡◌, ℕ, ◌+◌, Bool, List, [], ◌∷◌, ◌++◌, Option, get_or, length, map, refl, sym, ap, subst}
-use Rattle.std.proofs.Common.{◌∙◌}
-use Rattle.std.proofs.Common.{append_assoc, arith}
+use Rattle.std.proofs.Common.{◌≡◌, ℕ, ◌+◌, Bool, List, [], ◌∷◌, ◌++◌, Option, get_or, length, map, refl, sym, ap, subst, ◌∙◌}
+use Rattle.std.proofs.Common.{append-nil, append_assoc, arith}
 use Rattle.std.proofs.lemmas.List.{map-append}
 use Rattle.std.proofs.lemmas.List.Elements.{All-append, filter_map-append}
 use Rattle.std.specs.Prelude.{All, IfSome, is_ok}
@@ -10,7 +9,7 @@ use Rattle.sources.specs.Files.{File, ReadGives}
 use Rattle.sources.specs.Reads.{ReadsAll}
 use Rattle.session.specs.Answers.{State}
 use Rattle.session.specs.Conversations.{AreFromSource, IsFromSource, Turn, answer_of, answer_text, events_from, file_of, files_of, log_of}
-use Rattle.session.specs.Conversations.{reads_of, state_after, state_behind}
+use Rattle.session.specs.Conversations.{opening_text, reads_of, state_after, state_behind}
 
 -- ---- files
 
@@ -45,13 +44,29 @@ module _ {S : Type 0} (known : List ℕ → Option File) (reads : S → List ℕ
             (read_more reads (reads_of turns) (reads_of (turn ∷ [])) old mid new done.in_order more.in_order);
       }
 
--- ---- states and the log
+-- ---- states
 
 -- the state behind one more turn
-pub state_behind_more : (turns : List Turn) (s : State) (turn : Turn)
+behind_more : (turns : List Turn) (s : State) (turn : Turn)
     → state_behind s (turns ++ turn ∷ []) ≡ state_after (state_behind s turns) (answer_of (state_behind s turns) turn)
-state_behind_more [] s turn = refl
-state_behind_more (x ∷ turns) s turn = state_behind_more turns (state_after s (answer_of s x)) turn
+behind_more [] s turn = refl
+behind_more (x ∷ turns) s turn = behind_more turns (state_after s (answer_of s x)) turn
+
+pub state_behind_more : (turns : List Turn) (s now next : State) (turn : Turn)
+    → now ≡ state_behind s turns → next ≡ state_after now (answer_of now turn) → next ≡ state_behind s (turns ++ turn ∷ [])
+state_behind_more turns s now next turn is_now is_next =
+    is_next ∙ ap (λ z. state_after z (answer_of z turn)) is_now ∙ sym (behind_more turns s turn)
+
+-- ---- the log
+
+-- nothing was added
+pub nothing_more : (old new : List Event) → new ≡ old ++ [] → new ≡ old
+nothing_more old new is = is ∙ append-nil old
+
+-- the log of the first answer
+pub first_log : (s : State) (old new : List Event) (text : List ℕ)
+    → new ≡ old ++ Told text ∷ [] → text ≡ opening_text s → new ≡ old ++ log_of s []
+first_log s old new text is first = is ∙ ap (λ t. old ++ Told t ∷ []) first
 
 -- the events of one more turn
 events_more : (turns : List Turn) (n m : ℕ) (s : State) (turn : Turn) → m ≡ n + length turns
@@ -64,10 +79,15 @@ events_more (x ∷ turns) n m s turn is =
     ap (λ events. Asked x.request ∷ Told (answer_text n (answer_of s x)) ∷ events)
     (events_more turns (n + 1) m (state_after s (answer_of s x)) turn (omega arith))
 
--- the log of one more turn
-pub log_more : (turns : List Turn) (m : ℕ) (s : State) (turn : Turn) (old log mid new : List Event)
-    → m ≡ length turns + 1 → log ≡ old ++ log_of s turns → mid ≡ log ++ Asked turn.request ∷ []
-    → new ≡ mid ++ Told (answer_text m (answer_of (state_behind s turns) turn)) ∷ [] → new ≡ old ++ log_of s (turns ++ turn ∷ [])
-log_more turns m s turn old log mid new count is_log is_mid is_new =
-    let more = events_more turns 1 m s turn (omega arith) in
-    rw (is_new, is_mid, is_log, more) (simp append_assoc)
+module _ (turns : List Turn) (s : State) (turn : Turn) (old log mid new : List Event) (is_log : log ≡ old ++ log_of s turns)
+    (is_mid : mid ≡ log ++ Asked turn.request ∷ []) where
+  -- the log of one more turn
+  pub log_more : (m : ℕ) (now : State) → m ≡ length turns + 1 → now ≡ state_behind s turns
+      → new ≡ mid ++ Told (answer_text m (answer_of now turn)) ∷ [] → new ≡ old ++ log_of s (turns ++ turn ∷ [])
+  log_more m now count is_now is_new =
+      let more = events_more turns 1 m s turn (omega arith) in
+      rw (is_new, is_mid, is_log, is_now, more) (simp append_assoc)
+
+  -- the log of a last request that has no answer
+  pub log_asked : new ≡ mid ++ [] → new ≡ old ++ log_of s turns ++ Asked turn.request ∷ []
+  log_asked is_new = nothing_more mid new is_new ∙ is_mid ∙ ap (λ events. events ++ Asked turn.request ∷ []) is_log

@@ -128,11 +128,32 @@ module _ {S : Type 0} (known : List ℕ → Option File) (reads : S → List ℕ
       turn_refused (record { request = None; file = None; is_out_of_memory = memory }) (refusal.Form form.LineTooLong)
       (turn_reads_none known reads before after None memory source) same refl (λ saved. (refl, spoken saved))
 
-  -- a request whose answer a desk took
-  pub turn_served : (turn : Turn) (request : Option (List ℕ)) (old new : List Event) (result : Result (Unit {0}) DeskFault)
-      (text : List ℕ) → IsTurn known reads before s n turn after next written → turn.request ≡ request
-      → text ≡ answer_text n (answer_of s turn) → new ≡ old ++ told_by result text
-      → (x : Turn) × (x.request ≡ request) × AreFromSource known reads before (x ∷ []) after
+  -- a desk was given the answer to a request
+  pub turn_written : (request asked : Option (List ℕ)) (file : Option File) (old new : List Event) (result : Result (Unit {0}) DeskFault)
+      (text : List ℕ)
+      → IsTurn known reads before s n (record { request = request; file = file; is_out_of_memory = false }) after next written
+      → request ≡ asked → text ≡ written → new ≡ old ++ told_by result text
+      → (x : Turn) × (x.request ≡ asked) × AreFromSource known reads before (x ∷ []) after
       × (next ≡ state_after s (answer_of s x)) × (new ≡ old ++ told_by result (answer_text n (answer_of s x)))
-  turn_served turn request old new result text is asked told log =
-      (turn, asked, is.source, is.state, log ∙ ap (λ t. old ++ told_by result t) told)
+  turn_written request asked file old new result text is same told log = (
+    record { request = request; file = file; is_out_of_memory = false },
+    same,
+    is.source,
+    is.state,
+    log ∙ ap (λ t. old ++ told_by result t) (told ∙ is.answer refl),
+  )
+
+  -- a desk was given the answer to a request for which memory ran out
+  pub turn_lost : (request asked : Option (List ℕ)) (file : Option File) (old new : List Event) (result : Result (Unit {0}) DeskFault)
+      (text : List ℕ)
+      → IsTurn known reads before s n (record { request = request; file = file; is_out_of_memory = true }) after next written
+      → request ≡ asked → text ≡ line (refused_line n refused.Memory) → new ≡ old ++ told_by result text
+      → (x : Turn) × (x.request ≡ asked) × AreFromSource known reads before (x ∷ []) after
+      × (next ≡ state_after s (answer_of s x)) × (new ≡ old ++ told_by result (answer_text n (answer_of s x)))
+  turn_lost request asked file old new result text is same told log = (
+    record { request = request; file = file; is_out_of_memory = true },
+    same,
+    is.source,
+    is.state,
+    log ∙ ap (λ t. old ++ told_by result t) told,
+  )

@@ -46,7 +46,7 @@ const STDIN: &str = "/dev/stdin";
 // Room for a request and the longest last line of an answer: made once, so that a refusal needs no more.
 const ROOM: usize = 8192;
 
-/// What the statement of all accounts is computed on: so many workers of a runtime, from 1 to 16, which pass a gate before each step.
+/// The workers that compute the statement of all accounts: from 1 to 16 of them, on a runtime. They pass a gate before each step.
 #[derive(Drop)]
 pub struct Workers<'a, R, G: Gate> {
     pub rt: &'a R,
@@ -84,7 +84,7 @@ impl Model for Session {
     ghost invariant = { λ s. AllFit s.set s.accounts };
 }
 
-/// A session that is open, and its first answer, which is that to request 0.
+/// An open session, and its first answer, which is the answer to request 0.
 #[derive(Drop)]
 pub struct Opened {
     pub session: Session,
@@ -109,7 +109,7 @@ fn opening(alloc: Global, set: &SetInUse) -> Result<Vec<u8>, AllocError>
     Ok(text)
 }
 
-// The compiled set of a file that was read, or why it is refused. The file has this name.
+// Compiles the set of a file that was read, or says why it is refused. The file has this name.
 fn set_read<'a>(
     alloc: Global,
     name: &'a str,
@@ -132,7 +132,7 @@ fn set_read<'a>(
     }
 }
 
-// The file that a request asks for, if it asks for one that is not the stream of requests, as it was read.
+// Reads the file that a request asks for, if it asks for one other than the stream of requests.
 fn read_asked<S: Sources>(
     alloc: Global,
     sources: &mut S,
@@ -148,7 +148,7 @@ fn read_asked<S: Sources>(
     }
 }
 
-// Why a request is refused that has a fault.
+// The refusal of a request that has this fault.
 fn refusal_of(fault: RequestFault) -> Refusal<'static>
     ensures { MatchBool (is_memory_fault fault) (result ≡ refusal.Memory) (result ≡ refusal.Form fault) }
 {
@@ -158,7 +158,7 @@ fn refusal_of(fault: RequestFault) -> Refusal<'static>
     }
 }
 
-// The line of a refusal, in place of what the text had.
+// Writes the line of a refusal, in place of what `out` had.
 fn refuse(out: &mut Vec<u8>, number: u64, refusal: Refusal<'_>) -> Result<(), AllocError>
     ensures { OnOk result ((is_memory refusal.entry ≡ false) × (out.new.items ≡ line (refused_line number (refused_by refusal.entry)))) }
 {
@@ -190,7 +190,7 @@ impl Session {
         Ok(Session::over(alloc, set, portfolios)?)
     }
 
-    // Opens a session over a set and portfolios.
+    // Opens a session over a compiled set and the portfolios of its accounts.
     fn over(
         alloc: Global,
         set: Arc<CompiledSet>,
@@ -235,7 +235,7 @@ impl Session {
         Ok(())
     }
 
-    // The set of a file that was read, and the accounts under it. Its line of counts is appended.
+    // Makes the set of a file that was read, carries the accounts over to it, and appends its line of counts.
     fn push_set<'a>(
         &self,
         out: &mut Vec<u8>,
@@ -255,7 +255,7 @@ impl Session {
         Ok(Change::Set(set, accounts))
     }
 
-    // Appends the lines of the answer to a request, and gives what it changes. The file is the one that it asks for, as it was read.
+    // Appends the lines of the answer to a request, and returns what it changes. `file` is what was read of the file that it asks for.
     #[tactic(auto, unfolding(crate::specs::Answers::answer_to))]
     fn push_lines<'a, R: Threads + Wait + Clock + Sync, G: Gate>(
         &mut self,
@@ -297,7 +297,7 @@ impl Session {
         Ok(Change::Nothing)
     }
 
-    // Makes a change. If memory runs out the session stays as it was.
+    // Makes a change. If memory runs out, the session stays as it was.
     fn apply(&mut self, change: Change) -> Result<(), AllocError>
         requires { ChangeFits self.old change }
         ensures done { OnOk result (self.new ≡ changed self.old change) }
@@ -314,7 +314,7 @@ impl Session {
         Ok(())
     }
 
-    // Answers a request that a line asks for.
+    // Answers a request, or says why it is refused.
     fn answer_request<'a, R: Threads + Wait + Clock + Sync, G: Gate>(
         &mut self,
         workers: &Workers<'_, R, G>,
@@ -339,8 +339,8 @@ impl Session {
         Ok(())
     }
 
-    /// Answers the request of a number, which has this line. The text of the answer stands in `out`, in place of what was there. If memory
-    /// runs out the session is as it was, and the request is refused for that.
+    /// Answers the request of this number and line. The text of the answer replaces what was in `out`. If memory runs out, the session
+    /// stays as it was, and the caller has to write the refusal.
     pub fn answer<R: Threads + Wait + Clock + Sync, G: Gate, S: Sources>(
         &mut self,
         workers: &Workers<'_, R, G>,
@@ -369,7 +369,7 @@ impl Session {
     }
 }
 
-/// The text of the answer to the request of a number that is too long, in place of what `out` had.
+/// Answers the request of this number, which is too long. The text of the answer replaces what was in `out`.
 pub fn refuse_long(out: &mut Vec<u8>, number: u64) -> Result<(), AllocError>
     ensures { OnOk result (out.new.items ≡ line (refused_line number (refused.Form form.LineTooLong))) }
 {

@@ -1,7 +1,6 @@
 use Rattle.std.proofs.Common.{◌≡◌, ◌∙◌, Err, None, Ok, Some, ap, refl, sym}
 use Rattle.std.specs.Prelude.{false, true}
-use Rattle.session.specs.Conversations.{Turn}
-use Rattle.session.proofs.TurnLemmas.{turn_served, turn_too_long}
+use Rattle.session.proofs.TurnLemmas.{turn_lost, turn_written, turn_too_long}
 use Rattle.session.proofs.conversation.serve_one.Goals as goal
 use Rattle.session.proofs.conversation.serve_one.Goals.{then-is_kept, else-is_kept}
 
@@ -14,23 +13,21 @@ returns-in-Ok-clause-served g c =
     let n = c.args.number in
     let old = g.D.Desk.log c.args.desk.now in
     let new = g.D.Desk.log c.tell.new.self in
+    let text = c.deref.result.now in
     elim c.if-is_kept.branch [
       | then-is_kept w ↦
-          let done : w.answer-answered.result ≡ Ok c.in-Ok.field-0 = sym w.answered-is ∙ c.in-Ok.is in
-          let one = rw done at w.answer-answered.ensures.turn in
-          let turn : Turn = record { request = Some w.line.result.now; file = one.0; is_out_of_memory = false } in
-          rw (w.if-is_kept.true, w.sources-is, w.opened-is) (turn_served known reads before w.answer-answered.new.sources s
-          w.answer-answered.new.self n w.answer-answered.new.out.items turn (Some (g.D.Desk.line c.args.desk.now)) old new c.tell.result
-          c.deref.result.now one.1 (ap Some w.line.ensures)
-          (c.deref.ensures.value ∙ ap (λ text. text.items) w.text-is ∙ one.1.answer refl) c.tell.ensures.log)
+          let answer = w.answer-answered in
+          let done : answer.result ≡ Ok c.in-Ok.field-0 = sym w.answered-is ∙ c.in-Ok.is in
+          let one = rw done at answer.ensures.turn in
+          rw (w.if-is_kept.true, w.sources-is, w.opened-is) (turn_written known reads before answer.new.sources s answer.new.self n
+          answer.new.out.items (Some w.line.result.now) (Some (g.D.Desk.line c.args.desk.now)) one.0 old new c.tell.result text one.1
+          (ap Some w.line.ensures) (c.deref.ensures.value ∙ ap (λ out. out.items) w.text-is) c.tell.ensures.log)
       | else-is_kept w ↦
+          let out = w.refuse_long-answered.new.out.items in
           let done : w.refuse_long-answered.result ≡ Ok c.in-Ok.field-0 = sym w.answered-is ∙ c.in-Ok.is in
-          let turn : Turn = record { request = None; file = None; is_out_of_memory = false } in
-          let one = turn_too_long known reads before before s s n w.refuse_long-answered.new.out.items false refl refl
-          (λ h. rw done at w.refuse_long-answered.ensures) in
-          rw (w.if-is_kept.false, w.sources-is, w.opened-is) (turn_served known reads before before s s n
-          w.refuse_long-answered.new.out.items turn None old new c.tell.result c.deref.result.now one refl
-          (c.deref.ensures.value ∙ ap (λ text. text.items) w.text-is ∙ one.answer refl) c.tell.ensures.log)
+          let one = turn_too_long known reads before before s s n out false refl refl (λ h. rw done at w.refuse_long-answered.ensures) in
+          rw (w.if-is_kept.false, w.sources-is, w.opened-is) (turn_written known reads before before s s n out None None None old new
+          c.tell.result text one refl (c.deref.ensures.value ∙ ap (λ out. out.items) w.text-is) c.tell.ensures.log)
     ]
 
 pub returns-in-Err-clause-served : goal.returns-in-Err-clause-served
@@ -47,15 +44,15 @@ returns-in-Err-clause-served g c =
     let told = c.as_bytes.ensures.value ∙ c.deref-in-Err.ensures.0 ∙ c.refused_memory.ensures in
     elim c.if-is_kept.branch [
       | then-is_kept w ↦
-          let failed : w.answer-answered.result ≡ Err c.in-Err.field-0 = sym w.answered-is ∙ c.in-Err.is in
-          let one = rw failed at w.answer-answered.ensures.turn in
-          let turn : Turn = record { request = Some w.line.result.now; file = one.0; is_out_of_memory = true } in
-          rw (w.if-is_kept.true, w.sources-is, w.opened-is) (turn_served known reads before w.answer-answered.new.sources s
-          w.answer-answered.new.self n w.answer-answered.new.out.items turn (Some (g.D.Desk.line c.args.desk.now)) old new result text
-          one.1 (ap Some w.line.ensures) told c.tell-in-Err.ensures.log)
+          let answer = w.answer-answered in
+          let failed : answer.result ≡ Err c.in-Err.field-0 = sym w.answered-is ∙ c.in-Err.is in
+          let one = rw failed at answer.ensures.turn in
+          rw (w.if-is_kept.true, w.sources-is, w.opened-is) (turn_lost known reads before answer.new.sources s answer.new.self n
+          answer.new.out.items (Some w.line.result.now) (Some (g.D.Desk.line c.args.desk.now)) one.0 old new result text one.1
+          (ap Some w.line.ensures) told c.tell-in-Err.ensures.log)
       | else-is_kept w ↦
-          let turn : Turn = record { request = None; file = None; is_out_of_memory = true } in
-          let one = turn_too_long known reads before before s s n w.refuse_long-answered.new.out.items true refl refl (λ h. cc h) in
-          rw (w.if-is_kept.false, w.sources-is, w.opened-is) (turn_served known reads before before s s n
-          w.refuse_long-answered.new.out.items turn None old new result text one refl told c.tell-in-Err.ensures.log)
+          let out = w.refuse_long-answered.new.out.items in
+          let one = turn_too_long known reads before before s s n out true refl refl (λ h. cc h) in
+          rw (w.if-is_kept.false, w.sources-is, w.opened-is) (turn_lost known reads before before s s n out None None None old new result
+          text one refl told c.tell-in-Err.ensures.log)
     ]
