@@ -1,0 +1,35 @@
+-- What a desk over two streams has done.
+use Rattle.std.specs.Prelude.{◌≡◌, ℕ, Bool, true, List, ◌++◌, Option, IfSome}
+use Rattle.std.specs.Io.{StartsWith}
+use Rattle.writers.specs.Streams.{Says, Stream}
+use Rattle.desks.specs.Events.{Event, asked_in, told_in}
+use Rattle.desks.specs.Requests.{requests_in, whole_lines}
+
+-- The desk over an input and an output: the bytes that the input had at the start, if they are known; those that were read of it; whether
+-- a read failed; what was known of the output at the start, and what is known of it now; and the log.
+pub record Dealings : Type 0 where
+  pub given : Option (List ℕ)
+  pub received : List ℕ
+  pub unreadable : Bool
+  pub began : Stream
+  pub output : Stream
+  pub log : List Event
+
+-- all requests were handed over: those in the bytes that were read, and they are those in all bytes that the input had
+pub record IsAtEnd (d : Dealings) : Type 0 where
+  pub read : asked_in d.log ≡ requests_in d.received
+  pub given : IfSome d.given (λ all. asked_in d.log ≡ requests_in all)
+
+-- A read failed. The requests in the lines that have their line feed were handed over, and a line that the failure cut off is none.
+pub record IsCutOff (d : Dealings) : Type 0 where
+  pub failed : d.unreadable ≡ true
+  pub read : asked_in d.log ≡ requests_in (whole_lines d.received)
+
+-- what holds after any calls
+pub record IsDealt (d : Dealings) : Type 0 where
+  -- the output has grown by exactly the answers, unless a write failed
+  pub told : Says d.began d.output (told_in d.log)
+  -- what was read is the first part of what the input had
+  pub front : IfSome d.given (λ all. StartsWith all d.received)
+  -- the requests that were handed over are the first ones in the bytes that the input had
+  pub asked : IfSome d.given (λ all. (more : List (Option (List ℕ))) × (requests_in all ≡ asked_in d.log ++ more))
