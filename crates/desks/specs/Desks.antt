@@ -1,5 +1,6 @@
 -- What a desk over two streams has done.
 use Rattle.std.specs.Prelude.{◌≡◌, ℕ, Bool, true, List, ◌++◌, Option, IfSome}
+use Rattle.std.specs.Io.{StartsWith}
 use Rattle.writers.specs.Streams.{Says, Stream}
 use Rattle.desks.specs.Events.{Event, asked_in, told_in}
 use Rattle.desks.specs.Requests.{requests_in, whole_lines}
@@ -28,5 +29,7 @@ pub record IsCutOff (d : Dealings) : Type 0 where
 pub record IsDealt (d : Dealings) : Type 0 where
   -- the output has grown by exactly the answers, unless a write failed
   pub told : Says d.began d.output (told_in d.log)
+  -- what was read is the first part of what the input had
+  pub front : IfSome d.given (λ all. StartsWith all d.received)
   -- the requests that were handed over are the first ones in the bytes that the input had
   pub asked : IfSome d.given (λ all. (more : List (Option (List ℕ))) × (requests_in all ≡ asked_in d.log ++ more))
