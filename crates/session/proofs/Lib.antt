@@ -1,8 +1,10 @@
 mod CarriedLemmas
+mod CarryLemmas
 mod CutLemmas
 mod FieldLemmas
 mod FormLemmas
 mod LossLemmas
+mod OrderLemmas
 mod TradeLemmas
 pub mod AccountLemmas
 pub mod TriedLemmas

@@ -1,25 +1,27 @@
 -- The fault of what an account held under a set that lacks a contract, and that there is none if it lacks none.
 use Rattle.std.proofs.Common.{◌≡◌, ◌∙◌, ℕ, suc, zero, ◌+◌, ◌-◌, ◌<◌, ◌≤◌, Bool, true, false, cond, not, ◌&&◌, ◌||◌, List, [], ◌∷◌, ◌++◌}
 use Rattle.std.proofs.Common.{length, map, filter, Option, Some, None, slice_get, refl, sym, ap, subst, arith}
-use Rattle.std.specs.Prelude.{bytes_eq, find, nat_abs, nat_lt, option_map, unwrap_or}
+use Rattle.std.specs.Prelude.{⊤, All, MatchBool, bytes_eq, find, nat_abs, nat_lt, option_map, unwrap_or}
 use Rattle.std.specs.List.{list_any, position_or_len}
 use Rattle.std.specs.Option.{option_or}
 use Rattle.std.proofs.lemmas.Bool.{le-ltb}
-use Rattle.std.proofs.lemmas.List.{length-append}
+use Rattle.std.proofs.lemmas.List.{length-append, length-map}
+use Rattle.std.proofs.lemmas.List.Elements.{All-map, All-weaker}
 use Rattle.span_tables.specs.Faults.{first_fault_after, first_of}
 use Rattle.span_tables.specs.Holdings.{ArePortfolio, fits}
 use Rattle.span_tables.specs.Names.{has_repeat}
-use Rattle.span_tables.specs.Net.{AccountHoldings, holdings_of}
+use Rattle.span_tables.specs.Net.{AccountHoldings, holdings_of, net_of}
 use Rattle.span_tables.specs.Orders.{account_of_order, as_position, net_among, positions_of_order}
-use Rattle.span_tables.specs.declared.limits.TheConstants.{MAX_HELD, MAX_NET}
+use Rattle.span_tables.specs.declared.limits.TheConstants.{MAX_HELD, MAX_NET, MAX_QUANTITY}
 use Rattle.span_tables.specs.declared.portfolios.Holding.{Holding}
 use Rattle.span_tables.specs.declared.records.Contract.{Contract}
 use Rattle.span_tables.specs.declared.records.OrderRecord.{OrderRecord}
 use Rattle.span_tables.specs.declared.records.PositionRecord.{PositionRecord}
 use Rattle.span_tables.proofs.FaultLaws.{first_fault_next}
+use Rattle.span_tables.proofs.MergedLaws.{held_of_all}
 use Rattle.span_tables.proofs.Places.{same_name}
 use Rattle.binding.specs.Binding.{first_unfit_by, is_of_known, is_unknown}
-use Rattle.binding.specs.OrderBinding.{holdings_after, net_exceeds_with, order_bind_fault, tried_order}
+use Rattle.binding.specs.OrderBinding.{holdings_after, is_memory as is_bind_memory, net_exceeds_with, order_bind_fault, tried_order}
 use Rattle.binding.specs.declared.faults.OrderBindFault.{OrderBindFault}
 use Rattle.binding.specs.declared.faults.OrderBindFault.TheVariants as fault
 use Rattle.binding.specs.declared.trades.Trade.{Trade}
@@ -28,9 +30,35 @@ use Rattle.binding.proofs.OwnerLaws.{first_is_unknown, none_from}
 use Rattle.binding.proofs.UnfitLaws.{fit_from_none}
 use Rattle.session.specs.Accounts.{contract_of, held_record, held_records, under_contracts}
 use Rattle.session.specs.Answers.{trade_records}
-use Rattle.session.specs.near.Carried.{held_trade, held_trades, IsLoss}
+use Rattle.session.specs.Refusals.{Refused, refused_by}
+use Rattle.session.specs.Requests.{AreTradable}
+use Rattle.session.specs.Refusals as refused
+use Rattle.session.specs.declared.refusals.Refusal.{Refusal}
+use Rattle.session.specs.declared.refusals.Refusal.TheVariants as refusal
+use Rattle.session.specs.near.Answering.{is_memory}
+use Rattle.session.specs.near.Carried.{IsLoss, held_trade, held_trades, loss}
 use Rattle.session.proofs.CarriedLemmas.{carried_holds, holdings_alone}
 use Rattle.session.proofs.TriedLemmas.{account_is}
+
+refuses_memory : (r : Refusal) → refused_by r ≡ refused.Memory → is_memory r ≡ true
+refuses_memory (refusal.Form e) is = cc
+refuses_memory refusal.UnknownAccount is = cc
+refuses_memory refusal.TooManyAccounts is = cc
+refuses_memory (refusal.UnknownContract field) is = cc
+refuses_memory (refusal.NetOutOfRange field) is = cc
+refuses_memory (refusal.TooManyHeld field) is = cc
+refuses_memory (refusal.Parameters e) is = cc
+refuses_memory (refusal.Lost a c) is = cc
+refuses_memory (refusal.File name) is = cc
+refuses_memory refusal.Memory is = refl
+
+if_memory : (A : Type 0) (b : Bool) → b ≡ true → MatchBool b ⊤ A
+if_memory A true is = tt
+if_memory A false is = cc
+
+if_either : {A : Type 0} (b : Bool) → A → MatchBool b ⊤ A
+if_either true a = tt
+if_either false a = a
 
 module _ (old new : List Contract) (account : List ℕ) where
   abbrev records : List Holding → List OrderRecord
@@ -46,7 +74,7 @@ module _ (old new : List Contract) (account : List ℕ) where
   test earlier r = cond (foreign r) (Some (λ at. fault.UnknownContract at r.order)) None
 
   -- what is found of holdings behind so many records
-  Found : ℕ → List Holding → Option OrderBindFault → Type 0
+  abbrev Found : ℕ → List Holding → Option OrderBindFault → Type 0
   Found n hs None = find (is_unknown new) (held hs) ≡ None
   Found n hs (Some (fault.UnknownContract at order)) =
       (k : ℕ) × (at ≡ n + 1 + k) × (k < length hs) × (find (is_unknown new) (held hs) ≡ slice_get (held hs) k)
@@ -74,7 +102,7 @@ module _ (old new : List Contract) (account : List ℕ) where
       r = record { order = account; account = account; contract = contract_of old h; quantity = h.net }
 
       next : first_fault_after test earlier (records (h ∷ hs))
-          ≡ option_or (option_map (λ f. f (length earlier + 1)) (test earlier r)) (first_fault_after test (earlier ++ r ∷ []) (records hs))
+          ≡ option_or (option_map (λ (f : ℕ → OrderBindFault). f (length earlier + 1)) (test earlier r)) (first_fault_after test (earlier ++ r ∷ []) (records hs))
       next = first_fault_next test earlier r (records hs)
 
       by : (b : Bool) → foreign r ≡ b
@@ -82,17 +110,35 @@ module _ (old new : List Contract) (account : List ℕ) where
           → Found (length earlier) (h ∷ hs) (first_fault_after test earlier (records (h ∷ hs)))
       by true e more =
           subst (Found (length earlier) (h ∷ hs))
-          (sym (next ∙ ap (λ b. option_or (option_map (λ f. f (length earlier + 1)) (cond b (Some (λ at. fault.UnknownContract at account)) None))
+          (sym (next ∙ ap (λ b. option_or (option_map (λ (f : ℕ → OrderBindFault). f (length earlier + 1)) (cond b (Some (λ at. fault.UnknownContract at account)) None))
           (first_fault_after test (earlier ++ r ∷ []) (records hs))) e))
           (0, omega arith, omega arith,
           ap (λ b. cond b (Some (held_record old account h)) (find (is_unknown new) (held hs))) e)
       by false e more =
           let size : length (earlier ++ r ∷ []) ≡ length earlier + 1 = length-append earlier (r ∷ []) in
           subst (Found (length earlier) (h ∷ hs))
-          (sym (next ∙ ap (λ b. option_or (option_map (λ f. f (length earlier + 1)) (cond b (Some (λ at. fault.UnknownContract at account)) None))
+          (sym (next ∙ ap (λ b. option_or (option_map (λ (f : ℕ → OrderBindFault). f (length earlier + 1)) (cond b (Some (λ at. fault.UnknownContract at account)) None))
           (first_fault_after test (earlier ++ r ∷ []) (records hs))) e))
           (found_later (length earlier) h hs (first_fault_after test (earlier ++ r ∷ []) (records hs)) e
           (subst (λ n. Found n hs (first_fault_after test (earlier ++ r ∷ []) (records hs))) size more))
+
+  -- ---- what is refused
+
+  abbrev lost_by : PositionRecord → Refused
+  lost_by p = refused.Lost p.account p.contract
+
+  both_at : (hs : List Holding) (k : ℕ) → k < length hs
+      → option_map lost_by (slice_get (held hs) k)
+      ≡ Some (refused.Lost account (unwrap_or (option_map (λ (t : Trade). t.contract) (slice_get (held_trades old hs) k)) []))
+  both_at [] k lt = absurd (omega (arith, lt))
+  both_at (h ∷ hs) zero lt = refl
+  both_at (h ∷ hs) (suc k) lt = both_at hs k (omega (arith, lt))
+
+  loss_memory : (trades : List Trade) (e : OrderBindFault) → is_bind_memory e ≡ true → loss account trades e ≡ refused.Memory
+  loss_memory trades (fault.UnknownContract at order) memory = cc
+  loss_memory trades (fault.NetOutOfRange at order) memory = refl
+  loss_memory trades (fault.TooManyHeld at order) memory = refl
+  loss_memory trades fault.OutOfMemory memory = refl
 
   -- ---- what the account comes to hold
 
@@ -168,12 +214,96 @@ module _ (old new : List Contract) (account : List ℕ) where
       none_lost e = subst (Found 0 (h ∷ hs)) e found
 
       loss_of : (e : OrderBindFault) → Found 0 (h ∷ hs) (Some e) → IsLoss (length (h ∷ hs)) e
-      loss_of (fault.UnknownContract at order) found =
-          (let at_is = found.1 in omega (arith, at_is), let at_is = found.1 in let lt = found.2 in omega (arith, at_is, lt))
-      loss_of (fault.NetOutOfRange at order) found = found
-      loss_of (fault.TooManyHeld at order) found = found
-      loss_of fault.OutOfMemory found = tt
+      loss_of (fault.UnknownContract at order) f =
+          (let at_is = f.1 in omega (arith, at_is), let at_is = f.1 in let lt = f.2 in omega (arith, at_is, lt))
+      loss_of (fault.NetOutOfRange at order) f = f
+      loss_of (fault.TooManyHeld at order) f = f
+      loss_of fault.OutOfMemory f = tt
 
       -- if there is one, it names one of the trades
-      pub some_lost : (e : OrderBindFault) → order_bind_fault new [] (records (h ∷ hs)) ≡ Some e → IsLoss (length (h ∷ hs)) e
+      some_lost : (e : OrderBindFault) → order_bind_fault new [] (records (h ∷ hs)) ≡ Some e → IsLoss (length (h ∷ hs)) e
       some_lost e is = loss_of e (subst (Found 0 (h ∷ hs)) is found)
+
+      pub loss_if : (e : OrderBindFault) → MatchBool (is_bind_memory e) ⊤ (order_bind_fault new [] (records (h ∷ hs)) ≡ Some e)
+          → IsLoss (length (h ∷ hs)) e
+      loss_if (fault.UnknownContract at order) is = some_lost (fault.UnknownContract at order) is
+      loss_if (fault.NetOutOfRange at order) is = some_lost (fault.NetOutOfRange at order) is
+      loss_if (fault.TooManyHeld at order) is = some_lost (fault.TooManyHeld at order) is
+      loss_if fault.OutOfMemory is = tt
+
+      found_lost : (e : OrderBindFault) → is_bind_memory e ≡ false → Found 0 (h ∷ hs) (Some e)
+          → option_map lost_by (find (is_unknown new) (held (h ∷ hs))) ≡ Some (loss account (held_trades old (h ∷ hs)) e)
+      found_lost (fault.UnknownContract at order) named f =
+          let at_is = f.1 in
+          let k : at - 1 ≡ f.0 = omega (arith, at_is) in
+          ap (option_map lost_by) f.3 ∙ both_at (h ∷ hs) f.0 f.2
+          ∙ ap (λ n. Some (refused.Lost account
+          (unwrap_or (option_map (λ (t : Trade). t.contract) (slice_get (held_trades old (h ∷ hs)) n)) []))) (sym k)
+      found_lost (fault.NetOutOfRange at order) named f = absurd f
+      found_lost (fault.TooManyHeld at order) named f = absurd f
+      found_lost fault.OutOfMemory named f = cc
+
+      -- and what is refused is the contract that is lost
+      pub lost_if : (e : OrderBindFault) → MatchBool (is_bind_memory e) ⊤ (order_bind_fault new [] (records (h ∷ hs)) ≡ Some e)
+          → (r : Refusal) → refused_by r ≡ loss account (held_trades old (h ∷ hs)) e
+          → MatchBool (is_memory r) ⊤ (option_map lost_by (find (is_unknown new) (held (h ∷ hs))) ≡ Some (refused_by r))
+      lost_if e unfit r refuses = by (is_bind_memory e) refl unfit
+        where
+          by : (b : Bool) → is_bind_memory e ≡ b → MatchBool b ⊤ (order_bind_fault new [] (records (h ∷ hs)) ≡ Some e)
+              → MatchBool (is_memory r) ⊤ (option_map lost_by (find (is_unknown new) (held (h ∷ hs))) ≡ Some (refused_by r))
+          by true memory unfit =
+              if_memory (option_map lost_by (find (is_unknown new) (held (h ∷ hs))) ≡ Some (refused_by r)) (is_memory r)
+              (refuses_memory r (refuses ∙ loss_memory (held_trades old (h ∷ hs)) e memory))
+          by false named unfit =
+              if_either (is_memory r) (found_lost e named (subst (Found 0 (h ∷ hs)) unfit found) ∙ ap Some (sym refuses))
+
+-- what is held can be traded
+pub trades_tradable : (old : List Contract) (hs : List Holding) → 0 < length hs → All (λ h. nat_abs h.net ≤ MAX_NET) hs
+    → AreTradable (held_trades old hs)
+trades_tradable old hs some small = record {
+  some = let size = length-map hs (held_trade old) in omega (arith, size, some);
+  small = All-map (λ (t : Trade). nat_abs t.quantity ≤ MAX_QUANTITY) (held_trade old) hs
+      (All-weaker (λ (h : Holding). nat_abs h.net ≤ MAX_NET) (λ (h : Holding). nat_abs h.net ≤ MAX_QUANTITY)
+      (λ h le. omega (arith, le)) hs small);
+}
+
+-- ---- holdings that are some
+
+module _ (old new : List Contract) (account : List ℕ) (apart : has_repeat (λ x y. bytes_eq x.id y.id) old ≡ false)
+    (new_apart : has_repeat (λ x y. bytes_eq x.id y.id) new ≡ false) where
+  pub carried_some : (hs : List Holding) → 0 < length hs → (after : AccountHoldings)
+      → after ≡ (tried_order new [] (trade_records account account (held_trades old hs)) account).after
+      → after ≡ under_contracts old new (record { account = account; holdings = hs })
+  carried_some [] some after is = absurd (omega (arith, some))
+  carried_some (h ∷ hs) some after is = is ∙ carried_is old new account h hs
+
+  pub none_lost_some : (hs : List Holding) → 0 < length hs → fits (length old) hs ≡ true → ArePortfolio hs
+      → order_bind_fault new [] (trade_records account account (held_trades old hs)) ≡ None
+      → find (is_unknown new) (held_records old (record { account = account; holdings = hs })) ≡ None
+  none_lost_some [] some fit portfolio none = refl
+  none_lost_some (h ∷ hs) some fit portfolio none = none_lost old new account h hs apart new_apart fit portfolio none
+
+  pub loss_some : (hs : List Holding) → 0 < length hs → fits (length old) hs ≡ true → ArePortfolio hs → (e : OrderBindFault)
+      → MatchBool (is_bind_memory e) ⊤ (order_bind_fault new [] (trade_records account account (held_trades old hs)) ≡ Some e)
+      → IsLoss (length hs) e
+  loss_some [] some fit portfolio e unfit = absurd (omega (arith, some))
+  loss_some (h ∷ hs) some fit portfolio e unfit = loss_if old new account h hs apart new_apart fit portfolio e unfit
+
+  pub lost_some : (hs : List Holding) → 0 < length hs → fits (length old) hs ≡ true → ArePortfolio hs → (e : OrderBindFault)
+      → MatchBool (is_bind_memory e) ⊤ (order_bind_fault new [] (trade_records account account (held_trades old hs)) ≡ Some e)
+      → (r : Refusal) → refused_by r ≡ loss account (held_trades old hs) e
+      → MatchBool (is_memory r) ⊤ (option_map (λ held. refused.Lost held.account held.contract)
+      (find (is_unknown new) (held_records old (record { account = account; holdings = hs }))) ≡ Some (refused_by r))
+  lost_some [] some fit portfolio e unfit r refuses = absurd (omega (arith, some))
+  lost_some (h ∷ hs) some fit portfolio e unfit r refuses = lost_if old new account h hs apart new_apart fit portfolio e unfit r refuses
+
+-- an account that holds nothing holds nothing under another set
+none_of_none : (account : List ℕ) (a : ℕ) (xs : List Contract) → held_of_all (λ k x. net_of [] account x.id) a xs ≡ []
+none_of_none account a [] = refl
+none_of_none account a (x ∷ xs) = none_of_none account (a + 1) xs
+
+pub carried_none : (old new : List Contract) (account : List ℕ) (hs : List Holding) → length hs ≡ 0
+    → record { account = account; holdings = hs } ≡ under_contracts old new (record { account = account; holdings = hs })
+carried_none old new account [] none =
+    λ i. (let p : AccountHoldings = record { account = account; holdings = sym (none_of_none account 0 new) i } in p)
+carried_none old new account (h ∷ hs) none = absurd (omega (arith, none))

@@ -92,6 +92,7 @@ impl Accounts {
         ensures lost { IfErr result (λ r. MatchBool (is_memory r) ⊤ (option_map (λ held. refused.Lost held.account held.contract)
             (lost_record old.now.contracts set.old.tables.contracts self.now) ≡ Some (refused_by r))) }
     {
+        self.known();
         let mut all = Vec::with_capacity(alloc, self.len())?;
         for portfolio in self.by_name.values() {
             let carried = carried(alloc, set, old, portfolio)?;

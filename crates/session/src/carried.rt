@@ -82,6 +82,7 @@ pub(crate) fn carried(
     if portfolio.holdings().is_empty() {
         return Ok(copied(alloc, portfolio)?);
     }
+    set.tables().known();
     let trades = held_trades(alloc, old.contracts(), portfolio)?;
     match set.after(None, portfolio.account(), &trades) {
         Ok(after) => Ok(after),

@@ -135,7 +135,7 @@ impl SetInUse {
         account: &Name,
         trades: &[Trade],
     ) -> Result<(), OrderBindFault>
-        requires fits { AllFit self.old (option_to_list (option_copied known.entry)) }
+        requires fits { AllFit self.old (option_to_list (option_copied known)) }
         requires trades { AreTradable trades.now }
         ensures same { self.new ≡ self.old }
         ensures fit { OnOk result (order_bind_fault self.old.tables.contracts (option_to_list (option_copied known.entry))

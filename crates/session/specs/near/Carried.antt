@@ -1,11 +1,15 @@
--- What an account holds, as trades that come to it.
-use Rattle.std.specs.Prelude.{◌<◌, ◌≤◌, ⊤, ℕ, ◌-◌, List, [], map, option_map, slice_get, unwrap_or}
+-- What accounts hold, as trades that come to it, and what they come to hold under another set.
+use Rattle.std.specs.Prelude.{◌≡◌, ◌<◌, ◌≤◌, ⊤, ℕ, ◌-◌, List, [], ◌++◌, All, length, map, option_map, slice_get, true, unwrap_or}
+use Rattle.plan_compiler.specs.Compiled.{SetView}
+use Rattle.span_tables.specs.Holdings.{fits}
+use Rattle.span_tables.specs.Net.{AccountHoldings}
+use Rattle.worker_pool.specs.Batches.{AllFit}
 use Rattle.span_tables.specs.declared.portfolios.Holding.{Holding}
 use Rattle.span_tables.specs.declared.records.Contract.{Contract}
 use Rattle.binding.specs.declared.trades.Trade.{Trade}
 use Rattle.binding.specs.declared.faults.OrderBindFault.{OrderBindFault}
 use Rattle.binding.specs.declared.faults.OrderBindFault.TheVariants as fault
-use Rattle.session.specs.Accounts.{contract_of}
+use Rattle.session.specs.Accounts.{contract_of, lost_record, under_contracts}
 use Rattle.session.specs.Refusals.{Refused}
 use Rattle.session.specs.Refusals as refused
 
@@ -28,3 +32,10 @@ abbrev pub loss : List ℕ → List Trade → OrderBindFault → Refused
 loss account trades (fault.UnknownContract at order) =
     refused.Lost account (unwrap_or (option_map (λ t. t.contract) (slice_get trades (at - 1))) [])
 loss account trades _ = refused.Memory
+
+-- of all accounts of a session some are carried to another set, and these are left
+pub record AreCarried (set : SetView) (old : List Contract) (all left carried : List AccountHoldings) : Type 0 where
+  pub accounts : carried ++ map (under_contracts old set.tables.contracts) left ≡ map (under_contracts old set.tables.contracts) all
+  pub fit : AllFit set carried
+  pub left_fit : All (λ p. fits (length old) p.holdings ≡ true) left
+  pub lost : lost_record old set.tables.contracts all ≡ lost_record old set.tables.contracts left
