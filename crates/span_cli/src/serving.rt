@@ -281,7 +281,7 @@ fn rolled<R: Threads + Wait + Clock + Sync, G: Gate>(
 }
 
 // What comes of a request for the bytes of its files.
-fn outcome<R: Threads + Wait + Clock + Sync, G: Gate>(
+fn answer<R: Threads + Wait + Clock + Sync, G: Gate>(
     lent: &ServingMeans<'_, R, G>,
     request: &Request<'_>,
     files: &[Vec<u8>],
@@ -345,7 +345,7 @@ fn run<'a, S: Sources, R: Threads + Wait + Clock + Sync, G: Gate>(
         &request.files(),
         request.takes_requests(),
     )?;
-    let outcome = outcome(lent, request, &files)?;
+    let outcome = answer(lent, request, &files)?;
     Ok(outcome)
 }
 
