@@ -1,10 +1,26 @@
-use Rattle.std.proofs.Common.{inl}
-use Rattle.span_cli.proofs.ServingLemmas.{refusal_serves}
+use Rattle.std.proofs.Common.{[]}
+use Rattle.span_cli.specs.Serving.{asked_by}
+use Rattle.span_cli.proofs.ServingLemmas.{files_read, given_serves, refusal_serves, session_serves}
 use Rattle.span_cli.proofs.serving.serve.Goals as goal
 
-pub returns-in-Err-clause-answer : goal.returns-in-Err-clause-answer
-returns-in-Err-clause-answer g c = refusal_serves (g.S.Sources.file c.args.sources.now) _ c.in-Err.refusal c.refuse.result _ _ _ c.requires
-    c.refuse.ensures.status c.refuse.ensures.line c.in-Err.ensures.answer
+pub returns-in-Err : goal.returns-in-Err
+returns-in-Err g c = (
+  [],
+  refusal_serves (g.S.Sources.file c.args.sources.now) (g.I.Read.remaining c.args.input) (asked_by c.args.request) c.in-Err.refusal
+  c.refuse.result _ _ _ c.requires c.refuse.ensures.status c.refuse.ensures.line c.in-Err.ensures.answer,
+  files_read g.S.Sources.reads _ _ (asked_by c.args.request) c.in-Err.ensures.reads,
+)
 
-pub returns-in-Ok-clause-answer : goal.returns-in-Ok-clause-answer
-returns-in-Ok-clause-answer g c = inl (record { answer = _; is = c.in-Ok.ensures.answer; told = c.give.ensures })
+pub returns-in-Answer : goal.returns-in-Answer
+returns-in-Answer g c = (
+  [],
+  given_serves (g.S.Sources.file c.args.sources.now) (g.I.Read.remaining c.args.input) (asked_by c.args.request) c.in-Answer.given
+  c.give.result _ _ _ _ c.in-Answer.ensures.answer c.give.ensures,
+  files_read g.S.Sources.reads _ _ (asked_by c.args.request) c.in-Answer.ensures.reads,
+)
+
+pub returns-in-Session : goal.returns-in-Session
+returns-in-Session g c =
+    session_serves (g.S.Sources.file c.args.sources.now) _ g.S.Sources.reads _ _ _ (g.I.Read.remaining c.args.input)
+    (asked_by c.args.request) c.in-Session.opened c.in-Session.count c.converse.result _ _ _ _ c.run.ensures.same
+    c.in-Session.ensures.answer c.in-Session.ensures.session.0 c.in-Session.ensures.reads c.converse.ensures
