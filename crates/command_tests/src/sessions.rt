@@ -60,7 +60,7 @@ done,2
 ";
 
 // The answers to the first request and to none.
-const FIRST_ANSWERS: usize = 91;
+const FIRST_ANSWERS: usize = 92;
 
 #[test]
 fn answers_to_the_end_of_the_input(rt: HostRuntime) {

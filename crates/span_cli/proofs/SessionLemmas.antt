@@ -6,11 +6,10 @@ use Rattle.std.proofs.lemmas.List.Elements.{All-weaker}
 use Rattle.std.specs.Prelude.{All, IfSome, OnOk, flat_map}
 use Rattle.std.specs.Io.{StartsWith}
 use Rattle.desks.specs.Desks.{Dealings, IsAtEnd, IsCutOff, IsDealt}
-use Rattle.desks.specs.Events.{Asked, Event, asked_in, told_in}
+use Rattle.desks.specs.Events.{Asked, Event, Told, asked_in, told_in}
 use Rattle.desks.specs.Requests.{requests_in, whole_lines}
 use Rattle.desks.specs.declared.desk.DeskFault.{DeskFault}
 use Rattle.desks.specs.declared.desk.DeskFault.TheVariants as desk
-use Rattle.desks.proofs.SayingLemmas.{asked_in-append, says_failed}
 use Rattle.session.specs.Answers.{State}
 use Rattle.session.specs.Conversations.{AreFromSource, IsFromSource, IsServed, Turn, answer_text, answers_from, events_from, files_of}
 use Rattle.session.specs.Conversations.{log_of, opening_text, state_after}
@@ -31,7 +30,16 @@ if_some_map : {X : Type 0} (o : Option X) (P Q : X → Type 0) → ((x : X) → 
 if_some_map None P Q f h = tt
 if_some_map (Some x) P Q f h = f x h
 
+-- to a stream that failed anything may have been said
+says_failed : (old new : Stream) (bytes : List ℕ) → new.failed ≡ true → Says old new bytes
+says_failed old new bytes failed = rw failed tt
+
 -- ---- the log
+
+asked_in-append : (xs ys : List Event) → asked_in (xs ++ ys) ≡ asked_in xs ++ asked_in ys
+asked_in-append [] ys = refl
+asked_in-append (Asked request ∷ xs) ys = ap (λ requests. request ∷ requests) (asked_in-append xs ys)
+asked_in-append (Told text ∷ xs) ys = asked_in-append xs ys
 
 asked_from : (n : ℕ) (s : State) (turns : List Turn) → asked_in (events_from n s turns) ≡ requests_of turns
 asked_from n s [] = refl
