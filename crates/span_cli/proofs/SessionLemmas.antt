@@ -162,12 +162,15 @@ pub serves_session : {S : Type 0} (file : List ℕ → Option File) (reads : S �
     → (turns : List Turn) × AreFromSource file reads before turns after
     × TellsSession file input s turns given old_out new_out old_err new_err
 serves_session file reads before after s r d input given old_out new_out old_err new_err (turns, source, served, done) cut unwritten dealt
-    same_input same_old same_new status line =
-    (turns, source, rw (← same_input, ← same_old, ← same_new) (record {
-      ending = ending_of d.output.failed r;
-      is = conversed file s turns d dealt r served source.files done cut unwritten;
-      told = ended_tells file s turns d dealt r served unwritten given old_err new_err status line;
-    }))
+    same_input same_old same_new status line = (
+      turns,
+      source,
+      rw (← same_input, ← same_old, ← same_new) (record {
+        ending = ending_of d.output.failed r;
+        is = conversed file s turns d dealt r served source.files done cut unwritten;
+        told = ended_tells file s turns d dealt r served unwritten given old_err new_err status line;
+      }),
+    )
 
 -- ---- sources that stay the same
 

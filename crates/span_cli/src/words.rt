@@ -99,7 +99,7 @@ const POSITIONS: FileArg = FileArg {
 
 const POSITIONS_TOO: FileArg = FileArg {
     id: "POSITIONS",
-    help: "Position file (CSV) whose faults are told too: account, contract, quantity in contracts",
+    help: "Position file (CSV) whose faults are printed too: account, contract, quantity in contracts",
     required: false,
 };
 
@@ -111,9 +111,9 @@ const ORDERS: FileArg = FileArg {
 
 const MARGIN: CommandRow = CommandRow {
     name: "margin",
-    about: "Prints the margin statement of every account",
+    about: "Print the margin statement of every account",
     more: "\
-Prints a line for each commodity that an account holds, then one for its total:
+Print a line for each commodity that an account holds, then one for its total:
   R,account,set,commodity,scan,active,intra,delivery,credit,minimum,requirement
   T,account,set,total
 Under a set of version 2, whose options have a value, the last line goes on with the value of the account's
@@ -128,9 +128,9 @@ docs/FORMATS.md describes the files and the statement, docs/METHOD.md the figure
 
 const EXPLAIN: CommandRow = CommandRow {
     name: "explain",
-    about: "Prints why each figure of a margin statement is what it is",
+    about: "Print why each figure of a margin statement is what it is",
     more: "\
-Prints for each account, and for each commodity of which it holds a contract, lines from which its figures can be
+Print for each account, and for each commodity of which it holds a contract, lines from which its figures can be
 computed by hand, and then its R line; after its commodities its T line. Each line begins with its word, the
 account, the set and, but for T, the commodity. Behind them stand:
   HELD    contract,type,month,quantity; under a set of version 2 also the value of that position
@@ -150,9 +150,9 @@ docs/FORMATS.md describes the lines, docs/METHOD.md the figures; docs/GUIDE.md r
 
 const WHAT_IF: CommandRow = CommandRow {
     name: "whatif",
-    about: "Prints what each order would do to the margin of its account",
+    about: "Print what each order would do to the margin of its account",
     more: "\
-Tries each order by itself on the positions of its account. Prints a line for each commodity whose requirement it
+Try each order by itself on the positions of its account. Print a line for each commodity whose requirement it
 changes, then one for the account's total:
   CHANGE,order,account,set,commodity,before,after,change
   ORDER,order,account,set,before,after,change
@@ -167,32 +167,31 @@ docs/FORMATS.md describes the files and the lines; docs/WHATIF.md tries orders i
 
 const SESSION: CommandRow = CommandRow {
     name: "session",
-    about: "Answer requests about accounts, one a line, until the input ends",
+    about: "Answer requests about accounts, read from standard input",
     more: "\
-Reads PARAMS and POSITIONS as `margin` does, then requests from standard input, and answers each before it takes the
-next:
-  MARGIN                                               the statement of all accounts
-  MARGIN,account                                       that of one account
-  EXPLAIN,account                                      the lines of `explain` for that account
-  TRY,order,account,contract,quantity,..               the lines of `whatif` for that order
-  FILL,account,contract,quantity,..                    the account's T line, with these quantities added to its positions
-  SET,file                                             the line of `check` for that file, whose set is used from then on
-  POSITIONS                                            the positions of all accounts, as a position file
-Behind the lines of an answer stands `done,N`, N being the number of the request. A request that is refused changes
-nothing, and its answer is one line, with the reason:
-  done,n
-  refused,n,request: B1 UnknownContract at field 3
-Lines count from 1; empty lines are passed over. The status is 0 at the end of the input.
-docs/FORMATS.md describes the requests and their faults.",
+Read both files as `margin` does, then requests from standard input to its end, one a line. Answer each before the
+next is read:
+  MARGIN                                             the statement of all accounts
+  MARGIN,account                                     the lines of one account
+  EXPLAIN,account                                    the lines that `explain` prints for it
+  TRY,order,account,contract,quantity                the lines that `whatif` prints for that order
+  FILL,account,contract,quantity                     add a quantity to a position; the account's new T line
+  SET,file                                           use another parameter file; the line that `check` prints for it
+  POSITIONS                                          the positions of all accounts, as position records
+TRY and FILL take up to 64 pairs of contract and quantity. Behind its lines an answer has the line `done` with the
+number of the request. A request that is refused changes nothing; its answer is one line, with the reason:
+  done,1
+  refused,2,request: B1 UnknownContract at field 3
+docs/FORMATS.md describes requests, answers and faults.",
     files: &[PARAMS, POSITIONS],
     option: Some(OptionArg::Workers),
 };
 
 const ROLL: CommandRow = CommandRow {
     name: "roll",
-    about: "Prints the margin statements under a set and under the next",
+    about: "Print the margin statements under a set and under the next",
     more: "\
-Prints the statement under PARAMS, as `margin` does, and after it that under NEXT, for the same positions.
+Print the statement under PARAMS, as `margin` does, and after it that under NEXT, for the same positions.
 NEXT is made ready beside the first batch. The lines of the two statements have the ids of their sets.
 docs/GUIDE.md has a day's roll in commands.",
     files: &[PARAMS, NEXT, POSITIONS],
@@ -201,9 +200,9 @@ docs/GUIDE.md has a day's roll in commands.",
 
 const FAULTS: CommandRow = CommandRow {
     name: "faults",
-    about: "Prints all faults of a parameter file, and of a position file beside it",
+    about: "Print all faults of a parameter file, and of a position file beside it",
     more: "\
-Prints a line for each fault, as `margin` prints the first alone:
+Print a line for each fault, as `margin` prints the first alone:
   parameters: C3 DuplicateContract at record 7
   positions: B1 UnknownContract at record 2 account X
 Of PARAMS each record that cannot be read has a line, with the lowest-numbered fault that it has; where all are read,
@@ -218,9 +217,9 @@ docs/FORMATS.md describes the faults and their order.",
 
 const CHECK: CommandRow = CommandRow {
     name: "check",
-    about: "Checks a parameter file and counts its records",
+    about: "Check a parameter file and count its records",
     more: "\
-Prints one line, with the id of the set and how many records of each kind it has:
+Print one line, with the id of the set and how many records of each kind it has:
   OK,set,commodities,contracts,tiers,intra,spots,inter
 A file that is no valid set is refused with its first fault and the number of the record.
 docs/FORMATS.md describes the records and the faults.",
@@ -230,9 +229,9 @@ docs/FORMATS.md describes the records and the faults.",
 
 const PLAN: CommandRow = CommandRow {
     name: "plan",
-    about: "Prints the steps of the compiled plan of a parameter file",
+    about: "Print the steps of the compiled plan of a parameter file",
     more: "\
-Prints a line for each step: its number, its operation, and the numbers of its inputs:
+Print a line for each step: its number, its operation, and the numbers of its inputs:
   7 Final(0) 2 4 5 6 19
 A file that is no valid set is refused as by `check`.
 docs/ARCHITECTURE.md describes the steps.",

@@ -7,7 +7,7 @@ pub returns-in-Err : goal.returns-in-Err
 returns-in-Err g c = (
   [],
   refusal_serves (g.S.Sources.file c.args.sources.now) (g.I.Read.remaining c.args.input) (asked_by c.args.request) c.in-Err.refusal
-  c.refuse.result _ _ _ c.requires c.refuse.ensures.status c.refuse.ensures.line c.in-Err.ensures.answer,
+      c.refuse.result _ _ _ c.requires c.refuse.ensures.status c.refuse.ensures.line c.in-Err.ensures.answer,
   files_read g.S.Sources.reads _ _ (asked_by c.args.request) c.in-Err.ensures.reads,
 )
 
@@ -15,7 +15,7 @@ pub returns-in-Answer : goal.returns-in-Answer
 returns-in-Answer g c = (
   [],
   given_serves (g.S.Sources.file c.args.sources.now) (g.I.Read.remaining c.args.input) (asked_by c.args.request) c.in-Answer.given
-  c.give.result _ _ _ _ c.in-Answer.ensures.answer c.give.ensures,
+      c.give.result _ _ _ _ c.in-Answer.ensures.answer c.give.ensures,
   files_read g.S.Sources.reads _ _ (asked_by c.args.request) c.in-Answer.ensures.reads,
 )
 

@@ -7,8 +7,7 @@ use Rattle.span_cli.proofs.words.answer_words.Goals as goal
 
 pub returns-in-Err : goal.returns-in-Err
 returns-in-Err g c =
-    let words = map g.T.AsStr.text c.args.words.now in
-    (
+    let words = map g.T.AsStr.text c.args.words.now in (
       [],
       record {
         taken = λ taken. memory_serves _ (asked_in words) _ _ _ _ _ (taken_asks words taken)
@@ -23,8 +22,7 @@ returns-in-Err g c =
 pub returns-in-Ok : goal.returns-in-Ok
 returns-in-Ok g c =
     let words = map g.T.AsStr.text c.args.words.now in
-    let served = c.serve.ensures in
-    (
+    let served = c.serve.ensures in (
       served.0,
       record {
         taken = λ taken. rw (c.in-Ok.ensures.ok) served.1.0;

@@ -13,8 +13,7 @@ returns-in-Ok g c = rw (← c.in-Ok.ensures, ← c.deref.ensures.value) c.answer
 pub returns-in-Err : goal.returns-in-Err
 returns-in-Err g c =
     let words = joined_words (map g.T.AsStr.text c.args.words.now) in
-    let wanted : kind_of c.from.result ≡ OutOfMemory = search rules in
-    (
+    let wanted : kind_of c.from.result ≡ OutOfMemory = search rules in (
       [],
       record {
         taken = λ taken. memory_serves _ (asked_in words) _ _ _ _ _ (taken_asks words taken)
