@@ -2,7 +2,7 @@
 use Rattle.std.proofs.Common.{◌≡◌, ◌∙◌, ◌⊎◌, ◌++◌, ◌-◌, ◌^◌, ◌+◌, ℕ, Bool, true, false, List, [], ◌∷◌, Option, Some, None, Result, Ok, Err}
 use Rattle.std.proofs.Common.{refl, sym, ap, subst, inl, inr, length, map}
 use Rattle.std.proofs.lemmas.List.{map-append}
-use Rattle.std.proofs.lemmas.List.Elements.{All-weaker}
+use Rattle.std.proofs.lemmas.List.Elements.{All-nil, All-weaker}
 use Rattle.std.specs.Prelude.{All, IfSome, OnOk, flat_map}
 use Rattle.std.specs.Io.{StartsWith}
 use Rattle.desks.specs.Desks.{Dealings, IsAtEnd, IsCutOff, IsDealt}
@@ -172,7 +172,12 @@ serves_session file reads before after s r d input given old_out new_out old_err
       }),
     )
 
--- ---- sources that stay the same
+-- ---- sources
+
+-- no turns ask for files
+pub no_files : {S : Type 0} (file : List ℕ → Option File) (reads : S → List ℕ → Bool → S → Type 0) (now : S)
+    → AreFromSource file reads now [] now
+no_files file reads now = record { files = All-nil (IsFromSource file); in_order = refl }
 
 -- what was found under names in one source was found in another that has the same under them
 pub same_source : (later file : List ℕ → Option File) (asked : List (List ℕ × File)) → ((name : List ℕ) → later name ≡ file name)

@@ -26,7 +26,8 @@ returns-in_err-load-clause-known g c =
     let is : c.from_residual.result ≡ Err c.in_err-load.field-0.0 = search rules in
     rw (is) (unread_of_names (λ (v : Vec ℕ Global). v.items) (found_under c.args.beside (g.S.Sources.file c.args.sources.now))
     (found_under c.args.beside (g.S.Sources.file c.loop-name.sources)) _ _ c.args.names.now _ _ _ c.loop-name-test.true
-    (λ name. found_same c.args.beside _ _ name (c.loop-name.invariant.same name)) c.in_err-load.ensures.known
+    (λ name. found_same c.args.beside (g.S.Sources.file c.args.sources.now) (g.S.Sources.file c.loop-name.sources) name
+    (c.loop-name.invariant.same name)) c.in_err-load.ensures.known
     c.loop-name.invariant.known)
 
 pub returns-in_err-load-clause-same : goal.returns-in_err-load-clause-same
@@ -39,7 +40,8 @@ loop-name-preserved g c = record {
   known = rw (c.push.ensures.items, map-append) (next_of_names
       (found_under c.args.beside (g.S.Sources.file c.args.sources.now))
       (found_under c.args.beside (g.S.Sources.file c.loop-name.sources)) _ _ c.args.names.now _ _ _ c.loop-name-test.true
-      (λ name. found_same c.args.beside _ _ name (c.loop-name.invariant.same name)) c.in_ok-load.ensures.known
+      (λ name. found_same c.args.beside (g.S.Sources.file c.args.sources.now) (g.S.Sources.file c.loop-name.sources) name
+    (c.loop-name.invariant.same name)) c.in_ok-load.ensures.known
       c.loop-name.invariant.known);
   reads = goes_on (reads_under c.args.beside g.S.Sources.reads) _ _ _ _ c.args.names.now _ _ c.loop-name-test.true
       c.loop-name.invariant.reads c.in_ok-load.ensures.noted;

@@ -11,16 +11,16 @@ returns-in-Err g c = (
   files_read g.S.Sources.reads _ _ (asked_by c.args.request) c.in-Err.ensures.reads,
 )
 
-pub returns-in-Answer : goal.returns-in-Answer
-returns-in-Answer g c = (
+pub returns-in-Ok-Answer : goal.returns-in-Ok-Answer
+returns-in-Ok-Answer g c = (
   [],
-  given_serves (g.S.Sources.file c.args.sources.now) (g.I.Read.remaining c.args.input) (asked_by c.args.request) c.in-Answer.given
-      c.give.result _ _ _ _ c.in-Answer.ensures.answer c.give.ensures,
-  files_read g.S.Sources.reads _ _ (asked_by c.args.request) c.in-Answer.ensures.reads,
+  given_serves (g.S.Sources.file c.args.sources.now) (g.I.Read.remaining c.args.input) (asked_by c.args.request) c.in-Ok-Answer.given
+      c.give.result _ _ _ _ c.in-Ok-Answer.ensures.answer c.give.ensures,
+  files_read g.S.Sources.reads _ _ (asked_by c.args.request) c.in-Ok-Answer.ensures.reads,
 )
 
-pub returns-in-Session : goal.returns-in-Session
-returns-in-Session g c =
+pub returns-in-Ok-Session : goal.returns-in-Ok-Session
+returns-in-Ok-Session g c =
     session_serves (g.S.Sources.file c.args.sources.now) _ g.S.Sources.reads _ _ _ (g.I.Read.remaining c.args.input)
-    (asked_by c.args.request) c.in-Session.opened c.in-Session.count c.converse.result _ _ _ _ c.run.ensures.same
-    c.in-Session.ensures.answer c.in-Session.ensures.session.0 c.in-Session.ensures.reads c.converse.ensures
+    (asked_by c.args.request) c.in-Ok-Session.opened c.in-Ok-Session.count c.converse.result _ _ _ _ c.run.ensures.same
+    c.in-Ok-Session.ensures.answer c.in-Ok-Session.ensures.session.0 c.in-Ok-Session.ensures.reads c.converse.ensures
