@@ -14,7 +14,7 @@ pub record AnswersLine {S : Type 0} (outside : Outside) (reads : S → List ℕ 
   -- if it is one of the program's, what it asks for is answered
   pub taken : is_request words ≡ true → ServesAsked outside (asked_in words) given old_out new_out old_err new_err
   -- else it is refused for one of the kinds of mistake that it has
-  pub words : AnswersWords (kinds_of words) (ServesAsked outside (asked_in words) given old_out new_out old_err new_err)
+  pub by_kinds : AnswersWords (kinds_of words) (ServesAsked outside (asked_in words) given old_out new_out old_err new_err)
       given old_out new_out old_err new_err
   -- exactly what it asks for was read, or nothing where memory ran out
   pub reads : ReadsAsked reads before outside.turns (request_in words) after
