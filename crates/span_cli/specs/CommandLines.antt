@@ -17,5 +17,5 @@ pub record AnswersLine {S : Type 0} (outside : Outside) (reads : S → List ℕ 
   pub by_kinds : AnswersWords (kinds_of words) (ServesAsked outside (asked_in words) given old_out new_out old_err new_err)
       given old_out new_out old_err new_err
   -- exactly what it asks for was read, or nothing where memory ran out
-  pub reads : ReadsAsked reads before outside.turns (request_in words) after
+  pub read : ReadsAsked reads before outside.turns (request_in words) after
       ⊎ ((after ≡ before) × Tells memory given old_out new_out old_err new_err)

@@ -14,7 +14,7 @@ returns-in-Err g c =
             (memory_told c.in-Err.error _ _ _ _ _ (c.in-Err.ensures.err taken) c.refuse.ensures);
         by_kinds = words_refused (kinds_of words) _ c.in-Err.error _ _ _ _ _ c.in-Err.ensures.kinds c.refuse.ensures (λ none told.
             memory_serves _ (asked_in words) _ _ _ _ _ (unrefused_asks words none) told);
-        reads = nothing_read g.S.Sources.reads _ words _ (λ taken.
+        read = nothing_read g.S.Sources.reads _ words _ (λ taken.
             memory_told c.in-Err.error _ _ _ _ _ (c.in-Err.ensures.err taken) c.refuse.ensures);
       },
     )
@@ -27,6 +27,6 @@ returns-in-Ok g c =
       record {
         taken = λ taken. rw (c.in-Ok.ensures.ok) served.1.0;
         by_kinds = rw (c.in-Ok.ensures.kinds, c.in-Ok.ensures.ok) served.1.0;
-        reads = inl (rw (unrefused_taken words c.in-Ok.ensures.kinds, c.in-Ok.ensures.ok) served.1.1);
+        read = inl (rw (unrefused_taken words c.in-Ok.ensures.kinds, c.in-Ok.ensures.ok) served.1.1);
       },
     )

@@ -20,6 +20,6 @@ returns-in-Err g c =
             (memory_told c.from.result _ _ _ _ _ wanted c.refuse.ensures);
         by_kinds = words_refused (kinds_of words) _ c.from.result _ _ _ _ _ (inl wanted) c.refuse.ensures (λ none told.
             memory_serves _ (asked_in words) _ _ _ _ _ (unrefused_asks words none) told);
-        reads = nothing_read g.S.Sources.reads _ words _ (λ taken. memory_told c.from.result _ _ _ _ _ wanted c.refuse.ensures);
+        read = nothing_read g.S.Sources.reads _ words _ (λ taken. memory_told c.from.result _ _ _ _ _ wanted c.refuse.ensures);
       },
     )
