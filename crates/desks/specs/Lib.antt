@@ -1,4 +1,3 @@
 pub mod Requests
 pub mod Events
-pub mod Desks
 pub mod near

@@ -1,3 +1,4 @@
+pub mod Desks
 pub mod Histories
 pub mod Notes
 pub mod Readings

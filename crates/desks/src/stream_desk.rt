@@ -53,7 +53,7 @@ fn send<W: Write>(output: &mut MarkedWriter<W>, text: &[u8]) -> io::Result<()>
 }
 
 impl<'a, R: Read, W: Write> StreamDesk<'a, R, W> {
-    ghost use Rattle.desks.specs.Desks.{IsDealt};
+    ghost use Rattle.desks.specs.near.Desks.{IsDealt};
     ghost use Rattle.desks.specs.near.Dealing.{dealings};
 
     /// The desk of these requests, of which none was taken, and of this output.
@@ -93,7 +93,7 @@ impl<'a, R: Read, W: Write> StreamDesk<'a, R, W> {
 }
 
 impl<'a, R: Read, W: Write> Desk for StreamDesk<'a, R, W> {
-    ghost use Rattle.desks.specs.Desks.{IsAtEnd, IsCutOff};
+    ghost use Rattle.desks.specs.near.Desks.{IsAtEnd, IsCutOff};
     ghost use Rattle.desks.specs.Events.{asked_by, told_by};
     ghost use Rattle.desks.specs.near.Dealing.{dealings};
     ghost use Rattle.std.specs.Io.KnownBytes.{Appends};

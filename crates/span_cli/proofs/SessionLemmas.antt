@@ -5,7 +5,7 @@ use Rattle.std.proofs.lemmas.List.{map-append}
 use Rattle.std.proofs.lemmas.List.Elements.{All-nil, All-weaker}
 use Rattle.std.specs.Prelude.{All, IfSome, OnOk, flat_map}
 use Rattle.std.specs.Io.{StartsWith}
-use Rattle.desks.specs.Desks.{Dealings, IsAtEnd, IsCutOff, IsDealt}
+use Rattle.desks.specs.near.Desks.{Dealings, IsAtEnd, IsCutOff, IsDealt}
 use Rattle.desks.specs.Events.{Asked, Event, Told, asked_in, told_in}
 use Rattle.desks.specs.Requests.{requests_in, whole_lines}
 use Rattle.desks.specs.declared.desk.DeskFault.{DeskFault}
