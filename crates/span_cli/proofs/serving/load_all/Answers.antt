@@ -41,7 +41,7 @@ loop-name-preserved g c = record {
       (found_under c.args.beside (g.S.Sources.file c.args.sources.now))
       (found_under c.args.beside (g.S.Sources.file c.loop-name.sources)) _ _ c.args.names.now _ _ _ c.loop-name-test.true
       (λ name. found_same c.args.beside (g.S.Sources.file c.args.sources.now) (g.S.Sources.file c.loop-name.sources) name
-    (c.loop-name.invariant.same name)) c.in_ok-load.ensures.known
+      (c.loop-name.invariant.same name)) c.in_ok-load.ensures.known
       c.loop-name.invariant.known);
   reads = goes_on (reads_under c.args.beside g.S.Sources.reads) _ _ _ _ c.args.names.now _ _ c.loop-name-test.true
       c.loop-name.invariant.reads c.in_ok-load.ensures.noted;
