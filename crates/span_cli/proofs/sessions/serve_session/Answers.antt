@@ -4,6 +4,6 @@ use Rattle.span_cli.proofs.sessions.serve_session.Goals as goal
 
 pub returns : goal.returns
 returns g c =
-    serves_session (g.S.Sources.file c.args.sources.now) g.S.Sources.reads _ _ c.args.opened.session c.run-served.result (dealings c.run-served.new.desk) _
-    c.tell_end.result _ _ _ _ c.run-served.ensures.served c.run-served.ensures.input c.run-served.ensures.output c.close-output.ensures.dealt _ _ _
-    c.tell_end.ensures.status c.tell_end.ensures.line
+    serves_session (g.S.Sources.file c.args.sources.now) g.S.Sources.reads _ _ c.args.opened.session c.run-served.result
+    (dealings c.run-served.new.desk) _ c.tell_end.result _ _ _ _ (rw c.new-desk.ensures.log at c.run-served.ensures.served)
+    c.run-served.ensures.input c.run-served.ensures.output c.close-output.ensures.dealt ? ? ? ? ?

@@ -25,8 +25,8 @@ returns-in-Ok g c =
     let served = c.serve.ensures in (
       served.0,
       record {
-        taken = λ taken. rw (c.in-Ok.ensures.ok) served.1.0;
-        by_kinds = rw (c.in-Ok.ensures.kinds, c.in-Ok.ensures.ok) served.1.0;
-        read = inl (rw (unrefused_taken words c.in-Ok.ensures.kinds, c.in-Ok.ensures.ok) served.1.1);
+        taken = λ taken. rw (c.in-Ok.ensures.ok) served.1;
+        by_kinds = rw (c.in-Ok.ensures.kinds, c.in-Ok.ensures.ok) served.1;
+        read = inl (rw (unrefused_taken words c.in-Ok.ensures.kinds, c.in-Ok.ensures.ok) served.2);
       },
     )
