@@ -14,8 +14,7 @@ returns-in-Err g c = (
 
 pub returns-in-Ok-Answer : goal.returns-in-Ok-Answer
 returns-in-Ok-Answer g c =
-    let is : c.in-Ok-Answer.field-0 ≡ outcome.Answer c.in-Ok-Answer.given = search rules in
-    (
+    let is : c.in-Ok-Answer.field-0 ≡ outcome.Answer c.in-Ok-Answer.given = search rules in (
       [],
       given_serves (g.S.Sources.file c.args.sources.now) (g.I.Read.remaining c.args.input) (asked_by c.args.request) c.in-Ok-Answer.given
           c.give.result _ _ _ _ (rw is at c.in-Ok-Answer.ensures.answer) c.give.ensures,
