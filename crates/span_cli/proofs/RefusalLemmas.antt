@@ -3,7 +3,6 @@ use Rattle.std.proofs.Common.{◌≡◌, ◌<◌, ◌≤◌, ℕ, Bool, true, fa
 use Rattle.std.specs.Prelude.{◌||◌, ◌==◌, nat_lt}
 use Rattle.session.specs.Answers.{opened}
 use Rattle.session.specs.Conversations.{Turn, session_of}
-use Rattle.span_csv.specs.PositionFaults.{positions_of}
 use Rattle.statement.specs.Margin.{margin_of}
 use Rattle.statement_text.specs.Statement.{accepted_of, and_then, portfolios_under, same, statement_bound, statement_of, statement_under}
 use Rattle.statement_text.specs.declared.faults.SpanFault.{SpanFault}
@@ -26,7 +25,7 @@ refused_statement : (params positions : List ℕ) (e : SpanFault) → opened par
 unfolding opened statement_of statement_under statement_bound
 refused_statement params positions e =
     refused_too same e (accepted_of params) _ _ (λ tables.
-    refused_too fault.Positions e (positions_of positions) _ _ (λ records.
+    refused_too fault.Positions e _ _ _ (λ records.
     refused_too same e (portfolios_under tables records) _ _ (λ accounts is. cc)))
 
 refused_opening : (params positions : List ℕ) (turns : List Turn) (e : SpanFault) → session_of params positions turns ≡ Err e

@@ -68,5 +68,6 @@ pub(crate) fn serve_session<
     let mut desk = StreamDesk::new(requests, out);
     let served = run(&mut desk, sources, workers, &mut opened);
     let output = desk.close();
+    let _ = &*output;
     tell_end(served, output.failed(), err)
 }
