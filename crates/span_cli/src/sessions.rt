@@ -68,6 +68,7 @@ pub(crate) fn serve_session<
     let mut desk = StreamDesk::new(requests, out);
     let served = run(&mut desk, sources, workers, &mut opened);
     let output = desk.close();
+    let is_unwritten = output.failed();
     let _ = &*output;
-    tell_end(served, output.failed(), err)
+    tell_end(served, is_unwritten, err)
 }

@@ -5,7 +5,7 @@ use Rattle.span_cli.proofs.sessions.serve_session.Goals as goal
 
 pub returns : goal.returns
 returns g c =
-    let is_unwritten : c.failed.result ≡ c.run-served.new.desk.output.now.failed = search rules in
+    let is_unwritten : c.failed-is_unwritten.result ≡ c.run-served.new.desk.output.now.failed = search rules in
     serves_session (g.S.Sources.file c.args.sources.now) g.S.Sources.reads _ _ c.args.opened.session c.run-served.result
     (dealings c.run-served.new.desk) _ c.tell_end.result _ _ _ _ (rw c.new-desk.ensures.log at c.run-served.ensures.served)
     c.run-served.ensures.input c.run-served.ensures.output c.close-output.ensures.dealt
