@@ -1,24 +1,23 @@
 -- What an account comes to hold under a set, if the set has the contracts that it held before.
-use Rattle.std.proofs.Common.{◌≡◌, ℕ, suc, zero, ◌+◌, ◌*◌, ◌<◌, ◌≤◌, ◌⊎◌, Bool, true, false, cond, not, ◌&&◌, List, [], ◌∷◌, ◌++◌}
-use Rattle.std.proofs.Common.{length, map, filter, get_or, Option, Some, None, slice_get, refl, sym, ap, subst, ◌∙◌, arith, inl, inr}
-use Rattle.std.specs.Prelude.{ℤ, pos, ◌+ℤ◌, ◌==◌, bytes_eq, find, nat_abs, nat_lt, option_map, unwrap_or}
-use Rattle.std.specs.List.{enumerate_from, list_any, position_or_len}
+use Rattle.std.proofs.Common.{◌≡◌, ℕ, ◌+◌, ◌<◌, ◌≤◌, ◌⊎◌, Bool, true, false, cond, ◌&&◌, List, [], ◌∷◌}
+use Rattle.std.proofs.Common.{length, map, filter, get_or, Some, None, slice_get, refl, sym, ap, subst, ◌∙◌, arith, inl, inr}
+use Rattle.std.specs.Prelude.{ℤ, pos, ◌+ℤ◌, ◌==◌, bytes_eq, nat_abs, nat_lt, option_map, unwrap_or}
+use Rattle.std.specs.List.{list_any, position_or_len}
 use Rattle.std.proofs.lemmas.Bool.{and_parts, cases_eq, eq-eqb, ltb-true, ne_eqb, or_parts}
 use Rattle.std.proofs.lemmas.Int.{ints}
 use Rattle.std.proofs.lemmas.List.{length-map}
 use Rattle.std.proofs.lemmas.Option.{slice_get_cases}
-use Rattle.span_money.specs.Numbers.{int_sum_by}
 use Rattle.span_tables.specs.Holdings.{ArePortfolio, fits}
 use Rattle.span_tables.specs.Names.{has_repeat}
-use Rattle.span_tables.specs.Net.{AccountHoldings, holdings_of, is_held, net_of}
+use Rattle.span_tables.specs.Net.{holdings_of, is_held, net_of}
 use Rattle.span_tables.specs.Orders.{holdings_with, net_among}
-use Rattle.span_tables.specs.declared.limits.TheConstants.{MAX_HELD, MAX_NET}
+use Rattle.span_tables.specs.declared.limits.TheConstants.{MAX_NET}
 use Rattle.span_tables.specs.declared.portfolios.Holding.{Holding}
 use Rattle.span_tables.specs.declared.records.Contract.{Contract}
 use Rattle.span_tables.specs.declared.records.PositionRecord.{PositionRecord}
 use Rattle.span_tables.proofs.MergedLaws.{held_of_all, numbered, same_numbered}
 use Rattle.span_tables.proofs.NameLemmas.{same_name}
-use Rattle.span_tables.proofs.SumLaws.{int_sum_by-cons, int_sum_by-if}
+use Rattle.span_tables.proofs.SumLaws.{int_sum_by-if}
 use Rattle.binding.specs.near.Holdings.{ids_of}
 use Rattle.binding.proofs.AccountLaws.{bytes_eq-flip, bytes_eq-refl}
 use Rattle.binding.proofs.HoldingLaws.{number_is}
@@ -153,7 +152,7 @@ module _ (old : List Contract) (apart : has_repeat (λ x y. bytes_eq x.id y.id) 
           ∙ eqb_flip (position_or_len (bytes_eq id) (ids_of old)) h.contract
       by (inr past) = absurd (omega (arith, lt, past.0))
 
-  -- the net of a name, by the records of what is held, is that of its contract's number
+  -- the net of a name, by the records of what is held, is the net of its contract's number
   pub net_named : (hs : List Holding) → fits (length old) hs ≡ true
       → net_of (map (held_record old account) hs) account id ≡ net_among hs (position_or_len (bytes_eq id) (ids_of old))
   unfolding place

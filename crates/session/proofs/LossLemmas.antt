@@ -1,5 +1,5 @@
 -- The fault of what an account held under a set that lacks a contract, and that there is none if it lacks none.
-use Rattle.std.proofs.Common.{◌≡◌, ◌∙◌, ℕ, suc, zero, ◌+◌, ◌-◌, ◌<◌, ◌≤◌, Bool, true, false, cond, not, ◌&&◌, ◌||◌, List, [], ◌∷◌, ◌++◌}
+use Rattle.std.proofs.Common.{◌≡◌, ◌∙◌, ℕ, suc, zero, ◌+◌, ◌-◌, ◌<◌, ◌≤◌, Bool, true, false, cond, not, ◌||◌, List, [], ◌∷◌, ◌++◌}
 use Rattle.std.proofs.Common.{length, map, filter, Option, Some, None, slice_get, refl, sym, ap, subst, arith}
 use Rattle.std.specs.Prelude.{⊤, All, MatchBool, bytes_eq, find, nat_abs, nat_lt, option_map, unwrap_or}
 use Rattle.std.specs.List.{list_any, position_or_len}
@@ -7,7 +7,7 @@ use Rattle.std.specs.Option.{option_or}
 use Rattle.std.proofs.lemmas.Bool.{le-ltb}
 use Rattle.std.proofs.lemmas.List.{length-append, length-map}
 use Rattle.std.proofs.lemmas.List.Elements.{All-map, All-weaker}
-use Rattle.span_tables.specs.Faults.{first_fault_after, first_of}
+use Rattle.span_tables.specs.Faults.{first_fault_after}
 use Rattle.span_tables.specs.Holdings.{ArePortfolio, fits}
 use Rattle.span_tables.specs.Names.{has_repeat}
 use Rattle.span_tables.specs.Net.{AccountHoldings, holdings_of, net_of}
@@ -20,7 +20,7 @@ use Rattle.span_tables.specs.declared.records.PositionRecord.{PositionRecord}
 use Rattle.span_tables.proofs.FaultLaws.{first_fault_next}
 use Rattle.span_tables.proofs.MergedLaws.{held_of_all}
 use Rattle.span_tables.proofs.Places.{same_name}
-use Rattle.binding.specs.Binding.{first_unfit_by, is_of_known, is_unknown}
+use Rattle.binding.specs.Binding.{is_of_known, is_unknown}
 use Rattle.binding.specs.OrderBinding.{holdings_after, is_memory as is_bind_memory, net_exceeds_with, order_bind_fault, tried_order}
 use Rattle.binding.specs.declared.faults.OrderBindFault.{OrderBindFault}
 use Rattle.binding.specs.declared.faults.OrderBindFault.TheVariants as fault
@@ -40,7 +40,7 @@ use Rattle.session.specs.near.Carried.{IsLoss, held_trade, held_trades, loss}
 use Rattle.session.proofs.CarriedLemmas.{carried_holds, holdings_alone}
 use Rattle.session.proofs.TriedLemmas.{account_is}
 
-refuses_memory : (r : Refusal) → refused_by r ≡ refused.Memory → is_memory r ≡ true
+pub refuses_memory : (r : Refusal) → refused_by r ≡ refused.Memory → is_memory r ≡ true
 refuses_memory (refusal.Form e) is = cc
 refuses_memory refusal.UnknownAccount is = cc
 refuses_memory refusal.TooManyAccounts is = cc
@@ -52,11 +52,11 @@ refuses_memory (refusal.Lost a c) is = cc
 refuses_memory (refusal.File name) is = cc
 refuses_memory refusal.Memory is = refl
 
-if_memory : (A : Type 0) (b : Bool) → b ≡ true → MatchBool b ⊤ A
+pub if_memory : (A : Type 0) (b : Bool) → b ≡ true → MatchBool b ⊤ A
 if_memory A true is = tt
 if_memory A false is = cc
 
-if_either : {A : Type 0} (b : Bool) → A → MatchBool b ⊤ A
+pub if_either : {A : Type 0} (b : Bool) → A → MatchBool b ⊤ A
 if_either true a = tt
 if_either false a = a
 
@@ -102,7 +102,8 @@ module _ (old new : List Contract) (account : List ℕ) where
       r = record { order = account; account = account; contract = contract_of old h; quantity = h.net }
 
       next : first_fault_after test earlier (records (h ∷ hs))
-          ≡ option_or (option_map (λ (f : ℕ → OrderBindFault). f (length earlier + 1)) (test earlier r)) (first_fault_after test (earlier ++ r ∷ []) (records hs))
+          ≡ option_or (option_map (λ (f : ℕ → OrderBindFault). f (length earlier + 1)) (test earlier r)) (first_fault_after test
+          (earlier ++ r ∷ []) (records hs))
       next = first_fault_next test earlier r (records hs)
 
       by : (b : Bool) → foreign r ≡ b
@@ -110,14 +111,19 @@ module _ (old new : List Contract) (account : List ℕ) where
           → Found (length earlier) (h ∷ hs) (first_fault_after test earlier (records (h ∷ hs)))
       by true e more =
           subst (Found (length earlier) (h ∷ hs))
-          (sym (next ∙ ap (λ b. option_or (option_map (λ (f : ℕ → OrderBindFault). f (length earlier + 1)) (cond b (Some (λ at. fault.UnknownContract at account)) None))
-          (first_fault_after test (earlier ++ r ∷ []) (records hs))) e))
-          (0, omega arith, omega arith,
-          ap (λ b. cond b (Some (held_record old account h)) (find (is_unknown new) (held hs))) e)
+          (sym (next ∙ ap (λ b. option_or (option_map (λ (f : ℕ → OrderBindFault). f (length earlier + 1)) (cond b (Some
+          (λ at. fault.UnknownContract at account)) None))
+          (first_fault_after test (earlier ++ r ∷ []) (records hs))) e)) (
+            0,
+            omega arith,
+            omega arith,
+            ap (λ b. cond b (Some (held_record old account h)) (find (is_unknown new) (held hs))) e,
+          )
       by false e more =
           let size : length (earlier ++ r ∷ []) ≡ length earlier + 1 = length-append earlier (r ∷ []) in
           subst (Found (length earlier) (h ∷ hs))
-          (sym (next ∙ ap (λ b. option_or (option_map (λ (f : ℕ → OrderBindFault). f (length earlier + 1)) (cond b (Some (λ at. fault.UnknownContract at account)) None))
+          (sym (next ∙ ap (λ b. option_or (option_map (λ (f : ℕ → OrderBindFault). f (length earlier + 1)) (cond b (Some
+          (λ at. fault.UnknownContract at account)) None))
           (first_fault_after test (earlier ++ r ∷ []) (records hs))) e))
           (found_later (length earlier) h hs (first_fault_after test (earlier ++ r ∷ []) (records hs)) e
           (subst (λ n. Found n hs (first_fault_after test (earlier ++ r ∷ []) (records hs))) size more))
@@ -142,7 +148,7 @@ module _ (old new : List Contract) (account : List ℕ) where
 
   -- ---- what the account comes to hold
 
-  -- the records of the one order are those of what was held
+  -- the records of the one order are the records of what was held
   positions_are : (hs : List Holding) → positions_of_order (records hs) account ≡ held hs
   positions_are [] = refl
   positions_are (h ∷ hs) =
@@ -188,7 +194,7 @@ module _ (old new : List Contract) (account : List ℕ) where
           ap (λ b. b || list_any (λ r. nat_lt MAX_HELD (length (holdings_after new [] (records (h ∷ hs)) r.order))) (records xs))
           (le-ltb MAX_HELD (length (holdings_after new [] (records (h ∷ hs)) account)) after_holds.few) ∙ none_many xs
 
-      -- the one fault that there may be is that of an unknown contract
+      -- the one fault that there may be is an unknown contract
       pub fault_is : order_bind_fault new [] (records (h ∷ hs)) ≡ first_fault_after test [] (records (h ∷ hs))
       unfolding order_bind_fault
       fault_is = by (first_fault_after test [] (records (h ∷ hs))) refl

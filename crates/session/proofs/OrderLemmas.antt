@@ -112,7 +112,7 @@ module _ (contracts : List Contract) (own : List AccountHoldings) where
     pub first_is : order_at tried 0 ≡ tried_order contracts own (trade_records order account trades) order
     first_is = ap (λ orders. slice_index_or orders 0 no_order) one_tried
 
-    -- and are tried, by the numbers before them and the row behind them
+    -- the numbers before them and the row behind them are what their lines are made of
     pub tried_is : (t : AcceptedTables) (numbers : Numbers) (row : RowView) (hs : List Holding) (after : AccountHoldings)
         → row.set.tables ≡ t → row.portfolio ≡ after → AreNumbers t hs numbers
         → option_map (λ (o : TriedOrder). o.before.holdings) (slice_get tried.orders 0) ≡ Some hs

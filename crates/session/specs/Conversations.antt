@@ -1,11 +1,13 @@
 -- A whole conversation: the answers to a list of requests, one after the other.
 use Rattle.std.specs.Prelude.{ℕ, ◌+◌, Bool, if◌then◌else◌, List, [], ◌∷◌, ◌++◌, All, filter_map, map, codes, decimal}
-use Rattle.std.specs.Prelude.{◌≡◌, ◌⊎◌, Option, Some, None, IfSome, Result, Ok, Err, false, is_ok}
+use Rattle.std.specs.Prelude.{◌≡◌, ◌⊎◌, Option, Some, None, IfSome, Result, Ok, Err, false, true, is_ok}
 use Rattle.span_money.specs.LineFields.{Line, line}
 use Rattle.desks.specs.Events.{Event, Asked, Told}
 use Rattle.desks.specs.declared.desk.DeskFault.{DeskFault}
 use Rattle.desks.specs.declared.desk.DeskFault.TheVariants as desk
 use Rattle.sources.specs.Files.{File, ReadGives}
+use Rattle.span_tables.specs.declared.records.PositionRecord.{PositionRecord}
+use Rattle.binding.specs.declared.trades.Trade.{Trade}
 use Rattle.sources.specs.Reads.{ReadsAll}
 use Rattle.statement.specs.Counts.{counts_line}
 use Rattle.statement_text.specs.Statement.{and_then, same}
@@ -111,6 +113,37 @@ answers_from n s (turn ∷ turns) = answer_text n (answer_of s turn) ∷ answers
 abbrev pub state_behind : State → List Turn → State
 state_behind s [] = s
 state_behind s (turn ∷ turns) = state_behind (state_after s (answer_of s turn)) turns
+
+-- the answers to requests without their numbers
+abbrev pub outcomes : State → List Turn → List (Result Answered Refused)
+outcomes s [] = []
+outcomes s (turn ∷ turns) = answer_of s turn ∷ outcomes (state_after s (answer_of s turn)) turns
+
+-- the texts of answers, numbered from the first on
+abbrev pub numbered_from : ℕ → List (Result Answered Refused) → List (List ℕ)
+numbered_from n [] = []
+numbered_from n (answer ∷ answers) = answer_text n answer ∷ numbered_from (n + 1) answers
+
+-- the position records of trades of an account
+abbrev pub booked_records : List ℕ → List Trade → List PositionRecord
+booked_records account trades = map (λ t. record { account = account; contract = t.contract; quantity = t.quantity }) trades
+
+-- the position records that a request books, if it is a FILL
+abbrev pub booked_by : Result asked.Asked RequestFault → List PositionRecord
+booked_by (Ok (asked.Fill account trades)) = booked_records account trades
+booked_by _ = []
+
+-- the position records that requests book which are not refused
+abbrev pub booked_in : State → List Turn → List PositionRecord
+booked_in s [] = []
+booked_in s (turn ∷ turns) =
+    (if is_ok (answer_of s turn) then booked_by (request_on turn.request) else [])
+    ++ booked_in (state_after s (answer_of s turn)) turns
+
+-- a request is one for another set
+abbrev pub is_set : Result asked.Asked RequestFault → Bool
+is_set (Ok (asked.Set name)) = true
+is_set _ = false
 
 -- answer 0, which opens a session
 abbrev pub opening_text : State → List ℕ

@@ -1,6 +1,6 @@
 //! The line that ends the answer to a request, and the one line of a refusal.
 ghost use Rattle.session.specs.Conversations.{done_line, refused_line};
-ghost use Rattle.session.specs.Refusals.{Refused, refused_by};
+ghost use Rattle.session.specs.Refusals.{refused_by};
 ghost use Rattle.session.specs.Refusals as refused;
 ghost use Rattle.span_money.specs.LineFields.{line};
 ghost use Rattle.std.specs.Prelude.{◌≡◌, ◌++◌, OnOk};

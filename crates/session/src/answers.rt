@@ -11,7 +11,7 @@ ghost use Rattle.session.specs.near.Answering.{Answers, is_memory};
 ghost use Rattle.session.specs.near.InUse.{state_of};
 ghost use Rattle.statement_text.specs.Statement.{row_text};
 ghost use Rattle.std.specs.Arc.{arc_value};
-ghost use Rattle.std.specs.Prelude.{◌≡◌, [], ⊤, IfErr, IfOk, MatchBool, None, Some};
+ghost use Rattle.std.specs.Prelude.{◌≡◌, ◌+◌, ◌*◌, [], ⊤, IfErr, IfOk, MatchBool, None, Some};
 ghost use Rattle.worker_pool.specs.Batches.{AllFit, FitsSet};
 
 use crate::accounts::Accounts;
@@ -29,8 +29,9 @@ use std::sync::Arc;
 use step_scheduler::rows::Row;
 use whatif::portfolios::copied;
 
-// How many names stand in front of the trades of a TRY, and of those of a FILL.
+// How many names a TRY and a FILL have in front of their trades.
 const NAMES_OF_TRY: u8 = 2;
+
 const NAMES_OF_FILL: u8 = 1;
 
 // The row of an account.
@@ -161,7 +162,7 @@ fn has_no_place(accounts: &Accounts, account: &Name) -> bool
     accounts.get(account).is_none() && MAX_ACCOUNTS <= accounts.len()
 }
 
-/// What an account holds after trades, of whose total the line is appended.
+/// Appends the total that an account has after trades, and gives what it then holds.
 pub(crate) fn push_fill(
     out: &mut Vec<u8>,
     set: &mut SetInUse,

@@ -7,6 +7,7 @@ mod answers;
 mod carried;
 pub mod conversation;
 pub mod faults;
+pub mod laws;
 mod positions;
 pub mod refusals;
 pub mod requests;

@@ -8,6 +8,8 @@ ghost use Rattle.session.specs.Requests.{IsTradable, asked_by};
 ghost use Rattle.session.specs.Requests.{is_memory as is_memory_fault};
 ghost use Rattle.session.specs.declared.refusals.Refusal.TheVariants as refusal;
 ghost use Rattle.session.specs.near.Answering.{Answers, ChangeFits, IsRead, changed, file_given, file_read, is_memory};
+ghost use Rattle.session.specs.near.InUse.{state_of};
+ghost use Rattle.session.specs.near.Kept.{AreOnce};
 ghost use Rattle.sources.specs.Files.{File};
 ghost use Rattle.statement.specs.Counts.{counts_line};
 ghost use Rattle.statement_text.specs.Gives.{Gives};
@@ -15,6 +17,7 @@ ghost use Rattle.statement_text.specs.Statement.{statement_text};
 ghost use Rattle.span_money.specs.LineFields.{line};
 ghost use Rattle.std.specs.Arc.{arc_value};
 ghost use Rattle.std.specs.Prelude.{◌≡◌, ◌++◌, [], ⊤, Err, IfErr, IfOk, List, MatchBool, Ok, OnErr, OnOk, Option, Some, false, is_err, ℕ};
+ghost use Rattle.worker_pool.specs.Batches.{AllFit};
 
 use crate::accounts::Accounts;
 use crate::answer_texts::{push_done, push_refused};
@@ -26,7 +29,7 @@ use crate::set_in_use::SetInUse;
 use acceptance::accepting::{Accepted, accept_together, set_of};
 use plan_compiler::set::CompiledSet;
 use sources::{ReadFault, Sources};
-use span_tables::portfolios::Portfolio;
+use span_tables::portfolios::{Portfolio, Portfolios};
 use statement::counts::write_counts;
 use statement::margin::margin_of_portfolios;
 use statement_text::faults::SpanFault;
@@ -43,7 +46,7 @@ const STDIN: &str = "/dev/stdin";
 // Room for a request and the longest last line of an answer: made once, so that a refusal needs no more.
 const ROOM: usize = 8192;
 
-/// What the statement of all accounts is computed on: so many workers of a runtime, from 1 to 16, which pass a gate before each step.
+/// The workers that compute the statement of all accounts: from 1 to 16 of them, on a runtime. They pass a gate before each step.
 #[derive(Drop)]
 pub struct Workers<'a, R, G: Gate> {
     pub rt: &'a R,
@@ -81,7 +84,7 @@ impl Model for Session {
     ghost invariant = { λ s. AllFit s.set s.accounts };
 }
 
-/// A session that is open, and its first answer, which is that to request 0.
+/// An open session, and its first answer, which is the answer to request 0.
 #[derive(Drop)]
 pub struct Opened {
     pub session: Session,
@@ -106,7 +109,7 @@ fn opening(alloc: Global, set: &SetInUse) -> Result<Vec<u8>, AllocError>
     Ok(text)
 }
 
-// The compiled set of a file that was read, or why it is refused. The file has this name.
+// Compiles the set of a file that was read, or says why it is refused. The file has this name.
 fn set_read<'a>(
     alloc: Global,
     name: &'a str,
@@ -129,7 +132,7 @@ fn set_read<'a>(
     }
 }
 
-// The file that a request asks for, if it asks for one that is not the stream of requests, as it was read.
+// Reads the file that a request asks for, if it asks for one other than the stream of requests.
 fn read_asked<S: Sources>(
     alloc: Global,
     sources: &mut S,
@@ -145,7 +148,7 @@ fn read_asked<S: Sources>(
     }
 }
 
-// Why a request is refused that has a fault.
+// The refusal of a request that has this fault.
 fn refusal_of(fault: RequestFault) -> Refusal<'static>
     ensures { MatchBool (is_memory_fault fault) (result ≡ refusal.Memory) (result ≡ refusal.Form fault) }
 {
@@ -155,9 +158,9 @@ fn refusal_of(fault: RequestFault) -> Refusal<'static>
     }
 }
 
-// The line of a refusal, in place of what the text had.
+// Writes the line of a refusal, in place of what `out` had.
 fn refuse(out: &mut Vec<u8>, number: u64, refusal: Refusal<'_>) -> Result<(), AllocError>
-    ensures { OnOk result ((is_memory refusal ≡ false) × (out.new.items ≡ line (refused_line number (refused_by refusal)))) }
+    ensures { OnOk result ((is_memory refusal.entry ≡ false) × (out.new.items ≡ line (refused_line number (refused_by refusal.entry)))) }
 {
     if matches!(refusal, Refusal::Memory) {
         return Err(AllocError);
@@ -184,6 +187,20 @@ impl Session {
             portfolios,
             ..
         } = accept_together(rt, alloc, params, positions, workers)?;
+        Ok(Session::over(alloc, set, portfolios)?)
+    }
+
+    // Opens a session over a compiled set and the portfolios of its accounts.
+    fn over(
+        alloc: Global,
+        set: Arc<CompiledSet>,
+        portfolios: Portfolios,
+    ) -> Result<Opened, AllocError>
+        requires fits { AllFit (arc_value set) portfolios }
+        requires once { AreOnce portfolios }
+        ensures state { IfOk result (λ o. o.session ≡ state_of (arc_value set) portfolios) }
+        ensures text { IfOk result (λ o. o.text.items ≡ opening_text o.session) }
+    {
         let accounts = Accounts::new(alloc, portfolios)?;
         let set = SetInUse::new(alloc, set)?;
         let text = opening(alloc, &set)?;
@@ -206,12 +223,19 @@ impl Session {
     {
         let portfolios = self.accounts.portfolios(self.alloc)?;
         let (rt, gate) = (workers.rt, workers.gate);
-        let text = margin_of_portfolios(rt, self.alloc, self.set.set(), portfolios, workers.count, gate)?;
+        let text = margin_of_portfolios(
+            rt,
+            self.alloc,
+            self.set.set(),
+            portfolios,
+            workers.count,
+            gate,
+        )?;
         out.extend_from_slice(&text)?;
         Ok(())
     }
 
-    // The set of a file that was read, and the accounts under it. Its line of counts is appended.
+    // Makes the set of a file that was read, carries the accounts over to it, and appends its line of counts.
     fn push_set<'a>(
         &self,
         out: &mut Vec<u8>,
@@ -224,12 +248,15 @@ impl Session {
     {
         let set = set_read(self.alloc, name, read)?;
         let mut set = SetInUse::new(self.alloc, set)?;
-        let accounts = self.accounts.under_set(self.alloc, &mut set, self.set.tables())?;
+        let accounts = self
+            .accounts
+            .under_set(self.alloc, &mut set, self.set.tables())?;
         push_counts(self.alloc, out, &set)?;
         Ok(Change::Set(set, accounts))
     }
 
-    // Appends the lines of the answer to a request, and gives what it changes. The file is the one that it asks for, as it was read.
+    // Appends the lines of the answer to a request, and returns what it changes. `file` is what was read of the file that it asks for.
+    #[tactic(auto, unfolding(crate::specs::Answers::answer_to))]
     fn push_lines<'a, R: Threads + Wait + Clock + Sync, G: Gate>(
         &mut self,
         workers: &Workers<'_, R, G>,
@@ -241,7 +268,7 @@ impl Session {
         requires tradable { IsTradable request }
         ensures same { self.new ≡ self.old }
         ensures answer { Answers (changed self.old) result out.new.items
-            (answer_to self.old (file_given (λ v. v.items) file) (asked_by request)) }
+            (answer_to self.old (file_given (λ v. v.items) file) (asked_by request.entry)) }
         ensures fits { IfOk result (ChangeFits self.old) }
     {
         let (alloc, set, accounts) = (self.alloc, &mut self.set, &self.accounts);
@@ -260,8 +287,8 @@ impl Session {
             }
             Request::Set { file: name } => {
                 return match file {
+                    _ if name == STDIN => Err(Refusal::File { name }),
                     Some(read) => self.push_set(out, name, read),
-                    None if name == STDIN => Err(Refusal::File { name }),
                     None => Err(Refusal::Memory),
                 };
             }
@@ -270,7 +297,7 @@ impl Session {
         Ok(Change::Nothing)
     }
 
-    // Makes a change. If memory runs out the session stays as it was.
+    // Makes a change. If memory runs out, the session stays as it was.
     fn apply(&mut self, change: Change) -> Result<(), AllocError>
         requires { ChangeFits self.old change }
         ensures done { OnOk result (self.new ≡ changed self.old change) }
@@ -287,7 +314,7 @@ impl Session {
         Ok(())
     }
 
-    // Answers a request that a line asks for.
+    // Answers a request, or says why it is refused.
     fn answer_request<'a, R: Threads + Wait + Clock + Sync, G: Gate>(
         &mut self,
         workers: &Workers<'_, R, G>,
@@ -299,12 +326,12 @@ impl Session {
         requires empty { out.old.items ≡ [] }
         requires tradable { IsTradable request }
         ensures text { OnOk result (out.new.items
-            ≡ answer_text number (answer_to self.old (file_given (λ v. v.items) file) (asked_by request))) }
+            ≡ answer_text number (answer_to self.old (file_given (λ v. v.items) file) (asked_by request.entry))) }
         ensures state { OnOk result (self.new
-            ≡ state_after self.old (answer_to self.old (file_given (λ v. v.items) file) (asked_by request))) }
+            ≡ state_after self.old (answer_to self.old (file_given (λ v. v.items) file) (asked_by request.entry))) }
         ensures same { OnErr result (self.new ≡ self.old) }
         ensures refused { IfErr result (λ r. MatchBool (is_memory r) ⊤
-            (answer_to self.old (file_given (λ v. v.items) file) (asked_by request) ≡ Err (refused_by r))) }
+            (answer_to self.old (file_given (λ v. v.items) file) (asked_by request.entry) ≡ Err (refused_by r))) }
     {
         let change = self.push_lines(workers, out, request, file)?;
         push_done(out, number)?;
@@ -312,8 +339,8 @@ impl Session {
         Ok(())
     }
 
-    /// Answers the request of a number, which has this line. The text of the answer stands in `out`, in place of what was there. If memory
-    /// runs out the session is as it was, and the request is refused for that.
+    /// Answers the request of this number and line. The text of the answer replaces what was in `out`. If memory runs out, the session
+    /// stays as it was, and the caller has to write the refusal.
     pub fn answer<R: Threads + Wait + Clock + Sync, G: Gate, S: Sources>(
         &mut self,
         workers: &Workers<'_, R, G>,
@@ -342,7 +369,7 @@ impl Session {
     }
 }
 
-/// The text of the answer to the request of a number that is too long, in place of what `out` had.
+/// Answers the request of this number, which is too long. The text of the answer replaces what was in `out`.
 pub fn refuse_long(out: &mut Vec<u8>, number: u64) -> Result<(), AllocError>
     ensures { OnOk result (out.new.items ≡ line (refused_line number (refused.Form form.LineTooLong))) }
 {

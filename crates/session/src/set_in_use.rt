@@ -125,8 +125,8 @@ impl SetInUse {
         self.binder.bind(self.alloc, own, &records)
     }
 
-    /// Appends the lines of trades that are tried as an order of an account, or tells the fault of B1 to B3 that they have. `known` is what
-    /// the account holds, if it is known.
+    /// Appends the lines of trades as an order of an account, or gives their fault of B1 to B3. `known` is what the account holds, if it is
+    /// known.
     pub(crate) fn push_tried(
         &mut self,
         out: &mut Vec<u8>,
@@ -155,7 +155,7 @@ impl SetInUse {
         Ok(())
     }
 
-    /// What an account holds after trades, or the fault of B1 to B3 that they have. `known` is what the account holds before, if it is known.
+    /// What an account holds after trades, or their fault of B1 to B3. `known` is what the account holds before them, if it is known.
     pub(crate) fn after(
         &mut self,
         known: Option<&Portfolio>,
@@ -177,7 +177,11 @@ impl SetInUse {
     }
 
     /// Appends the line of the total of an account.
-    pub(crate) fn push_total(&mut self, out: &mut Vec<u8>, portfolio: &Portfolio) -> Result<(), AllocError>
+    pub(crate) fn push_total(
+        &mut self,
+        out: &mut Vec<u8>,
+        portfolio: &Portfolio,
+    ) -> Result<(), AllocError>
         requires { FitsSet self.old portfolio.now }
         ensures same { self.new ≡ self.old }
         ensures line { OnOk result (out.new.items ≡ out.old.items ++ total_text self.old.tables portfolio.now) }

@@ -16,7 +16,7 @@ use Rattle.session.specs.Refusals.{Refused, refused_by}
 use Rattle.session.specs.declared.refusals.Refusal.{Refusal}
 use Rattle.session.specs.declared.refusals.Refusal.TheVariants as refusal
 
--- the refusal is that memory ran out, of which no answer speaks
+-- the refusal is that memory ran out; no answer speaks of that
 abbrev pub is_memory : Refusal → Bool
 is_memory refusal.Memory = true
 is_memory _ = false

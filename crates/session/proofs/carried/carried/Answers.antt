@@ -1,11 +1,10 @@
-use Rattle.std.proofs.Common.{rules, ◌≡◌, ◌∙◌, ◌<◌, ℕ, List, [], None, ap, arith, bytes_eq, false, length, subst, sym}
+use Rattle.std.proofs.Common.{rules, ◌≡◌, ◌∙◌, ◌<◌, [], ap, bytes_eq, false, length, subst, sym}
 use Rattle.std.specs.Prelude.{MatchBool, ⊤}
 use Rattle.std.specs.Prelude.{Some}
 use Rattle.std.proofs.lemmas.List.{length-map}
 use Rattle.span_tables.specs.Names.{has_repeat}
 use Rattle.span_tables.specs.Tables.{AcceptedTables}
 use Rattle.binding.specs.OrderBinding.{is_memory, order_bind_fault, tried_order}
-use Rattle.binding.specs.declared.trades.Trade.{Trade}
 use Rattle.session.specs.Answers.{trade_records}
 use Rattle.session.specs.Requests.{AreTradable}
 use Rattle.session.specs.near.Carried.{IsLoss, held_trade, held_trades, loss}
@@ -37,7 +36,8 @@ returns-in-Ok-clause-carried c =
     let account = c.args.portfolio.now.account in
     let some : 0 < length hs = search rules in
     let apart : has_repeat (λ x y. bytes_eq x.id y.id) new ≡ false =
-    subst (λ (t : AcceptedTables). has_repeat (λ x y. bytes_eq x.id y.id) t.contracts ≡ false) c.tables.ensures c.known.ensures.contracts_apart in
+    subst (λ (t : AcceptedTables). has_repeat (λ x y. bytes_eq x.id y.id) t.contracts
+    ≡ false) c.tables.ensures c.known.ensures.contracts_apart in
     let trades : c.deref.result.now ≡ held_trades old hs =
     c.deref.ensures.value ∙ c.in_ok-trades.ensures ∙ ap (λ contracts. held_trades contracts hs) c.contracts.ensures.value in
     let name : c.account.result.now ≡ account = c.account.ensures in
@@ -52,7 +52,8 @@ returns-in-Ok-clause-known c =
     let account = c.args.portfolio.now.account in
     let some : 0 < length hs = search rules in
     let apart : has_repeat (λ x y. bytes_eq x.id y.id) new ≡ false =
-    subst (λ (t : AcceptedTables). has_repeat (λ x y. bytes_eq x.id y.id) t.contracts ≡ false) c.tables.ensures c.known.ensures.contracts_apart in
+    subst (λ (t : AcceptedTables). has_repeat (λ x y. bytes_eq x.id y.id) t.contracts
+    ≡ false) c.tables.ensures c.known.ensures.contracts_apart in
     let trades : c.deref.result.now ≡ held_trades old hs =
     c.deref.ensures.value ∙ c.in_ok-trades.ensures ∙ ap (λ contracts. held_trades contracts hs) c.contracts.ensures.value in
     let name : c.account.result.now ≡ account = c.account.ensures in
@@ -70,7 +71,8 @@ lost-requires c =
     let account = c.args.portfolio.now.account in
     let some : 0 < length hs = search rules in
     let apart : has_repeat (λ x y. bytes_eq x.id y.id) new ≡ false =
-    subst (λ (t : AcceptedTables). has_repeat (λ x y. bytes_eq x.id y.id) t.contracts ≡ false) c.tables.ensures c.known.ensures.contracts_apart in
+    subst (λ (t : AcceptedTables). has_repeat (λ x y. bytes_eq x.id y.id) t.contracts
+    ≡ false) c.tables.ensures c.known.ensures.contracts_apart in
     let trades : c.deref.result.now ≡ held_trades old hs =
     c.deref.ensures.value ∙ c.in_ok-trades.ensures ∙ ap (λ contracts. held_trades contracts hs) c.contracts.ensures.value in
     let name : c.account.result.now ≡ account = c.account.ensures in
@@ -92,7 +94,8 @@ returns-clause-lost c =
     let account = c.args.portfolio.now.account in
     let some : 0 < length hs = search rules in
     let apart : has_repeat (λ x y. bytes_eq x.id y.id) new ≡ false =
-    subst (λ (t : AcceptedTables). has_repeat (λ x y. bytes_eq x.id y.id) t.contracts ≡ false) c.tables.ensures c.known.ensures.contracts_apart in
+    subst (λ (t : AcceptedTables). has_repeat (λ x y. bytes_eq x.id y.id) t.contracts
+    ≡ false) c.tables.ensures c.known.ensures.contracts_apart in
     let trades : c.deref.result.now ≡ held_trades old hs =
     c.deref.ensures.value ∙ c.in_ok-trades.ensures ∙ ap (λ contracts. held_trades contracts hs) c.contracts.ensures.value in
     let name : c.account.result.now ≡ account = c.account.ensures in
