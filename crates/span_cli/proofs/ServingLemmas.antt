@@ -128,10 +128,6 @@ found_same beside file later name same = ap (λ (o : Option File). if beside && 
 
 -- ---- what comes of a request
 
--- the fact goes on for all files that there are
-abbrev ForFile : (List ℕ → Option File) → Asked → (Outside → Type 0) → Type 0
-ForFile file asked P = (outside : Outside) → outside.file ≡ file → P outside
-
 -- what is answered to a command for its files, whatever is beside them
 at_once : (outside : Outside) (command : Command) (files : List (List ℕ)) (answer : Answer) → answered command files answer
     → answered_amid outside command files answer
@@ -155,27 +151,28 @@ session_fault : (params positions : List ℕ) (turns : List Turn) (e : SpanFault
 unfolding session_of
 session_fault params positions turns e is = rw is refl
 
--- a command is refused by its fault for its files, whatever is beside them
-refuses_amid : (outside : Outside) (command : Command) (files : List (List ℕ)) (e : SpanFault) → Refuses command files e
-    → answered_amid outside command files (answer_of (Err e))
-refuses_amid outside Check files e h = h
-refuses_amid outside Plan files e h = h
-refuses_amid outside (Margin workers) files e h = h
-refuses_amid outside (Explain account) files e h = h
-refuses_amid outside (Roll workers) files e h = h
-refuses_amid outside (WhatIf workers) files e h = h
-refuses_amid outside Faults files e h = h
-refuses_amid outside (Session workers) [] e h = absurd h
-refuses_amid outside (Session workers) (params ∷ []) e h = absurd h
-refuses_amid outside (Session workers) (params ∷ positions ∷ []) e h = rw (session_fault params positions outside.turns e h) refl
-refuses_amid outside (Session workers) (params ∷ positions ∷ more ∷ rest) e h = absurd h
+-- a command is refused by its fault for its files, whatever is beside them, where no request was taken
+refuses_amid : (outside : Outside) (command : Command) (files : List (List ℕ)) (e : SpanFault) → outside.turns ≡ []
+    → Refuses command files e → answered_amid outside command files (answer_of (Err e))
+refuses_amid outside Check files e none h = h
+refuses_amid outside Plan files e none h = h
+refuses_amid outside (Margin workers) files e none h = h
+refuses_amid outside (Explain account) files e none h = h
+refuses_amid outside (Roll workers) files e none h = h
+refuses_amid outside (WhatIf workers) files e none h = h
+refuses_amid outside Faults files e none h = h
+refuses_amid outside (Session workers) [] e none h = absurd h
+refuses_amid outside (Session workers) (params ∷ []) e none h = absurd h
+refuses_amid outside (Session workers) (params ∷ positions ∷ []) e none h =
+    rw (session_fault params positions outside.turns e h) (none, refl)
+refuses_amid outside (Session workers) (params ∷ positions ∷ more ∷ rest) e none h = absurd h
 
 -- the answer to what is asked, if its files were found so
 found_so : (file : List ℕ → Option File) (asked : Asked) (answer : Answer)
-    → ((outside : Outside) → IsAnswered outside asked.0 (found_by file asked) answer)
-    → (outside : Outside) → outside.file ≡ file → IsAnswer outside asked answer
-found_so file asked answer h outside same =
-    subst (λ (f : List ℕ → Option File). IsAnswered outside asked.0 (found_by f asked) answer) (sym same) (h outside)
+    → ((outside : Outside) → outside.turns ≡ [] → IsAnswered outside asked.0 (found_by file asked) answer)
+    → (outside : Outside) → outside.file ≡ file → outside.turns ≡ [] → IsAnswer outside asked answer
+found_so file asked answer h outside same none =
+    subst (λ (f : List ℕ → Option File). IsAnswered outside asked.0 (found_by f asked) answer) (sym same) (h outside none)
 
 -- the answer to a request whose files were not all read
 pub unread_runs : (file : List ℕ → Option File) (asked : Asked) (r : Refusal)
@@ -183,9 +180,9 @@ pub unread_runs : (file : List ℕ → Option File) (asked : Asked) (r : Refusal
 unread_runs file asked r h = of_files (found_by file asked) refl h where
   of_files : (found : Found) → found_by file asked ≡ found
       → IfSome found (λ o. (r ≡ refusal.Fault fault.Memory) ⊎ (o ≡ Err (refusal_answer r))) → Runs file asked (Err r)
-  of_files None is h = inr (found_so file asked (refusal_answer r) (λ outside. rw is tt))
+  of_files None is h = inr (found_so file asked (refusal_answer r) (λ outside none. rw is tt))
   of_files (Some o) is (inl memory) = inl memory
-  of_files (Some o) is (inr unread) = inr (found_so file asked (refusal_answer r) (λ outside. rw (is, unread) refl))
+  of_files (Some o) is (inr unread) = inr (found_so file asked (refusal_answer r) (λ outside none. rw (is, unread) (none, refl)))
 
 -- the answer to a request that is refused for its files
 pub fault_runs : (file : List ℕ → Option File) (asked : Asked) (files : List (List ℕ)) (e : SpanFault)
@@ -193,11 +190,11 @@ pub fault_runs : (file : List ℕ → Option File) (asked : Asked) (files : List
     → Runs file asked (Err (refusal.Fault e))
 fault_runs file asked files e h (inl memory) = inl (ap refusal.Fault memory)
 fault_runs file asked files e h (inr refuses) =
-    inr (found_so file asked (refusal_answer (refusal.Fault e)) (λ outside. of_files outside (found_by file asked) h)) where
-      of_files : (outside : Outside) (found : Found) → IfSome found (λ o. o ≡ Ok files)
+    inr (found_so file asked (refusal_answer (refusal.Fault e)) (λ outside none. of_files outside none (found_by file asked) h)) where
+      of_files : (outside : Outside) → outside.turns ≡ [] → (found : Found) → IfSome found (λ o. o ≡ Ok files)
           → IsAnswered outside asked.0 found (refusal_answer (refusal.Fault e))
-      of_files outside None h = tt
-      of_files outside (Some o) is = rw is (refuses_amid outside asked.0 files e refuses)
+      of_files outside none None h = tt
+      of_files outside none (Some o) is = rw is (refuses_amid outside asked.0 files e none refuses)
 
 -- what comes of a request whose files were read
 pub read_runs : (file : List ℕ → Option File) (asked : Asked) (files : List (List ℕ)) (came : Outcome)
@@ -256,12 +253,15 @@ pub refusal_serves : (file : List ℕ → Option File) (input : Option (List ℕ
     (out old_err new_err : Stream) → out.failed ≡ false → given ≡ refusal_status r → Says old_err new_err (refusal_line r)
     → Runs file asked (Err r) → Serves (around file input [] out.failed) asked given out out old_err new_err
 refusal_serves file input asked r given out old_err new_err fresh same said (inl wanted) =
-    inr (subst (λ (x : Refusal). Tells (refusal_answer x) given out out old_err new_err) wanted
-    (refused_tells _ _ given out old_err new_err fresh same said))
+    inr (
+      refl,
+      subst (λ (x : Refusal). Tells (refusal_answer x) given out out old_err new_err) wanted
+          (refused_tells _ _ given out old_err new_err fresh same said),
+    )
 refusal_serves file input asked r given out old_err new_err fresh same said (inr is) =
     inl (record {
       answer = refusal_answer r;
-      is = is (around file input [] out.failed) refl;
+      is = is (around file input [] out.failed) refl refl;
       told = refused_tells _ _ given out old_err new_err fresh same said;
     })
 
@@ -303,7 +303,7 @@ pub session_serves : {S : Type 0} (file later : List ℕ → Option File) (reads
     → ReadsInOrder (reads_under (takes_requests asked.0) reads) old asked.1 mid
     → ((turns : List Turn) × AreFromSource later reads mid turns new
     × (TellsSession later input o.session turns given old_out new_out old_err new_err
-    ⊎ Tells memory given old_out new_out old_err new_err))
+    ⊎ ((turns ≡ []) × Tells memory given old_out new_out old_err new_err)))
     → (turns : List Turn) × Serves (around file input turns new_out.failed) asked given old_out new_out old_err new_err
     × ReadsAsked reads old turns (Some asked) new
 session_serves {S} file later reads old mid new input asked o count given old_out new_out old_err new_err same runs takes in_order
@@ -321,7 +321,8 @@ session_serves {S} file later reads old mid new input asked o count given old_ou
       of_files (Some x) ending (files, is, opens) conversed = rw is (opened_answer outside asked.0 files o count ending opens conversed)
 
       told : TellsSession later input o.session turns given old_out new_out old_err new_err
-          ⊎ Tells memory given old_out new_out old_err new_err → Serves outside asked given old_out new_out old_err new_err
+          ⊎ ((turns ≡ []) × Tells memory given old_out new_out old_err new_err)
+          → Serves outside asked given old_out new_out old_err new_err
       told (inr wanted) = inr wanted
       told (inl t) =
           inl (record {
@@ -332,10 +333,10 @@ session_serves {S} file later reads old mid new input asked o count given old_ou
 
 -- words that ask for something may be answered out of memory
 pub memory_serves : (outside : Outside) (o : Option Asked) (given : ℕ) (old_out new_out old_err new_err : Stream)
-    → is_some o ≡ true → Tells memory given old_out new_out old_err new_err
+    → outside.turns ≡ [] → is_some o ≡ true → Tells memory given old_out new_out old_err new_err
     → ServesAsked outside o given old_out new_out old_err new_err
-memory_serves outside None given old_out new_out old_err new_err some told = cc
-memory_serves outside (Some asked) given old_out new_out old_err new_err some told = inr told
+memory_serves outside None given old_out new_out old_err new_err none some told = cc
+memory_serves outside (Some asked) given old_out new_out old_err new_err none some told = inr (none, told)
 
 -- ---- words
 

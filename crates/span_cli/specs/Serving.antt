@@ -122,10 +122,10 @@ ended_answer CutOff texts =
     record { status = FILE_FAILED; out = flat_map (λ text. text) texts; err = file_line (codes "input") }
 ended_answer Unwritten texts = done (flat_map (λ text. text) texts)
 
--- the answer is that of a session which has these texts, or is refused for its files
+-- The answer is that of a session which has these texts, or is refused for its files. One that is refused takes no request.
 abbrev pub IsOfSession : Outside → Result (List (List ℕ)) SpanFault → Answer → Type 0
 IsOfSession outside (Ok texts) answer = (ending : Ending) × IsConversation outside ending × (answer ≡ ended_answer ending texts)
-IsOfSession outside (Err e) answer = answer ≡ answer_of (Err e)
+IsOfSession outside (Err e) answer = (outside.turns ≡ []) × (answer ≡ answer_of (Err e))
 
 -- the answer is the command's for these bytes of its files and what it finds beside them
 abbrev pub answered_amid : Outside → Command → List (List ℕ) → Answer → Type 0
@@ -155,10 +155,11 @@ all_read file (name ∷ names) = read_before name (file name) (all_read file nam
 abbrev pub found_by : (List ℕ → Option File) → Asked → Found
 found_by file asked = all_read (found_under (takes_requests asked.0) file) asked.1
 
--- the answer is the command's where this became of its files; where that is unknown it may be any
+-- The answer is the command's where this became of its files; where that is unknown it may be any. Where one of them is not read, no request
+-- is taken.
 abbrev pub IsAnswered : Outside → Command → Found → Answer → Type 0
 IsAnswered outside command None answer = ⊤
-IsAnswered outside command (Some (Err refusal)) answer = answer ≡ refusal
+IsAnswered outside command (Some (Err refusal)) answer = (outside.turns ≡ []) × (answer ≡ refusal)
 IsAnswered outside command (Some (Ok files)) answer = answered_amid outside command files answer
 
 -- the answer is that to what is asked

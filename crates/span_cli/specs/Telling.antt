@@ -34,10 +34,11 @@ pub record TellsAnswer (outside : Outside) (asked : Asked) (given : ℕ) (old_ou
   pub is : IsAnswer outside asked answer
   pub told : Tells answer given old_out new_out old_err new_err
 
--- the answer to what is asked was told, or out of memory
+-- the answer to what is asked was told; or out of memory, and no request was taken
 abbrev pub Serves : Outside → Asked → ℕ → Stream → Stream → Stream → Stream → Type 0
 Serves outside asked given old_out new_out old_err new_err =
-    TellsAnswer outside asked given old_out new_out old_err new_err ⊎ Tells memory given old_out new_out old_err new_err
+    TellsAnswer outside asked given old_out new_out old_err new_err
+    ⊎ ((outside.turns ≡ []) × Tells memory given old_out new_out old_err new_err)
 
 -- what words ask for was answered, or out of memory was told; of words that ask for nothing that never holds
 abbrev pub ServesAsked : Outside → Option Asked → ℕ → Stream → Stream → Stream → Stream → Type 0

@@ -12,7 +12,7 @@ ghost use Rattle.span_cli.specs.near.Sessions.{TellsSession};
 ghost use Rattle.span_cli.specs.declared.serving.Refusal.TheVariants as refusal;
 ghost use Rattle.statement.specs.AllFaults.{faults_of};
 ghost use Rattle.writers.specs.Streams.{Says};
-ghost use Rattle.std.specs.Prelude.{◌≡◌, ◌≤◌, ◌⊎◌, ◌&&◌, IfOk, IfSome, List, Some, false, is_ok, length, map, option_map, ℕ};
+ghost use Rattle.std.specs.Prelude.{◌≡◌, ◌≤◌, ◌⊎◌, ◌&&◌, [], IfOk, IfSome, List, Some, false, is_ok, length, map, option_map, ℕ};
 
 use crate::sessions::serve_session;
 use arrayvec::ArrayVec;
@@ -419,7 +419,7 @@ fn converse<
     requires fresh { out.old.failed ≡ false }
     ensures { (turns : List Turn) × AreFromSource (S.file sources.old) S.reads sources.old turns sources.new
         × (TellsSession (S.file sources.old) (I.remaining input) opened.session turns result out.old out.new err.old err.new
-        ⊎ Tells memory result out.old out.new err.old err.new) }
+        ⊎ ((turns ≡ []) × Tells memory result out.old out.new err.old err.new)) }
 {
     match Requests::new(alloc, input) {
         Ok(requests) => serve_session(workers, opened, sources, requests, out, err),

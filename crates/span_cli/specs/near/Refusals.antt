@@ -85,4 +85,5 @@ abbrev pub Runs : (List ℕ → Option File) → Asked → Result Outcome Refusa
 Runs file asked (Ok came) =
     IfSome (found_by file asked) (λ found. (files : List (List ℕ)) × (found ≡ Ok files) × ComesOf asked.0 files came)
 Runs file asked (Err r) =
-    (r ≡ refusal.Fault fault.Memory) ⊎ ((outside : Outside) → outside.file ≡ file → IsAnswer outside asked (refusal_answer r))
+    (r ≡ refusal.Fault fault.Memory)
+    ⊎ ((outside : Outside) → outside.file ≡ file → outside.turns ≡ [] → IsAnswer outside asked (refusal_answer r))

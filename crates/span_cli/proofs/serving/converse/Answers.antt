@@ -1,4 +1,4 @@
-use Rattle.std.proofs.Common.{[], inr}
+use Rattle.std.proofs.Common.{[], inr, refl}
 use Rattle.span_cli.proofs.ServingLemmas.{refused_tells}
 use Rattle.span_cli.proofs.SessionLemmas.{no_files}
 use Rattle.span_cli.proofs.serving.converse.Goals as goal
@@ -7,5 +7,5 @@ pub returns-in-Err : goal.returns-in-Err
 returns-in-Err g c = (
   [],
   no_files (g.S.Sources.file c.args.sources.now) g.S.Sources.reads _,
-  inr (refused_tells _ _ c.refuse.result c.args.out.now _ _ c.requires.fresh c.refuse.ensures.status c.refuse.ensures.line),
+  inr (refl, refused_tells _ _ c.refuse.result c.args.out.now _ _ c.requires.fresh c.refuse.ensures.status c.refuse.ensures.line),
 )

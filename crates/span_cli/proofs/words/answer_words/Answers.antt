@@ -1,4 +1,4 @@
-use Rattle.std.proofs.Common.{[], inl, map}
+use Rattle.std.proofs.Common.{[], inl, map, refl}
 use Rattle.span_cli.specs.Words.{asked_in, kinds_of}
 use Rattle.span_cli.proofs.WordsLaws.{taken_asks, unrefused_asks, unrefused_taken}
 use Rattle.span_cli.proofs.ReadLemmas.{nothing_read}
@@ -10,10 +10,10 @@ returns-in-Err g c =
     let words = map g.T.AsStr.text c.args.words.now in (
       [],
       record {
-        taken = λ taken. memory_serves _ (asked_in words) _ _ _ _ _ (taken_asks words taken)
+        taken = λ taken. memory_serves _ (asked_in words) _ _ _ _ _ refl (taken_asks words taken)
             (memory_told c.in-Err.error _ _ _ _ _ (c.in-Err.ensures.err taken) c.refuse.ensures);
         by_kinds = words_refused (kinds_of words) _ c.in-Err.error _ _ _ _ _ c.in-Err.ensures.kinds c.refuse.ensures (λ none told.
-            memory_serves _ (asked_in words) _ _ _ _ _ (unrefused_asks words none) told);
+            memory_serves _ (asked_in words) _ _ _ _ _ refl (unrefused_asks words none) told);
         read = nothing_read g.S.Sources.reads _ words _ (λ taken.
             memory_told c.in-Err.error _ _ _ _ _ (c.in-Err.ensures.err taken) c.refuse.ensures);
       },

@@ -1,4 +1,4 @@
-use Rattle.std.proofs.Common.{◌≡◌, [], inl, map, rules}
+use Rattle.std.proofs.Common.{◌≡◌, [], inl, map, refl, rules}
 use Rattle.clap.specs.Words.{kind_of}
 use Rattle.clap.specs.declared.error.kind.ErrorKind.TheVariants.{OutOfMemory}
 use Rattle.span_cli.specs.Words.{asked_in, joined_words, kinds_of}
@@ -16,10 +16,10 @@ returns-in-Err g c =
     let wanted : kind_of c.from.result ≡ OutOfMemory = search rules in (
       [],
       record {
-        taken = λ taken. memory_serves _ (asked_in words) _ _ _ _ _ (taken_asks words taken)
+        taken = λ taken. memory_serves _ (asked_in words) _ _ _ _ _ refl (taken_asks words taken)
             (memory_told c.from.result _ _ _ _ _ wanted c.refuse.ensures);
         by_kinds = words_refused (kinds_of words) _ c.from.result _ _ _ _ _ (inl wanted) c.refuse.ensures (λ none told.
-            memory_serves _ (asked_in words) _ _ _ _ _ (unrefused_asks words none) told);
+            memory_serves _ (asked_in words) _ _ _ _ _ refl (unrefused_asks words none) told);
         read = nothing_read g.S.Sources.reads _ words _ (λ taken. memory_told c.from.result _ _ _ _ _ wanted c.refuse.ensures);
       },
     )
