@@ -28,11 +28,11 @@ _span() {
     esac
     local words=''
     case $command in
-    '') words='check plan margin explain roll whatif faults help -h --help -V --version' ;;
-    help) words='check plan margin explain roll whatif faults' ;;
-    check | plan | faults) words='-h --help' ;;
-    margin | roll | whatif) words='--workers -h --help' ;;
+    '') words='margin explain whatif session roll faults check plan help -h --help -V --version' ;;
+    help) words='margin explain whatif session roll faults check plan' ;;
+    margin | whatif | session | roll) words='--workers -h --help' ;;
     explain) words='--account -h --help' ;;
+    faults | check | plan) words='-h --help' ;;
     esac
     case $command:$word in
     :* | help:* | *:-*) mapfile -t COMPREPLY < <(compgen -W "$words" -- "$word") ;;

@@ -4,7 +4,7 @@ use span_cli::outputs::{ErrorStream, OutputStream};
 use span_cli::words::run_words;
 use std::alloc::Global;
 use std::io;
-use std::io::{ErrorKind, Write};
+use std::io::{ErrorKind, Read, Write};
 use std::sync::Wait;
 use std::thread::Threads;
 use std::time::Clock;
@@ -25,7 +25,26 @@ impl Given {
     }
 }
 
-/// What a command line gives over these sources, whose workers pass this gate.
+/// What a command line gives over these sources and this input, whose workers pass this gate.
+pub(crate) fn run_over<S: Sources, I: Read + Drop, R: Threads + Wait + Clock + Sync, G: Gate>(
+    rt: &R,
+    alloc: Global,
+    words: &[&str],
+    sources: &mut S,
+    gate: &G,
+    input: I,
+) -> Given {
+    let mut out = MarkedWriter::new(Vec::new(alloc));
+    let mut err = MarkedWriter::new(Vec::new(alloc));
+    let status = run_words(rt, alloc, words, sources, gate, input, &mut out, &mut err);
+    Given {
+        status,
+        out: out.into_inner(),
+        err: err.into_inner(),
+    }
+}
+
+/// What a command line gives over these sources and an empty input, whose workers pass this gate.
 pub(crate) fn run_on<S: Sources, R: Threads + Wait + Clock + Sync, G: Gate>(
     rt: &R,
     alloc: Global,
@@ -33,14 +52,7 @@ pub(crate) fn run_on<S: Sources, R: Threads + Wait + Clock + Sync, G: Gate>(
     sources: &mut S,
     gate: &G,
 ) -> Given {
-    let mut out = MarkedWriter::new(Vec::new(alloc));
-    let mut err = MarkedWriter::new(Vec::new(alloc));
-    let status = run_words(rt, alloc, words, sources, gate, &mut out, &mut err);
-    Given {
-        status,
-        out: out.into_inner(),
-        err: err.into_inner(),
-    }
+    run_over(rt, alloc, words, sources, gate, b"".as_slice())
 }
 
 /// Takes a few bytes and then fails.

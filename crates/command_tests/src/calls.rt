@@ -90,6 +90,7 @@ fn of_requests<R: Threads + Wait + Clock + Sync + Abort>(rt: &R, alloc: Global) 
         request,
         &mut sources,
         &OpenGate,
+        b"".as_slice(),
         &mut out,
         &mut err,
     );

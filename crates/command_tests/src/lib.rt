@@ -11,6 +11,8 @@ mod calls;
 #[cfg(test)]
 mod reading;
 #[cfg(test)]
+mod sessions;
+#[cfg(test)]
 mod streams;
 #[cfg(test)]
 mod words;

@@ -65,6 +65,7 @@ fn margin_into<R: Threads + Wait + Clock + Sync>(
         request,
         &mut sources,
         &OpenGate,
+        b"".as_slice(),
         &mut out,
         &mut err,
     );

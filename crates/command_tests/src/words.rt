@@ -87,6 +87,7 @@ fn run_into<W: OutputStream, E: ErrorStream, R: Threads + Wait + Clock + Sync>(
         words,
         &mut sources,
         &OpenGate,
+        b"".as_slice(),
         &mut out,
         &mut err,
     );

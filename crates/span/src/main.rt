@@ -27,6 +27,7 @@ fn main(rt: HostRuntime) -> ExitCode {
                 words.as_slice(),
                 &mut disk,
                 &OpenGate,
+                rt.stdin(),
                 &mut out,
                 &mut err,
             )

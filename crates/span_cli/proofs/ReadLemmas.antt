@@ -1,5 +1,5 @@
 -- Files that are read one behind another, and command lines for which none is read.
-use Rattle.std.proofs.Common.{◌≡◌, ◌⊎◌, ◌+◌, ◌<◌, ◌≤◌, ℕ, Bool, true, false, List, None, refl, sym, subst, inl, inr, length, get_or, map}
+use Rattle.std.proofs.Common.{◌≡◌, ◌⊎◌, ◌+◌, ◌<◌, ◌≤◌, ℕ, Bool, true, false, List, [], None, refl, sym, subst, inl, inr, length, get_or, map}
 use Rattle.std.proofs.Common.{drop, Bor}
 use Rattle.std.proofs.lemmas.List.{at_drop_all, at_drop_more}
 use Rattle.std.specs.Prelude.{if◌then◌else◌}
@@ -41,9 +41,9 @@ module _ {S : Type 0} (reads : S → List ℕ → Bool → S → Type 0) where
 
   -- nothing was read, and a call that was asked for something gave up
   pub nothing_read : (now : S) (words : List Text) (gave_up : Type 0) → (is_request words ≡ true → gave_up)
-      → ReadsAsked reads now (request_in words) now ⊎ ((now ≡ now) × gave_up)
+      → ReadsAsked reads now [] (request_in words) now ⊎ ((now ≡ now) × gave_up)
   nothing_read now words gave_up told = of_request (is_request words) refl where
     of_request : (taken : Bool) → is_request words ≡ taken
-        → ReadsAsked reads now (if taken then asked_in words else None) now ⊎ ((now ≡ now) × gave_up)
+        → ReadsAsked reads now [] (if taken then asked_in words else None) now ⊎ ((now ≡ now) × gave_up)
     of_request true is = inr (refl, told is)
     of_request false is = inl refl

@@ -1,9 +1,13 @@
 -- What is told of an answer.
 use Rattle.std.proofs.Common.{◌≡◌, ◌⊎◌, ◌++◌, ℕ, List, [], ◌∷◌, false, true, is_some, Option, Some, None, Result, Ok, Err}
-use Rattle.std.proofs.Common.{◌+◌, ◌<◌, refl, sym, subst, ap, append_assoc, inl, inr, length, get_or, map, drop, Bor}
+use Rattle.std.proofs.Common.{◌+◌, ◌<◌, ◌&&◌, ◌∙◌, Bool, refl, sym, subst, ap, append_assoc, inl, inr, length, get_or, map, drop, Bor}
 use Rattle.std.proofs.lemmas.List.{append-nil, at_drop_more}
-use Rattle.std.specs.Prelude.{IfSome}
+use Rattle.std.specs.Prelude.{IfSome, MatchBool, if◌then◌else◌}
 use Rattle.std.specs.Io.KnownBytes.{Appends}
+use Rattle.session.specs.Answers.{State, is_stdin, opened}
+use Rattle.session.specs.Conversations.{AreFromSource, Turn, files_of, reads_of, session_of}
+use Rattle.session.specs.declared.session.Opened.{Opened}
+use Rattle.sources.specs.Reads.{ReadsAll, ReadsInOrder}
 use Rattle.clap.specs.Words.{HasKind, IsAmong, Kinds, kind_of}
 use Rattle.clap.specs.declared.error.Error.{Error}
 use Rattle.clap.specs.declared.error.kind.ErrorKind.{ErrorKind}
@@ -12,14 +16,24 @@ use Rattle.writers.specs.Streams.{Says, Stream}
 use Rattle.statement.specs.Rolls.{GivesRoll}
 use Rattle.statement_text.specs.declared.faults.SpanFault.{SpanFault}
 use Rattle.statement_text.specs.declared.faults.SpanFault.TheVariants as fault
-use Rattle.span_cli.specs.Serving.{Answer, Asked, Found, IsAnswer, IsAnswered, IsOfRoll, all_read, answer_of, answered, memory}
-use Rattle.span_cli.specs.Serving.{done, read_before, refused}
+use Rattle.span_cli.specs.Serving.{Answer, Asked, Command, Found, IsAnswer, IsAnswered, IsOfRoll, all_read, answer_of, answered, memory}
+use Rattle.span_cli.specs.Serving.{Check, Explain, Faults, Margin, Plan, Roll, Session, WhatIf}
+use Rattle.span_cli.specs.Serving.{answered_amid, done, ended_answer, found_by, read_before, refused, takes_requests, turns_in}
+use Rattle.span_cli.specs.Reads.{ReadsAsked}
+use Rattle.span_cli.specs.Sessions.{AtEnd, CutOff, Ending, Ends, IsConversation, Outside, Unwritten, around, found_under, reads_under}
 use Rattle.sources.specs.Files.{File}
+use Rattle.sources.specs.declared.ReadFault.TheVariants as read
 use Rattle.span_cli.specs.Telling.{AnswersWords, RefusesWordsBy, Serves, ServesAsked, Tells}
 use Rattle.span_cli.specs.Telling as telling
-use Rattle.span_cli.specs.near.Refusals.{Loads, MayGive, read_then, refusal_answer, refusal_line, refusal_status}
+use Rattle.span_cli.specs.near.Refusals.{Comes, ComesOf, Loads, MayGive, Refuses, Runs, given_answer, read_then, refusal_answer}
+use Rattle.span_cli.specs.near.Refusals.{IsOutcome, refusal_line, refusal_status}
+use Rattle.span_cli.specs.near.Sessions.{TellsSession, texts_from}
+use Rattle.span_cli.specs.declared.serving.Given.{Given}
+use Rattle.span_cli.specs.declared.serving.Outcome.{Outcome}
+use Rattle.span_cli.specs.declared.serving.Outcome.TheVariants as outcome
 use Rattle.span_cli.specs.declared.serving.Refusal.{Refusal}
 use Rattle.span_cli.specs.declared.serving.Refusal.TheVariants as refusal
+use Rattle.span_cli.proofs.SessionLemmas.{same_source}
 
 -- nothing was written
 pub Appends-none : (o : Option (List ℕ)) → Appends o o []
@@ -36,17 +50,6 @@ refused_tells status line given out old_err new_err fresh same said = record {
   err = rw fresh said;
   cause = λ failed. cc;
 }
-
--- what is said of a refusal is the answer, or out of memory
-pub refusal_serves : (file : List ℕ → Option File) (asked : Asked) (r : Refusal) (given : ℕ) (out old_err new_err : Stream)
-    → out.failed ≡ false → given ≡ refusal_status r → Says old_err new_err (refusal_line r)
-    → (r ≡ refusal.Fault fault.Memory) ⊎ IsAnswer file asked (refusal_answer r)
-    → Serves file asked given out out old_err new_err
-refusal_serves file asked r given out old_err new_err fresh same said (inl wanted) =
-    inr (subst (λ (x : Refusal). Tells (refusal_answer x) given out out old_err new_err) wanted
-    (refused_tells _ _ given out old_err new_err fresh same said))
-refusal_serves file asked r given out old_err new_err fresh same said (inr is) =
-    inl (record { answer = refusal_answer r; is = is; told = refused_tells _ _ given out old_err new_err fresh same said })
 
 -- ---- answers
 
@@ -118,39 +121,222 @@ unread_of_names view file later whole files names i none r within same known h =
     (subst (λ o. IfSome o (λ f. Loads view name f (Err r))) (same name) known)
     (rw (at_drop_more (λ rest. all_read file (map (λ name. name.now) rest)) names i none within) at h)
 
--- the answer to a request whose files were not all read
-pub unread_answer : (file : List ℕ → Option File) (asked : Asked) (r : Refusal)
-    → IfSome (all_read file asked.1) (λ o. (r ≡ refusal.Fault fault.Memory) ⊎ (o ≡ Err (refusal_answer r)))
-    → (r ≡ refusal.Fault fault.Memory) ⊎ IsAnswer file asked (refusal_answer r)
-unread_answer file asked r h = of_files (all_read file asked.1) h where
-  of_files : (found : Found) → IfSome found (λ o. (r ≡ refusal.Fault fault.Memory) ⊎ (o ≡ Err (refusal_answer r)))
-      → (r ≡ refusal.Fault fault.Memory) ⊎ IsAnswered asked.0 found (refusal_answer r)
-  of_files None h = inr tt
-  of_files (Some o) (inl memory) = inl memory
-  of_files (Some o) (inr is) = rw (is) (inr refl)
+-- what is found under a name that has the same file
+pub found_same : (beside : Bool) (file later : List ℕ → Option File) (name : List ℕ) → later name ≡ file name
+    → found_under beside later name ≡ found_under beside file name
+found_same beside file later name same = ap (λ (o : Option File). if beside && is_stdin name then Some (Err read.Failed) else o) same
 
--- the answer to a request whose files were read
-pub read_answer : (file : List ℕ → Option File) (asked : Asked) (files : List (List ℕ)) (answer : Answer)
-    → IfSome (all_read file asked.1) (λ o. o ≡ Ok files) → answered asked.0 files answer → IsAnswer file asked answer
-read_answer file asked files answer h holds = of_files (all_read file asked.1) h where
-  of_files : (found : Found) → IfSome found (λ o. o ≡ Ok files)
-      → IsAnswered asked.0 found answer
-  of_files None h = tt
-  of_files (Some o) is = rw (is) holds
+-- ---- what comes of a request
+
+-- what is answered to a command for its files, whatever is beside them
+at_once : (outside : Outside) (command : Command) (files : List (List ℕ)) (answer : Answer) → answered command files answer
+    → answered_amid outside command files answer
+at_once outside Check files answer h = h
+at_once outside Plan files answer h = h
+at_once outside (Margin workers) files answer h = h
+at_once outside (Explain account) files answer h = h
+at_once outside (Roll workers) files answer h = h
+at_once outside (WhatIf workers) files answer h = h
+at_once outside Faults files answer h = h
+at_once outside (Session workers) files answer h = absurd h
+
+-- a session of files that open it has the texts of the state, and one of files that do not their fault
+session_texts : (params positions : List ℕ) (turns : List Turn) (s : State) → opened params positions ≡ Ok s
+    → session_of params positions turns ≡ Ok (texts_from s turns)
+unfolding session_of
+session_texts params positions turns s is = rw is refl
+
+session_fault : (params positions : List ℕ) (turns : List Turn) (e : SpanFault) → opened params positions ≡ Err e
+    → session_of params positions turns ≡ Err e
+unfolding session_of
+session_fault params positions turns e is = rw is refl
+
+-- a command is refused by its fault for its files, whatever is beside them, where no request was taken
+refuses_amid : (outside : Outside) (command : Command) (files : List (List ℕ)) (e : SpanFault) → outside.turns ≡ []
+    → Refuses command files e → answered_amid outside command files (answer_of (Err e))
+refuses_amid outside Check files e none h = h
+refuses_amid outside Plan files e none h = h
+refuses_amid outside (Margin workers) files e none h = h
+refuses_amid outside (Explain account) files e none h = h
+refuses_amid outside (Roll workers) files e none h = h
+refuses_amid outside (WhatIf workers) files e none h = h
+refuses_amid outside Faults files e none h = h
+refuses_amid outside (Session workers) [] e none h = absurd h
+refuses_amid outside (Session workers) (params ∷ []) e none h = absurd h
+refuses_amid outside (Session workers) (params ∷ positions ∷ []) e none h =
+    rw (session_fault params positions outside.turns e h) (none, refl)
+refuses_amid outside (Session workers) (params ∷ positions ∷ more ∷ rest) e none h = absurd h
+
+-- the answer to what is asked, if its files were found so
+found_so : (file : List ℕ → Option File) (asked : Asked) (answer : Answer)
+    → ((outside : Outside) → outside.turns ≡ [] → IsAnswered outside asked.0 (found_by file asked) answer)
+    → (outside : Outside) → outside.file ≡ file → outside.turns ≡ [] → IsAnswer outside asked answer
+found_so file asked answer h outside same none =
+    subst (λ (f : List ℕ → Option File). IsAnswered outside asked.0 (found_by f asked) answer) (sym same) (h outside none)
+
+-- the answer to a request whose files were not all read
+pub unread_runs : (file : List ℕ → Option File) (asked : Asked) (r : Refusal)
+    → IfSome (found_by file asked) (λ o. (r ≡ refusal.Fault fault.Memory) ⊎ (o ≡ Err (refusal_answer r))) → Runs file asked (Err r)
+unread_runs file asked r h = of_files (found_by file asked) refl h where
+  of_files : (found : Found) → found_by file asked ≡ found
+      → IfSome found (λ o. (r ≡ refusal.Fault fault.Memory) ⊎ (o ≡ Err (refusal_answer r))) → Runs file asked (Err r)
+  of_files None is h = inr (found_so file asked (refusal_answer r) (λ outside none. rw is tt))
+  of_files (Some o) is (inl memory) = inl memory
+  of_files (Some o) is (inr unread) = inr (found_so file asked (refusal_answer r) (λ outside none. rw (is, unread) (none, refl)))
 
 -- the answer to a request that is refused for its files
-pub fault_answer : (file : List ℕ → Option File) (asked : Asked) (files : List (List ℕ)) (e : SpanFault)
-    → IfSome (all_read file asked.1) (λ o. o ≡ Ok files) → (e ≡ fault.Memory) ⊎ answered asked.0 files (answer_of (Err e))
-    → (refusal.Fault e ≡ refusal.Fault fault.Memory) ⊎ IsAnswer file asked (refusal_answer (refusal.Fault e))
-fault_answer file asked files e h (inl memory) = inl (ap refusal.Fault memory)
-fault_answer file asked files e h (inr holds) = inr (read_answer file asked files _ h holds)
+pub fault_runs : (file : List ℕ → Option File) (asked : Asked) (files : List (List ℕ)) (e : SpanFault)
+    → IfSome (found_by file asked) (λ o. o ≡ Ok files) → (e ≡ fault.Memory) ⊎ Refuses asked.0 files e
+    → Runs file asked (Err (refusal.Fault e))
+fault_runs file asked files e h (inl memory) = inl (ap refusal.Fault memory)
+fault_runs file asked files e h (inr refuses) =
+    inr (found_so file asked (refusal_answer (refusal.Fault e)) (λ outside none. of_files outside none (found_by file asked) h)) where
+      of_files : (outside : Outside) → outside.turns ≡ [] → (found : Found) → IfSome found (λ o. o ≡ Ok files)
+          → IsAnswered outside asked.0 found (refusal_answer (refusal.Fault e))
+      of_files outside none None h = tt
+      of_files outside none (Some o) is = rw is (refuses_amid outside asked.0 files e none refuses)
+
+-- what comes of a request whose files were read
+pub read_runs : (file : List ℕ → Option File) (asked : Asked) (files : List (List ℕ)) (came : Outcome)
+    → IfSome (found_by file asked) (λ o. o ≡ Ok files) → ComesOf asked.0 files came → Runs file asked (Ok came)
+read_runs file asked files came h comes = of_files (found_by file asked) h where
+  of_files : (found : Found) → IfSome found (λ o. o ≡ Ok files)
+      → IfSome found (λ o. (read : List (List ℕ)) × (o ≡ Ok read) × ComesOf asked.0 read came)
+  of_files None h = tt
+  of_files (Some o) is = (files, is, comes)
+
+-- ---- what is told of it
+
+-- no turns are those of any command
+no_turns : (command : Command) → turns_in command [] ≡ []
+no_turns Check = refl
+no_turns Plan = refl
+no_turns (Margin workers) = refl
+no_turns (Explain account) = refl
+no_turns (Roll workers) = refl
+no_turns (WhatIf workers) = refl
+no_turns Faults = refl
+no_turns (Session workers) = refl
+
+-- those of a session are
+all_turns : (command : Command) (turns : List Turn) → takes_requests command ≡ true → turns_in command turns ≡ turns
+all_turns Check turns takes = cc
+all_turns Plan turns takes = cc
+all_turns (Margin workers) turns takes = cc
+all_turns (Explain account) turns takes = cc
+all_turns (Roll workers) turns takes = cc
+all_turns (WhatIf workers) turns takes = cc
+all_turns Faults turns takes = cc
+all_turns (Session workers) turns takes = refl
+
+-- only the files that are asked for were read
+pub files_read : {S : Type 0} (reads : S → List ℕ → Bool → S → Type 0) (old new : S) (asked : Asked)
+    → ReadsInOrder (reads_under (takes_requests asked.0) reads) old asked.1 new → ReadsAsked reads old [] (Some asked) new
+files_read reads old new asked h =
+    (new, h, subst (λ (turns : List Turn). ReadsAll reads new (reads_of turns) new) (sym (no_turns asked.0)) refl)
+
+-- an answer that a request gives at once was told
+pub given_serves : (file : List ℕ → Option File) (input : Option (List ℕ)) (asked : Asked) (g : Given) (given : ℕ)
+    (old_out new_out old_err new_err : Stream) → Runs file asked (Ok (outcome.Answer g))
+    → Tells (given_answer g) given old_out new_out old_err new_err
+    → Serves (around file input [] new_out.failed) asked given old_out new_out old_err new_err
+given_serves file input asked g given old_out new_out old_err new_err runs told =
+    inl (record { answer = given_answer g; is = of_files (found_by file asked) runs; told = told }) where
+      of_files : (found : Found)
+          → IfSome found (λ o. (read : List (List ℕ)) × (o ≡ Ok read) × answered asked.0 read (given_answer g))
+          → IsAnswered (around file input [] new_out.failed) asked.0 found (given_answer g)
+      of_files None h = tt
+      of_files (Some o) (files, is, holds) = rw is (at_once (around file input [] new_out.failed) asked.0 files (given_answer g) holds)
+
+-- what is said of a refusal is the answer, or out of memory
+pub refusal_serves : (file : List ℕ → Option File) (input : Option (List ℕ)) (asked : Asked) (r : Refusal) (given : ℕ)
+    (out old_err new_err : Stream) → out.failed ≡ false → given ≡ refusal_status r → Says old_err new_err (refusal_line r)
+    → Runs file asked (Err r) → Serves (around file input [] out.failed) asked given out out old_err new_err
+refusal_serves file input asked r given out old_err new_err fresh same said (inl wanted) =
+    inr (
+      refl,
+      subst (λ (x : Refusal). Tells (refusal_answer x) given out out old_err new_err) wanted
+          (refused_tells _ _ given out old_err new_err fresh same said),
+    )
+refusal_serves file input asked r given out old_err new_err fresh same said (inr is) =
+    inl (record {
+      answer = refusal_answer r;
+      is = is (around file input [] out.failed) refl refl;
+      told = refused_tells _ _ given out old_err new_err fresh same said;
+    })
+
+-- the answer of a session that its files open
+opened_answer : (outside : Outside) (command : Command) (files : List (List ℕ)) (o : Opened) (count : ℕ) (ending : Ending)
+    → ComesOf command files (outcome.Session o count) → IsConversation outside ending
+    → answered_amid outside command files (ended_answer ending (texts_from o.session outside.turns))
+opened_answer outside (Session workers) (params ∷ positions ∷ []) o count ending opens conversed =
+    rw (session_texts params positions outside.turns o.session opens) (ending, conversed, refl)
+opened_answer outside (Session workers) [] o count ending opens conversed = absurd opens
+opened_answer outside (Session workers) (params ∷ []) o count ending opens conversed = absurd opens
+opened_answer outside (Session workers) (params ∷ positions ∷ more ∷ rest) o count ending opens conversed = absurd opens
+opened_answer outside Check files o count ending opens conversed = absurd opens
+opened_answer outside Plan files o count ending opens conversed = absurd opens
+opened_answer outside (Margin workers) files o count ending opens conversed = absurd opens
+opened_answer outside (Explain account) files o count ending opens conversed = absurd opens
+opened_answer outside (Roll workers) files o count ending opens conversed = absurd opens
+opened_answer outside (WhatIf workers) files o count ending opens conversed = absurd opens
+opened_answer outside Faults files o count ending opens conversed = absurd opens
+
+-- a session was served from sources that are still what they were
+conversed_before : (file later : List ℕ → Option File) (input : Option (List ℕ)) (turns : List Turn) (is_unwritten : Bool) (ending : Ending)
+    → ((name : List ℕ) → later name ≡ file name) → IsConversation (around later input turns is_unwritten) ending
+    → IsConversation (around file input turns is_unwritten) ending
+conversed_before file later input turns is_unwritten ending same h = record {
+  first = h.first;
+  files = same_source later file (files_of turns) same h.files;
+  ends = ends_before ending h.ends;
+} where
+  ends_before : (end : Ending) → Ends end (around later input turns is_unwritten) → Ends end (around file input turns is_unwritten)
+  ends_before AtEnd h = h
+  ends_before CutOff h = h
+  ends_before Unwritten h = h
+
+-- a session that a request opens was served, or memory ran out before
+pub session_serves : {S : Type 0} (file later : List ℕ → Option File) (reads : S → List ℕ → Bool → S → Type 0) (old mid new : S)
+    (input : Option (List ℕ)) (asked : Asked) (o : Opened) (count : ℕ) (given : ℕ) (old_out new_out old_err new_err : Stream)
+    → ((name : List ℕ) → later name ≡ file name) → Runs file asked (Ok (outcome.Session o count)) → takes_requests asked.0 ≡ true
+    → ReadsInOrder (reads_under (takes_requests asked.0) reads) old asked.1 mid
+    → ((turns : List Turn) × AreFromSource later reads mid turns new
+    × (TellsSession later input o.session turns given old_out new_out old_err new_err
+    ⊎ ((turns ≡ []) × Tells memory given old_out new_out old_err new_err)))
+    → (turns : List Turn) × Serves (around file input turns new_out.failed) asked given old_out new_out old_err new_err
+    × ReadsAsked reads old turns (Some asked) new
+session_serves {S} file later reads old mid new input asked o count given old_out new_out old_err new_err same runs takes in_order
+    (turns, source, tells) = (turns, told tells, (mid, in_order, after)) where
+      outside : Outside
+      outside = around file input turns new_out.failed
+
+      after : ReadsAll reads mid (reads_of (turns_in asked.0 turns)) new
+      after = subst (λ (ts : List Turn). ReadsAll reads mid (reads_of ts) new) (sym (all_turns asked.0 turns takes)) source.in_order
+
+      of_files : (found : Found) (ending : Ending)
+          → IfSome found (λ x. (read : List (List ℕ)) × (x ≡ Ok read) × ComesOf asked.0 read (outcome.Session o count))
+          → IsConversation outside ending → IsAnswered outside asked.0 found (ended_answer ending (texts_from o.session turns))
+      of_files None ending h conversed = tt
+      of_files (Some x) ending (files, is, opens) conversed = rw is (opened_answer outside asked.0 files o count ending opens conversed)
+
+      told : TellsSession later input o.session turns given old_out new_out old_err new_err
+          ⊎ ((turns ≡ []) × Tells memory given old_out new_out old_err new_err)
+          → Serves outside asked given old_out new_out old_err new_err
+      told (inr wanted) = inr wanted
+      told (inl t) =
+          inl (record {
+            answer = ended_answer t.ending (texts_from o.session turns);
+            is = of_files (found_by file asked) t.ending runs (conversed_before file later input turns new_out.failed t.ending same t.is);
+            told = t.told;
+          })
 
 -- words that ask for something may be answered out of memory
-pub memory_serves : (file : List ℕ → Option File) (o : Option Asked) (given : ℕ) (old_out new_out old_err new_err : Stream)
-    → is_some o ≡ true → Tells memory given old_out new_out old_err new_err
-    → ServesAsked file o given old_out new_out old_err new_err
-memory_serves file None given old_out new_out old_err new_err some told = cc
-memory_serves file (Some asked) given old_out new_out old_err new_err some told = inr told
+pub memory_serves : (outside : Outside) (o : Option Asked) (given : ℕ) (old_out new_out old_err new_err : Stream)
+    → outside.turns ≡ [] → is_some o ≡ true → Tells memory given old_out new_out old_err new_err
+    → ServesAsked outside o given old_out new_out old_err new_err
+memory_serves outside None given old_out new_out old_err new_err none some told = cc
+memory_serves outside (Some asked) given old_out new_out old_err new_err none some told = inr (none, told)
 
 -- ---- words
 

@@ -1,9 +1,14 @@
 -- Which files are read for what is asked.
 use Rattle.std.specs.Prelude.{◌≡◌, ℕ, Bool, List, Option, Some, None}
-use Rattle.sources.specs.Reads.{ReadsInOrder}
-use Rattle.span_cli.specs.Serving.{Asked}
+use Rattle.session.specs.Conversations.{Turn, reads_of}
+use Rattle.sources.specs.Reads.{ReadsAll, ReadsInOrder}
+use Rattle.span_cli.specs.Serving.{Asked, takes_requests, turns_in}
+use Rattle.span_cli.specs.Sessions.{reads_under}
 
--- Exactly what is asked for was read: its files, as `ReadsInOrder` says. If nothing is asked for, nothing was read.
-abbrev pub ReadsAsked : {S : Type 0} → (S → List ℕ → Bool → S → Type 0) → S → Option Asked → S → Type 0
-ReadsAsked reads old None new = new ≡ old
-ReadsAsked reads old (Some asked) new = ReadsInOrder reads old asked.1 new
+-- Exactly what is asked for was read: its files, as `ReadsInOrder` says, and then what the requests of a session ask for, as `ReadsAll`
+-- says. If nothing is asked for, nothing was read.
+abbrev pub ReadsAsked : {S : Type 0} → (S → List ℕ → Bool → S → Type 0) → S → List Turn → Option Asked → S → Type 0
+ReadsAsked reads old turns None new = new ≡ old
+ReadsAsked {S} reads old turns (Some asked) new =
+    (opened : S) × ReadsInOrder (reads_under (takes_requests asked.0) reads) old asked.1 opened
+    × ReadsAll reads opened (reads_of (turns_in asked.0 turns)) new

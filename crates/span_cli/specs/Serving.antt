@@ -1,7 +1,9 @@
 -- What is answered to a request.
-use Rattle.std.specs.Prelude.{◌≡◌, ℕ, List, [], ◌∷◌, ◌++◌, codes, Option, Some, None, option_map, Result, Ok, Err, ⊤}
+use Rattle.std.specs.Prelude.{◌≡◌, ℕ, Bool, true, false, List, [], ◌∷◌, ◌++◌, flat_map, codes, Option, Some, None, option_map}
+use Rattle.std.specs.Prelude.{Result, Ok, Err, ⊤}
 use Rattle.std.specs.Option.{option_to_list}
 use Rattle.explanation.specs.Explanation.{explanation_of}
+use Rattle.session.specs.Conversations.{Turn, session_of}
 use Rattle.statement.specs.AllFaults.{faults_of, faults_status, faults_text}
 use Rattle.statement.specs.Counts.{counts_of}
 use Rattle.statement.specs.Listing.{listing_of}
@@ -14,6 +16,7 @@ use Rattle.whatif.specs.Whatif.{whatif_of}
 use Rattle.sources.specs.Files.{File}
 use Rattle.sources.specs.declared.ReadFault.{ReadFault}
 use Rattle.sources.specs.declared.ReadFault.TheVariants as read
+use Rattle.span_cli.specs.Sessions.{AtEnd, CutOff, Ending, IsConversation, Outside, Unwritten, found_under}
 use Rattle.span_cli.specs.declared.serving.Request.{Request}
 use Rattle.span_cli.specs.declared.serving.Request.TheVariants as request
 
@@ -64,6 +67,17 @@ pub data Command : Type 0 where
   Roll : ℕ → Command
   WhatIf : ℕ → Command
   Faults : Command
+  Session : ℕ → Command
+
+-- the command reads requests from the input
+abbrev pub takes_requests : Command → Bool
+takes_requests (Session workers) = true
+takes_requests command = false
+
+-- the turns of a session; no other command has any
+abbrev pub turns_in : Command → List Turn → List Turn
+turns_in (Session workers) turns = turns
+turns_in command turns = []
 
 -- what is asked for: a command, and the names of its files in the order in which they are read
 abbrev pub Asked : Type 0
@@ -78,6 +92,7 @@ asked_by (request.Explain params positions account) = (Explain account, params.n
 asked_by (request.Roll params next positions workers) = (Roll workers, params.now ∷ next.now ∷ positions.now ∷ [])
 asked_by (request.WhatIf params positions orders workers) = (WhatIf workers, params.now ∷ positions.now ∷ orders.now ∷ [])
 asked_by (request.Faults params positions) = (Faults, params.now ∷ option_to_list (option_map (λ name. name.now) positions))
+asked_by (request.Session params positions workers) = (Session workers, params.now ∷ positions.now ∷ [])
 
 -- The answer is one that a roll of these bytes on so many workers may have: that of its text, of the first fault of the
 -- files, of memory, of a book or of a shelf that refused.
@@ -86,7 +101,8 @@ pub record IsOfRoll (workers : ℕ) (params next positions : List ℕ) (answer :
   pub gives : GivesRoll (λ text. text) workers params next positions given
   pub is : answer ≡ answer_of given
 
--- the answer is the command's for these bytes of its files; with any other number of files there is none
+-- The answer is the command's for these bytes of its files. With any other number of files there is none, and that of a session is not for
+-- the bytes of its files alone.
 abbrev pub answered : Command → List (List ℕ) → Answer → Type 0
 answered Check (params ∷ []) answer = answer ≡ answer_of (counts_of params)
 answered Plan (params ∷ []) answer = answer ≡ answer_of (listing_of params)
@@ -98,6 +114,24 @@ answered (WhatIf workers) (params ∷ positions ∷ orders ∷ []) answer =
 answered Faults (params ∷ []) answer = answer ≡ answer_of_faults (faults_of params None)
 answered Faults (params ∷ positions ∷ []) answer = answer ≡ answer_of_faults (faults_of params (Some positions))
 answered command files answer = ⊥
+
+-- The answer of a session that ended so, with the texts of its answers. Where an answer could not be written, a part of these went out.
+abbrev pub ended_answer : Ending → List (List ℕ) → Answer
+ended_answer AtEnd texts = done (flat_map (λ text. text) texts)
+ended_answer CutOff texts =
+    record { status = FILE_FAILED; out = flat_map (λ text. text) texts; err = file_line (codes "input") }
+ended_answer Unwritten texts = done (flat_map (λ text. text) texts)
+
+-- The answer is that of a session which has these texts, or is refused for its files. One that is refused takes no request.
+abbrev pub IsOfSession : Outside → Result (List (List ℕ)) SpanFault → Answer → Type 0
+IsOfSession outside (Ok texts) answer = (ending : Ending) × IsConversation outside ending × (answer ≡ ended_answer ending texts)
+IsOfSession outside (Err e) answer = (outside.turns ≡ []) × (answer ≡ answer_of (Err e))
+
+-- the answer is the command's for these bytes of its files and what it finds beside them
+abbrev pub answered_amid : Outside → Command → List (List ℕ) → Answer → Type 0
+answered_amid outside (Session workers) (params ∷ positions ∷ []) answer =
+    IsOfSession outside (session_of params positions outside.turns) answer
+answered_amid outside command files answer = answered command files answer
 
 -- What becomes of files that are read: the bytes of all; or the answer that names the first that cannot be read; or nothing,
 -- where one that is come to is unknown.
@@ -117,12 +151,17 @@ abbrev pub all_read : (List ℕ → Option File) → List (List ℕ) → Found
 all_read file [] = Some (Ok [])
 all_read file (name ∷ names) = read_before name (file name) (all_read file names)
 
--- the answer is the command's where this became of its files; where that is unknown it may be any
-abbrev pub IsAnswered : Command → Found → Answer → Type 0
-IsAnswered command None answer = ⊤
-IsAnswered command (Some (Err refusal)) answer = answer ≡ refusal
-IsAnswered command (Some (Ok files)) answer = answered command files answer
+-- what becomes of the files that are asked for
+abbrev pub found_by : (List ℕ → Option File) → Asked → Found
+found_by file asked = all_read (found_under (takes_requests asked.0) file) asked.1
+
+-- The answer is the command's where this became of its files; where that is unknown it may be any. Where one of them is not read, no request
+-- is taken.
+abbrev pub IsAnswered : Outside → Command → Found → Answer → Type 0
+IsAnswered outside command None answer = ⊤
+IsAnswered outside command (Some (Err refusal)) answer = (outside.turns ≡ []) × (answer ≡ refusal)
+IsAnswered outside command (Some (Ok files)) answer = answered_amid outside command files answer
 
 -- the answer is that to what is asked
-abbrev pub IsAnswer : (List ℕ → Option File) → Asked → Answer → Type 0
-IsAnswer file asked answer = IsAnswered asked.0 (all_read file asked.1) answer
+abbrev pub IsAnswer : Outside → Asked → Answer → Type 0
+IsAnswer outside asked answer = IsAnswered outside asked.0 (found_by outside.file asked) answer

@@ -6,7 +6,7 @@ use Rattle.clap.specs.declared.error.kind.ErrorKind.TheVariants as kind
 use Rattle.writers.specs.Streams.{Says, Stream}
 use Rattle.statement_text.specs.declared.statuses.TheConstants.{FILE_FAILED, USAGE}
 use Rattle.span_cli.specs.Serving.{Answer, Asked, IsAnswer, done, file_line, memory, refused}
-use Rattle.sources.specs.Files.{File}
+use Rattle.span_cli.specs.Sessions.{Outside}
 
 -- the output could not be written
 abbrev pub unwritten : Answer
@@ -28,21 +28,22 @@ pub record Tells (answer : Answer) (given : ℕ) (old_out new_out old_err new_er
   pub cause : new_out.failed ≡ true → answer.err ≡ []
 
 -- an answer to what is asked was told
-pub record TellsAnswer (file : List ℕ → Option File) (asked : Asked) (given : ℕ) (old_out new_out old_err new_err : Stream)
+pub record TellsAnswer (outside : Outside) (asked : Asked) (given : ℕ) (old_out new_out old_err new_err : Stream)
     : Type 0 where
   pub answer : Answer
-  pub is : IsAnswer file asked answer
+  pub is : IsAnswer outside asked answer
   pub told : Tells answer given old_out new_out old_err new_err
 
--- the answer to what is asked was told, or out of memory
-abbrev pub Serves : (List ℕ → Option File) → Asked → ℕ → Stream → Stream → Stream → Stream → Type 0
-Serves file asked given old_out new_out old_err new_err =
-    TellsAnswer file asked given old_out new_out old_err new_err ⊎ Tells memory given old_out new_out old_err new_err
+-- the answer to what is asked was told; or out of memory, and no request was taken
+abbrev pub Serves : Outside → Asked → ℕ → Stream → Stream → Stream → Stream → Type 0
+Serves outside asked given old_out new_out old_err new_err =
+    TellsAnswer outside asked given old_out new_out old_err new_err
+    ⊎ ((outside.turns ≡ []) × Tells memory given old_out new_out old_err new_err)
 
 -- what words ask for was answered, or out of memory was told; of words that ask for nothing that never holds
-abbrev pub ServesAsked : (List ℕ → Option File) → Option Asked → ℕ → Stream → Stream → Stream → Stream → Type 0
-ServesAsked file None given old_out new_out old_err new_err = ⊥
-ServesAsked file (Some asked) given old_out new_out old_err new_err = Serves file asked given old_out new_out old_err new_err
+abbrev pub ServesAsked : Outside → Option Asked → ℕ → Stream → Stream → Stream → Stream → Type 0
+ServesAsked outside None given old_out new_out old_err new_err = ⊥
+ServesAsked outside (Some asked) given old_out new_out old_err new_err = Serves outside asked given old_out new_out old_err new_err
 
 -- A mistake of usage was told: nothing went to the output. The text on the error stream is the reader's of the words.
 pub record IsMistake (given : ℕ) (old_out new_out : Stream) : Type 0 where

@@ -12,7 +12,7 @@ use Rattle.clap.specs.declared.builder.value_parser.ValueParser.TheVariants as v
 use Rattle.clap.specs.declared.error.kind.ErrorKind.TheVariants as kind
 use Rattle.span_tables.specs.Names.{name_of}
 use Rattle.worker_pool.specs.declared.batch.TheConstants.{MAX_WORKERS}
-use Rattle.span_cli.specs.Serving.{Asked, Command, Check, Explain, Faults, Margin, Plan, Roll, WhatIf}
+use Rattle.span_cli.specs.Serving.{Asked, Command, Check, Explain, Faults, Margin, Plan, Roll, Session, WhatIf}
 
 -- The words with each `--account` and the word behind it, whatever that is, in one word; a `--`, and all behind it, stand as
 -- they are.
@@ -95,18 +95,19 @@ with_account_option command rows = option_map command (account_in rows)
 abbrev pub words_of : Text → List FileWord → List Rule → (List Row → Option Command) → CommandWords
 words_of name files options asks = record { name = name; files = files; options = options; asks = asks }
 
--- all commands, a line each
+-- all commands, a line each, in the order in which help lists them
 abbrev pub commands : List CommandWords
 commands =
-    words_of (codes "check") (needed (codes "PARAMS" ∷ [])) [] (λ rows. Some Check)
-    ∷ words_of (codes "plan") (needed (codes "PARAMS" ∷ [])) [] (λ rows. Some Plan)
-    ∷ words_of (codes "margin") (needed (codes "PARAMS" ∷ codes "POSITIONS" ∷ [])) (workers_rule ∷ []) (with_workers Margin)
+    words_of (codes "margin") (needed (codes "PARAMS" ∷ codes "POSITIONS" ∷ [])) (workers_rule ∷ []) (with_workers Margin)
     ∷ words_of (codes "explain") (needed (codes "PARAMS" ∷ codes "POSITIONS" ∷ [])) (account_rule ∷ []) (with_account_option Explain)
-    ∷ words_of (codes "roll") (needed (codes "PARAMS" ∷ codes "NEXT" ∷ codes "POSITIONS" ∷ [])) (workers_rule ∷ [])
-    (with_workers Roll)
     ∷ words_of (codes "whatif") (needed (codes "PARAMS" ∷ codes "POSITIONS" ∷ codes "ORDERS" ∷ [])) (workers_rule ∷ [])
     (with_workers WhatIf)
+    ∷ words_of (codes "session") (needed (codes "PARAMS" ∷ codes "POSITIONS" ∷ [])) (workers_rule ∷ []) (with_workers Session)
+    ∷ words_of (codes "roll") (needed (codes "PARAMS" ∷ codes "NEXT" ∷ codes "POSITIONS" ∷ [])) (workers_rule ∷ [])
+    (with_workers Roll)
     ∷ words_of (codes "faults") (needed (codes "PARAMS" ∷ []) ++ optional (codes "POSITIONS" ∷ [])) [] (λ rows. Some Faults)
+    ∷ words_of (codes "check") (needed (codes "PARAMS" ∷ [])) [] (λ rows. Some Check)
+    ∷ words_of (codes "plan") (needed (codes "PARAMS" ∷ [])) [] (λ rows. Some Plan)
     ∷ []
 
 -- a command with these arguments behind its own

@@ -5,3 +5,4 @@ pub mod OnLiterals
 pub mod Reading
 pub mod Refusals
 pub mod Rows
+pub mod Sessions

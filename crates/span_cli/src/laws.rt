@@ -1,15 +1,18 @@
 //! Laws of words and of what is told: each is the contract of a function that does nothing.
 ghost use Rattle.clap.specs.Words.{subcommand_of};
+ghost use Rattle.session.specs.Conversations.{Turn, session_of};
 ghost use Rattle.span_cli.specs.Serving.{Answer, answer_of, answer_of_faults, done, file_line, refused};
 ghost use Rattle.span_cli.specs.Telling.{Tells};
 ghost use Rattle.span_cli.specs.Words.{is_request, kinds_of, span_app};
 ghost use Rattle.span_tables.specs.Names.{is_among};
 ghost use Rattle.statement.specs.AllFaults.{faults_status, faults_text};
+ghost use Rattle.statement.specs.Margin.{margin_of};
+ghost use Rattle.worker_pool.specs.declared.batch.TheConstants.{MAX_WORKERS};
 ghost use Rattle.writers.specs.Streams.{Stream};
 ghost use Rattle.statement_text.specs.FaultLines.{fault_line, fault_status};
 ghost use Rattle.statement_text.specs.declared.faults.SpanFault.{SpanFault};
 ghost use Rattle.std.specs.Io.KnownBytes.{Appends};
-ghost use Rattle.std.specs.Prelude.{◌≡◌, ◌≢◌, ◌∷◌, ◌++◌, Err, List, [], codes, false, is_some, true, ℕ};
+ghost use Rattle.std.specs.Prelude.{◌≡◌, ◌≢◌, ◌<◌, ◌≤◌, ◌∷◌, ◌++◌, Err, List, [], codes, false, is_some, true, ℕ};
 
 /// Where an answer that is done was told and no write failed, the status is 0, just its bytes went to the output, and
 /// nothing to the error stream.
@@ -56,6 +59,12 @@ pub fn status_stands()
         → Tells answer given old_out new_out old_err new_err → answer.err ≢ [] → new_out.failed ≡ false }
     ensures fault { (fault : SpanFault) (given : ℕ) (old_out new_out old_err new_err : Stream)
         → Tells (answer_of (Err fault)) given old_out new_out old_err new_err → new_out.failed ≡ false }
+{}
+
+/// A session over two files that are refused is refused as their statement is, on any number of workers that there can be.
+pub fn a_session_is_refused_as_the_statement()
+    ensures { (params positions : List ℕ) (turns : List Turn) (workers : ℕ) (e : SpanFault) → 0 < workers → workers ≤ MAX_WORKERS
+        → session_of params positions turns ≡ Err e → margin_of workers params positions ≡ Err e }
 {}
 
 /// Words that are taken name a command.

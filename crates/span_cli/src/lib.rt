@@ -8,6 +8,7 @@ pub mod memory;
 pub mod outputs;
 pub mod reading;
 pub mod serving;
+mod sessions;
 pub mod streams;
 pub mod words;
 pub mod worked;

@@ -1,17 +1,25 @@
 //! Requests, and the bytes that answer them.
+ghost use Rattle.session.specs.Answers.{is_stdin};
+ghost use Rattle.session.specs.Conversations.{AreFromSource, Turn, opening_text};
 ghost use Rattle.sources.specs.Reads.{ReadsInOrder};
 ghost use Rattle.span_cli.specs.Reads.{ReadsAsked};
-ghost use Rattle.span_cli.specs.Serving.{IsAnswer, IsOfRoll, all_read, answer_of_faults, answered, asked_by, done};
+ghost use Rattle.span_cli.specs.Serving.{IsOfRoll, all_read, answer_of_faults, asked_by, done, memory, takes_requests};
+ghost use Rattle.span_cli.specs.Sessions.{around, found_under, reads_under};
 ghost use Rattle.span_cli.specs.Telling.{Serves, Tells};
-ghost use Rattle.span_cli.specs.near.Refusals.{Loads, LoadsAll, MayGive, Runs, given_answer, refusal_line, refusal_status};
+ghost use Rattle.span_cli.specs.near.Refusals.{Comes, IsOutcome, Loads, LoadsAll, MayGive, Runs, given_answer, refusal_line};
+ghost use Rattle.span_cli.specs.near.Refusals.{refusal_status};
+ghost use Rattle.span_cli.specs.near.Sessions.{TellsSession};
 ghost use Rattle.span_cli.specs.declared.serving.Refusal.TheVariants as refusal;
 ghost use Rattle.statement.specs.AllFaults.{faults_of};
 ghost use Rattle.writers.specs.Streams.{Says};
-ghost use Rattle.std.specs.Prelude.{◌≡◌, ◌≤◌, IfOk, IfSome, List, Some, false, is_ok, length, map, option_map, ℕ};
+ghost use Rattle.std.specs.Prelude.{◌≡◌, ◌≤◌, ◌⊎◌, ◌&&◌, [], IfOk, IfSome, List, Some, false, is_ok, length, map, option_map, ℕ};
 
+use crate::sessions::serve_session;
 use arrayvec::ArrayVec;
+use desks::intake::Requests;
 use explanation::explaining::explain;
 use result_book::books::ResultBook;
+use session::session::{Opened, Session, Workers};
 use sources::{ReadFault, Sources};
 use span_tables::name::Name;
 use statement::all_faults::{faults, faults_status, faults_text};
@@ -23,13 +31,16 @@ use statement_text::fault_lines::tell_fault;
 use statement_text::faults::{SpanFault, status};
 use statement_text::statuses::{DONE, FILE_FAILED};
 use std::alloc::{AllocError, Global};
-use std::io::Write;
+use std::io::{Read, Write};
 use std::sync::{Mutex, Wait};
 use std::thread::Threads;
 use std::time::Clock;
 use whatif::trying::whatif;
 use worker_pool::gates::Gate;
 use writers::marked_writer::MarkedWriter;
+
+/// The file that is the stream of requests in a session.
+const STDIN: &str = "/dev/stdin";
 
 /// What the program is asked for, with the names of its files.
 #[derive(Debug, Drop)]
@@ -73,6 +84,12 @@ pub enum Request<'a> {
         params: &'a str,
         positions: Option<&'a str>,
     },
+    /// The answers to requests about the accounts of a position file under a parameter file. So many workers share all accounts.
+    Session {
+        params: &'a str,
+        positions: &'a str,
+        workers: usize,
+    },
 }
 
 // Names, of which there are at most three.
@@ -108,6 +125,11 @@ impl<'a> Request<'a> {
             | Request::Faults {
                 params,
                 positions: Some(positions),
+            }
+            | Request::Session {
+                params,
+                positions,
+                ..
             } => listed(&[params, positions]),
             Request::Roll {
                 params,
@@ -122,6 +144,13 @@ impl<'a> Request<'a> {
                 ..
             } => listed(&[params, positions, orders]),
         }
+    }
+
+    // Whether it reads requests from the input.
+    fn takes_requests(&self) -> bool
+        ensures { result ≡ takes_requests (asked_by self.now).0 }
+    {
+        matches!(self, Request::Session { .. })
     }
 }
 
@@ -142,17 +171,28 @@ impl<'a> From<SpanFault> for Refusal<'a> {
     }
 }
 
-// The file of a name.
+// Whether a file is the stream of requests, from which a session reads.
+fn is_requests(beside: bool, name: &str) -> bool
+    ensures { result ≡ (beside && is_stdin name.now) }
+{
+    beside && name == STDIN
+}
+
+// The file of a name. Beside a stream of requests, that stream is a file that cannot be read.
 fn load<'a, S: Sources>(
     alloc: Global,
     sources: &mut S,
     name: &'a str,
+    beside: bool,
 ) -> Result<Vec<u8>, Refusal<'a>>
-    ensures known { IfSome (S.file sources.old name.entry.now) (λ file.
+    ensures known { IfSome (found_under beside (S.file sources.old) name.entry.now) (λ file.
         Loads (λ bytes. bytes.items) name.entry.now file result) }
     ensures same { (n : List ℕ) → S.file sources.new n ≡ S.file sources.old n }
-    ensures noted { S.reads sources.old name.entry.now (is_ok result) sources.new }
+    ensures noted { reads_under beside S.reads sources.old name.entry.now (is_ok result) sources.new }
 {
+    if is_requests(beside, name) {
+        return Err(Refusal::File(name));
+    }
     match sources.read(alloc, name) {
         Ok(bytes) => Ok(bytes),
         Err(ReadFault::OutOfMemory) => Err(Refusal::Fault(SpanFault::Memory)),
@@ -165,16 +205,18 @@ fn load_all<'a, S: Sources>(
     alloc: Global,
     sources: &mut S,
     names: &[&'a str],
+    beside: bool,
 ) -> Result<ArrayVec<Vec<u8>, 3, Global>, Refusal<'a>>
     requires { length names.now ≤ 3 }
     ensures count { IfOk result (λ files. length files.items ≡ length names.now) }
-    ensures known { IfSome (all_read (S.file sources.old) (map (λ name. name.now) names.now)) (λ found.
+    ensures known { IfSome (all_read (found_under beside (S.file sources.old)) (map (λ name. name.now) names.now)) (λ found.
         LoadsAll (λ files. map (λ file. file.items) files.items) found result) }
-    ensures reads { ReadsInOrder S.reads sources.old (map (λ name. name.now) names.now) sources.new }
+    ensures reads { ReadsInOrder (reads_under beside S.reads) sources.old (map (λ name. name.now) names.now) sources.new }
+    ensures same { (n : List ℕ) → S.file sources.new n ≡ S.file sources.old n }
 {
     let mut files = ArrayVec::new_in(alloc);
     for name in names {
-        files.push(load(alloc, sources, name)?);
+        files.push(load(alloc, sources, name, beside)?);
     }
     Ok(files)
 }
@@ -192,6 +234,15 @@ pub(crate) struct ServingMeans<'a, R, G: Gate> {
 struct Given {
     text: Vec<u8>,
     status: u8,
+}
+
+// What comes of a request.
+#[derive(Drop)]
+enum Outcome {
+    // What it gives.
+    Answer(Given),
+    // A session that is open, and its number of workers.
+    Session(Opened, usize),
 }
 
 // Bytes with the status of work that is done.
@@ -229,56 +280,73 @@ fn rolled<R: Threads + Wait + Clock + Sync, G: Gate>(
     )
 }
 
-// What a request gives of the bytes of its files.
+// What comes of a request for the bytes of its files.
 fn answer<R: Threads + Wait + Clock + Sync, G: Gate>(
     lent: &ServingMeans<'_, R, G>,
     request: &Request<'_>,
     files: &[Vec<u8>],
-) -> Result<Given, SpanFault>
+) -> Result<Outcome, SpanFault>
     requires { length files.now ≡ length (asked_by request.now).1 }
-    ensures { MayGive given_answer result
-        (answered (asked_by request.now).0 (map (λ file. file.items) files.now)) }
+    ensures answer { Comes (asked_by request.now).0 (map (λ file. file.items) files.now) result }
+    ensures session { IfOk result (IsOutcome (asked_by request.now).0) }
 {
+    let (rt, alloc, gate) = (lent.rt, lent.alloc, lent.gate);
     match (request, files) {
-        (Request::Check { .. }, [params]) => Ok(done(check_plain(lent.alloc, params)?)),
-        (Request::Plan { .. }, [params]) => Ok(done(plan_plain(lent.alloc, params)?)),
+        (Request::Check { .. }, [params]) => {
+            Ok(Outcome::Answer(done(check_plain(alloc, params)?)))
+        }
+        (Request::Plan { .. }, [params]) => Ok(Outcome::Answer(done(plan_plain(alloc, params)?))),
         (Request::Margin { workers, .. }, [params, positions]) => {
-            let text = margin(lent.rt, lent.alloc, params, positions, *workers, lent.gate)?;
-            Ok(done(text))
+            let text = margin(rt, alloc, params, positions, *workers, gate)?;
+            Ok(Outcome::Answer(done(text)))
         }
         (Request::Explain { account, .. }, [params, positions]) => {
-            let text = explain(lent.alloc, params, positions, account.as_ref())?;
-            Ok(done(text))
+            let text = explain(alloc, params, positions, account.as_ref())?;
+            Ok(Outcome::Answer(done(text)))
         }
         (Request::Roll { workers, .. }, [params, next, positions]) => {
-            Ok(done(rolled(lent, params, next, positions, *workers)?))
+            let text = rolled(lent, params, next, positions, *workers)?;
+            Ok(Outcome::Answer(done(text)))
         }
         (Request::WhatIf { workers, .. }, [params, positions, orders]) => {
-            let text = whatif(
-                lent.rt, lent.alloc, params, positions, orders, *workers, lent.gate,
-            )?;
-            Ok(done(text))
+            let text = whatif(rt, alloc, params, positions, orders, *workers, gate)?;
+            Ok(Outcome::Answer(done(text)))
         }
-        (Request::Faults { .. }, [params]) => Ok(faults_told(lent.alloc, params, None)?),
+        (Request::Faults { .. }, [params]) => {
+            Ok(Outcome::Answer(faults_told(alloc, params, None)?))
+        }
         (Request::Faults { .. }, [params, positions]) => {
-            Ok(faults_told(lent.alloc, params, Some(positions.as_slice()))?)
+            let given = faults_told(alloc, params, Some(positions.as_slice()))?;
+            Ok(Outcome::Answer(given))
+        }
+        (Request::Session { workers, .. }, [params, positions]) => {
+            let opened = Session::open(rt, alloc, params, positions, *workers)?;
+            Ok(Outcome::Session(opened, *workers))
         }
         _ => unreachable!(),
     }
 }
 
-// What a request gives.
+// What comes of a request.
 fn run<'a, S: Sources, R: Threads + Wait + Clock + Sync, G: Gate>(
     lent: &ServingMeans<'_, R, G>,
     request: &Request<'a>,
     sources: &mut S,
-) -> Result<Given, Refusal<'a>>
-    ensures answer { Runs given_answer result (IsAnswer (S.file sources.old) (asked_by request.now)) }
-    ensures reads { ReadsInOrder S.reads sources.old (asked_by request.now).1 sources.new }
+) -> Result<Outcome, Refusal<'a>>
+    ensures answer { Runs (S.file sources.old) (asked_by request.now) result }
+    ensures session { IfOk result (IsOutcome (asked_by request.now).0) }
+    ensures reads { ReadsInOrder (reads_under (takes_requests (asked_by request.now).0) S.reads) sources.old
+        (asked_by request.now).1 sources.new }
+    ensures same { (n : List ℕ) → S.file sources.new n ≡ S.file sources.old n }
 {
-    let files = load_all(lent.alloc, sources, &request.files())?;
-    let given = answer(lent, request, &files)?;
-    Ok(given)
+    let files = load_all(
+        lent.alloc,
+        sources,
+        &request.files(),
+        request.takes_requests(),
+    )?;
+    let outcome = answer(lent, request, &files)?;
+    Ok(outcome)
 }
 
 // The status of a refusal.
@@ -330,27 +398,72 @@ fn give<W: Write, E: Write>(
     }
 }
 
+// Serves a session that is open over the requests of an input, on so many workers, and gives the status.
+fn converse<
+    I: Read + Drop,
+    S: Sources,
+    W: Write,
+    E: Write,
+    R: Threads + Wait + Clock + Sync,
+    G: Gate,
+>(
+    workers: &Workers<'_, R, G>,
+    alloc: Global,
+    opened: Opened,
+    sources: &mut S,
+    input: I,
+    out: &mut MarkedWriter<W>,
+    err: &mut MarkedWriter<E>,
+) -> u8
+    requires text { opened.text.items ≡ opening_text opened.session }
+    requires fresh { out.old.failed ≡ false }
+    ensures { (turns : List Turn) × AreFromSource (S.file sources.old) S.reads sources.old turns sources.new
+        × (TellsSession (S.file sources.old) (I.remaining input) opened.session turns result out.old out.new err.old err.new
+        ⊎ ((turns ≡ []) × Tells memory result out.old out.new err.old err.new)) }
+{
+    match Requests::new(alloc, input) {
+        Ok(requests) => serve_session(workers, opened, sources, requests, out, err),
+        Err(_) => refuse(Refusal::Fault(SpanFault::Memory), err),
+    }
+}
+
 /// Answers a request and gives the status. Its files are read each once and in their order, as far as the first that cannot be
 /// read, which is named, whatever those behind it are. Where no write fails, just the bytes of the answer go to each stream and the
 /// status is the answer's; where a write of the output fails, the status is that of a file that failed and the line on `err` is
 /// `file: output`; where a write of the line fails, the status stands. To `out` no write may have failed before. The workers of a
 /// statement pass the gate before each step.
-pub fn serve<S: Sources, W: Write, E: Write, R: Threads + Wait + Clock + Sync, G: Gate>(
+///
+/// A session reads requests from `input`, once its two files are accepted; nothing else reads it. The turns in the contract are its requests
+/// with what happened while they were answered. The bytes on `out` are the answers to them, to the end of the input; or as far as a read of
+/// it fails, then with the status of a file that failed and the line `file: input`.
+pub fn serve<
+    S: Sources,
+    I: Read + Drop,
+    W: Write,
+    E: Write,
+    R: Threads + Wait + Clock + Sync,
+    G: Gate,
+>(
     rt: &R,
     alloc: Global,
     request: Request<'_>,
     sources: &mut S,
     gate: &G,
+    input: I,
     out: &mut MarkedWriter<W>,
     err: &mut MarkedWriter<E>,
 ) -> u8
     requires { out.old.failed ≡ false }
-    ensures answer { Serves (S.file sources.old) (asked_by request.entry) result out.old out.new err.old err.new }
-    ensures reads { ReadsAsked S.reads sources.old (Some (asked_by request.entry)) sources.new }
+    ensures { (turns : List Turn) × Serves (around (S.file sources.old) (I.remaining input) turns out.new.failed) (asked_by request.entry)
+        result out.old out.new err.old err.new × ReadsAsked S.reads sources.old turns (Some (asked_by request.entry)) sources.new }
 {
     let lent = ServingMeans { rt, alloc, gate };
     match run(&lent, &request, sources) {
-        Ok(given) => give(given, out, err),
+        Ok(Outcome::Answer(given)) => give(given, out, err),
+        Ok(Outcome::Session(opened, count)) => {
+            let workers = Workers { rt, count, gate };
+            converse(&workers, alloc, opened, sources, input, out, err)
+        }
         Err(refusal) => refuse(refusal, err),
     }
 }

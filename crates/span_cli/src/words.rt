@@ -2,18 +2,20 @@
 ghost use Rattle.clap.specs.Words.{FailsBy, app_of, first_of, found_of, kind_of, new_app, rows_of, rule_of};
 ghost use Rattle.clap.specs.Words.{subcommand_of, subcommand_rows_of, with_rule, with_subcommand};
 ghost use Rattle.clap.specs.declared.builder.command.Command.TheViews.{out-Command as fields_of};
-ghost use Rattle.span_cli.specs.Reads.{ReadsAsked};
-ghost use Rattle.span_cli.specs.Serving.{asked_by, memory};
-ghost use Rattle.span_cli.specs.Telling.{AnswersWords, IsMistake, IsShown, RefusesWords, ServesAsked, Tells, no_text_line};
+ghost use Rattle.session.specs.Conversations.{Turn};
+ghost use Rattle.span_cli.specs.CommandLines.{AnswersLine};
+ghost use Rattle.span_cli.specs.Serving.{asked_by};
+ghost use Rattle.span_cli.specs.Sessions.{around};
+ghost use Rattle.span_cli.specs.Telling.{IsMistake, IsShown, RefusesWords, no_text_line};
 ghost use Rattle.span_cli.specs.Words.{account_in, account_rule, app_without_commands, asked_among, asked_in, commands, form_kinds};
-ghost use Rattle.span_cli.specs.Words.{is_request, joined_words, kinds_of, number_in, request_in, span_app};
+ghost use Rattle.span_cli.specs.Words.{is_request, joined_words, kinds_of, number_in, span_app};
 ghost use Rattle.span_cli.specs.Words.{with_commands, with_rules, workers_in, workers_rule};
 ghost use Rattle.span_cli.specs.near.Rows.{file_rule_of, option_rule, row_app};
 ghost use Rattle.writers.specs.Streams.{Says};
 ghost use Rattle.statement_text.specs.FaultLines.{memory_line};
 ghost use Rattle.std.specs.IoError.{error_kind};
 ghost use Rattle.std.specs.declared.io.ErrorKind.TheVariants as kind;
-ghost use Rattle.std.specs.Prelude.{◌≡◌, ◌≢◌, ◌⊎◌, IfErr, IfOk, Some, codes, false, map, option_and_then, option_map, true};
+ghost use Rattle.std.specs.Prelude.{◌≡◌, ◌≢◌, ◌⊎◌, IfErr, IfOk, List, Some, codes, false, map, option_and_then, option_map, true};
 
 use crate::joining::join_words;
 use crate::outputs::{ErrorStream, OutputStream};
@@ -27,7 +29,7 @@ use statement_text::statuses::{DONE, FILE_FAILED, OUT_OF_MEMORY, USAGE};
 use std::alloc::{AllocError, Global};
 use std::convert::AsStr;
 use std::io;
-use std::io::Write;
+use std::io::{Read, Write};
 use std::sync::Wait;
 use std::thread::Threads;
 use std::time::Clock;
@@ -36,7 +38,7 @@ use worker_pool::gates::Gate;
 use writers::marked_writer::MarkedWriter;
 
 /// The program's version, and the profiles of the method that it follows (docs/METHOD.md).
-const VERSION: &str = "1.2.0 (profile 1 and profile 2)";
+const VERSION: &str = "1.3.0 (profile 1 and profile 2)";
 
 const SPAN_MORE: &str = "\
 docs/FORMATS.md describes the files, what is printed, faults and statuses.
@@ -97,7 +99,7 @@ const POSITIONS: FileArg = FileArg {
 
 const POSITIONS_TOO: FileArg = FileArg {
     id: "POSITIONS",
-    help: "Position file (CSV) whose faults are told too: account, contract, quantity in contracts",
+    help: "Position file (CSV) whose faults are printed too: account, contract, quantity in contracts",
     required: false,
 };
 
@@ -107,35 +109,11 @@ const ORDERS: FileArg = FileArg {
     required: true,
 };
 
-const CHECK: CommandRow = CommandRow {
-    name: "check",
-    about: "Checks a parameter file and counts its records",
-    more: "\
-Prints one line, with the id of the set and how many records of each kind it has:
-  OK,set,commodities,contracts,tiers,intra,spots,inter
-A file that is no valid set is refused with its first fault and the number of the record.
-docs/FORMATS.md describes the records and the faults.",
-    files: &[PARAMS],
-    option: None,
-};
-
-const PLAN: CommandRow = CommandRow {
-    name: "plan",
-    about: "Prints the steps of the compiled plan of a parameter file",
-    more: "\
-Prints a line for each step: its number, its operation, and the numbers of its inputs:
-  7 Final(0) 2 4 5 6 19
-A file that is no valid set is refused as by `check`.
-docs/ARCHITECTURE.md describes the steps.",
-    files: &[PARAMS],
-    option: None,
-};
-
 const MARGIN: CommandRow = CommandRow {
     name: "margin",
-    about: "Prints the margin statement of every account",
+    about: "Print the margin statement of every account",
     more: "\
-Prints a line for each commodity that an account holds, then one for its total:
+Print a line for each commodity that an account holds, then one for its total:
   R,account,set,commodity,scan,active,intra,delivery,credit,minimum,requirement
   T,account,set,total
 Under a set of version 2, whose options have a value, the last line goes on with the value of the account's
@@ -150,9 +128,9 @@ docs/FORMATS.md describes the files and the statement, docs/METHOD.md the figure
 
 const EXPLAIN: CommandRow = CommandRow {
     name: "explain",
-    about: "Prints why each figure of a margin statement is what it is",
+    about: "Print why each figure of a margin statement is what it is",
     more: "\
-Prints for each account, and for each commodity of which it holds a contract, lines from which its figures can be
+Print for each account, and for each commodity of which it holds a contract, lines from which its figures can be
 computed by hand, and then its R line; after its commodities its T line. Each line begins with its word, the
 account, the set and, but for T, the commodity. Behind them stand:
   HELD    contract,type,month,quantity; under a set of version 2 also the value of that position
@@ -170,22 +148,11 @@ docs/FORMATS.md describes the lines, docs/METHOD.md the figures; docs/GUIDE.md r
     option: Some(OptionArg::Account),
 };
 
-const ROLL: CommandRow = CommandRow {
-    name: "roll",
-    about: "Prints the margin statements under a set and under the next",
-    more: "\
-Prints the statement under PARAMS, as `margin` does, and after it that under NEXT, for the same positions.
-NEXT is made ready beside the first batch. The lines of the two statements have the ids of their sets.
-docs/GUIDE.md has a day's roll in commands.",
-    files: &[PARAMS, NEXT, POSITIONS],
-    option: Some(OptionArg::Workers),
-};
-
 const WHAT_IF: CommandRow = CommandRow {
     name: "whatif",
-    about: "Prints what each order would do to the margin of its account",
+    about: "Print what each order would do to the margin of its account",
     more: "\
-Tries each order by itself on the positions of its account. Prints a line for each commodity whose requirement it
+Try each order by itself on the positions of its account. Print a line for each commodity whose requirement it
 changes, then one for the account's total:
   CHANGE,order,account,set,commodity,before,after,change
   ORDER,order,account,set,before,after,change
@@ -198,11 +165,44 @@ docs/FORMATS.md describes the files and the lines; docs/WHATIF.md tries orders i
     option: Some(OptionArg::Workers),
 };
 
+const SESSION: CommandRow = CommandRow {
+    name: "session",
+    about: "Answer requests about accounts, read from standard input",
+    more: "\
+Read both files as `margin` does, then requests from standard input to its end, one a line. Answer each before the
+next is read:
+  MARGIN                                             the statement of all accounts
+  MARGIN,account                                     the lines of one account
+  EXPLAIN,account                                    the lines that `explain` prints for it
+  TRY,order,account,contract,quantity                the lines that `whatif` prints for that order
+  FILL,account,contract,quantity                     add a quantity to a position; the account's new T line
+  SET,file                                           use another parameter file; the line that `check` prints for it
+  POSITIONS                                          the positions of all accounts, as position records
+TRY and FILL take up to 64 pairs of contract and quantity. Behind its lines an answer has the line `done` with the
+number of the request. A request that is refused changes nothing; its answer is one line, with the reason:
+  done,1
+  refused,2,request: B1 UnknownContract at field 3
+docs/FORMATS.md describes requests, answers and faults.",
+    files: &[PARAMS, POSITIONS],
+    option: Some(OptionArg::Workers),
+};
+
+const ROLL: CommandRow = CommandRow {
+    name: "roll",
+    about: "Print the margin statements under a set and under the next",
+    more: "\
+Print the statement under PARAMS, as `margin` does, and after it that under NEXT, for the same positions.
+NEXT is made ready beside the first batch. The lines of the two statements have the ids of their sets.
+docs/GUIDE.md has a day's roll in commands.",
+    files: &[PARAMS, NEXT, POSITIONS],
+    option: Some(OptionArg::Workers),
+};
+
 const FAULTS: CommandRow = CommandRow {
     name: "faults",
-    about: "Prints all faults of a parameter file, and of a position file beside it",
+    about: "Print all faults of a parameter file, and of a position file beside it",
     more: "\
-Prints a line for each fault, as `margin` prints the first alone:
+Print a line for each fault, as `margin` prints the first alone:
   parameters: C3 DuplicateContract at record 7
   positions: B1 UnknownContract at record 2 account X
 Of PARAMS each record that cannot be read has a line, with the lowest-numbered fault that it has; where all are read,
@@ -215,8 +215,32 @@ docs/FORMATS.md describes the faults and their order.",
     option: None,
 };
 
+const CHECK: CommandRow = CommandRow {
+    name: "check",
+    about: "Check a parameter file and count its records",
+    more: "\
+Print one line, with the id of the set and how many records of each kind it has:
+  OK,set,commodities,contracts,tiers,intra,spots,inter
+A file that is no valid set is refused with its first fault and the number of the record.
+docs/FORMATS.md describes the records and the faults.",
+    files: &[PARAMS],
+    option: None,
+};
+
+const PLAN: CommandRow = CommandRow {
+    name: "plan",
+    about: "Print the steps of the compiled plan of a parameter file",
+    more: "\
+Print a line for each step: its number, its operation, and the numbers of its inputs:
+  7 Final(0) 2 4 5 6 19
+A file that is no valid set is refused as by `check`.
+docs/ARCHITECTURE.md describes the steps.",
+    files: &[PARAMS],
+    option: None,
+};
+
 // The commands, as help lists them.
-const COMMANDS: [CommandRow; 7] = [CHECK, PLAN, MARGIN, EXPLAIN, ROLL, WHAT_IF, FAULTS];
+const COMMANDS: [CommandRow; 8] = [MARGIN, EXPLAIN, WHAT_IF, SESSION, ROLL, FAULTS, CHECK, PLAN];
 
 // A file's name.
 fn file_arg<'a>(alloc: Global, file: &FileArg) -> Arg<'a>
@@ -377,12 +401,6 @@ fn request_under<'a>(name: &str, matches: &ArgMatches<'a>) -> Option<Request<'a>
 {
     let file = |file: FileArg| text(matches, file.id);
     match name {
-        "check" => Some(Request::Check {
-            params: file(PARAMS)?,
-        }),
-        "plan" => Some(Request::Plan {
-            params: file(PARAMS)?,
-        }),
         "margin" => Some(Request::Margin {
             params: file(PARAMS)?,
             positions: file(POSITIONS)?,
@@ -393,21 +411,32 @@ fn request_under<'a>(name: &str, matches: &ArgMatches<'a>) -> Option<Request<'a>
             positions: file(POSITIONS)?,
             account: account_asked(matches)?,
         }),
-        "roll" => Some(Request::Roll {
-            params: file(PARAMS)?,
-            next: file(NEXT)?,
-            positions: file(POSITIONS)?,
-            workers: workers_asked(matches)?,
-        }),
         "whatif" => Some(Request::WhatIf {
             params: file(PARAMS)?,
             positions: file(POSITIONS)?,
             orders: file(ORDERS)?,
             workers: workers_asked(matches)?,
         }),
+        "session" => Some(Request::Session {
+            params: file(PARAMS)?,
+            positions: file(POSITIONS)?,
+            workers: workers_asked(matches)?,
+        }),
+        "roll" => Some(Request::Roll {
+            params: file(PARAMS)?,
+            next: file(NEXT)?,
+            positions: file(POSITIONS)?,
+            workers: workers_asked(matches)?,
+        }),
         "faults" => Some(Request::Faults {
             params: file(PARAMS)?,
             positions: file(POSITIONS_TOO),
+        }),
+        "check" => Some(Request::Check {
+            params: file(PARAMS)?,
+        }),
+        "plan" => Some(Request::Plan {
+            params: file(PARAMS)?,
         }),
         _ => None,
     }
@@ -518,6 +547,7 @@ fn refuse<W: Write, E: Write>(
 fn answer_words<
     T: AsStr,
     S: Sources,
+    I: Read + Drop,
     W: Write,
     E: Write,
     R: Threads + Wait + Clock + Sync,
@@ -526,32 +556,30 @@ fn answer_words<
     lent: &ServingMeans<'_, R, G>,
     words: &[T],
     sources: &mut S,
+    input: I,
     out: &mut MarkedWriter<W>,
     err: &mut MarkedWriter<E>,
 ) -> u8
     requires { out.old.failed ≡ false }
-    ensures taken { is_request (map T.text words.now) ≡ true
-        → ServesAsked (S.file sources.old) (asked_in (map T.text words.now)) result out.old out.new err.old err.new }
-    ensures words { AnswersWords (kinds_of (map T.text words.now))
-        (ServesAsked (S.file sources.old) (asked_in (map T.text words.now)) result out.old out.new err.old err.new)
-        result out.old out.new err.old err.new }
-    ensures reads { ReadsAsked S.reads sources.old (request_in (map T.text words.now)) sources.new
-        ⊎ ((sources.new ≡ sources.old) × Tells memory result out.old out.new err.old err.new) }
+    ensures { (turns : List Turn) × AnswersLine (around (S.file sources.old) (I.remaining input) turns out.new.failed) S.reads
+        sources.old sources.new (map T.text words.now) result out.old out.new err.old err.new }
 {
-    match request(lent.alloc, words) {
-        Ok(request) => serve(lent.rt, lent.alloc, request, sources, lent.gate, out, err),
+    let (rt, alloc, gate) = (lent.rt, lent.alloc, lent.gate);
+    match request(alloc, words) {
+        Ok(request) => serve(rt, alloc, request, sources, gate, input, out, err),
         Err(error) => refuse(error, out, err),
     }
 }
 
 /// Answers a command line, of which the first word is the program's name, and gives the status. A request is answered
 /// as by `serve`; help and the version go to `out` alone and a mistake to `err` alone. The bounds of the two differ, so that the
-/// standard streams cannot be exchanged. The word behind `--account` is its value, whatever it begins with. Files are read as by
-/// `serve`. None is read for a command line that is no request, nor when memory runs out before the request is known. To `out` no
+/// standard streams cannot be exchanged. The word behind `--account` is its value, whatever it begins with. Files and the input are read as
+/// by `serve`. Nothing is read for a command line that is no request, nor when memory runs out before the request is known. To `out` no
 /// write may have failed before.
 pub fn run_words<
     T: AsStr,
     S: Sources,
+    I: Read + Drop,
     W: OutputStream,
     E: ErrorStream,
     R: Threads + Wait + Clock + Sync,
@@ -562,22 +590,17 @@ pub fn run_words<
     words: &[T],
     sources: &mut S,
     gate: &G,
+    input: I,
     out: &mut MarkedWriter<W>,
     err: &mut MarkedWriter<E>,
 ) -> u8
     requires { out.old.failed ≡ false }
-    ensures taken { is_request (joined_words (map T.text words.now)) ≡ true
-        → ServesAsked (S.file sources.old) (asked_in (joined_words (map T.text words.now))) result
-        out.old out.new err.old err.new }
-    ensures words { AnswersWords (kinds_of (joined_words (map T.text words.now)))
-        (ServesAsked (S.file sources.old) (asked_in (joined_words (map T.text words.now))) result
-        out.old out.new err.old err.new) result out.old out.new err.old err.new }
-    ensures reads { ReadsAsked S.reads sources.old (request_in (joined_words (map T.text words.now))) sources.new
-        ⊎ ((sources.new ≡ sources.old) × Tells memory result out.old out.new err.old err.new) }
+    ensures { (turns : List Turn) × AnswersLine (around (S.file sources.old) (I.remaining input) turns out.new.failed) S.reads
+        sources.old sources.new (joined_words (map T.text words.now)) result out.old out.new err.old err.new }
 {
     let lent = ServingMeans { rt, alloc, gate };
     match join_words(alloc, words) {
-        Ok(joined) => answer_words(&lent, &joined, sources, out, err),
+        Ok(joined) => answer_words(&lent, &joined, sources, input, out, err),
         Err(error) => refuse(Error::from(error), out, err),
     }
 }

@@ -2,7 +2,8 @@
 #![tactic(auto, unfolding(crate::specs::near::OnLiterals::on_literals))]
 
 ghost use Rattle.clap.specs.declared.error.kind.ErrorKind.TheVariants as kind;
-ghost use Rattle.span_cli.specs.Serving.{Check, Explain, Faults, IsAnswer, Margin, Plan, Roll, WhatIf, done, refused};
+ghost use Rattle.span_cli.specs.Serving.{Check, Explain, Faults, IsAnswer, Margin, Plan, Roll, Session, WhatIf, done, refused};
+ghost use Rattle.span_cli.specs.Sessions.{files_alone};
 ghost use Rattle.span_cli.specs.Words.{asked_in, is_request, joined_words, kinds_of};
 ghost use Rattle.span_cli.specs.declared.reading.TheConstants.{MAX_TURNS};
 ghost use Rattle.sources.specs.declared.ReadFault.TheVariants as read;
@@ -108,6 +109,18 @@ fn whatif_of_three_files()
         ≡ kind.UnknownArgument ∷ [] }
 {}
 
+// `span session p q` is taken, and asks for just that, with the files in their order and one worker; and with two.
+fn session_of_two_files()
+    ensures taken { is_request (codes "span" ∷ codes "session" ∷ codes "p" ∷ codes "q" ∷ []) ≡ true }
+    ensures asked { asked_in (codes "span" ∷ codes "session" ∷ codes "p" ∷ codes "q" ∷ [])
+        ≡ Some (Session 1, codes "p" ∷ codes "q" ∷ []) }
+    ensures workers_taken { is_request (codes "span" ∷ codes "session" ∷ codes "p" ∷ codes "q" ∷ codes "--workers=2" ∷ []) ≡ true }
+    ensures workers { asked_in (codes "span" ∷ codes "session" ∷ codes "p" ∷ codes "q" ∷ codes "--workers=2" ∷ [])
+        ≡ Some (Session 2, codes "p" ∷ codes "q" ∷ []) }
+    ensures no_positions { kinds_of (codes "span" ∷ codes "session" ∷ codes "p" ∷ []) ≡ kind.MissingRequiredArgument ∷ [] }
+    ensures three { kinds_of (codes "span" ∷ codes "session" ∷ codes "p" ∷ codes "q" ∷ codes "r" ∷ []) ≡ kind.UnknownArgument ∷ [] }
+{}
+
 // `span faults p` and `span faults p q` are taken, and ask for just that; a third file and a number of workers are refused.
 fn faults_of_one_file_or_two()
     ensures taken { is_request (codes "span" ∷ codes "faults" ∷ codes "p" ∷ []) ≡ true }
@@ -185,76 +198,91 @@ fn shown()
 
 // A file that cannot be read, or is too long, is named.
 fn files_that_are_not_read()
-    ensures failed { IsAnswer (λ _. Some (Err read.Failed)) (Check, codes "p" ∷ []) (refused 6 (codes "file: p\n")) }
-    ensures too_long { IsAnswer (λ _. Some (Err read.TooLong)) (Check, codes "p" ∷ []) (refused 6 (codes "file: p\n")) }
-    ensures memory { IsAnswer (λ _. Some (Err read.OutOfMemory)) (Check, codes "p" ∷ [])
+    ensures failed { IsAnswer (files_alone (λ _. Some (Err read.Failed))) (Check, codes "p" ∷ []) (refused 6 (codes "file: p\n")) }
+    ensures too_long { IsAnswer (files_alone (λ _. Some (Err read.TooLong))) (Check, codes "p" ∷ []) (refused 6 (codes "file: p\n")) }
+    ensures memory { IsAnswer (files_alone (λ _. Some (Err read.OutOfMemory))) (Check, codes "p" ∷ [])
         (refused 5 (codes "memory\n")) }
-    ensures of_a_plan { IsAnswer (λ _. Some (Err read.Failed)) (Plan, codes "p" ∷ []) (refused 6 (codes "file: p\n")) }
+    ensures of_a_plan { IsAnswer (files_alone (λ _. Some (Err read.Failed))) (Plan, codes "p" ∷ []) (refused 6 (codes "file: p\n")) }
 {}
 
 // The first of several is named, also where those behind it are unknown.
 fn first_that_is_not_read()
-    ensures first { IsAnswer (λ _. Some (Err read.Failed)) (Margin 1, codes "p" ∷ codes "q" ∷ [])
+    ensures first { IsAnswer (files_alone (λ _. Some (Err read.Failed))) (Margin 1, codes "p" ∷ codes "q" ∷ [])
         (refused 6 (codes "file: p\n")) }
-    ensures second_unknown { IsAnswer (λ name. if bytes_eq name (codes "p") then Some (Err read.Failed) else None)
+    ensures second_unknown { IsAnswer (files_alone (λ name. if bytes_eq name (codes "p") then Some (Err read.Failed) else None))
         (Margin 1, codes "p" ∷ codes "q" ∷ []) (refused 6 (codes "file: p\n")) }
-    ensures second { IsAnswer (λ name. if bytes_eq name (codes "p") then Some (Ok []) else Some (Err read.Failed))
+    ensures second { IsAnswer (files_alone (λ name. if bytes_eq name (codes "p") then Some (Ok []) else Some (Err read.Failed)))
         (Margin 1, codes "p" ∷ codes "q" ∷ []) (refused 6 (codes "file: q\n")) }
-    ensures of_a_roll { IsAnswer (λ name. if bytes_eq name (codes "p") then Some (Err read.TooLong) else None)
+    ensures of_a_roll { IsAnswer (files_alone (λ name. if bytes_eq name (codes "p") then Some (Err read.TooLong) else None))
         (Roll 1, codes "p" ∷ codes "n" ∷ codes "q" ∷ []) (refused 6 (codes "file: p\n")) }
-    ensures next_of_a_roll { IsAnswer (λ name. if bytes_eq name (codes "p") then Some (Ok [])
-        else if bytes_eq name (codes "n") then Some (Err read.Failed) else None)
+    ensures next_of_a_roll { IsAnswer (files_alone (λ name. if bytes_eq name (codes "p") then Some (Ok [])
+        else if bytes_eq name (codes "n") then Some (Err read.Failed) else None))
         (Roll 1, codes "p" ∷ codes "n" ∷ codes "q" ∷ []) (refused 6 (codes "file: n\n")) }
-    ensures orders { IsAnswer (λ name. if bytes_eq name (codes "o") then Some (Err read.Failed) else Some (Ok []))
+    ensures orders { IsAnswer (files_alone (λ name. if bytes_eq name (codes "o") then Some (Err read.Failed) else Some (Ok [])))
         (WhatIf 1, codes "p" ∷ codes "q" ∷ codes "o" ∷ []) (refused 6 (codes "file: o\n")) }
 {}
 
 // The counts and the statement of small files, and two that are refused.
 fn files_that_are_read()
-    ensures counts { IsAnswer (λ _. Some (Ok (codes "SET,D1,1,USD\nCOMMODITY,AA,0,SUM\n"))) (Check, codes "p" ∷ [])
+    ensures counts { IsAnswer (files_alone (λ _. Some (Ok (codes "SET,D1,1,USD\nCOMMODITY,AA,0,SUM\n")))) (Check, codes "p" ∷ [])
         (done (codes "OK,D1,1,0,0,0,0,0\n")) }
-    ensures no_accounts { IsAnswer (λ name. if bytes_eq name (codes "p") then Some (Ok (codes "SET,D1,1,USD\n"))
-        else Some (Ok [])) (Margin 1, codes "p" ∷ codes "q" ∷ []) (done []) }
-    ensures no_set { IsAnswer (λ _. Some (Ok [])) (Check, codes "p" ∷ [])
+    ensures no_accounts { IsAnswer (files_alone (λ name. if bytes_eq name (codes "p") then Some (Ok (codes "SET,D1,1,USD\n"))
+        else Some (Ok []))) (Margin 1, codes "p" ∷ codes "q" ∷ []) (done []) }
+    ensures no_set { IsAnswer (files_alone (λ _. Some (Ok []))) (Check, codes "p" ∷ [])
         (refused 3 (codes "parameters: P1 NoSet at record 0\n")) }
-    ensures unknown_contract { IsAnswer (λ name. if bytes_eq name (codes "p") then Some (Ok (codes "SET,D1,1,USD\n"))
-        else Some (Ok (codes "X,FA,1\n"))) (Margin 1, codes "p" ∷ codes "q" ∷ [])
+    ensures unknown_contract { IsAnswer (files_alone (λ name. if bytes_eq name (codes "p") then Some (Ok (codes "SET,D1,1,USD\n"))
+        else Some (Ok (codes "X,FA,1\n")))) (Margin 1, codes "p" ∷ codes "q" ∷ [])
         (refused 4 (codes "positions: B1 UnknownContract at record 1 account X\n")) }
-    ensures no_orders { IsAnswer (λ name. if bytes_eq name (codes "p") then Some (Ok (codes "SET,D1,1,USD\n"))
-        else Some (Ok [])) (WhatIf 1, codes "p" ∷ codes "q" ∷ codes "o" ∷ []) (done []) }
-    ensures unknown_contract_of_an_order { IsAnswer (λ name. if bytes_eq name (codes "p") then Some (Ok (codes "SET,D1,1,USD\n"))
-        else if bytes_eq name (codes "q") then Some (Ok []) else Some (Ok (codes "BUY,X,FA,1\n")))
+    ensures no_orders { IsAnswer (files_alone (λ name. if bytes_eq name (codes "p") then Some (Ok (codes "SET,D1,1,USD\n"))
+        else Some (Ok []))) (WhatIf 1, codes "p" ∷ codes "q" ∷ codes "o" ∷ []) (done []) }
+    ensures unknown_contract_of_an_order { IsAnswer (files_alone (λ name. if bytes_eq name (codes "p") then Some (Ok (codes "SET,D1,1,USD\n"))
+        else if bytes_eq name (codes "q") then Some (Ok []) else Some (Ok (codes "BUY,X,FA,1\n"))))
         (WhatIf 1, codes "p" ∷ codes "q" ∷ codes "o" ∷ [])
         (refused 4 (codes "orders: B1 UnknownContract at record 1 order BUY\n")) }
 {}
 
 // Files without a fault, the one fault of an empty parameter file, and faults of both files, which have the status of the first.
 fn files_whose_faults_are_told()
-    ensures no_fault { IsAnswer (λ name. if bytes_eq name (codes "p") then Some (Ok (codes "SET,D1,1,USD\n")) else Some (Ok []))
+    ensures no_fault { IsAnswer (files_alone (λ name. if bytes_eq name (codes "p") then Some (Ok (codes "SET,D1,1,USD\n")) else Some (Ok [])))
         (Faults, codes "p" ∷ codes "q" ∷ []) (done []) }
-    ensures no_set { IsAnswer (λ _. Some (Ok [])) (Faults, codes "p" ∷ [])
+    ensures no_set { IsAnswer (files_alone (λ _. Some (Ok []))) (Faults, codes "p" ∷ [])
         (record { status = 3; out = codes "parameters: P1 NoSet at record 0\n"; err = [] }) }
-    ensures both { IsAnswer (λ name. if bytes_eq name (codes "p") then Some (Ok []) else Some (Ok (codes "X,FA\n")))
+    ensures both { IsAnswer (files_alone (λ name. if bytes_eq name (codes "p") then Some (Ok []) else Some (Ok (codes "X,FA\n"))))
         (Faults, codes "p" ∷ codes "q" ∷ []) (record {
           status = 3;
           out = codes "parameters: P1 NoSet at record 0\npositions: Q1 FieldCount at record 1\n";
           err = [];
         }) }
-    ensures of_positions { IsAnswer (λ name. if bytes_eq name (codes "p") then Some (Ok (codes "SET,D1,1,USD\n"))
-        else Some (Ok (codes "X,FA,1\nY,FB,2\n"))) (Faults, codes "p" ∷ codes "q" ∷ []) (record {
+    ensures of_positions { IsAnswer (files_alone (λ name. if bytes_eq name (codes "p") then Some (Ok (codes "SET,D1,1,USD\n"))
+        else Some (Ok (codes "X,FA,1\nY,FB,2\n")))) (Faults, codes "p" ∷ codes "q" ∷ []) (record {
           status = 4;
           out = codes "positions: B1 UnknownContract at record 1 account X\npositions: B1 UnknownContract at record 2 account Y\n";
           err = [];
         }) }
-    ensures second_not_read { IsAnswer (λ name. if bytes_eq name (codes "p") then Some (Ok []) else Some (Err read.Failed))
+    ensures second_not_read { IsAnswer (files_alone (λ name. if bytes_eq name (codes "p") then Some (Ok []) else Some (Err read.Failed)))
         (Faults, codes "p" ∷ codes "q" ∷ []) (refused 6 (codes "file: q\n")) }
+{}
+
+// A session that is refused before its first request: for its parameters, for a file that is not there, and for the stream of requests in the
+// place of a file.
+fn refused_sessions()
+    ensures no_set { IsAnswer (files_alone (λ _. Some (Ok []))) (Session 1, codes "p" ∷ codes "q" ∷ [])
+        (refused 3 (codes "parameters: P1 NoSet at record 0\n")) }
+    ensures no_positions { IsAnswer (files_alone (λ name. if bytes_eq name (codes "p") then Some (Ok []) else Some (Err read.Failed)))
+        (Session 1, codes "p" ∷ codes "q" ∷ []) (refused 6 (codes "file: q\n")) }
+    ensures params_of_requests { IsAnswer (files_alone (λ _. Some (Ok []))) (Session 1, codes "/dev/stdin" ∷ codes "q" ∷ [])
+        (refused 6 (codes "file: /dev/stdin\n")) }
+    ensures positions_of_requests { IsAnswer (files_alone (λ _. Some (Ok []))) (Session 1, codes "p" ∷ codes "/dev/stdin" ∷ [])
+        (refused 6 (codes "file: /dev/stdin\n")) }
+    ensures positions_of_margin { IsAnswer (files_alone (λ name. if bytes_eq name (codes "p") then Some (Ok (codes "SET,D1,1,USD\n"))
+        else Some (Ok []))) (Margin 1, codes "p" ∷ codes "/dev/stdin" ∷ []) (done []) }
 {}
 
 // The plan of a set alone, and the refusal of a file that is no set.
 fn plans()
-    ensures alone { IsAnswer (λ _. Some (Ok (codes "SET,D1,1,USD\n"))) (Plan, codes "p" ∷ [])
+    ensures alone { IsAnswer (files_alone (λ _. Some (Ok (codes "SET,D1,1,USD\n")))) (Plan, codes "p" ∷ [])
         (done (codes "0 InterStart()\n1 TotalStart()\n")) }
-    ensures no_set { IsAnswer (λ _. Some (Ok [])) (Plan, codes "p" ∷ [])
+    ensures no_set { IsAnswer (files_alone (λ _. Some (Ok []))) (Plan, codes "p" ∷ [])
         (refused 3 (codes "parameters: P1 NoSet at record 0\n")) }
 {}
 

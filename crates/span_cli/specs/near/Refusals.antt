@@ -1,12 +1,18 @@
 -- What is said of a refusal inside the library.
-use Rattle.std.specs.Prelude.{◌≡◌, ◌⊎◌, ℕ, List, [], ◌++◌, Some, None, Result, Ok, Err}
+use Rattle.std.specs.Prelude.{◌≡◌, ◌⊎◌, ℕ, true, List, [], ◌∷◌, ◌++◌, Option, Some, None, IfSome, Result, Ok, Err, ⊤}
+use Rattle.session.specs.Answers.{opened}
+use Rattle.session.specs.Conversations.{opening_text}
 use Rattle.statement_text.specs.FaultLines.{fault_line, fault_status}
 use Rattle.statement_text.specs.declared.faults.SpanFault.{SpanFault}
 use Rattle.statement_text.specs.declared.faults.SpanFault.TheVariants as fault
 use Rattle.statement_text.specs.declared.statuses.TheConstants.{FILE_FAILED}
-use Rattle.span_cli.specs.Serving.{Answer, Found, answer_of, file_line, refused}
+use Rattle.span_cli.specs.Serving.{Answer, Asked, Command, Found, IsAnswer, Session, answer_of, answered, file_line, found_by, refused}
+use Rattle.span_cli.specs.Serving.{takes_requests}
+use Rattle.span_cli.specs.Sessions.{Outside}
 use Rattle.sources.specs.Files.{File}
 use Rattle.span_cli.specs.declared.serving.Given.{Given}
+use Rattle.span_cli.specs.declared.serving.Outcome.{Outcome}
+use Rattle.span_cli.specs.declared.serving.Outcome.TheVariants as outcome
 use Rattle.span_cli.specs.declared.serving.Refusal.{Refusal}
 use Rattle.span_cli.specs.declared.serving.Refusal.TheVariants as refusal
 use Rattle.sources.specs.declared.ReadFault.TheVariants as read
@@ -29,12 +35,7 @@ refusal_answer r = refused (refusal_status r) (refusal_line r)
 abbrev pub given_answer : Given → Answer
 given_answer given = record { status = given.status; out = given.text.items; err = [] }
 
--- what a request gave makes an answer that P holds of, unless memory ran out
-abbrev pub Runs : {X : Type 0} → (X → Answer) → Result X Refusal → (Answer → Type 0) → Type 0
-Runs view (Ok given) P = P (view given)
-Runs view (Err r) P = (r ≡ refusal.Fault fault.Memory) ⊎ P (refusal_answer r)
-
--- what a call gave makes one, unless memory ran out
+-- what a call gave makes an answer that P holds of, unless memory ran out
 abbrev pub MayGive : {X : Type 0} → (X → Answer) → Result X SpanFault → (Answer → Type 0) → Type 0
 MayGive view (Ok given) P = P (view given)
 MayGive view (Err e) P = (e ≡ fault.Memory) ⊎ P (answer_of (Err e))
@@ -55,3 +56,34 @@ abbrev pub read_then : List (List ℕ) → Found → Found
 read_then files None = None
 read_then files (Some (Err refusal)) = Some (Err refusal)
 read_then files (Some (Ok others)) = Some (Ok (files ++ others))
+
+-- ---- what comes of a request
+
+-- a session that was opened is the command's, and has the first answer of its state
+abbrev pub IsOutcome : Command → Outcome → Type 0
+IsOutcome command (outcome.Answer given) = ⊤
+IsOutcome command (outcome.Session o count) = (takes_requests command ≡ true) × (o.text.items ≡ opening_text o.session)
+
+-- what came of these files is the command's
+abbrev pub ComesOf : Command → List (List ℕ) → Outcome → Type 0
+ComesOf command files (outcome.Answer given) = answered command files (given_answer given)
+ComesOf (Session workers) (params ∷ positions ∷ []) (outcome.Session o count) = opened params positions ≡ Ok o.session
+ComesOf command files (outcome.Session o count) = ⊥
+
+-- the fault is the command's for these files
+abbrev pub Refuses : Command → List (List ℕ) → SpanFault → Type 0
+Refuses (Session workers) (params ∷ positions ∷ []) e = opened params positions ≡ Err e
+Refuses command files e = answered command files (answer_of (Err e))
+
+-- what comes of these files, unless memory ran out
+abbrev pub Comes : Command → List (List ℕ) → Result Outcome SpanFault → Type 0
+Comes command files (Ok came) = ComesOf command files came
+Comes command files (Err e) = (e ≡ fault.Memory) ⊎ Refuses command files e
+
+-- what comes of what is asked, unless memory ran out, for these files
+abbrev pub Runs : (List ℕ → Option File) → Asked → Result Outcome Refusal → Type 0
+Runs file asked (Ok came) =
+    IfSome (found_by file asked) (λ found. (files : List (List ℕ)) × (found ≡ Ok files) × ComesOf asked.0 files came)
+Runs file asked (Err r) =
+    (r ≡ refusal.Fault fault.Memory)
+    ⊎ ((outside : Outside) → outside.file ≡ file → outside.turns ≡ [] → IsAnswer outside asked (refusal_answer r))
