@@ -1,5 +1,5 @@
 -- A session that is refused for its files is refused as their statement is.
-use Rattle.std.proofs.Common.{◌≡◌, ◌<◌, ◌≤◌, ℕ, Bool, true, false, List, Result, Ok, Err, refl, arith}
+use Rattle.std.proofs.Common.{◌≡◌, ◌<◌, ◌≤◌, ℕ, false, List, Result, Ok, Err, arith}
 use Rattle.std.specs.Prelude.{◌||◌, ◌==◌, nat_lt}
 use Rattle.session.specs.Answers.{opened}
 use Rattle.session.specs.Conversations.{Turn, session_of}

@@ -1,8 +1,8 @@
 -- What is told of an answer.
 use Rattle.std.proofs.Common.{◌≡◌, ◌⊎◌, ◌++◌, ℕ, List, [], ◌∷◌, false, true, is_some, Option, Some, None, Result, Ok, Err}
-use Rattle.std.proofs.Common.{◌+◌, ◌<◌, ◌&&◌, ◌∙◌, Bool, refl, sym, subst, ap, append_assoc, inl, inr, length, get_or, map, drop, Bor}
+use Rattle.std.proofs.Common.{◌+◌, ◌<◌, ◌&&◌, Bool, refl, sym, subst, ap, append_assoc, inl, inr, length, get_or, map, drop, Bor}
 use Rattle.std.proofs.lemmas.List.{append-nil, at_drop_more}
-use Rattle.std.specs.Prelude.{IfSome, MatchBool, if◌then◌else◌}
+use Rattle.std.specs.Prelude.{IfSome, if◌then◌else◌}
 use Rattle.std.specs.Io.KnownBytes.{Appends}
 use Rattle.session.specs.Answers.{State, is_stdin, opened}
 use Rattle.session.specs.Conversations.{AreFromSource, Turn, files_of, reads_of, session_of}
@@ -25,8 +25,8 @@ use Rattle.sources.specs.Files.{File}
 use Rattle.sources.specs.declared.ReadFault.TheVariants as read
 use Rattle.span_cli.specs.Telling.{AnswersWords, RefusesWordsBy, Serves, ServesAsked, Tells}
 use Rattle.span_cli.specs.Telling as telling
-use Rattle.span_cli.specs.near.Refusals.{Comes, ComesOf, Loads, MayGive, Refuses, Runs, given_answer, read_then, refusal_answer}
-use Rattle.span_cli.specs.near.Refusals.{IsOutcome, refusal_line, refusal_status}
+use Rattle.span_cli.specs.near.Refusals.{ComesOf, Loads, MayGive, Refuses, Runs, given_answer, read_then, refusal_answer}
+use Rattle.span_cli.specs.near.Refusals.{refusal_line, refusal_status}
 use Rattle.span_cli.specs.near.Sessions.{TellsSession, texts_from}
 use Rattle.span_cli.specs.declared.serving.Given.{Given}
 use Rattle.span_cli.specs.declared.serving.Outcome.{Outcome}

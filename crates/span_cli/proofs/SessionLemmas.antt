@@ -1,13 +1,12 @@
 -- What a session that was served has told.
 use Rattle.std.proofs.Common.{◌≡◌, ◌∙◌, ◌⊎◌, ◌++◌, ◌-◌, ◌^◌, ◌+◌, ℕ, Bool, true, false, List, [], ◌∷◌, Option, Some, None, Result, Ok, Err}
-use Rattle.std.proofs.Common.{refl, sym, ap, subst, inl, inr, length, map}
+use Rattle.std.proofs.Common.{refl, sym, ap, subst, inl, inr, length}
 use Rattle.std.proofs.lemmas.List.{map-append}
 use Rattle.std.proofs.lemmas.List.Elements.{All-nil, All-weaker}
 use Rattle.std.specs.Prelude.{All, IfSome, OnOk, flat_map}
-use Rattle.std.specs.Io.{StartsWith}
 use Rattle.desks.specs.near.Desks.{Dealings, IsAtEnd, IsCutOff, IsDealt}
 use Rattle.desks.specs.Events.{Asked, Event, Told, asked_in, told_in}
-use Rattle.desks.specs.Requests.{requests_in, whole_lines}
+use Rattle.desks.specs.Requests.{requests_in}
 use Rattle.desks.specs.declared.desk.DeskFault.{DeskFault}
 use Rattle.desks.specs.declared.desk.DeskFault.TheVariants as desk
 use Rattle.session.specs.Answers.{State}
@@ -17,7 +16,7 @@ use Rattle.session.specs.Conversations as conversation
 use Rattle.sources.specs.Files.{File, ReadGives}
 use Rattle.writers.specs.Streams.{Says, Stream}
 use Rattle.span_cli.specs.Serving.{ended_answer}
-use Rattle.span_cli.specs.Sessions.{AtEnd, CutOff, Ends, Ending, IsConversation, Unwritten, around, requests_of}
+use Rattle.span_cli.specs.Sessions.{Ends, IsConversation, around, requests_of}
 use Rattle.span_cli.specs.Telling.{Tells, told}
 use Rattle.span_cli.specs.near.Sessions.{TellsSession, ending_of, texts_from}
 

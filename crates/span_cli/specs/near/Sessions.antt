@@ -1,5 +1,5 @@
 -- How a session ends, and what is told of it, by what the code has in hand.
-use Rattle.std.specs.Prelude.{◌≡◌, ℕ, Bool, true, false, List, ◌∷◌, Option, Result, Ok, Err}
+use Rattle.std.specs.Prelude.{ℕ, Bool, true, false, List, ◌∷◌, Option, Result, Ok, Err}
 use Rattle.desks.specs.declared.desk.DeskFault.{DeskFault}
 use Rattle.session.specs.Answers.{State}
 use Rattle.session.specs.Conversations.{Turn, answers_from, opening_text}
