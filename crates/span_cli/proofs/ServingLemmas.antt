@@ -1,4 +1,4 @@
--- What is told of an answer.
+-- What goes out of an answer.
 use Rattle.std.proofs.Common.{◌≡◌, ◌⊎◌, ◌++◌, ℕ, List, [], ◌∷◌, false, true, is_some, Option, Some, None, Result, Ok, Err}
 use Rattle.std.proofs.Common.{◌+◌, ◌<◌, ◌&&◌, Bool, refl, sym, subst, ap, append_assoc, inl, inr, length, get_or, map, drop, Bor}
 use Rattle.std.proofs.lemmas.List.{append-nil, at_drop_more}
@@ -40,7 +40,7 @@ pub Appends-none : (o : Option (List ℕ)) → Appends o o []
 Appends-none None = tt
 Appends-none (Some xs) = sym (append-nil xs)
 
--- a refusal was told
+-- a refusal went out
 pub refused_tells : (status : ℕ) (line : List ℕ) (given : ℕ) (out old_err new_err : Stream)
     → out.failed ≡ false → given ≡ status → Says old_err new_err line
     → Tells (refused status line) given out out old_err new_err
@@ -128,7 +128,7 @@ found_same beside file later name same = ap (λ (o : Option File). if beside && 
 
 -- ---- what comes of a request
 
--- what is answered to a command for its files, whatever is beside them
+-- what is answered to a command for its files, whatever else there is
 at_once : (outside : Outside) (command : Command) (files : List (List ℕ)) (answer : Answer) → answered command files answer
     → answered_amid outside command files answer
 at_once outside Check files answer h = h
@@ -151,7 +151,7 @@ session_fault : (params positions : List ℕ) (turns : List Turn) (e : SpanFault
 unfolding session_of
 session_fault params positions turns e is = rw is refl
 
--- a command is refused by its fault for its files, whatever is beside them, where no request was taken
+-- a command is refused by its fault for its files, whatever else there is, if no request was taken
 refuses_amid : (outside : Outside) (command : Command) (files : List (List ℕ)) (e : SpanFault) → outside.turns ≡ []
     → Refuses command files e → answered_amid outside command files (answer_of (Err e))
 refuses_amid outside Check files e none h = h
@@ -205,7 +205,7 @@ read_runs file asked files came h comes = of_files (found_by file asked) h where
   of_files None h = tt
   of_files (Some o) is = (files, is, comes)
 
--- ---- what is told of it
+-- ---- what goes out of it
 
 -- no turns are those of any command
 no_turns : (command : Command) → turns_in command [] ≡ []
@@ -235,7 +235,7 @@ pub files_read : {S : Type 0} (reads : S → List ℕ → Bool → S → Type 0)
 files_read reads old new asked h =
     (new, h, subst (λ (turns : List Turn). ReadsAll reads new (reads_of turns) new) (sym (no_turns asked.0)) refl)
 
--- an answer that a request gives at once was told
+-- an answer that a request gives at once went out
 pub given_serves : (file : List ℕ → Option File) (input : Option (List ℕ)) (asked : Asked) (g : Given) (given : ℕ)
     (old_out new_out old_err new_err : Stream) → Runs file asked (Ok (outcome.Answer g))
     → Tells (given_answer g) given old_out new_out old_err new_err
@@ -365,7 +365,7 @@ pub words_answered : (kinds : Kinds) (answered : Type 0) (given : ℕ) (old_out 
 words_answered [] answered given old_out new_out old_err new_err none holds = holds
 words_answered (k ∷ ks) answered given old_out new_out old_err new_err none holds = cc
 
--- words that may be refused, where what is told is out of memory or the kind's
+-- words that may be refused: what goes out is that memory ran out, or the answer of their kind
 pub words_refused : (kinds : Kinds) (answered : Type 0) (e : Error) (given : ℕ) (old_out new_out old_err new_err : Stream)
     → HasKind kinds e → telling.RefusesWords (kind_of e) given old_out new_out old_err new_err
     → (kinds ≡ [] → Tells memory given old_out new_out old_err new_err → answered)

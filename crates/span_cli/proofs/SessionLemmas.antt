@@ -1,4 +1,4 @@
--- What a session that was served has told.
+-- What went out of a session that was served.
 use Rattle.std.proofs.Common.{◌≡◌, ◌∙◌, ◌⊎◌, ◌++◌, ◌-◌, ◌^◌, ◌+◌, ℕ, Bool, true, false, List, [], ◌∷◌, Option, Some, None, Result, Ok, Err}
 use Rattle.std.proofs.Common.{refl, sym, ap, subst, inl, inr, length}
 use Rattle.std.proofs.lemmas.List.{map-append}

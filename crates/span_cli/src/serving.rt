@@ -178,7 +178,7 @@ fn is_requests(beside: bool, name: &str) -> bool
     beside && name == STDIN
 }
 
-// The file of a name. Beside a stream of requests, that stream is a file that cannot be read.
+// The file of a name. In a session the stream of requests is a file that cannot be read.
 fn load<'a, S: Sources>(
     alloc: Global,
     sources: &mut S,
@@ -433,9 +433,9 @@ fn converse<
 /// `file: output`; where a write of the line fails, the status stands. To `out` no write may have failed before. The workers of a
 /// statement pass the gate before each step.
 ///
-/// A session reads requests from `input`, once its two files are accepted; nothing else reads it. The turns in the contract are its requests
-/// with what happened while they were answered. The bytes on `out` are the answers to them, to the end of the input; or as far as a read of
-/// it fails, then with the status of a file that failed and the line `file: input`.
+/// A session reads requests from `input` once its two files are accepted; nothing else reads it. The turns in the contract are its requests
+/// with what happened while they were answered. The bytes on `out` are the answers to them, to the end of the input. If a read of the input
+/// fails, the answers so far stay, the status is that of a file that failed, and the line is `file: input`.
 pub fn serve<
     S: Sources,
     I: Read + Drop,
