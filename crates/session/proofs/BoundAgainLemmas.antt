@@ -286,7 +286,7 @@ module _ (contracts : List Contract) where
         (sym (not_none h hs)) (omega arith)
 
     -- the accounts of the records are the accounts
-    names_are : (0 < length contracts) → (ps : List AccountHoldings) → AreOnce ps
+    pub names_are : 0 < length contracts → (ps : List AccountHoldings) → AreOnce ps
         → accounts_of (position_records contracts ps) ≡ map (λ p. p.account) ps
     unfolding IsDistinct
     names_are some [] once = refl

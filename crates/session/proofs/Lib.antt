@@ -12,6 +12,7 @@ mod KeepLemmas
 mod KeptStateLemmas
 mod LossLemmas
 mod OrderLemmas
+mod ReadAgainLemmas
 mod ReadStateLemmas
 mod SessionLemmas
 mod TradeLemmas
