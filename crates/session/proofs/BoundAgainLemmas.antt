@@ -1,7 +1,7 @@
 -- The position records of a session's accounts are bound to the same accounts.
 use Rattle.std.proofs.Common.{◌≡◌, ◌∙◌, ◌⊎◌, inl, inr, ℕ, zero, suc, ◌+◌, ◌<◌, ◌≤◌, Bool, true, false, cond, not, ◌&&◌, ◌||◌, ◌==◌}
-use Rattle.std.proofs.Common.{List, [], ◌∷◌, ◌++◌, length, map, filter, Option, Some, None, Ok, refl, sym, ap, subst, arith, slice_get}
-use Rattle.std.specs.Prelude.{ℤ, ◌+ℤ◌, bytes_eq, find, nat_abs, nat_lt, option_map, pos, unwrap_or}
+use Rattle.std.proofs.Common.{List, [], ◌∷◌, ◌++◌, length, map, filter, Some, None, Ok, refl, sym, ap, subst, arith, slice_get}
+use Rattle.std.specs.Prelude.{◌+ℤ◌, bytes_eq, find, nat_abs, nat_lt, option_map, pos, unwrap_or}
 use Rattle.std.specs.List.{AllByRecursion, IsDistinct, list_any, position_or_len}
 use Rattle.std.proofs.lemmas.Bool.{and_parts, eqb-true, le-ltb, ltb-true, ne_eqb, or_from, or_right}
 use Rattle.std.proofs.lemmas.Int.{ints}
@@ -14,14 +14,12 @@ use Rattle.span_tables.specs.Holdings.{ArePortfolio, fits}
 use Rattle.span_tables.specs.Names.{distinct, has_repeat}
 use Rattle.span_tables.specs.Net.{AccountHoldings, accounts_of, holdings_of, is_held, net_of, portfolios_of}
 use Rattle.span_tables.specs.Orders.{holdings_among, net_among}
-use Rattle.span_tables.specs.Tables.{AcceptedTables}
 use Rattle.span_tables.specs.declared.limits.TheConstants.{MAX_HELD, MAX_NET}
 use Rattle.span_tables.specs.declared.portfolios.Holding.{Holding}
 use Rattle.span_tables.specs.declared.records.Contract.{Contract}
 use Rattle.span_tables.specs.declared.records.PositionRecord.{PositionRecord}
 use Rattle.span_tables.proofs.MergedLaws.{held_of_all, net_of-append, same_numbered}
 use Rattle.span_tables.proofs.NameLemmas.{same_name}
-use Rattle.span_tables.proofs.SumLaws.{int_sum_by-if}
 use Rattle.binding.specs.Binding.{bind_fault, bindings_of, exceeds_held, exceeds_net, is_unknown}
 use Rattle.binding.specs.near.Holdings.{ids_of}
 use Rattle.binding.proofs.AcceptedLaws.{none_of_fit}
@@ -30,7 +28,7 @@ use Rattle.binding.proofs.HoldingLaws.{number_is}
 use Rattle.binding.proofs.OrderLaws.{among_within}
 use Rattle.binding.proofs.TriedLaws.{among_holds}
 use Rattle.statement_text.specs.Statement.{accepted_of, portfolios_under, statement_bound, statement_of, statement_text, statement_under}
-use Rattle.session.specs.Accounts.{account_records, contract_of, flat_records, held_record, position_records}
+use Rattle.session.specs.Accounts.{account_records, flat_records, held_record, position_records}
 use Rattle.session.specs.Answers.{State, opened}
 use Rattle.session.specs.Conversations.{Turn, state_behind}
 use Rattle.session.specs.near.Kept.{AreOnce}

@@ -1,12 +1,11 @@
 -- What a session keeps of its state: an opened state has it, and all requests keep it.
 use Rattle.std.proofs.Common.{◌≡◌, ◌∙◌, ℕ, ◌+◌, ◌≤◌, Bool, true, false, cond, not, ◌&&◌, ◌||◌, List, [], ◌∷◌, length, map, filter}
-use Rattle.std.proofs.Common.{Option, Some, None, Result, Ok, Err, get_or, refl, sym, ap, subst, arith}
-use Rattle.std.specs.Prelude.{ℤ, All, ◌+ℤ◌, bytes_eq, is_some, nat_le}
+use Rattle.std.proofs.Common.{Option, Some, None, Result, Ok, Err, refl, sym, ap, subst, arith}
+use Rattle.std.specs.Prelude.{ℤ, ◌+ℤ◌, bytes_eq, is_some, nat_le}
 use Rattle.std.specs.List.{AllByRecursion, IsDistinct, list_any}
 use Rattle.std.proofs.lemmas.Bool.{leb-false, or_parts, or_right}
 use Rattle.std.proofs.lemmas.List.{length-map}
-use Rattle.std.proofs.lemmas.List.Elements.{All-from_recursion, All-head, All-tail}
-use Rattle.std.proofs.lemmas.List.Folds.{list_any_at}
+use Rattle.std.proofs.lemmas.List.Elements.{All-from_recursion}
 use Rattle.span_csv.specs.PositionFaults.{positions_of}
 use Rattle.span_csv.specs.declared.faults.PositionFault.{PositionFault}
 use Rattle.span_tables.specs.Faults.{ok_unless}
@@ -24,7 +23,7 @@ use Rattle.span_tables.proofs.MergedLaws.{held_fit, held_of_all, net_among_all, 
 use Rattle.span_tables.proofs.NameLaws.{distinct_once, distinct_same}
 use Rattle.span_tables.proofs.NameLemmas.{same_name}
 use Rattle.binding.specs.Binding.{bind_fault, bindings_of}
-use Rattle.binding.specs.OrderBinding.{holdings_after, holdings_before, order_bind_fault, tried_order}
+use Rattle.binding.specs.OrderBinding.{holdings_before, order_bind_fault, tried_order}
 use Rattle.binding.specs.declared.faults.BindFault.{BindFault}
 use Rattle.binding.specs.declared.trades.Trade.{Trade}
 use Rattle.binding.proofs.AcceptedLaws.{fit_of_none}
@@ -34,7 +33,7 @@ use Rattle.binding.proofs.TriedLaws.{accepted_holds}
 use Rattle.statement_text.specs.Statement.{accepted_of, and_then, portfolios_under, same}
 use Rattle.statement_text.specs.declared.faults.SpanFault.{SpanFault}
 use Rattle.statement_text.specs.declared.faults.SpanFault.TheVariants as span
-use Rattle.session.specs.Accounts.{account_named, held_record, held_records, under_contracts, with_account}
+use Rattle.session.specs.Accounts.{account_named, held_records, under_contracts, with_account}
 use Rattle.session.specs.Answers.{State, has_no_place, opened, trade_records}
 use Rattle.session.specs.Conversations.{Turn, state_behind}
 use Rattle.session.specs.near.Kept.{AreOnce}
@@ -269,7 +268,7 @@ module _ (contracts : List Contract) (positions : List PositionRecord) (none : b
 -- each of some names is among them
 among_more : (x : List ℕ) (xs names : List (List ℕ)) → AllByRecursion (λ n. is_among xs n ≡ true) names
     → AllByRecursion (λ n. is_among (x ∷ xs) n ≡ true) names
-among_more x xs names all = 
+among_more x xs names all =
     weaker (λ n. is_among xs n ≡ true) (λ n. is_among (x ∷ xs) n ≡ true)
     (λ n e. or_right (bytes_eq n x) (is_among xs n) e) names all
 

@@ -1,8 +1,8 @@
 -- The lines of position records read as these records.
-use Rattle.std.proofs.Common.{◌≡◌, ◌∙◌, ◌⊎◌, inl, inr, ℕ, zero, suc, ◌+◌, ◌<◌, ◌≤◌, Bool, true, false, cond, ◌&&◌, ◌==◌}
-use Rattle.std.proofs.Common.{List, [], ◌∷◌, ◌++◌, flat_map, length, map, Option, Some, None, Ok, refl, sym, ap, subst, arith, slice_get}
+use Rattle.std.proofs.Common.{◌≡◌, ◌∙◌, ◌⊎◌, inl, inr, ℕ, zero, suc, ◌<◌, ◌≤◌, Bool, true, false, cond, ◌&&◌, ◌==◌}
+use Rattle.std.proofs.Common.{List, [], ◌∷◌, ◌++◌, flat_map, length, map, Some, None, Ok, refl, sym, ap, subst, arith, slice_get}
 use Rattle.std.proofs.Common.{append_assoc}
-use Rattle.std.specs.Prelude.{ℤ, All, bytes_eq, nat_abs, nat_le, nat_lt, negsuc, option_map, pos, unwrap_or}
+use Rattle.std.specs.Prelude.{ℤ, All, nat_abs, nat_le, nat_lt, negsuc, option_map, pos, unwrap_or}
 use Rattle.std.specs.Fmt.{signed_decimal}
 use Rattle.std.specs.List.{AllByRecursion, list_all}
 use Rattle.std.proofs.lemmas.Bool.{and_parts, le-leb, ltb-true}
@@ -11,7 +11,7 @@ use Rattle.std.proofs.lemmas.List.{append-nil, length-map}
 use Rattle.std.proofs.lemmas.List.Elements.{All-head, All-tail}
 use Rattle.csv.specs.Reading.{strip_bom}
 use Rattle.csv.specs.declared.parser.State.TheVariants as state
-use Rattle.span_csv.specs.PositionFaults.{exceeds_accounts, position_faults, positions_of, record_fault}
+use Rattle.span_csv.specs.PositionFaults.{position_faults, positions_of, record_fault}
 use Rattle.span_csv.specs.Records.{Fields, is_within, position_record, records_of}
 use Rattle.span_csv.specs.near.Pieces.{piece_of, records_together}
 use Rattle.span_csv.specs.near.Rows.{rows, rows_in}
@@ -20,8 +20,7 @@ use Rattle.span_csv.proofs.PieceLaws.{together_are}
 use Rattle.span_money.specs.LineFields.{line}
 use Rattle.span_money.specs.Numbers.{whole_number}
 use Rattle.span_money.proofs.TextLaws.{read_back}
-use Rattle.span_tables.specs.Faults.{first_of, ok_unless}
-use Rattle.span_tables.specs.Holdings.{ArePortfolio, fits}
+use Rattle.span_tables.specs.Holdings.{fits}
 use Rattle.span_tables.specs.Names.{is_name, is_name_byte}
 use Rattle.span_tables.specs.Net.{AccountHoldings, accounts_of}
 use Rattle.span_tables.specs.declared.limits.TheConstants.{MAX_ACCOUNTS, MAX_NET}
@@ -30,7 +29,7 @@ use Rattle.span_tables.specs.declared.records.Contract.{Contract}
 use Rattle.span_tables.specs.declared.records.PositionRecord.{PositionRecord}
 use Rattle.explanation.proofs.ReadLemmas.{IsAbove, signed_above}
 use Rattle.statement_text.specs.Statement.{accepted_of, statement_of, statement_text}
-use Rattle.session.specs.Accounts.{account_records, contract_of, flat_records, held_record, position_records}
+use Rattle.session.specs.Accounts.{account_records, flat_records, held_record, position_records}
 use Rattle.session.specs.Answers.{State, opened}
 use Rattle.session.specs.Conversations.{Turn, state_behind}
 use Rattle.session.specs.Positions.{position_line, position_lines}

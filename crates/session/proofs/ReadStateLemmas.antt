@@ -1,5 +1,5 @@
 -- What a read position file says: of names, and of no more accounts than there may be. And what accepted tables are of.
-use Rattle.std.proofs.Common.{◌≡◌, ◌∙◌, ℕ, ◌+◌, ◌≤◌, Bool, true, false, cond, not, ◌&&◌, ◌==◌, List, [], ◌∷◌, ◌++◌, length, map}
+use Rattle.std.proofs.Common.{◌≡◌, ◌∙◌, ℕ, ◌≤◌, Bool, true, false, cond, not, ◌&&◌, ◌==◌, List, [], ◌∷◌, ◌++◌, length, map}
 use Rattle.std.proofs.Common.{Option, Some, None, Result, Ok, Err, refl, sym, ap, subst, arith, append_assoc}
 use Rattle.std.specs.Prelude.{bytes_eq, filter_map, is_none}
 use Rattle.std.specs.List.{AllByRecursion, list_all}
@@ -7,11 +7,11 @@ use Rattle.std.proofs.lemmas.Bool.{and_parts, eq-eqb, true≢false}
 use Rattle.std.proofs.lemmas.List.{append-nil, length-append, map-append}
 use Rattle.span_csv.specs.ParamFaults.{params_of}
 use Rattle.span_csv.specs.PositionFaults.{counted, exceeds_accounts, form_faults, is_formed, position_faults, positions_of, record_fault}
-use Rattle.span_csv.specs.Records.{Fields, has_word_form, all_have, position_forms, position_record, records_of, text_at}
+use Rattle.span_csv.specs.Records.{Fields, position_record, records_of, text_at}
 use Rattle.span_csv.specs.declared.faults.ParamFault.{ParamFault}
 use Rattle.span_csv.specs.declared.faults.PositionFault.{PositionFault}
 use Rattle.span_csv.specs.declared.faults.PositionFault.TheVariants as position
-use Rattle.span_csv.proofs.CountedLaws.{all_count, fault_where_all_count, free_formed, free_where_all_count}
+use Rattle.span_csv.proofs.CountedLaws.{fault_where_all_count, free_formed, free_where_all_count}
 use Rattle.span_csv.proofs.ReadableLaws.{params_readable}
 use Rattle.span_tables.specs.Faults.{first_of, first_that_holds, ok_unless}
 use Rattle.span_tables.specs.Laws.{IsFaultFree}

@@ -1,5 +1,5 @@
 -- What a session keeps of its state, so that its accounts can be written as position records and read again.
-use Rattle.std.specs.Prelude.{◌≡◌, ◌≤◌, ℕ, List, bytes_eq, false, filter, length, map, true}
+use Rattle.std.specs.Prelude.{◌≡◌, ◌≤◌, List, bytes_eq, false, filter, length, map, true}
 use Rattle.std.specs.List.{AllByRecursion, enumerate_from}
 use Rattle.span_tables.specs.Holdings.{ArePortfolio}
 use Rattle.span_tables.specs.Names.{has_repeat, is_name}
