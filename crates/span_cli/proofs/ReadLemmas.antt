@@ -1,6 +1,6 @@
 -- Files that are read one behind another, and command lines for which none is read.
-use Rattle.std.proofs.Common.{◌≡◌, ◌⊎◌, ◌+◌, ◌<◌, ◌≤◌, ℕ, Bool, true, false, List, [], None, refl, sym, subst, inl, inr, length, get_or, map}
-use Rattle.std.proofs.Common.{drop, Bor}
+use Rattle.std.proofs.Common.{◌≡◌, ◌⊎◌, ◌+◌, ◌<◌, ◌≤◌, ℕ, Bool, true, false, List, [], None, refl, sym, subst, inl, inr, length, get_or}
+use Rattle.std.proofs.Common.{drop, map, Bor}
 use Rattle.std.proofs.lemmas.List.{at_drop_all, at_drop_more}
 use Rattle.std.specs.Prelude.{if◌then◌else◌}
 use Rattle.clap.specs.Words.{Text}

@@ -122,13 +122,14 @@ unread_of_names view file later whole files names i none r within same known h =
     (rw (at_drop_more (λ rest. all_read file (map (λ name. name.now) rest)) names i none within) at h)
 
 -- what is found under a name that has the same file
-pub found_same : (beside : Bool) (file later : List ℕ → Option File) (name : List ℕ) → later name ≡ file name
-    → found_under beside later name ≡ found_under beside file name
-found_same beside file later name same = ap (λ (o : Option File). if beside && is_stdin name then Some (Err read.Failed) else o) same
+pub found_same : (is_session : Bool) (file later : List ℕ → Option File) (name : List ℕ) → later name ≡ file name
+    → found_under is_session later name ≡ found_under is_session file name
+found_same is_session file later name same =
+    ap (λ (o : Option File). if is_session && is_stdin name then Some (Err read.Failed) else o) same
 
 -- ---- what comes of a request
 
--- what is answered to a command for its files, whatever is beside them
+-- what is answered to a command for its files, whatever else there is
 at_once : (outside : Outside) (command : Command) (files : List (List ℕ)) (answer : Answer) → answered command files answer
     → answered_amid outside command files answer
 at_once outside Check files answer h = h
@@ -151,7 +152,7 @@ session_fault : (params positions : List ℕ) (turns : List Turn) (e : SpanFault
 unfolding session_of
 session_fault params positions turns e is = rw is refl
 
--- a command is refused by its fault for its files, whatever is beside them, where no request was taken
+-- a command is refused by its fault for its files, whatever else there is, if no request was taken
 refuses_amid : (outside : Outside) (command : Command) (files : List (List ℕ)) (e : SpanFault) → outside.turns ≡ []
     → Refuses command files e → answered_amid outside command files (answer_of (Err e))
 refuses_amid outside Check files e none h = h
@@ -205,9 +206,9 @@ read_runs file asked files came h comes = of_files (found_by file asked) h where
   of_files None h = tt
   of_files (Some o) is = (files, is, comes)
 
--- ---- what is told of it
+-- ---- what is written
 
--- no turns are those of any command
+-- without turns no command has any
 no_turns : (command : Command) → turns_in command [] ≡ []
 no_turns Check = refl
 no_turns Plan = refl
@@ -218,7 +219,7 @@ no_turns (WhatIf workers) = refl
 no_turns Faults = refl
 no_turns (Session workers) = refl
 
--- those of a session are
+-- a session has all turns
 all_turns : (command : Command) (turns : List Turn) → takes_requests command ≡ true → turns_in command turns ≡ turns
 all_turns Check turns takes = cc
 all_turns Plan turns takes = cc
@@ -235,7 +236,7 @@ pub files_read : {S : Type 0} (reads : S → List ℕ → Bool → S → Type 0)
 files_read reads old new asked h =
     (new, h, subst (λ (turns : List Turn). ReadsAll reads new (reads_of turns) new) (sym (no_turns asked.0)) refl)
 
--- an answer that a request gives at once was told
+-- an answer that a request gives at once was written
 pub given_serves : (file : List ℕ → Option File) (input : Option (List ℕ)) (asked : Asked) (g : Given) (given : ℕ)
     (old_out new_out old_err new_err : Stream) → Runs file asked (Ok (outcome.Answer g))
     → Tells (given_answer g) given old_out new_out old_err new_err
