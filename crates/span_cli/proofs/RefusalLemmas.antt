@@ -16,7 +16,7 @@ module _ {A B C F : Type 0} (named : F → SpanFault) (e : SpanFault) where
   refused_too (Ok x) f g h is = h x is
   refused_too (Err y) f g h is = cc
 
--- what follows without a fault leaves that of the outcome
+-- what follows without a fault leaves the outcome's fault
 refused_first : {A B : Type 0} (o : Result A SpanFault) (f : A → B) (e : SpanFault) → and_then same o (λ x. Ok (f x)) ≡ Err e → o ≡ Err e
 refused_first (Ok x) f e is = cc
 refused_first (Err y) f e is = cc

@@ -23,16 +23,16 @@ around file input turns is_unwritten = record { file = file; input = input; turn
 abbrev pub files_alone : (List ℕ → Option File) → Outside
 files_alone file = around file None [] false
 
--- ---- files, while requests come from a stream
+-- ---- the stream of requests is no file
 
 -- What is found under a name. In a session the stream of requests is a file that cannot be read.
 abbrev pub found_under : Bool → (List ℕ → Option File) → List ℕ → Option File
-found_under beside file name = if beside && is_stdin name then Some (Err read.Failed) else file name
+found_under is_session file name = if is_session && is_stdin name then Some (Err read.Failed) else file name
 
--- how a source is read under a name; in a session the stream of requests is not read
+-- how a source is read under a name; in a session the stream of requests is not
 abbrev pub reads_under : {S : Type 0} → Bool → (S → List ℕ → Bool → S → Type 0) → S → List ℕ → Bool → S → Type 0
-reads_under beside reads old name could new =
-    MatchBool (beside && is_stdin name) ((could ≡ false) × (new ≡ old)) (reads old name could new)
+reads_under is_session reads old name could new =
+    MatchBool (is_session && is_stdin name) ((could ≡ false) × (new ≡ old)) (reads old name could new)
 
 -- ---- ends
 

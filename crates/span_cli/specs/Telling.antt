@@ -34,7 +34,7 @@ pub record TellsAnswer (outside : Outside) (asked : Asked) (given : ℕ) (old_ou
   pub is : IsAnswer outside asked answer
   pub told : Tells answer given old_out new_out old_err new_err
 
--- the answer to what is asked was told; or out of memory, and no request was taken
+-- the answer to what is asked was told, or out of memory, and then no request was taken
 abbrev pub Serves : Outside → Asked → ℕ → Stream → Stream → Stream → Stream → Type 0
 Serves outside asked given old_out new_out old_err new_err =
     TellsAnswer outside asked given old_out new_out old_err new_err

@@ -84,7 +84,7 @@ pub enum Request<'a> {
         params: &'a str,
         positions: Option<&'a str>,
     },
-    /// The answers to requests about the accounts of a position file under a parameter file. So many workers share all accounts.
+    /// The answers to requests about the accounts of a position file under a parameter file; so many workers share all accounts.
     Session {
         params: &'a str,
         positions: &'a str,
@@ -172,10 +172,10 @@ impl<'a> From<SpanFault> for Refusal<'a> {
 }
 
 // Whether a file is the stream of requests, from which a session reads.
-fn is_requests(beside: bool, name: &str) -> bool
-    ensures { result ≡ (beside && is_stdin name.now) }
+fn is_requests(is_session: bool, name: &str) -> bool
+    ensures { result ≡ (is_session && is_stdin name.now) }
 {
-    beside && name == STDIN
+    is_session && name == STDIN
 }
 
 // The file of a name. In a session the stream of requests is a file that cannot be read.
@@ -183,14 +183,14 @@ fn load<'a, S: Sources>(
     alloc: Global,
     sources: &mut S,
     name: &'a str,
-    beside: bool,
+    is_session: bool,
 ) -> Result<Vec<u8>, Refusal<'a>>
-    ensures known { IfSome (found_under beside (S.file sources.old) name.entry.now) (λ file.
+    ensures known { IfSome (found_under is_session (S.file sources.old) name.entry.now) (λ file.
         Loads (λ bytes. bytes.items) name.entry.now file result) }
     ensures same { (n : List ℕ) → S.file sources.new n ≡ S.file sources.old n }
-    ensures noted { reads_under beside S.reads sources.old name.entry.now (is_ok result) sources.new }
+    ensures noted { reads_under is_session S.reads sources.old name.entry.now (is_ok result) sources.new }
 {
-    if is_requests(beside, name) {
+    if is_requests(is_session, name) {
         return Err(Refusal::File(name));
     }
     match sources.read(alloc, name) {
@@ -205,18 +205,18 @@ fn load_all<'a, S: Sources>(
     alloc: Global,
     sources: &mut S,
     names: &[&'a str],
-    beside: bool,
+    is_session: bool,
 ) -> Result<ArrayVec<Vec<u8>, 3, Global>, Refusal<'a>>
     requires { length names.now ≤ 3 }
     ensures count { IfOk result (λ files. length files.items ≡ length names.now) }
-    ensures known { IfSome (all_read (found_under beside (S.file sources.old)) (map (λ name. name.now) names.now)) (λ found.
+    ensures known { IfSome (all_read (found_under is_session (S.file sources.old)) (map (λ name. name.now) names.now)) (λ found.
         LoadsAll (λ files. map (λ file. file.items) files.items) found result) }
-    ensures reads { ReadsInOrder (reads_under beside S.reads) sources.old (map (λ name. name.now) names.now) sources.new }
+    ensures reads { ReadsInOrder (reads_under is_session S.reads) sources.old (map (λ name. name.now) names.now) sources.new }
     ensures same { (n : List ℕ) → S.file sources.new n ≡ S.file sources.old n }
 {
     let mut files = ArrayVec::new_in(alloc);
     for name in names {
-        files.push(load(alloc, sources, name, beside)?);
+        files.push(load(alloc, sources, name, is_session)?);
     }
     Ok(files)
 }
@@ -433,9 +433,9 @@ fn converse<
 /// `file: output`; where a write of the line fails, the status stands. To `out` no write may have failed before. The workers of a
 /// statement pass the gate before each step.
 ///
-/// A session reads requests from `input` once its two files are accepted; nothing else reads it. The turns in the contract are its requests
-/// with what happened while they were answered. The bytes on `out` are the answers to them, to the end of the input. If a read of the input
-/// fails, the answers so far stay, the status is that of a file that failed, and the line is `file: input`.
+/// A session reads requests from `input`, once its two files are accepted; nothing else reads it. The turns in the contract are its
+/// requests with what happened while they were answered. The bytes on `out` are the answers to them, to the end of the input; or as far as
+/// a read of it fails, then with the status of a file that failed and the line `file: input`.
 pub fn serve<
     S: Sources,
     I: Read + Drop,

@@ -43,8 +43,7 @@ fn tell_end<E: Write>(
     }
 }
 
-/// Answers these requests, of which none was taken, and gives the status. Each answer was written and flushed before the next request is
-/// taken.
+/// Answers these requests from the first on, and gives the status. Each answer is written and flushed before the next request is taken.
 pub(crate) fn serve_session<
     I: Read + Drop,
     S: Sources,
