@@ -38,8 +38,8 @@ class Program:
     def __init__(self, path, timeout=TIMEOUT):
         self.path, self.timeout = path, timeout
 
-    def __call__(self, *words, **options):
-        return run([self.path, *words], timeout=self.timeout, stdin=subprocess.DEVNULL, **options)
+    def __call__(self, *words, stdin=subprocess.DEVNULL, **options):
+        return run([self.path, *words], timeout=self.timeout, stdin=stdin, **options)
 
     def answers(self, forms, counts, *words):
         """Checks that standard error has the pattern that `forms` has for the exit status, with no output if this is not 0, and that each

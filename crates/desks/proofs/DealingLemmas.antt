@@ -32,7 +32,7 @@ settled_cut_off reading unread intake failed lasts =
     rw lasts (ap whole_lines (taken_all reading unread intake (intake.still (inr failed))))
 
 module _ (reading : Reading) (unread : List ℕ) (intake : IsIntake reading unread) where
-  -- the requests of all bytes begin with those of the settled ones
+  -- the requests of all bytes begin with the requests of the settled ones
   settled_first : (all : List ℕ) → reading.given ≡ Some all → (ended : Bool) → reading.ended ≡ ended
       → (more : List (Option (List ℕ))) × (requests_in all ≡ requests_in (settled_of reading unread) ++ more)
   settled_first all given true is = (

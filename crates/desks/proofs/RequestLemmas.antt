@@ -76,7 +76,7 @@ alone_no_feed (x ∷ xs) alone =
       | inr other ↦ absurd (onto_some x (slice_split is_feed xs) (sym (slice_split-cons_no is_feed x xs other) ∙ alone))
     ]
 
--- a byte that is no line feed goes onto the first of the lines, of which there is one
+-- a byte that is no line feed goes onto the first of the lines, if there is one
 onto_line : (x : ℕ) (xs : List ℕ) → is_feed x ≡ false → list_any is_feed (x ∷ xs) ≡ true → IsCut xs → IsCut (x ∷ xs)
 onto_line x xs other some cut = of_lines cut.lines cut.alone cut.before where
   of_lines : (lines : List (List ℕ)) → slice_split is_feed xs ≡ lines ++ [] ∷ []

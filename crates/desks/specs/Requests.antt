@@ -16,8 +16,8 @@ request_of_text text = if length text == 0 then [] else if nat_lt MAX_LINE (leng
 abbrev pub request_of_line : List ℕ → List (Option (List ℕ))
 request_of_line line = request_of_text (strip_last 13 line)
 
--- The requests in the bytes of an input: those of its lines, in order. A line is the bytes up to a line feed, or to the end of the input,
--- where the last line may lack the line feed.
+-- The requests in the bytes of an input: the requests of its lines, in order. A line is the bytes up to a line feed, or to the end of the
+-- input, where the last line may lack the line feed.
 abbrev pub requests_in : List ℕ → List (Option (List ℕ))
 requests_in input = flat_map request_of_line (slice_split is_feed input)
 

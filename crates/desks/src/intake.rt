@@ -57,7 +57,7 @@ fn complete<R: Read>(
 }
 
 impl<R: Read + Drop> Requests<R> {
-    /// The requests of a reader, of which none was taken. All room that they need is made here.
+    /// The requests of a reader, before the first is taken. All room that they need is made here.
     pub fn new(alloc: Global, reader: R) -> Result<Requests<R>, AllocError>
         ensures given { IfOk result (λ r. r.reading.given ≡ R.remaining reader) }
         ensures fresh { IfOk result IsFresh }

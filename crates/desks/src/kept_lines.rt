@@ -8,7 +8,7 @@ use crate::desk::MAX_LINE;
 use std::alloc::{AllocError, Global};
 use std::marker::Model;
 
-// How many bytes of a line are kept: those of a request, and a carriage return.
+// How many bytes of a line are kept: as many as a request may have, and a carriage return.
 const KEPT: usize = MAX_LINE + 1;
 
 // What a line is: no request, a request that is kept, or one that is too long.
@@ -67,7 +67,7 @@ impl KeptLine {
         self.more = false;
     }
 
-    // Goes on with these bytes, of which it keeps what it has room for.
+    // Goes on with these bytes, and keeps as many as it has room for.
     pub(crate) fn add(&mut self, bytes: &[u8])
         ensures { self.new ≡ added self.old bytes.now }
     {

@@ -56,7 +56,7 @@ impl<'a, R: Read, W: Write> StreamDesk<'a, R, W> {
     ghost use Rattle.desks.specs.near.Desks.{IsDealt};
     ghost use Rattle.desks.specs.near.Dealing.{dealings};
 
-    /// The desk of these requests, of which none was taken, and of this output.
+    /// The desk of these requests, before the first is taken, and of this output.
     pub fn new(requests: Requests<R>, output: &'a mut MarkedWriter<W>) -> StreamDesk<'a, R, W>
         requires { IsFresh requests }
         ensures name { result.output.ghost_name ≡ output.entry.ghost_name }

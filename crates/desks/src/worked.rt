@@ -2,7 +2,7 @@
 ghost use Rattle.desks.specs.Requests.{requests_in, whole_lines};
 ghost use Rattle.std.specs.Prelude.{◌≡◌, ◌++◌, [], ◌∷◌, None, Some, codes, replicate};
 
-// Lines, of which those that have no bytes are no requests, and the last of which may lack its line feed.
+// Lines. One that has no bytes is no request, and the last one may lack its line feed.
 fn lines()
     ensures one { requests_in (codes "MARGIN\n") ≡ Some (codes "MARGIN") ∷ [] }
     ensures empty { requests_in (codes "\n\nA\n\nB\n\n") ≡ Some (codes "A") ∷ Some (codes "B") ∷ [] }

@@ -11,7 +11,7 @@ use Rattle.std.proofs.Common.{length-drop}
 use Rattle.std.proofs.lemmas.List.Elements.{All-head, All-map, All-tail}
 use Rattle.span_money.specs.Numbers.{int_sum_by}
 use Rattle.span_tables.specs.Faults.{ok_unless}
-use Rattle.span_tables.specs.Names.{distinct, has_repeat, is_among}
+use Rattle.span_tables.specs.Names.{distinct, has_repeat, is_among, is_name}
 use Rattle.span_tables.specs.Net.{AccountHoldings, holdings_of, is_held, net_of, portfolios_of}
 use Rattle.span_tables.specs.Orders.{account_of_order, as_position, orders_in, positions_of_order}
 use Rattle.span_tables.specs.Tables.{AcceptedTables}
@@ -55,6 +55,7 @@ use Rattle.session.specs.declared.requests.Word.{Word}
 use Rattle.session.specs.declared.requests.Word.TheVariants as word
 use Rattle.session.specs.Refusals.{Refused}
 use Rattle.session.specs.Refusals as refused
+use Rattle.session.proofs.FormLemmas.{first_named}
 use Rattle.session.proofs.TriedLemmas.{account_is, one_order}
 
 -- ---- accounts behind others
@@ -220,32 +221,33 @@ orders_are contracts accounts records none =
     } in all)) none
 
 -- what an answer to a FILL says that is none of a refusal
-record IsFilled (s : State) (account : List ℕ) (trades : List Trade) (a : Answered) : Type 0 where
-  none : order_bind_fault s.tables.contracts s.accounts (trade_records account account trades) ≡ None
-  state : a.state ≡ record {
+pub record IsFilled (s : State) (account : List ℕ) (trades : List Trade) (a : Answered) : Type 0 where
+  pub place : has_no_place s account ≡ false
+  pub none : order_bind_fault s.tables.contracts s.accounts (trade_records account account trades) ≡ None
+  pub state : a.state ≡ record {
     tables = s.tables;
     accounts = with_account s.accounts
         (tried_order s.tables.contracts s.accounts (trade_records account account trades) account).after;
   }
 
-filled_is : (s : State) (account : List ℕ) (trades : List Trade) (a : Answered) → fill_answer s account trades ≡ Ok a
+pub filled_is : (s : State) (account : List ℕ) (trades : List Trade) (a : Answered) → fill_answer s account trades ≡ Ok a
     → IsFilled s account trades a
 filled_is s account trades a e =
-    by (has_no_place s account) (order_bind_fault s.tables.contracts s.accounts (trade_records account account trades)) refl e
+    by (has_no_place s account) (order_bind_fault s.tables.contracts s.accounts (trade_records account account trades)) refl refl e
   where
     this : TriedOrder
     this = tried_order s.tables.contracts s.accounts (trade_records account account trades) account
 
-    by : (b : Bool) (o : Option OrderBindFault)
+    by : (b : Bool) (o : Option OrderBindFault) → has_no_place s account ≡ b
         → order_bind_fault s.tables.contracts s.accounts (trade_records account account trades) ≡ o
         → (if b then Err refused.TooManyAccounts else if_fit 1 (filled_answer s) (ok_unless o
         (tried_order s.tables.contracts s.accounts (trade_records account account trades) account))) ≡ Ok a
         → IsFilled s account trades a
-    by true o is e = cc
-    by false (Some f) is e = cc
-    by false None is e =
+    by true o full is e = cc
+    by false (Some f) place is e = cc
+    by false None place is e =
         let same : filled_answer s (tried_order s.tables.contracts s.accounts (trade_records account account trades) account) ≡ a = cc in
-        record { none = is; state = ap (λ (x : Answered). x.state) (sym same) }
+        record { place = place; none = is; state = ap (λ (x : Answered). x.state) (sym same) }
 
 module _ (params : List ℕ) (t : AcceptedTables) (accepted : accepted_of params ≡ Ok t) (positions : List PositionRecord)
     (accounts : List AccountHoldings) (bound : portfolios_under t positions
@@ -301,10 +303,16 @@ trades_some [] some = absurd (omega (arith, some))
 trades_some (c ∷ []) some = absurd (omega (arith, some))
 trades_some (c ∷ q ∷ rest) some = omega arith
 
--- what is asked for is no FILL without trades
-HasTrades : Asked → Type 0
-HasTrades (asked.Fill account trades) = 0 < length trades
+-- if what is asked for is a FILL, its account is a name, and it has trades
+unfoldable pub HasTrades : Asked → Type 0
+HasTrades (asked.Fill account trades) = (is_name account ≡ true) × (0 < length trades)
 HasTrades _ = ⊤
+
+-- fields with trades behind two of them are more than one
+drop_some : (fields : List (List ℕ)) → 0 < length (trades_of (drop 2 fields)) → 1 < length fields
+drop_some [] some = absurd (omega (arith, some))
+drop_some (x ∷ []) some = absurd (omega (arith, some))
+drop_some (x ∷ y ∷ rest) some = omega arith
 
 fill_some : (fields : List (List ℕ)) → has_trades 1 (length fields) ≡ true → 0 < length (trades_of (drop 2 fields))
 fill_some fields has =
@@ -315,23 +323,31 @@ fill_some fields has =
     let size = length-drop 2 fields in
     trades_some (drop 2 fields) (omega (arith, most, even, size))
 
-unless_has : (o : Option RequestFault) (what found : Asked) → HasTrades what → unless o what ≡ Ok found → HasTrades found
+-- the account of a FILL without a fault is a name
+fill_named : (fields : List (List ℕ)) → form_fault word.Fill fields ≡ None → 1 < length fields → is_name (text_at fields 1) ≡ true
+fill_named [] free some = absurd (omega (arith, some))
+fill_named (w ∷ []) free some = absurd (omega (arith, some))
+fill_named (w ∷ account ∷ rest) free some = first_named word.Fill w account rest free refl
+
+unless_has : (o : Option RequestFault) (what found : Asked) → (o ≡ None → HasTrades what) → unless o what ≡ Ok found → HasTrades found
 unfolding HasTrades
-unless_has None what found has e = subst HasTrades (let same : what ≡ found = cc in same) has
+unless_has None what found has e = subst HasTrades (let same : what ≡ found = cc in same) (has refl)
 unless_has (Some f) what found has e = cc
 
-asked_has : (w : Word) (fields : List (List ℕ)) → may_have w (length fields) ≡ true → HasTrades (asked_for w fields)
+asked_has : (w : Word) (fields : List (List ℕ)) → may_have w (length fields) ≡ true → form_fault w fields ≡ None
+    → HasTrades (asked_for w fields)
 unfolding HasTrades
-asked_has word.Margin fields may = by (length fields == 1)
+asked_has word.Margin fields may free = by (length fields == 1)
   where
     by : (b : Bool) → HasTrades (if b then asked.Margin else asked.MarginOf (text_at fields 1))
     by true = tt
     by false = tt
-asked_has word.Explain fields may = tt
-asked_has word.Try fields may = tt
-asked_has word.Fill fields may = fill_some fields may
-asked_has word.Set fields may = tt
-asked_has word.Positions fields may = tt
+asked_has word.Explain fields may free = tt
+asked_has word.Try fields may free = tt
+asked_has word.Fill fields may free =
+    let some = fill_some fields may in (fill_named fields free (drop_some fields some), some)
+asked_has word.Set fields may free = tt
+asked_has word.Positions fields may free = tt
 
 by_has : (w : Word) (fields : List (List ℕ)) (found : Asked) → request_by w fields ≡ Ok found → HasTrades found
 by_has w fields found e = by (may_have w (length fields)) refl e
@@ -369,11 +385,24 @@ line_has line found e = by (nat_lt MAX_LINE (length line)) e
     by true e = cc
     by false e = with_has (word_named (text_at (fields_of line) 0)) line found e
 
-request_has : (request : Option (List ℕ)) (found : Asked) → request_on request ≡ Ok found → HasTrades found
+pub request_has : (request : Option (List ℕ)) (found : Asked) → request_on request ≡ Ok found → HasTrades found
 request_has None found e = cc
 request_has (Some line) found e = line_has line found e
 
 -- ---- all requests
+
+-- requests that change nothing
+pub lines_stay : (s : State) (text : AcceptedTables → AccountHoldings → List ℕ) (o : Option AccountHoldings) (a : Answered)
+    → lines_of s text o ≡ Ok a → a.state ≡ s
+lines_stay s text None a e = cc
+lines_stay s text (Some p) a e = cc
+
+pub try_stays : (s : State) (r : Result TriedOrder OrderBindFault) (a : Answered) → if_fit 2 (tried_answer s) r ≡ Ok a → a.state ≡ s
+try_stays s (Ok o) a e = cc
+try_stays s (Err f) a e = cc
+
+pub unchanged_stays : (s : State) (lines : List ℕ) (a : Answered) → unchanged s lines ≡ Ok a → a.state ≡ s
+unchanged_stays s lines a e = cc
 
 module _ (params : List ℕ) (t : AcceptedTables) (accepted : accepted_of params ≡ Ok t) where
   -- the state has the accounts of positions
@@ -386,18 +415,6 @@ module _ (params : List ℕ) (t : AcceptedTables) (accepted : accepted_of params
   stays_as : (positions : List PositionRecord) (s : State) (a : Answered) → IsOf positions s → a.state ≡ s
       → IsOf (positions ++ []) a.state
   stays_as positions s a is same = subst (IsOf (positions ++ [])) (sym same) (stays positions s is)
-
-  lines_stay : (s : State) (text : AcceptedTables → AccountHoldings → List ℕ) (o : Option AccountHoldings) (a : Answered)
-      → lines_of s text o ≡ Ok a → a.state ≡ s
-  lines_stay s text None a e = cc
-  lines_stay s text (Some p) a e = cc
-
-  try_stays : (s : State) (r : Result TriedOrder OrderBindFault) (a : Answered) → if_fit 2 (tried_answer s) r ≡ Ok a → a.state ≡ s
-  try_stays s (Ok o) a e = cc
-  try_stays s (Err f) a e = cc
-
-  unchanged_stays : (s : State) (lines : List ℕ) (a : Answered) → unchanged s lines ≡ Ok a → a.state ≡ s
-  unchanged_stays s lines a e = cc
 
   fill_behind : (positions : List PositionRecord) (s : State) (account : List ℕ) (trades : List Trade) → 0 < length trades
       → IsOf positions s → (a : Answered) → fill_answer s account trades ≡ Ok a → IsOf (positions ++ booked_records account trades) a.state
@@ -419,7 +436,7 @@ module _ (params : List ℕ) (t : AcceptedTables) (accepted : accepted_of params
       stays_as positions s a is (lines_stay s account_text (account_named s.accounts name) a e)
   asked_behind positions s file (asked.Try order name trades) has kept is a e =
       stays_as positions s a is (try_stays s (tried s order name trades) a e)
-  asked_behind positions s file (asked.Fill name trades) has kept is a e = fill_behind positions s name trades has is a e
+  asked_behind positions s file (asked.Fill name trades) has kept is a e = fill_behind positions s name trades has.1 is a e
   asked_behind positions s file (asked.Set name) has kept is a e = cc
   asked_behind positions s file asked.Positions has kept is a e =
       stays_as positions s a is (unchanged_stays s (position_lines (position_records s.tables.contracts s.accounts)) a e)

@@ -116,6 +116,14 @@ trades_behind_names w fields free =
     (none_behind (is_bad_name w) (names_of w) fields names)
     (none_behind (is_out_of_range w) (names_of w) fields ranges)
 
+-- the first field behind the word of a request without a fault is a name, if it is no quantity
+pub first_named : (w : Word) (first account : List ℕ) (rest : List (List ℕ)) → form_fault w (first ∷ account ∷ rest) ≡ None
+    → is_quantity_field (names_of w) 2 ≡ false → is_name account ≡ true
+first_named w first account rest free number =
+    let names = no_first (field_where (is_bad_name w) (first ∷ account ∷ rest)) fault.BadName _ free in
+    let good = (first_fails (is_bad_name w) 2 account rest (none_found (λ f. f.0) _ names)).0 in
+    not-true (is_name account) (rw number at good)
+
 -- a word that is not SET has its request by its fields
 pub by_fields : (w : Word) (line : List ℕ) → w ≢ word.Set → request_with (Some w) line ≡ request_by w (fields_of line)
 by_fields word.Margin line other = refl

@@ -1,5 +1,6 @@
 mod AnswerLemmas
 mod BookLemmas
+mod BoundAgainLemmas
 mod CarriedLemmas
 mod CarryLemmas
 mod ConversationLaws
@@ -7,8 +8,12 @@ mod CutLemmas
 mod FieldLemmas
 mod FillLemmas
 mod FormLemmas
+mod KeepLemmas
+mod KeptStateLemmas
 mod LossLemmas
 mod OrderLemmas
+mod ReadAgainLemmas
+mod ReadStateLemmas
 mod SessionLemmas
 mod TradeLemmas
 pub mod AccountLemmas

@@ -143,7 +143,7 @@ set_answer s name file = if is_stdin name then Err (refused.File name) else unde
 
 -- ---- all requests
 
--- The answer to a request in a state, or why it is refused. The file is what that of a SET gave, if it was asked for.
+-- The answer to a request in a state, or why it is refused. The file is what the file of a SET gave, if it was asked for.
 unfoldable pub answer_to : State → Option File → Asked → Result Answered Refused
 answer_to s file asked.Margin = unchanged s (statement_text s.tables s.accounts)
 answer_to s file (asked.MarginOf account) = lines_of s row_text (account_named s.accounts account)

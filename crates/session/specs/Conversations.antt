@@ -88,7 +88,7 @@ reads_of turns = map (λ f. (f.0, is_ok f.1)) (files_of turns)
 abbrev pub IsFromSource : (List ℕ → Option File) → List ℕ × File → Type 0
 IsFromSource known asked = IfSome (known asked.0) (λ file. ReadGives (λ bytes. bytes) file asked.1)
 
--- The files that were asked for in some turns were those of a source, as far as these are known, and no others were read. `known` says what
+-- The files that were asked for in some turns gave what a source has, as far as that is known, and no others were read. `known` says what
 -- the source has under a name, and `reads` that a file was asked for, as in `ReadsAll`.
 pub record AreFromSource {S : Type 0} (known : List ℕ → Option File) (reads : S → List ℕ → Bool → S → Type 0) (before : S)
     (turns : List Turn) (after : S) : Type 0 where

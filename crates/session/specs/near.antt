@@ -4,5 +4,6 @@ pub mod Carried
 pub mod FieldTests
 pub mod InUse
 pub mod Kept
+pub mod KeptStates
 pub mod OnLiterals
 pub mod Samples

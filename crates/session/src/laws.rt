@@ -2,16 +2,18 @@
 ghost use Rattle.binding.specs.OrderBinding.{TriedOrder};
 ghost use Rattle.binding.specs.declared.faults.OrderBindFault.{OrderBindFault};
 ghost use Rattle.binding.specs.declared.trades.Trade.{Trade};
+ghost use Rattle.session.specs.Accounts.{position_records};
 ghost use Rattle.session.specs.Answers.{State, fill_answer, filled_answer, has_no_place, opened, tried, unfit};
 ghost use Rattle.session.specs.Conversations.{Turn, answer_of, answers_from, booked_in, is_set, numbered_from, outcomes, request_on};
 ghost use Rattle.session.specs.Conversations.{state_after, state_behind};
+ghost use Rattle.session.specs.Positions.{position_lines};
 ghost use Rattle.session.specs.Refusals.{Refused};
 ghost use Rattle.span_csv.specs.PositionFaults.{positions_of};
 ghost use Rattle.span_tables.specs.Net.{AccountHoldings};
 ghost use Rattle.span_tables.specs.Tables.{AcceptedTables};
 ghost use Rattle.span_tables.specs.declared.records.PositionRecord.{PositionRecord};
 ghost use Rattle.statement_text.specs.Statement.{accepted_of, portfolios_under, statement_of, statement_text};
-ghost use Rattle.std.specs.Prelude.{◌≡◌, ◌+◌, ◌<◌, ◌++◌, ◌∷◌, All, Err, List, Ok, false, length, ℕ};
+ghost use Rattle.std.specs.Prelude.{◌≡◌, ◌⊎◌, ◌+◌, ◌<◌, ◌++◌, [], ◌∷◌, All, Err, List, Ok, false, length, ℕ};
 
 /// The answers to requests are the first answers to these requests and any that follow.
 pub fn answers_are_the_first_of_more()
@@ -60,4 +62,20 @@ pub fn fills_are_records_behind_the_positions()
         → opened params positions ≡ Ok s → positions_of positions ≡ Ok records
         → All (λ turn. is_set (request_on turn.request) ≡ false) turns → positions_of more ≡ Ok (records ++ booked_in s turns)
         → statement_of params more ≡ Ok (statement_text (state_behind s turns).tables (state_behind s turns).accounts) }
+{}
+
+/// A session can be closed and opened again from the parameter file of its set and what POSITIONS answers, if the set has a contract or
+/// there is no account: MARGIN answers what `margin` prints for these two as files, and for any position file that has the same records.
+pub fn a_session_can_be_opened_again()
+    ensures records { (params positions current file : List ℕ) (s : State) (turns : List Turn) → opened params positions ≡ Ok s
+        → accepted_of current ≡ Ok (state_behind s turns).tables
+        → (0 < length (state_behind s turns).tables.contracts) ⊎ ((state_behind s turns).accounts ≡ [])
+        → positions_of file ≡ Ok (position_records (state_behind s turns).tables.contracts (state_behind s turns).accounts)
+        → statement_of current file ≡ Ok (statement_text (state_behind s turns).tables (state_behind s turns).accounts) }
+    ensures answers { (params positions current : List ℕ) (s : State) (turns : List Turn) → opened params positions ≡ Ok s
+        → accepted_of current ≡ Ok (state_behind s turns).tables
+        → (0 < length (state_behind s turns).tables.contracts) ⊎ ((state_behind s turns).accounts ≡ [])
+        → statement_of current
+        (position_lines (position_records (state_behind s turns).tables.contracts (state_behind s turns).accounts))
+        ≡ Ok (statement_text (state_behind s turns).tables (state_behind s turns).accounts) }
 {}

@@ -17,7 +17,7 @@ abbrev pub added : Kept → List ℕ → Kept
 added kept bytes =
     record { bytes = take KEPT (kept.bytes ++ bytes); more = kept.more || nat_lt KEPT (length kept.bytes + length bytes) }
 
--- the request of a line of which this is kept, if it is one
+-- the request of a line by what is kept of it, if it is a request
 abbrev pub request_kept : Kept → List (Option (List ℕ))
 request_kept kept = if kept.more then None ∷ [] else request_of_line kept.bytes
 

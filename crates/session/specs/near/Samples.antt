@@ -20,7 +20,7 @@ asking_in_vain text = record { request = Some text; file = None; is_out_of_memor
 abbrev pub too_long : Turn
 too_long = record { request = None; file = None; is_out_of_memory = false }
 
--- a set with two futures, of which X holds one and Y is short the other
+-- a set with two futures: X holds one, and Y is short the other
 abbrev pub two_futures : List ℕ
 two_futures = one_future ++ fa2
 
