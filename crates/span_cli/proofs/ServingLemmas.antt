@@ -1,4 +1,4 @@
--- What is told of an answer.
+-- What goes out of an answer.
 use Rattle.std.proofs.Common.{◌≡◌, ◌⊎◌, ◌++◌, ℕ, List, [], ◌∷◌, false, true, is_some, Option, Some, None, Result, Ok, Err}
 use Rattle.std.proofs.Common.{◌+◌, ◌<◌, ◌&&◌, Bool, refl, sym, subst, ap, append_assoc, inl, inr, length, get_or, map, drop, Bor}
 use Rattle.std.proofs.lemmas.List.{append-nil, at_drop_more}
@@ -40,7 +40,7 @@ pub Appends-none : (o : Option (List ℕ)) → Appends o o []
 Appends-none None = tt
 Appends-none (Some xs) = sym (append-nil xs)
 
--- a refusal was told
+-- a refusal went out
 pub refused_tells : (status : ℕ) (line : List ℕ) (given : ℕ) (out old_err new_err : Stream)
     → out.failed ≡ false → given ≡ status → Says old_err new_err line
     → Tells (refused status line) given out out old_err new_err
@@ -206,9 +206,9 @@ read_runs file asked files came h comes = of_files (found_by file asked) h where
   of_files None h = tt
   of_files (Some o) is = (files, is, comes)
 
--- ---- what is written
+-- ---- what goes out of it
 
--- without turns no command has any
+-- no turns are those of any command
 no_turns : (command : Command) → turns_in command [] ≡ []
 no_turns Check = refl
 no_turns Plan = refl
@@ -219,7 +219,7 @@ no_turns (WhatIf workers) = refl
 no_turns Faults = refl
 no_turns (Session workers) = refl
 
--- a session has all turns
+-- those of a session are
 all_turns : (command : Command) (turns : List Turn) → takes_requests command ≡ true → turns_in command turns ≡ turns
 all_turns Check turns takes = cc
 all_turns Plan turns takes = cc
@@ -236,7 +236,7 @@ pub files_read : {S : Type 0} (reads : S → List ℕ → Bool → S → Type 0)
 files_read reads old new asked h =
     (new, h, subst (λ (turns : List Turn). ReadsAll reads new (reads_of turns) new) (sym (no_turns asked.0)) refl)
 
--- an answer that a request gives at once was written
+-- an answer that a request gives at once went out
 pub given_serves : (file : List ℕ → Option File) (input : Option (List ℕ)) (asked : Asked) (g : Given) (given : ℕ)
     (old_out new_out old_err new_err : Stream) → Runs file asked (Ok (outcome.Answer g))
     → Tells (given_answer g) given old_out new_out old_err new_err
@@ -366,7 +366,7 @@ pub words_answered : (kinds : Kinds) (answered : Type 0) (given : ℕ) (old_out 
 words_answered [] answered given old_out new_out old_err new_err none holds = holds
 words_answered (k ∷ ks) answered given old_out new_out old_err new_err none holds = cc
 
--- words that may be refused, where what is told is out of memory or the kind's
+-- words that may be refused: what goes out is that memory ran out, or the answer of their kind
 pub words_refused : (kinds : Kinds) (answered : Type 0) (e : Error) (given : ℕ) (old_out new_out old_err new_err : Stream)
     → HasKind kinds e → telling.RefusesWords (kind_of e) given old_out new_out old_err new_err
     → (kinds ≡ [] → Tells memory given old_out new_out old_err new_err → answered)

@@ -101,8 +101,8 @@ pub record IsOfRoll (workers : ℕ) (params next positions : List ℕ) (answer :
   pub gives : GivesRoll (λ text. text) workers params next positions given
   pub is : answer ≡ answer_of given
 
--- The answer is the command's for these bytes of its files. With any other number of files there is none. A session has none here, since
--- its answer depends on its requests too.
+-- The answer is the command's for these bytes of its files. With any other number of files there is none, nor is there one of a session,
+-- which answers for more than the bytes of its files.
 abbrev pub answered : Command → List (List ℕ) → Answer → Type 0
 answered Check (params ∷ []) answer = answer ≡ answer_of (counts_of params)
 answered Plan (params ∷ []) answer = answer ≡ answer_of (listing_of params)
@@ -122,12 +122,12 @@ ended_answer CutOff texts =
     record { status = FILE_FAILED; out = flat_map (λ text. text) texts; err = file_line (codes "input") }
 ended_answer Unwritten texts = done (flat_map (λ text. text) texts)
 
--- The answer is a session's that has these texts, or that is refused for its files. A session that is refused takes no request.
+-- The answer is of a session that has these texts, or is refused for its files. One that is refused takes no request.
 abbrev pub IsOfSession : Outside → Result (List (List ℕ)) SpanFault → Answer → Type 0
 IsOfSession outside (Ok texts) answer = (ending : Ending) × IsConversation outside ending × (answer ≡ ended_answer ending texts)
 IsOfSession outside (Err e) answer = (outside.turns ≡ []) × (answer ≡ answer_of (Err e))
 
--- the answer is the command's for these bytes of its files and for what else it finds
+-- the answer is the command's for these bytes of its files and what else it finds
 abbrev pub answered_amid : Outside → Command → List (List ℕ) → Answer → Type 0
 answered_amid outside (Session workers) (params ∷ positions ∷ []) answer =
     IsOfSession outside (session_of params positions outside.turns) answer
@@ -155,8 +155,8 @@ all_read file (name ∷ names) = read_before name (file name) (all_read file nam
 abbrev pub found_by : (List ℕ → Option File) → Asked → Found
 found_by file asked = all_read (found_under (takes_requests asked.0) file) asked.1
 
--- The answer is the command's where this became of its files; where that is unknown it may be any. If one of them is not read, no request
--- is taken.
+-- The answer is the command's if this became of its files; if that is unknown it may be any. If one of them is not read, no request is
+-- taken.
 abbrev pub IsAnswered : Outside → Command → Found → Answer → Type 0
 IsAnswered outside command None answer = ⊤
 IsAnswered outside command (Some (Err refusal)) answer = (outside.turns ≡ []) × (answer ≡ refusal)

@@ -23,13 +23,13 @@ around file input turns is_unwritten = record { file = file; input = input; turn
 abbrev pub files_alone : (List ℕ → Option File) → Outside
 files_alone file = around file None [] false
 
--- ---- the stream of requests is no file
+-- ---- files, while requests come from a stream
 
 -- What is found under a name. In a session the stream of requests is a file that cannot be read.
 abbrev pub found_under : Bool → (List ℕ → Option File) → List ℕ → Option File
 found_under is_session file name = if is_session && is_stdin name then Some (Err read.Failed) else file name
 
--- how a source is read under a name; in a session the stream of requests is not
+-- how a source is read under a name; in a session the stream of requests is not read
 abbrev pub reads_under : {S : Type 0} → Bool → (S → List ℕ → Bool → S → Type 0) → S → List ℕ → Bool → S → Type 0
 reads_under is_session reads old name could new =
     MatchBool (is_session && is_stdin name) ((could ≡ false) × (new ≡ old)) (reads old name could new)

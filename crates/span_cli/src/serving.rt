@@ -84,7 +84,7 @@ pub enum Request<'a> {
         params: &'a str,
         positions: Option<&'a str>,
     },
-    /// The answers to requests about the accounts of a position file under a parameter file; so many workers share all accounts.
+    /// The answers to requests about the accounts of a position file under a parameter file. So many workers share all accounts.
     Session {
         params: &'a str,
         positions: &'a str,
@@ -433,9 +433,9 @@ fn converse<
 /// `file: output`; where a write of the line fails, the status stands. To `out` no write may have failed before. The workers of a
 /// statement pass the gate before each step.
 ///
-/// A session reads requests from `input`, once its two files are accepted; nothing else reads it. The turns in the contract are its
-/// requests with what happened while they were answered. The bytes on `out` are the answers to them, to the end of the input; or as far as
-/// a read of it fails, then with the status of a file that failed and the line `file: input`.
+/// A session reads requests from `input` once its two files are accepted; nothing else reads it. The turns in the contract are its requests
+/// with what happened while they were answered. The bytes on `out` are the answers to them, to the end of the input. If a read of the input
+/// fails, the answers so far stay, the status is that of a file that failed, and the line is `file: input`.
 pub fn serve<
     S: Sources,
     I: Read + Drop,

@@ -235,8 +235,8 @@ fn files_that_are_read()
         (refused 4 (codes "positions: B1 UnknownContract at record 1 account X\n")) }
     ensures no_orders { IsAnswer (files_alone (λ name. if bytes_eq name (codes "p") then Some (Ok (codes "SET,D1,1,USD\n"))
         else Some (Ok []))) (WhatIf 1, codes "p" ∷ codes "q" ∷ codes "o" ∷ []) (done []) }
-    ensures unknown_contract_of_an_order { IsAnswer (files_alone (λ name.
-        if bytes_eq name (codes "p") then Some (Ok (codes "SET,D1,1,USD\n"))
+    ensures unknown_contract_of_an_order { IsAnswer
+        (files_alone (λ name. if bytes_eq name (codes "p") then Some (Ok (codes "SET,D1,1,USD\n"))
         else if bytes_eq name (codes "q") then Some (Ok []) else Some (Ok (codes "BUY,X,FA,1\n"))))
         (WhatIf 1, codes "p" ∷ codes "q" ∷ codes "o" ∷ [])
         (refused 4 (codes "orders: B1 UnknownContract at record 1 order BUY\n")) }
@@ -244,8 +244,8 @@ fn files_that_are_read()
 
 // Files without a fault, the one fault of an empty parameter file, and faults of both files, which have the status of the first.
 fn files_whose_faults_are_told()
-    ensures no_fault { IsAnswer (files_alone (λ name.
-        if bytes_eq name (codes "p") then Some (Ok (codes "SET,D1,1,USD\n")) else Some (Ok [])))
+    ensures no_fault { IsAnswer
+        (files_alone (λ name. if bytes_eq name (codes "p") then Some (Ok (codes "SET,D1,1,USD\n")) else Some (Ok [])))
         (Faults, codes "p" ∷ codes "q" ∷ []) (done []) }
     ensures no_set { IsAnswer (files_alone (λ _. Some (Ok []))) (Faults, codes "p" ∷ [])
         (record { status = 3; out = codes "parameters: P1 NoSet at record 0\n"; err = [] }) }
@@ -265,8 +265,8 @@ fn files_whose_faults_are_told()
         (Faults, codes "p" ∷ codes "q" ∷ []) (refused 6 (codes "file: q\n")) }
 {}
 
-// A session that is refused before its first request: for its parameters, for a file that is not there, and for the stream of requests
-// in the place of a file.
+// A session that is refused before its first request: for its parameters, for a file that is not there, and for the stream of requests in
+// the place of a file.
 fn refused_sessions()
     ensures no_set { IsAnswer (files_alone (λ _. Some (Ok []))) (Session 1, codes "p" ∷ codes "q" ∷ [])
         (refused 3 (codes "parameters: P1 NoSet at record 0\n")) }

@@ -1,4 +1,4 @@
--- How a session ends, and what it writes, by what the code has in hand.
+-- How a session ends, and what goes out of it, by what the code has in hand.
 use Rattle.std.specs.Prelude.{ℕ, Bool, true, false, List, ◌∷◌, Option, Result, Ok, Err}
 use Rattle.desks.specs.declared.desk.DeskFault.{DeskFault}
 use Rattle.session.specs.Answers.{State}
@@ -19,7 +19,7 @@ ending_of false (Err fault) = CutOff
 abbrev pub texts_from : State → List Turn → List (List ℕ)
 texts_from s turns = opening_text s ∷ answers_from 1 s turns
 
--- a session was served from a state on
+-- a session was served from a state on, and its answers went out
 pub record TellsSession (file : List ℕ → Option File) (input : Option (List ℕ)) (s : State) (turns : List Turn) (given : ℕ)
     (old_out new_out old_err new_err : Stream) : Type 0 where
   pub ending : Ending
