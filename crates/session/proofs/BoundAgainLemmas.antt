@@ -70,7 +70,8 @@ module _ (contracts : List Contract) where
   named_held account [] = tt
   named_held account (h ∷ hs) = (refl, named_held account hs)
 
-  named_flat : (account : List ℕ) (xs : List Contract) → AllByRecursion (λ (r : PositionRecord). r.account ≡ account) (flat_records xs account)
+  named_flat : (account : List ℕ) (xs : List Contract)
+      → AllByRecursion (λ (r : PositionRecord). r.account ≡ account) (flat_records xs account)
   named_flat account [] = tt
   named_flat account (x ∷ xs) = (refl, tt)
 
@@ -216,7 +217,8 @@ module _ (contracts : List Contract) where
     none_foreign account [] fit = refl
     none_foreign account (h ∷ hs) fit =
         let parts = and_parts (nat_lt h.contract (length contracts)) (fits (length contracts) hs) fit in
-        or_from _ _ (ap not (known_at contracts h.contract (ltb-true h.contract (length contracts) parts.0))) (none_foreign account hs parts.1)
+        or_from _ _ (ap not (known_at contracts h.contract (ltb-true h.contract (length contracts) parts.0)))
+        (none_foreign account hs parts.1)
 
     first_known : (account : List ℕ) (xs : List Contract) → list_any (is_unknown xs) (flat_records xs account) ≡ false
     first_known account [] = refl
