@@ -38,10 +38,12 @@ use Rattle.session.proofs.KeptStateLemmas.{kept_behind, numbered_fit, weaker}
 
 -- ---- lists
 
+-- a test that fails of all holds of none
 never : {X : Type 0} (test : X → Bool) → ((x : X) → test x ≡ false) → (xs : List X) → list_any test xs ≡ false
 never test none [] = refl
 never test none (x ∷ xs) = or_from (test x) (list_any test xs) (none x) (never test none xs)
 
+-- what passed a test passes it again
 filter_again : {X : Type 0} (test : X → Bool) (xs : List X) → filter test (filter test xs) ≡ filter test xs
 filter_again test [] = refl
 filter_again test (x ∷ xs) = by (test x) refl (filter_again test xs)
@@ -51,6 +53,7 @@ filter_again test (x ∷ xs) = by (test x) refl (filter_again test xs)
     by true e more = ap (λ b. cond b (x ∷ filter test (filter test xs)) (filter test (filter test xs))) e ∙ ap (λ rest. x ∷ rest) more
     by false e more = more
 
+-- names that are others stay
 others_stay : (name : List ℕ) (names : List (List ℕ)) → AllByRecursion (λ y. bytes_eq name y ≡ false) names
     → filter (λ other. not (bytes_eq other name)) names ≡ names
 others_stay name [] all = refl
@@ -59,21 +62,132 @@ others_stay name (n ∷ names) all =
     (bytes_eq-flip n name ∙ all.0)
     ∙ ap (λ rest. n ∷ rest) (others_stay name names all.1)
 
+-- ---- accounts by their names
+
+-- an account that is none of these holds nothing
+none_among : (name : List ℕ) (ps : List AccountHoldings)
+    → AllByRecursion (λ y. bytes_eq name y ≡ false) (map (λ (q : AccountHoldings). q.account) ps) → holdings_among ps name ≡ []
+none_among name [] all = refl
+none_among name (p ∷ ps) all =
+    ap (λ b. unwrap_or (option_map (λ (q : AccountHoldings). q.holdings)
+    (cond b (Some p) (find (λ q. bytes_eq q.account name) ps))) []) (bytes_eq-flip p.account name ∙ all.0)
+    ∙ none_among name ps all.1
+
+-- accounts with other names hold the same with one more in front
+later_held : (p : AccountHoldings) (all qs : List AccountHoldings)
+    → AllByRecursion (λ y. bytes_eq p.account y ≡ false) (map (λ (q : AccountHoldings). q.account) qs)
+    → AllByRecursion (λ (q : AccountHoldings). holdings_among all q.account ≡ q.holdings) qs
+    → AllByRecursion (λ (q : AccountHoldings). holdings_among (p ∷ all) q.account ≡ q.holdings) qs
+later_held p all [] others held = tt
+later_held p all (q ∷ qs) others held = (
+  ap (λ b. unwrap_or (option_map (λ (r : AccountHoldings). r.holdings)
+      (cond b (Some p) (find (λ r. bytes_eq r.account q.account) all))) []) others.0 ∙ held.0,
+  later_held p all qs others.1 held.1,
+)
+
+-- each account holds among all what it has
+each_held : (ps : List AccountHoldings) → AreOnce ps
+    → AllByRecursion (λ (q : AccountHoldings). holdings_among ps q.account ≡ q.holdings) ps
+unfolding IsDistinct
+each_held [] once = tt
+each_held (p ∷ ps) once = (
+  ap (λ b. unwrap_or (option_map (λ (r : AccountHoldings). r.holdings)
+      (cond b (Some p) (find (λ r. bytes_eq r.account p.account) ps))) []) (bytes_eq-refl p.account),
+  later_held p ps ps once.0 (each_held ps once.1),
+)
+
+-- accounts are given by their names and by what each name holds
+rebuilt : (held : List ℕ → List Holding) (ps : List AccountHoldings)
+    → AllByRecursion (λ (p : AccountHoldings). held p.account ≡ p.holdings) ps
+    → map (λ name. record { account = name; holdings = held name }) (map (λ (p : AccountHoldings). p.account) ps) ≡ ps
+rebuilt held [] all = refl
+rebuilt held (p ∷ ps) all =
+    let here = all.0 in
+    let more = rebuilt held ps all.1 in
+    λ i. (let it : AccountHoldings = record { account = p.account; holdings = here i } in it) ∷ more i
+
+-- ---- records of one account
+
 not_none : (h : Holding) (hs : List Holding) → (length (h ∷ hs) == 0) ≡ false
 not_none h hs = ne_eqb (length (h ∷ hs)) 0 (λ e. omega (arith, e))
 
-module _ (contracts : List Contract) where
-  -- ---- the records of an account
+-- the record of an account that holds nothing has its name, adds nothing to a net, and is of a contract that there is
+named_flat : (account : List ℕ) (xs : List Contract)
+    → AllByRecursion (λ (r : PositionRecord). r.account ≡ account) (flat_records xs account)
+named_flat account [] = tt
+named_flat account (x ∷ xs) = (refl, tt)
 
+-- records of one account add nothing to the nets of others
+nothing_of_others : (account name id : List ℕ) → bytes_eq account name ≡ false → (rs : List PositionRecord)
+    → AllByRecursion (λ r. r.account ≡ account) rs → net_of rs name id ≡ pos 0
+nothing_of_others account name id other [] all = refl
+nothing_of_others account name id other (r ∷ rs) all =
+    let rest = filter (λ (q : PositionRecord). bytes_eq q.account name && bytes_eq q.contract id) rs in
+    ap (λ b. int_sum_by (λ (q : PositionRecord). q.quantity) (cond (b && bytes_eq r.contract id) (r ∷ rest) rest))
+    (ap (λ a. bytes_eq a name) all.0 ∙ other)
+    ∙ nothing_of_others account name id other rs all.1
+
+flat_net : (account name id : List ℕ) (xs : List Contract) → net_of (flat_records xs account) name id ≡ pos 0
+flat_net account name id [] = refl
+flat_net account name id (x ∷ xs) = by (bytes_eq account name && bytes_eq x.id id)
+  where
+    by : (b : Bool) → int_sum_by (λ (q : PositionRecord). q.quantity) (cond b (record {
+      account = account;
+      contract = x.id;
+      quantity = pos 0;
+    } ∷ []) []) ≡ pos 0
+    by true = refl
+    by false = refl
+
+-- names that are all the same, in front of others
+same_front : (account : List ℕ) (rs : List PositionRecord) (names : List (List ℕ)) → AllByRecursion (λ r. r.account ≡ account) rs
+    → filter (λ other. not (bytes_eq other account)) (distinct (map (λ (r : PositionRecord). r.account) rs ++ names))
+    ≡ filter (λ other. not (bytes_eq other account)) (distinct names)
+same_front account [] names all = refl
+same_front account (r ∷ rs) names all =
+    let rest = distinct (map (λ (q : PositionRecord). q.account) rs ++ names) in
+    let others = λ (xs : List (List ℕ)). filter (λ other. not (bytes_eq other account)) xs in
+    ap (λ name. others (name ∷ filter (λ other. not (bytes_eq other name)) rest)) all.0
+    ∙ ap (λ b. cond (not b) (account ∷ others (others rest)) (others (others rest))) (bytes_eq-refl account)
+    ∙ filter_again (λ other. not (bytes_eq other account)) rest
+    ∙ same_front account rs names all.1
+
+-- records of one account in front of others give its name in front of theirs
+one_front : (account : List ℕ) (rs : List PositionRecord) (names : List (List ℕ)) → 0 < length rs
+    → AllByRecursion (λ r. r.account ≡ account) rs → AllByRecursion (λ y. bytes_eq account y ≡ false) (distinct names)
+    → distinct (map (λ (r : PositionRecord). r.account) rs ++ names) ≡ account ∷ distinct names
+one_front account [] names some all others = absurd (omega (arith, some))
+one_front account (r ∷ rs) names some all others =
+    let rest = distinct (map (λ (q : PositionRecord). q.account) rs ++ names) in
+    ap (λ name. name ∷ filter (λ other. not (bytes_eq other name)) rest) all.0
+    ∙ ap (λ back. account ∷ back) (same_front account rs names all.1 ∙ others_stay account (distinct names) others)
+
+-- the contract of each number is known
+known_at : (xs : List Contract) (k : ℕ) → k < length xs
+    → list_any (λ x. bytes_eq x.id (unwrap_or (option_map (λ (x : Contract). x.id) (slice_get xs k)) [])) xs ≡ true
+known_at [] k lt = absurd (omega (arith, lt))
+known_at (x ∷ xs) zero lt = ap (λ b. b || list_any (λ y. bytes_eq y.id x.id) xs) (bytes_eq-refl x.id)
+known_at (x ∷ xs) (suc k) lt =
+    let id = unwrap_or (option_map (λ (y : Contract). y.id) (slice_get xs k)) [] in
+    or_right (bytes_eq x.id id) (list_any (λ y. bytes_eq y.id id) xs) (known_at xs k (omega (arith, lt)))
+
+first_known : (account : List ℕ) (xs : List Contract) → list_any (is_unknown xs) (flat_records xs account) ≡ false
+first_known account [] = refl
+first_known account (x ∷ xs) =
+    ap (λ b. not (b || list_any (λ y. bytes_eq y.id x.id) xs) || false) (bytes_eq-refl x.id)
+
+-- by their numbers, no holdings are none
+numbered_none : (a : ℕ) (xs : List Contract) → held_of_all (λ k x. net_among [] k) a xs ≡ []
+numbered_none a [] = refl
+numbered_none a (x ∷ xs) = numbered_none (a + 1) xs
+
+-- ---- records of accounts under contracts
+
+module _ (contracts : List Contract) where
   named_held : (account : List ℕ) (hs : List Holding)
       → AllByRecursion (λ (r : PositionRecord). r.account ≡ account) (map (held_record contracts account) hs)
   named_held account [] = tt
   named_held account (h ∷ hs) = (refl, named_held account hs)
-
-  named_flat : (account : List ℕ) (xs : List Contract)
-      → AllByRecursion (λ (r : PositionRecord). r.account ≡ account) (flat_records xs account)
-  named_flat account [] = tt
-  named_flat account (x ∷ xs) = (refl, tt)
 
   -- each record of an account has its name
   records_named : (p : AccountHoldings) → AllByRecursion (λ r. r.account ≡ p.account) (account_records contracts p)
@@ -84,27 +198,70 @@ module _ (contracts : List Contract) where
       by true = named_flat p.account contracts
       by false = named_held p.account p.holdings
 
-  -- records of one account add nothing to the nets of others
-  nothing_of_others : (account name id : List ℕ) → bytes_eq account name ≡ false → (rs : List PositionRecord)
-      → AllByRecursion (λ r. r.account ≡ account) rs → net_of rs name id ≡ pos 0
-  nothing_of_others account name id other [] all = refl
-  nothing_of_others account name id other (r ∷ rs) all =
-      let rest = filter (λ (q : PositionRecord). bytes_eq q.account name && bytes_eq q.contract id) rs in
-      ap (λ b. int_sum_by (λ (q : PositionRecord). q.quantity) (cond (b && bytes_eq r.contract id) (r ∷ rest) rest))
-      (ap (λ a. bytes_eq a name) all.0 ∙ other)
-      ∙ nothing_of_others account name id other rs all.1
-
-  flat_net : (account name id : List ℕ) (xs : List Contract) → net_of (flat_records xs account) name id ≡ pos 0
-  flat_net account name id [] = refl
-  flat_net account name id (x ∷ xs) = by (bytes_eq account name && bytes_eq x.id id)
+  -- each account has a record
+  records_some : 0 < length contracts → (account : List ℕ) (hs : List Holding)
+      → 0 < length (account_records contracts (record { account = account; holdings = hs }))
+  records_some some account [] = by contracts some
     where
-      by : (b : Bool) → int_sum_by (λ (q : PositionRecord). q.quantity) (cond b (record {
-        account = account;
-        contract = x.id;
-        quantity = pos 0;
-      } ∷ []) []) ≡ pos 0
-      by true = refl
-      by false = refl
+      by : (xs : List Contract) → 0 < length xs → 0 < length (flat_records xs account)
+      by [] some = absurd (omega (arith, some))
+      by (x ∷ xs) some = omega arith
+  records_some some account (h ∷ hs) =
+      subst (λ b. 0 < length (cond b (flat_records contracts account) (map (held_record contracts account) (h ∷ hs))))
+      (sym (not_none h hs)) (omega arith)
+
+  -- the accounts of the records are the accounts
+  pub names_are : 0 < length contracts → (ps : List AccountHoldings) → AreOnce ps
+      → accounts_of (position_records contracts ps) ≡ map (λ p. p.account) ps
+  unfolding IsDistinct
+  names_are some [] once = refl
+  names_are some (p ∷ ps) once =
+      let rest = names_are some ps once.1 in
+      ap distinct (map-append (λ (r : PositionRecord). r.account) (account_records contracts p) (position_records contracts ps))
+      ∙ one_front p.account (account_records contracts p) (map (λ (r : PositionRecord). r.account) (position_records contracts ps))
+      (records_some some p.account p.holdings) (records_named p)
+      (subst (AllByRecursion (λ y. bytes_eq p.account y ≡ false)) (sym rest) once.0)
+      ∙ ap (λ names. p.account ∷ names) rest
+
+  -- all records are of contracts that there are
+  none_foreign : (account : List ℕ) (hs : List Holding) → fits (length contracts) hs ≡ true
+      → list_any (is_unknown contracts) (map (held_record contracts account) hs) ≡ false
+  none_foreign account [] fit = refl
+  none_foreign account (h ∷ hs) fit =
+      let parts = and_parts (nat_lt h.contract (length contracts)) (fits (length contracts) hs) fit in
+      or_from _ _ (ap not (known_at contracts h.contract (ltb-true h.contract (length contracts) parts.0)))
+      (none_foreign account hs parts.1)
+
+  own_known : (p : AccountHoldings) → IsKeptAccount contracts p → list_any (is_unknown contracts) (account_records contracts p) ≡ false
+  own_known p kept = by (length p.holdings == 0)
+    where
+      by : (b : Bool) → list_any (is_unknown contracts)
+          (cond b (flat_records contracts p.account) (map (held_record contracts p.account) p.holdings)) ≡ false
+      by true = first_known p.account contracts
+      by false = none_foreign p.account p.holdings (numbered_fit contracts p.holdings kept.numbered)
+
+  all_known : (ps : List AccountHoldings) → AllByRecursion (IsKeptAccount contracts) ps
+      → list_any (is_unknown contracts) (position_records contracts ps) ≡ false
+  all_known [] kept = refl
+  all_known (p ∷ ps) kept =
+      list_any-append (is_unknown contracts) (account_records contracts p) (position_records contracts ps)
+      ∙ or_from _ _ (own_known p kept.0) (all_known ps kept.1)
+
+  -- what an account holds among kept ones is in the order of contracts
+  among_numbered : (name : List ℕ) (ps : List AccountHoldings) → AllByRecursion (IsKeptAccount contracts) ps
+      → by_number contracts (holdings_among ps name) ≡ holdings_among ps name
+  among_numbered name [] kept = numbered_none 0 contracts
+  among_numbered name (p ∷ ps) kept = by (bytes_eq p.account name) (among_numbered name ps kept.1)
+    where
+      by : (b : Bool) → by_number contracts (holdings_among ps name) ≡ holdings_among ps name
+          → by_number contracts (unwrap_or (option_map (λ (q : AccountHoldings). q.holdings)
+          (cond b (Some p) (find (λ q. bytes_eq q.account name) ps))) [])
+          ≡ unwrap_or (option_map (λ (q : AccountHoldings). q.holdings)
+          (cond b (Some p) (find (λ q. bytes_eq q.account name) ps))) []
+      by true more = kept.0.numbered
+      by false more = more
+
+  -- ---- their nets
 
   module _ (apart : has_repeat (λ x y. bytes_eq x.id y.id) contracts ≡ false) where
     abbrev place : List ℕ → ℕ
@@ -117,14 +274,6 @@ module _ (contracts : List Contract) where
     own_net account id (h ∷ hs) fit =
         ap (λ b. net_of (cond b (flat_records contracts account) (map (held_record contracts account) (h ∷ hs))) account id) (not_none h hs)
         ∙ net_named contracts apart account id (h ∷ hs) fit
-
-    none_among : (name : List ℕ) (ps : List AccountHoldings)
-        → AllByRecursion (λ y. bytes_eq name y ≡ false) (map (λ (q : AccountHoldings). q.account) ps) → holdings_among ps name ≡ []
-    none_among name [] all = refl
-    none_among name (p ∷ ps) all =
-        ap (λ b. unwrap_or (option_map (λ (q : AccountHoldings). q.holdings)
-        (cond b (Some p) (find (λ q. bytes_eq q.account name) ps))) []) (bytes_eq-flip p.account name ∙ all.0)
-        ∙ none_among name ps all.1
 
     -- the net of the records of all accounts, by the holdings of the account of the name
     net_all : (name id : List ℕ) (ps : List AccountHoldings) → AreOnce ps → AllByRecursion (IsKeptAccount contracts) ps
@@ -154,24 +303,6 @@ module _ (contracts : List Contract) where
             let mine = nothing_of_others p.account name id e (account_records contracts p) (records_named p) in
             omega (arith, ints, both, mine, rest)
 
-    numbered_none : (a : ℕ) (xs : List Contract) → held_of_all (λ k x. net_among [] k) a xs ≡ []
-    numbered_none a [] = refl
-    numbered_none a (x ∷ xs) = numbered_none (a + 1) xs
-
-    -- what an account holds among kept ones stands by its numbers
-    among_numbered : (name : List ℕ) (ps : List AccountHoldings) → AllByRecursion (IsKeptAccount contracts) ps
-        → by_number contracts (holdings_among ps name) ≡ holdings_among ps name
-    among_numbered name [] kept = numbered_none 0 contracts
-    among_numbered name (p ∷ ps) kept = by (bytes_eq p.account name) (among_numbered name ps kept.1)
-      where
-        by : (b : Bool) → by_number contracts (holdings_among ps name) ≡ holdings_among ps name
-            → by_number contracts (unwrap_or (option_map (λ (q : AccountHoldings). q.holdings)
-            (cond b (Some p) (find (λ q. bytes_eq q.account name) ps))) [])
-            ≡ unwrap_or (option_map (λ (q : AccountHoldings). q.holdings)
-            (cond b (Some p) (find (λ q. bytes_eq q.account name) ps))) []
-        by true more = kept.0.numbered
-        by false more = more
-
     module _ (all : List AccountHoldings) (once : AreOnce all) (kept : AllByRecursion (IsKeptAccount contracts) all) where
       abbrev records : List PositionRecord
       records = position_records contracts all
@@ -186,6 +317,7 @@ module _ (contracts : List Contract) where
           net_all name x.id all once kept ∙ ap (net_among (holdings_among all name)) (number ∙ sym first)))
           ∙ among_numbered name all kept
 
+      -- so no record has a fault
       portfolio : (name : List ℕ) → ArePortfolio (holdings_among all name)
       portfolio name =
           among_holds name all (All-from_recursion (λ (p : AccountHoldings). ArePortfolio p.holdings) all
@@ -202,44 +334,7 @@ module _ (contracts : List Contract) where
           ap (λ hs. nat_lt MAX_HELD (length hs)) (holds r.account)
           ∙ le-ltb MAX_HELD (length (holdings_among all r.account)) (portfolio r.account).few
 
-    -- ---- all contracts are known
-
-    known_at : (xs : List Contract) (k : ℕ) → k < length xs
-        → list_any (λ x. bytes_eq x.id (unwrap_or (option_map (λ (x : Contract). x.id) (slice_get xs k)) [])) xs ≡ true
-    known_at [] k lt = absurd (omega (arith, lt))
-    known_at (x ∷ xs) zero lt = ap (λ b. b || list_any (λ y. bytes_eq y.id x.id) xs) (bytes_eq-refl x.id)
-    known_at (x ∷ xs) (suc k) lt =
-        let id = unwrap_or (option_map (λ (y : Contract). y.id) (slice_get xs k)) [] in
-        or_right (bytes_eq x.id id) (list_any (λ y. bytes_eq y.id id) xs) (known_at xs k (omega (arith, lt)))
-
-    none_foreign : (account : List ℕ) (hs : List Holding) → fits (length contracts) hs ≡ true
-        → list_any (is_unknown contracts) (map (held_record contracts account) hs) ≡ false
-    none_foreign account [] fit = refl
-    none_foreign account (h ∷ hs) fit =
-        let parts = and_parts (nat_lt h.contract (length contracts)) (fits (length contracts) hs) fit in
-        or_from _ _ (ap not (known_at contracts h.contract (ltb-true h.contract (length contracts) parts.0)))
-        (none_foreign account hs parts.1)
-
-    first_known : (account : List ℕ) (xs : List Contract) → list_any (is_unknown xs) (flat_records xs account) ≡ false
-    first_known account [] = refl
-    first_known account (x ∷ xs) =
-        ap (λ b. not (b || list_any (λ y. bytes_eq y.id x.id) xs) || false) (bytes_eq-refl x.id)
-
-    own_known : (p : AccountHoldings) → IsKeptAccount contracts p → list_any (is_unknown contracts) (account_records contracts p) ≡ false
-    own_known p kept = by (length p.holdings == 0)
-      where
-        by : (b : Bool) → list_any (is_unknown contracts)
-            (cond b (flat_records contracts p.account) (map (held_record contracts p.account) p.holdings)) ≡ false
-        by true = first_known p.account contracts
-        by false = none_foreign p.account p.holdings (numbered_fit contracts p.holdings kept.numbered)
-
-    all_known : (ps : List AccountHoldings) → AllByRecursion (IsKeptAccount contracts) ps
-        → list_any (is_unknown contracts) (position_records contracts ps) ≡ false
-    all_known [] kept = refl
-    all_known (p ∷ ps) kept =
-        list_any-append (is_unknown contracts) (account_records contracts p) (position_records contracts ps)
-        ∙ or_from _ _ (own_known p kept.0) (all_known ps kept.1)
-
+    -- the records have no fault
     no_fault : (all : List AccountHoldings) → AreOnce all → AllByRecursion (IsKeptAccount contracts) all
         → bind_fault contracts (position_records contracts all) ≡ None
     no_fault all once kept =
@@ -249,86 +344,7 @@ module _ (contracts : List Contract) where
           few = never (exceeds_held contracts (position_records contracts all)) (few_held all once kept) (position_records contracts all);
         })
 
-    -- ---- the accounts are the same
-
-    -- names that are all the same, in front of others
-    same_front : (account : List ℕ) (rs : List PositionRecord) (names : List (List ℕ)) → AllByRecursion (λ r. r.account ≡ account) rs
-        → filter (λ other. not (bytes_eq other account)) (distinct (map (λ (r : PositionRecord). r.account) rs ++ names))
-        ≡ filter (λ other. not (bytes_eq other account)) (distinct names)
-    same_front account [] names all = refl
-    same_front account (r ∷ rs) names all =
-        let rest = distinct (map (λ (q : PositionRecord). q.account) rs ++ names) in
-        let others = λ (xs : List (List ℕ)). filter (λ other. not (bytes_eq other account)) xs in
-        ap (λ name. others (name ∷ filter (λ other. not (bytes_eq other name)) rest)) all.0
-        ∙ ap (λ b. cond (not b) (account ∷ others (others rest)) (others (others rest))) (bytes_eq-refl account)
-        ∙ filter_again (λ other. not (bytes_eq other account)) rest
-        ∙ same_front account rs names all.1
-
-    -- records of one account in front of others give its name in front of theirs
-    one_front : (account : List ℕ) (rs : List PositionRecord) (names : List (List ℕ)) → 0 < length rs
-        → AllByRecursion (λ r. r.account ≡ account) rs → AllByRecursion (λ y. bytes_eq account y ≡ false) (distinct names)
-        → distinct (map (λ (r : PositionRecord). r.account) rs ++ names) ≡ account ∷ distinct names
-    one_front account [] names some all others = absurd (omega (arith, some))
-    one_front account (r ∷ rs) names some all others =
-        let rest = distinct (map (λ (q : PositionRecord). q.account) rs ++ names) in
-        ap (λ name. name ∷ filter (λ other. not (bytes_eq other name)) rest) all.0
-        ∙ ap (λ back. account ∷ back) (same_front account rs names all.1 ∙ others_stay account (distinct names) others)
-
-    records_some : 0 < length contracts → (account : List ℕ) (hs : List Holding)
-        → 0 < length (account_records contracts (record { account = account; holdings = hs }))
-    records_some some account [] = by contracts some
-      where
-        by : (xs : List Contract) → 0 < length xs → 0 < length (flat_records xs account)
-        by [] some = absurd (omega (arith, some))
-        by (x ∷ xs) some = omega arith
-    records_some some account (h ∷ hs) =
-        subst (λ b. 0 < length (cond b (flat_records contracts account) (map (held_record contracts account) (h ∷ hs))))
-        (sym (not_none h hs)) (omega arith)
-
-    -- the accounts of the records are the accounts
-    pub names_are : 0 < length contracts → (ps : List AccountHoldings) → AreOnce ps
-        → accounts_of (position_records contracts ps) ≡ map (λ p. p.account) ps
-    unfolding IsDistinct
-    names_are some [] once = refl
-    names_are some (p ∷ ps) once =
-        let rest = names_are some ps once.1 in
-        ap distinct (map-append (λ (r : PositionRecord). r.account) (account_records contracts p) (position_records contracts ps))
-        ∙ one_front p.account (account_records contracts p) (map (λ (r : PositionRecord). r.account) (position_records contracts ps))
-        (records_some some p.account p.holdings) (records_named p)
-        (subst (AllByRecursion (λ y. bytes_eq p.account y ≡ false)) (sym rest) once.0)
-        ∙ ap (λ names. p.account ∷ names) rest
-
-    -- each account holds what it does among all
-    later_held : (p : AccountHoldings) (all qs : List AccountHoldings)
-        → AllByRecursion (λ y. bytes_eq p.account y ≡ false) (map (λ (q : AccountHoldings). q.account) qs)
-        → AllByRecursion (λ (q : AccountHoldings). holdings_among all q.account ≡ q.holdings) qs
-        → AllByRecursion (λ (q : AccountHoldings). holdings_among (p ∷ all) q.account ≡ q.holdings) qs
-    later_held p all [] others held = tt
-    later_held p all (q ∷ qs) others held = (
-      ap (λ b. unwrap_or (option_map (λ (r : AccountHoldings). r.holdings)
-          (cond b (Some p) (find (λ r. bytes_eq r.account q.account) all))) []) others.0 ∙ held.0,
-      later_held p all qs others.1 held.1,
-    )
-
-    each_held : (ps : List AccountHoldings) → AreOnce ps
-        → AllByRecursion (λ (q : AccountHoldings). holdings_among ps q.account ≡ q.holdings) ps
-    unfolding IsDistinct
-    each_held [] once = tt
-    each_held (p ∷ ps) once = (
-      ap (λ b. unwrap_or (option_map (λ (r : AccountHoldings). r.holdings)
-          (cond b (Some p) (find (λ r. bytes_eq r.account p.account) ps))) []) (bytes_eq-refl p.account),
-      later_held p ps ps once.0 (each_held ps once.1),
-    )
-
-    rebuilt : (held : List ℕ → List Holding) (ps : List AccountHoldings)
-        → AllByRecursion (λ (p : AccountHoldings). held p.account ≡ p.holdings) ps
-        → map (λ name. record { account = name; holdings = held name }) (map (λ (p : AccountHoldings). p.account) ps) ≡ ps
-    rebuilt held [] all = refl
-    rebuilt held (p ∷ ps) all =
-        let here = all.0 in
-        let more = rebuilt held ps all.1 in
-        λ i. (let it : AccountHoldings = record { account = p.account; holdings = here i } in it) ∷ more i
-
+    -- and their portfolios are the accounts
     same_accounts : 0 < length contracts → (all : List AccountHoldings) → AreOnce all → AllByRecursion (IsKeptAccount contracts) all
         → portfolios_of contracts (position_records contracts all) ≡ all
     unfolding portfolios_of
@@ -341,6 +357,8 @@ module _ (contracts : List Contract) where
         (weaker (λ p. holdings_among all p.account ≡ p.holdings)
         (λ p. holdings_of contracts (position_records contracts all) p.account ≡ p.holdings)
         (λ p e. holds all once kept p.account ∙ e) all (each_held all once))
+
+-- ---- a kept state
 
 -- the portfolios of a kept state's records are its accounts
 accounts_again : (s : State) → IsKeptState s → (0 < length s.tables.contracts) ⊎ (s.accounts ≡ [])

@@ -52,7 +52,7 @@ weaker P Q f (x ∷ xs) all = (f x all.0, weaker P Q f xs all.1)
 
 -- ---- holdings by their numbers
 
--- what is held by nets stands by its numbers
+-- what is held by nets is in the order of contracts
 pub numbered_held : (contracts : List Contract) (net : ℕ → Contract → ℤ)
     → by_number contracts (held_of_all net 0 contracts) ≡ held_of_all net 0 contracts
 numbered_held contracts net =
@@ -68,18 +68,19 @@ numbered_fit contracts holdings is =
 
 -- ---- accounts
 
-module _ (contracts : List Contract) (p : AccountHoldings) where
+module _ (p : AccountHoldings) where
   -- the accounts with one that is kept
-  accounts_kept : (ps : List AccountHoldings) → IsKeptAccount contracts p → AllByRecursion (IsKeptAccount contracts) ps
-      → AllByRecursion (IsKeptAccount contracts) (with_account ps p)
-  accounts_kept [] kept all = (kept, tt)
-  accounts_kept (q ∷ ps) kept all = by (bytes_eq p.account q.account) (accounts_kept ps kept all.1)
+  accounts_kept : (contracts : List Contract) (ps : List AccountHoldings) → IsKeptAccount contracts p
+      → AllByRecursion (IsKeptAccount contracts) ps → AllByRecursion (IsKeptAccount contracts) (with_account ps p)
+  accounts_kept contracts [] kept all = (kept, tt)
+  accounts_kept contracts (q ∷ ps) kept all = by (bytes_eq p.account q.account) (accounts_kept contracts ps kept all.1)
     where
       by : (b : Bool) → AllByRecursion (IsKeptAccount contracts) (with_account ps p)
           → AllByRecursion (IsKeptAccount contracts) (cond b (p ∷ ps) (q ∷ with_account ps p))
       by true more = (kept, all.1)
       by false more = (all.0, more)
 
+  -- accounts with other names
   others_with : (name : List ℕ) (ps : List AccountHoldings) → bytes_eq name p.account ≡ false
       → AllByRecursion (λ y. bytes_eq name y ≡ false) (map (λ (q : AccountHoldings). q.account) ps)
       → AllByRecursion (λ y. bytes_eq name y ≡ false) (map (λ (q : AccountHoldings). q.account) (with_account ps p))
@@ -92,7 +93,7 @@ module _ (contracts : List Contract) (p : AccountHoldings) where
       by true more = (other, all.1)
       by false more = (all.0, more)
 
-  -- no account stands twice with one that takes its place
+  -- no account is there twice with one that takes its place
   once_with : (ps : List AccountHoldings) → AreOnce ps → AreOnce (with_account ps p)
   unfolding IsDistinct
   once_with [] once = (tt, tt)
@@ -105,7 +106,7 @@ module _ (contracts : List Contract) (p : AccountHoldings) where
           (subst (λ n. AllByRecursion (λ y. bytes_eq n y ≡ false) (map (λ (r : AccountHoldings). r.account) ps)) (sym name) once.0, once.1)
       by false e more = (others_with q.account ps (name_flip q.account p.account ∙ e) once.0, more)
 
-  -- as many accounts as before, if one has the name, or else one more
+  -- one account more at most, and no more if one has the name
   count_with : (ps : List AccountHoldings) → length (with_account ps p) ≤ length ps + 1
   count_with [] = omega arith
   count_with (q ∷ ps) = by (bytes_eq p.account q.account) (count_with ps)
@@ -137,10 +138,10 @@ few_with s p place few = by (is_some (account_named s.accounts p.account)) refl 
   where
     by : (b : Bool) → is_some (account_named s.accounts p.account) ≡ b
         → (not b && nat_le MAX_ACCOUNTS (length s.accounts)) ≡ false → length (with_account s.accounts p) ≤ MAX_ACCOUNTS
-    by true is place = let same = count_same s.tables.contracts p s.accounts is in omega (arith, same, few)
+    by true is place = let same = count_same p s.accounts is in omega (arith, same, few)
     by false is place =
         let fewer = leb-false MAX_ACCOUNTS (length s.accounts) place in
-        let more = count_with s.tables.contracts p s.accounts in
+        let more = count_with p s.accounts in
         omega (arith, fewer, more)
 
 -- ---- a state behind a FILL
@@ -152,6 +153,7 @@ module _ (s : State) (account : List ℕ) (u : Trade) (us : List Trade) where
   abbrev after : AccountHoldings
   after = (tried_order s.tables.contracts s.accounts records account).after
 
+  -- it keeps what it has
   fill_keeps : is_name account ≡ true → has_no_place s account ≡ false
       → order_bind_fault s.tables.contracts s.accounts records ≡ None → IsKeptState s → IsKeptState (state_filled s account (u ∷ us))
   fill_keeps named place none kept =
@@ -169,13 +171,14 @@ module _ (s : State) (account : List ℕ) (u : Trade) (us : List Trade) where
       record {
         apart = kept.apart;
         named = kept.named;
-        once = once_with s.tables.contracts after s.accounts kept.once;
+        once = once_with after s.accounts kept.once;
         few = few_with s after (ap (has_no_place s) name ∙ place) kept.few;
-        accounts = accounts_kept s.tables.contracts after s.accounts one kept.accounts;
+        accounts = accounts_kept after s.tables.contracts s.accounts one kept.accounts;
       }
 
 -- ---- a state under another set
 
+-- the accounts have the same names
 names_under : (old new : List Contract) (ps : List AccountHoldings)
     → map (λ (p : AccountHoldings). p.account) (map (under_contracts old new) ps) ≡ map (λ p. p.account) ps
 names_under old new [] = refl
@@ -195,6 +198,7 @@ module _ (old new : List Contract) (apart : has_repeat (λ x y. bytes_eq x.id y.
     under_kept ps all.1,
   )
 
+-- it keeps what it has, too
 set_keeps : (s : State) (params : List ℕ) (t : AcceptedTables) → accepted_of params ≡ Ok t → IsKeptState s → IsKeptState (state_under s t)
 set_keeps s params t accepted kept =
     let ids = accepted_ids params t accepted in
@@ -208,13 +212,14 @@ set_keeps s params t accepted kept =
 
 -- ---- an opened state
 
+-- a name that is none of these differs from each
 none_alike : (name : List ℕ) (names : List (List ℕ)) → list_any (bytes_eq name) names ≡ false
     → AllByRecursion (λ y. bytes_eq name y ≡ false) names
 none_alike name [] none = tt
 none_alike name (n ∷ names) none =
     let parts = or_parts (bytes_eq name n) (list_any (bytes_eq name) names) none in (parts.0, none_alike name names parts.1)
 
--- names of which none stands twice
+-- names of which none is there twice
 once_of : (names : List (List ℕ)) → has_repeat bytes_eq names ≡ false → IsDistinct bytes_eq names
 unfolding IsDistinct
 once_of [] apart = tt
@@ -240,6 +245,7 @@ named_records (p ∷ ps) all = (all.0, named_records ps all.1)
 
 module _ (contracts : List Contract) (positions : List PositionRecord) (none : bind_fault contracts positions ≡ None)
     (named : AllByRecursion (λ p. is_name p.account ≡ true) positions) where
+  -- an account with what it holds by the positions
   abbrev held_as : List ℕ → AccountHoldings
   held_as name = record { account = name; holdings = holdings_of contracts positions name }
 
@@ -250,6 +256,7 @@ module _ (contracts : List Contract) (positions : List PositionRecord) (none : b
   names_same [] = refl
   names_same (n ∷ names) = ap (λ rest. n ∷ rest) (names_same names)
 
+  -- it is kept, if it has a record
   one_bound : (name : List ℕ) → is_among all_names name ≡ true → IsKeptAccount contracts (held_as name)
   one_bound name among =
       let fit = fit_of_none contracts positions none in
@@ -297,6 +304,7 @@ bound_are t positions accounts e = by (bind_fault t.contracts positions) refl e
     by (Some f) is e = cc
     by None is e = (is, cc)
 
+-- accounts of a read position file
 bound_keeps : (params positions : List ℕ) (t : AcceptedTables) (records : List PositionRecord) (accounts : List AccountHoldings)
     → accepted_of params ≡ Ok t → positions_of positions ≡ Ok records → portfolios_under t records ≡ Ok accounts
     → IsKeptState (record { tables = t; accounts = accounts })
@@ -317,6 +325,7 @@ bound_keeps params positions t records accounts accepted read bound =
       accounts = all_bound t.contracts records is.0 all.named (distinct names) (distinct_among names);
     })
 
+-- an opened state
 pub opened_keeps : (params positions : List ℕ) (s : State) → opened params positions ≡ Ok s → IsKeptState s
 unfolding opened
 opened_keeps params positions s e = by (accepted_of params) refl e
@@ -345,6 +354,7 @@ opened_keeps params positions s e = by (accepted_of params) refl e
 
 -- ---- behind all requests
 
+-- a state that a session comes to
 pub kept_behind : (params positions : List ℕ) (s : State) (turns : List Turn) → opened params positions ≡ Ok s
     → IsKeptState (state_behind s turns)
 kept_behind params positions s turns begun = turns_keep IsKeptState fill_keeps set_keeps turns s (opened_keeps params positions s begun)

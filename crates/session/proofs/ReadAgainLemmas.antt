@@ -34,7 +34,7 @@ use Rattle.session.specs.Answers.{State, opened}
 use Rattle.session.specs.Conversations.{Turn, state_behind}
 use Rattle.session.specs.Positions.{position_line, position_lines}
 use Rattle.session.specs.near.KeptStates.{IsKeptAccount, IsKeptState}
-use Rattle.session.proofs.BoundAgainLemmas.{names_are, statement_again}
+use Rattle.session.proofs.BoundAgainLemmas.{bound_again, names_are, statement_again}
 use Rattle.session.proofs.KeptStateLemmas.{kept_behind, numbered_fit}
 
 -- ---- bytes above a comma
@@ -118,9 +118,11 @@ record IsWritable (p : PositionRecord) : Type 0 where
   contract : is_name p.contract ≡ true
   small : nat_abs p.quantity ≤ MAX_NET
 
+-- the fields of its line
 abbrev fields_of_record : PositionRecord → List (List ℕ)
 fields_of_record p = p.account ∷ p.contract ∷ signed_decimal p.quantity ∷ []
 
+-- the bytes of a line, field by field
 line_parts : (account contract text rest : List ℕ)
     → line (record { word = account; fields = contract ∷ text ∷ [] }) ++ rest
     ≡ account ++ 44 ∷ (contract ++ 44 ∷ (text ++ 10 ∷ rest))
@@ -178,10 +180,12 @@ records_read (p ∷ ps) good =
 
 -- ---- no fault
 
+-- a number of at most this size is in the range
 within : (h : ℕ) (z : ℤ) → nat_abs z ≤ suc h → is_within (negsuc h) (pos (suc h)) (Some z) ≡ true
 within h (pos n) le = le-leb n (suc h) le
 within h (negsuc n) le = (let less : n ≤ h = omega (arith, le) in rw (le-leb n h less) refl)
 
+-- the fields of a record have no fault, and say the record
 record_free : (p : PositionRecord) → IsWritable p → record_fault [] (fields_of_record p) ≡ None
 record_free p good =
     let small = good.small in
@@ -225,6 +229,7 @@ all_records (p ∷ ps) good =
     let rest = all_records ps good.1 in
     λ i. one i ++ rest i
 
+-- records one by one are these records
 singles : (ps : List PositionRecord) → records_together (map (λ p. p ∷ []) ps) ≡ ps
 singles [] = refl
 singles (p ∷ ps) = ap (λ rest. p ∷ rest) (singles ps)
@@ -241,6 +246,7 @@ positions_again ps good few =
 -- ---- the records of a kept state
 
 module _ (contracts : List Contract) (named : AllByRecursion (λ x. is_name x.id ≡ true) contracts) where
+  -- the contract of each number has a name
   named_at : (xs : List Contract) → AllByRecursion (λ x. is_name x.id ≡ true) xs → (k : ℕ) → k < length xs
       → is_name (unwrap_or (option_map (λ (x : Contract). x.id) (slice_get xs k)) []) ≡ true
   named_at [] all k lt = absurd (omega (arith, lt))
@@ -279,6 +285,7 @@ module _ (contracts : List Contract) (named : AllByRecursion (λ x. is_name x.id
   both_writable [] qs all others = others
   both_writable (p ∷ ps) qs all others = (all.0, both_writable ps qs all.1 others)
 
+  -- all records of kept accounts can be written and read again
   all_writable : (ps : List AccountHoldings) → AllByRecursion (IsKeptAccount contracts) ps
       → AllByRecursion IsWritable (position_records contracts ps)
   all_writable [] kept = tt
@@ -296,13 +303,25 @@ records_again s kept some =
     by : (0 < length s.tables.contracts) ⊎ (s.accounts ≡ [])
         → length (accounts_of (position_records s.tables.contracts s.accounts)) ≤ MAX_ACCOUNTS
     by (inl some) =
-        let names = names_are s.tables.contracts kept.apart some s.accounts kept.once in
+        let names = names_are s.tables.contracts some s.accounts kept.once in
         let few = kept.few in
         subst (λ n. n ≤ MAX_ACCOUNTS) (sym (ap length names ∙ length-map s.accounts (λ p. p.account))) few
     by (inr none) =
         subst (λ ps. length (accounts_of (position_records s.tables.contracts ps)) ≤ MAX_ACCOUNTS) (sym none) (omega arith)
 
--- so the statement of what POSITIONS answers is what MARGIN answers
+-- so a session over what POSITIONS answers opens with the same state
+pub opened_again : (params positions current : List ℕ) (s : State) (turns : List Turn) → opened params positions ≡ Ok s
+    → accepted_of current ≡ Ok (state_behind s turns).tables
+    → (0 < length (state_behind s turns).tables.contracts) ⊎ ((state_behind s turns).accounts ≡ [])
+    → opened current (position_lines (position_records (state_behind s turns).tables.contracts (state_behind s turns).accounts))
+    ≡ Ok (state_behind s turns)
+unfolding opened
+opened_again params positions current s turns begun accepted some =
+    let next = state_behind s turns in
+    let kept = kept_behind params positions s turns begun in
+    rw (accepted, records_again next kept some, bound_again next kept some) refl
+
+-- and the statement of what POSITIONS answers is what MARGIN answers
 pub answers_again : (params positions current : List ℕ) (s : State) (turns : List Turn) → opened params positions ≡ Ok s
     → accepted_of current ≡ Ok (state_behind s turns).tables
     → (0 < length (state_behind s turns).tables.contracts) ⊎ ((state_behind s turns).accounts ≡ [])

@@ -41,6 +41,7 @@ pub record AreIds (contracts : List Contract) : Type 0 where
   pub apart : has_repeat (λ x y. bytes_eq x.id y.id) contracts ≡ false
   pub named : AllByRecursion (λ x. is_name x.id ≡ true) contracts
 
+-- the first of the tests of a contract is the test of its id
 id_named : (x : Contract) → contract_in_range x ≡ true → is_name x.id ≡ true
 id_named x e =
     let last = all_true _ _ _ e in
@@ -111,6 +112,7 @@ formed_named (account ∷ r) formed = by (length (account ∷ r) == 3) (is_name 
     by true true more numbers ranges e = refl
     by true false more numbers ranges e = cc
 
+-- records without a fault have names for their accounts
 all_named : (before rs : List Fields) → IsFaultFree record_fault before rs
     → AllByRecursion (λ (p : PositionRecord). is_name p.account ≡ true) (map position_record rs)
 unfolding position_record
@@ -143,8 +145,12 @@ one_more before r within few =
         let long = length-append (distinct (names_in before)) (text_at r 0 ∷ []) in
         omega (arith, few, other, long)
 
+-- a record without a fault is not one too many
 within_limit : (before : List Fields) (r : Fields) → fault_where_all_count before r ≡ None → exceeds_accounts before r ≡ false
-within_limit before r free = by (is_formed r) (free_formed before r free)
+within_limit before r free =
+    last (exceeds_accounts before r)
+    (sym (first_append (form_faults r) ((exceeds_accounts before r, position.TooManyAccounts) ∷ [])
+    (none_is (first_that_holds (form_faults r)) (free_formed before r free))) ∙ free)
   where
     none_is : (o : Option (ℕ → PositionFault)) → is_none o ≡ true → o ≡ None
     none_is None e = refl
@@ -154,12 +160,7 @@ within_limit before r free = by (is_formed r) (free_formed before r free)
     last true e = cc
     last false e = refl
 
-    by : (b : Bool) → is_formed r ≡ true → exceeds_accounts before r ≡ false
-    by b formed =
-        last (exceeds_accounts before r)
-        (sym (first_append (form_faults r) ((exceeds_accounts before r, position.TooManyAccounts) ∷ [])
-        (none_is (first_that_holds (form_faults r)) formed)) ∙ free)
-
+-- records without a fault have no more accounts than there may be
 all_few : (before rs : List Fields) → IsFaultFree fault_where_all_count before rs → length (distinct (names_in before)) ≤ MAX_ACCOUNTS
     → length (distinct (names_in (before ++ rs))) ≤ MAX_ACCOUNTS
 all_few before [] free few = subst (λ zs. length (distinct (names_in zs)) ≤ MAX_ACCOUNTS) (sym (append-nil before)) few
@@ -172,6 +173,7 @@ unfolding position_record
 accounts_same [] = refl
 accounts_same (r ∷ rs) = ap (λ names. text_at r 0 ∷ names) (accounts_same rs)
 
+-- so it is with the records of a position file
 pub positions_read : (bytes : List ℕ) (records : List PositionRecord) → positions_of bytes ≡ Ok records → AreRead records
 unfolding positions_of position_faults
 positions_read bytes records e =

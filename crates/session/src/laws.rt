@@ -65,8 +65,14 @@ pub fn fills_are_records_behind_the_positions()
 {}
 
 /// A session can be closed and opened again from the parameter file of its set and what POSITIONS answers, if the set has a contract or
-/// there is no account: MARGIN answers what `margin` prints for these two as files, and for any position file that has the same records.
+/// there is no account: over these two as files it has the same state, and MARGIN answers what `margin` prints for them, and for any
+/// position file that has the same records.
 pub fn a_session_can_be_opened_again()
+    ensures state { (params positions current : List ℕ) (s : State) (turns : List Turn) → opened params positions ≡ Ok s
+        → accepted_of current ≡ Ok (state_behind s turns).tables
+        → (0 < length (state_behind s turns).tables.contracts) ⊎ ((state_behind s turns).accounts ≡ [])
+        → opened current (position_lines (position_records (state_behind s turns).tables.contracts (state_behind s turns).accounts))
+        ≡ Ok (state_behind s turns) }
     ensures records { (params positions current file : List ℕ) (s : State) (turns : List Turn) → opened params positions ≡ Ok s
         → accepted_of current ≡ Ok (state_behind s turns).tables
         → (0 < length (state_behind s turns).tables.contracts) ⊎ ((state_behind s turns).accounts ≡ [])

@@ -22,7 +22,8 @@ pub record IsKeptAccount (contracts : List Contract) (p : AccountHoldings) : Typ
   pub portfolio : ArePortfolio p.holdings
   pub numbered : by_number contracts p.holdings ≡ p.holdings
 
--- No two contracts have one id, and each id is a name. No account stands twice, there are no more than there may be, and each is kept.
+-- No two contracts have one id, and each id is a name. No account is there twice, there are no more than there may be, and
+-- each is kept.
 pub record IsKeptState (s : State) : Type 0 where
   pub apart : has_repeat (λ x y. bytes_eq x.id y.id) s.tables.contracts ≡ false
   pub named : AllByRecursion (λ x. is_name x.id ≡ true) s.tables.contracts
