@@ -22,9 +22,6 @@ use std::alloc::{AllocError, Global};
 use std::marker::Model;
 use std::sync::Arc;
 
-// The number of held commodities for which memory is taken at once.
-const FEW_COMMODITIES: usize = 8;
-
 /// The contracts of one commodity that an account holds, by rising contract number, each with its net quantity.
 ///
 /// Contracts see the list of them, each with its whole record. No record is copied: all that is kept of the tables
@@ -99,6 +96,11 @@ impl Held {
     {
         self.holdings[place].net
     }
+
+    // The list of the holdings alone.
+    fn into_holdings(self) -> Vec<Holding> {
+        self.holdings
+    }
 }
 
 /// The contracts of the commodity of a number that an account holds, each with its whole record and its net quantity.
@@ -136,6 +138,39 @@ struct HoldingsOf {
     holdings: Vec<Holding>,
 }
 
+/// The memory that `gather_held` works in. Each call replaces what the call before it left there, so one value serves accounts one after
+/// another, and a call takes less memory of its own.
+#[derive(Drop)]
+pub struct HeldMemory {
+    /// The commodities that the last call found.
+    pub found: Vec<CommodityHeld>,
+    // The holdings of each commodity, while they are gathered.
+    lists: Vec<HoldingsOf>,
+    // Lists of holdings of accounts before, to be filled again.
+    spare: Vec<Vec<Holding>>,
+}
+
+impl HeldMemory {
+    /// Memory that no call has used yet. It takes nothing from the allocator.
+    pub fn new(alloc: Global) -> HeldMemory {
+        HeldMemory {
+            found: Vec::new(alloc),
+            lists: Vec::new(alloc),
+            spare: Vec::new(alloc),
+        }
+    }
+
+    // Forgets the commodities that were found, and keeps the lists of their holdings.
+    fn clear(&mut self) -> Result<(), AllocError>
+        ensures { OnOk result (self.new.found.items ≡ []) }
+    {
+        while let Some(of) = self.found.pop() {
+            self.spare.push(of.held.into_holdings())?;
+        }
+        Ok(())
+    }
+}
+
 // Where the holdings end that are of one commodity and follow one another, from the holding at a place on.
 fn end_of_run(tables: &Tables, holdings: &[Holding], start: usize, commodity: usize) -> usize
     requires known { All (λ h. h.contract < length tables.now.contracts) holdings.now }
@@ -151,9 +186,24 @@ fn end_of_run(tables: &Tables, holdings: &[Holding], start: usize, commodity: us
     end
 }
 
+// A list of these holdings, in the memory of a spare list if there is one.
+fn list_of(
+    alloc: Global,
+    spare: &mut Vec<Vec<Holding>>,
+    run: &[Holding],
+) -> Result<Vec<Holding>, AllocError>
+    ensures { IfOk result (λ list. list.items ≡ run.now) }
+{
+    let mut list = spare.pop().unwrap_or(Vec::new(alloc));
+    list.clear();
+    list.extend_from_slice(run)?;
+    Ok(list)
+}
+
 // Adds holdings of a commodity to those that are gathered.
 fn add_run(
     alloc: Global,
+    spare: &mut Vec<Vec<Holding>>,
     lists: &mut Vec<HoldingsOf>,
     commodity: usize,
     run: &[Holding],
@@ -167,7 +217,7 @@ fn add_run(
     if place < lists.len() && lists[place].commodity == commodity {
         lists[place].holdings.extend_from_slice(run)?;
     } else {
-        let holdings = Vec::from_slice(alloc, run)?;
+        let holdings = list_of(alloc, spare, run)?;
         lists.insert(
             place,
             HoldingsOf {
@@ -179,61 +229,73 @@ fn add_run(
     Ok(())
 }
 
-// The holdings of each commodity of which there are any.
+// The holdings of each commodity of which there are any. They replace these lists.
 fn held_by_commodity(
     alloc: Global,
     tables: &Tables,
     portfolio: &Portfolio,
-) -> Result<Vec<HoldingsOf>, AllocError>
+    spare: &mut Vec<Vec<Holding>>,
+    lists: &mut Vec<HoldingsOf>,
+) -> Result<(), AllocError>
     requires { fits (length tables.now.contracts) portfolio.now.holdings ≡ true }
-    ensures gathered { IfOk result (λ lists. AreGathered tables.now portfolio.now.holdings lists.items) }
-    ensures in_range { IfOk result (λ lists. All (λ l. AreHoldings tables.now.contracts l.holdings.items) lists.items) }
+    ensures gathered { OnOk result (AreGathered tables.now portfolio.now.holdings lists.new.items) }
+    ensures in_range { OnOk result (All (λ l. AreHoldings tables.now.contracts l.holdings.items) lists.new.items) }
 {
     tables.known();
     let holdings = portfolio.holdings();
-    let mut lists = Vec::with_capacity(alloc, holdings.len().min(FEW_COMMODITIES))?;
     let mut done = 0;
+    lists.clear();
     while done < holdings.len() {
         let commodity = tables.commodity_of(holdings[done].contract);
         let end = end_of_run(tables, holdings, done + 1, commodity);
-        add_run(alloc, &mut lists, commodity, &holdings[done..end])?;
+        add_run(alloc, spare, lists, commodity, &holdings[done..end])?;
         done = end;
     }
-    Ok(lists)
+    Ok(())
 }
 
-// The held contracts of each of these commodities.
+// Moves the holdings of each of these commodities into an empty list, as held contracts.
 fn with_records(
-    alloc: Global,
     tables: &Tables,
-    lists: Vec<HoldingsOf>,
-) -> Result<Vec<CommodityHeld>, AllocError>
-    requires { All (λ l. AreHoldings tables.now.contracts l.holdings.items) lists.items }
-    ensures { IfOk result (λ list. list.items ≡ map (commodity_held_of tables.now.contracts) lists.items) }
+    lists: &mut Vec<HoldingsOf>,
+    list: &mut Vec<CommodityHeld>,
+) -> Result<(), AllocError>
+    requires in_range { All (λ l. AreHoldings tables.now.contracts l.holdings.items) lists.now.items }
+    requires empty { list.now.items ≡ [] }
+    ensures { OnOk result (list.new.items ≡ map (commodity_held_of tables.now.contracts) lists.old.items) }
 {
-    let mut list = Vec::with_capacity(alloc, lists.len())?;
-    for of in lists {
+    list.reserve(lists.len())?;
+    while let Some(of) = lists.pop() {
         let held = Held::new(tables.share_contracts()?, of.holdings);
         list.push(CommodityHeld {
             commodity: of.commodity,
             held,
         })?;
     }
-    Ok(list)
+    list.reverse();
+    Ok(())
 }
 
-/// The commodities of which an account holds something, by rising numbers, each with its held contracts, in one pass over
-/// the holdings. What is not held costs nothing.
+/// Finds the commodities of which an account holds something, by rising numbers, each with its held contracts, in one pass over
+/// the holdings. They replace those in the memory that is passed. What is not held costs nothing.
 pub fn gather_held(
     alloc: Global,
     tables: &Tables,
     portfolio: &Portfolio,
-) -> Result<Vec<CommodityHeld>, AllocError>
+    memory: &mut HeldMemory,
+) -> Result<(), AllocError>
     requires { fits (length tables.now.contracts) portfolio.now.holdings ≡ true }
-    ensures { IfOk result (λ list. AreHeldCommodities tables.now portfolio.now.holdings list.items) }
+    ensures { OnOk result (AreHeldCommodities tables.now portfolio.now.holdings memory.new.found.items) }
 {
-    let lists = held_by_commodity(alloc, tables, portfolio)?;
-    with_records(alloc, tables, lists)
+    memory.clear()?;
+    held_by_commodity(
+        alloc,
+        tables,
+        portfolio,
+        &mut memory.spare,
+        &mut memory.lists,
+    )?;
+    with_records(tables, &mut memory.lists, &mut memory.found)
 }
 
 // No held contracts of each commodity.
@@ -259,9 +321,10 @@ pub fn gather_all(
     ensures { IfOk result (λ held. held.items
         ≡ map (λ c. held_of tables.now.contracts portfolio.now.holdings c.id) tables.now.commodities) }
 {
-    let some = gather_held(alloc, tables, portfolio)?;
+    let mut memory = HeldMemory::new(alloc);
+    gather_held(alloc, tables, portfolio, &mut memory)?;
     let mut held = nothing_held(alloc, tables)?;
-    for of in some {
+    for of in memory.found {
         held[of.commodity] = of.held;
     }
     Ok(held)

@@ -25,7 +25,7 @@ use span_csv::together::AllAccounts;
 use span_money::exact::push_exact;
 use span_money::line_fields::{Field, push_line, push_line_of_numbers, push_number, push_start};
 use span_tables::groups::{empty_lists, push_at};
-use span_tables::held::{Held, gather, gather_all, gather_held};
+use span_tables::held::{Held, HeldMemory, gather, gather_all, gather_held};
 use span_tables::name::Name;
 use span_tables::portfolios::{Portfolio, Portfolios};
 use span_tables::raw::{RawOrders, RawPositions};
@@ -299,9 +299,13 @@ fn lists_held(
     let all = gather_all(alloc, tables, account)?;
     assert_eq!(rt; all.len(), 1);
     assert_eq!(rt; all[0].len(), 2);
-    let list = gather_held(alloc, tables, account)?;
-    assert_eq!(rt; list.len(), 1);
-    assert_eq!(rt; (list[0].commodity, list[0].held.len()), (0, 2));
+    let mut memory = HeldMemory::new(alloc);
+    gather_held(alloc, tables, account, &mut memory)?;
+    assert_eq!(rt; memory.found.len(), 1);
+    assert_eq!(rt;
+        (memory.found[0].commodity, memory.found[0].held.len()),
+        (0, 2)
+    );
     Ok(())
 }
 

@@ -99,18 +99,18 @@ pub(crate) fn find_parts(
     requires { fits (length tables.now.contracts) portfolio.now.holdings ≡ true }
     ensures { OnOk result (ArePartsFrom tables.now portfolio.now.holdings 0 memory.new.parts.items) }
 {
-    let list = gather_held(alloc, tables, portfolio)?;
-    memory.parts.clear();
-    memory.parts.reserve(list.len())?;
-    for one in &list {
-        let part = part_of(
-            tables,
-            one.commodity,
-            &one.held,
-            &mut memory.months,
-            &mut memory.tiers,
-        )?;
-        memory.parts.push(part)?;
+    let RunMemory {
+        held,
+        months,
+        tiers,
+        parts,
+    } = memory;
+    gather_held(alloc, tables, portfolio, held)?;
+    parts.clear();
+    parts.reserve(held.found.len())?;
+    for one in &held.found {
+        let part = part_of(tables, one.commodity, &one.held, months, tiers)?;
+        parts.push(part)?;
     }
     Ok(())
 }

@@ -1,6 +1,7 @@
 //! The memory that whole runs work in.
 use scan_risk::Scan;
 use span_money::amounts::{Money, Units};
+use span_tables::held::HeldMemory;
 use spread_stage::months::Months;
 use spread_stage::tiers::TierState;
 use std::alloc::Global;
@@ -22,6 +23,7 @@ pub(crate) struct Part {
 /// batch one after another, and a run takes less memory of its own.
 #[derive(Drop)]
 pub struct RunMemory {
+    pub(crate) held: HeldMemory,
     pub(crate) months: Months,
     pub(crate) tiers: TierState,
     pub(crate) parts: Vec<Part>,
@@ -31,6 +33,7 @@ impl RunMemory {
     /// Memory that no run has used yet. It takes nothing from the allocator.
     pub fn new(alloc: Global) -> RunMemory {
         RunMemory {
+            held: HeldMemory::new(alloc),
             months: Months::none(alloc),
             tiers: TierState::none(alloc),
             parts: Vec::new(alloc),

@@ -51,4 +51,4 @@ returns-in_ok-insert c =
     (inserted t limits holdings c.args.run.now c.args.commodity of known lists before place
     (record { commodity = c.args.commodity; holdings = c.in_ok-holdings.holdings })
     (omega (arith, c.partition_point-place.ensures.bound)) below
-    (above_place lists c.args.commodity place before.rise most other) refl c.in_ok-holdings.ensures.items c.requires)
+    (above_place lists c.args.commodity place before.rise most other) refl c.in_ok-holdings.ensures c.requires)

@@ -13,8 +13,8 @@ loop-of-init c =
     let hs = c.args.portfolio.now.holdings in
     let given = sym c.into_iter-of-iterator.ensures.into_iter_gives.0 in
     subst (λ (list : List CommodityHeld). ArePlaced t hs list c.in_ok-held.held.items) given
-    (subst (λ (held : List (List HeldContract)). ArePlaced t hs c.in_ok-some.some.items held) (sym c.in_ok-held.ensures)
-    (placed_none t hs c.in_ok-some.some.items c.in_ok-some.ensures))
+    (subst (λ (held : List (List HeldContract)). ArePlaced t hs c.gather_held.new.memory.found.items held) (sym c.in_ok-held.ensures)
+    (placed_none t hs c.gather_held.new.memory.found.items c.in_ok-gather_held.ensures))
 
 pub index_mut-requires : goal.index_mut-requires
 index_mut-requires c =

@@ -10,7 +10,7 @@ loop-one-init c =
     let holdings = (c.args.portfolio.now).holdings in (
       0,
       subst (AreHeldFrom t holdings 0) (sym c.deref-one-items.ensures.value)
-          (held_from t holdings c.in_ok-list.list.items c.in_ok-list.ensures),
+          (held_from t holdings c.gather_held.new.memory.found.items c.in_ok-gather_held.ensures),
       λ rest parts. rw c.in_ok-reserve.ensures.items (rw c.clear.ensures.items parts),
     )
 
@@ -35,7 +35,7 @@ loop-one-preserved c =
       λ rest parts.
           let from = subst (λ n. ArePartsFrom t holdings (n + 1) rest) (sym number) parts in
           subst (ArePartsFrom t holdings 0) (sym (ap (λ ps. ps ++ rest) c.in_ok-push.ensures.items
-          ∙ append_assoc c.loop-one.memory.parts.items (part ∷ []) rest)) (before.2 (part ∷ rest) (next, is here.1, from)),
+          ∙ append_assoc c.loop-one.parts.items (part ∷ []) rest)) (before.2 (part ∷ rest) (next, is here.1, from)),
     )
 
 pub returns : goal.returns
@@ -44,4 +44,4 @@ returns c =
     let holdings = (c.args.portfolio.now).holdings in
     let before = c.loop-one.invariant in
     let end = no_held t holdings c.deref-one-items.result.now c.loop-one.one-index c.loop-one.invariant.0 c.loop-one-test.false before.1 in
-    subst (ArePartsFrom t holdings 0) (append-nil c.loop-one.memory.parts.items) (before.2 [] end)
+    subst (ArePartsFrom t holdings 0) (append-nil c.loop-one.parts.items) (before.2 [] end)

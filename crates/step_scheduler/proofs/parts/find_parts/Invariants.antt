@@ -7,4 +7,4 @@ abbrev pub invariant-loop-one : goal.invariant-loop-one
 invariant-loop-one l =
     (next : ℕ) × AreHeldFrom l.tables (l.portfolio).holdings next (drop l.one-index l.one-items)
     × ((rest : List Part) → ArePartsFrom l.tables (l.portfolio).holdings next rest
-    → ArePartsFrom l.tables (l.portfolio).holdings 0 (l.memory.parts.items ++ rest))
+    → ArePartsFrom l.tables (l.portfolio).holdings 0 (l.parts.items ++ rest))
