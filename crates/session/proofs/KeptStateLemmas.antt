@@ -219,7 +219,7 @@ none_alike name [] none = tt
 none_alike name (n ∷ names) none =
     let parts = or_parts (bytes_eq name n) (list_any (bytes_eq name) names) none in (parts.0, none_alike name names parts.1)
 
--- names of which none is there twice
+-- names without a repeat are distinct
 once_of : (names : List (List ℕ)) → has_repeat bytes_eq names ≡ false → IsDistinct bytes_eq names
 unfolding IsDistinct
 once_of [] apart = tt

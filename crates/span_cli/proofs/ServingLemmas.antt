@@ -208,7 +208,7 @@ read_runs file asked files came h comes = of_files (found_by file asked) h where
 
 -- ---- what goes out of it
 
--- no turns are those of any command
+-- if there are no turns, no command has any
 no_turns : (command : Command) → turns_in command [] ≡ []
 no_turns Check = refl
 no_turns Plan = refl
@@ -219,7 +219,7 @@ no_turns (WhatIf workers) = refl
 no_turns Faults = refl
 no_turns (Session workers) = refl
 
--- those of a session are
+-- a command that takes requests has all turns
 all_turns : (command : Command) (turns : List Turn) → takes_requests command ≡ true → turns_in command turns ≡ turns
 all_turns Check turns takes = cc
 all_turns Plan turns takes = cc

@@ -57,7 +57,7 @@ asked_log s turns = asked_from 1 s turns
 told_log : (s : State) (turns : List Turn) → told_in (log_of s turns) ≡ flat (texts_from s turns)
 told_log s turns = ap (λ bytes. opening_text s ++ bytes) (told_from 1 s turns)
 
--- the requests in the log are those of the turns
+-- the log has the requests of the turns
 served_requests : (s : State) (r : Result (Unit {0}) DeskFault) (turns : List Turn) (log : List Event) → IsServed s r turns [] log
     → asked_in log ≡ requests_of turns
 served_requests s (Ok done) turns log is = ap asked_in is ∙ asked_log s turns
@@ -149,7 +149,7 @@ module _ (file : List ℕ → Option File) (s : State) (turns : List Turn) (d : 
     cause = cause r d.output.failed;
   }
 
--- a session that was served told its answers, its status and its line
+-- a session that was served printed its answers and its line, and gave its status
 pub serves_session : {S : Type 0} (file : List ℕ → Option File) (reads : S → List ℕ → Bool → S → Type 0) (before after : S) (s : State)
     (r : Result (Unit {0}) DeskFault) (d : Dealings) (input : Option (List ℕ)) (given : ℕ) (old_out new_out old_err new_err : Stream)
     → ((turns : List Turn) × AreFromSource file reads before turns after × IsServed s r turns [] d.log

@@ -1,4 +1,4 @@
--- What is told of an answer, over two writers that remember a failed write.
+-- How an answer is reported: what is printed on two writers that remember a failed write, and the status.
 use Rattle.std.specs.Prelude.{◌≡◌, ◌⊎◌, ℕ, Bool, true, List, [], ◌∷◌, Option, Some, None, codes, if◌then◌else◌}
 use Rattle.clap.specs.Words.{Kinds}
 use Rattle.clap.specs.declared.error.kind.ErrorKind.{ErrorKind}
@@ -12,11 +12,11 @@ use Rattle.span_cli.specs.Sessions.{Outside}
 abbrev pub unwritten : Answer
 unwritten = refused FILE_FAILED (file_line (codes "output"))
 
--- what is told in the end, where a write of the output failed or not
+-- what is reported in the end, if a write of the output failed or not
 abbrev pub told : Bool → Answer → Answer
 told failed answer = if failed then unwritten else answer
 
--- the answer was told
+-- the answer was reported
 pub record Tells (answer : Answer) (given : ℕ) (old_out new_out old_err new_err : Stream) : Type 0 where
   -- the status is the answer's, or that of an output that could not be written
   pub status : given ≡ (told new_out.failed answer).status
@@ -27,25 +27,25 @@ pub record Tells (answer : Answer) (given : ℕ) (old_out new_out old_err new_er
   -- the output fails only for an answer that has nothing for the error stream
   pub cause : new_out.failed ≡ true → answer.err ≡ []
 
--- an answer to what is asked was told
+-- an answer to what is asked was reported
 pub record TellsAnswer (outside : Outside) (asked : Asked) (given : ℕ) (old_out new_out old_err new_err : Stream)
     : Type 0 where
   pub answer : Answer
   pub is : IsAnswer outside asked answer
   pub told : Tells answer given old_out new_out old_err new_err
 
--- the answer to what is asked was told, or out of memory, and then no request was taken
+-- the answer to what is asked was reported, or out of memory, and then no request was taken
 abbrev pub Serves : Outside → Asked → ℕ → Stream → Stream → Stream → Stream → Type 0
 Serves outside asked given old_out new_out old_err new_err =
     TellsAnswer outside asked given old_out new_out old_err new_err
     ⊎ ((outside.turns ≡ []) × Tells memory given old_out new_out old_err new_err)
 
--- what words ask for was answered, or out of memory was told; of words that ask for nothing that never holds
+-- what words ask for was answered, or out of memory was reported; of words that ask for nothing that never holds
 abbrev pub ServesAsked : Outside → Option Asked → ℕ → Stream → Stream → Stream → Stream → Type 0
 ServesAsked outside None given old_out new_out old_err new_err = ⊥
 ServesAsked outside (Some asked) given old_out new_out old_err new_err = Serves outside asked given old_out new_out old_err new_err
 
--- A mistake of usage was told: nothing went to the output. The text on the error stream is the reader's of the words.
+-- A mistake of usage was reported: nothing went to the output. The text on the error stream is the reader's of the words.
 pub record IsMistake (given : ℕ) (old_out new_out : Stream) : Type 0 where
   pub status : given ≡ USAGE
   pub out : new_out ≡ old_out
@@ -56,20 +56,20 @@ pub record IsShown (given : ℕ) (new_out old_err new_err : Stream) : Type 0 whe
   pub status : given ≡ (told new_out.failed (done [])).status
   pub err : Says old_err new_err (told new_out.failed (done [])).err
 
--- what is told where the words are refused for this kind of reason
+-- what is reported if the words are refused for this kind of reason
 abbrev pub RefusesWords : ErrorKind → ℕ → Stream → Stream → Stream → Stream → Type 0
 RefusesWords kind.OutOfMemory given old_out new_out old_err new_err = Tells memory given old_out new_out old_err new_err
 RefusesWords kind.DisplayHelp given old_out new_out old_err new_err = IsShown given new_out old_err new_err
 RefusesWords kind.DisplayVersion given old_out new_out old_err new_err = IsShown given new_out old_err new_err
 RefusesWords other given old_out new_out old_err new_err = IsMistake given old_out new_out
 
--- what is told where the words may be refused for these kinds of reason, or because memory ran out
+-- what is reported if the words may be refused for these kinds of reason, or because memory ran out
 abbrev pub RefusesWordsBy : Kinds → ℕ → Stream → Stream → Stream → Stream → Type 0
 RefusesWordsBy [] given old_out new_out old_err new_err = Tells memory given old_out new_out old_err new_err
 RefusesWordsBy (k ∷ ks) given old_out new_out old_err new_err =
     RefusesWords k given old_out new_out old_err new_err ⊎ RefusesWordsBy ks given old_out new_out old_err new_err
 
--- What is told of words that may be refused for these kinds of reason: where there is none their request is answered.
+-- What is reported of words that may be refused for these kinds of reason: if there is none, their request is answered.
 abbrev pub AnswersWords : Kinds → Type 0 → ℕ → Stream → Stream → Stream → Stream → Type 0
 AnswersWords [] answered given old_out new_out old_err new_err = answered
 AnswersWords (k ∷ ks) answered given old_out new_out old_err new_err =
