@@ -130,7 +130,7 @@ const EXPLAIN: CommandRow = CommandRow {
     name: "explain",
     about: "Print why each figure of a margin statement is what it is",
     more: "\
-Print for each account, and for each commodity of which it holds a contract, lines from which its figures can be
+Print for each account, and for each commodity that the account holds, lines from which its figures can be
 computed by hand, and then its R line; after its commodities its T line. Each line begins with its word, the
 account, the set and, but for T, the commodity. Behind them stand:
   HELD    contract,type,month,quantity; under a set of version 2 also the value of that position
