@@ -6,7 +6,6 @@ use Rattle.span_tables.specs.Faults.{ok_unless}
 use Rattle.span_tables.specs.Holdings.{fits}
 use Rattle.span_tables.specs.Net.{AccountHoldings}
 use Rattle.span_tables.specs.Orders.{account_of_order, holdings_among, orders_in, positions_of_order}
-use Rattle.span_tables.specs.Tables.{AcceptedTables}
 use Rattle.span_tables.specs.declared.portfolios.Holding.{Holding}
 use Rattle.span_tables.specs.declared.records.Contract.{Contract}
 use Rattle.span_tables.specs.declared.records.OrderRecord.{OrderRecord}
@@ -15,9 +14,7 @@ use Rattle.binding.specs.OrderBinding.{TriedOrder, TriedOrders, holdings_before,
 use Rattle.binding.specs.declared.faults.OrderBindFault.{OrderBindFault}
 use Rattle.binding.specs.declared.trades.Trade.{Trade}
 use Rattle.explanation.proofs.FileLemmas.{found_fits}
-use Rattle.step_scheduler.specs.Rows.{RowView}
-use Rattle.whatif.specs.near.Numbers.{AreNumbers, IsTried, no_order, order_at}
-use Rattle.whatif.specs.declared.numbers.Numbers.{Numbers}
+use Rattle.whatif.specs.near.Numbers.{no_order, order_at}
 use Rattle.session.specs.Answers.{trade_records}
 use Rattle.session.proofs.TriedLemmas.{one_order}
 
@@ -30,6 +27,25 @@ among_fits n own name all = by (find (λ p. bytes_eq p.account name) own) refl
         → fits n (unwrap_or (option_map (λ (p : AccountHoldings). p.holdings) o) []) ≡ true
     by None e = refl
     by (Some p) e = found_fits n name own p e all
+
+-- what a call gives of the first order is in the order of number 0
+pub first_before : (tried : TriedOrders) (hs : List Holding)
+    → option_map (λ (o : TriedOrder). o.before.holdings) (slice_get tried.orders 0) ≡ Some hs → hs ≡ (order_at tried 0).before.holdings
+first_before tried hs is = by tried.orders is
+  where
+    by : (orders : List TriedOrder) → option_map (λ (o : TriedOrder). o.before.holdings) (slice_get orders 0) ≡ Some hs
+        → hs ≡ (slice_index_or orders 0 no_order).before.holdings
+    by [] e = cc
+    by (o ∷ orders) e = cc
+
+pub first_after : (tried : TriedOrders) (after : AccountHoldings)
+    → option_map (λ (o : TriedOrder). o.after) (slice_get tried.orders 0) ≡ Some after → after ≡ (order_at tried 0).after
+first_after tried after is = by tried.orders is
+  where
+    by : (orders : List TriedOrder) → option_map (λ (o : TriedOrder). o.after) (slice_get orders 0) ≡ Some after
+        → after ≡ (slice_index_or orders 0 no_order).after
+    by [] e = cc
+    by (o ∷ orders) e = cc
 
 module _ (contracts : List Contract) (own : List AccountHoldings) where
   abbrev found : List OrderRecord → TriedOrders
@@ -63,9 +79,6 @@ module _ (contracts : List Contract) (own : List AccountHoldings) where
   -- the trades of one order are bound as that one order
   module _ (order account : List ℕ) (trades : List Trade) (some : 0 < length trades) (tried : TriedOrders)
       (bound : orders_bound contracts own (trade_records order account trades) ≡ Ok tried) where
-    abbrev this : TriedOrder
-    this = tried_order contracts own (trade_records order account trades) order
-
     one_named : (trades : List Trade) → 0 < length trades → orders_in (trade_records order account trades) ≡ order ∷ []
     one_named [] some = absurd (omega (arith, some))
     one_named (t ∷ trades) some = one_order order account t trades
@@ -79,48 +92,30 @@ module _ (contracts : List Contract) (own : List AccountHoldings) where
     pub tried_some : 0 < length tried.orders
     tried_some = subst (λ orders. 0 < length orders) (sym one_tried) (omega arith)
 
-    pub after_is : (after : AccountHoldings) → option_map (λ (o : TriedOrder). o.after) (slice_get tried.orders 0) ≡ Some after
-        → after ≡ (tried_order contracts own (trade_records order account trades) order).after
-    after_is after e =
-        let first = ap (λ orders. option_map (λ (o : TriedOrder). o.after) (slice_get orders 0)) one_tried in
-        let both : Some (this.after) ≡ Some after = sym first ∙ e in
-        cc
-
-    pub after_fits : (after : AccountHoldings) → option_map (λ (o : TriedOrder). o.after) (slice_get tried.orders 0) ≡ Some after
-        → fits (length contracts) after.holdings ≡ true
-    after_fits after e =
-        let records = trade_records order account trades in
-        subst (λ (p : AccountHoldings). fits (length contracts) p.holdings ≡ true) (sym (after_is after e))
-        (holdings_with_fits contracts (holdings_before own records order) (positions_of_order records order)
-        (account_of_order records order))
-
-    -- what the account holds before them
-    pub before_is : (hs : List Holding) → option_map (λ (o : TriedOrder). o.before.holdings) (slice_get tried.orders 0) ≡ Some hs
-        → hs ≡ (tried_order contracts own (trade_records order account trades) order).before.holdings
-    before_is hs e =
-        let first = ap (λ orders. option_map (λ (o : TriedOrder). o.before.holdings) (slice_get orders 0)) one_tried in
-        let both : Some (this.before.holdings) ≡ Some hs = sym first ∙ e in
-        cc
-
-    pub before_fits : All (λ p. fits (length contracts) p.holdings ≡ true) own → (hs : List Holding)
-        → option_map (λ (o : TriedOrder). o.before.holdings) (slice_get tried.orders 0) ≡ Some hs → fits (length contracts) hs ≡ true
-    before_fits all hs e =
-        subst (λ held. fits (length contracts) held ≡ true) (sym (before_is hs e))
-        (among_fits (length contracts) own (account_of_order (trade_records order account trades) order) all)
-
     -- they are the order of number 0
     pub first_is : order_at tried 0 ≡ tried_order contracts own (trade_records order account trades) order
     first_is = ap (λ orders. slice_index_or orders 0 no_order) one_tried
 
-    -- the numbers before them and the row behind them are what their lines are made of
-    pub tried_is : (t : AcceptedTables) (numbers : Numbers) (row : RowView) (hs : List Holding) (after : AccountHoldings)
-        → row.set.tables ≡ t → row.portfolio ≡ after → AreNumbers t hs numbers
-        → option_map (λ (o : TriedOrder). o.before.holdings) (slice_get tried.orders 0) ≡ Some hs
-        → option_map (λ (o : TriedOrder). o.after) (slice_get tried.orders 0) ≡ Some after
-        → IsTried t (order_at tried 0) numbers row
-    tried_is t numbers row hs after tables portfolio are before behind = record {
-      tables_are = tables;
-      before_is = subst (λ held. AreNumbers t held numbers)
-          (before_is hs before ∙ sym (ap (λ (o : TriedOrder). o.before.holdings) first_is)) are;
-      after_is = portfolio ∙ after_is after behind ∙ sym (ap (λ (o : TriedOrder). o.after) first_is);
-    }
+    -- what its account holds without it and with it fits
+    pub before_fits : All (λ p. fits (length contracts) p.holdings ≡ true) own
+        → fits (length contracts) (order_at tried 0).before.holdings ≡ true
+    before_fits all =
+        subst (λ (o : TriedOrder). fits (length contracts) o.before.holdings ≡ true) (sym first_is)
+        (among_fits (length contracts) own (account_of_order (trade_records order account trades) order) all)
+
+    pub with_fits : fits (length contracts) (order_at tried 0).after.holdings ≡ true
+    with_fits =
+        let records = trade_records order account trades in
+        subst (λ (o : TriedOrder). fits (length contracts) o.after.holdings ≡ true) (sym first_is)
+        (holdings_with_fits contracts (holdings_before own records order) (positions_of_order records order)
+        (account_of_order records order))
+
+    -- what a call gives of it with its trades
+    pub after_is : (after : AccountHoldings) → option_map (λ (o : TriedOrder). o.after) (slice_get tried.orders 0) ≡ Some after
+        → after ≡ (tried_order contracts own (trade_records order account trades) order).after
+    after_is after e = first_after tried after e ∙ ap (λ (o : TriedOrder). o.after) first_is
+
+    pub after_fits : (after : AccountHoldings) → option_map (λ (o : TriedOrder). o.after) (slice_get tried.orders 0) ≡ Some after
+        → fits (length contracts) after.holdings ≡ true
+    after_fits after e =
+        subst (λ (p : AccountHoldings). fits (length contracts) p.holdings ≡ true) (sym (first_after tried after e)) with_fits

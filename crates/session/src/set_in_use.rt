@@ -7,6 +7,7 @@ ghost use Rattle.std.specs.Arc.{arc_value};
 ghost use Rattle.std.specs.Option.{option_copied, option_to_list};
 ghost use Rattle.std.specs.Prelude.{◌≡◌, ◌++◌, ◌<◌, ⊤, IfErr, IfOk, MatchBool, None, OnOk, Some, length, option_map, slice_get};
 ghost use Rattle.whatif.specs.Whatif.{order_text};
+ghost use Rattle.whatif.specs.near.Numbers.{AreNumbers, order_at};
 ghost use Rattle.worker_pool.specs.Batches.{AllFit, FitsSet};
 
 use binding::faults::OrderBindFault;
@@ -22,7 +23,7 @@ use std::marker::Model;
 use std::sync::Arc;
 use step_scheduler::rows::Row;
 use whatif::lines::Trial;
-use whatif::numbers::numbers_of;
+use whatif::numbers::{Numbers, numbers_of};
 use whatif::portfolios::copied;
 use worker_pool::plain::Runs;
 
@@ -125,6 +126,30 @@ impl SetInUse {
         self.binder.bind(self.alloc, own, &records)
     }
 
+    // What the account of the first of some orders is margined at without it.
+    #[tactic(auto, using(crate::proofs::OrderLemmas::first_before))]
+    fn numbers_before(&mut self, orders: &Orders, account: &Name) -> Result<Numbers, AllocError>
+        requires some { 0 < length orders.now.orders }
+        requires fits { FitsSet self.old (order_at orders.now 0).before }
+        ensures same { self.new ≡ self.old }
+        ensures numbers { IfOk result (AreNumbers self.old.tables (order_at orders.now 0).before.holdings) }
+    {
+        let row = self.row(before(self.alloc, orders, account)?)?;
+        numbers_of(self.alloc, &row)
+    }
+
+    // The row of the account of the first of some orders with it.
+    #[tactic(auto, using(crate::proofs::OrderLemmas::first_after))]
+    fn row_after(&mut self, orders: &Orders) -> Result<Arc<Row>, AllocError>
+        requires some { 0 < length orders.now.orders }
+        requires fits { FitsSet self.old (order_at orders.now 0).after }
+        ensures same { self.new ≡ self.old }
+        ensures row { IfOk result (λ row. arc_value row ≡ record { set = self.old; portfolio = (order_at orders.now 0).after }) }
+    {
+        let after = self.binder.portfolio_after(self.alloc, orders, 0)?;
+        self.row(after)
+    }
+
     /// Appends the lines of trades as an order of an account, or gives their fault of B1 to B3. `known` is what the account holds, if it is
     /// known.
     pub(crate) fn push_tried(
@@ -147,11 +172,9 @@ impl SetInUse {
             (option_to_list (option_copied known.entry)) (trade_records order.now account.now trades.now) ≡ Some e)) }
     {
         let orders = self.bind(known, order, account, trades)?;
-        let without = self.row(before(self.alloc, &orders, account)?)?;
-        let numbers = numbers_of(self.alloc, &without)?;
-        let after = self.binder.portfolio_after(self.alloc, &orders, 0)?;
-        let with = self.row(after)?;
-        Trial::new(self.set.tables(), &orders, 0, &numbers, &with).push_to(out)?;
+        let numbers = self.numbers_before(&orders, account)?;
+        let row = self.row_after(&orders)?;
+        Trial::new(self.set.tables(), &orders, 0, &numbers, &row).push_to(out)?;
         Ok(())
     }
 

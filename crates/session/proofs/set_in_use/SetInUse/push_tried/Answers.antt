@@ -1,5 +1,4 @@
 use Rattle.std.proofs.Common.{rules, ◌≡◌, ◌∙◌, ◌++◌, Err, ap, length, subst, sym, true}
-use Rattle.std.specs.Arc.{arc_value}
 use Rattle.std.specs.Option.{option_copied, option_to_list}
 use Rattle.plan_compiler.specs.Compiled.{SetView}
 use Rattle.span_tables.specs.Holdings.{fits}
@@ -7,9 +6,9 @@ use Rattle.span_tables.specs.Tables.{AcceptedTables}
 use Rattle.step_scheduler.specs.Rows.{RowView}
 use Rattle.binding.specs.OrderBinding.{is_memory}
 use Rattle.whatif.specs.Whatif.{order_text}
-use Rattle.whatif.specs.near.Numbers.{AreNumbers}
+use Rattle.whatif.specs.near.Numbers.{AreNumbers, order_at}
 use Rattle.session.specs.Answers.{trade_records}
-use Rattle.session.proofs.OrderLemmas.{after_fits, before_fits, bound_ok, first_is, tried_is, tried_some, unfit_if}
+use Rattle.session.proofs.OrderLemmas.{before_fits, bound_ok, first_is, tried_some, unfit_if, with_fits}
 use Rattle.session.proofs.set_in_use.SetInUse.push_tried.Goals as goal
 
 pub returns-in_err-orders-clause-unfit : goal.returns-in_err-orders-clause-unfit
@@ -19,45 +18,49 @@ returns-in_err-orders-clause-unfit c =
     (trade_records c.args.order.now c.args.account.now c.args.trades.now) c.in_err-orders.field-0.0
     (is_memory c.in_err-orders.field-0.0) c.in_err-orders.ensures.orders)
 
-pub before-requires : goal.before-requires
-before-requires c =
+pub numbers_before-requires-clause-some : goal.numbers_before-requires-clause-some
+numbers_before-requires-clause-some c =
     tried_some c.args.self.now.tables.contracts (option_to_list (option_copied c.args.known)) c.args.order.now c.args.account.now
     c.args.trades.now c.requires.trades.some c.in_ok-orders.orders c.in_ok-orders.ensures.orders
 
-pub row-requires : goal.row-requires
-row-requires c =
-    subst (λ (set : SetView). fits (length set.tables.contracts) c.in_ok-before.field-0.holdings ≡ true) (sym c.bind.ensures.same)
+pub numbers_before-requires-clause-fits : goal.numbers_before-requires-clause-fits
+numbers_before-requires-clause-fits c =
+    subst (λ (set : SetView). fits (length set.tables.contracts) (order_at c.in_ok-orders.orders 0).before.holdings ≡ true)
+    (sym c.bind.ensures.same)
     (before_fits c.args.self.now.tables.contracts (option_to_list (option_copied c.args.known)) c.args.order.now c.args.account.now
-    c.args.trades.now c.requires.trades.some c.in_ok-orders.orders c.in_ok-orders.ensures.orders c.requires.fits
-    c.in_ok-before.field-0.holdings c.in_ok-before.ensures)
+    c.args.trades.now c.requires.trades.some c.in_ok-orders.orders c.in_ok-orders.ensures.orders c.requires.fits)
 
-pub row-requires-2 : goal.row-requires-2
-row-requires-2 c =
-    let set : arc_value c.self-2.inside.set ≡ c.args.self.now = c.self-2.view_is ∙ c.row.ensures.same ∙ c.bind.ensures.same in
-    subst (λ (view : SetView). fits (length view.tables.contracts) c.in_ok-after.after.holdings ≡ true) (sym set)
-    (after_fits c.args.self.now.tables.contracts (option_to_list (option_copied c.args.known)) c.args.order.now c.args.account.now
+pub row_after-requires-clause-some : goal.row_after-requires-clause-some
+row_after-requires-clause-some c =
+    tried_some c.args.self.now.tables.contracts (option_to_list (option_copied c.args.known)) c.args.order.now c.args.account.now
     c.args.trades.now c.requires.trades.some c.in_ok-orders.orders c.in_ok-orders.ensures.orders
-    c.in_ok-after.after c.in_ok-after.ensures.after)
+
+pub row_after-requires-clause-fits : goal.row_after-requires-clause-fits
+row_after-requires-clause-fits c =
+    subst (λ (set : SetView). fits (length set.tables.contracts) (order_at c.in_ok-orders.orders 0).after.holdings ≡ true)
+    (sym (c.numbers_before.ensures.same ∙ c.bind.ensures.same))
+    (with_fits c.args.self.now.tables.contracts (option_to_list (option_copied c.args.known)) c.args.order.now c.args.account.now
+    c.args.trades.now c.requires.trades.some c.in_ok-orders.orders c.in_ok-orders.ensures.orders)
+
+pub new-requires-clause-order : goal.new-requires-clause-order
+new-requires-clause-order c =
+    tried_some c.args.self.now.tables.contracts (option_to_list (option_copied c.args.known)) c.args.order.now c.args.account.now
+    c.args.trades.now c.requires.trades.some c.in_ok-orders.orders c.in_ok-orders.ensures.orders
 
 pub new-requires-clause-tried : goal.new-requires-clause-tried
 new-requires-clause-tried c =
-    let set : arc_value c.self-2.inside.set ≡ c.args.self.now = c.self-2.view_is ∙ c.row.ensures.same ∙ c.bind.ensures.same in
-    let last : arc_value c.self-3.inside.set ≡ c.args.self.now = c.self-3.view_is ∙ c.row-2.ensures.same ∙ set in
+    let before : c.numbers_before.new.self ≡ c.args.self.now = c.numbers_before.ensures.same ∙ c.bind.ensures.same in
+    let after : c.row_after.new.self ≡ c.args.self.now = c.row_after.ensures.same ∙ before in
     let tables : c.tables.result.now ≡ c.args.self.now.tables =
-    c.tables.ensures.tables ∙ ap (λ (view : SetView). view.tables) (c.deref-2.ensures ∙ last) in
-    let with : c.deref-3.result.now ≡ record { set = arc_value c.self-2.inside.set; portfolio = c.in_ok-after.after } =
-    c.deref-3.ensures ∙ c.in_ok-with.ensures.row in
-    let without : c.deref.result.now ≡ record { set = c.bind.new.self; portfolio = c.in_ok-before.field-0 } =
-    c.deref.ensures ∙ c.in_ok-without.ensures.row in
-    tried_is c.args.self.now.tables.contracts (option_to_list (option_copied c.args.known)) c.args.order.now c.args.account.now
-    c.args.trades.now c.requires.trades.some c.in_ok-orders.orders c.in_ok-orders.ensures.orders c.tables.result.now
-    c.in_ok-numbers.numbers c.deref-3.result.now c.in_ok-before.field-0.holdings c.in_ok-after.after
-    (ap (λ (r : RowView). r.set.tables) with ∙ ap (λ (view : SetView). view.tables) set ∙ sym tables)
-    (ap (λ (r : RowView). r.portfolio) with)
-    (subst (λ (t : AcceptedTables). AreNumbers t c.in_ok-before.field-0.holdings c.in_ok-numbers.numbers)
-    (ap (λ (view : SetView). view.tables) c.bind.ensures.same ∙ sym tables)
-    (subst (λ (r : RowView). AreNumbers r.set.tables r.portfolio.holdings c.in_ok-numbers.numbers) without c.in_ok-numbers.ensures))
-    c.in_ok-before.ensures c.in_ok-after.ensures.after
+    c.tables.ensures.tables ∙ ap (λ (view : SetView). view.tables) (c.deref.ensures ∙ c.self.view_is ∙ after) in
+    let row : c.deref-2.result.now ≡ record { set = c.numbers_before.new.self; portfolio = (order_at c.in_ok-orders.orders 0).after } =
+    c.deref-2.ensures ∙ c.in_ok-row.ensures.row in
+    record {
+      tables_are = ap (λ (r : RowView). r.set.tables) row ∙ ap (λ (view : SetView). view.tables) before ∙ sym tables;
+      before_is = subst (λ (t : AcceptedTables). AreNumbers t (order_at c.in_ok-orders.orders 0).before.holdings c.in_ok-numbers.numbers)
+          (ap (λ (view : SetView). view.tables) c.bind.ensures.same ∙ sym tables) c.in_ok-numbers.ensures.numbers;
+      after_is = ap (λ (r : RowView). r.portfolio) row;
+    }
 
 pub returns-clause-fit : goal.returns-clause-fit
 returns-clause-fit c =
@@ -66,10 +69,10 @@ returns-clause-fit c =
 
 pub returns-clause-lines : goal.returns-clause-lines
 returns-clause-lines c =
-    let set : arc_value c.self-2.inside.set ≡ c.args.self.now = c.self-2.view_is ∙ c.row.ensures.same ∙ c.bind.ensures.same in
-    let last : arc_value c.self-3.inside.set ≡ c.args.self.now = c.self-3.view_is ∙ c.row-2.ensures.same ∙ set in
+    let before : c.numbers_before.new.self ≡ c.args.self.now = c.numbers_before.ensures.same ∙ c.bind.ensures.same in
+    let after : c.row_after.new.self ≡ c.args.self.now = c.row_after.ensures.same ∙ before in
     let tables : c.tables.result.now ≡ c.args.self.now.tables =
-    c.tables.ensures.tables ∙ ap (λ (view : SetView). view.tables) (c.deref-2.ensures ∙ last) in
+    c.tables.ensures.tables ∙ ap (λ (view : SetView). view.tables) (c.deref.ensures ∙ c.self.view_is ∙ after) in
     let first = first_is c.args.self.now.tables.contracts (option_to_list (option_copied c.args.known)) c.args.order.now c.args.account.now
     c.args.trades.now c.requires.trades.some c.in_ok-orders.orders c.in_ok-orders.ensures.orders in
     c.in_ok-push_to.ensures
