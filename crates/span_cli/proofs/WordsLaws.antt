@@ -1,15 +1,17 @@
 -- Words that are taken, and the kinds of mistake of words that are not.
-use Rattle.std.proofs.Common.{◌≡◌, ◌&&◌, true, List, [], ◌∷◌, Option, Some, None, length, refl, arith, eqb-true, inl, inr}
-use Rattle.std.specs.Prelude.{◌⊎◌, is_some, option_and_then, if◌then◌else◌}
+use Rattle.std.proofs.Common.{◌≡◌, ◌&&◌, Bool, true, false, List, [], ◌∷◌, Option, Some, None, length, refl, arith, eqb-true, inl, inr}
+use Rattle.std.specs.List.{AllByRecursion}
+use Rattle.std.specs.Prelude.{◌⊎◌, ◌++◌, bytes_eq, codes, drop, is_some, option_and_then, if◌then◌else◌}
 use Rattle.clap.specs.Kinds.{or_else}
 use Rattle.clap.specs.Walk.{is_empty}
-use Rattle.clap.specs.Words.{HasKind, IsAmong, Kinds, Row, Text, kind_of, subcommand_of}
+use Rattle.clap.specs.Words.{HasKind, IsAmong, Kinds, Row, Text, first_of, kind_of, subcommand_of}
 use Rattle.clap.specs.declared.error.Error.{Error}
 use Rattle.clap.specs.declared.error.kind.ErrorKind.{ErrorKind}
 use Rattle.clap.specs.declared.error.kind.ErrorKind.TheVariants as kind
 use Rattle.clap.proofs.WalkLemmas.{both}
 use Rattle.span_cli.specs.Serving.{Asked}
-use Rattle.span_cli.specs.Words.{asked_among, asked_in, commands, form_kinds, is_request, kinds_of, span_app}
+use Rattle.span_cli.specs.Words.{CommandWords, FileWord, asked_among, asked_by_words, asked_in, commands, form_kinds, is_request}
+use Rattle.span_cli.specs.Words.{kinds_of, needed, span_app}
 
 -- ---- kinds and what is asked
 
@@ -35,6 +37,29 @@ taken_none ks o (well, some) = rw (well, some) refl
 more_kinds : (kinds more : Kinds) (k : ErrorKind) → IsAmong k kinds → IsAmong k (or_else kinds more)
 more_kinds [] more k among = absurd among
 more_kinds (x ∷ kinds) more k among = among
+
+-- ---- the parameter file
+
+-- a command whose first file has to be given asks for nothing without it
+without_first : (command : CommandWords) (id : Text) (files : List FileWord) (rows : List Row)
+    → command.files ≡ needed (id ∷ []) ++ files → first_of id rows ≡ None → asked_by_words command rows ≡ None
+without_first command id files rows is none = rw (is, none) refl
+
+unless_asked : (b : Bool) (x y : Option Asked) → x ≡ None → y ≡ None → (if b then x else y) ≡ None
+unless_asked true x y is other = is
+unless_asked false x y is other = other
+
+-- commands that need the parameter file ask for nothing without it
+none_among : (all : List CommandWords) (name : Text) (rows : List Row) → first_of (codes "PARAMS") rows ≡ None
+    → AllByRecursion (λ c. c.files ≡ needed (codes "PARAMS" ∷ []) ++ drop 1 c.files) all → asked_among all name rows ≡ None
+none_among [] name rows none need = refl
+none_among (c ∷ all) name rows none need =
+    unless_asked (bytes_eq name c.name) (asked_by_words c rows) (asked_among all name rows)
+    (without_first c (codes "PARAMS") (drop 1 c.files) rows need.0 none) (none_among all name rows none need.1)
+
+-- every command needs it
+pub without_params : (name : Text) (rows : List Row) → first_of (codes "PARAMS") rows ≡ None → asked_among commands name rows ≡ None
+without_params name rows none = none_among commands name rows none (refl, (refl, (refl, (refl, (refl, (refl, (refl, (refl, tt))))))))
 
 -- ---- words that are taken
 

@@ -396,48 +396,46 @@ fn account_asked(matches: &ArgMatches<'_>) -> Option<Option<Name>>
 }
 
 // What a command of this name asks for.
+#[tactic(auto, using(crate::proofs::WordsLaws::without_params))]
 fn request_under<'a>(name: &str, matches: &ArgMatches<'a>) -> Option<Request<'a>>
     ensures { option_map asked_by result ≡ asked_among commands name.now (rows_of (found_of matches.now)) }
 {
     let file = |file: FileArg| text(matches, file.id);
+    let params = file(PARAMS)?;
     match name {
         "margin" => Some(Request::Margin {
-            params: file(PARAMS)?,
+            params,
             positions: file(POSITIONS)?,
             workers: workers_asked(matches)?,
         }),
         "explain" => Some(Request::Explain {
-            params: file(PARAMS)?,
+            params,
             positions: file(POSITIONS)?,
             account: account_asked(matches)?,
         }),
         "whatif" => Some(Request::WhatIf {
-            params: file(PARAMS)?,
+            params,
             positions: file(POSITIONS)?,
             orders: file(ORDERS)?,
             workers: workers_asked(matches)?,
         }),
         "session" => Some(Request::Session {
-            params: file(PARAMS)?,
+            params,
             positions: file(POSITIONS)?,
             workers: workers_asked(matches)?,
         }),
         "roll" => Some(Request::Roll {
-            params: file(PARAMS)?,
+            params,
             next: file(NEXT)?,
             positions: file(POSITIONS)?,
             workers: workers_asked(matches)?,
         }),
         "faults" => Some(Request::Faults {
-            params: file(PARAMS)?,
+            params,
             positions: file(POSITIONS_TOO),
         }),
-        "check" => Some(Request::Check {
-            params: file(PARAMS)?,
-        }),
-        "plan" => Some(Request::Plan {
-            params: file(PARAMS)?,
-        }),
+        "check" => Some(Request::Check { params }),
+        "plan" => Some(Request::Plan { params }),
         _ => None,
     }
 }
