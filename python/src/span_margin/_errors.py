@@ -1,0 +1,157 @@
+"""Errors: a fault line of the program, taken apart, as an exception."""
+import os
+import re
+import signal
+import stat
+from typing import Dict, Match, Optional, Type
+
+_FAULT = re.compile(
+    r"(?P<file>(?:next )?(?:parameters|positions|orders|request|book|workers)): (?P<code>[A-Z]\d+) (?P<name>\w+)"
+    r"(?: at record (?P<record>\d+)| at field (?P<field>\d+))?"
+    r"(?: account (?P<account>[^ ]+))?(?: order (?P<order>[^ ]+))?(?: contract (?P<contract>[^ ]+))?"
+)
+LONGEST_FILE = 67108864  # bytes of a file that the program reads
+
+
+class SpanError(Exception):
+    """What the program refused, or why it could not be asked.
+
+    line      what the program printed, without the line end
+    status    its exit status; None if a session refused one request and goes on
+    file      what has the fault: parameters, next parameters, positions, next positions, orders, request; None if nothing is named
+    code      the code of the fault, such as B1
+    name      its name, such as UnknownContract
+    record    the number of the record, from 1; None in a session
+    field     of a request: the number of the field, from 1, or 0 for the whole request
+    account, order, contract    what the line names, or what the request named
+    """
+
+    def __init__(self, line: str, status: Optional[int] = None) -> None:
+        super().__init__(line, status)
+        self.line = line
+        self.status = status
+        self.file: Optional[str] = None
+        self.code: Optional[str] = None
+        self.name: Optional[str] = None
+        self.record: Optional[int] = None
+        self.field: Optional[int] = None
+        self.account: Optional[str] = None
+        self.order: Optional[str] = None
+        self.contract: Optional[str] = None
+        fault = match_fault(line)
+        if fault:
+            self.file, self.code, self.name = fault["file"], fault["code"], fault["name"]
+            self.record, self.field = number_of(fault["record"]), number_of(fault["field"])
+            self.account, self.order, self.contract = fault["account"], fault["order"], fault["contract"]
+
+    def __str__(self) -> str:
+        return self.line
+
+
+class UsageError(SpanError):
+    """Status 2: an argument is not one of the program's, such as a number of workers over 16 or an account that is no name."""
+
+
+class ParametersError(SpanError):
+    """Status 3: the parameter file is refused."""
+
+
+class PositionsError(SpanError):
+    """Status 4: the position file or the order file is refused, or it lacks the account that was asked for."""
+
+
+class OutOfMemoryError(SpanError):
+    """Status 5: the system gave the program no more memory."""
+
+
+class FileError(SpanError):
+    """Status 6: a file cannot be read.
+
+    filename  the name of the file
+    reason    why the operating system refuses it, such as "No such file or directory"; None if it does not
+    """
+
+    def __init__(self, line: str, status: Optional[int] = None) -> None:
+        super().__init__(line, status)
+        self.filename = line[len("file: ") :]
+        self.reason = why_not_readable(self.filename)
+
+    def __str__(self) -> str:
+        return f"{self.line}: {self.reason}" if self.reason else self.line
+
+
+class RollError(SpanError):
+    """Status 7: not to be expected; the files are not at fault."""
+
+
+class RequestError(SpanError):
+    """A session refused a request, which changed nothing. The session goes on."""
+
+
+class SessionEnded(SpanError):
+    """The session has ended, or was closed. `line` has what it printed on standard error."""
+
+
+class ProgramError(SpanError):
+    """There is no program, it has another version, a signal ended it, or it printed what this package cannot read."""
+
+
+_OF_STATUS: Dict[int, Type[SpanError]] = {
+    2: UsageError,
+    3: ParametersError,
+    4: PositionsError,
+    5: OutOfMemoryError,
+    6: FileError,
+    7: RollError,
+}
+_OF_FRONT: Dict[str, Type[SpanError]] = {
+    "parameters": ParametersError,
+    "positions": PositionsError,
+    "memory": OutOfMemoryError,
+    "file": FileError,
+}
+
+
+def match_fault(line: str) -> Optional[Match[str]]:
+    """The parts of a fault line, or None if the line is not one."""
+    return _FAULT.fullmatch(line)
+
+
+def number_of(digits: Optional[str]) -> Optional[int]:
+    return None if digits is None else int(digits)
+
+
+def why_not_readable(name: str) -> Optional[str]:
+    """Why a file cannot be read, in the words of the operating system, or None if it can."""
+    try:
+        descriptor = os.open(name, os.O_RDONLY | os.O_NONBLOCK | os.O_CLOEXEC)
+    except (OSError, ValueError) as error:
+        return getattr(error, "strerror", None) or str(error)
+    try:
+        about = os.fstat(descriptor)
+        if stat.S_ISDIR(about.st_mode):
+            return "Is a directory"
+        if stat.S_ISREG(about.st_mode) and about.st_size > LONGEST_FILE:
+            return f"longer than {LONGEST_FILE} bytes"
+        return None
+    finally:
+        os.close(descriptor)
+
+
+def error_of_status(status: int, line: str) -> SpanError:
+    """The error of a run that ended with this status, not 0, and printed this on standard error."""
+    if status < 0:
+        return ProgramError(f"signal {-status} ({signal_name(-status)}) ended span", status)
+    return _OF_STATUS.get(status, ProgramError)(line or f"span ended with status {status}", status)
+
+
+def error_of_request(what: str) -> SpanError:
+    """The error of a request that a session refused: `what` is the rest of its line."""
+    return _OF_FRONT.get(what.split(":")[0], RequestError)(what)
+
+
+def signal_name(number: int) -> str:
+    try:
+        return signal.Signals(number).name
+    except ValueError:
+        return "unknown"
