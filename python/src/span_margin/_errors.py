@@ -10,6 +10,7 @@ _FAULT = re.compile(
     r"(?: at record (?P<record>\d+)| at field (?P<field>\d+))?"
     r"(?: account (?P<account>[^ ]+))?(?: order (?P<order>[^ ]+))?(?: contract (?P<contract>[^ ]+))?"
 )
+_FIRST_PAIR = {"TRY": 3, "FILL": 2}
 LONGEST_FILE = 67108864  # bytes of a file that the program reads
 
 
@@ -85,7 +86,25 @@ class RollError(SpanError):
 
 
 class RequestError(SpanError):
-    """A session refused a request, which changed nothing. The session goes on."""
+    """A session refused a request, which changed nothing. The session goes on.
+
+    request   the request, such as `FILL,RIVER-01,CLX5,10`
+    """
+
+    def __init__(self, line: str, status: Optional[int] = None, request: str = "") -> None:
+        super().__init__(line, status)
+        self.request = request
+        fields = request.split(",")
+        first = _FIRST_PAIR.get(fields[0], 2)  # the index of the first contract
+        self.account = fields[first - 1] if len(fields) >= first else None
+        self.order = fields[1] if fields[0] == "TRY" else None
+        at = (self.field or 0) - 1
+        if first <= at < len(fields):
+            self.contract = fields[at - (at - first) % 2]
+
+    def __str__(self) -> str:
+        fields = self.request.split(",")
+        return f"{self.line}: {fields[self.field - 1]}" if self.field and self.field <= len(fields) else self.line
 
 
 class SessionEnded(SpanError):
@@ -145,9 +164,10 @@ def error_of_status(status: int, line: str) -> SpanError:
     return _OF_STATUS.get(status, ProgramError)(line or f"span ended with status {status}", status)
 
 
-def error_of_request(what: str) -> SpanError:
+def error_of_request(what: str, request: str) -> SpanError:
     """The error of a request that a session refused: `what` is the rest of its line."""
-    return _OF_FRONT.get(what.split(":")[0], RequestError)(what)
+    kind = _OF_FRONT.get(what.split(":")[0])
+    return kind(what) if kind else RequestError(what, request=request)
 
 
 def signal_name(number: int) -> str:

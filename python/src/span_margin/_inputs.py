@@ -10,7 +10,7 @@ from span_margin._errors import FileError
 
 Row = Union[Sequence[object], Mapping[str, object]]
 # What a call takes in place of a file: its path; its content; its rows, as tuples, dicts or a data frame.
-Source = Union[str, "os.PathLike[str]", bytes, bytearray, SupportsBytes, Iterable[Row]]
+Source = Union[str, "os.PathLike[str]", bytes, bytearray, memoryview, SupportsBytes, Iterable[Row]]
 
 POSITION = ("account", "contract", "quantity")
 ORDER = ("order", "account", "contract", "quantity")
@@ -48,10 +48,14 @@ class Inputs:
         """The path of a file with this source. `name` is what a file in the private directory is called."""
         if isinstance(source, (str, os.PathLike)):
             path = os.fspath(source)
-            return path if _can_be_named(path) else self.write(_read(path), name)
-        if isinstance(source, (bytes, bytearray, memoryview)) or hasattr(source, "__bytes__"):
+            return path if _can_be_named(path) else self.copy(path, name)
+        if isinstance(source, (bytes, bytearray, memoryview, SupportsBytes)):
             return self.write(bytes(source), name)
         return self.write(csv_of(source, columns), name)
+
+    def copy(self, path: str, name: str) -> str:
+        """The path of a new file with the content of a file. Raises FileError if it cannot be read."""
+        return self.write(_read(path), name)
 
     def write(self, content: bytes, name: str) -> str:
         """The path of a new file with this content."""

@@ -1,20 +1,237 @@
-"""What the program prints, line by line, as frozen dataclasses."""
-from dataclasses import dataclass
-from typing import Iterator, Optional, Tuple
+"""The lines that the program prints, as frozen dataclasses with a field for each field of the line.
 
-from span_margin._errors import ProgramError, match_fault, number_of
+Amounts are in minor units of the currency of the parameter set, quantities in contracts, deltas and spreads in deltas. Months are six
+digits, yyyymm. Every line of a statement, explanation or order has the id of the parameter set that it was computed under: `set`.
+"""
+from dataclasses import dataclass, fields
+from decimal import Decimal
+from typing import Any, Callable, Dict, List, NamedTuple, Optional, Tuple, Type, get_type_hints
+
+from span_margin._amounts import Amount, ExactAmount
+from span_margin._errors import ProgramError, match_fault
+
+@dataclass(frozen=True)
+class Line:
+    """One line, or what belongs to one."""
+
+    def to_dict(self) -> Dict[str, Any]:
+        """The fields by their names. Objects in fields are dicts too, and tuples lists."""
+        return {field.name: _plain(getattr(self, field.name)) for field in fields(self)}
+
+
+def _plain(value: Any) -> Any:
+    if isinstance(value, Line):
+        return value.to_dict()
+    if isinstance(value, tuple):
+        return [_plain(it) for it in value]
+    return value
 
 
 @dataclass(frozen=True)
-class Fault:
-    """One fault of a file.
+class CommodityMargin(Line):
+    """An R line: the requirement of an account in one commodity. No amount is negative.
 
-    line     the fault line, such as `positions: B1 UnknownContract at record 2 account Y`
+    scan_risk, active_scenario                the largest loss of the sixteen scenarios, and the number of its scenario, 1 to 16
+    intracommodity_charge, delivery_charge    charges for calendar spreads, and for months near delivery
+    credit                                    the intercommodity credit, which is subtracted
+    minimum                                   the short option minimum
+    requirement                               what the account has to bring for this commodity
+    """
+
+    account: str
+    set: str
+    commodity: str
+    scan_risk: Amount
+    active_scenario: int
+    intracommodity_charge: Amount
+    delivery_charge: Amount
+    credit: Amount
+    minimum: Amount
+    requirement: Amount
+
+
+@dataclass(frozen=True)
+class AccountTotal(Line):
+    """A T line: the total of an account. Under a set of version 1, value, due and excess are None.
+
+    total    the sum of the requirements
+    value    the option value, negative if short options are worth more
+    due      total less value, and not below 0
+    excess   value less total, and not below 0
+    """
+
+    account: str
+    set: str
+    total: Amount
+    value: Optional[Amount] = None
+    due: Optional[Amount] = None
+    excess: Optional[Amount] = None
+
+
+@dataclass(frozen=True)
+class Held(Line):
+    """A HELD line: a contract that the account holds. `type` is F, C or P; `value` is None under a set of version 1."""
+
+    account: str
+    set: str
+    commodity: str
+    contract: str
+    type: str
+    month: str
+    quantity: int
+    value: Optional[Amount] = None
+
+
+@dataclass(frozen=True)
+class Sums(Line):
+    """A SUMS line: the losses in scenarios 1 to 16, gains negative."""
+
+    account: str
+    set: str
+    commodity: str
+    sums: Tuple[Amount, ...]
+
+
+@dataclass(frozen=True)
+class Scan(Line):
+    """A SCAN line. `paired_scenario` has the other volatility; `price_risk` is what the credit is a part of."""
+
+    account: str
+    set: str
+    commodity: str
+    scan_risk: Amount
+    active_scenario: int
+    paired_scenario: int
+    price_risk: ExactAmount
+
+
+@dataclass(frozen=True)
+class Month(Line):
+    """A MONTH line: the delta of a month, and what calendar spreads left of it."""
+
+    account: str
+    set: str
+    commodity: str
+    month: str
+    delta: Decimal
+    left: Decimal
+
+
+@dataclass(frozen=True)
+class Intra(Line):
+    """An INTRA line: calendar spreads that formed. `long_side` is A or B, `rate` the charge for one spread."""
+
+    account: str
+    set: str
+    commodity: str
+    priority: int
+    long_side: str
+    spreads: Decimal
+    rate: Amount
+    charge: ExactAmount
+
+
+@dataclass(frozen=True)
+class Spot(Line):
+    """A SPOT line: deltas near delivery that spreads used, and that they left, with the rate of each."""
+
+    account: str
+    set: str
+    commodity: str
+    month: str
+    used: Decimal
+    spread_rate: Amount
+    left: Decimal
+    outright_rate: Amount
+    charge: ExactAmount
+
+
+@dataclass(frozen=True)
+class Inter(Line):
+    """An INTER line: spreads with other commodities. `basis_points` is the credit rate, 10000 for all of the price risk."""
+
+    account: str
+    set: str
+    commodity: str
+    priority: int
+    long_side: str
+    spreads: Decimal
+    delta_used: Decimal
+    basis_points: int
+
+
+@dataclass(frozen=True)
+class Credit(Line):
+    """A CREDIT line. `weight` is the sum over the INTER lines of deltas used times basis points."""
+
+    account: str
+    set: str
+    commodity: str
+    price_risk: ExactAmount
+    net_delta: Decimal
+    weight: Decimal
+
+
+@dataclass(frozen=True)
+class Short(Line):
+    """A SHORT line: short calls and puts in contracts, how they are counted (SUM or MAX), and the minimum rate of one."""
+
+    account: str
+    set: str
+    commodity: str
+    short_calls: int
+    short_puts: int
+    method: str
+    rate: Amount
+
+
+@dataclass(frozen=True)
+class Change(Line):
+    """A CHANGE line: the requirement of a commodity before and after an order. `change` is after less before."""
+
+    order: str
+    account: str
+    set: str
+    commodity: str
+    before: Amount
+    after: Amount
+    change: Amount
+
+
+@dataclass(frozen=True)
+class OrderTotal(Line):
+    """An ORDER line: the total of the account before and after an order, and under a set of version 2 also what is due."""
+
+    order: str
+    account: str
+    set: str
+    before: Amount
+    after: Amount
+    change: Amount
+    due_before: Optional[Amount] = None
+    due_after: Optional[Amount] = None
+    due_change: Optional[Amount] = None
+
+
+@dataclass(frozen=True)
+class Position(Line):
+    """A position record: the net quantity of an account in a contract, short negative."""
+
+    account: str
+    contract: str
+    quantity: int
+
+
+@dataclass(frozen=True)
+class Fault(Line):
+    """A fault line: one fault of a file.
+
+    line     the line as it is printed, such as `positions: B1 UnknownContract at record 2 account Y`
     file     the file that has the fault: `parameters` or `positions`
     code     the code, such as B1
     name     its name, such as UnknownContract
     record   the number of the record, from 1; 0 if the parameter file has no record
-    account  the account that the line names, if it names one
+    account  the account that the line names, or None
     """
 
     line: str
@@ -26,25 +243,103 @@ class Fault:
 
 
 @dataclass(frozen=True)
-class Faults:
-    """All faults of the files, in the order in which the program lists them. It is false if there is none."""
+class SetCounts(Line):
+    """An OK line: an accepted parameter set, and how many records of each kind it has."""
 
-    faults: Tuple[Fault, ...]
-
-    @classmethod
-    def of_lines(cls, text: str) -> "Faults":
-        """The faults that `span faults` printed."""
-        return cls(tuple(_fault(line) for line in text.splitlines()))
-
-    def __iter__(self) -> Iterator[Fault]:
-        return iter(self.faults)
-
-    def __len__(self) -> int:
-        return len(self.faults)
+    set: str
+    commodities: int
+    contracts: int
+    tiers: int
+    intras: int
+    spots: int
+    inters: int
 
 
-def _fault(line: str) -> Fault:
+_CONVERTERS: Dict[Any, Callable[[str], Any]] = {
+    str: str,
+    int: int,
+    Decimal: Decimal,
+    Amount: Amount,
+    Optional[Amount]: Amount,
+    ExactAmount: ExactAmount,
+}
+
+
+class Form(NamedTuple):
+    """How the lines of one word become objects: the name and the converter of each field, and how many a line has at least."""
+
+    make: Type[Line]
+    columns: Tuple[str, ...]
+    converters: Tuple[Callable[[str], Any], ...]
+    least: int
+
+
+def columns_of(make: Type[Line]) -> Tuple[str, ...]:
+    """The names of the cells of a line, if each has a column of its own."""
+    names = tuple(field.name for field in fields(make))
+    return (*names[:-1], *(f"sum_{number}" for number in range(1, 17))) if make is Sums else names
+
+
+def cells_of(line: Line, columns: Tuple[str, ...]) -> List[Any]:
+    """The cells of a line in these columns."""
+    if isinstance(line, Sums):
+        return [line.account, line.set, line.commodity, *line.sums]
+    return [getattr(line, column) for column in columns]
+
+
+def _form(make: Type[Line]) -> Form:
+    hints = list(get_type_hints(make).values())
+    if make is Sums:
+        hints[-1:] = [Amount] * 16
+    least = sum(1 for hint in hints if hint != Optional[Amount])
+    return Form(make, columns_of(make), tuple(_CONVERTERS[hint] for hint in hints), least)
+
+
+FORMS: Dict[str, Form] = {
+    "R": _form(CommodityMargin),
+    "T": _form(AccountTotal),
+    "HELD": _form(Held),
+    "SUMS": _form(Sums),
+    "SCAN": _form(Scan),
+    "MONTH": _form(Month),
+    "INTRA": _form(Intra),
+    "SPOT": _form(Spot),
+    "INTER": _form(Inter),
+    "CREDIT": _form(Credit),
+    "SHORT": _form(Short),
+    "CHANGE": _form(Change),
+    "ORDER": _form(OrderTotal),
+    "OK": _form(SetCounts),
+}
+
+
+def values_of(line: str) -> Tuple[Form, List[Any]]:
+    """The form of a line and the values of its fields behind the word. Raises ProgramError if it is no line of the program."""
+    word, *texts = line.split(",")
+    form = FORMS.get(word)
+    try:
+        if form and form.least <= len(texts) <= len(form.converters):
+            return form, [convert(text) for convert, text in zip(form.converters, texts)]
+    except (ValueError, ArithmeticError):
+        pass
+    raise ProgramError(f"this is no line of span that the package knows: {line}")
+
+
+def object_of(line: str) -> Line:
+    """The object of one line. Raises ProgramError if it is no line of the program."""
+    form, values = values_of(line)
+    return Sums(values[0], values[1], values[2], tuple(values[3:])) if form.make is Sums else form.make(*values)
+
+
+def position_of(line: str) -> Position:
+    """The position of a record."""
+    account, contract, quantity = line.split(",")
+    return Position(account, contract, int(quantity))
+
+
+def fault_of(line: str) -> Fault:
+    """The fault of a fault line. Raises ProgramError if it is none."""
     found = match_fault(line)
-    if not found:
-        raise ProgramError(f"span printed a line that is not a fault: {line}")
-    return Fault(line, found["file"], found["code"], found["name"], number_of(found["record"]) or 0, found["account"])
+    if not found or not found["record"]:
+        raise ProgramError(f"this is no fault line that the package knows: {line}")
+    return Fault(line, found["file"], found["code"], found["name"], int(found["record"]), found["account"])

@@ -22,6 +22,10 @@ class Run(NamedTuple):
     stdout: str
     stderr: str
 
+    def lines(self) -> List[str]:
+        """The lines of standard output."""
+        return self.stdout.split("\n")[:-1]
+
 
 def find() -> str:
     """The path of the program: the one that the environment variable SPAN names, the one in PATH, or the one of the checkout.
@@ -44,7 +48,10 @@ def version(program: str) -> Tuple[int, int, int]:
 
     Raises ProgramError if it prints another text, or a first number that this package does not know.
     """
-    about = os.stat(program)
+    try:
+        about = os.stat(program)
+    except OSError as error:
+        raise not_run(program, error) from error
     key = (program, about.st_mtime_ns, about.st_ino)
     if key not in _versions:
         _versions[key] = _read_version(program)
@@ -81,5 +88,14 @@ def _run(line: Sequence[str]) -> Run:
     try:
         done = subprocess.run(line, stdout=subprocess.PIPE, stderr=subprocess.PIPE, check=False)
     except OSError as error:
-        raise ProgramError(f"{line[0]} cannot be run: {error.strerror}") from error
-    return Run(done.returncode, done.stdout.decode("utf-8", "replace"), done.stderr.decode("utf-8", "replace").rstrip("\n"))
+        raise not_run(line[0], error) from error
+    return Run(done.returncode, text_of(done.stdout), text_of(done.stderr).rstrip("\n"))
+
+
+def text_of(printed: bytes) -> str:
+    """What the program printed, as text."""
+    return printed.decode("utf-8", "replace")
+
+
+def not_run(program: str, error: OSError) -> ProgramError:
+    return ProgramError(f"{program} cannot be run: {error.strerror}")
