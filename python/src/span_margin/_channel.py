@@ -58,12 +58,12 @@ class Channel:
             raise SessionEnded(*self._ended.args)
         self._settle()
         data = "".join(request + "\n" for request in requests).encode("utf-8", "surrogatepass")
-        self._sent += len(requests)
         if len(requests) == 1:
             self._write(data)
         elif requests:
             self._writer = threading.Thread(target=self._write, args=(data,), daemon=True)
             self._writer.start()
+        self._sent += len(requests)
 
     def answer(self) -> Answer:
         """The next answer. Raises SessionEnded if the process ended before it."""
@@ -75,22 +75,12 @@ class Channel:
                 lines.append(line)
             self._read()
 
-    def close(self, error: SessionEnded) -> None:
-        """Ends the input and waits for the end of the process, which is killed if it does not come. Requests that follow raise `error`."""
-        if self._ended:
-            return
-        self._ended = error
-        if self._writer and self._writer.is_alive():
-            self._process.kill()
-            self._writer.join()
-        self._stdin.close()
-        self._stdout.close()
-        try:
-            self._process.wait(PATIENCE)
-        except subprocess.TimeoutExpired:
-            self._process.kill()
-            self._process.wait()
-        self._errors.close()
+    def close(self) -> None:
+        """Ends the process. Requests that follow raise SessionEnded."""
+        if not self._ended:
+            self._ended = SessionEnded("")
+            self._stop()
+            self._errors.close()
 
     def _settle(self) -> None:
         """Takes the answers to requests whose caller was interrupted."""
@@ -124,16 +114,31 @@ class Channel:
         """Reads some lines."""
         data = os.read(self._stdout.fileno(), CHUNK)
         if not data:
-            raise self._end("the session ended")
+            raise self._end()
         complete, end, self._rest = (self._rest + data).rpartition(b"\n")
         if end:
             self._ready = iter(text_of(complete).split("\n"))
 
-    def _end(self, what: str) -> SessionEnded:
-        """Ends the process. Returns the error, with what the process printed, or else with what happened."""
-        self._stdin.close()
-        status = self._process.wait()
-        self._errors.seek(0)
-        error = SessionEnded(text_of(self._errors.read()).rstrip("\n") or what, status)
-        self.close(error)
-        return error
+    def _end(self, what: str = "") -> SessionEnded:
+        """Ends the process. Returns the error, with what the process printed, or with what happened."""
+        self._stop()
+        with self._errors as file:
+            file.seek(0)
+            self._ended = SessionEnded(what or text_of(file.read()).rstrip("\n"), self._process.returncode)
+        return self._ended
+
+    def _stop(self) -> None:
+        """Closes both pipes and waits for the end of the process, which is killed if it does not come."""
+        self._stdout.close()
+        writes = self._writer is not None and self._writer.is_alive()
+        if not writes:
+            self._stdin.close()
+        try:
+            self._process.wait(PATIENCE)
+        except subprocess.TimeoutExpired:
+            self._process.kill()
+            self._process.wait()
+        if self._writer and writes:
+            # (closed only now, so that the thread writes into no other file with the same number; the end of the process ends it)
+            self._writer.join()
+            self._stdin.close()

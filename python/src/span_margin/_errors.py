@@ -108,7 +108,12 @@ class RequestError(SpanError):
 
 
 class SessionEnded(SpanError):
-    """The session has ended, or was closed. `line` has what it printed on standard error."""
+    """The session has ended, or was closed: then `status` is None. `line` has what it printed on standard error, if anything."""
+
+    def __str__(self) -> str:
+        if self.status is None:
+            return "the session is closed"
+        return f"the session ended {how(self.status)}" + (f": {self.line}" if self.line else "")
 
 
 class ProgramError(SpanError):
@@ -159,9 +164,7 @@ def why_not_readable(name: str) -> Optional[str]:
 
 def error_of_status(status: int, line: str) -> SpanError:
     """The error of a run that ended with this status, not 0, and printed this on standard error."""
-    if status < 0:
-        return ProgramError(f"signal {-status} ({signal_name(-status)}) ended span", status)
-    return _OF_STATUS.get(status, ProgramError)(line or f"span ended with status {status}", status)
+    return _OF_STATUS.get(status, ProgramError)(line or f"span ended {how(status)}", status)
 
 
 def error_of_request(what: str, request: str) -> SpanError:
@@ -170,8 +173,11 @@ def error_of_request(what: str, request: str) -> SpanError:
     return kind(what) if kind else RequestError(what, request=request)
 
 
-def signal_name(number: int) -> str:
+def how(status: int) -> str:
+    """How a process ended: a status below 0 is that of a signal."""
+    if status >= 0:
+        return f"with status {status}"
     try:
-        return signal.Signals(number).name
+        return f"by signal {signal.Signals(-status).name}"
     except ValueError:
-        return "unknown"
+        return f"by signal {-status}"

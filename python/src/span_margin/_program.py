@@ -86,7 +86,7 @@ def run(*words: str) -> Run:
 
 def _run(line: Sequence[str]) -> Run:
     try:
-        done = subprocess.run(line, stdout=subprocess.PIPE, stderr=subprocess.PIPE, check=False)
+        done = subprocess.run(line, stdin=subprocess.DEVNULL, stdout=subprocess.PIPE, stderr=subprocess.PIPE, check=False)
     except OSError as error:
         raise not_run(line[0], error) from error
     return Run(done.returncode, text_of(done.stdout), text_of(done.stderr).rstrip("\n"))

@@ -29,7 +29,6 @@ from span_margin._lines import (
     fault_of,
     object_of,
     position_of,
-    values_of,
 )
 
 Item = TypeVar("Item", bound=Line)
@@ -143,12 +142,8 @@ class Roll:
 
 def account_margin(lines: Lines) -> AccountMargin:
     """The margin of an account from its R lines and its T line."""
-    *commodities, total = [object_of(line) for line in lines]
-    return _margin_of(cast(AccountTotal, total), cast(List[CommodityMargin], commodities))
-
-
-def _margin_of(total: AccountTotal, commodities: Sequence[CommodityMargin]) -> AccountMargin:
-    return AccountMargin(total.account, total.set, total.total, total.value, total.due, total.excess, tuple(commodities))
+    commodities = tuple(cast(CommodityMargin, object_of(line)) for line in lines[:-1])
+    return AccountMargin(**vars(object_of(lines[-1])), commodities=commodities)
 
 
 def _by_account(lines: Lines) -> Iterator[List[str]]:
@@ -213,7 +208,8 @@ class AccountExplanation(AccountTotal, Named[CommodityExplanation]):
     @property
     def margin(self) -> AccountMargin:
         """The margin that is explained."""
-        return _margin_of(self, [commodity.margin for commodity in self.commodities])
+        commodities = tuple(commodity.margin for commodity in self.commodities)
+        return AccountMargin(self.account, self.set, self.total, self.value, self.due, self.excess, commodities)
 
 
 @dataclass(frozen=True)
@@ -254,14 +250,13 @@ class Explanation(Table[AccountExplanation], Named[AccountExplanation]):
 
 def account_explanation(lines: Lines) -> AccountExplanation:
     """The explanation of an account from its lines."""
-    *reasons, last = [object_of(line) for line in lines]
-    total = cast(AccountTotal, last)
+    *reasons, total = [object_of(line) for line in lines]
     commodities, begin = [], 0
     for at, line in enumerate(reasons):
         if isinstance(line, CommodityMargin):
             commodities.append(_commodity_explanation(line, reasons[begin:at]))
             begin = at + 1
-    return AccountExplanation(total.account, total.set, total.total, total.value, total.due, total.excess, tuple(commodities))
+    return AccountExplanation(**vars(total), commodities=tuple(commodities))
 
 
 def _commodity_explanation(margin: CommodityMargin, reasons: Sequence[Line]) -> CommodityExplanation:
@@ -330,7 +325,7 @@ class TriedOrders(Table[TriedOrder], Named[TriedOrder]):
 def tried_order(lines: Lines) -> TriedOrder:
     """A tried order from its CHANGE lines and its ORDER line."""
     changes = tuple(cast(Change, object_of(line)) for line in lines[:-1])
-    return TriedOrder(*values_of(lines[-1])[1], changes=changes)
+    return TriedOrder(**vars(object_of(lines[-1])), changes=changes)
 
 
 def tried_orders(lines: Lines) -> TriedOrders:

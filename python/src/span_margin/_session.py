@@ -7,7 +7,7 @@ from typing import Iterable, Iterator, List, Literal, Mapping, Optional, Sequenc
 
 from span_margin import _program, _results
 from span_margin._channel import Answer, Channel
-from span_margin._errors import RequestError, SessionEnded, SpanError, error_of_request
+from span_margin._errors import RequestError, SpanError, error_of_request
 from span_margin._inputs import PARAMETER, POSITION, Inputs, Source
 from span_margin._lines import AccountTotal, SetCounts
 from span_margin._results import AccountExplanation, AccountMargin, Positions, Statement, TriedOrder
@@ -55,7 +55,7 @@ class Session:
     def close(self) -> None:
         """Ends the session and its process. Calls that follow raise SessionEnded."""
         with self._lock:
-            self._channel.close(SessionEnded("the session is closed"))
+            self._channel.close()
 
     @property
     def set(self) -> str:
@@ -119,8 +119,10 @@ class Session:
         """
         with Inputs() as inputs:
             path = inputs.file(params, PARAMETER, "params.csv")
-            path = path if os.path.isabs(path) else os.path.join(os.getcwd(), path)
-            return _results.set_counts(self._ask("SET," + (path if _fits(path) else inputs.copy(path, "params.csv"))).lines)
+            # (a relative path of the caller, whose working directory need not be the one of the session)
+            whole = path if os.path.isabs(path) else os.path.join(os.getcwd(), path)
+            name = whole if _fits(whole) else inputs.copy(path, "params.csv")
+            return _results.set_counts(self._ask(f"SET,{name}").lines)
 
     def positions(self) -> Positions:
         """The positions of all accounts. An account that holds nothing has one record of quantity 0."""
