@@ -3,7 +3,6 @@ import argparse
 import csv
 import io
 import json
-import os
 import sys
 from decimal import Decimal
 from typing import Any, Callable, Dict, Iterable, Iterator, List, NamedTuple, NoReturn, Optional, Sequence
@@ -47,6 +46,15 @@ def end(status: int, text: str) -> NoReturn:
 
 
 # --- Reading ---
+
+
+def read() -> bytes:
+    """Standard input. Ends the command if it cannot be read."""
+    try:
+        with open(0, "rb", closefd=False) as stream:
+            return stream.read()
+    except OSError:
+        end(NO_FILE, "file: input")
 
 
 def rows_of(data: bytes, major: Optional[int], only: Sequence[str]) -> Iterator[Row]:
@@ -116,10 +124,9 @@ WRITERS: Dict[str, Callable[[Iterable[Row]], str]] = {"table": as_tables, "json"
 def write(text: str) -> None:
     """Writes the text to standard output, and ends the command if that fails."""
     try:
-        sys.stdout.buffer.write(text.encode())
-        sys.stdout.buffer.flush()
+        with open(1, "wb", closefd=False) as stream:
+            stream.write(text.encode())
     except OSError:
-        os.dup2(os.open(os.devnull, os.O_WRONLY), 1)  # so that Python does not try again at its end
         end(NO_FILE, "file: output")
 
 
@@ -129,11 +136,7 @@ def main() -> None:
     parser.add_argument("--major", type=int, choices=range(10), metavar="DIGITS", help="print amounts in major units; 2 if 100 cents are a dollar")
     parser.add_argument("--only", action="append", default=[], choices=list(FORMS), metavar="WORD", help="take lines of this word, such as R")
     chosen = parser.parse_args()
-    try:
-        data = sys.stdin.buffer.read()
-    except OSError:
-        end(NO_FILE, "file: input")
-    write(WRITERS[chosen.format](rows_of(data, chosen.major, chosen.only)))
+    write(WRITERS[chosen.format](rows_of(read(), chosen.major, chosen.only)))
 
 
 if __name__ == "__main__":
