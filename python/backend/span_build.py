@@ -1,6 +1,7 @@
 """The build backend of the package, with the standard library alone: the hooks of PEP 517 and PEP 660 that make a wheel and an sdist.
 
-The same files give the same bytes each time: names are sorted, and every file has the time of SOURCE_DATE_EPOCH, or else one fixed time.
+The same files give the same bytes each time: names are sorted, a wheel is not compressed, and every file has the time of
+SOURCE_DATE_EPOCH, or by default one fixed time.
 """
 import base64
 import gzip
@@ -75,35 +76,15 @@ def write_wheel(directory: str, content: List[Tuple[str, bytes]]) -> str:
     rows = [f"{name},sha256={digest(data)},{len(data)}\n" for name, data in entries]
     entries.append((f"{info}/RECORD", ("".join(rows) + f"{info}/RECORD,,\n").encode()))
     wheel = f"{stem()}-{TAG}.whl"
-    with zipfile.ZipFile(Path(directory) / wheel, "w", zipfile.ZIP_DEFLATED) as archive:
+    with zipfile.ZipFile(Path(directory) / wheel, "w") as archive:
         for name, data in entries:
             entry = zipfile.ZipInfo(name, time.gmtime(moment())[:6])
-            entry.compress_type, entry.create_system, entry.external_attr = zipfile.ZIP_DEFLATED, 3, 0o100644 << 16
+            entry.create_system, entry.external_attr = 3, 0o100644 << 16
             archive.writestr(entry, data)
     return wheel
 
 
 # --- The hooks ---
-
-
-def get_requires_for_build_wheel(config_settings: Settings = None) -> List[str]:
-    return []
-
-
-def get_requires_for_build_editable(config_settings: Settings = None) -> List[str]:
-    return []
-
-
-def get_requires_for_build_sdist(config_settings: Settings = None) -> List[str]:
-    return []
-
-
-def prepare_metadata_for_build_wheel(metadata_directory: str, config_settings: Settings = None) -> str:
-    info = Path(metadata_directory) / f"{stem()}.dist-info"
-    info.mkdir()
-    (info / "METADATA").write_bytes(metadata())
-    (info / "WHEEL").write_bytes(wheel_fields())
-    return info.name
 
 
 def build_wheel(wheel_directory: str, config_settings: Settings = None, metadata_directory: Optional[str] = None) -> str:
