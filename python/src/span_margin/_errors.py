@@ -3,7 +3,7 @@ import os
 import re
 import signal
 import stat
-from typing import Dict, Match, Optional, Type
+from typing import Dict, Optional, Type
 
 _FAULT = re.compile(
     r"(?P<file>(?:next )?(?:parameters|positions|orders|request|book|workers)): (?P<code>[A-Z]\d+) (?P<name>\w+)"
@@ -136,7 +136,7 @@ _OF_FRONT: Dict[str, Type[SpanError]] = {
 }
 
 
-def match_fault(line: str) -> Optional[Match[str]]:
+def match_fault(line: str) -> Optional["re.Match[str]"]:
     """The parts of a fault line, or None if the line is not one."""
     return _FAULT.fullmatch(line)
 

@@ -35,14 +35,21 @@ Item = TypeVar("Item", bound=Line)
 Lines = Sequence[str]
 
 
-class Named(Generic[Item]):
-    """Items with names: `result[name]` is the item of this name, or raises KeyError. Iteration gives the items in their order."""
-
-    _key: str  # the field that has the name
+class Items(Generic[Item]):
+    """What has items. Iteration gives them in the order of the program."""
 
     @property
     def _items(self) -> Tuple[Item, ...]:
         raise NotImplementedError
+
+    def __iter__(self) -> Iterator[Item]:
+        return iter(self._items)
+
+
+class Named(Items[Item]):
+    """Items with names: `result[name]` is the item of this name, or raises KeyError."""
+
+    _key: str  # the field that has the name
 
     @cached_property
     def _by_name(self) -> Dict[str, Item]:
@@ -54,21 +61,11 @@ class Named(Generic[Item]):
     def __contains__(self, name: object) -> bool:
         return name in self._by_name
 
-    def __iter__(self) -> Iterator[Item]:
-        return iter(self._items)
 
-
-class Table(Generic[Item]):
-    """Items that are a table: as dicts, as JSON, and as a data frame of pandas. Iteration gives the items in their order."""
+class Table(Items[Item]):
+    """Items that are a table: as dicts, as JSON, and as a data frame of pandas."""
 
     _kinds: Mapping[str, Type[Line]]  # the lines that a data frame can have, the default first
-
-    @property
-    def _items(self) -> Tuple[Item, ...]:
-        raise NotImplementedError
-
-    def __iter__(self) -> Iterator[Item]:
-        return iter(self._items)
 
     def __len__(self) -> int:
         return len(self._items)
