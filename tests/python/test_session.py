@@ -1,4 +1,4 @@
-"""Sessions: every call against the commands, requests that are refused, names that would be other requests, threads, and ends."""
+"""Sessions: every call against the commands, requests that are rejected, names that would be other requests, threads, and ends."""
 import gc
 import os
 import random
@@ -26,7 +26,7 @@ class SessionCase(Case):
         return desk
 
     def refused(self, code: Optional[str], field: int, call: Any, *arguments: Any) -> span.RequestError:
-        """The error of a call that is refused for this fault."""
+        """The error of a call that is rejected for this fault."""
         error = self.error(span.RequestError, call, *arguments)
         self.assertEqual((error.code, error.field, error.file, error.record, error.status), (code, field, "request", None, None))
         self.assertEqual(error.line, f"request: {code} {error.name} at field {field}")

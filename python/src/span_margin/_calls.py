@@ -38,7 +38,7 @@ def whatif(params: Source, positions: Source, orders: Source, *, workers: int = 
     """What each order would do to the margin of its account, by `span whatif`.
 
     Rows of orders have the columns order, account, contract and quantity. All rows with one name of an order are one order. One fault
-    refuses all orders: that is a PositionsError with `file` "orders". Raises what `margin` raises.
+    rejects all orders: that is a PositionsError with `file` "orders". Raises what `margin` raises.
     """
     with Inputs() as inputs:
         files = [_params(inputs, params), _positions(inputs, positions), inputs.file(orders, ORDER, "orders.csv")]
@@ -56,7 +56,7 @@ def roll(params: Source, next_params: Source, positions: Source, *, workers: int
 
 
 def check(params: Source) -> SetCounts:
-    """How many records of each kind a parameter set has, by `span check`. Raises ParametersError if the set is refused."""
+    """How many records of each kind a parameter set has, by `span check`. Raises ParametersError if the set is rejected."""
     with Inputs() as inputs:
         return _results.set_counts(_answer("check", "--", _params(inputs, params)))
 

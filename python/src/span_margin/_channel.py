@@ -13,7 +13,7 @@ PATIENCE = 10  # seconds that a process has to end after the end of its input
 
 
 class Answer(NamedTuple):
-    """The lines of an answer, the id of the parameter set in use, and if the request was refused what the session said of it."""
+    """The lines of an answer, the id of the parameter set in use, and if the request was rejected what the session said of it."""
 
     lines: List[str]
     set: str

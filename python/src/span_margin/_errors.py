@@ -15,10 +15,10 @@ LONGEST_FILE = 67108864  # bytes of a file that the program reads
 
 
 class SpanError(Exception):
-    """What the program refused, or why it could not be asked.
+    """What the program rejected, or why it could not be asked.
 
     line      what the program printed, without the line end
-    status    its exit status; None if a session refused one request and goes on
+    status    its exit status; None if a session rejected one request and goes on
     file      what has the fault: parameters, next parameters, positions, next positions, orders, request; None if nothing is named
     code      the code of the fault, such as B1
     name      its name, such as UnknownContract
@@ -54,11 +54,11 @@ class UsageError(SpanError):
 
 
 class ParametersError(SpanError):
-    """Status 3: the parameter file is refused."""
+    """Status 3: the parameter file is rejected."""
 
 
 class PositionsError(SpanError):
-    """Status 4: the position file or the order file is refused, or it lacks the account that was asked for."""
+    """Status 4: the position file or the order file is rejected, or it lacks the account that was asked for."""
 
 
 class OutOfMemoryError(SpanError):
@@ -69,7 +69,7 @@ class FileError(SpanError):
     """Status 6: a file cannot be read.
 
     filename  the name of the file
-    reason    why the operating system refuses it, such as "No such file or directory"; None if it does not
+    reason    why the operating system cannot open it, such as "No such file or directory"; None if it can
     """
 
     def __init__(self, line: str, status: Optional[int] = None) -> None:
@@ -86,7 +86,7 @@ class RollError(SpanError):
 
 
 class RequestError(SpanError):
-    """A session refused a request, which changed nothing. The session goes on.
+    """A session rejected a request, which changed nothing. The session goes on.
 
     request   the request, such as `FILL,RIVER-01,CLX5,10`
     """
@@ -168,7 +168,7 @@ def error_of_status(status: int, line: str) -> SpanError:
 
 
 def error_of_request(what: str, request: str) -> SpanError:
-    """The error of a request that a session refused: `what` is the rest of its line."""
+    """The error of a request that a session rejected: `what` is the rest of its line."""
     kind = _OF_FRONT.get(what.split(":")[0])
     return kind(what) if kind else RequestError(what, request=request)
 

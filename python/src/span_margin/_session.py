@@ -26,7 +26,7 @@ class Session:
     Threads may share a session: it answers one call at a time. Fills and a new set change what later calls see, of all threads. The
     state ends with the session, so keep `positions()` if it has to last. Close a session, or use it in a `with` statement.
 
-    Legs are a dict of contracts and quantities, bought positive and sold negative. A call that is refused raises RequestError and
+    Legs are a dict of contracts and quantities, bought positive and sold negative. A call that is rejected raises RequestError and
     changes nothing. If the process ends, this and all later calls raise SessionEnded.
     """
 
@@ -95,7 +95,7 @@ class Session:
     def try_orders(self, orders: Iterable[Try], *, return_errors: bool = False) -> Sequence[Union[TriedOrder, SpanError]]:
         """What each of many orders would do by itself, which is faster than one call for each. It changes nothing.
 
-        An order is a tuple of its account and its legs, or of account, legs and name. The first order that is refused raises its error
+        An order is a tuple of its account and its legs, or of account, legs and name. The first order that is rejected raises its error
         when all answers have come. With return_errors=True its error is in the list in the place of its result.
         """
         requests = [_try_or_error(*order) for order in orders]
@@ -130,7 +130,7 @@ class Session:
         return _results.positions(answer.lines, answer.set)
 
     def _ask(self, request: str) -> Answer:
-        """The answer to a request. Raises its error if it is refused."""
+        """The answer to a request. Raises its error if it is rejected."""
         with self._lock:
             self._channel.send([request])
             answer = self._channel.answer()
