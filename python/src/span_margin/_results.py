@@ -3,7 +3,7 @@ import json
 from dataclasses import dataclass
 from functools import cached_property
 from importlib import import_module
-from typing import Any, Dict, Generic, Iterable, Iterator, List, Mapping, Optional, Sequence, Tuple, Type, TypeVar, cast
+from typing import Any, Callable, Dict, Generic, Iterable, Iterator, List, Mapping, Optional, Sequence, Tuple, Type, TypeVar, cast
 
 from span_margin._errors import ProgramError
 from span_margin._lines import (
@@ -29,6 +29,7 @@ from span_margin._lines import (
     fault_of,
     object_of,
     position_of,
+    values_of,
 )
 
 Item = TypeVar("Item", bound=Line)
@@ -95,6 +96,11 @@ class Table(Items[Item]):
         return self._items
 
 
+def whole_of(make: Callable[..., Item], line: str, **parts: Any) -> Item:
+    """An object with the fields of a line, and with the parts that belong to it."""
+    return make(*values_of(line)[1], **parts)
+
+
 # --- Statements ---
 
 
@@ -140,7 +146,7 @@ class Roll:
 def account_margin(lines: Lines) -> AccountMargin:
     """The margin of an account from its R lines and its T line."""
     commodities = tuple(cast(CommodityMargin, object_of(line)) for line in lines[:-1])
-    return AccountMargin(**vars(object_of(lines[-1])), commodities=commodities)
+    return whole_of(AccountMargin, lines[-1], commodities=commodities)
 
 
 def _by_account(lines: Lines) -> Iterator[List[str]]:
@@ -247,13 +253,13 @@ class Explanation(Table[AccountExplanation], Named[AccountExplanation]):
 
 def account_explanation(lines: Lines) -> AccountExplanation:
     """The explanation of an account from its lines."""
-    *reasons, total = [object_of(line) for line in lines]
+    reasons = [object_of(line) for line in lines[:-1]]
     commodities, begin = [], 0
     for at, line in enumerate(reasons):
         if isinstance(line, CommodityMargin):
             commodities.append(_commodity_explanation(line, reasons[begin:at]))
             begin = at + 1
-    return AccountExplanation(**vars(total), commodities=tuple(commodities))
+    return whole_of(AccountExplanation, lines[-1], commodities=tuple(commodities))
 
 
 def _commodity_explanation(margin: CommodityMargin, reasons: Sequence[Line]) -> CommodityExplanation:
@@ -322,7 +328,7 @@ class TriedOrders(Table[TriedOrder], Named[TriedOrder]):
 def tried_order(lines: Lines) -> TriedOrder:
     """A tried order from its CHANGE lines and its ORDER line."""
     changes = tuple(cast(Change, object_of(line)) for line in lines[:-1])
-    return TriedOrder(**vars(object_of(lines[-1])), changes=changes)
+    return whole_of(TriedOrder, lines[-1], changes=changes)
 
 
 def tried_orders(lines: Lines) -> TriedOrders:
