@@ -111,9 +111,7 @@ def table(rows: Sequence[Row]) -> str:
     widths = [max(map(len, column)) for column in zip(form.columns[:count], *cells)]
     lines = []
     for line in (form.columns[:count], *cells):
-        padded = [
-            cell.ljust(width) if convert is str else cell.rjust(width) for cell, width, convert in zip(line, widths, form.converters)
-        ]
+        padded = [cell.rjust(width) if at in form.converters else cell.ljust(width) for at, (cell, width) in enumerate(zip(line, widths))]
         lines.append("  ".join(padded).rstrip() + "\n")
     return "".join(lines)
 

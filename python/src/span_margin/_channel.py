@@ -92,14 +92,13 @@ class Channel:
 
     def _checked(self, lines: List[str], last: str) -> Answer:
         """An answer whose last line has the next number."""
-        word, _, rest = last.partition(",")
-        number, _, what = rest.partition(",")
         self._answered += 1
-        if number != str(self._answered) or word not in ("done", "refused"):
+        refused = f"refused,{self._answered},"
+        if last != f"done,{self._answered}" and not last.startswith(refused):
             raise self._end(f"the session answered {last} to request {self._answered}")
         if lines and lines[0].startswith("OK,"):
             self._set = lines[0].split(",")[1]
-        return Answer(lines, self._set, what if word == "refused" else None)
+        return Answer(lines, self._set, last[len(refused) :] if last[0] == "r" else None)
 
     def _write(self, data: bytes) -> None:
         """Writes bytes. If the process has ended, whoever reads finds it out."""

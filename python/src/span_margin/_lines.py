@@ -5,10 +5,12 @@ digits, yyyymm. Every line of a statement, explanation or order has the id of th
 """
 from dataclasses import dataclass, fields
 from decimal import Decimal
-from typing import Any, Callable, Dict, List, NamedTuple, Optional, Tuple, Type, get_type_hints
+from typing import Any, Callable, Dict, List, NamedTuple, Optional, Tuple, Type, TypeVar, get_type_hints
 
 from span_margin._amounts import Amount, ExactAmount
 from span_margin._errors import ProgramError, match_fault
+Whole = TypeVar("Whole", bound="Line")
+
 
 @dataclass(frozen=True)
 class Line:
@@ -256,7 +258,6 @@ class SetCounts(Line):
 
 
 _CONVERTERS: Dict[Any, Callable[[str], Any]] = {
-    str: str,
     int: int,
     Decimal: Decimal,
     Amount: Amount,
@@ -266,11 +267,12 @@ _CONVERTERS: Dict[Any, Callable[[str], Any]] = {
 
 
 class Form(NamedTuple):
-    """How the lines of one word become objects: the name and the converter of each field, and how many a line has at least."""
+    """How the lines of one word become objects: the names of the fields, the converters of those that are no text, by their index,
+    and how many fields a line has at least."""
 
     make: Type[Line]
     columns: Tuple[str, ...]
-    converters: Tuple[Callable[[str], Any], ...]
+    converters: Dict[int, Callable[[str], Any]]
     least: int
 
 
@@ -292,7 +294,7 @@ def _form(make: Type[Line]) -> Form:
     if make is Sums:
         hints[-1:] = [Amount] * 16
     least = sum(1 for hint in hints if hint != Optional[Amount])
-    return Form(make, columns_of(make), tuple(_CONVERTERS[hint] for hint in hints), least)
+    return Form(make, columns_of(make), {at: _CONVERTERS[hint] for at, hint in enumerate(hints) if hint is not str}, least)
 
 
 FORMS: Dict[str, Form] = {
@@ -315,20 +317,34 @@ FORMS: Dict[str, Form] = {
 
 def values_of(line: str) -> Tuple[Form, List[Any]]:
     """The form of a line and the values of its fields behind the word. Raises ProgramError if it is no line of the program."""
-    word, *texts = line.split(",")
-    form = FORMS.get(word)
+    word, *values = line.split(",")
+    form, count = FORMS.get(word), len(values)
+    if form is None or not form.least <= count <= len(form.columns):
+        raise _unknown(line)
     try:
-        if form and form.least <= len(texts) <= len(form.converters):
-            return form, [convert(text) for convert, text in zip(form.converters, texts)]
+        for at, convert in form.converters.items():
+            if at < count:
+                values[at] = convert(values[at])
     except (ValueError, ArithmeticError):
-        pass
-    raise ProgramError(f"this is no line of span that the package knows: {line}")
+        raise _unknown(line) from None
+    return form, values
+
+
+def _unknown(line: str) -> ProgramError:
+    return ProgramError(f"this is no line of span that the package knows: {line}")
 
 
 def object_of(line: str) -> Line:
     """The object of one line. Raises ProgramError if it is no line of the program."""
     form, values = values_of(line)
-    return Sums(values[0], values[1], values[2], tuple(values[3:])) if form.make is Sums else form.make(*values)
+    if form.make is Sums:
+        return Sums(values[0], values[1], values[2], tuple(values[3:]))
+    return form.make(*values)
+
+
+def whole_of(make: Callable[..., Whole], line: str, **parts: Any) -> Whole:
+    """An object with the fields of a line, and with the parts that belong to it."""
+    return make(*values_of(line)[1], **parts)
 
 
 def position_of(line: str) -> Position:

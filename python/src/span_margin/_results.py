@@ -1,9 +1,9 @@
 """What calls return: the lines of an answer, put together, in the order in which the program prints them."""
 import json
-from dataclasses import dataclass
+from dataclasses import dataclass, field
 from functools import cached_property
 from importlib import import_module
-from typing import Any, Callable, Dict, Generic, Iterable, Iterator, List, Mapping, Optional, Sequence, Tuple, Type, TypeVar, cast
+from typing import Any, Dict, Generic, Iterable, Iterator, List, Mapping, Optional, Sequence, Tuple, Type, TypeVar, cast
 
 from span_margin._errors import ProgramError
 from span_margin._lines import (
@@ -29,7 +29,7 @@ from span_margin._lines import (
     fault_of,
     object_of,
     position_of,
-    values_of,
+    whole_of,
 )
 
 Item = TypeVar("Item", bound=Line)
@@ -94,11 +94,6 @@ class Table(Items[Item]):
     def _rows(self, kind: str) -> Iterable[Line]:
         """The lines of one kind."""
         return self._items
-
-
-def whole_of(make: Callable[..., Item], line: str, **parts: Any) -> Item:
-    """An object with the fields of a line, and with the parts that belong to it."""
-    return make(*values_of(line)[1], **parts)
 
 
 # --- Statements ---
@@ -301,12 +296,21 @@ def explanation(lines: Lines) -> Explanation:
 class TriedOrder(OrderTotal, Named[Change]):
     """What an order would do to the margin of its account. `tried["CL"]` is the change in CL, and missing if there is none."""
 
-    changes: Tuple[Change, ...] = ()
+    _change_lines: Tuple[str, ...] = field(default=(), repr=False)
     _key = "commodity"
+
+    @cached_property
+    def changes(self) -> Tuple[Change, ...]:
+        """The commodities whose requirement changes. Most callers look at the total alone, so the lines become objects when asked for."""
+        return tuple(cast(Change, object_of(line)) for line in self._change_lines)
 
     @property
     def _items(self) -> Tuple[Change, ...]:
         return self.changes
+
+    def to_dict(self) -> Dict[str, Any]:
+        own = {name: getattr(self, name) for name in columns_of(OrderTotal)}
+        return {**own, "changes": [change.to_dict() for change in self.changes]}
 
 
 @dataclass(frozen=True)
@@ -327,8 +331,7 @@ class TriedOrders(Table[TriedOrder], Named[TriedOrder]):
 
 def tried_order(lines: Lines) -> TriedOrder:
     """A tried order from its CHANGE lines and its ORDER line."""
-    changes = tuple(cast(Change, object_of(line)) for line in lines[:-1])
-    return whole_of(TriedOrder, lines[-1], changes=changes)
+    return whole_of(TriedOrder, lines[-1], _change_lines=tuple(lines[:-1]))
 
 
 def tried_orders(lines: Lines) -> TriedOrders:
