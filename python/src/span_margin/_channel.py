@@ -70,7 +70,7 @@ class Channel:
         lines: List[str] = []
         while True:
             for line in self._ready:
-                if "a" <= line[:1] <= "z":
+                if line >= "a":  # no name and no word begins with a small letter
                     return self._checked(lines, line)
                 lines.append(line)
             self._read()
@@ -93,12 +93,14 @@ class Channel:
     def _checked(self, lines: List[str], last: str) -> Answer:
         """An answer whose last line has the next number."""
         self._answered += 1
-        refused = f"refused,{self._answered},"
-        if last != f"done,{self._answered}" and not last.startswith(refused):
-            raise self._end(f"the session answered {last} to request {self._answered}")
-        if lines and lines[0].startswith("OK,"):
+        refused = None
+        if last != f"done,{self._answered}":
+            if not last.startswith(f"refused,{self._answered},"):
+                raise self._end(f"the session answered {last} to request {self._answered}")
+            refused = last.split(",", 2)[2]
+        elif lines and lines[0].startswith("OK,"):
             self._set = lines[0].split(",")[1]
-        return Answer(lines, self._set, last[len(refused) :] if last[0] == "r" else None)
+        return Answer(lines, self._set, refused)
 
     def _write(self, data: bytes) -> None:
         """Writes bytes. If the process has ended, whoever reads finds it out."""

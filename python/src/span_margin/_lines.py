@@ -339,12 +339,19 @@ def object_of(line: str) -> Line:
     form, values = values_of(line)
     if form.make is Sums:
         return Sums(values[0], values[1], values[2], tuple(values[3:]))
-    return form.make(*values)
+    return _made(form.make, form, values, {})
 
 
-def whole_of(make: Callable[..., Whole], line: str, **parts: Any) -> Whole:
+def whole_of(make: Type[Whole], line: str, **parts: Any) -> Whole:
     """An object with the fields of a line, and with the parts that belong to it."""
-    return make(*values_of(line)[1], **parts)
+    return _made(make, *values_of(line), parts)
+
+
+def _made(make: Type[Whole], form: Form, values: List[Any], parts: Dict[str, Any]) -> Whole:
+    """An object without `__init__`, which sets each field of a frozen class by a call. Fields that the line lacks have their defaults."""
+    made = object.__new__(make)
+    made.__dict__.update(zip(form.columns, values), **parts)
+    return made
 
 
 def position_of(line: str) -> Position:
