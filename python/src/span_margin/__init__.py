@@ -43,6 +43,7 @@ from span_margin._lines import (
     Spot,
     Sums,
 )
+from span_margin._parameters import ParameterSet, ParameterSetError, RowFault
 from span_margin._results import (
     AccountExplanation,
     AccountMargin,
@@ -79,6 +80,8 @@ __all__ = [
     "Month",
     "OrderTotal",
     "OutOfMemoryError",
+    "ParameterSet",
+    "ParameterSetError",
     "ParametersError",
     "Position",
     "Positions",
@@ -87,6 +90,7 @@ __all__ = [
     "RequestError",
     "Roll",
     "RollError",
+    "RowFault",
     "Scan",
     "Session",
     "SessionEnded",
