@@ -241,14 +241,15 @@ class Mistakes(unittest.TestCase):
         array = ["0"] * 17
         parameters = ParameterSet("D1", "USD")
         parameters.add_commodities([("AA", 0, "SUM")])
-        parameters.add_contracts([("F1", "AA", "F", 202503, 1), ("F2", "AA", "F", 202503, 1)])
+        parameters.add_contracts([("F1", "AA", "F", 202503, 1), ("F2", "AA", "F", 202503, 1), ("F3", "AA", "F", 202503, 1)])
         parameters.add_contracts([("F3", "AA", "F", 202503, "0", 1, *array[1:])], source="more")
         parameters.add_arrays([("F1", *array), ("F4", *array), ("F1", *array), ("F3", *array)])
         found = [
+            ("arrays", 2, "NoContract", "contract", "F4"),
             ("arrays", 3, "SecondArray", "contract", "F1"),
             ("arrays", 4, "SecondArray", "contract", "F3"),
-            ("arrays", 2, "NoContract", "contract", "F4"),
             ("contracts", 2, "NoArray", "contract", "F2"),
+            ("contracts", 3, "NoArray", "contract", "F3"),
         ]
         self.assertEqual(faults_of(parameters), found)
         with self.assertRaisesRegex(ParameterSetError, "arrays row 2: NoContract in contract: 'F4'"):
@@ -323,6 +324,9 @@ class Refused(unittest.TestCase):
         spot = [("AA", 202501, 1, 2), ("AA", 202502, 1, math.inf)]
         self.refused(TypeError, "spot_months row 2: outright_rate is a float", "add_spot_months", spot)
         self.refused(TypeError, "spot_months row 2: outright_rate is a float", "add_spot_months", spot, round={"spread_rate": 0})
+
+    def test_options(self) -> None:
+        self.refused(ValueError, "amount_decimals is -1", "add_commodities", [], amount_decimals=-1)
 
     def test_other_types(self) -> None:
         for value in True, b"AA", 1j, ["AA"]:

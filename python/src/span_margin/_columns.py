@@ -5,6 +5,7 @@ The forms and ranges here find the column that a fault is about. Whether there i
 import math
 import operator
 import re
+from dataclasses import dataclass
 from decimal import ROUND_HALF_EVEN, Context, Decimal
 from typing import Callable, Dict, List, Mapping, NamedTuple, Optional, Tuple, Union
 
@@ -126,7 +127,8 @@ def tables_of(version: int) -> Dict[str, Table]:
 # --- The text of a value ---
 
 
-class Reading(NamedTuple):
+@dataclass(frozen=True)
+class Reading:
     """How the values of a call are read.
 
     round            the decimals that a float is rounded to, of all columns or by column; a float of another column is an error
@@ -135,6 +137,10 @@ class Reading(NamedTuple):
 
     round: Round = None
     amount_decimals: int = 0
+
+    def __post_init__(self) -> None:
+        if self.amount_decimals < 0:
+            raise ValueError(f"amount_decimals is {self.amount_decimals}, and 0 is the least")
 
     def text_of(self, value: object, column: str, form: Form) -> str:
         """The text of a field. Raises TypeError for a value that no field can have, and for a float that is not to be rounded."""

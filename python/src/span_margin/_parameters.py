@@ -207,18 +207,27 @@ class ParameterSet:
         """The contracts, each with its array. Raises ParameterSetError if one has none or two, or if an array has no contract."""
         contracts, found = self._rows["contracts"], []
         arrays: Dict[str, _Record] = {}
-        for array in self._rows["arrays"]:
-            if arrays.setdefault(array.text("contract"), array) is not array:
-                found.append(array.fault("", "SecondArray", "contract"))
         names = {it.text("contract") for it in contracts}
         whole = {it.text("contract") for it in contracts if "delta" in it.cells}
-        found += [it.fault("", "SecondArray", "contract") for name, it in arrays.items() if name in whole]
-        found += [it.fault("", "NoContract", "contract") for name, it in arrays.items() if name not in names]
-        found += [it.fault("", "NoArray", "contract") for it in contracts if it.text("contract") not in {*whole, *arrays}]
+        for array in self._rows["arrays"]:
+            name = array.text("contract")
+            if name not in names:
+                found.append(array.fault("", "NoContract", "contract"))
+            elif name in whole or name in arrays:
+                found.append(array.fault("", "SecondArray", "contract"))
+            else:
+                arrays[name] = array
+        columns = self._tables["contracts"].columns
+        joined = []
+        for contract in contracts:
+            name = contract.text("contract")
+            if "delta" not in contract.cells and name not in arrays:
+                found.append(contract.fault("", "NoArray", "contract"))
+            else:
+                joined.append(_joined(contract, arrays.get(name, contract), columns))
         if found:
             raise ParameterSetError(found)
-        columns = self._tables["contracts"].columns
-        return [it if "delta" in it.cells else _joined(it, arrays[it.text("contract")], columns) for it in contracts]
+        return joined
 
     def _checked(self) -> bytes:
         """The parameter file, in which the program finds no fault."""
@@ -239,14 +248,19 @@ def _record(place: _Place, row: object, table: Table, reading: Reading) -> _Reco
     try:
         values = _values(row, table)
     except (TypeError, ValueError) as error:
-        raise type(error)(f"{place}: {error}") from None
+        raise _at(f"{place}:", error) from None
     cells = {}
     for column, value in values.items():
         try:
             cells[column] = _Cell(reading.text_of(value, column, table.columns[column]), value, place)
         except (TypeError, ValueError) as error:
-            raise type(error)(f"{place}: {column} {error}") from None
+            raise _at(f"{place}: {column}", error) from None
     return _Record(place, _without_empty_legs(cells))
+
+
+def _at(where: str, error: Exception) -> Exception:
+    """An error of a row, with the place in its text."""
+    return (TypeError if isinstance(error, TypeError) else ValueError)(f"{where} {error}")
 
 
 def _values(row: Any, table: Table) -> Dict[str, object]:
@@ -260,7 +274,7 @@ def _values(row: Any, table: Table) -> Dict[str, object]:
 
 
 def _joined(contract: _Record, array: _Record, columns: Iterable[str]) -> _Record:
-    """A contract with the fields of its array."""
+    """A contract with the fields of its array, in the order of the record. (The array may be the contract itself.)"""
     cells = {**array.cells, **contract.cells}
     return _Record(contract.place, {column: cells[column] for column in columns})
 
@@ -360,6 +374,6 @@ def _column_of_leg(code: str, table: Table, record: _Record, known: _Known) -> O
 
 
 def _shown(value: object) -> str:
-    """A value as Python writes it, shortened."""
-    text = repr(value)
+    """A value on one line, shortened."""
+    text = repr(value) if isinstance(value, str) else str(value)
     return text if len(text) <= 60 else text[:57] + "..."
