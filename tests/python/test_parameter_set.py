@@ -410,6 +410,7 @@ class HostileText(unittest.TestCase):
             "AB ",
             "\ufeff",
             "\ud800",
+            "A\ud800B",
             "Zürich",
             "A" * 17,
             "",
