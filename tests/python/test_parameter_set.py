@@ -11,6 +11,7 @@ from decimal import Decimal
 from typing import Any, Dict, List, NamedTuple, Tuple
 
 from span_margin import ParametersError, ParameterSet, ParameterSetError
+from span_margin._columns import tables_of
 
 EXAMPLES = pathlib.Path(__file__).resolve().parents[2] / "examples"
 TABLES = ("commodities", "contracts", "tiers", "intra_spreads", "spot_months", "inter_spreads")
@@ -179,6 +180,10 @@ MISTAKES = [
 ]
 
 
+TEXTS = """x F A AB SUM -1 0 -0 1 1.0000 1.0001 10 10.0001 32 33 1000 1000.0001 9999 10000 10001 1900 100000000 100000001 -100000001 299912
+    300001 189912 202600 202613 1e3 1.23456 9999999999999999999 AAAAAAAAAAAAAAAAA""".split() + [""]
+
+
 def planted(tables: Tables, *mistakes: Mistake) -> Tables:
     for it in mistakes:
         rows = tables[it.table]
@@ -197,6 +202,22 @@ class Mistakes(unittest.TestCase):
                 tables = planted(desk(), it)
                 value = tables[it.table][it.row - 1].get(it.field)
                 self.assertEqual(faults_of(of_desk(tables)), [(it.table, it.row, it.code, it.field, value)])
+
+    def test_each_column_with_texts_that_it_may_not_have(self) -> None:
+        """The forms and ranges that find the column of a fault are those of the program."""
+        examples, tables = records("params-value.csv"), tables_of(2)
+        for text in TEXTS:
+            # (a set with a fault of reading has its faults of reading alone)
+            parameters, expected = ParameterSet("D1", "usd", version=2), [("set", 1, "P5", "currency")]
+            for name, rows in examples.items():
+                columns = list(tables[name].columns.items())[: len(rows[0])]
+                getattr(parameters, f"add_{name}")([[*rows[0][:at], text, *rows[0][at + 1 :]] for at in range(len(columns))])
+                for row, (column, form) in enumerate(columns, 1):
+                    expected += [(name, row, code, column) for code in ("P5", "P6", "P7") if form.has(code, text)]
+            with self.subTest(text):
+                found = [(table, row, fault[:2], column) for table, row, fault, column, _ in faults_of(parameters)]
+                # (that the value of a future is 0 is a rule about two columns)
+                self.assertEqual([it for it in found if it[3] != "value"], [it for it in expected if it[3] != "value"])
 
     def test_mistakes_of_several_tables_at_once(self) -> None:
         bad = [it for it in MISTAKES if it.about in ("decimal comma", "name too long", "side C", "negative rate")]
