@@ -2,18 +2,16 @@
 import csv
 import math
 import os
-import pathlib
 import pickle
 import sqlite3
-import tempfile
 import unittest
 from decimal import Decimal
 from typing import Any, Dict, List, NamedTuple, Tuple
 
+from shared import EXAMPLES, Case
 from span_margin import ParametersError, ParameterSet, ParameterSetError
 from span_margin._columns import tables_of
 
-EXAMPLES = pathlib.Path(__file__).resolve().parents[2] / "examples"
 TABLES = ("commodities", "contracts", "tiers", "intra_spreads", "spot_months", "inter_spreads")
 RECORDS = dict(zip(("COMMODITY", "CONTRACT", "TIER", "INTRA", "SPOT", "INTER"), TABLES))
 # A fault as the tests compare it: table, row, code and name, column, value.
@@ -457,13 +455,11 @@ class HostileText(unittest.TestCase):
         self.assertLess(len(str(caught.exception)), 140)
 
 
-class Written(unittest.TestCase):
+class Written(Case):
     """What `write` leaves in a directory."""
 
     def setUp(self) -> None:
-        room = tempfile.TemporaryDirectory()
-        self.addCleanup(room.cleanup)
-        self.room = pathlib.Path(room.name)
+        super().setUp()
         self.path = self.room / "params.csv"
 
     def names(self) -> List[str]:
