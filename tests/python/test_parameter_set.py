@@ -23,7 +23,7 @@ def desk() -> Tables:
     """The tables of a desk, with amounts in dollars, as `csv.DictReader` reads them."""
     found = {}
     for table in TABLES:
-        with open(EXAMPLES / f"desk-{table.replace('_', '-')}.csv", newline="", encoding="utf-8") as file:
+        with open(EXAMPLES / f"table-{table.replace('_', '-')}.csv", newline="", encoding="utf-8") as file:
             found[table] = list(csv.DictReader(file))
     return found
 
@@ -46,7 +46,7 @@ def new(tables: Tables, *, set_id: str = "D20251114", currency: str = "USD", ver
 
 
 def of_desk(tables: Tables) -> ParameterSet:
-    return new(tables, amount_decimals=2)
+    return new(tables, major=2)
 
 
 def faults_of(parameters: ParameterSet) -> List[Found]:
@@ -102,17 +102,17 @@ class Built(unittest.TestCase):
             self.skipTest("there is no pandas")
         tables: Dict[str, Any] = {}
         for table in TABLES:
-            name = EXAMPLES / f"desk-{table.replace('_', '-')}.csv"
+            name = EXAMPLES / f"table-{table.replace('_', '-')}.csv"
             # (empty cells are NaN)
             tables[table] = pandas.read_csv(name, dtype=str)
         self.assertEqual(of_desk(tables).to_bytes(), self.expected)
         # (columns of whole numbers, in which empty cells are pandas.NA)
-        numbers = pandas.read_csv(EXAMPLES / "desk-inter-spreads.csv").convert_dtypes()
+        numbers = pandas.read_csv(EXAMPLES / "table-inter-spreads.csv").convert_dtypes()
         self.assertEqual(of_desk({**tables, "inter_spreads": numbers}).to_bytes(), self.expected)
-        numbers = pandas.read_csv(EXAMPLES / "desk-contracts.csv")
+        numbers = pandas.read_csv(EXAMPLES / "table-contracts.csv")
         with self.assertRaisesRegex(TypeError, "contracts row 1: delta is a float"):
             of_desk({**tables, "contracts": numbers})
-        rounded = new({"contracts": numbers}, amount_decimals=2, round=4).to_bytes()
+        rounded = new({"contracts": numbers}, major=2, round=4).to_bytes()
         expected = b"".join(it for it in self.expected.splitlines(True) if it.startswith((b"SET", b"CONTRACT")))
         self.assertEqual(rounded, expected.replace(b",0.2920,", b",0.292,"))
 
@@ -345,7 +345,7 @@ class Refused(unittest.TestCase):
         self.refused(TypeError, "spot_months row 2: outright_rate is a float", "add_spot_months", spot, round={"spread_rate": 0})
 
     def test_options(self) -> None:
-        self.refused(ValueError, "amount_decimals is -1", "add_commodities", [], amount_decimals=-1)
+        self.refused(ValueError, "major is -1", "add_commodities", [], major=-1)
 
     def test_other_types(self) -> None:
         for value in True, b"AA", 1j, ["AA"]:
@@ -388,13 +388,13 @@ class Values(unittest.TestCase):
             (" 1", " 1"),
             ("123456789012345678901234567890.12", "12345678901234567890123456789012"),
         ):
-            self.assertEqual(self.commodity(value, amount_decimals=2), text)
-        self.assertEqual(self.ratio("1.5", amount_decimals=2), "1.5")
+            self.assertEqual(self.commodity(value, major=2), text)
+        self.assertEqual(self.ratio("1.5", major=2), "1.5")
 
     def test_floats_are_rounded_half_to_even_from_their_text(self) -> None:
         for value, text in (0.2920, "0.292"), (0.00025, "0.0002"), (0.00035, "0.0004"), (1.0, "1"), (-0.12345, "-0.1234"):
             self.assertEqual(self.ratio(value, round=4), text)
-        self.assertEqual(self.commodity(2.675, round=2, amount_decimals=2), "268")
+        self.assertEqual(self.commodity(2.675, round=2, major=2), "268")
         self.assertEqual(self.commodity(6000.0, round=4), "6000")
         self.assertEqual(self.commodity(6000.5, round={"minimum_rate": 0}), "6000")
         self.assertEqual(self.commodity(1.7e308, round=4), "17" + "0" * 307)
@@ -402,7 +402,7 @@ class Values(unittest.TestCase):
     def test_what_is_missing_is_an_empty_field(self) -> None:
         for value in None, "", math.nan, Decimal("NaN"):
             self.assertEqual(self.commodity(value), "")
-            self.assertEqual(self.commodity(value, round=2, amount_decimals=2), "")
+            self.assertEqual(self.commodity(value, round=2, major=2), "")
 
     def test_empty_legs_are_left_out(self) -> None:
         parameters = ParameterSet("D1", "USD")
@@ -445,7 +445,7 @@ class HostileText(unittest.TestCase):
             with self.subTest(repr(text)):
                 rows = [("AA", text, "SUM"), ("AB", 0, "SUM")]
                 for decimals in 0, 2:
-                    parameters = new({"commodities": rows}, amount_decimals=decimals)
+                    parameters = new({"commodities": rows}, major=decimals)
                     self.assertEqual(faults_of(parameters), [("commodities", 1, "P6 BadNumber", "minimum_rate", text)])
 
     def test_a_fault_is_one_line(self) -> None:

@@ -131,16 +131,16 @@ def tables_of(version: int) -> Dict[str, Table]:
 class Reading:
     """How the values of a call are read.
 
-    round            the decimals that a float is rounded to, of all columns or by column; a float of another column is an error
-    amount_decimals  the decimals of amounts: 0 for amounts in minor units, 2 for dollars that the file has in cents
+    round  the decimals that a float is rounded to, in all columns or by column; a float of another column is an error
+    major  if amounts are in major units, the number of digits that the minor unit has; 0 if they are in minor units, as in the file
     """
 
     round: Round = None
-    amount_decimals: int = 0
+    major: int = 0
 
     def __post_init__(self) -> None:
-        if self.amount_decimals < 0:
-            raise ValueError(f"amount_decimals is {self.amount_decimals}, and 0 is the least")
+        if self.major < 0:
+            raise ValueError(f"major is {self.major}, and 0 is the least")
 
     def text_of(self, value: object, column: str, form: Form) -> str:
         """The text of a field. Raises TypeError for a value that no field can have, and for a float that is not to be rounded."""
@@ -156,7 +156,7 @@ class Reading:
             raise TypeError(f"is of type {type(value).__name__}; a field is text, an int or a Decimal")
         else:
             text = str(operator.index(value))
-        return _in_minor_units(text, self.amount_decimals) if form.is_amount else text
+        return _in_minor_units(text, self.major) if form.is_amount else text
 
     def _digits(self, column: str) -> int:
         digits = self.round.get(column) if isinstance(self.round, Mapping) else self.round
@@ -182,12 +182,12 @@ def _rounded(value: float, digits: int) -> str:
     return text.rstrip("0").rstrip(".") if "." in text else text
 
 
-def _in_minor_units(text: str, decimals: int) -> str:
-    """The whole number of minor units of an amount. A text that is no such amount stays, and is no whole number either."""
+def _in_minor_units(text: str, digits: int) -> str:
+    """The whole number of minor units of an amount in major units. A text that is no such amount stays, and is no whole number either."""
     found = _PLAIN.fullmatch(text)
-    if not decimals or not found:
+    if not digits or not found:
         return text
     sign, whole, fraction = found[1], found[2], found[3] or ""
-    if fraction[decimals:].strip("0"):
+    if fraction[digits:].strip("0"):
         return text
-    return sign + ((whole + fraction[:decimals].ljust(decimals, "0")).lstrip("0") or "0")
+    return sign + ((whole + fraction[:digits].ljust(digits, "0")).lstrip("0") or "0")

@@ -109,17 +109,18 @@ class _Record(NamedTuple):
 
 
 class ParameterSet:
-    """A parameter set that is made of rows, as docs/USE.md shows.
+    """A parameter set that is made of rows, as docs/USE.md shows. Calls such as `margin` take it in place of a parameter file.
 
     Each `add_` method takes rows in the order of the records: dicts by column, rows of `csv.DictReader` or `sqlite3`, sequences in the
     order of the columns, or a data frame. A value is text, an int or a Decimal; it is written as it stands, and the program judges it. An
-    unknown or missing column is a ValueError, and a value of another type a TypeError; nothing of that call is added then. What all have:
+    unknown or missing column is a ValueError, and a value of another type a TypeError; nothing of that call is added then. All methods
+    have these arguments:
 
-    source           what faults name as the source of these rows, such as the name of a file
-    round            floats are rounded half to even, from the text that repr gives, to so many decimals, of all columns or by column;
-                     without it a float is a TypeError
-    amount_decimals  the decimals of amounts: 2 if amounts are in dollars and the file has to have cents. By default amounts are in minor
-                     units, as in the file
+    source  what faults name as the source of these rows, such as the name of a file
+    round   floats are rounded half to even, from the text that repr gives, to so many decimals, in all columns or by column; without it
+            a float is a TypeError
+    major   if amounts are in major units, the number of digits that the minor unit has: 2 for dollars, of which the file has cents. By
+            default amounts are in minor units, as in the file
     """
 
     def __init__(self, id: str, currency: str, *, version: int = 1) -> None:
@@ -131,42 +132,42 @@ class ParameterSet:
         values = {"id": id, "version": version, "currency": currency}
         self._set = _record(_Place("set", "set", 1), values, SET, Reading())
 
-    def add_commodities(self, rows: Rows, *, source: Optional[str] = None, round: Round = None, amount_decimals: int = 0) -> None:
+    def add_commodities(self, rows: Rows, *, source: Optional[str] = None, round: Round = None, major: int = 0) -> None:
         """Adds combined commodities: commodity, minimum_rate, method."""
-        self._add("commodities", rows, source, Reading(round, amount_decimals))
+        self._add("commodities", rows, source, Reading(round, major))
 
-    def add_contracts(self, rows: Rows, *, source: Optional[str] = None, round: Round = None, amount_decimals: int = 0) -> None:
+    def add_contracts(self, rows: Rows, *, source: Optional[str] = None, round: Round = None, major: int = 0) -> None:
         """Adds contracts: contract, commodity, type, month, delta, scale, v1 to v16, and under version 2 value.
 
         With contract, commodity, type, month, scale alone, the others come from the row of `add_arrays` for the contract.
         """
-        self._add("contracts", rows, source, Reading(round, amount_decimals))
+        self._add("contracts", rows, source, Reading(round, major))
 
-    def add_arrays(self, rows: Rows, *, source: Optional[str] = None, round: Round = None, amount_decimals: int = 0) -> None:
+    def add_arrays(self, rows: Rows, *, source: Optional[str] = None, round: Round = None, major: int = 0) -> None:
         """Adds risk arrays of contracts that are added without: contract, delta, v1 to v16, and under version 2 value."""
-        self._add("arrays", rows, source, Reading(round, amount_decimals))
+        self._add("arrays", rows, source, Reading(round, major))
 
-    def add_tiers(self, rows: Rows, *, source: Optional[str] = None, round: Round = None, amount_decimals: int = 0) -> None:
+    def add_tiers(self, rows: Rows, *, source: Optional[str] = None, round: Round = None, major: int = 0) -> None:
         """Adds tiers: commodity, tier, first_month, last_month."""
-        self._add("tiers", rows, source, Reading(round, amount_decimals))
+        self._add("tiers", rows, source, Reading(round, major))
 
-    def add_intra_spreads(self, rows: Rows, *, source: Optional[str] = None, round: Round = None, amount_decimals: int = 0) -> None:
+    def add_intra_spreads(self, rows: Rows, *, source: Optional[str] = None, round: Round = None, major: int = 0) -> None:
         """Adds intracommodity spreads: commodity, priority, rate, and for each of two to four legs tier1, side1, ratio1, and so on.
 
         A leg whose three fields are empty is left out.
         """
-        self._add("intra_spreads", rows, source, Reading(round, amount_decimals))
+        self._add("intra_spreads", rows, source, Reading(round, major))
 
-    def add_spot_months(self, rows: Rows, *, source: Optional[str] = None, round: Round = None, amount_decimals: int = 0) -> None:
+    def add_spot_months(self, rows: Rows, *, source: Optional[str] = None, round: Round = None, major: int = 0) -> None:
         """Adds spot months: commodity, month, spread_rate, outright_rate."""
-        self._add("spot_months", rows, source, Reading(round, amount_decimals))
+        self._add("spot_months", rows, source, Reading(round, major))
 
-    def add_inter_spreads(self, rows: Rows, *, source: Optional[str] = None, round: Round = None, amount_decimals: int = 0) -> None:
+    def add_inter_spreads(self, rows: Rows, *, source: Optional[str] = None, round: Round = None, major: int = 0) -> None:
         """Adds intercommodity spreads: priority, basis_points, and for each of two to four legs commodity1, side1, ratio1, and so on.
 
         A leg whose three fields are empty is left out.
         """
-        self._add("inter_spreads", rows, source, Reading(round, amount_decimals))
+        self._add("inter_spreads", rows, source, Reading(round, major))
 
     def to_bytes(self) -> bytes:
         """The parameter file, which the program has not judged. Raises ParameterSetError if a contract and its array miss each other."""
