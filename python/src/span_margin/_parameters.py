@@ -6,11 +6,11 @@ from dataclasses import dataclass
 from typing import Any, Dict, Iterable, List, Mapping, NamedTuple, Optional, Protocol, Sequence, Set, Tuple, Union
 
 from span_margin._calls import faults
-from span_margin._columns import LEGS, SET, Columns, Reading, Round, Table, leg_columns, tables_of
+from span_margin._columns import LEGS, SET, Reading, Round, Table, leg_columns, tables_of
 from span_margin._errors import ParametersError
 from span_margin._lines import Fault
 
-# The column that a rule is about, for rules about one column; C2 too, but of an INTER record it is that of a leg.
+# The column that a rule is about. C7, C8, and C2 in an INTER record are about a leg, C9 is about all legs.
 _OF_RULE = {
     "C1": "commodity",
     "C2": "commodity",
@@ -281,6 +281,7 @@ def _joined(contract: _Record, array: _Record, columns: Iterable[str]) -> _Recor
 
 
 def _without_empty_legs(cells: Dict[str, _Cell]) -> Dict[str, _Cell]:
+    """The cells of a record without legs whose three fields are empty."""
     legs = [leg_columns(first, leg) for first in ("tier", "commodity") for leg in LEGS if f"{first}{leg}" in cells]
     empty = {column for leg in legs if not any(cells[column].text for column in leg) for column in leg}
     return {column: cell for column, cell in cells.items() if column not in empty}
@@ -290,6 +291,7 @@ def _without_empty_legs(cells: Dict[str, _Cell]) -> Dict[str, _Cell]:
 
 
 def _bytes_of(records: Iterable[Tuple[Table, _Record]]) -> bytes:
+    """The file of these records."""
     lines = (",".join([table.record, *(_quoted(it.text) for it in record.cells.values())]) for table, record in records)
     # (what UTF-8 has no bytes for is in no name and no number, nor is the backslash that takes its place)
     return "".join(f"{line}\n" for line in lines).encode("utf-8", "backslashreplace")
@@ -341,20 +343,14 @@ def _row_fault(fault: Fault, table: Table, record: _Record, known: _Known) -> Ro
 
 def _column_of(code: str, table: Table, record: _Record, known: _Known) -> Optional[str]:
     """The column that a fault of a record is about; None if there is no such column."""
-    if code in ("P5", "P6"):
-        return next((column for column, cell in record.cells.items() if table.columns[column].has(code, cell.text)), None)
-    if code == "P7":
-        return _column_out_of_range(table.columns, record)
+    if code in ("P5", "P6", "P7"):
+        wrong = [column for column, cell in record.cells.items() if table.columns[column].has(code, cell.text)]
+        if code == "P7" and "value" in record.cells:
+            wrong.append("value")  # of a future, which is in range and not 0
+        return wrong[0] if wrong else None
     if code in ("C7", "C8") or code == "C2" and table.record == "INTER":
         return _column_of_leg(code, table, record, known)
     return _OF_RULE.get(code)
-
-
-def _column_out_of_range(columns: Columns, record: _Record) -> Optional[str]:
-    for column, cell in record.cells.items():
-        if columns[column].has("P7", cell.text):
-            return column
-    return "value" if "value" in record.cells else None
 
 
 def _column_of_leg(code: str, table: Table, record: _Record, known: _Known) -> Optional[str]:
