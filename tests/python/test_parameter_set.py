@@ -6,10 +6,11 @@ import pickle
 import sqlite3
 import unittest
 from decimal import Decimal
+from pathlib import Path
 from typing import Any, Dict, List, NamedTuple, Tuple
 
-from shared import EXAMPLES, Case
-from span_margin import ParametersError, ParameterSet, ParameterSetError
+from shared import EXAMPLES, PARAMS, POSITIONS, VALUE, Case
+from span_margin import ParametersError, ParameterSet, ParameterSetError, margin
 from span_margin._columns import tables_of
 
 TABLES = ("commodities", "contracts", "tiers", "intra_spreads", "spot_months", "inter_spreads")
@@ -28,10 +29,10 @@ def desk() -> Tables:
     return found
 
 
-def records(name: str) -> Tables:
+def records(path: Path) -> Tables:
     """The records of a parameter file without their kind, by table."""
     found: Tables = {table: [] for table in TABLES}
-    with open(EXAMPLES / name, newline="", encoding="utf-8") as file:
+    with open(path, newline="", encoding="utf-8") as file:
         for record in list(csv.reader(file))[1:]:
             found[RECORDS[record[0]]].append(record[1:])
     return found
@@ -61,18 +62,18 @@ def faults_of(parameters: ParameterSet) -> List[Found]:
 class Built(unittest.TestCase):
     """Each kind of rows gives the file of the example, byte for byte."""
 
-    expected = (EXAMPLES / "params.csv").read_bytes()
+    expected = PARAMS.read_bytes()
 
     def test_rows_of_csv_files_in_dollars(self) -> None:
         self.assertEqual(of_desk(desk()).to_bytes(), self.expected)
 
     def test_sequences_in_the_order_of_the_record(self) -> None:
-        self.assertEqual(new(records("params.csv")).to_bytes(), self.expected)
-        self.assertEqual(new(records("params.csv"), set_id="D1").to_bytes(), self.expected.replace(b"D20251114", b"D1"))
+        self.assertEqual(new(records(PARAMS)).to_bytes(), self.expected)
+        self.assertEqual(new(records(PARAMS), set_id="D1").to_bytes(), self.expected.replace(b"D20251114", b"D1"))
 
     def test_version_2(self) -> None:
-        parameters = new(records("params-value.csv"), set_id="D20251114V", version=2)
-        self.assertEqual(parameters.to_bytes(), (EXAMPLES / "params-value.csv").read_bytes())
+        parameters = new(records(VALUE), set_id="D20251114V", version=2)
+        self.assertEqual(parameters.to_bytes(), VALUE.read_bytes())
         self.assertEqual(faults_of(parameters), [])
 
     def test_rows_of_sqlite(self) -> None:
@@ -124,7 +125,7 @@ class Built(unittest.TestCase):
         self.assertEqual(parameters.to_bytes(), self.expected)
 
     def test_is_the_source_of_a_call(self) -> None:
-        self.assertEqual(bytes(of_desk(desk())), self.expected)
+        self.assertEqual(margin(of_desk(desk()), POSITIONS), margin(PARAMS, POSITIONS))
 
 
 LEG = ("tier", "side", "ratio")
@@ -203,7 +204,7 @@ class Mistakes(unittest.TestCase):
 
     def test_each_column_with_texts_that_it_may_not_have(self) -> None:
         """The forms and ranges that find the column of a fault are those of the program."""
-        examples, tables = records("params-value.csv"), tables_of(2)
+        examples, tables = records(VALUE), tables_of(2)
         for text in TEXTS:
             # (a set with a fault of reading has its faults of reading alone)
             parameters, expected = ParameterSet("D1", "usd", version=2), [("set", 1, "P5", "currency")]
@@ -252,7 +253,7 @@ class Mistakes(unittest.TestCase):
             ParameterSet("D1", "USD", version=3)
 
     def test_the_value_of_a_future(self) -> None:
-        tables = records("params-value.csv")
+        tables = records(VALUE)
         tables["contracts"][1][-1] = "5"
         self.assertEqual(faults_of(new(tables, version=2)), [("contracts", 2, "P7 OutOfRange", "value", "5")])
 
