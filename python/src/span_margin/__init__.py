@@ -1,0 +1,112 @@
+"""Margin requirements of futures and options, computed by the proved program `span`.
+
+    import span_margin as span
+
+    statement = span.margin("params.csv", "positions.csv")
+    statement["RIVER-01"].total                       # in minor units, such as cents
+
+    with span.Session("params.csv", "positions.csv") as desk:
+        desk.try_order("RIVER-01", {"CLZ5": -2}).change
+
+Nothing is computed here: every figure is one that the program printed. Amounts are whole minor units of the currency of the parameter
+set; `amount.major(2)` is a Decimal in major units.
+"""
+from span_margin._amounts import Amount, ExactAmount
+from span_margin._calls import check, explain, faults, margin, roll, whatif
+from span_margin._errors import (
+    FileError,
+    OutOfMemoryError,
+    ParametersError,
+    PositionsError,
+    ProgramError,
+    RequestError,
+    RollError,
+    SessionEnded,
+    SpanError,
+    UsageError,
+)
+from span_margin._lines import (
+    AccountTotal,
+    Change,
+    CommodityMargin,
+    Credit,
+    Fault,
+    Held,
+    Inter,
+    Intra,
+    Month,
+    OrderTotal,
+    Position,
+    Scan,
+    SetCounts,
+    Short,
+    Spot,
+    Sums,
+)
+from span_margin._parameters import ParameterSet, ParameterSetError, RowFault
+from span_margin._results import (
+    AccountExplanation,
+    AccountMargin,
+    CommodityExplanation,
+    Explanation,
+    Faults,
+    Positions,
+    Roll,
+    Statement,
+    TriedOrder,
+    TriedOrders,
+)
+from span_margin._session import Session
+
+__version__ = "1.3.0"
+
+__all__ = [
+    "AccountExplanation",
+    "AccountMargin",
+    "AccountTotal",
+    "Amount",
+    "Change",
+    "CommodityExplanation",
+    "CommodityMargin",
+    "Credit",
+    "ExactAmount",
+    "Explanation",
+    "Fault",
+    "Faults",
+    "FileError",
+    "Held",
+    "Inter",
+    "Intra",
+    "Month",
+    "OrderTotal",
+    "OutOfMemoryError",
+    "ParameterSet",
+    "ParameterSetError",
+    "ParametersError",
+    "Position",
+    "Positions",
+    "PositionsError",
+    "ProgramError",
+    "RequestError",
+    "Roll",
+    "RollError",
+    "RowFault",
+    "Scan",
+    "Session",
+    "SessionEnded",
+    "SetCounts",
+    "Short",
+    "SpanError",
+    "Spot",
+    "Statement",
+    "Sums",
+    "TriedOrder",
+    "TriedOrders",
+    "UsageError",
+    "check",
+    "explain",
+    "faults",
+    "margin",
+    "roll",
+    "whatif",
+]

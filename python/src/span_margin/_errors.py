@@ -1,0 +1,183 @@
+"""Errors: a fault line of the program, taken apart, as an exception."""
+import os
+import re
+import signal
+import stat
+from typing import Dict, Optional, Type
+
+_FAULT = re.compile(
+    r"(?P<file>(?:next )?(?:parameters|positions|orders|request|book|workers)): (?P<code>[A-Z]\d+) (?P<name>\w+)"
+    r"(?: at record (?P<record>\d+)| at field (?P<field>\d+))?"
+    r"(?: account (?P<account>[^ ]+))?(?: order (?P<order>[^ ]+))?(?: contract (?P<contract>[^ ]+))?"
+)
+_FIRST_PAIR = {"TRY": 3, "FILL": 2}
+LONGEST_FILE = 67108864  # bytes of a file that the program reads
+
+
+class SpanError(Exception):
+    """What the program rejected, or why it could not be asked.
+
+    line      what the program printed, without the line end
+    status    its exit status; None if a session rejected one request and goes on
+    file      what has the fault: parameters, next parameters, positions, next positions, orders, request; None if nothing is named
+    code      the code of the fault, such as B1
+    name      its name, such as UnknownContract
+    record    the number of the record, from 1; None in a session
+    field     of a request: the number of the field, from 1, or 0 for the whole request
+    account, order, contract    what the line names, or what the request named
+    """
+
+    def __init__(self, line: str, status: Optional[int] = None) -> None:
+        super().__init__(line, status)
+        self.line = line
+        self.status = status
+        self.file: Optional[str] = None
+        self.code: Optional[str] = None
+        self.name: Optional[str] = None
+        self.record: Optional[int] = None
+        self.field: Optional[int] = None
+        self.account: Optional[str] = None
+        self.order: Optional[str] = None
+        self.contract: Optional[str] = None
+        fault = match_fault(line)
+        if fault:
+            self.file, self.code, self.name = fault["file"], fault["code"], fault["name"]
+            self.record, self.field = number_of(fault["record"]), number_of(fault["field"])
+            self.account, self.order, self.contract = fault["account"], fault["order"], fault["contract"]
+
+    def __str__(self) -> str:
+        return self.line
+
+
+class UsageError(SpanError):
+    """Status 2: an argument is not one of the program's, such as a number of workers over 16 or an account that is no name."""
+
+
+class ParametersError(SpanError):
+    """Status 3: the parameter file is rejected."""
+
+
+class PositionsError(SpanError):
+    """Status 4: the position file or the order file is rejected, or it lacks the account that was asked for."""
+
+
+class OutOfMemoryError(SpanError):
+    """Status 5: the system gave the program no more memory."""
+
+
+class FileError(SpanError):
+    """Status 6: a file cannot be read.
+
+    filename  the name of the file
+    reason    why the operating system cannot open it, such as "No such file or directory"; None if it can
+    """
+
+    def __init__(self, line: str, status: Optional[int] = None) -> None:
+        super().__init__(line, status)
+        self.filename = line[len("file: ") :]
+        self.reason = why_not_readable(self.filename)
+
+    def __str__(self) -> str:
+        return f"{self.line}: {self.reason}" if self.reason else self.line
+
+
+class RollError(SpanError):
+    """Status 7: not to be expected; the files are not at fault."""
+
+
+class RequestError(SpanError):
+    """A session rejected a request, which changed nothing. The session goes on.
+
+    request   the request, such as `FILL,RIVER-01,CLX5,10`
+    """
+
+    def __init__(self, line: str, status: Optional[int] = None, request: str = "") -> None:
+        super().__init__(line, status)
+        self.request = request
+        fields = request.split(",")
+        first = _FIRST_PAIR.get(fields[0], 2)  # the index of the first contract
+        self.account = fields[first - 1] if len(fields) >= first else None
+        self.order = fields[1] if fields[0] == "TRY" else None
+        at = (self.field or 0) - 1
+        if first <= at < len(fields):
+            self.contract = fields[at - (at - first) % 2]
+
+    def __str__(self) -> str:
+        fields = self.request.split(",")
+        return f"{self.line}: {fields[self.field - 1]}" if self.field and self.field <= len(fields) else self.line
+
+
+class SessionEnded(SpanError):
+    """The session has ended, or was closed: then `status` is None. `line` has what it printed on standard error, if anything."""
+
+    def __str__(self) -> str:
+        if self.status is None:
+            return "the session is closed"
+        return f"the session ended {how(self.status)}" + (f": {self.line}" if self.line else "")
+
+
+class ProgramError(SpanError):
+    """There is no program, it has another version, a signal ended it, or it printed what this package cannot read."""
+
+
+_OF_STATUS: Dict[int, Type[SpanError]] = {
+    2: UsageError,
+    3: ParametersError,
+    4: PositionsError,
+    5: OutOfMemoryError,
+    6: FileError,
+    7: RollError,
+}
+_OF_FRONT: Dict[str, Type[SpanError]] = {
+    "parameters": ParametersError,
+    "positions": PositionsError,
+    "memory": OutOfMemoryError,
+    "file": FileError,
+}
+
+
+def match_fault(line: str) -> Optional["re.Match[str]"]:
+    """The parts of a fault line, or None if the line is not one."""
+    return _FAULT.fullmatch(line)
+
+
+def number_of(digits: Optional[str]) -> Optional[int]:
+    return None if digits is None else int(digits)
+
+
+def why_not_readable(name: str) -> Optional[str]:
+    """Why a file cannot be read, in the words of the operating system, or None if it can."""
+    try:
+        descriptor = os.open(name, os.O_RDONLY | os.O_NONBLOCK | os.O_CLOEXEC)
+    except (OSError, ValueError) as error:
+        return getattr(error, "strerror", None) or str(error)
+    try:
+        about = os.fstat(descriptor)
+        if stat.S_ISDIR(about.st_mode):
+            return "Is a directory"
+        if stat.S_ISREG(about.st_mode) and about.st_size > LONGEST_FILE:
+            return f"longer than {LONGEST_FILE} bytes"
+        return None
+    finally:
+        os.close(descriptor)
+
+
+def error_of_status(status: int, line: str) -> SpanError:
+    """The error of a run that ended with this status, not 0, and printed this on standard error."""
+    return _OF_STATUS.get(status, ProgramError)(line or f"span ended {how(status)}", status)
+
+
+def error_of_request(what: str, request: str) -> SpanError:
+    """The error of a request that a session rejected: `what` is the rest of its line."""
+    kind = _OF_FRONT.get(what.split(":")[0])
+    return kind(what) if kind else RequestError(what, request=request)
+
+
+def how(status: int) -> str:
+    """How a process ended: a status below 0 is that of a signal."""
+    if status >= 0:
+        return f"with status {status}"
+    try:
+        return f"by signal {signal.Signals(-status).name}"
+    except ValueError:
+        return f"by signal {-status}"

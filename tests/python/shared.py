@@ -1,0 +1,79 @@
+"""What the tests of the package share: the example files, directories, and programs that stand in for span."""
+import os
+import stat
+import tempfile
+import unittest
+from pathlib import Path
+from typing import Any, List, Type, TypeVar, Union
+from unittest import mock
+
+import span_margin as span
+from span_margin._lines import Line, cells_of, columns_of
+
+EXAMPLES = Path(__file__).resolve().parents[2] / "examples"
+PARAMS, NEXT, VALUE = EXAMPLES / "params.csv", EXAMPLES / "params-next.csv", EXAMPLES / "params-value.csv"
+POSITIONS, HEDGER = EXAMPLES / "positions-broker.csv", EXAMPLES / "positions-hedger.csv"
+ORDERS = EXAMPLES / "orders-broker.csv"
+FAULTY_PARAMS, FAULTY_POSITIONS = EXAMPLES / "params-faults.csv", EXAMPLES / "positions-faults.csv"
+Error = TypeVar("Error", bound=BaseException)
+
+
+def line_of(word: str, make: Type[Line], line: Line) -> str:
+    """The line that span printed for an object, without the end."""
+    cells = [str(cell) for cell in cells_of(line, columns_of(make)) if cell is not None]
+    return ",".join((word, *cells))
+
+
+def statement_lines(statement: span.Statement) -> List[str]:
+    """The lines that span printed for a statement."""
+    found = []
+    for account in statement:
+        found += [line_of("R", span.CommodityMargin, it) for it in account]
+        found.append(line_of("T", span.AccountTotal, account))
+    return found
+
+
+def lines_of(path: Union[str, Path]) -> List[str]:
+    """The lines of a file."""
+    return Path(path).read_text(encoding="utf-8").split("\n")[:-1]
+
+
+class Case(unittest.TestCase):
+    """A test in a new working directory, `self.room`, which is removed behind it."""
+
+    def setUp(self) -> None:
+        room = tempfile.TemporaryDirectory()
+        self.addCleanup(room.cleanup)
+        self.addCleanup(os.chdir, os.getcwd())
+        os.chdir(room.name)
+        self.room = Path(room.name)
+
+    def use(self, **variables: str) -> None:
+        """Sets variables of the environment until the test ends."""
+        patch = mock.patch.dict(os.environ, variables)
+        patch.start()
+        self.addCleanup(patch.stop)
+
+    def use_temporary_directory(self) -> Path:
+        """Makes a new directory the one for temporary files, and returns it."""
+        place = self.room / "temporary"
+        place.mkdir()
+        patch = mock.patch.object(tempfile, "tempdir", str(place))
+        patch.start()
+        self.addCleanup(patch.stop)
+        return place
+
+    def use_program(self, script: str, version: str = "1.3.0") -> Path:
+        """Puts a shell script in the place of span. `$SPAN_REAL` in it is the built program."""
+        path = self.room / "stand-in"
+        path.write_text(f'#!/bin/sh\n[ "$1" = --version ] && echo "span {version} (stand-in)" && exit\n{script}\n', encoding="utf-8")
+        path.chmod(path.stat().st_mode | stat.S_IXUSR)
+        self.use(SPAN=str(path), SPAN_REAL=os.environ["SPAN"])
+        return path
+
+    def error(self, kind: Type[Error], call: Any, *arguments: Any, **named: Any) -> Error:
+        """The error of exactly this class that a call raises."""
+        with self.assertRaises(kind) as caught:
+            call(*arguments, **named)
+        self.assertIs(type(caught.exception), kind)
+        return caught.exception

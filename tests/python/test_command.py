@@ -1,0 +1,96 @@
+"""The command `python -m span_margin`: tables, JSON lines and CSV of what span prints, and lines that are not span's."""
+import csv
+import io
+import json
+import os
+import subprocess
+import sys
+from typing import Any, Tuple
+
+import span_margin as span
+from shared import EXAMPLES, PARAMS, POSITIONS, Case
+
+STATEMENT, EXPLANATION = EXAMPLES / "statement-broker.csv", EXAMPLES / "explanation-broker.csv"
+
+
+def command(*words: str, given: bytes = b"", **options: Any) -> Tuple[int, str, str]:
+    """The exit status of the command, and what it prints on both streams."""
+    options = {"stdout": subprocess.PIPE, "stderr": subprocess.PIPE, "input": given, **options}
+    done = subprocess.run([sys.executable, "-m", "span_margin", *words], check=False, **options)
+    return done.returncode, (done.stdout or b"").decode(), (done.stderr or b"").decode()
+
+
+class Command(Case):
+    def printed(self, *words: str, given: bytes) -> str:
+        status, out, err = command(*words, given=given)
+        self.assertEqual((status, err), (0, ""))
+        return out
+
+    def test_table(self) -> None:
+        given = b"T,RIVER-01,D1,1331287\nR,A,D1,CL,1,14,2,3,4,5,600\nT,A,D1V,5,-600,7,8\n"
+        self.assertEqual(self.printed("table", "--major", "2", given=given), "\n".join((
+            "account   set     total  value   due  excess",
+            "RIVER-01  D1   13312.87",
+            "A         D1V      0.05  -6.00  0.07    0.08",
+            "",
+            "account  set  commodity  scan_risk  active_scenario  intracommodity_charge  delivery_charge  credit  minimum  requirement",
+            "A        D1   CL              0.01               14                   0.02             0.03    0.04     0.05         6.00",
+            "")))
+        self.assertEqual(self.printed("table", given=b""), "")
+
+    def test_csv(self) -> None:
+        rows = list(csv.DictReader(io.StringIO(self.printed("csv", given=STATEMENT.read_bytes()))))
+        statement = span.margin(PARAMS, POSITIONS)
+        self.assertEqual([row["total"] for row in rows if row["line"] == "T"], [str(it.total) for it in statement])
+        self.assertEqual([row["credit"] for row in rows if row["line"] == "R"], [str(line.credit) for it in statement for line in it])
+        self.assertEqual({row["credit"] for row in rows if row["line"] == "T"}, {""})
+        held = self.printed("csv", "--only", "HELD", "--only", "SPOT", given=EXPLANATION.read_bytes())
+        self.assertEqual({row["line"] for row in csv.DictReader(io.StringIO(held))}, {"HELD", "SPOT"})
+        self.assertEqual(self.printed("csv", given=b""), "line\n")
+
+    def test_json(self) -> None:
+        rows = [json.loads(line) for line in self.printed("json", given=EXPLANATION.read_bytes()).split("\n")[:-1]]
+        self.assertEqual(len(rows), len(EXPLANATION.read_bytes().split(b"\n")) - 1)
+        scan = next(row for row in rows if row["line"] == "SCAN")
+        self.assertEqual((scan["price_risk"], scan["scan_risk"], scan["active_scenario"]), ("916325.5", 971600, 14))
+        sums = next(row for row in rows if row["line"] == "SUMS")
+        self.assertEqual((sums["sum_1"], sums["sum_14"]), (-57430, 971600))
+        (row,) = [json.loads(self.printed("json", "--major", "2", given=b"CREDIT,A,D1,CL,916325.5,2.2828,16892.72\n"))]
+        self.assertEqual((row["price_risk"], row["net_delta"]), ("9163.255", "2.2828"))
+
+    def test_orders(self) -> None:
+        changes = (EXAMPLES / "changes-broker.csv").read_bytes()
+        self.assertIn("HEDGE", self.printed("table", "--only", "ORDER", given=changes))
+
+    def test_wrong_lines(self) -> None:
+        for line in (b"hello", b"", b"R,A", b"T,A,D1,x", b"T,A,D1,1,2,3,4,5", b"t,A,D1,1", b"parameters: P1 NoSet at record 0", b"done,0",
+                     b"T,\xff,D1,x", b"SCAN,A,D1,CL,1,2,3,x"):
+            with self.subTest(line):
+                status, out, err = command("json", given=b"T,A,D1,1\n" + line + b"\n")
+                self.assertEqual((status, out), (2, ""))
+                self.assertRegex(err, r"\Apython -m span_margin: line 2 is not one of .*\n\Z")
+
+    def test_cut_off(self) -> None:
+        for format_ in ("table", "json", "csv"):
+            status, out, err = command(format_, given=b"T,A,D1,1\nT,B,D1,12")
+            self.assertEqual((status, out), (2, ""))
+            self.assertIn("cut off", err)
+
+    def test_arguments(self) -> None:
+        for words in ((), ("xml",), ("csv", "--major", "x"), ("csv", "--major", "-1"), ("csv", "--only", "X"), ("csv", "file")):
+            self.assertEqual(command(*words)[:2], (2, ""))
+        status, out, _ = command("--help")
+        self.assertEqual(status, 0)
+        self.assertIn("--major", out)
+
+    def test_output_fails(self) -> None:
+        with open("/dev/full", "wb") as full:
+            self.assertEqual(command("csv", given=b"T,A,D1,1\n", stdout=full)[0::2], (6, "python -m span_margin: file: output\n"))
+        reads, writes = os.pipe()
+        os.close(reads)
+        self.assertEqual(command("csv", given=STATEMENT.read_bytes() * 100, stdout=writes)[0::2], (6, "python -m span_margin: file: output\n"))
+        os.close(writes)
+
+    def test_input_fails(self) -> None:
+        with open("/dev/null", "wb") as stream:
+            self.assertEqual(command("csv", input=None, stdin=stream), (6, "", "python -m span_margin: file: input\n"))
