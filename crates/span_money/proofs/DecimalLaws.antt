@@ -1,4 +1,4 @@
--- A decimal is a minus or none, 1 to 6 digits, and a fraction.
+-- A decimal is an optional minus, 1 to 6 digits, and a fraction.
 use Rattle.std.proofs.Common.{◌≡◌, ℕ, ◌+◌, ◌-◌, ◌*◌, ◌^◌, ◌<◌, ◌&&◌, ◌==◌, Bool, true, false, cond, List, []}
 use Rattle.std.proofs.Common.{◌∷◌, ◌++◌, length, drop, refl, sym, ap, ◌∙◌, subst, arith}
 use Rattle.std.specs.Prelude.{ℤ, Some, None, Option, option_map}
@@ -17,7 +17,7 @@ and_split : (x y : Bool) → (x && y) ≡ true → (x ≡ true) × (y ≡ true)
 and_split true y h = (refl, h)
 and_split false y h = absurd (cc)
 
--- the digits that digits and what is none begin with
+-- the leading digits of digits followed by a text that begins with no digit
 pub stops : (front back : List ℕ) → list_all is_ascii_digit front ≡ true → take_while is_ascii_digit back ≡ []
     → take_while is_ascii_digit (front ++ back) ≡ front
 stops [] back h e = e
@@ -27,7 +27,7 @@ stops (x ∷ xs) back h e =
     ∙ ap (λ b. cond b (x ∷ take_while is_ascii_digit (xs ++ back)) []) both.0
     ∙ ap (λ l. x ∷ l) (stops xs back both.1 e)
 
--- a fraction begins with no digit
+-- a fraction does not begin with a digit
 no_digit : (back : List ℕ) (part : ℕ) → fraction back ≡ Some part → take_while is_ascii_digit back ≡ []
 no_digit [] part e = refl
 no_digit (b ∷ back) part e = by_point (b == 46) refl e where
@@ -39,7 +39,7 @@ no_digit (b ∷ back) part e = by_point (b == 46) refl e where
       subst (λ x. take_while is_ascii_digit (x ∷ back) ≡ []) (sym point) (take_while-cons is_ascii_digit 46 back)
   by_point false is h = absurd (cc)
 
--- what digits and a fraction spell
+-- the number that digits and a fraction spell
 of_parts : (front back : List ℕ) (part : ℕ) → are_digits 6 front ≡ true → fraction back ≡ Some part
     → unsigned_decimal (front ++ back) ≡ Some (digits_value front * 10000 + part)
 of_parts front back part h e =
@@ -58,7 +58,7 @@ plain (x ∷ xs) back some all =
     let off : (x == 45) ≡ false = grind (arith, nat_tests) in
     (off, ap (λ b. cond b (xs ++ back) (x ∷ (xs ++ back))) off)
 
--- a decimal is read as what it spells
+-- a decimal is read as the number that it spells
 pub reads : (negative : Bool) (front back : List ℕ) (part : ℕ) → are_digits 6 front ≡ true → fraction back ≡ Some part
     → decimal_number (cond negative (45 ∷ []) [] ++ (front ++ back)) ≡ Some (with_sign negative (digits_value front * 10000 + part))
 reads true front back part h e = ap (λ n. option_map (with_sign true) n) (of_parts front back part h e)
@@ -103,7 +103,7 @@ has_parts text n e = by_digits (are_digits 6 front) refl e where
   by_digits true is h = by_fraction is (fraction back) refl h
   by_digits false is h = absurd (cc)
 
--- a text is its minus, where it has one, and the rest
+-- a text is its minus, if it has one, and the remaining bytes
 split_sign : (text : List ℕ) → text ≡ cond (has_minus text) (45 ∷ []) [] ++ without_minus text
 split_sign [] = refl
 split_sign (b ∷ rest) = by_minus (b == 45) refl where
@@ -111,7 +111,7 @@ split_sign (b ∷ rest) = by_minus (b == 45) refl where
   by_minus true is = let minus : b ≡ 45 = grind (arith, nat_tests) in ap (λ x. x ∷ rest) minus
   by_minus false is = refl
 
--- what is read as a number is a decimal that spells it
+-- a text that is read as a number is a decimal that spells the number
 pub is_decimal : (text : List ℕ) (z : ℤ) → decimal_number text ≡ Some z → IsDecimal text z
 is_decimal text z e = by_number (unsigned_decimal (without_minus text)) refl e where
   by_number : (u : Option ℕ) → unsigned_decimal (without_minus text) ≡ u → option_map (with_sign (has_minus text)) u ≡ Some z

@@ -1,4 +1,4 @@
--- An exact decimal is read as the number that it was written of, and no byte of it could be left out.
+-- An exact decimal is read as the number that it was written from.
 use Rattle.std.proofs.Common.{◌≡◌, ℕ, zero, suc, ◌+◌, ◌-◌, ◌*◌, ◌/◌}
 use Rattle.std.proofs.Common.{◌%◌, ◌^◌, ◌<◌, ◌≤◌, ◌==◌, Bool, true, false, cond}
 use Rattle.std.proofs.Common.{List, [], ◌∷◌, ◌++◌, ◌⊎◌, length, drop, refl}
@@ -20,13 +20,13 @@ use Rattle.span_money.proofs.DecimalLaws.{plain, stops}
 use Rattle.span_money.proofs.ExactLemmas.{no_digits, power_positive}
 use Rattle.span_money.proofs.TextLaws.{own}
 
--- digits behind a number push it up by their number of places
+-- appending digits to a number multiplies it by 10 for each digit and adds their value
 values_after : (a : ℕ) (ds : List ℕ) → fold (λ n d. n * 10 + (d - 48)) a ds ≡ a * 10 ^ length ds + digits_value ds
 values_after a [] = omega arith
 values_after a (d ∷ ds) =
     omega (arith, values_after (a * 10 + (d - 48)) ds, values_after (0 * 10 + (d - 48)) ds, ap (λ x. a * x) (pow-suc 10 (length ds)))
 
--- digits are those of a fraction of so many places
+-- the digits of a fraction with this number of decimal places
 record IsFraction (k f : ℕ) (ds : List ℕ) : Type 0 where
   digits : list_all is_ascii_digit ds ≡ true
   few : length ds ≤ k
@@ -74,7 +74,7 @@ is_whole n small =
     let is = decimal_is_IsNumeral_wide n small in
     record { some = is.0.0; digits = own.from (decimal n) is.0.1; value = own.same (decimal n) is.0.1 ∙ is.1 }
 
--- behind the whole part stands no digit, and behind the point the fraction's digits
+-- no digit follows the whole part directly, and the digits after the point are the fraction's
 pub tail_begins : (places f : ℕ) → take_while is_ascii_digit (fraction_text places f) ≡ []
 tail_begins places f = by_test (f == 0) where
   by_test : (t : Bool) → take_while is_ascii_digit (cond t [] (46 ∷ fraction_digits places f)) ≡ []
@@ -105,7 +105,7 @@ spells places n small =
     ∙ ap (λ w. w * one + digits_value digits * 10 ^ (places - length digits)) whole.value
     ∙ ap (λ r. n / one * one + r) part.value ∙ div-add-mod' n one
 
--- a text that begins with no minus
+-- a text that does not begin with a minus
 signless : (places : ℕ) (text : List ℕ) → has_minus text ≡ false → without_minus text ≡ text
     → exact_value places text ≡ pos (unsigned_value places text)
 signless places text off same =

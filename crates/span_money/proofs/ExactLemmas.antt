@@ -27,7 +27,7 @@ powers_below (suc n) k t h =
 pub power_at : (k : ℕ) → k ≤ 18 → get_or POWERS k 0 ≡ 10 ^ k
 power_at k few = powers_below 19 k refl (omega arith)
 
--- a fraction that is not 0 has places
+-- a fraction that is not 0 has decimal places
 pub has_places : (k f : ℕ) → 0 < f → f < 10 ^ k → 0 < k
 has_places zero f some below = absurd (omega arith)
 has_places (suc k) f some below = omega arith
@@ -48,7 +48,7 @@ first_digit (suc k) f places some =
 pub power_positive : (k : ℕ) → 0 < 10 ^ k
 power_positive k = one-le-pow k 10 (omega arith)
 
--- one step: a digit is written, and the rest has a place less
+-- one step: a digit is written, and the remaining fraction has one decimal place less
 pub one_more : (out new start all : List ℕ) (k f : ℕ) → 0 < f → f < 10 ^ k → out ++ fraction_digits k f ≡ start ++ all
     → new ≡ out ++ ((48 + f / 10 ^ (k - 1)) ∷ []) → new ++ fraction_digits (k - 1) (f % 10 ^ (k - 1)) ≡ start ++ all
 one_more out new start all k f some below before written =

@@ -6,7 +6,7 @@ use Rattle.std.proofs.lemmas.List.FromFn.{map-range_with_len_more}
 use Rattle.std.proofs.lemmas.Grind.{flat_map-append}
 use Rattle.span_money.specs.LineFields.{Line, field, line}
 
--- a word, ids, fields and a line feed, one after another
+-- a word, ids, fields and a line feed, written one after another
 pub in_parts : (old word : List ℕ) (ids fields : List (List ℕ))
     → ((old ++ word ++ flat_map field ids) ++ flat_map field fields) ++ 10 ∷ []
     ≡ old ++ line (record { word = word; fields = ids ++ fields })
@@ -16,7 +16,7 @@ in_parts old word ids fields =
       grouped : (i f e : List ℕ) → ((old ++ word ++ i) ++ f) ++ e ≡ old ++ (word ++ ((i ++ f) ++ e))
       grouped i f e = simp append_assoc refl
 
--- with a comma between each two, the first field and the others are the first, and each other one with its comma in front
+-- fields joined by commas are the first field, followed by each other field with a comma in front of it
 pub joined : (first : List ℕ) (rest : List (List ℕ)) → join_with_byte 44 (first ∷ rest) ≡ first ++ flat_map field rest
 joined first [] = sym (append-nil first)
 joined first (x ∷ rest) = ap (λ t. first ++ (44 ∷ t)) (joined x rest)
@@ -25,7 +25,7 @@ pub line_joined : (l : Line) → line l ≡ join_with_byte 44 (l.word ∷ l.fiel
 line_joined l =
     sym (append_assoc l.word (flat_map field l.fields) (10 ∷ [])) ∙ ap (λ t. t ++ 10 ∷ []) (sym (joined l.word l.fields))
 
--- what is written of the numbers below n, and then of n
+-- the bytes written for the numbers below n, followed by those for n
 pub numbered_more : (f : ℕ → List ℕ) (old : List ℕ) (n : ℕ)
     → (old ++ flat_map f (range_with_len 0 n)) ++ f n ≡ old ++ flat_map f (range_with_len 0 (n + 1))
 numbered_more f old n =

@@ -1,4 +1,4 @@
--- No byte of an exact decimal could be left out.
+-- No byte of an exact decimal can be left out.
 use Rattle.std.proofs.Common.{◌≡◌, ◌≢◌, ℕ, zero, suc, ◌+◌, ◌*◌}
 use Rattle.std.proofs.Common.{◌/◌, ◌%◌, ◌^◌, ◌<◌, ◌≤◌, ◌==◌, true, false}
 use Rattle.std.proofs.Common.{List, [], ◌∷◌, ◌++◌, ◌⊎◌, length, get_or}
@@ -33,7 +33,7 @@ with_front : (front text : List ℕ) → EndsInDigit text → EndsInDigit (front
 with_front [] text end = end
 with_front (x ∷ front) text end = with_front_byte x (front ++ text) (with_front front text end)
 
--- where nothing is left, something was taken
+-- a number above 0 without a remainder has a quotient above 0
 not_zero : (f one : ℕ) → 0 < f → f % one ≡ 0 → 0 < f / one
 not_zero f one some none = by_digit (eq-zero-or-pos (f / one)) where
   by_digit : (f / one ≡ 0) ⊎ (0 < f / one) → 0 < f / one
@@ -53,7 +53,7 @@ fraction_ends (suc k) f some below =
       | inr more ↦ with_front_byte (48 + f / 10 ^ k) (fraction_digits k rest) (fraction_ends k rest more (mod-lt f (power_positive k)))
     ])
 
--- where the fraction is 0 there is no point
+-- if the fraction is 0 there is no point
 abbrev HasNoPoint : List ℕ → Type 0
 HasNoPoint text = All (λ b. b ≢ 46) text
 
@@ -96,7 +96,7 @@ exact_end places (negsuc n) small point =
       | inr end ↦ with_front_byte 45 (unsigned_exact places (suc n)) end
     ]
 
--- digits of a whole number begin with 0 only where they are all of 0
+-- the digits of a whole number begin with 0 only if the number is 0
 HasFirst : ℕ → List ℕ → Type 0
 HasFirst n ds = (0 < length ds) × (0 < n → 48 < get_or ds 0 0)
 
@@ -107,7 +107,7 @@ first_of = decimal_by_steps_wide HasFirst (λ n small. (omega arith, λ some. om
   λ some. omega (arith, get_or_append_left ds ((48 + n % 10) ∷ []) 0 0 first.0, first.1 (omega arith)),
 ))
 
--- what a text with a whole part begins with
+-- the leading digits of a text that has a whole part
 front_of : (n : ℕ) (tail : List ℕ) → n < 10 ^ 64 → take_while is_ascii_digit tail ≡ [] → get_or (decimal n ++ tail) 0 0 ≡ 48
     → (n ≡ 0) ⊎ (0 < n) → take_while is_ascii_digit (decimal n ++ tail) ≡ 48 ∷ []
 unfolding HasFirst

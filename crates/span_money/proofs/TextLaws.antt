@@ -1,4 +1,4 @@
--- Laws of number texts.
+-- Lemmas about number texts.
 use Rattle.std.proofs.Common.{◌≡◌, ◌≢◌, ℕ, suc, ◌+◌, ◌-◌, ◌*◌, ◌^◌, ◌<◌, ◌==◌, Bool, true, false}
 use Rattle.std.proofs.Common.{cond, List, [], ◌∷◌, length, get_or, ap, ◌∙◌, arith, rules}
 use Rattle.std.specs.Prelude.{ℤ, pos, negsuc, neg_ℤ, nat_abs, fold, Some, None}
@@ -10,13 +10,13 @@ use Rattle.std.proofs.lemmas.Fmt.{decimal_nonempty, digits_decimal, digits_value
 use Rattle.std.proofs.lemmas.Str.Parse.{IsNumeralModel, numerals_by_fold, not_in_digits}
 use Rattle.span_money.specs.Numbers.{are_digits, digits_value, whole_number, with_sign}
 
--- the digits of a text and their value are those that std prints
+-- the digits of a text and their value agree with the digits that std prints
 
 pub own : IsNumeralModel (λ ds. list_all is_ascii_digit ds ≡ true) digits_value
 own = numerals_by_fold (λ ds. list_all is_ascii_digit ds ≡ true) (search rules) (λ n text. fold (λ n d. n * 10 + (d - 48)) n text)
     (search rules)
 
--- a number of at most 18 digits is written with at most so many
+-- a number below 10^18 is written with at most 18 digits
 written : (n : ℕ) → n < 10 ^ 18 → are_digits 18 (decimal n) ≡ true
 written n h =
     let small : n < 2 ^ 64 = omega arith in
@@ -25,23 +25,23 @@ written n h =
     let digits : list_all is_ascii_digit (decimal n) ≡ true = digits_decimal own n small in
     grind (arith, nat_tests)
 
--- a text that has no minus is read as it stands
+-- a text that has no minus is read unchanged
 without_flag : (flag : Bool) (b : ℕ) (rest : List ℕ) → flag ≡ false → are_digits 18 (b ∷ rest) ≡ true
     → cond (are_digits 18 (cond flag rest (b ∷ rest))) (Some (with_sign flag (digits_value (cond flag rest (b ∷ rest))))) None
     ≡ Some (pos (digits_value (b ∷ rest)))
 without_flag false b rest off e = ap (λ t. cond t (Some (pos (digits_value (b ∷ rest)))) None) e
 without_flag true b rest off e = absurd (cc)
 
--- digits are read as what they spell
+-- digits are read as the number that they spell
 reads_digits : (ds : List ℕ) → are_digits 18 ds ≡ true → get_or ds 0 0 ≢ 45 → whole_number ds ≡ Some (pos (digits_value ds))
 reads_digits [] e ne = absurd (cc)
 reads_digits (b ∷ rest) e ne = without_flag (b == 45) b rest (grind (arith, nat_tests)) e
 
--- digits behind a minus are read as what is as far below 0
+-- digits after a minus are read as the negated number
 reads_minus : (ds : List ℕ) → are_digits 18 ds ≡ true → whole_number (45 ∷ ds) ≡ Some (neg_ℤ (pos (digits_value ds)))
 reads_minus ds e = ap (λ b. cond b (Some (neg_ℤ (pos (digits_value ds)))) None) e
 
--- what is written of a whole number is read as that number
+-- the text written for a whole number is read back as that number
 pub read_back : (z : ℤ) → nat_abs z < 10 ^ 18 → whole_number (signed_decimal z) ≡ Some z
 read_back (pos n) h =
     let small : n < 2 ^ 64 = omega arith in

@@ -27,7 +27,7 @@ impl Model for Money {
 }
 
 impl Money {
-    /// The amount of so many minor units.
+    /// Returns the amount of this number of minor units.
     pub fn new(minor_units: i128) -> Money
         requires { nat_abs minor_units ≤ MAX_MONEY }
         ensures { result ≡ minor_units }
@@ -35,7 +35,7 @@ impl Money {
         Money { minor_units }
     }
 
-    /// How many minor units it is.
+    /// Returns the amount in minor units.
     pub fn get(self) -> i128
         ensures value { result ≡ self }
         ensures bound { nat_abs result ≤ MAX_MONEY }
@@ -44,7 +44,7 @@ impl Money {
     }
 }
 
-/// A delta position, in units of 10^-8 deltas. A long one is positive.
+/// A delta position, in units of 10^-8 deltas. A long position is positive.
 #[derive(Clone, Copy, Debug, PartialEq, Eq, PartialOrd, Ord)]
 pub struct Units {
     hundred_millionths: i64,
@@ -61,14 +61,14 @@ impl Model for Units {
 }
 
 impl Units {
-    /// The position of so many units.
+    /// Returns the position of this number of units of 10^-8.
     pub fn new(hundred_millionths: i64) -> Units
         ensures { result ≡ hundred_millionths }
     {
         Units { hundred_millionths }
     }
 
-    /// How many units it is.
+    /// Returns the position in units of 10^-8.
     pub fn get(self) -> i64
         ensures { result ≡ self }
     {
@@ -93,14 +93,14 @@ impl Model for Delta {
 }
 
 impl Delta {
-    /// The delta of so many ten-thousandths.
+    /// Returns the delta of this number of ten-thousandths.
     pub fn new(ten_thousandths: i32) -> Delta
         ensures { result ≡ ten_thousandths }
     {
         Delta { ten_thousandths }
     }
 
-    /// How many ten-thousandths it is.
+    /// Returns the delta in ten-thousandths.
     pub fn get(self) -> i32
         ensures { result ≡ self }
     {
@@ -125,14 +125,14 @@ impl Model for Scale {
 }
 
 impl Scale {
-    /// The factor of so many ten-thousandths.
+    /// Returns the factor of this number of ten-thousandths.
     pub fn new(ten_thousandths: u32) -> Scale
         ensures { result ≡ ten_thousandths }
     {
         Scale { ten_thousandths }
     }
 
-    /// How many ten-thousandths it is.
+    /// Returns the factor in ten-thousandths.
     pub fn get(self) -> u32
         ensures { result ≡ self }
     {
@@ -157,14 +157,14 @@ impl Model for Ratio {
 }
 
 impl Ratio {
-    /// The ratio of so many ten-thousandths.
+    /// Returns the ratio of this number of ten-thousandths.
     pub fn new(ten_thousandths: u32) -> Ratio
         ensures { result ≡ ten_thousandths }
     {
         Ratio { ten_thousandths }
     }
 
-    /// How many ten-thousandths it is.
+    /// Returns the ratio in ten-thousandths.
     pub fn get(self) -> u32
         ensures { result ≡ self }
     {

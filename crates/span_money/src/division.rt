@@ -1,10 +1,10 @@
-//! Exact division, by which every figure is rounded (docs/METHOD.md, Rounding).
+//! Exact division, which rounds every figure (docs/METHOD.md, Rounding).
 ghost use Rattle.std.specs.Prelude.{◌≡◌, ◌*◌, ◌/◌, ◌<◌, ◌≤◌, ◌+◌};
 ghost use Rattle.std.specs.Int.{div_ceil};
 
 use crate::amounts::Ratio;
 
-/// The quotient, rounded down.
+/// Returns the quotient, rounded down.
 pub fn floor_div(n: u128, d: u128) -> u128
     requires { 0 < d }
     ensures { result ≡ n / d }
@@ -12,19 +12,20 @@ pub fn floor_div(n: u128, d: u128) -> u128
     n / d
 }
 
-/// The quotient, rounded up.
+/// Returns the quotient, rounded up.
 pub fn ceil_div(n: u128, d: u128) -> u128
     requires { 0 < d }
     ensures { result ≡ div_ceil n d }
 {
-    // Nearly all numbers fit 64 bits, by which the processor itself divides.
+    // Nearly all numbers fit in 64 bits, which the processor divides in hardware.
     match (u64::try_from(n), u64::try_from(d)) {
         (Ok(n), Ok(d)) => u128::from(n.div_ceil(d)),
         _ => n.div_ceil(d),
     }
 }
 
-/// The greatest number n with `n * ratio` at most `rest` (in units of 10^-8): how many 10^-4 spreads fit.
+/// Returns the greatest n such that `n * ratio` is at most `rest` (in units of 10^-8). It is the number of spreads that
+/// fit, in 10^-4 spreads.
 pub fn greatest_fit(rest: u64, ratio: Ratio) -> u64
     requires { 0 < ratio }
     ensures value { result ≡ rest / ratio }

@@ -1,12 +1,12 @@
-//! Exact decimals to write (docs/FORMATS.md, Explanation): a number that is held in 10^-places, with no digit rounded away
-//! and no zero at its end.
+//! Writing exact decimals (docs/FORMATS.md, Explanation): the text of a number in units of 10^-places, with no digit
+//! rounded away and no trailing zero.
 ghost use Rattle.std.specs.Prelude.{◌≡◌, ◌++◌, ◌/◌, ◌%◌, ◌^◌, ◌<◌, ◌≤◌, OnOk, decimal};
 ghost use Rattle.span_money.specs.ExactDecimals.{exact_decimal, fraction_digits, fraction_text, unsigned_exact};
 
 use itoa::Buffer;
 use std::alloc::AllocError;
 
-// The powers of ten, by their exponents.
+// The powers of ten, indexed by exponent.
 const POWERS: [u64; 19] = [
     1,
     10,
@@ -29,7 +29,7 @@ const POWERS: [u64; 19] = [
     1_000_000_000_000_000_000,
 ];
 
-// 10 to a power.
+// Returns 10 to this power.
 fn power(exponent: usize) -> u64
     requires { exponent ≤ 18 }
     ensures value { result ≡ 10 ^ exponent }
@@ -38,7 +38,7 @@ fn power(exponent: usize) -> u64
     POWERS[exponent]
 }
 
-// The whole ones in a number, and the rest below one.
+// Splits a number into its whole part and its fraction.
 fn split(number: u128, one: u64) -> (u128, u64)
     requires { 0 < one }
     ensures whole { result.0 ≡ number / one }
@@ -61,7 +61,7 @@ fn push_whole(out: &mut Vec<u8>, whole: u128) -> Result<(), AllocError>
     }
 }
 
-// Appends the digits of a fraction of so many places, up to the last digit that is not 0.
+// Appends the digits of a fraction with this number of decimal places, up to the last digit that is not 0.
 fn push_digits(out: &mut Vec<u8>, fraction: u64, places: usize) -> Result<(), AllocError>
     requires few { places ≤ 18 }
     requires below { fraction < 10 ^ places }
@@ -78,7 +78,7 @@ fn push_digits(out: &mut Vec<u8>, fraction: u64, places: usize) -> Result<(), Al
     Ok(())
 }
 
-// Appends a point and the digits of a fraction, where the fraction is not 0.
+// Appends a point and the digits of a fraction, or nothing if the fraction is 0.
 fn push_fraction(out: &mut Vec<u8>, fraction: u64, places: usize) -> Result<(), AllocError>
     requires few { places ≤ 18 }
     requires below { fraction < 10 ^ places }
@@ -91,7 +91,7 @@ fn push_fraction(out: &mut Vec<u8>, fraction: u64, places: usize) -> Result<(), 
     push_digits(out, fraction, places)
 }
 
-// Appends the exact decimal of a number from 0 on.
+// Appends the exact decimal of a number that is not negative.
 fn push_unsigned(out: &mut Vec<u8>, number: u128, places: usize) -> Result<(), AllocError>
     requires { places ≤ 18 }
     ensures { OnOk result (out.new.items ≡ out.old.items ++ unsigned_exact places number) }
@@ -101,8 +101,8 @@ fn push_unsigned(out: &mut Vec<u8>, number: u128, places: usize) -> Result<(), A
     push_fraction(out, fraction, places)
 }
 
-/// Appends the exact decimal of a number that is held in 10^-`places` (docs/FORMATS.md, Explanation): 50000000 at 8 places
-/// is `0.5`. At an `Err` a part of the text may have been appended.
+/// Appends the exact decimal of a number in units of 10^-`places` (docs/FORMATS.md, Explanation): 50000000 with 8
+/// places is `0.5`. If the result is an `Err`, part of the text may have been appended.
 #[tactic(auto, unfolding(crate::specs::ExactDecimals::exact_decimal))]
 pub fn push_exact(out: &mut Vec<u8>, number: i128, places: usize) -> Result<(), AllocError>
     requires { places ≤ 18 }

@@ -9,7 +9,7 @@ use crate::exact::push_exact;
 use itoa::Buffer;
 use std::alloc::AllocError;
 
-/// What a field says: a text, a whole number, half of a number, or a number that is held in 10^-4 or in 10^-8.
+/// The value of a field: a text, a whole number, half of a number, or a number in units of 10^-4 or of 10^-8.
 #[derive(Clone, Copy)]
 pub enum Field<'a> {
     Text(&'a str),
@@ -58,7 +58,7 @@ fn push_exact_field(out: &mut Vec<u8>, number: i128, places: usize) -> Result<()
     push_exact(out, number, places)
 }
 
-// Appends a comma and what a field says.
+// Appends a comma and the text of a field.
 fn push_shown(out: &mut Vec<u8>, shown: Field<'_>) -> Result<(), AllocError>
     ensures { OnOk result (out.new.items ≡ out.old.items ++ field (field_text shown.entry)) }
 {
@@ -82,7 +82,7 @@ fn push_fields(out: &mut Vec<u8>, fields: &[Field<'_>]) -> Result<(), AllocError
     Ok(())
 }
 
-/// Appends what a line begins with: its word, and the ids behind it.
+/// Appends the start of a line: its word and its ids.
 pub fn push_start(out: &mut Vec<u8>, word: &str, ids: &[Field<'_>]) -> Result<(), AllocError>
     ensures { OnOk result (out.new.items ≡ out.old.items ++ word.now ++ flat_map field (map field_text ids.now)) }
 {
@@ -90,7 +90,7 @@ pub fn push_start(out: &mut Vec<u8>, word: &str, ids: &[Field<'_>]) -> Result<()
     push_fields(out, ids)
 }
 
-/// Appends a line: its word, the ids behind it, and its fields.
+/// Appends a line: its word, its ids, and its fields.
 pub fn push_line(
     out: &mut Vec<u8>,
     word: &str,
@@ -106,7 +106,7 @@ pub fn push_line(
     Ok(())
 }
 
-/// Appends a line whose fields behind its ids are whole numbers.
+/// Appends a line whose fields after its ids are whole numbers.
 pub fn push_line_of_numbers(
     out: &mut Vec<u8>,
     word: &str,

@@ -1,5 +1,5 @@
-//! Number texts (docs/FORMATS.md, Numbers): whole numbers, decimals with at most four places, months, and plain decimals to
-//! write.
+//! Number texts (docs/FORMATS.md, Names and numbers): reading whole numbers, decimals with at most four decimal places
+//! and months, and writing plain decimals.
 ghost use Rattle.std.specs.Prelude.{◌≡◌, ◌+◌, ◌*◌, ◌-◌, ◌^◌, ◌<◌, ◌≤◌, true, if◌then◌else◌, length};
 ghost use Rattle.std.specs.Prelude.{drop, Some, None, IfSome, OnSome, option_map, pos, nat_abs};
 ghost use Rattle.std.specs.Char.{is_ascii_digit};
@@ -11,22 +11,22 @@ ghost use Rattle.span_money.specs.Numbers.{month_number, unsigned_decimal, whole
 use arrayvec::ArrayString;
 use itoa::Buffer;
 
-// The digits of a whole number, at most.
+// The maximum number of digits of a whole number.
 const WHOLE_DIGITS: usize = 18;
-// The digits of a decimal before its point, at most.
+// The maximum number of digits before the point of a decimal.
 const INTEGER_DIGITS: usize = 6;
-// The digits of a decimal behind its point, at most.
+// The maximum number of digits after the point of a decimal.
 const PLACES: usize = 4;
-// One in 10^-4, which decimals are held in.
+// One, in the unit of decimals, 10^-4.
 const ONE: u64 = 10_000;
-// The digits of a month.
+// The number of digits of a month.
 const MONTH_DIGITS: usize = 6;
-// The first year that a month may be of.
+// The first year of a valid month.
 const FIRST_YEAR: u32 = 1900;
-// The last year that a month may be of.
+// The last year of a valid month.
 const LAST_YEAR: u32 = 2999;
 
-// The number that 1 to `most` digits spell; `None` for any other text.
+// Returns the number that 1 to `most` digits spell, or `None` for any other text.
 fn parse_digits(text: &[u8], most: usize) -> Option<u64>
     requires { most ≤ 18 }
     ensures value { result ≡ (if are_digits most text.now then Some (digits_value text.now) else None) }
@@ -47,7 +47,7 @@ fn parse_digits(text: &[u8], most: usize) -> Option<u64>
     Some(n)
 }
 
-// Whether a text begins with a minus, and the text behind it.
+// Returns whether a text begins with a minus, and the text after it.
 fn split_minus(text: &[u8]) -> (bool, &[u8])
     ensures minus { result.0 ≡ has_minus text.now }
     ensures rest { result.1.now ≡ without_minus text.now }
@@ -58,7 +58,7 @@ fn split_minus(text: &[u8]) -> (bool, &[u8])
     }
 }
 
-// The number, or what is as far below 0.
+// Returns the number, negated if the flag is set.
 fn with_minus(negative: bool, n: u64) -> i64
     requires { n < 2 ^ 63 }
     ensures value { result ≡ with_sign negative n }
@@ -67,7 +67,7 @@ fn with_minus(negative: bool, n: u64) -> i64
     if negative { -(n as i64) } else { n as i64 }
 }
 
-/// A whole number: an optional `-` and 1 to 18 digits. `None` for any other text.
+/// Reads a whole number: an optional `-` and 1 to 18 digits. Returns `None` for any other text.
 pub fn parse_whole(text: &[u8]) -> Option<i64>
     ensures value { result ≡ whole_number text.now }
     ensures bound { IfSome result (λ z. nat_abs z < 10 ^ 18) }
@@ -77,14 +77,14 @@ pub fn parse_whole(text: &[u8]) -> Option<i64>
     Some(with_minus(negative, n))
 }
 
-// How many digits a text begins with.
+// Returns the number of digits that a text begins with.
 fn count_leading_digits(text: &[u8]) -> usize
     ensures { result ≡ prefix_len is_ascii_digit text.now }
 {
     text.iter().take_while(|byte| byte.is_ascii_digit()).count()
 }
 
-// The digits that a text begins with, and what stands behind them.
+// Splits a text into its leading digits and the remaining bytes.
 fn split_digits(text: &[u8]) -> (&[u8], &[u8])
     ensures front { result.0.now ≡ take_while is_ascii_digit text.now }
     ensures back { result.1.now ≡ drop (length (take_while is_ascii_digit text.now)) text.now }
@@ -92,7 +92,7 @@ fn split_digits(text: &[u8]) -> (&[u8], &[u8])
     text.split_at(count_leading_digits(text))
 }
 
-// What so many digits behind a point are worth, in 10^-4.
+// Returns the value of this number of digits after a point, in 10^-4.
 fn scaled(part: u64, digits: usize) -> u64
     requires some { 1 ≤ digits }
     requires few { digits ≤ 4 }
@@ -108,7 +108,7 @@ fn scaled(part: u64, digits: usize) -> u64
     }
 }
 
-// What stands behind the digits of a decimal, in 10^-4: nothing, or a point and 1 to 4 digits.
+// Reads the text after the digits of a decimal, in 10^-4: nothing, or a point and 1 to 4 digits.
 fn parse_fraction(text: &[u8]) -> Option<u64>
     ensures value { result ≡ fraction text.now }
     ensures bound { IfSome result (λ n. n < 10000) }
@@ -123,7 +123,7 @@ fn parse_fraction(text: &[u8]) -> Option<u64>
     }
 }
 
-// A decimal without its sign, in 10^-4: 1 to 6 digits and a fraction.
+// Reads a decimal without its sign, in 10^-4: 1 to 6 digits and a fraction.
 fn parse_unsigned_decimal(text: &[u8]) -> Option<u64>
     ensures value { result ≡ unsigned_decimal text.now }
     ensures bound { IfSome result (λ n. n < 10 ^ 10) }
@@ -134,8 +134,8 @@ fn parse_unsigned_decimal(text: &[u8]) -> Option<u64>
     Some(whole * ONE + part)
 }
 
-/// A decimal, in 10^-4: an optional `-`, 1 to 6 digits, and optionally a point and 1 to 4 digits. `None` for any
-/// other text.
+/// Reads a decimal, in 10^-4: an optional `-`, 1 to 6 digits, and optionally a point and 1 to 4 digits. Returns `None`
+/// for any other text.
 pub fn parse_decimal(text: &[u8]) -> Option<i64>
     ensures value { result ≡ decimal_number text.now }
     ensures bound { IfSome result (λ z. nat_abs z < 10 ^ 10) }
@@ -145,7 +145,8 @@ pub fn parse_decimal(text: &[u8]) -> Option<i64>
     Some(with_minus(negative, n))
 }
 
-/// The number of six digits `yyyymm`. `None` for any other text; whether there is such a month, `is_month` tells.
+/// Reads six digits `yyyymm` as a number, and returns `None` for any other text. `is_month` checks whether the number
+/// is a valid month.
 pub fn parse_month(text: &[u8]) -> Option<u32>
     ensures value { option_map pos result ≡ month_number text.now }
     ensures bound { IfSome result (λ n. n < 10 ^ 6) }
@@ -157,7 +158,7 @@ pub fn parse_month(text: &[u8]) -> Option<u32>
     Some(n as u32)
 }
 
-/// Whether the number is a month `yyyymm` of the years 1900 to 2999.
+/// Returns whether the number is a month `yyyymm` of the years 1900 to 2999.
 pub fn is_month(month: u32) -> bool
     ensures { result ≡ is_month month }
 {
@@ -166,7 +167,7 @@ pub fn is_month(month: u32) -> bool
     FIRST_YEAR <= year && year <= LAST_YEAR && 1 <= month_of_year && month_of_year <= 12
 }
 
-/// The text of a whole number in plain decimals.
+/// Returns the text of a whole number as a plain decimal.
 pub fn decimal(n: i128) -> ArrayString<40>
     ensures { result.bytes ≡ signed_decimal n }
 {

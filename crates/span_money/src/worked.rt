@@ -1,9 +1,9 @@
-//! Number texts, computed by the definitions: each is the contract of a function that does nothing.
+//! Test vectors for number texts, computed by the definitions. Each is the contract of a function that does nothing.
 ghost use Rattle.std.specs.Prelude.{◌≡◌, codes, Some, None, pos, neg_ℤ};
 ghost use Rattle.span_money.specs.ExactDecimals.{exact_decimal, exact_value};
 ghost use Rattle.span_money.specs.Numbers.{decimal_number, month_number, whole_number};
 
-/// Decimals and what they stand for, in 10^-4.
+/// Decimals and their values, in 10^-4.
 pub fn decimals()
     ensures half { decimal_number (codes "0.5") ≡ Some (pos 5000) }
     ensures below_zero { decimal_number (codes "-1") ≡ Some (neg_ℤ (pos 10000)) }
@@ -24,7 +24,7 @@ pub fn whole_numbers_and_months()
     ensures five_digits { month_number (codes "20253") ≡ None }
 {}
 
-/// Exact decimals of numbers that are held in 10^-8, 10^-4, tenths and ones.
+/// Exact decimals of numbers in units of 10^-8, 10^-4, tenths and ones.
 #[tactic(auto, unfolding(crate::proofs::OnLiterals::exact_on_literals))]
 pub fn exact_decimals()
     ensures half { exact_decimal 8 (pos 50000000) ≡ codes "0.5" }
@@ -38,7 +38,7 @@ pub fn exact_decimals()
     ensures no_places { exact_decimal 0 (pos 7) ≡ codes "7" }
 {}
 
-/// What exact decimals are read as.
+/// The numbers that exact decimals are read as.
 pub fn exact_values()
     ensures half { exact_value 8 (codes "0.5") ≡ pos 50000000 }
     ensures whole_below_zero { exact_value 8 (codes "-2") ≡ neg_ℤ (pos 200000000) }

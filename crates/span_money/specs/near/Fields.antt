@@ -1,4 +1,4 @@
--- The texts of fields, which the code keeps as what they say.
+-- The texts of fields, whose values the code keeps unformatted.
 use Rattle.std.specs.Prelude.{ℕ, ◌*◌, List, pos}
 use Rattle.std.specs.Fmt.{signed_decimal}
 use Rattle.span_money.specs.ExactDecimals.{exact_decimal}
