@@ -1,4 +1,4 @@
--- No more records of a commodity than there may be, whatever the commodity.
+-- The number of records of a commodity is within its limit, for every commodity.
 use Rattle.std.proofs.Common.{◌≡◌, ℕ, ◌≤◌, Bool, true, false, cond, List, [], ◌∷◌}
 use Rattle.std.proofs.Common.{length, map, filter, refl, sym, ap, ◌∙◌, subst, arith, inl, inr}
 use Rattle.std.specs.Prelude.{◌||◌, bytes_eq, count_by, nat_le, IsPermutation}
@@ -13,7 +13,7 @@ use Rattle.span_tables.proofs.KeptRules.{and_true}
 use Rattle.span_tables.proofs.Places.{or_false}
 
 module _ {X : Type 0} (key : X → List ℕ) where
-  -- how many have a name
+  -- the number of elements that have a name
   abbrev of_name : List ℕ → List X → ℕ
   of_name id xs = count_by (λ y. bytes_eq (key y) id) xs
 
@@ -38,7 +38,7 @@ module _ {X : Type 0} (key : X → List ℕ) where
       by_head (bytes_eq (key x) id) x id all most (list_any (λ x. bytes_eq (key x) id) xs) refl (leb-true _ _ h.0) some
       (one_has most id all xs h.1)
 
-  -- at most so many have any name
+  -- at most this many elements have any one name
   pub at_most : (most : ℕ) (xs : List X) → at_most_each most key xs ≡ true → (id : List ℕ)
       → length (filter (λ x. bytes_eq (key x) id) xs) ≤ most
   at_most most xs few id =
@@ -49,7 +49,7 @@ module _ {X : Type 0} (key : X → List ℕ) where
         | inr none ↦ (let n : length (filter (λ x. bytes_eq (key x) id) xs) ≡ 0 = ap length (none_has id xs none) in omega (arith, n))
       ]
 
-  -- at most so many have any name where the list stands in another order
+  -- the same for a permutation of the list
   pub at_most_permuted : {Y : Type 0} (f : X → Y) (most : ℕ) (xs ys : List X) → at_most_each most key xs ≡ true
       → IsPermutation xs ys → (id : List ℕ)
       → length (map f (filter (λ x. bytes_eq (key x) id) ys)) ≤ most

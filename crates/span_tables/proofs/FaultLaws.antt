@@ -1,4 +1,5 @@
--- The answer of `first_fault` is that of the first element with a fault, and `all_faults` tells the fault of each element that has one.
+-- `first_fault` returns the fault of the first element that has one, and `all_faults` lists the fault of each element
+-- that has one.
 use Rattle.std.proofs.Common.{◌≡◌, ℕ, ◌+◌, ◌<◌, List, [], ◌∷◌, ◌++◌, length, Option, Some, None, Ok, refl, sym, ap, ◌∙◌, subst, arith}
 use Rattle.std.proofs.lemmas.List.{append_assoc, append-nil, length-append}
 use Rattle.std.proofs.lemmas.List.Elements.{Contains-append_left, Contains-append_right}
@@ -8,30 +9,30 @@ use Rattle.std.specs.Option.{option_or, option_to_list}
 use Rattle.span_tables.specs.Faults.{faults_after, first_fault_after, first_of, ok_unless}
 use Rattle.span_tables.specs.Laws.{IsFaultFree, IsFaultOfSome, IsFirstFault, IsStrictlyRisingBy}
 
--- what is given where there is no fault
+-- a result without a fault has the given value
 pub ok_parts : {A F : Type 0} (o : Option F) (x y : A) → ok_unless o x ≡ Ok y → (o ≡ None) × (x ≡ y)
 ok_parts None x y e = (refl, cc)
 ok_parts (Some f) x y e = cc
 
--- the first of two lists' faults is that of the first list, if it has one
+-- the first fault of two lists is the first list's, if it has one, and else the second list's
 pub first_of_both : {F : Type 0} (xs ys : List F) → first_of (xs ++ ys) ≡ option_or (first_of xs) (first_of ys)
 first_of_both [] ys = refl
 first_of_both (x ∷ xs) ys = refl
 
--- the first of at most one fault and others
+-- the first fault of an optional fault followed by others
 pub first_of_option : {F : Type 0} (o : Option F) (ys : List F) → first_of (option_to_list o ++ ys) ≡ option_or o (first_of ys)
 first_of_option None ys = refl
 first_of_option (Some x) ys = refl
 
 module _ {A F : Type 0} (fault_of : List A → A → Option (ℕ → F)) where
-  -- the first fault is the first element's, if it has one, and else that of the rest
+  -- the first fault is the first element's, if it has one, and else the first fault of the remaining elements
   pub first_fault_next : (before : List A) (x : A) (xs : List A) → first_fault_after fault_of before (x ∷ xs)
       ≡ option_or (option_map (λ fault. fault (length before + 1)) (fault_of before x))
       (first_fault_after fault_of (before ++ x ∷ []) xs)
   first_fault_next before x xs = first_of_option (option_map (λ fault. fault (length before + 1)) (fault_of before x))
       (faults_after fault_of (before ++ x ∷ []) xs)
 
-  -- the answer where the first element's own fault is o
+  -- the answer if the first element's own fault is o
   abbrev answer_by : List A → A → List A → Option (ℕ → F) → Option F
   answer_by before x xs o = first_of (option_to_list (option_map (λ fault. fault (length before + 1)) o)
       ++ faults_after fault_of (before ++ x ∷ []) xs)
@@ -42,19 +43,19 @@ module _ {A F : Type 0} (fault_of : List A → A → Option (ℕ → F)) where
   head_none before x xs None is e = (is, e)
   head_none before x xs (Some fault) is e = cc
 
-  -- no answer: no element has a fault
+  -- if there is no answer, no element has a fault
   pub first_fault_none : (before xs : List A) → first_fault_after fault_of before xs ≡ None → IsFaultFree fault_of before xs
   first_fault_none before [] e = tt
   first_fault_none before (x ∷ xs) e =
       let h = head_none before x xs (fault_of before x) refl e in
       (h.0, first_fault_none (before ++ x ∷ []) xs h.1)
 
-  -- where no element has a fault, there is no answer
+  -- if no element has a fault, there is no answer
   pub first_fault_free : (before xs : List A) → IsFaultFree fault_of before xs → first_fault_after fault_of before xs ≡ None
   first_fault_free before [] free = refl
   first_fault_free before (x ∷ xs) free = rw free.0 (first_fault_free (before ++ x ∷ []) xs free.1)
 
-  -- a fault behind one more element that has none
+  -- the first fault after an element without a fault is also the first fault with that element in front
   later_fault : (before : List A) (x : A) (xs : List A) (y : F) → fault_of before x ≡ None
       → IsFirstFault fault_of (before ++ x ∷ []) xs y → IsFirstFault fault_of before (x ∷ xs) y
   later_fault before x xs y none f = record {
@@ -84,7 +85,7 @@ module _ {A F : Type 0} (fault_of : List A → A → Option (ℕ → F)) where
     answers = subst (λ zs. y ≡ fault (length zs + 1)) (sym (append-nil before)) cc;
   }
 
-  -- an answer: it is that of the first element with a fault
+  -- an answer is the fault of the first element that has one
   pub first_fault_some : (before xs : List A) (y : F) → first_fault_after fault_of before xs ≡ Some y
       → IsFirstFault fault_of before xs y
   first_fault_some before [] y e = cc
@@ -92,7 +93,7 @@ module _ {A F : Type 0} (fault_of : List A → A → Option (ℕ → F)) where
 
   -- ---- all faults
 
-  -- a fault of one of the elements behind one more
+  -- a fault of a later element is also a fault of the list with one more element in front
   of_later : (before : List A) (x : A) (xs : List A) (y : F) → IsFaultOfSome fault_of (before ++ x ∷ []) xs y
       → IsFaultOfSome fault_of before (x ∷ xs) y
   of_later before x xs y f = record {
@@ -132,7 +133,7 @@ module _ {A F : Type 0} (fault_of : List A → A → Option (ℕ → F)) where
   own_fault n None y e = cc
   own_fault n (Some fault) y e = let same : fault n ≡ y = cc in (fault, refl, same)
 
-  -- each fault that is told is one of some element
+  -- each listed fault is the fault of an element
   pub faults_are_of_some : (before xs : List A) → AllByRecursion (IsFaultOfSome fault_of before xs) (faults_after fault_of before xs)
   faults_are_of_some before [] = tt
   faults_are_of_some before (x ∷ xs) =
@@ -143,7 +144,7 @@ module _ {A F : Type 0} (fault_of : List A → A → Option (ℕ → F)) where
       subst (IsFaultOfSome fault_of before (x ∷ xs)) own.2 (of_first before x xs own.0 own.1))
       (all_weaker _ _ (of_later before x xs) (faults_after fault_of (before ++ x ∷ []) xs) (faults_are_of_some (before ++ x ∷ []) xs))
 
-  -- each element's fault is told
+  -- each element's fault is listed
   each_told : (before earlier : List A) (at : A) (later : List A) (fault : ℕ → F) → fault_of (before ++ earlier) at ≡ Some fault
       → Contains (faults_after fault_of before (earlier ++ at ∷ later)) (fault (length (before ++ earlier) + 1))
   each_told before [] at later fault has =
@@ -195,7 +196,7 @@ module _ {A F : Type 0} (fault_of : List A → A → Option (ℕ → F)) where
       rising,
     )
 
-    -- the numbers of the elements whose faults are told rise strictly
+    -- the element numbers of the listed faults rise strictly
     pub numbers_rise : (before xs : List A) → IsStrictlyRisingBy number (faults_after fault_of before xs)
     numbers_rise before [] = tt
     numbers_rise before (x ∷ xs) =

@@ -1,4 +1,4 @@
--- The holdings of each commodity, in one pass over an account's holdings.
+-- The holdings of each commodity, gathered in one pass over an account's holdings.
 use Rattle.std.proofs.Common.{◌≡◌, ℕ, suc, zero, ◌<◌, true, List, [], ◌∷◌}
 use Rattle.std.proofs.Common.{length, map, get_or, sym, ap, ◌∙◌, subst, arith}
 use Rattle.std.specs.Prelude.{All, IfSome, nat_lt, option_map, slice_get, unwrap_or}
@@ -10,7 +10,7 @@ use Rattle.span_tables.specs.declared.portfolios.Holding.{Holding}
 use Rattle.span_tables.specs.declared.records.Contract.{Contract}
 use Rattle.span_tables.proofs.HeldLemmas.{all_known}
 
--- a number made of the element at k
+-- a number computed from the element at index k
 told_is : {X : Type 0} (f : X → ℕ) (xs : List X) (k n : ℕ) → k < length xs → n ≡ get_or (map f xs) k n
     → IfSome (slice_get xs k) (λ x. n ≡ f x)
 told_is f [] k n lt is = absurd (omega arith)
@@ -23,7 +23,7 @@ told_below f b [] k n lt is all = absurd (omega arith)
 told_below f b (x ∷ xs) zero n lt is all = let h : f x < b = All-head (λ x. f x < b) x xs all in omega (arith, h, is)
 told_below f b (x ∷ xs) (suc k) n lt is all = told_below f b xs k n (omega arith) is (All-tail (λ x. f x < b) x xs all)
 
--- the commodity's number of a contract; s is how t is kept
+-- the commodity number of a contract; s is t as stored
 module _ (s t : AcceptedTables) (numbers : List ℕ) (same : s ≡ t) (kept : IsWithinLimits s)
     (are : numbers ≡ map (λ x. commodity_number s.commodities x.commodity) s.contracts) (k n : ℕ) (lt : k < length t.contracts)
     (at : n ≡ get_or numbers k n) where
@@ -41,7 +41,7 @@ module _ (s t : AcceptedTables) (numbers : List ℕ) (same : s ≡ t) (kept : Is
       (at ∙ ap (λ ns. get_or ns k n) all)
       (subst IsWithinLimits same kept).contracts_known
 
--- what is told of the contract of a holding is told of the commodity that is held
+-- a property of the name of the contract at an index is a property of the name read there
 pub known_at : {X : Type 0} (xs : List X) (k : ℕ) (name : X → List ℕ) (P : List ℕ → Type 0) → k < length xs
     → IfSome (slice_get xs k) (λ x. P (name x))
     → P (unwrap_or (option_map name (slice_get xs k)) [])
@@ -50,7 +50,7 @@ known_at (x ∷ xs) zero name P lt is = is
 known_at (x ∷ xs) (suc k) name P lt is = known_at xs k name P (omega arith) is
 
 module _ (contracts : List Contract) where
-  -- the holding at i is of a contract that there is
+  -- the holding at index i is of a contract that exists
   pub known_holding : (hs gs : List Holding) (i : ℕ) (d : Holding) → gs ≡ hs → i < length gs
       → list_all (λ h. nat_lt h.contract (length contracts)) hs ≡ true
       → (get_or gs i d).contract < length contracts

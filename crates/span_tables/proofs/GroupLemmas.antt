@@ -1,4 +1,4 @@
--- Lists by commodity: one for each, of what names it.
+-- Lists by commodity: for each commodity, the elements that name it.
 use Rattle.std.proofs.Common.{◌≡◌, ℕ, suc, zero, ◌+◌, ◌<◌, Bool, true, false, cond, not, List, [], ◌∷◌}
 use Rattle.std.proofs.Common.{◌++◌, length, map, filter, get_or, set, take, refl, sym, ap, ◌∙◌, subst, arith, Decides}
 use Rattle.std.specs.Prelude.{bytes_eq, All}
@@ -11,18 +11,18 @@ use Rattle.std.proofs.lemmas.Slice.Eq.{bytes_eq-Decides}
 use Rattle.span_tables.specs.Names.{has_repeat}
 use Rattle.span_tables.proofs.Places.{place, or_false}
 
--- `==` on names goes both ways
+-- equality of names is symmetric
 pub name_sym : (a b : List ℕ) → bytes_eq a b ≡ bytes_eq b a
 name_sym a b =
     let other : Decides (bytes_eq b a) (a ≡ b) = ((λ e. sym ((bytes_eq-Decides b a).0 e)), (λ e. (bytes_eq-Decides b a).1 (sym e))) in
     same_from_decides _ _ (bytes_eq-Decides a b) other
 
 module _ {C X Y : Type 0} (id : C → List ℕ) (key : X → List ℕ) (f : X → Y) where
-  -- what names one
+  -- the elements that name c
   abbrev pub group : List X → C → List Y
   group xs c = map f (filter (λ x. bytes_eq (key x) (id c)) xs)
 
-  -- what names each
+  -- the elements that name each of cs
   abbrev pub groups : List C → List X → List (List Y)
   groups cs xs = map (group xs) cs
 
@@ -37,7 +37,7 @@ module _ {C X Y : Type 0} (id : C → List ℕ) (key : X → List ℕ) (f : X �
       ∙ map-append f (filter (λ y. bytes_eq (key y) (id c)) xs) (filter (λ y. bytes_eq (key y) (id c)) (x ∷ []))
       ∙ ap (λ ys. group xs c ++ ys) (last_if b (bytes_eq (key x) (id c)) x is)
 
-  -- none of these has the name
+  -- none of cs has the name of the new element
   groups_other : (x : X) (xs : List X) (cs : List C) → list_any (λ c. bytes_eq (key x) (id c)) cs ≡ false
       → groups cs (xs ++ x ∷ []) ≡ groups cs xs
   groups_other x xs [] none = refl
@@ -47,7 +47,7 @@ module _ {C X Y : Type 0} (id : C → List ℕ) (key : X → List ℕ) (f : X �
       let rest = groups_other x xs cs e.1 in
       λ i. here i ∷ rest i
 
-  -- one more behind those of its name, where its place is n
+  -- the lists with y appended to the list at index n
   abbrev pub pushed : List (List Y) → ℕ → Y → List (List Y)
   pushed lists n y = set lists n (get_or lists n [] ++ y ∷ [])
 
@@ -78,7 +78,7 @@ module _ {C X Y : Type 0} (id : C → List ℕ) (key : X → List ℕ) (f : X �
       let e = or_false (list_any (λ d. bytes_eq (id c) (id d)) cs) (has_repeat (λ c d. bytes_eq (id c) (id d)) cs) apart in
       push_if (bytes_eq (id c) (key x)) x xs c cs refl e.0 (groups_push cs xs x e.1) lt
 
-  -- the next one of a list goes to its place; d is any
+  -- the next element is appended to the list of its name; d is any element
   pub groups_more : (cs : List C) (xs : List X) (i : ℕ) (d : X) (now next : List (List Y)) (n : ℕ) (y : Y)
       → has_repeat (λ c d. bytes_eq (id c) (id d)) cs ≡ false
       → i < length xs → All (λ x. place id cs (key x) < length cs) xs → now ≡ groups cs (take i xs)
@@ -90,12 +90,12 @@ module _ {C X Y : Type 0} (id : C → List ℕ) (key : X → List ℕ) (f : X �
       ∙ sym (groups_push cs (take i xs) (get_or xs i d) apart (known i d lt))
       ∙ ap (groups cs) (sym (take_more xs i d lt))
 
-  -- no one yet
+  -- the lists before any element
   pub groups_none : (cs : List C) → replicate (length cs) [] ≡ groups cs []
   groups_none [] = refl
   groups_none (c ∷ cs) = ap (λ zs. [] ∷ zs) (groups_none cs)
 
-  -- the list of the k-th name
+  -- the list at index k has the elements of the k-th name
   pub groups_at : (cs : List C) (xs : List X) (k : ℕ) (d : C) → k < length cs
       → get_or (groups cs xs) k [] ≡ group xs (get_or cs k d)
   groups_at [] xs k d lt = absurd (omega arith)
@@ -108,7 +108,7 @@ at_map f [] n d e lt = absurd (omega arith)
 at_map f (v ∷ vs) zero d e lt = refl
 at_map f (v ∷ vs) (suc n) d e lt = at_map f vs n d e (omega arith)
 
--- a list pushed to, of lists that are kept in something
+-- appending to one list among several, where each list is the `items` of a value
 pub pushed_list : {V Y : Type 0} (items : V → List Y) (lists : List V) (n : ℕ) (was now : V) (y : Y) → n < length lists
     → was ≡ get_or lists n was → items now ≡ items was ++ y ∷ []
     → map items (set lists n now) ≡ set (map items lists) n (get_or (map items lists) n [] ++ y ∷ [])
@@ -119,7 +119,7 @@ pushed_list items lists n was now y lt at is =
 pub lengths : {V W Y : Type 0} (f : V → Y) (g : W → Y) (vs : List V) (ws : List W) → map f vs ≡ map g ws → length vs ≡ length ws
 lengths f g vs ws e = sym (length-map vs f) ∙ ap length e ∙ length-map ws g
 
--- the place of a known name is one of the lists
+-- the index of a known name is an index of the lists
 pub place_within : {C X V Y : Type 0} (id : C → List ℕ) (key : X → List ℕ) (items : V → List Y) (g : C → List Y) (cs : List C)
     (xs : List X) (lists : List V) (i n : ℕ) (x : X)
     → map items lists ≡ map g cs → All (λ y. place id cs (key y) < length cs) xs → i < length xs → x ≡ get_or xs i x
@@ -138,7 +138,7 @@ module _ {C X : Type 0} (id : C → List ℕ) (key : X → List ℕ) where
   copies_are [] xs = refl
   copies_are (c ∷ cs) xs = let here = map-id (copies xs c) in let rest = copies_are cs xs in λ i. here i ∷ rest i
 
-  -- the next one of a list goes to its place, as it is
+  -- the next element is appended unchanged to the list of its name
   pub copies_more : (cs : List C) (xs : List X) (i : ℕ) (now next : List (List X)) (n : ℕ) (x y : X)
       → has_repeat (λ c d. bytes_eq (id c) (id d)) cs ≡ false
       → i < length xs → All (λ x. place id cs (key x) < length cs) xs

@@ -1,4 +1,4 @@
--- What is held of a commodity lies within the limits; and the size of a sum.
+-- The holdings of a commodity are within the limits, and the size of a sum is bounded by its terms.
 use Rattle.std.proofs.Common.{◌≡◌, ℕ, ◌*◌, ◌≤◌, true, List, [], ◌∷◌, length, subst, arith}
 use Rattle.std.specs.Prelude.{ℤ, All, nat_abs}
 use Rattle.std.proofs.lemmas.Int.{ints}
@@ -13,7 +13,7 @@ use Rattle.span_tables.specs.near.Gathered.{holdings_in}
 use Rattle.span_tables.proofs.HeldLemmas.{are_held, are_holdings, held_in}
 use Rattle.span_tables.proofs.SumLaws.{int_sum_by-cons}
 
--- a sum is at most as large as its terms together
+-- the size of a sum is at most the number of its terms times their largest size
 pub int_sum_size : {X : Type 0} (f : X → ℤ) (m : ℕ) (xs : List X) → All (λ x. nat_abs (f x) ≤ m) xs
     → nat_abs (int_sum_by f xs) ≤ length xs * m
 int_sum_size f m [] all = omega arith
@@ -23,7 +23,7 @@ int_sum_size f m (x ∷ xs) all =
     let whole = int_sum_by-cons f x xs in
     omega (arith, ints, first, rest, whole)
 
--- what an account holds of a commodity, under tables within their limits
+-- the held contracts of a commodity, under tables within their limits
 pub are_held_of : (t : AcceptedTables) (holdings : List Holding) (id : List ℕ) → IsWithinLimits t → ArePortfolio holdings
     → fits (length t.contracts) holdings ≡ true → AreHeld (held_of t.contracts holdings id)
 are_held_of t holdings id limits portfolio known =

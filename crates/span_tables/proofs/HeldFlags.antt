@@ -1,4 +1,4 @@
--- Which commodities are held, in one pass over an account's holdings.
+-- The commodities that an account holds, found in one pass over its holdings.
 use Rattle.std.proofs.Common.{◌≡◌, ◌≢◌, ℕ, ◌+◌, ◌<◌, Bool, true, false, eqb, List, [], ◌∷◌, ◌++◌, length, length-append}
 use Rattle.std.proofs.Common.{set, get_or, get_or-set_other, get_or-set_same, take, refl, sym, ap, ◌∙◌, arith}
 use Rattle.std.specs.Prelude.{IfSome, nat_lt, not, slice_get}
@@ -15,7 +15,7 @@ use Rattle.span_tables.specs.near.Gathered.{holdings_in}
 use Rattle.span_tables.proofs.HeldLemmas.{are_holdings, held_in, length_held}
 use Rattle.span_tables.proofs.RunLemmas.{one_more}
 
--- the list has something
+-- the list is not empty
 abbrev pub has_some : {X : Type 0} → List X → Bool
 has_some xs = not (eqb (length xs) 0)
 
@@ -25,12 +25,12 @@ not_none n some = grind (arith, nat_tests)
 has_some-push : {X : Type 0} (xs : List X) (x : X) → has_some (xs ++ x ∷ []) ≡ true
 has_some-push xs x = let long = length-append xs (x ∷ []) in not_none (length (xs ++ x ∷ [])) (omega (arith, long))
 
--- each flag tells whether there is one of these holdings of its commodity
+-- the flag of each commodity is set if and only if there is a holding of it
 abbrev pub AreFlags : AcceptedTables → List Holding → List Bool → Type 0
 AreFlags t hs flags =
     (c : ℕ) → c < length t.commodities → get_or flags c false ≡ has_some (holdings_in t.contracts hs (commodity_id t c))
 
--- one holding more, of the commodity of number n
+-- one more holding, of commodity number n
 module _ (t : AcceptedTables) (limits : IsWithinLimits t) (gs : List Holding) (i n : ℕ) (d : Holding) (lt : i < length gs)
     (known : (get_or gs i d).contract < length t.contracts)
     (told : IfSome (slice_get t.contracts (get_or gs i d).contract) (λ x. n ≡ commodity_number t.commodities x.commodity))
@@ -51,7 +51,7 @@ module _ (t : AcceptedTables) (limits : IsWithinLimits t) (gs : List Holding) (i
   pub flags_after : AreFlags t (take (i + 1) gs) (set flags n true)
   flags_after c below = flag_after c (eqb n c) below refl
 
--- the flags of all holdings
+-- the flags after all holdings
 pub flags_tell : (t : AcceptedTables) (hs : List Holding) (flags : List Bool) → IsWithinLimits t → ArePortfolio hs
     → list_all (λ h. nat_lt h.contract (length t.contracts)) hs ≡ true → AreFlags t hs flags
     → (c : ℕ) → c < length t.commodities

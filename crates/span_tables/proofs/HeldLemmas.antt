@@ -1,4 +1,5 @@
--- What an account holds of a commodity: holdings of contracts that there are, with their whole records, and within the limits.
+-- The holdings of a commodity: each is of a contract that exists, has the contract's whole record, and is within the
+-- limits.
 use Rattle.std.proofs.Common.{◌≡◌, ℕ, ℤ, suc, zero, ◌<◌, ◌≤◌, Bool, true, false}
 use Rattle.std.proofs.Common.{cond, ltb, List, [], ◌∷◌, length}
 use Rattle.std.proofs.Common.{filter, get_or, Option, Some, None, refl, sym, ap, ◌∙◌, subst, arith}
@@ -19,7 +20,7 @@ and_true : (a b : Bool) → (a && b) ≡ true → (a ≡ true) × (b ≡ true)
 and_true true b e = (refl, e)
 and_true false b e = cc
 
--- each is of a contract that there is
+-- each holding is of a contract that exists
 pub all_known : (contracts : ℕ) (hs : List Holding) → list_all (λ h. nat_lt h.contract contracts) hs ≡ true
     → All (λ h. h.contract < contracts) hs
 all_known contracts [] all = All-nil (λ h. h.contract < contracts)
@@ -33,7 +34,7 @@ get_some [] k x lt is = absurd (omega arith)
 get_some (y ∷ ys) zero x lt is = ap Some (sym is)
 get_some (y ∷ ys) (suc k) x lt is = get_some ys k x (omega arith) is
 
--- within a list there is an element
+-- an index below the length of a list has an element
 there : {X : Type 0} (xs : List X) (k : ℕ) → k < length xs → (x : X) × (slice_get xs k ≡ Some x)
 there [] k lt = absurd (omega arith)
 there (y ∷ ys) zero lt = (y, refl)
@@ -55,7 +56,7 @@ module _ (contracts : List Contract) where
   abbrev IsKnown : Holding → Type 0
   IsKnown h = h.contract < length contracts
 
-  -- a known holding stands there with its record
+  -- a known holding appears in the list with its record
   held_next : (h : Holding) (hs : List Holding) (x : Contract) → slice_get contracts h.contract ≡ Some x
       → held_contracts contracts (h ∷ hs) ≡ record { contract = x; net = h.net } ∷ held_contracts contracts hs
   held_next h hs x got = rw got refl
@@ -66,7 +67,7 @@ module _ (contracts : List Contract) where
       let x = there contracts h.contract (All-head IsKnown h hs known) in
       ap length (held_next h hs x.0 x.1) ∙ ap suc (length_held hs (All-tail IsKnown h hs known))
 
-  -- the held contract at a place is of the holding there
+  -- the held contract at an index has the holding at that index
   pub held_at : (hs : List Holding) (i : ℕ) (h : Holding) (x : Contract) → All IsKnown hs → i < length hs → h ≡ get_or hs i h
       → x ≡ get_or contracts h.contract x → slice_get (held_contracts contracts hs) i ≡ Some (record { contract = x; net = h.net })
   held_at [] i h x known lt at is = absurd (omega arith)
@@ -83,7 +84,7 @@ module _ (contracts : List Contract) where
       ap (λ (hs : List HeldContract). slice_get hs (suc i)) (held_next g hs y.0 y.1)
       ∙ held_at hs i h x (All-tail IsKnown g hs known) (omega arith) at is
 
-  -- what holds of each holding with its contract holds of the held contracts
+  -- a property of each holding with its contract is a property of the held contracts
   module _ (P : HeldContract → Type 0) where
     abbrev Each : Holding → Type 0
     Each h = (x : Contract) → slice_get contracts h.contract ≡ Some x → P (record { contract = x; net = h.net })
@@ -105,7 +106,7 @@ module _ (contracts : List Contract) where
     contracts = all_held (λ h. IsContract h.contract) hs (λ k d lt x is. get_passes IsContract contracts _ x are.in_range is);
   }
 
-  -- ---- what a reader of held contracts tells; ks are the held contracts
+  -- ---- reading held contracts by index; ks are the held contracts
 
   pub held_len : (hs : List Holding) (ks : List HeldContract) → held_contracts contracts hs ≡ ks → AreHoldings contracts hs
       → length hs ≡ length ks
@@ -163,7 +164,7 @@ module _ (contracts : List Contract) where
   next_kept commodity None h hs ks is same = if_none (bytes_eq [] commodity) h hs _ (rw is refl) same
   next_kept commodity (Some x) h hs ks is same = if_kept (bytes_eq x.commodity commodity) h _ hs _ (held_next h hs x is) same
 
-  -- the holdings of a commodity are what is held of it
+  -- the holdings of a commodity, with their records, are its held contracts
   pub held_in : (hs : List Holding) (commodity : List ℕ)
       → held_contracts contracts (holdings_in contracts hs commodity) ≡ held_of contracts hs commodity
   unfolding held_of
@@ -191,7 +192,7 @@ are_holdings t hs commodity limits portfolio all =
       in_range = limits.contracts_in_range;
     }
 
--- the held contract at a place, by its record and its net
+-- the held contract at an index, given by its record and its net
 pub held_here : (held : List HeldContract) (i : ℕ) (x : Contract) (n : ℤ) → i < length held
     → IfSome (slice_get held i) (λ h. x ≡ h.contract) → IfSome (slice_get held i) (λ h. n ≡ h.net)
     → record { contract = x; net = n } ≡ get_or held i (record { contract = x; net = n })

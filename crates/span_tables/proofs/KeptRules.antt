@@ -1,4 +1,4 @@
--- Records that keep a rule: no record breaks it, and what that says of the records of each kind.
+-- Records that keep a rule: no record breaks it, and the consequences for the records of each kind.
 use Rattle.std.proofs.Common.{◌≡◌, ℕ, ◌+◌, Bool, true, false, List, [], ◌∷◌}
 use Rattle.std.proofs.Common.{◌++◌, length, Option, Some, None, refl, ap, ◌∙◌, subst}
 use Rattle.std.specs.Prelude.{All, MatchOption, filter_map, is_none, if◌then◌else◌, option_map, ◌||◌, ◌&&◌}
@@ -19,7 +19,7 @@ and_true false b e = cc
 pub all_true : (a b c : Bool) → ((a && b) && c) ≡ true → (a ≡ true) × (b ≡ true) × (c ≡ true)
 all_true a b c e = let last = and_true (a && b) c e in let front = and_true a b last.0 in (front.0, front.1, last.1)
 
--- no record breaks a rule behind those before it
+-- no record breaks the rule, given the earlier records
 abbrev pub Unbroken : (List Record → Record → Bool) → List Record → List Record → Type 0
 Unbroken breaks earlier [] = Unit {0}
 Unbroken breaks earlier (r ∷ rs) = (breaks earlier r ≡ false) × Unbroken breaks (earlier ++ r ∷ []) rs
@@ -47,7 +47,7 @@ rule_kept : (breaks : List Record → Record → Bool) (all : List Record) → i
     → Unbroken breaks [] all
 rule_kept breaks all e = unbroken_behind breaks [] all (none_is (first_breaking (λ (at : ℕ). at) breaks all) e)
 
--- each of some rules is kept
+-- each of a list of rules is kept
 abbrev pub Kept : List Record → List (List Record → Record → Bool) → Type 0
 Kept all [] = Unit {0}
 Kept all (breaks ∷ rest) = Unbroken breaks [] all × Kept all rest
@@ -60,12 +60,12 @@ each_kept all (breaks ∷ rest) e =
     (list_all (λ b. is_none (first_breaking (λ (at : ℕ). at) b all)) rest) e in
     (rule_kept breaks all h.0, each_kept all rest h.1)
 
--- records that keep the rules keep each
+-- records that keep the rules keep each of them
 pub all_kept : (all : List Record) → keeps_rules all ≡ true → Kept all (rules all)
 unfolding keeps_rules
 all_kept all e = each_kept all (rules all) e
 
--- a rule that looks at no earlier record
+-- a rule that does not depend on earlier records
 pub of_each : (breaks : Record → Bool) (before rs : List Record) → Unbroken (λ earlier r. breaks r) before rs
     → AllByRecursion (λ r. breaks r ≡ false) rs
 of_each breaks before [] u = tt
@@ -76,7 +76,7 @@ next_of : {Y : Type 0} (P : Y → Type 0) (o : Option Y) (ys : List Y) → Match
 next_of P None ys p more = more
 next_of P (Some y) ys p more = All-cons P y ys p more
 
--- what each record says of those of a kind
+-- a property of each record gives a property of each record of a kind
 pub of_kind : {Y : Type 0} (h : Record → Option Y) (P : Y → Type 0) (Q : Record → Type 0)
     → ((r : Record) → Q r → MatchOption (h r) (Unit {0}) P)
     → (rs : List Record) → AllByRecursion Q rs → All P (filter_map h rs)
@@ -96,11 +96,11 @@ pushed_all P (x ∷ xs) y all =
     let h = pushed_all P xs y (All-tail P x (xs ++ y ∷ []) all) in (All-cons P x xs (All-head P x (xs ++ y ∷ []) all) h.0, h.1)
 
 module _ {Y : Type 0} (h : Record → Option Y) (alike : Y → Y → Bool) where
-  -- a record of a kind like an earlier one
+  -- a record of the kind is like an earlier one
   abbrev pub repeats : List Record → Record → Bool
   repeats earlier r = is_and (h r) (λ y. list_any (λ z. alike z y) (filter_map h earlier))
 
-  -- no earlier one is like these, nor one of these like another
+  -- no earlier element is like one of ys, and no two of ys are alike
   abbrev AreApart : List Record → List Y → Type 0
   AreApart before ys = All (λ z. list_any (alike z) ys ≡ false) (filter_map h before) × (has_repeat alike ys ≡ false)
 

@@ -1,4 +1,4 @@
--- One more record, behind those before it.
+-- One more record, after the records before it.
 use Rattle.std.proofs.Common.{◌≡◌, List, [], ◌∷◌, ◌++◌, Option, Some, None, option_to_list, refl, sym, ap, ◌∙◌}
 use Rattle.std.specs.Prelude.{filter_map}
 use Rattle.std.specs.List.{cons_option}
@@ -8,7 +8,7 @@ cons_none : {X : Type 0} (o : Option X) → cons_option o [] ≡ option_to_list 
 cons_none None = refl
 cons_none (Some x) = refl
 
--- one more record adds what it is
+-- one more record adds itself to the list of its kind
 pub one_more : {X Y : Type 0} (h : X → Option Y) (xs : List X) (x : X) (ys zs : List Y) → ys ≡ filter_map h xs
     → zs ≡ ys ++ option_to_list (h x)
     → zs ≡ filter_map h (xs ++ x ∷ [])

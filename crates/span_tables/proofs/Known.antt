@@ -1,4 +1,4 @@
--- Each commodity that a record names is one of the file.
+-- Each commodity that a record names is a commodity of the file.
 use Rattle.std.proofs.Common.{◌≡◌, ℕ, suc, ◌+◌, ◌<◌, Bool, true, false, cond, eqb}
 use Rattle.std.proofs.Common.{ltb, not, Option, List, [], ◌∷◌, length, map, refl, ap, ◌∙◌, arith}
 use Rattle.std.specs.Prelude.{All, MatchOption, ◌||◌, ◌==◌, bytes_eq, filter_map}
@@ -18,7 +18,7 @@ use Rattle.span_tables.specs.declared.records.Record.TheVariants as record_of
 use Rattle.span_tables.proofs.KeptRules.{of_kind}
 use Rattle.span_tables.proofs.Places.{name_at, or_false, place_key, place_names}
 
--- a name is that of a commodity
+-- a name is the name of a commodity
 abbrev pub IsKnown : List Commodity → List ℕ → Type 0
 IsKnown cs name = commodity_number cs name < length cs
 
@@ -51,12 +51,12 @@ names_known cs (name ∷ names) e =
     let h = or_false (not (list_any (λ c. bytes_eq c.id name) cs)) (list_any (λ n. not (list_any (λ c. bytes_eq c.id n) cs)) names) e in
     All-cons (IsKnown cs) name names (known_name cs name (not_false _ h.0)) (names_known cs names h.1)
 
--- the names of a record are known
+-- the commodities that a record names are known
 abbrev pub NamesKnown : List Commodity → Record → Type 0
 NamesKnown cs r = All (IsKnown cs) (named_commodities r)
 
 module _ (cs : List Commodity) where
-  -- the commodity of a record is known, where the record is of a kind
+  -- the commodity of a record is known, if the record is of the kind
   abbrev KnownIf : {Y : Type 0} → (Y → List ℕ) → Option Y → Type 0
   KnownIf commodity o = MatchOption o (Unit {0}) (λ y. IsKnown cs (commodity y))
 
@@ -101,7 +101,7 @@ module _ (cs : List Commodity) where
       → All (λ x. All (λ leg. IsKnown cs leg.commodity) x.legs.items) (filter_map as_inter rs)
   inters_known = of_kind as_inter _ (NamesKnown cs) inter_known
 
--- where no record names a commodity that there is not, each names known ones
+-- if no record names a commodity that does not exist, each record names only known commodities
 pub all_known : (all rs : List Record) → AllByRecursion (λ r. names_no_commodity all r ≡ false) rs
     → AllByRecursion (NamesKnown (commodities_in all)) rs
 all_known all [] u = tt
@@ -118,7 +118,7 @@ pub inters_apart : (rs : List Record) → AllByRecursion (λ r. repeats_leg r �
     → All (λ s. has_repeat (λ a b. bytes_eq a.commodity b.commodity) s.legs.items ≡ false) (filter_map as_inter rs)
 inters_apart = of_kind as_inter _ (λ r. repeats_leg r ≡ false) legs_apart_each
 
--- known names have one place where they are one
+-- known names have the same index if and only if they are equal
 same_place : (cs : List Commodity) (a b : List ℕ) → has_repeat (λ c d. bytes_eq c.id d.id) cs ≡ false → IsKnown cs b
     → eqb (commodity_number cs a) (commodity_number cs b) ≡ bytes_eq a b
 same_place [] a b apart known = absurd (omega arith)
@@ -137,7 +137,7 @@ module _ (cs : List Commodity) (apart : has_repeat (λ c d. bytes_eq c.id d.id) 
       let rest = any_same a legs (All-tail (λ (leg : InterLeg). IsKnown cs leg.commodity) b legs k) in
       λ i. here i || rest i
 
-  -- legs of commodities apart have numbers apart
+  -- legs repeat a commodity number if and only if they repeat a commodity
   pub legs_apart : (legs : List InterLeg) → All (λ leg. IsKnown cs leg.commodity) legs
       → has_repeat (λ (a b : CommodityLeg). a.commodity == b.commodity) (map (commodity_leg cs) legs)
       ≡ has_repeat (λ a b. bytes_eq a.commodity b.commodity) legs

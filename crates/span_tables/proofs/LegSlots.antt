@@ -1,4 +1,4 @@
--- Where the commodity of each leg is marked for the leg's side, all slots of the legs are marked.
+-- If the commodity of each leg is marked for the leg's side, all slots of the legs are marked.
 use Rattle.std.proofs.Common.{◌≡◌, ℕ, suc, cond, true, fold, List, [], ◌∷◌, arith}
 use Rattle.std.specs.List.{All}
 use Rattle.span_tables.specs.Rules.{same_side}
@@ -9,7 +9,7 @@ use Rattle.span_tables.specs.declared.sides.Side.TheVariants as side
 use Rattle.span_tables.specs.near.Legs.{slots_on}
 use Rattle.span_tables.proofs.SlotLemmas.{Within, none_within, with_within, within_has_all}
 
--- one more leg, which is on side s
+-- one more leg, on side s
 leg_within : (word : Side → ℕ) (s t : Side) (other number : ℕ) → Within (word t) other → IsMarked (word s) number
     → Within (word t) (cond (same_side s t) (with_slot other number) other)
 leg_within word side.A side.A other number within marked = with_within (word side.A) other number marked within
@@ -25,7 +25,7 @@ legs_within word t (leg ∷ legs) other within marked =
     legs_within word t legs _ (leg_within word leg.side t other leg.commodity within (marked 0 leg (omega arith)))
     (λ k d lt. marked (suc k) d (omega arith))
 
--- all slots of the legs on a side
+-- all slots of the legs on a side are marked
 pub legs_marked : (word : Side → ℕ) (t : Side) (legs : List CommodityLeg) → All (λ leg. IsMarked (word leg.side) leg.commodity) legs
     → has_all (word t) (slots_on t legs) ≡ true
 legs_marked word t legs marked =

@@ -1,4 +1,4 @@
--- What an account holds by contract number, and what it holds once positions come to it.
+-- The holdings of an account by contract number, and its holdings after more positions are added.
 use Rattle.std.proofs.Common.{◌≡◌, ℕ, suc, zero, ◌+◌, ◌<◌, ◌≤◌, Bool, true, false, cond, ◌&&◌, ◌||◌, List, [], ◌∷◌}
 use Rattle.std.proofs.Common.{◌++◌, length, Some, refl, sym, ap, ◌∙◌, arith, filter, map}
 use Rattle.std.specs.Prelude.{ℤ, pos, ◌+ℤ◌, ◌==◌, bytes_eq, find, option_map, slice_get, unwrap_or}
@@ -39,15 +39,15 @@ net_of-append positions more account contract =
 
 -- ---- nets by contract number
 
--- the net of the contract of a number
+-- the net of the contract with a number
 abbrev pub numbered : (ℕ → Contract → ℤ) → ℕ × Contract → Holding
 numbered net n = record { contract = n.0; net = net n.0 n.1 }
 
--- what is held of contracts, from a number on
+-- the holdings of contracts that are numbered from a
 abbrev pub held_of_all : (ℕ → Contract → ℤ) → ℕ → List Contract → List Holding
 held_of_all net a xs = filter is_held (map (numbered net) (enumerate_from a xs))
 
--- one more holding in front, where it is held
+-- one more holding in front, if it is held
 among_push : (b : Bool) (h : Holding) (hs : List Holding) (c : ℕ) → is_held h ≡ b
     → net_among (cond b (h ∷ hs) hs) c ≡ cond (h.contract == c) h.net (pos 0) +ℤ net_among hs c
 among_push true h hs c e = int_sum_by-if (λ (x : Holding). x.net) (h.contract == c) h (filter (λ (x : Holding). x.contract == c) hs)
@@ -61,7 +61,7 @@ among_push false h hs c e =
     by false none = refl
 
 module _ (net : ℕ → Contract → ℤ) where
-  -- nothing is held of a lower number
+  -- the net of a number below a is 0
   none_below : (a c : ℕ) (xs : List Contract) → c < a → net_among (held_of_all net a xs) c ≡ pos 0
   none_below a c [] lt = refl
   none_below a c (x ∷ xs) lt =
@@ -70,7 +70,7 @@ module _ (net : ℕ → Contract → ℤ) where
       ∙ ap (λ b. cond b first.net (pos 0) +ℤ net_among (held_of_all net (a + 1) xs) c) (ne_eqb a c (λ e. omega (arith, e, lt)))
       ∙ ap (λ z. pos 0 +ℤ z) (none_below (a + 1) c xs (omega (arith, lt)))
 
-  -- the net of a number among what is held is that of its contract
+  -- the net of a number among the holdings is the net of its contract
   pub net_among_all : (a k c : ℕ) (x : Contract) (xs : List Contract) → slice_get xs k ≡ Some x → c ≡ a + k
       → net_among (held_of_all net a xs) c ≡ net c x
   net_among_all a k c x [] e at = cc
@@ -93,7 +93,7 @@ module _ (net : ℕ → Contract → ℤ) where
       sum)
       ∙ rest
 
-  -- all that is held is of contracts that there are
+  -- all holdings are of contracts that exist
   pub held_fit : (a n : ℕ) (xs : List Contract) → a + length xs ≤ n → fits n (held_of_all net a xs) ≡ true
   held_fit a n [] le = refl
   held_fit a n (x ∷ xs) le = by (is_held (numbered net (a, x))) (held_fit (a + 1) n xs (omega (arith, le)))
@@ -104,7 +104,7 @@ module _ (net : ℕ → Contract → ℤ) where
           ap (λ t. t && fits n (held_of_all net (a + 1) xs)) (lt-ltb a n (omega (arith, le))) ∙ more
       by false more = more
 
--- nets that are the same of each contract
+-- two net functions that agree for each contract give the same holdings
 pub same_numbered : (these those : ℕ → Contract → ℤ) (a : ℕ) (xs : List Contract)
     → ((k : ℕ) (x : Contract) → slice_get xs k ≡ Some x → these (a + k) x ≡ those (a + k) x)
     → map (numbered these) (enumerate_from a xs) ≡ map (numbered those) (enumerate_from a xs)
@@ -117,16 +117,16 @@ same_numbered these those a (x ∷ xs) h =
     ap (λ n. these n y) up ∙ h (suc k) y e ∙ ap (λ n. those n y) (sym up)) in
     λ i. (let it : Holding = record { contract = a; net = here i } in it) ∷ rest i
 
--- ---- what an account holds, with positions that come to it
+-- ---- the holdings of an account after positions are added
 
--- each of a portfolio's contracts is one of those that there are
+-- each contract of a portfolio exists in the tables
 pub holdings_with_fits : (contracts : List Contract) (holdings : List Holding) (positions : List PositionRecord) (account : List ℕ)
     → fits (length contracts) (holdings_with contracts holdings positions account) ≡ true
 holdings_with_fits contracts holdings positions account =
     held_fit (λ k x. net_among holdings k +ℤ net_of positions account x.id) 0 (length contracts) contracts (omega arith)
 
 module _ (contracts : List Contract) (positions : List PositionRecord) where
-  -- positions that come to what an account holds are positions behind those that it holds it by
+  -- adding positions to an account's holdings equals appending them to the positions that the holdings come from
   pub holdings_with_more : (more : List PositionRecord) (account : List ℕ)
       → holdings_with contracts (holdings_of contracts positions account) more account
       ≡ holdings_of contracts (positions ++ more) account
@@ -138,7 +138,7 @@ module _ (contracts : List Contract) (positions : List PositionRecord) where
       ap (λ z. z +ℤ net_of more account x.id) (net_among_all (λ n y. net_of positions account y.id) 0 k (0 + k) x contracts e refl)
       ∙ sym (net_of-append positions more account x.id)))
 
-  -- an account without a record has none of its own in a contract, and holds nothing
+  -- an account without a record has no record in any contract, and holds nothing
   none_of : (account contract : List ℕ) (xs : List PositionRecord) → is_among (map (λ p. p.account) xs) account ≡ false
       → filter (λ p. bytes_eq p.account account && bytes_eq p.contract contract) xs ≡ []
   none_of account contract [] h = refl
@@ -158,7 +158,7 @@ module _ (contracts : List Contract) (positions : List PositionRecord) where
       let it : Holding = record { contract = a; net = z } in cond (is_held it) (it ∷ rest) rest)) none
       ∙ nothing_held account h (a + 1) xs
 
-  -- what an account holds among portfolios of accounts
+  -- the holdings of an account among the portfolios of accounts
   held_among : (held : List ℕ → List Holding) (account : List ℕ) (ks : List (List ℕ))
       → holdings_among (map (λ k. record { account = k; holdings = held k }) ks) account
       ≡ cond (is_among ks account) (held account) []
@@ -181,7 +181,7 @@ module _ (contracts : List Contract) (positions : List PositionRecord) where
       by true e more = ap found (name_sym k account ∙ e) ∙ ap held (sym (same_name account k e))
       by false e more = ap found (name_sym k account ∙ e) ∙ more
 
-  -- what an account holds among the portfolios of positions is what it holds by the positions
+  -- the holdings of an account in the portfolios of positions are its holdings by the positions
   pub holdings_among_all : (account : List ℕ)
       → holdings_among (portfolios_of contracts positions) account ≡ holdings_of contracts positions account
   unfolding portfolios_of

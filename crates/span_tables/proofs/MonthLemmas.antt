@@ -1,4 +1,4 @@
--- A spread's tiers are found among those of its commodity.
+-- The tiers of a spread are found among the tiers of its commodity.
 use Rattle.std.proofs.Common.{◌≡◌, ℕ, ◌<◌, Bool, true, false, cond, List, [], ◌∷◌}
 use Rattle.std.proofs.Common.{length, map, filter, get_or, refl, sym, ap, ◌∙◌, subst, arith}
 use Rattle.std.specs.Prelude.{◌&&◌, ◌==◌, bytes_eq, find}
@@ -19,7 +19,7 @@ find_if : {X : Type 0} (b : Bool) (p q : X → Bool) (x : X) (xs : List X) → q
 find_if true p q x xs is more = rw is (rw more refl)
 find_if false p q x xs is more = rw is more
 
--- what is found passes the filter
+-- a search among the elements that pass the filter finds the same element
 find_kept : {X : Type 0} (p q : X → Bool) (xs : List X) → find (λ y. q y && p y) (filter q xs) ≡ find (λ y. q y && p y) xs
 find_kept p q [] = refl
 find_kept p q (x ∷ xs) = find_if (q x) p q x xs refl (find_kept p q xs)
@@ -40,7 +40,7 @@ same_spread tiers s =
     (same_leg tiers s.commodity) s.legs.items in
     ap (λ (ms : List MonthLeg). (let r : Intra = record { priority = s.priority; rate = s.rate; legs = ms } in r)) legs
 
--- the tiers at the place of a spread's commodity serve as all do
+-- the tiers of a spread's own commodity give the same months as all tiers
 pub tiers_found : {V : Type 0} (items : V → List Tier) (cs : List Commodity) (tiers : List Tier) (lists : List V) (n : ℕ) (v : V)
     (s : IntraRecord)
     → map items lists ≡ map (λ c. filter (λ t. bytes_eq t.commodity c.id) tiers) cs → n ≡ commodity_number cs s.commodity

@@ -1,4 +1,4 @@
--- `distinct` has each name once, and the names of the list.
+-- `distinct` lists each name of the list exactly once, and no other name.
 use Rattle.std.proofs.Common.{◌≡◌, ℕ, Bool, true, false, cond, not, List, [], ◌∷◌, refl, sym, ap, ◌∙◌, filter}
 use Rattle.std.specs.Prelude.{◌||◌, bytes_eq}
 use Rattle.std.specs.List.{list_any}
@@ -38,7 +38,7 @@ repeat_kept alike q (x ∷ xs) e =
     let h = or_false (list_any (alike x) xs) (has_repeat alike xs) e in
     repeat_if (q x) alike x (filter q xs) (any_kept (alike x) q xs h.0) (repeat_kept alike q xs h.1)
 
--- each name stands once
+-- each name appears once
 pub distinct_once : (names : List (List ℕ)) → has_repeat bytes_eq (distinct names) ≡ false
 distinct_once [] = refl
 distinct_once (name ∷ rest) =
@@ -72,7 +72,7 @@ among_if : (b : Bool) (x name : List ℕ) (rest : List (List ℕ)) → bytes_eq 
 among_if true x name rest is more = refl
 among_if false x name rest is more = others_same x name (distinct rest) is ∙ more
 
--- the names are those of the list
+-- the names are the names of the list
 pub distinct_same : (names : List (List ℕ)) (x : List ℕ) → is_among (distinct names) x ≡ is_among names x
 distinct_same [] x = refl
 distinct_same (name ∷ rest) x = among_if (bytes_eq x name) x name rest refl (distinct_same rest x)

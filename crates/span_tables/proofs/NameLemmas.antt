@@ -1,4 +1,4 @@
--- Distinct names, as one more name comes behind others.
+-- Distinct names, when one more name is appended.
 use Rattle.std.proofs.Common.{◌≡◌, refl, sym, ap, subst, inl, inr, true, false, not, ◌||◌, ℕ, List, [], ◌∷◌, ◌++◌}
 use Rattle.std.specs.Prelude.{filter, bytes_eq, if◌then◌else◌}
 use Rattle.std.proofs.lemmas.Bool.{cases_Bool}
@@ -7,11 +7,11 @@ use Rattle.std.proofs.lemmas.List.Elements.{filter-append}
 use Rattle.std.proofs.lemmas.Slice.Eq.{bytes_eq-Decides}
 use Rattle.span_tables.specs.Names.{is_among, distinct}
 
--- names are equal byte by byte only if they are the same
+-- names whose bytes are equal are equal
 pub same_name : (a b : List ℕ) → bytes_eq a b ≡ true → a ≡ b
 same_name a b e = (bytes_eq-Decides a b).0 e
 
--- without those equal to another one, a name is among the rest as before
+-- removing all names equal to `gone` does not change whether another name is in the list
 among_others : (gone a : List ℕ) (names : List (List ℕ)) → bytes_eq a gone ≡ false
     → is_among (filter (λ other. not (bytes_eq other gone)) names) a ≡ is_among names a
 among_others gone a [] apart = refl
@@ -23,7 +23,7 @@ among_others gone a (x ∷ names) apart =
       | inr kept ↦ rw kept (ap (λ b. bytes_eq a x || b) (among_others gone a names apart))
     ]
 
--- a name is among the distinct names if it is among all
+-- a name is among the distinct names if and only if it is among all names
 pub is_among-distinct : (names : List (List ℕ)) (a : List ℕ) → is_among (distinct names) a ≡ is_among names a
 is_among-distinct [] a = refl
 is_among-distinct (n ∷ names) a =
@@ -32,7 +32,7 @@ is_among-distinct (n ∷ names) a =
       | inr apart ↦ rw (apart, among_others n a (distinct names) apart) (is_among-distinct names a)
     ]
 
--- one more name counts where it is new
+-- one more name is added to the distinct names only if it is new
 pub distinct-push : (names : List (List ℕ)) (a : List ℕ)
     → distinct (names ++ a ∷ []) ≡ (if is_among names a then distinct names else distinct names ++ a ∷ [])
 distinct-push [] a = refl

@@ -1,4 +1,4 @@
--- The 16 places of a name are written by copying its bytes over zeros, and are those of no other name.
+-- The 16 bytes of a name are written by copying its text over zeros, and no other name has the same 16 bytes.
 use Rattle.std.proofs.Common.{◌≡◌, ℕ, zero, suc, ◌-◌, true, true≢false, ◌&&◌, List, [], ◌∷◌, ◌++◌, refl, sym, ap, subst}
 use Rattle.std.proofs.Common.{length, drop, replicate, bytes_eq}
 use Rattle.std.specs.Bool.{one_answer}
@@ -24,7 +24,7 @@ copied_over text h =
 not_zero : (y : ℕ) (ys : List ℕ) → list_all is_name_byte (y ∷ ys) ≡ true → 0 ≡ y → [] ≡ y ∷ ys
 not_zero y ys h e = absurd (true≢false (sym (subst (λ b. list_all is_name_byte (b ∷ ys) ≡ true) (sym e) h)))
 
--- names whose bytes agree with zeros behind them are the same
+-- names whose bytes are equal when padded with zeros are equal
 same_bytes : (a b : List ℕ) (m n : ℕ) → list_all is_name_byte a ≡ true → list_all is_name_byte b ≡ true
     → a ++ replicate m 0 ≡ b ++ replicate n 0 → a ≡ b
 same_bytes [] [] m n h i e = refl
@@ -43,7 +43,7 @@ same_bytes (x ∷ a) (y ∷ b) m n h i e =
 all_bytes : (a : List ℕ) → is_name a ≡ true → list_all is_name_byte a ≡ true
 all_bytes a h = (and_parts (nat_le 1 (length a) && nat_le (length a) 16) (list_all is_name_byte a) h).1
 
--- equality of the places is equality of the names
+-- the padded bytes are equal if and only if the names are equal
 pub equal_by_places : (a b : List ℕ) → is_name a ≡ true → is_name b ≡ true
     → bytes_eq (name_places a) (name_places b) ≡ bytes_eq a b
 equal_by_places a b h i =

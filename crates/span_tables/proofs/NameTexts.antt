@@ -1,4 +1,4 @@
--- The bytes of a name as the bytes of a text, and the name that the bytes of a text begin with.
+-- The bytes of a name as the bytes of a text, and the name at the start of a text.
 use Rattle.std.proofs.Common.{◌≡◌, refl, inl, inr, ℕ, ◌<◌, Bool, true, ◌&&◌, List, [], ◌∷◌, arith, length}
 use Rattle.std.specs.List.{AllByRecursion, list_all, take_while}
 use Rattle.std.specs.Prelude.{nat_le}
@@ -25,7 +25,7 @@ name_is_text bytes h =
     let valid = and_parts (nat_le 1 (length bytes) && nat_le (length bytes) 16) (list_all is_name_byte bytes) h in
     IsUtf8-from_ascii bytes (IsAscii-from_all bytes (All-from_recursion (λ b. b < 128) bytes (all_small bytes valid.1)))
 
--- the elements that pass, taken from the front on, all pass
+-- all elements of the longest prefix that passes a test pass it
 pub all_taken : {X : Type 0} (test : X → Bool) (xs : List X) → list_all test (take_while test xs) ≡ true
 all_taken test [] = refl
 all_taken test (x ∷ xs) =

@@ -1,4 +1,4 @@
--- What is not held adds nothing to a sum over the contracts of a commodity.
+-- A contract that is not held adds nothing to a sum over the contracts of a commodity.
 use Rattle.std.proofs.Common.{◌≡◌, ℕ, suc, zero, ◌+◌, Bool, true, false, cond, not, List, [], ◌∷◌}
 use Rattle.std.proofs.Common.{◌++◌, length, Some, refl, sym, ap, ◌∙◌, arith, subst, filter, map}
 use Rattle.std.specs.Prelude.{ℤ, pos, negsuc, ◌+ℤ◌, nat_abs, ◌==◌, filter_map, option_map, slice_get, bytes_eq}
@@ -13,7 +13,7 @@ use Rattle.span_tables.specs.declared.records.PositionRecord.{PositionRecord}
 use Rattle.span_tables.specs.declared.portfolios.Holding.{Holding}
 use Rattle.span_tables.proofs.SumLaws.{int_sum_by-if}
 
--- the element behind a front
+-- the element after a prefix
 get_behind : {A : Type 0} (front : List A) (x : A) (xs : List A) → slice_get (front ++ x ∷ xs) (length front) ≡ Some x
 get_behind [] x xs = refl
 get_behind (y ∷ front) x xs = get_behind front x xs
@@ -22,7 +22,7 @@ length_push : {A : Type 0} (front : List A) (x : A) → length (front ++ x ∷ [
 length_push [] x = refl
 length_push (y ∷ front) x = let h = length_push front x in omega (arith, h)
 
--- a size of 0 is that of 0 alone
+-- only 0 has size 0
 pub size_zero : (z : ℤ) → not (nat_abs z == 0) ≡ false → z ≡ pos 0
 size_zero (pos zero) e = refl
 size_zero (pos (suc n)) e = grind (arith, nat_tests, e)
@@ -81,7 +81,7 @@ module _ (f : Contract → ℤ → ℤ) (adds_nothing : (x : Contract) → f x (
       (filter is_held (map (holding_of positions account) (enumerate_from (n + 1) xs))) _ refl got more
       ∙ sym (int_sum_by-if (λ y. f y (net y)) (is_of x) x (filter is_of xs))
 
-  -- a sum over the held contracts of a commodity is that over all of its contracts
+  -- a sum over the held contracts of a commodity equals the sum over all its contracts
   pub sum_of_held : (contracts : List Contract)
       → int_sum_by (λ h. f h.contract h.net) (held_of contracts (holdings_of contracts positions account) commodity)
       ≡ int_sum_by (λ x. f x (net_of positions account x.id)) (filter (λ x. bytes_eq x.commodity commodity) contracts)

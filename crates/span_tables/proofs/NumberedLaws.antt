@@ -1,4 +1,4 @@
--- Records numbered by their accounts, as one more comes behind others.
+-- Records numbered by account, when one more record is appended.
 use Rattle.std.proofs.Common.{◌≡◌, ◌∙◌, refl, sym, ap, inl, inr, arith, ℕ, zero, suc, ◌<◌}
 use Rattle.std.proofs.Common.{◌≤◌, true, List, [], ◌∷◌, ◌++◌, length, get_or, map, Some, slice_get}
 use Rattle.std.specs.Prelude.{All, bytes_eq, nat_abs}
@@ -17,24 +17,24 @@ use Rattle.span_tables.specs.declared.records.NumberedPosition.{NumberedPosition
 use Rattle.span_tables.specs.declared.records.PositionRecord.{PositionRecord}
 use Rattle.span_tables.proofs.NameLemmas.{same_name, is_among-distinct, distinct-push}
 
--- ---- places
+-- ---- indexes
 
--- a name that equals the one at a place stands there
+-- a name that equals the name at an index is the name at that index
 pub name_at : (keys : List (List ℕ)) (a : ℕ) (known name : List ℕ) → a < length keys → known ≡ get_or keys a known
     → bytes_eq known name ≡ true → slice_get keys a ≡ Some name
 name_at keys a known name within is same = slice_get-get_or keys a known within ∙ ap Some (sym is ∙ same_name known name same)
 
--- a name that stands at a place is among the names
+-- a name at an index is in the list
 pub among_at : (keys : List (List ℕ)) (a : ℕ) (name : List ℕ) → slice_get keys a ≡ Some name → is_among keys name ≡ true
 among_at keys a name at = any_passes_from_place (bytes_eq name) keys a name at ((bytes_eq-Decides name name).1 refl)
 
--- a name that stands at a place is what is read at the place
+-- reading the index of a name with a default gives the name
 pub name_there : (keys : List (List ℕ)) (a : ℕ) (name : List ℕ) → slice_get keys a ≡ Some name → get_or keys a [] ≡ name
 name_there [] a name at = cc
 name_there (k ∷ keys) zero name at = cc
 name_there (k ∷ keys) (suc a) name at = name_there keys a name at
 
--- the accounts so far keep their places
+-- the accounts so far keep their indexes
 pub stays : (keys : List (List ℕ)) (name : List ℕ) (i : ℕ) → i < length keys
     → get_or (insert_key bytes_eq keys name) i [] ≡ get_or keys i []
 stays keys name i within =
@@ -50,7 +50,7 @@ longer keys name =
       | inr new ↦ rw new (let e = length-append keys (name ∷ []) in omega (arith, e))
     ]
 
--- the records so far stand for the same
+-- the records so far name the same accounts
 same_named : (keys : List (List ℕ)) (name : List ℕ) (records : List NumberedPosition)
     → All (λ (p : NumberedPosition). p.account < length keys) records
     → named_positions (insert_key bytes_eq keys name) records ≡ named_positions keys records
@@ -62,7 +62,7 @@ same_named keys name (r ∷ records) known =
 
 -- ---- one more record
 
--- the accounts behind one more position
+-- the accounts of the positions with one more position appended
 pub accounts_of-push : (positions : List PositionRecord) (p : PositionRecord)
     → accounts_of (positions ++ p ∷ []) ≡ insert_key bytes_eq (accounts_of positions) p.account
 accounts_of-push positions p =
@@ -75,14 +75,14 @@ accounts_of-push positions p =
 module _ (keys keys' : List (List ℕ)) (records : List NumberedPosition) (p : NumberedPosition) (name : List ℕ)
     (was : AreNumbered keys records)
     (more : keys' ≡ insert_key bytes_eq keys name) (at : slice_get keys' p.account ≡ Some name) where
-  -- the records that the numbered ones stand for are one more
+  -- the records with account names gain the new record with its account name
   pub named_more : named_positions keys' (records ++ p ∷ []) ≡ named_positions keys records ++ named_position keys' p ∷ []
   named_more =
       map-append (named_position keys') records (p ∷ [])
       ∙ ap (λ front. front ++ named_position keys' p ∷ [])
       (ap (λ ks. named_positions ks records) more ∙ same_named keys name records was.known)
 
-  -- the records with one more are numbered by their accounts
+  -- the records with one more are numbered by account
   pub numbered_more : length keys' ≤ MAX_ORDERS → nat_abs p.quantity ≤ MAX_QUANTITY → AreNumbered keys' (records ++ p ∷ [])
   numbered_more few small = record {
     accounts_are =

@@ -1,4 +1,4 @@
--- `rising_by` puts a list into order, and `first_some` gives the first outcome.
+-- `rising_by` sorts a list, and `first_some` returns the first outcome.
 use Rattle.std.proofs.Common.{◌≡◌, ℕ, ◌≤◌, Bool, true, false, cond, List, [], ◌∷◌, Option, Some, None, refl, ap, arith}
 use Rattle.std.specs.Prelude.{nat_le, IsPermutation}
 use Rattle.std.specs.List.{AllByRecursion}
@@ -22,7 +22,7 @@ module _ {A : Type 0} (key : A → ℕ) where
   placed_permutation x [] = IsPermutation-refl (x ∷ [])
   placed_permutation x (y ∷ ys) = permutation_if (nat_le (key x) (key y)) x y ys (placed_by key x ys) (placed_permutation x ys)
 
-  -- the elements are the same
+  -- the sorted list is a permutation of the list
   pub rising_permutation : (xs : List A) → IsPermutation xs (rising_by key xs)
   rising_permutation [] = IsPermutation-refl []
   rising_permutation (x ∷ xs) =
@@ -59,12 +59,12 @@ module _ {A : Type 0} (key : A → ℕ) where
       rising_if (nat_le (key x) (key y)) x y ys (placed_by key x ys) refl r r.0 (λ le. placed_at_least (key y) x ys le r.0)
       (placed_rises x ys r.1)
 
-  -- a list in order of a key rises by the key
+  -- the sorted list rises by the key
   pub rising_rises : (xs : List A) → IsRisingBy key (rising_by key xs)
   rising_rises [] = tt
   rising_rises (x ∷ xs) = placed_rises x (rising_by key xs) (rising_rises xs)
 
--- the answer is the first outcome that is one
+-- the answer is the first outcome that is not `None`
 pub first_some_is : {F : Type 0} (outcomes : List (Option F)) (y : F) → first_some outcomes ≡ Some y → IsFirstOutcome outcomes y
 first_some_is [] y e = cc
 first_some_is (Some x ∷ rest) y e = record { earlier = []; later = rest; split = ap (λ o. o ∷ rest) e; none_earlier = tt }

@@ -1,4 +1,4 @@
--- Order records that stand as position records of their orders: what is read of both is that of the records.
+-- Order records stored as position records under their orders' names: both forms read back as the order records.
 use Rattle.std.proofs.Common.{◌≡◌, ◌∙◌, refl, sym, ap, inl, inr, arith, ℕ, suc, ◌+◌, true, false}
 use Rattle.std.proofs.Common.{List, [], ◌∷◌, length, get_or, map, subst}
 use Rattle.std.specs.Prelude.{bytes_eq, All}
@@ -19,11 +19,11 @@ use Rattle.span_tables.proofs.NameLemmas.{is_among-distinct}
 use Rattle.span_tables.proofs.NameLemmas as names
 use Rattle.span_tables.proofs.Places.{or_false, same_name}
 
--- what stands at a name's place
+-- the account at the index of an order's name
 abbrev at_place : List (List ℕ) → List (List ℕ) → List ℕ → List ℕ
 at_place orders accounts order = get_or accounts (position_or_len (bytes_eq order) orders) []
 
--- a name that is among the others is not one that they lack
+-- a name in a list differs from a name that is not in it
 other_name : (gone name : List ℕ) (names : List (List ℕ)) → list_any (bytes_eq gone) names ≡ false → is_among names name ≡ true
     → bytes_eq name gone ≡ false
 other_name gone name others none among =
@@ -34,14 +34,14 @@ other_name gone name others none among =
       | inr other ↦ other
     ]
 
--- behind the first name, the places are those of the rest
+-- a name that is not the first is looked up in the remaining lists
 at_next : (order account : List ℕ) (orders accounts : List (List ℕ)) (name : List ℕ) → bytes_eq name order ≡ false
     → at_place (order ∷ orders) (account ∷ accounts) name ≡ at_place orders accounts name
 at_next order account orders accounts name other =
     let one : 1 + position_or_len (bytes_eq name) orders ≡ suc (position_or_len (bytes_eq name) orders) = omega arith in
     rw (other, one) refl
 
--- what is at the places of names that are apart, one name after another, is the list of it
+-- looking up distinct names in order gives the whole list of accounts
 pub all_places : (answer : List ℕ → List ℕ) (orders accounts : List (List ℕ)) → has_repeat bytes_eq orders ≡ false
     → length accounts ≡ length orders
     → ((order : List ℕ) → is_among orders order ≡ true → answer order ≡ at_place orders accounts order)
@@ -58,7 +58,7 @@ all_places answer (o ∷ orders) (a ∷ accounts) apart same is =
     is order (rw other among) ∙ at_next o a orders accounts order other) in
     λ i. here i ∷ rest i
 
--- the account of an order is what stands at its place
+-- the account of an order is the account at its index
 module _ (orders accounts : List (List ℕ)) where
   account_there : (positions : List PositionRecord) (order : List ℕ)
       → is_among (map (λ (p : PositionRecord). p.account) positions) order ≡ true
@@ -82,7 +82,7 @@ module _ (orders accounts : List (List ℕ)) where
   under_again [] = refl
   under_again (p ∷ positions) = ap (λ rest. p ∷ rest) (under_again positions)
 
--- the records under their orders are the positions
+-- the order records, stored under their orders' names, are the positions
 pub under_orders : (accounts : List (List ℕ)) (positions : List PositionRecord)
     → positions ≡ map under_order (order_records accounts positions)
 under_orders accounts positions = sym (under_again (accounts_of positions) accounts positions)

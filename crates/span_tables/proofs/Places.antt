@@ -1,4 +1,4 @@
--- The place of a name among names that are apart.
+-- The index of a name in a list of distinct names.
 use Rattle.std.proofs.Common.{◌≡◌, ℕ, suc, zero, ◌+◌, ◌<◌, Bool, true, false, cond, not, List, [], ◌∷◌}
 use Rattle.std.proofs.Common.{length, refl, sym, ap, ◌∙◌, subst, arith, get_or, eqb, ltb, ◌≤◌, Decides}
 use Rattle.std.specs.Prelude.{Option, Some, None, bytes_eq, unwrap_or, option_map, slice_get, ◌||◌}
@@ -8,7 +8,7 @@ use Rattle.std.proofs.lemmas.Bool.Decides.{same_from_decides, Decides-eqb, nat_t
 use Rattle.std.proofs.lemmas.Slice.Eq.{bytes_eq-Decides}
 use Rattle.span_tables.specs.Names.{has_repeat}
 
--- a name is itself
+-- a name equals itself
 pub same_name : (name : List ℕ) → bytes_eq name name ≡ true
 same_name name = (bytes_eq-Decides name name).1 refl
 
@@ -17,7 +17,7 @@ or_false true b e = cc
 or_false false b e = (refl, e)
 
 module _ {C : Type 0} (key : C → List ℕ) where
-  -- the place of the first element of a name
+  -- the index of the first element that has a name
   abbrev pub place : List C → List ℕ → ℕ
   place cs id = position_or_len (λ c. bytes_eq (key c) id) cs
 
@@ -29,7 +29,7 @@ module _ {C : Type 0} (key : C → List ℕ) where
       let one : 1 + place cs id ≡ suc (place cs id) = omega arith in
       subst (λ n. key (get_or (c ∷ cs) n d) ≡ id) (sym one) (more (omega arith))
 
-  -- the element at a name's place has that name
+  -- the element at a name's index has that name
   pub place_key : (cs : List C) (id : List ℕ) (d : C) → place cs id < length cs → key (get_or cs (place cs id) d) ≡ id
   place_key [] id d lt = absurd (omega arith)
   place_key (c ∷ cs) id d lt = key_step (bytes_eq (key c) id) c cs id d refl (place_key cs id d) lt
@@ -41,7 +41,7 @@ module _ {C : Type 0} (key : C → List ℕ) where
   not_later name (c ∷ cs) zero d none lt = (or_false _ _ none).0
   not_later name (c ∷ cs) (suc k) d none lt = not_later name cs k d (or_false _ _ none).1 (omega arith)
 
-  -- the place of the name at k is k
+  -- the index of the name at k is k
   pub place_at : (cs : List C) (k : ℕ) (d : C) → has_repeat (λ x y. bytes_eq (key x) (key y)) cs ≡ false → k < length cs
       → place cs (key (get_or cs k d)) ≡ k
   place_at [] k d apart lt = absurd (omega arith)
@@ -53,7 +53,7 @@ module _ {C : Type 0} (key : C → List ℕ) where
       let next : 1 + place cs (key (get_or cs k d)) ≡ suc k = omega (arith, more) in
       rw no next
 
-  -- a name's place is k just where it is the name at k
+  -- a name's index is k if and only if it is the name at k
   pub place_tells : (cs : List C) (id : List ℕ) (k : ℕ) (d : C) → has_repeat (λ x y. bytes_eq (key x) (key y)) cs ≡ false
       → k < length cs
       → eqb (place cs id) k ≡ bytes_eq id (key (get_or cs k d))
@@ -65,13 +65,13 @@ module _ {C : Type 0} (key : C → List ℕ) where
         (λ e. (Decides-eqb (place cs id) k).1 (ap (place cs) e ∙ place_at cs k d apart lt)),
       ) in same_from_decides _ _ by_place (bytes_eq-Decides id (key (get_or cs k d)))
 
-  -- the name at k, of the element that there is
+  -- the name at k, read through the element at k
   pub name_at : (cs : List C) (k : ℕ) (d : C) → k < length cs → unwrap_or (option_map key (slice_get cs k)) [] ≡ key (get_or cs k d)
   name_at [] k d lt = absurd (omega arith)
   name_at (c ∷ cs) zero d lt = refl
   name_at (c ∷ cs) (suc k) d lt = name_at cs k d (omega arith)
 
-  -- a name's place is k just where it is the name of k
+  -- the same, with the name at k read through the element
   pub place_names : (cs : List C) (id : List ℕ) (k : ℕ) → has_repeat (λ x y. bytes_eq (key x) (key y)) cs ≡ false → k < length cs
       → eqb (place cs id) k ≡ bytes_eq id (unwrap_or (option_map key (slice_get cs k)) [])
   place_names [] id k apart lt = absurd (omega arith)
@@ -81,7 +81,7 @@ position_step : (b : Bool) (n m : ℕ) → (ltb n m ≡ b) → n ≤ m → unwra
 position_step true n m e le = refl
 position_step false n m e le = grind (arith, nat_tests)
 
--- the place, or the length where there is none
+-- the index found, or the length of the list if there is none
 pub position_or_length : {C : Type 0} (p : C → Bool) (cs : List C) (r : Option ℕ) → r ≡ position p cs
     → unwrap_or r (length cs) ≡ position_or_len p cs
 position_or_length p cs r is =

@@ -1,4 +1,4 @@
--- What the ranges of records say of those of each kind.
+-- The consequences of the field ranges for the records of each kind.
 use Rattle.std.proofs.Common.{◌≡◌, ℕ, ◌<◌, ◌≤◌, Bool, true, arith, Option, List, [], ◌∷◌, length, map, sym, subst}
 use Rattle.std.specs.Prelude.{All, MatchOption, filter_map, find, nat_abs, nat_le, option_map, unwrap_or}
 use Rattle.std.specs.List.{AllByRecursion, list_all}
@@ -28,7 +28,7 @@ use Rattle.span_tables.specs.declared.records.Spot.{Spot}
 use Rattle.span_tables.specs.declared.records.Tier.{Tier}
 use Rattle.span_tables.proofs.KeptRules.{all_true, and_true, of_kind}
 
--- what a test of all says of each
+-- if all elements pass a test, each has the property that the test implies
 pub all_by : {X : Type 0} (p : X → Bool) (P : X → Type 0) → ((x : X) → p x ≡ true → P x) → (xs : List X)
     → list_all p xs ≡ true → All P xs
 all_by p P says [] e = All-nil P
@@ -43,11 +43,11 @@ within low high n e = let h = and_true (nat_le low n) (nat_le n high) e in (leb-
 
 -- ---- the records of each kind pass their tests
 
--- the test of a kind is passed by a record, where the record is of the kind
+-- a record passes the test of a kind, if it is of that kind
 abbrev PassesIf : {Y : Type 0} → (Y → Bool) → Option Y → Type 0
 PassesIf test o = MatchOption o (Unit {0}) (λ y. test y ≡ true)
 
--- a record in its ranges passes the test of its kind: set, commodity, contract, intra, spot and inter
+-- a record with its fields in range passes the test of its kind: set, commodity, contract, intra, spot or inter
 abbrev Passes : Record → Type 0
 Passes r =
     PassesIf set_in_range (as_set r) × PassesIf commodity_in_range (as_commodity r) × PassesIf contract_in_range (as_contract r)
@@ -68,7 +68,7 @@ of_test : {Y : Type 0} (of : Record → Option Y) (test : Y → Bool) → ((r : 
 of_test of test pick rs e =
     of_kind of (λ y. test y ≡ true) (λ r. in_range r ≡ true) (λ r h. pick r (passes r h)) rs (by_recursion in_range rs e)
 
--- ---- what the tests say
+-- ---- the consequences of the tests
 
 pub rate_within : (c : Commodity) → commodity_in_range c ≡ true → c.minimum_rate ≤ MAX_RATE
 rate_within c e = leb-true _ _ (and_true _ _ e).1
@@ -114,7 +114,7 @@ pub is_spot : (s : Spot) → spot_in_range s ≡ true → IsSpot s
 is_spot s e =
     let last = all_true _ _ _ e in record { spread_rate = leb-true _ _ last.1; outright_rate = leb-true _ _ last.2 }
 
--- the fields of an intercommodity spread, and its legs' ratios
+-- the basis points, the number of legs and the leg ratios of an intercommodity spread are in range
 pub record IsInterRecord (s : InterRecord) : Type 0 where
   pub basis_points : s.basis_points ≤ MAX_BASIS_POINTS
   pub at_least_two : 2 ≤ length s.legs.items
@@ -136,7 +136,7 @@ is_inter s e =
       ratios_below = λ k z lt. (ratios k z lt).1;
     }
 
--- ---- of all records
+-- ---- for all records
 
 first_profile : (ss : List SetRecord) → All (λ s. set_in_range s ≡ true) ss
     → unwrap_or (option_map (λ s. s.profile) (find (λ s. true) ss)) 1 ≤ MAX_PROFILE

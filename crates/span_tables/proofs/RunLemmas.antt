@@ -1,4 +1,4 @@
--- The holdings of the commodities that are held, gathered by runs of one commodity.
+-- The holdings of each held commodity, gathered from runs of holdings of one commodity.
 use Rattle.std.proofs.Common.{◌≡◌, ◌≢◌, ℕ, suc, zero, ◌+◌, ◌-◌, ◌<◌, ◌≤◌, Bool, true, false, cond, eqb, List, [], ◌∷◌}
 use Rattle.std.proofs.Common.{◌++◌, length, length-append, length-set, map, filter, get_or, get_or-set_other}
 use Rattle.std.proofs.Common.{get_or-set_same, replicate, set, take, drop, refl, sym, ap, ◌∙◌, subst, arith, inl, inr}
@@ -29,7 +29,7 @@ use Rattle.span_tables.proofs.GatherLemmas.{known_at}
 use Rattle.span_tables.proofs.HeldLemmas.{are_holdings, held_in, length_held}
 use Rattle.span_tables.proofs.Places.{place_names}
 
--- of a run all are kept, or none
+-- a filter keeps all elements of a run, or none
 filter_alike : {X : Type 0} (p : X → Bool) (b : Bool) (xs : List X) → All (λ x. p x ≡ b) xs → filter p xs ≡ cond b xs []
 filter_alike p true [] all = refl
 filter_alike p false [] all = refl
@@ -39,7 +39,7 @@ filter_alike p true (x ∷ xs) all =
 filter_alike p false (x ∷ xs) all =
     rw (All-head (λ y. p y ≡ false) x xs all) (filter_alike p false xs (All-tail (λ y. p y ≡ false) x xs all))
 
--- the elements before a place, and from there up to another
+-- a prefix is a shorter prefix and the elements between the two ends
 pub take_range : {X : Type 0} (xs : List X) (start end : ℕ) → start ≤ end → take end xs ≡ take start xs ++ slice_range xs start end
 take_range xs start end le =
     let far : start + (end - start) ≡ end = omega arith in
@@ -48,7 +48,7 @@ take_range xs start end le =
     ∙ ap (λ ys. ys ++ drop start (take (start + (end - start)) xs)) (take-take start (start + (end - start)) xs before)
     ∙ ap (λ ys. take start xs ++ ys) (drop-take start (end - start) xs)
 
--- where one element of a list is written over, and where one is put between others
+-- replacing one element of a list, and inserting one
 module _ {X : Type 0} (P : X → Type 0) where
   set_each : (xs : List X) (p : ℕ) (y : X) → P y → ((k : ℕ) (d : X) → k < length xs → k ≢ p → P (get_or xs k d)) → All P (set xs p y)
   set_each xs p y is others k d lt =
@@ -90,7 +90,7 @@ pairs_map R f (x ∷ xs) pairs =
     (All-map (R (f x)) f xs (λ k d lt. pairs zero (suc k) d (omega arith) (omega (arith, lt))))
     (pairs_map R f xs (λ i j d less lt. pairs (suc i) (suc j) d (omega (arith, less)) (omega (arith, lt))))
 
--- numbers that rise: before a place they are below n and from there on not below it, and n does not stand at the place
+-- rising commodity numbers that are at least n from index p on are above n there, if the number at p is not n
 module _ (lists : List HoldingsOf) (n p : ℕ) (rise : AllPairs (λ a b. a.commodity < b.commodity) lists) where
   pub not_falling : IsNonDecreasingBy (λ l. l.commodity) lists
   not_falling i j d le lt = elim (cases_eq i j) [
@@ -109,7 +109,7 @@ module _ (lists : List HoldingsOf) (n p : ℕ) (rise : AllPairs (λ a b. a.commo
         | inr later ↦ let up = rise p k d (omega (arith, from, later)) lt in omega (arith, up, at)
       ]
 
--- what a look-up of a contract's commodity says of its holding
+-- a look-up of a contract's commodity gives the commodity of its holding
 pub is_of_number : (t : AcceptedTables) (hs : List Holding) (k n r : ℕ) (d e : Holding) → k < length hs
     → (get_or hs k d).contract < length t.contracts
     → IfSome (slice_get t.contracts (get_or hs k d).contract) (λ x. r ≡ commodity_number t.commodities x.commodity) → r ≡ n
@@ -119,7 +119,7 @@ is_of_number t hs k n r d e lt known told is =
     ∙ known_at t.contracts (get_or hs k d).contract (λ x. x.commodity) (λ name. r ≡ commodity_number t.commodities name) known told
     ∙ ap (λ h. commodity_number t.commodities (commodity_held t.contracts h)) (get_or_default hs k d e lt)
 
--- what holds at a place and from there on up to another holds of what stands between them
+-- a property of the element at an index and of the elements up to another index is a property of the range
 pub all_between : {X : Type 0} (P : X → Type 0) (xs : List X) (start end : ℕ) → end ≤ length xs → ((d : X) → P (get_or xs start d))
     → AllWithin P xs (start + 1) end → All P (slice_range xs start end)
 all_between P xs start end le first more k d lt =
@@ -130,7 +130,7 @@ all_between P xs start end le first more k d lt =
       | inr some ↦ more (start + k) d (omega (arith, some)) inside
     ])
 
--- a run of holdings of the commodity of number n behind others
+-- a run of holdings of commodity number n, appended to other holdings
 module _ (t : AcceptedTables) (limits : IsWithinLimits t) (hs run : List Holding) (n : ℕ) (of : All (IsOf t n) run) where
   tells : (d : ℕ) → d < length t.commodities
       → All (λ h. bytes_eq (commodity_held t.contracts h) (commodity_id t d) ≡ eqb n d) run
@@ -146,7 +146,7 @@ module _ (t : AcceptedTables) (limits : IsWithinLimits t) (hs run : List Holding
       ∙ ap (λ gs. filter test hs ++ gs) (filter_alike test (eqb n d) run (tells d below))
       ∙ ap (λ c. filter test hs ++ cond c run []) is
 
-  -- a run of a commodity stands behind the holdings of that commodity
+  -- a run of a commodity is appended to the holdings of that commodity
   here : n < length t.commodities
       → holdings_in t.contracts (hs ++ run) (commodity_id t n) ≡ holdings_in t.contracts hs (commodity_id t n) ++ run
   here below = let same : eqb n n ≡ true = grind (arith, nat_tests) in with_run n true below same
@@ -159,24 +159,24 @@ module _ (t : AcceptedTables) (limits : IsWithinLimits t) (hs run : List Holding
       with_run d false below other ∙ append-nil (holdings_in t.contracts hs (commodity_id t d))
 
   module _ (known : n < length t.commodities) (lists : List HoldingsOf) (before : AreGathered t hs lists) where
-    -- a list of another commodity is as it was
+    -- the list of another commodity is unchanged
     as_was : (l : HoldingsOf) → l.commodity < length t.commodities → l.commodity ≢ n
         → l.holdings.items ≡ holdings_in t.contracts hs (commodity_id t l.commodity)
         → l.holdings.items ≡ holdings_in t.contracts (hs ++ run) (commodity_id t l.commodity)
     as_was l below other is = is ∙ sym (there l.commodity below other)
 
-    -- the holdings of the commodity that is named, of a list of them
+    -- an entry with commodity number n has the holdings of the commodity that it names
     named : (y : HoldingsOf) → y.commodity ≡ n → y.holdings.items ≡ holdings_in t.contracts (hs ++ run) (commodity_id t n)
         → y.holdings.items ≡ holdings_in t.contracts (hs ++ run) (commodity_id t y.commodity)
     named y of_n is = is ∙ ap (λ m. holdings_in t.contracts (hs ++ run) (commodity_id t m)) (sym of_n)
 
-    -- the run goes behind the holdings of its commodity
+    -- the run is appended to the holdings of its commodity
     module _ (p : ℕ) (x y : HoldingsOf) (lt : p < length lists) (stands : x ≡ get_or lists p x) (of_x : x.commodity ≡ n)
         (of_y : y.commodity ≡ n) (more : y.holdings.items ≡ x.holdings.items ++ run) where
       here_it_is : (d : HoldingsOf) → get_or lists p d ≡ x
       here_it_is d = get_or_default lists p d x lt ∙ sym stands
 
-      -- numbers at two places differ
+      -- the commodity numbers at two indexes differ
       apart : (k : ℕ) (d : HoldingsOf) → k < length lists → k ≢ p → (get_or lists k d).commodity ≢ n
       apart k d below other = λ same.
           let at_p : (get_or lists p d).commodity ≡ n = ap (λ (l : HoldingsOf). l.commodity) (here_it_is d) ∙ of_x in
@@ -257,7 +257,7 @@ module _ (t : AcceptedTables) (limits : IsWithinLimits t) (hs run : List Holding
                 ∙ before.others c lt (left_of_insert (λ l. l.commodity ≢ c) lists p y le none);
           }
 
--- one holding more, of the commodity of number n, which is number c or is not
+-- one more holding, of commodity number n; b says whether n is c
 pub one_more : (t : AcceptedTables) (gs : List Holding) (i n : ℕ) (d : Holding) → IsWithinLimits t → i < length gs
     → (get_or gs i d).contract < length t.contracts
     → IfSome (slice_get t.contracts (get_or gs i d).contract) (λ x. n ≡ commodity_number t.commodities x.commodity)
@@ -269,7 +269,7 @@ one_more t gs i n d limits lt known told c b below is =
     ap (λ hs. holdings_in t.contracts hs (commodity_id t c)) (take_more gs i d lt)
     ∙ with_run t limits (take i gs) (get_or gs i d ∷ []) n (All-cons (IsOf t n) (get_or gs i d) [] of (All-nil (IsOf t n))) c b below is
 
--- the gathered holdings are within the limits, and with their records they are what is held
+-- the gathered holdings are within the limits, and with their records they are the held contracts
 module _ (t : AcceptedTables) (hs : List Holding) (lists : List HoldingsOf) (limits : IsWithinLimits t) (portfolio : ArePortfolio hs)
     (known : fits (length t.contracts) hs ≡ true) (gathered : AreGathered t hs lists) where
   pub gathered_in_range : All (λ l. AreHoldings t.contracts l.holdings.items) lists
@@ -298,7 +298,7 @@ gathered_held t hs lists in_range gathered =
           (none k (f d) (omega (arith, below, length-map lists f)))));
     }
 
--- what is held of each commodity, if what is held of the rest is still to be put at its number
+-- the held contracts of each commodity, while those in `rest` have not yet been stored at their commodity's index
 pub record ArePlaced (t : AcceptedTables) (hs : List Holding) (rest : List CommodityHeld) (held : List (List HeldContract)) : Type 0 where
   pub size : length held ≡ length t.commodities
   pub in_range : All (λ h. h.commodity < length t.commodities) rest

@@ -1,4 +1,4 @@
--- What marking the slot of a number does to a word, and when a word has all slots of another.
+-- The effect of marking a number's slot in a word, and the condition for a word to have all slots of another.
 use Rattle.std.proofs.Common.{◌≡◌, ◌≢◌, ◌≤◌, ◌%◌, ◌^◌, ◌==◌, ℕ, ℤ}
 use Rattle.std.proofs.Common.{pos, negsuc, ◌≤ℤ◌, Bool, true, false, bit_and, refl, ap, arith}
 use Rattle.std.specs.Int.{bit_at}
@@ -9,7 +9,7 @@ use Rattle.span_money.specs.Numbers.{positive_part, negative_part}
 use Rattle.span_tables.specs.Slots.{IsMarked, has_all, with_slot}
 use Rattle.span_tables.specs.declared.slots.TheConstants.{SLOTS}
 
--- a number is marked where it was added
+-- a number is marked after it was added
 pub marked_new : (word number : ℕ) → IsMarked (with_slot word number) number
 marked_new word number =
     let e = bit_at_or word (2 ^ (number % SLOTS)) (number % SLOTS) in
@@ -24,7 +24,7 @@ marked_kept word number other h =
     let lt = bit_at-lt (2 ^ (number % SLOTS)) (other % SLOTS) in
     omega (arith, e, lt, h)
 
--- each slot that is marked in a word is marked in another
+-- each slot that is marked in `other` is marked in `word`
 abbrev pub Within : ℕ → ℕ → Type 0
 Within word other = (i : ℕ) → bit_at other i ≤ bit_at word i
 
@@ -43,14 +43,14 @@ pub with_within : (word other number : ℕ) → IsMarked word number → Within 
 with_within word other number h within i =
     omega (arith, bit_at_or other (2 ^ (number % SLOTS)) i, bit_of_one word (number % SLOTS) i (i == number % SLOTS) refl h, within i)
 
--- a set within another has no slot that the other lacks
+-- if the slots of `other` are within `word`, `word` has them all
 pub within_has_all : (word other : ℕ) → Within word other → has_all word other ≡ true
 within_has_all word other within =
     let same : bit_and word other ≡ other =
     same_from_bits (bit_and word other) other (λ i. omega (arith, bit_at_and word other i, within i)) in
     grind (arith, nat_tests, same)
 
--- a rest is on one side of the market at most
+-- a remaining delta is on at most one side of the market
 pub not_long : (z : ℤ) → z ≤ℤ pos 0 → positive_part z ≡ 0
 not_long (pos n) below = omega (arith, ints, below)
 not_long (negsuc n) below = refl
@@ -59,13 +59,13 @@ pub not_short : (z : ℤ) → pos 0 ≤ℤ z → negative_part z ≡ 0
 not_short (pos n) above = refl
 not_short (negsuc n) above = absurd (omega (arith, ints, above))
 
--- a number of another slot is marked only where it was
+-- a number of another slot is marked only if it was marked before
 pub marked_before : (word number other : ℕ) → other % SLOTS ≢ number % SLOTS → IsMarked (with_slot word number) other
     → IsMarked word other
 marked_before word number other apart marked =
     omega (arith, marked, bit_at_or word (2 ^ (number % SLOTS)) (other % SLOTS), bit_at-pow_other (number % SLOTS) (other % SLOTS) apart)
 
--- all slots of another word are those of each of its numbers
+-- a word that has all slots of another has each number marked there
 pub has_all_marked : (word others number : ℕ) → has_all word others ≡ true → IsMarked others number → IsMarked word number
 has_all_marked word others number all marked =
     let same : bit_and word others ≡ others = grind (arith, nat_tests, all) in

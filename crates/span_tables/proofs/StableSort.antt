@@ -1,4 +1,4 @@
--- A stable sort by a number is `rising_by`.
+-- A stable sort by a number gives the same list as `rising_by`.
 use Rattle.std.proofs.Common.{◌≡◌, ℕ, suc, ◌<◌, ◌≤◌, Bool, true, false, cond, eqb, ltb, not}
 use Rattle.std.proofs.Common.{List, [], ◌∷◌, filter, refl, sym, ap, ◌∙◌, subst, arith, inl, inr}
 use Rattle.std.specs.Prelude.{nat_le, ◌&&◌}
@@ -18,7 +18,7 @@ use Rattle.span_tables.specs.Laws.{IsRisingBy}
 use Rattle.span_tables.specs.Tables.{placed_by, rising_by}
 use Rattle.span_tables.proofs.OrderLaws.{rising_rises}
 
--- two numbers tie where they are one
+-- two numbers tie if and only if they are equal
 tie_by : (l e m f : Bool) → ((l ≡ true) → (e ≡ false) × (m ≡ false) × (f ≡ false)) → ((m ≡ true) → f ≡ false)
     → ((l ≡ false) → (m ≡ false) → f ≡ true)
     → (not (is_lt (cond l Less (cond e Equal Greater))) && not (is_lt (cond m Less (cond f Equal Greater)))) ≡ f
@@ -37,7 +37,7 @@ tie a b =
     (λ e. grind (arith, nat_tests)) (λ e f. grind (arith, nat_tests))
 
 module _ {A : Type 0} (key : A → ℕ) where
-  -- the elements of a key
+  -- the elements that have a key
   abbrev of_key : ℕ → List A → List A
   of_key k xs = filter (λ x. eqb (key x) k) xs
 
@@ -48,7 +48,7 @@ module _ {A : Type 0} (key : A → ℕ) where
     rises_by_recursion xs (λ i j d le lt. up (suc i) (suc j) d (omega arith) (omega arith)),
   )
 
-  -- none of a key below all
+  -- no element has a key below all keys
   none_below : (k m : ℕ) (xs : List A) → k < m → AllByRecursion (λ y. m ≤ key y) xs → of_key k xs ≡ []
   none_below k m [] lt above = refl
   none_below k m (x ∷ xs) lt above =
@@ -74,7 +74,7 @@ module _ {A : Type 0} (key : A → ℕ) where
   tail_if true x y us vs is same = cc
   tail_if false x y us vs is same = same
 
-  -- rising lists with the same elements of each key are one
+  -- rising lists that have the same elements for each key are equal
   same_rising : (xs ys : List A) → IsRisingBy key xs → IsRisingBy key ys → ((a : A) → of_key (key a) xs ≡ of_key (key a) ys)
       → xs ≡ ys
   same_rising [] [] up uq same = refl
@@ -94,7 +94,7 @@ module _ {A : Type 0} (key : A → ℕ) where
       let tails = same_rising xs ys up.1 uq.1 rest in
       cc
 
-  -- one element passed by another, of another key
+  -- an element moves past an element with another key
   passed : (k : ℕ) (x y : A) (ys more : List A) (p q : Bool) → key y < key x → of_key k more ≡ of_key k (x ∷ ys)
       → eqb (key x) k ≡ p → eqb (key y) k ≡ q → of_key k (y ∷ more) ≡ of_key k (x ∷ y ∷ ys)
   passed k x y ys more true true lt same e f = absurd (grind (arith, nat_tests))
@@ -111,12 +111,12 @@ module _ {A : Type 0} (key : A → ℕ) where
   placed_of_key k x [] = refl
   placed_of_key k x (y ∷ ys) = placed_if k (nat_le (key x) (key y)) x y ys (placed_by key x ys) refl (placed_of_key k x ys)
 
-  -- `rising_by` keeps the order of those of a key
+  -- `rising_by` keeps the order of elements with the same key
   pub rising_of_key : (k : ℕ) (xs : List A) → of_key k (rising_by key xs) ≡ of_key k xs
   rising_of_key k [] = refl
   rising_of_key k (x ∷ xs) = placed_of_key k x (rising_by key xs) ∙ ap (λ ws. cond (eqb (key x) k) (x ∷ ws) ws) (rising_of_key k xs)
 
-  -- what a stable sort by the key gives
+  -- the result of a stable sort by the key
   pub sorted_rising : (xs ys : List A) → IsSortedByKey key nat_cmp ys → IsStableByKey key nat_cmp xs ys → ys ≡ rising_by key xs
   sorted_rising xs ys sorted stable =
       same_rising ys (rising_by key xs) (rises_by_recursion ys (IsNonDecreasingBy-from_sort key ys sorted)) (rising_rises key xs)
@@ -126,7 +126,7 @@ module _ {A : Type 0} (key : A → ℕ) where
       ∙ filter_agree (ties (λ x y. is_lt (nat_cmp (key x) (key y))) a) (λ y. eqb (key y) (key a)) (λ y. tie (key a) (key y)) xs
       ∙ sym (rising_of_key (key a) xs))
 
-  -- a list that `sort_by_key` sorted rises by the key that each call gives
+  -- a list sorted by `sort_by_key` rises by the key that the closure returns
   pub sorted_by_closure : {F : Type 0} {g : Mut F (Bor A × Unit {0}) ℕ} {f : F} (xs ys : List A) → IsSortedByKeyClosure g nat_cmp f ys
       → IsStableByKeyClosure g nat_cmp f xs ys
       → ((a : Bor A × Unit {0}) (r : ℕ) (f' : F) → Called g f a r f' → (r ≡ key a.0.now) × (f' ≡ f))

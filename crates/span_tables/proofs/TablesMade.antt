@@ -1,4 +1,4 @@
--- What is made of accepted tables beforehand is as the tables say.
+-- The lists that are computed from accepted tables in advance agree with the tables.
 use Rattle.std.proofs.Common.{◌≡◌, ℕ, suc, zero, ◌<◌, true, List, [], ◌∷◌}
 use Rattle.std.proofs.Common.{length, map, filter, get_or, refl, ap, ◌∙◌, arith}
 use Rattle.std.specs.Prelude.{bytes_eq, option_map, slice_get, unwrap_or}
@@ -23,7 +23,7 @@ use Rattle.span_tables.specs.declared.records.Spot.{Spot}
 use Rattle.span_tables.specs.declared.records.Tier.{Tier}
 use Rattle.span_tables.proofs.WithinLimits.{accepted_limits}
 
--- the list of the name at k
+-- the list of the name at index k
 listed : {C Y : Type 0} (key : C → List ℕ) (g : List ℕ → List Y) (cs : List C) (k : ℕ) → k < length cs
     → get_or (map (λ c. g (key c)) cs) k [] ≡ g (unwrap_or (option_map key (slice_get cs k)) [])
 listed key g [] k lt = absurd (omega arith)
@@ -68,7 +68,7 @@ module _ (t : AcceptedTables) (accepted : IsAccepted t) where
     inters_are = inters_all inters x;
   }
 
--- records by their kinds, of which the spreads were put in order, are those of the tables
+-- records by kind, with the spreads sorted, are the records of the tables
 pub same_tables : (rs : List Record) (cs : List Commodity) (xs : List Contract) (ts : List Tier) (is js : List IntraRecord)
     (ss : List Spot) (ns ms : List InterRecord)
     → AreByKind rs cs xs ts is ss ns → js ≡ rising_by (λ s. s.priority) is → ms ≡ rising_by (λ s. s.priority) ns
@@ -101,7 +101,7 @@ pub named_tables : (rs : List Record) (id : List ℕ) (profile : ℕ) (kinds : K
     → tables_from (set_id_in rs) (profile_in rs) kinds ≡ tables_of rs → tables_from id profile kinds ≡ tables_of rs
 named_tables rs id profile kinds named version same = rw (named, version) same
 
--- accepted tables in parts
+-- accepted tables, from their parts
 pub accepted_as : (t : AcceptedTables) (rs : List Record) → t ≡ tables_of rs → is_readable rs ≡ true → keeps_rules rs ≡ true
     → IsAccepted t
 accepted_as t rs is readable kept = record { records = rs; tables = is; readable = readable; kept = kept }

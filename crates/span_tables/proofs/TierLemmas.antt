@@ -1,4 +1,4 @@
--- The months of tiers in words of slots.
+-- The months of tiers as words of slots.
 use Rattle.std.proofs.Common.{◌≡◌, ℕ, ◌+◌, ◌%◌, ◌<◌, ◌≤◌, ◌==◌, Bool, true, false, not, List}
 use Rattle.std.proofs.Common.{refl, ap, ◌∙◌, subst, inl, inr, arith, bit_and}
 use Rattle.std.specs.Prelude.{◌||◌, All}
@@ -12,7 +12,7 @@ use Rattle.span_tables.specs.declared.slots.TheConstants.{SLOTS}
 use Rattle.span_tables.specs.near.Tiers.{HasMonths, IsOfSide, may_have}
 use Rattle.span_tables.proofs.SlotLemmas.{marked_kept, marked_new}
 
--- a later month has no smaller place
+-- a later month has no smaller count
 pub count_rises : (a b : ℕ) → a ≤ b → month_count a ≤ month_count b
 count_rises a b le = omega (arith, le)
 
@@ -39,9 +39,9 @@ marked_more word next count number false e below is before =
     let lt : number < count = grind (arith, nat_tests, e, below) in
     rw is (marked_kept word count number (before lt))
 
--- ---- words of sides
+-- ---- words for sides
 
--- a leg whose word has no bit in common with another has no month that is marked there
+-- if the word of a leg's months has no bit in common with another word, no month of the leg is marked in the other
 never_marked : (sides word : ℕ) (leg : MonthLeg) → HasMonths word leg.first leg.last → bit_and sides word ≡ 0
     → IsTierMarked sides leg → ⊥
 never_marked sides word leg has none tier =
@@ -55,7 +55,7 @@ or_true : (a b : Bool) → b ≡ true → (a || b) ≡ true
 or_true true b e = refl
 or_true false b e = e
 
--- where the tier of each leg has a month that is marked, so have the months of a side
+-- if the tier of each leg has a marked month, so do the months of a side
 pub side_marked : (word : Side → ℕ) (s : Side) (months : ℕ) (legs : List MonthLeg) → IsOfSide months s legs
     → All (λ leg. IsTierMarked (word leg.side) leg) legs → may_have (word s) months ≡ true
 side_marked word s months legs (inl none) all = grind (arith, nat_tests, none)

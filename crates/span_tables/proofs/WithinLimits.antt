@@ -29,7 +29,7 @@ use Rattle.span_tables.proofs.OrderLaws.{rising_permutation}
 use Rattle.span_tables.proofs.Ranges.{IsInterRecord, are_contracts, are_inters, are_intras, are_spots, is_intra}
 use Rattle.span_tables.proofs.Ranges.{profile_within, rates_within}
 
--- what readable records keep, part by part
+-- the conditions on readable records, one by one
 pub record IsReadable (rs : List Record) : Type 0 where
   pub begins : begins_with_set rs ≡ true
   pub ranges : list_all in_range rs ≡ true
@@ -55,7 +55,7 @@ readable rs e =
       few_spots = by_commodity.2;
     }
 
--- what records that keep the rules keep, as far as the tables need it
+-- the rules that the tables need, one by one
 pub record KeepsRules (rs : List Record) : Type 0 where
   pub commodities_apart : has_repeat (λ c d. bytes_eq c.id d.id) (commodities_in rs) ≡ false
   pub named : AllByRecursion (NamesKnown (commodities_in rs)) rs
@@ -76,7 +76,7 @@ all_both : {X : Type 0} (P Q R S : X → Type 0) (xs : List X) → ((x : X) → 
     → All R xs → All S xs
 all_both P Q R S xs f p q r = λ k d lt. f _ (p k d lt) (q k d lt) (r k d lt)
 
--- a spread with its numbers
+-- an intercommodity spread with its commodity numbers is within the limits
 inter_within : (cs : List Commodity) → has_repeat (λ c d. bytes_eq c.id d.id) cs ≡ false → (s : InterRecord) → IsInterRecord s
     → All (λ leg. IsKnown cs leg.commodity) s.legs.items → has_repeat (λ a b. bytes_eq a.commodity b.commodity) s.legs.items ≡ false
     → IsInter (length cs) (inter_spread cs s)
@@ -92,7 +92,7 @@ inter_within cs apart s fields known legs =
       apart = legs_apart cs apart s.legs.items known ∙ legs;
     }
 
--- the tables of records without a fault that keep the rules
+-- the tables of readable records that keep the rules are within the limits
 pub within_limits : (rs : List Record) → is_readable rs ≡ true → keeps_rules rs ≡ true → IsWithinLimits (tables_of rs)
 unfolding tables_of intras_of spots_of inters_of
 within_limits rs is_r keeps =
@@ -133,7 +133,7 @@ within_limits rs is_r keeps =
           (are_inters rs r.ranges) (inters_known cs rs k.named) (inters_apart rs k.legs)));
     }
 
--- ---- of accepted tables
+-- ---- for accepted tables
 
 pub accepted_limits : (t : AcceptedTables) → IsAccepted t → IsWithinLimits t
 accepted_limits t a = subst IsWithinLimits (sym a.tables) (within_limits a.records a.readable a.kept)

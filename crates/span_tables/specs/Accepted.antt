@@ -1,4 +1,4 @@
--- What the accepted tables of a set keep, and what is made of them beforehand.
+-- The properties of the accepted tables of a parameter set, and of the lists that are computed from them in advance.
 use Rattle.std.specs.Prelude.{◌≡◌, ℕ, ◌<◌, ◌≤◌, false, List, length}
 use Rattle.std.specs.Prelude.{◌==◌, bytes_eq, All, nat_abs}
 use Rattle.std.specs.List.{position_or_len}
@@ -14,11 +14,11 @@ use Rattle.span_tables.specs.declared.records.Spot.{Spot}
 use Rattle.span_tables.specs.declared.records.Intra.{Intra}
 use Rattle.span_tables.specs.declared.records.Inter.{Inter}
 
--- the number of the commodity of an id
+-- the number of the commodity with an id
 abbrev pub commodity_number : List Commodity → List ℕ → ℕ
 commodity_number commodities id = position_or_len (λ c. bytes_eq c.id id) commodities
 
--- a contract's delta, scale, risk array and option value lie in their ranges
+-- the delta, scale, risk array and option value of a contract are in range
 pub record IsContract (x : Contract) : Type 0 where
   pub delta : nat_abs x.delta ≤ MAX_DELTA
   pub scale : x.scale ≤ MAX_SCALE
@@ -26,7 +26,7 @@ pub record IsContract (x : Contract) : Type 0 where
   pub values : All (λ v. nat_abs v ≤ MAX_ARRAY_VALUE) x.values
   pub option_value : x.extras.option_value ≤ MAX_OPTION_VALUE
 
--- an intracommodity spread has 2 to 4 legs, and its rate and ratios lie in their ranges
+-- an intracommodity spread has 2 to 4 legs, and its rate and ratios are in range
 pub record IsIntra (s : Intra) : Type 0 where
   pub rate : s.rate ≤ MAX_RATE
   pub at_least_two : 2 ≤ length s.legs
@@ -34,12 +34,13 @@ pub record IsIntra (s : Intra) : Type 0 where
   pub ratios_above : All (λ leg. 0 < leg.ratio) s.legs
   pub ratios_below : All (λ leg. leg.ratio ≤ MAX_RATIO) s.legs
 
--- the rates of a spot month lie in their range
+-- the rates of a spot month are in range
 pub record IsSpot (s : Spot) : Type 0 where
   pub spread_rate : s.spread_rate ≤ MAX_RATE
   pub outright_rate : s.outright_rate ≤ MAX_RATE
 
--- an intercommodity spread has 2 to 4 legs of as many commodities, of so many, and its rate and ratios lie in their ranges
+-- an intercommodity spread has 2 to 4 legs, each in a different one of the commodities, and its rate and ratios are in
+-- range
 pub record IsInter (commodities : ℕ) (s : Inter) : Type 0 where
   pub basis_points : s.basis_points ≤ MAX_BASIS_POINTS
   pub at_least_two : 2 ≤ length s.legs
@@ -49,7 +50,7 @@ pub record IsInter (commodities : ℕ) (s : Inter) : Type 0 where
   pub known : All (λ leg. leg.commodity < commodities) s.legs
   pub apart : has_repeat (λ a b. a.commodity == b.commodity) s.legs ≡ false
 
--- what accepted tables keep
+-- the limits that accepted tables are within
 pub record IsWithinLimits (t : AcceptedTables) : Type 0 where
   pub profile : t.profile ≤ MAX_PROFILE
   pub commodities : length t.commodities ≤ MAX_COMMODITIES

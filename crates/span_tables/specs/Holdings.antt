@@ -1,4 +1,4 @@
--- What portfolios and held contracts keep.
+-- The properties of portfolios and held contracts.
 use Rattle.std.specs.Prelude.{ℕ, ◌≢◌, ◌<◌, ◌≤◌, Bool, nat_lt, List, length, map, All, nat_abs}
 use Rattle.std.specs.List.Sorted.{IsStrictlyIncreasing}
 use Rattle.std.specs.List.{list_all}
@@ -8,18 +8,18 @@ use Rattle.span_tables.specs.declared.limits.TheConstants.{MAX_HELD, MAX_NET}
 use Rattle.span_tables.specs.declared.portfolios.Holding.{Holding}
 use Rattle.span_tables.specs.declared.records.Contract.{Contract}
 
--- the holdings of an account: few, by rising contract number, and each net is not 0 and within its limit
+-- the holdings of an account: within their limit, by rising contract number, and each net is not 0 and within its limit
 pub record ArePortfolio (holdings : List Holding) : Type 0 where
   pub few : length holdings ≤ MAX_HELD
   pub nets : All (λ h. nat_abs h.net ≤ MAX_NET) holdings
   pub held : All (λ h. nat_abs h.net ≢ 0) holdings
   pub rising : IsStrictlyIncreasing (map (λ h. h.contract) holdings)
 
--- each holding is of one of so many contracts
+-- each holding is of a contract number below `contracts`
 abbrev pub fits : ℕ → List Holding → Bool
 fits contracts holdings = list_all (λ h. nat_lt h.contract contracts) holdings
 
--- the holdings of a commodity among these contracts: few, each of a contract that there is, and each net and contract in
+-- the holdings of a commodity: within their limit, each of a contract that exists, and each net and contract is in
 -- range
 pub record AreHoldings (contracts : List Contract) (holdings : List Holding) : Type 0 where
   pub few : length holdings ≤ MAX_HELD
@@ -27,7 +27,7 @@ pub record AreHoldings (contracts : List Contract) (holdings : List Holding) : T
   pub known : All (λ h. h.contract < length contracts) holdings
   pub in_range : All IsContract contracts
 
--- the held contracts of a commodity: few, and each with its net and its contract in range
+-- the held contracts of a commodity: within their limit, and each net and contract is in range
 pub record AreHeld (held : List HeldContract) : Type 0 where
   pub few : length held ≤ MAX_HELD
   pub nets : All (λ h. nat_abs h.net ≤ MAX_NET) held

@@ -1,4 +1,4 @@
--- Names: their form, and lists of them.
+-- The form of names, and lists of names.
 use Rattle.std.specs.Prelude.{ℕ, Bool, false, not, ◌&&◌, ◌||◌, ◌==◌, nat_le, List, []}
 use Rattle.std.specs.Prelude.{◌∷◌, length, Option, Some, None, if◌then◌else◌, filter, bytes_eq}
 use Rattle.std.specs.Char.{is_ascii_digit, is_ascii_uppercase}
@@ -12,11 +12,11 @@ is_name_byte b = is_ascii_uppercase b || is_ascii_digit b || (b == 95) || (b == 
 abbrev pub is_name : List ℕ → Bool
 is_name text = nat_le 1 (length text) && nat_le (length text) 16 && list_all is_name_byte text
 
--- the name that a text is
+-- the name in a text, if the text is a name
 abbrev pub name_of : List ℕ → Option (List ℕ)
 name_of text = if is_name text then Some text else None
 
--- the name is among these
+-- the name is in the list
 abbrev pub is_among : List (List ℕ) → List ℕ → Bool
 is_among names name = list_any (bytes_eq name) names
 

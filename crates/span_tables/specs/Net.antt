@@ -17,7 +17,7 @@ pub record AccountHoldings : Type 0 where
 abbrev pub accounts_of : List PositionRecord → List (List ℕ)
 accounts_of positions = distinct (map (λ p. p.account) positions)
 
--- the net quantity of an account in a contract: the sum over its records
+-- the net quantity of an account in a contract: the sum of the quantities of its records
 abbrev pub net_of : List PositionRecord → List ℕ → List ℕ → ℤ
 net_of positions account contract =
     int_sum_by (λ p. p.quantity) (filter (λ p. bytes_eq p.account account && bytes_eq p.contract contract) positions)
@@ -26,7 +26,7 @@ net_of positions account contract =
 abbrev pub is_held : Holding → Bool
 is_held h = not (nat_abs h.net == 0)
 
--- an account's net quantity in the contract of a number
+-- an account's net quantity in a numbered contract
 abbrev pub holding_of : List PositionRecord → List ℕ → ℕ × Contract → Holding
 holding_of positions account numbered = record { contract = numbered.0; net = net_of positions account (numbered.1).id }
 
@@ -34,7 +34,7 @@ holding_of positions account numbered = record { contract = numbered.0; net = ne
 abbrev pub holdings_of : List Contract → List PositionRecord → List ℕ → List Holding
 holdings_of contracts positions account = filter is_held (map (holding_of positions account) (enumerate_from 0 contracts))
 
--- each account with what it holds, in the order of first appearance
+-- each account with its holdings, in the order of first appearance
 unfoldable pub portfolios_of : List Contract → List PositionRecord → List AccountHoldings
 portfolios_of contracts positions =
     map (λ account. record { account = account; holdings = holdings_of contracts positions account }) (accounts_of positions)

@@ -1,4 +1,4 @@
--- The rules that the records of a parameter file keep among themselves.
+-- The rules between the records of a parameter file.
 use Rattle.std.specs.Prelude.{ℕ, Bool, true, false, not, ◌&&◌, ◌||◌, ◌==◌, nat_lt, nat_le, min, max}
 use Rattle.std.specs.Prelude.{if◌then◌else◌, List, [], ◌∷◌, map, filter_map, Option, Some, None, is_none, bytes_eq}
 use Rattle.std.specs.List.{list_any, list_all}
@@ -20,37 +20,37 @@ use Rattle.span_tables.specs.declared.records.Record.TheVariants.{Tier as TierRe
 
 -- ---- the records of each kind, in file order
 
--- the SET that a record is
+-- the record as a SET record, if it is one
 abbrev pub as_set : Record → Option SetRecord
 as_set (Set x) = Some x
 as_set _ = None
 
--- the COMMODITY that a record is
+-- the record as a COMMODITY record, if it is one
 abbrev pub as_commodity : Record → Option Commodity
 as_commodity (CommodityRecord x) = Some x
 as_commodity _ = None
 
--- the CONTRACT that a record is
+-- the record as a CONTRACT record, if it is one
 abbrev pub as_contract : Record → Option Contract
 as_contract (ContractRecord x) = Some x
 as_contract _ = None
 
--- the TIER that a record is
+-- the record as a TIER record, if it is one
 abbrev pub as_tier : Record → Option Tier
 as_tier (TierRecord x) = Some x
 as_tier _ = None
 
--- the INTRA that a record is
+-- the record as an INTRA record, if it is one
 abbrev pub as_intra : Record → Option IntraRecord
 as_intra (Intra x) = Some x
 as_intra _ = None
 
--- the SPOT that a record is
+-- the record as a SPOT record, if it is one
 abbrev pub as_spot : Record → Option Spot
 as_spot (SpotRecord x) = Some x
 as_spot _ = None
 
--- the INTER that a record is
+-- the record as an INTER record, if it is one
 abbrev pub as_inter : Record → Option InterRecord
 as_inter (Inter x) = Some x
 as_inter _ = None
@@ -83,7 +83,7 @@ inters_in rs = filter_map as_inter rs
 abbrev pub is_and : {A : Type 0} → Option A → (A → Bool) → Bool
 is_and x test = option_map_or test x false
 
--- ---- what a rule forbids, of a record behind the earlier ones, among all of the file
+-- ---- the condition that each rule forbids, for a record, the earlier records, and all records of the file
 
 -- a COMMODITY with the id of an earlier one
 abbrev pub repeats_commodity : List Record → Record → Bool
@@ -128,15 +128,15 @@ abbrev pub overlaps_tier : List Record → Record → Bool
 overlaps_tier earlier r =
     is_and (as_tier r) (λ t. list_any (λ u. bytes_eq u.commodity t.commodity && share_month t u) (tiers_in earlier))
 
--- some TIER record has this commodity and number
+-- a TIER record has this commodity and number
 abbrev pub has_tier : List Record → List ℕ → ℕ → Bool
 has_tier all commodity number = list_any (λ t. bytes_eq t.commodity commodity && (t.number == number)) (tiers_in all)
 
--- an INTRA with a leg whose tier no TIER record of its commodity has
+-- an INTRA with a leg whose tier number no TIER record of its commodity has
 abbrev pub names_no_tier : List Record → Record → Bool
 names_no_tier all r = is_and (as_intra r) (λ s. list_any (λ leg. not (has_tier all s.commodity leg.tier)) s.legs.items)
 
--- the leg is on A
+-- the leg is on side A
 abbrev pub is_side_a : Side → Bool
 is_side_a side.A = true
 is_side_a side.B = false
@@ -156,7 +156,7 @@ repeats_leg r =
 abbrev pub are_one_sided : List Side → Bool
 are_one_sided sides = list_all is_side_a sides || list_all (λ s. not (is_side_a s)) sides
 
--- an INTRA or INTER without a leg on A or without a leg on B
+-- an INTRA or INTER without a leg on side A or without a leg on side B
 abbrev pub is_one_sided : Record → Bool
 is_one_sided r =
     is_and (as_intra r) (λ s. are_one_sided (map (λ leg. leg.side) s.legs.items))
@@ -192,14 +192,14 @@ rules all =
     ∷ repeats_spot
     ∷ []
 
--- each record that breaks a rule, told its number
+-- the fault of each record that breaks a rule, applied to the record's number
 abbrev pub all_breaking : {F : Type 0} → (ℕ → F) → (List Record → Record → Bool) → List Record → List F
 all_breaking fault breaks all = all_faults (λ earlier r. if breaks earlier r then Some fault else None) all
 
--- the first record that breaks a rule, told its number
+-- the fault of the first record that breaks a rule, applied to the record's number
 abbrev pub first_breaking : {F : Type 0} → (ℕ → F) → (List Record → Record → Bool) → List Record → Option F
 first_breaking fault breaks all = first_of (all_breaking fault breaks all)
 
--- no record breaks a rule
+-- no record breaks any rule
 unfoldable pub keeps_rules : List Record → Bool
 keeps_rules all = list_all (λ breaks. is_none (first_breaking (λ at. at) breaks all)) (rules all)

@@ -1,4 +1,4 @@
--- Sets of numbers in words of slots: a number is in the slot of its remainder.
+-- Sets of numbers as words of slots: a number has the slot of its remainder by `SLOTS`.
 use Rattle.std.specs.Prelude.{◌≡◌, ℕ, ◌+◌, ◌*◌, ◌/◌, ◌%◌, ◌^◌}
 use Rattle.std.specs.Prelude.{◌<◌, ◌≤◌, ◌==◌, min, Bool, not, ℤ, bit_and}
 use Rattle.std.specs.Int.{bit_at}
@@ -22,24 +22,25 @@ with_slot word number = bit_or word (2 ^ (number % SLOTS))
 abbrev pub has_all : ℕ → ℕ → Bool
 has_all word other = bit_and word other == other
 
--- some slot is marked in both words
+-- a slot is marked in both words
 abbrev pub meets : ℕ → ℕ → Bool
 meets word other = not (bit_and word other == 0)
 
--- the numbers that may have a rest on a side of the market
+-- the numbers that may have a remaining delta on a side of the market
 abbrev pub numbers_on : MarketSide → OpenSides → ℕ
 numbers_on Long sides = sides.long
 numbers_on Short sides = sides.short
 
--- the number of a rest may have it on the side of the market that it is on
+-- the number of a remaining delta is marked on the side of the market that the delta is on
 abbrev pub IsOpenAt : OpenSides → ℕ → ℤ → Type 0
 IsOpenAt sides number rest = (on : MarketSide) → 0 < part_on on rest → IsMarked (numbers_on on sides) number
 
--- the place of a month (yyyymm) among all months; a number that is no month has the place of one before it
+-- the index of a month (yyyymm) among all months; a number that is not a month has the index of the last month before
+-- it
 abbrev pub month_count : ℕ → ℕ
 month_count month = month / 100 * 12 + min (month % 100) 12
 
--- some month of the leg's tier is marked
+-- a month of the leg's tier is marked
 pub record IsTierMarked (word : ℕ) (leg : MonthLeg) : Type 0 where
   pub month : ℕ
   pub first : leg.first ≤ month

@@ -1,4 +1,5 @@
--- The accepted tables: commodities and contracts in file order, and spreads by rising priority with what they name.
+-- The accepted tables: commodities and contracts in file order, and spreads by rising priority with the months or
+-- numbers that they name.
 use Rattle.std.specs.Prelude.{ℕ, true, ◌&&◌, ◌==◌, nat_le, if◌then◌else◌, List, [], slice_get}
 use Rattle.std.specs.Prelude.{Option, ◌∷◌, map, filter, find, filter_map, option_map, unwrap_or, bytes_eq}
 use Rattle.std.specs.List.{position_or_len}
@@ -34,12 +35,12 @@ pub record AcceptedTables : Type 0 where
   pub spots : List Spot
   pub inter_records : List InterRecord
 
--- x in its place among those of rising key
+-- x inserted into a list with rising keys
 abbrev pub placed_by : {A : Type 0} → (A → ℕ) → A → List A → List A
 placed_by key x [] = x ∷ []
 placed_by key x (y ∷ ys) = if nat_le (key x) (key y) then x ∷ y ∷ ys else y ∷ placed_by key x ys
 
--- the elements by rising key
+-- the elements sorted by rising key
 abbrev pub rising_by : {A : Type 0} → (A → ℕ) → List A → List A
 rising_by key [] = []
 rising_by key (x ∷ xs) = placed_by key x (rising_by key xs)
@@ -48,11 +49,11 @@ rising_by key (x ∷ xs) = placed_by key x (rising_by key xs)
 abbrev pub set_in : List Record → Option SetRecord
 set_in rs = find (λ s. true) (filter_map as_set rs)
 
--- the id of the set
+-- the id of the parameter set
 abbrev pub set_id_in : List Record → List ℕ
 set_id_in rs = unwrap_or (option_map (λ s. s.id) (set_in rs)) []
 
--- the profile of the set
+-- the profile of the parameter set
 abbrev pub profile_in : List Record → ℕ
 profile_in rs = unwrap_or (option_map (λ s. s.profile) (set_in rs)) 1
 
@@ -69,11 +70,11 @@ tables_of rs = record {
   inter_records = rising_by (λ s. s.priority) (inters_in rs);
 }
 
--- what the set's profile has
+-- the properties of the parameter set's profile
 abbrev pub facts_in : AcceptedTables → ProfileFacts
 facts_in t = facts_of t.profile
 
--- a leg with the months of its tier; a tier that there is not has none
+-- a leg with the months of its tier, or with no months if there is no such tier
 abbrev pub month_leg : List Tier → List ℕ → IntraLeg → MonthLeg
 month_leg tiers commodity leg =
     let tier = find (λ t. bytes_eq t.commodity commodity && (t.number == leg.tier)) tiers in
@@ -84,7 +85,7 @@ month_leg tiers commodity leg =
       ratio = leg.ratio;
     }
 
--- a spread with its tiers' months
+-- an intracommodity spread with its tiers' months
 abbrev pub intra_spread : List Tier → IntraRecord → Intra
 intra_spread tiers s =
     record { priority = s.priority; rate = s.rate; legs = map (month_leg tiers s.commodity) s.legs.items }
@@ -97,7 +98,7 @@ intras_of tables commodity = map (intra_spread tables.tiers) (filter (λ s. byte
 unfoldable pub spots_of : AcceptedTables → List ℕ → List Spot
 spots_of tables commodity = filter (λ s. bytes_eq s.commodity commodity) tables.spots
 
--- a leg with its commodity's number
+-- a leg with its commodity number
 abbrev pub commodity_leg : List Commodity → InterLeg → CommodityLeg
 commodity_leg commodities leg = record {
   commodity = position_or_len (λ c. bytes_eq c.id leg.commodity) commodities;
@@ -105,7 +106,7 @@ commodity_leg commodities leg = record {
   ratio = leg.ratio;
 }
 
--- a spread with its commodities' numbers
+-- an intercommodity spread with its commodity numbers
 abbrev pub inter_spread : List Commodity → InterRecord → Inter
 inter_spread commodities s =
     record { priority = s.priority; basis_points = s.basis_points; legs = map (commodity_leg commodities) s.legs.items }
@@ -114,12 +115,12 @@ inter_spread commodities s =
 unfoldable pub inters_of : AcceptedTables → List Inter
 inters_of tables = map (inter_spread tables.commodities) tables.inter_records
 
--- the most that an option value may be: that of a future is 0
+-- the largest option value of a product kind: 0 for a future
 abbrev pub most_option_value : ProductKind → ℕ
 most_option_value product.Future = 0
 most_option_value product.Call = MAX_OPTION_VALUE
 most_option_value product.Put = MAX_OPTION_VALUE
 
--- the id of the commodity of a number
+-- the id of the commodity with a number
 abbrev pub commodity_id : AcceptedTables → ℕ → List ℕ
 commodity_id t c = unwrap_or (option_map (λ x. x.id) (slice_get t.commodities c)) []

@@ -1,4 +1,4 @@
-//! What names a commodity, by the commodities' numbers.
+//! Lists by commodity number of the records that name a commodity.
 ghost use Rattle.std.specs.Prelude.{◌≡◌, ◌<◌, ◌++◌, ◌∷◌, [], length, map, filter};
 ghost use Rattle.std.specs.Prelude.{bytes_eq, replicate, slice_index_or, slice_set, false, All, IfOk, OnOk};
 ghost use Rattle.std.specs.List.{position};
@@ -9,14 +9,14 @@ use crate::name::Name;
 use crate::records::{Commodity, Contract, Spot, Tier};
 use std::alloc::{AllocError, Global};
 
-// The number of the commodity of an id, if there is one.
+// Returns the number of the commodity with an id, if there is one.
 fn place_of(commodities: &[Commodity], id: &Name) -> Option<usize>
     ensures { result ≡ position (λ c. bytes_eq c.id id.now) commodities.now }
 {
     commodities.iter().position(|commodity| commodity.id == *id)
 }
 
-// The number of the commodity of an id, or the number of commodities where there is none.
+// Returns the number of the commodity with an id, or the number of commodities if there is none.
 #[tactic(auto, using(crate::proofs::Places::position_or_length))]
 pub(crate) fn number_of(commodities: &[Commodity], id: &Name) -> usize
     ensures { result ≡ commodity_number commodities.now id.now }
@@ -24,7 +24,7 @@ pub(crate) fn number_of(commodities: &[Commodity], id: &Name) -> usize
     place_of(commodities, id).unwrap_or(commodities.len())
 }
 
-// The same, where the number `near` is tried first: records of a commodity mostly stand together.
+// Returns the same number, and checks `near` first: records of a commodity are usually adjacent.
 pub(crate) fn number_near(commodities: &[Commodity], near: usize, id: &Name) -> usize
     requires { has_repeat (λ c d. bytes_eq c.id d.id) commodities.now ≡ false }
     ensures { result ≡ commodity_number commodities.now id.now }
@@ -37,7 +37,7 @@ pub(crate) fn number_near(commodities: &[Commodity], near: usize, id: &Name) -> 
     number_of(commodities, id)
 }
 
-// The number of the commodity of each contract.
+// Returns the commodity number of each contract.
 pub(crate) fn numbers_of(
     alloc: Global,
     commodities: &[Commodity],
@@ -55,7 +55,7 @@ pub(crate) fn numbers_of(
     Ok(numbers)
 }
 
-/// Empty lists, as many as `count` says.
+/// Returns `count` empty lists.
 pub fn empty_lists<T: Drop>(alloc: Global, count: usize) -> Result<Vec<Vec<T>>, AllocError>
     ensures { IfOk result (λ lists. map (λ v. v.items) lists.items ≡ replicate count []) }
 {
@@ -66,7 +66,7 @@ pub fn empty_lists<T: Drop>(alloc: Global, count: usize) -> Result<Vec<Vec<T>>, 
     Ok(lists)
 }
 
-/// Appends a value to the list at a place.
+/// Appends a value to the list at index `place`.
 pub fn push_at<T: Drop>(lists: &mut Vec<Vec<T>>, place: usize, value: T) -> Result<(), AllocError>
     requires { place < length lists.old.items }
     ensures items { OnOk result (map (λ v. v.items) lists.new.items
@@ -78,7 +78,7 @@ pub fn push_at<T: Drop>(lists: &mut Vec<Vec<T>>, place: usize, value: T) -> Resu
     Ok(())
 }
 
-// The tiers of each commodity, in file order.
+// Returns the tiers of each commodity, in file order.
 pub(crate) fn tiers_by_commodity(
     alloc: Global,
     commodities: &[Commodity],
@@ -98,7 +98,7 @@ pub(crate) fn tiers_by_commodity(
     Ok(lists)
 }
 
-// The spot months of each commodity, in file order.
+// Returns the spot months of each commodity, in file order.
 pub(crate) fn spots_by_commodity(
     alloc: Global,
     commodities: &[Commodity],

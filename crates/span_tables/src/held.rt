@@ -24,8 +24,8 @@ use std::sync::Arc;
 
 /// The contracts of one commodity that an account holds, by rising contract number, each with its net quantity.
 ///
-/// Contracts see the list of them, each with its whole record. No record is copied: all that is kept of the tables
-/// is a hold on their contracts.
+/// In contract clauses it is the list of the held contracts, each with its whole record. No record is copied: the value
+/// has a shared reference to the contracts of the tables.
 #[derive(Drop)]
 pub struct Held {
     contracts: Arc<Vec<Contract>>,
@@ -46,7 +46,8 @@ impl Model for Held {
 }
 
 impl Held {
-    /// The held contracts of these holdings: few, each of one of these contracts, with its net and record in range.
+    /// Returns the held contracts of these holdings. The holdings are within their limit, each is of one of these
+    /// contracts, and each net and record is in range.
     pub fn new(contracts: Arc<Vec<Contract>>, holdings: Vec<Holding>) -> Held
         requires { AreHoldings (arc_value contracts).items holdings.items }
         ensures { result ≡ held_contracts (arc_value contracts).items holdings.items }
@@ -57,14 +58,14 @@ impl Held {
         }
     }
 
-    /// No held contracts, under these tables.
+    /// Returns an empty list of held contracts under these tables.
     pub fn none(alloc: Global, tables: &Tables) -> Result<Held, AllocError>
         ensures { IfOk result (λ held. held ≡ []) }
     {
         Ok(Held::new(tables.share_contracts()?, Vec::new(alloc)))
     }
 
-    /// How many contracts are held.
+    /// Returns the number of held contracts.
     pub fn len(&self) -> usize
         ensures value { result ≡ length self.now }
         ensures kept { AreHeld self.now }
@@ -72,14 +73,14 @@ impl Held {
         self.holdings.len()
     }
 
-    /// Whether no contract is held.
+    /// Returns whether no contract is held.
     pub fn is_empty(&self) -> bool
         ensures { result ≡ (length self.now == 0) }
     {
         self.holdings.is_empty()
     }
 
-    /// The record of the held contract at a place.
+    /// Returns the record of the held contract at index `place`.
     pub fn contract(&self, place: usize) -> &Contract
         requires { place < length self.now }
         ensures value { IfSome (slice_get self.now place) (λ held. result.now ≡ held.contract) }
@@ -88,7 +89,7 @@ impl Held {
         &self.contracts[self.holdings[place].contract]
     }
 
-    /// The net quantity of the held contract at a place, in contracts; a short one is negative.
+    /// Returns the net quantity of the held contract at index `place`, in contracts. A short quantity is negative.
     pub fn net(&self, place: usize) -> i64
         requires { place < length self.now }
         ensures value { IfSome (slice_get self.now place) (λ held. result ≡ held.net) }
@@ -97,13 +98,14 @@ impl Held {
         self.holdings[place].net
     }
 
-    // The list of the holdings alone.
+    // Returns the list of the holdings.
     fn into_holdings(self) -> Vec<Holding> {
         self.holdings
     }
 }
 
-/// The contracts of the commodity of a number that an account holds, each with its whole record and its net quantity.
+/// Returns the contracts of the commodity with this number that an account holds, each with its whole record and its
+/// net quantity.
 pub fn gather(
     alloc: Global,
     tables: &Tables,
@@ -124,34 +126,34 @@ pub fn gather(
     Ok(Held::new(tables.share_contracts()?, held))
 }
 
-/// The contracts of a commodity that an account holds, with the commodity's number.
+/// The contracts of a commodity that an account holds, with the commodity number.
 #[derive(Drop)]
 pub struct CommodityHeld {
     pub commodity: usize,
     pub held: Held,
 }
 
-// The holdings of a commodity, with the commodity's number.
+// The holdings of a commodity, with the commodity number.
 #[derive(Drop)]
 struct HoldingsOf {
     commodity: usize,
     holdings: Vec<Holding>,
 }
 
-/// The memory that `gather_held` works in. Each call replaces what the call before it left there, so one value serves accounts one after
-/// another, and a call takes less memory of its own.
+/// The working memory of `gather_held`. Each call replaces the results of the previous call, so one value can be used
+/// for one account after another, and a call allocates less.
 #[derive(Drop)]
 pub struct HeldMemory {
     /// The commodities that the last call found.
     pub found: Vec<CommodityHeld>,
-    // The holdings of each commodity, while they are gathered.
+    // The holdings of each commodity while they are gathered.
     lists: Vec<HoldingsOf>,
-    // Lists of holdings of accounts before, to be filled again.
+    // Lists of holdings of earlier accounts, to be reused.
     spare: Vec<Vec<Holding>>,
 }
 
 impl HeldMemory {
-    /// Memory that no call has used yet. It takes nothing from the allocator.
+    /// Returns memory that no call has used yet. It allocates nothing.
     pub fn new(alloc: Global) -> HeldMemory {
         HeldMemory {
             found: Vec::new(alloc),
@@ -160,7 +162,7 @@ impl HeldMemory {
         }
     }
 
-    // Forgets the commodities that were found, and keeps the lists of their holdings.
+    // Removes the commodities that were found, and keeps the lists of their holdings for reuse.
     fn clear(&mut self) -> Result<(), AllocError>
         ensures { OnOk result (self.new.found.items ≡ []) }
     {
@@ -171,7 +173,7 @@ impl HeldMemory {
     }
 }
 
-// Where the holdings end that are of one commodity and follow one another, from the holding at a place on.
+// Returns the index after the last holding of a run of holdings of one commodity from index `start` on.
 fn end_of_run(tables: &Tables, holdings: &[Holding], start: usize, commodity: usize) -> usize
     requires known { All (λ h. h.contract < length tables.now.contracts) holdings.now }
     requires inside { start ≤ length holdings.now }
@@ -186,7 +188,7 @@ fn end_of_run(tables: &Tables, holdings: &[Holding], start: usize, commodity: us
     end
 }
 
-// A list of these holdings, in the memory of a spare list if there is one.
+// Returns a list of these holdings, in the memory of a spare list if there is one.
 fn list_of(
     alloc: Global,
     spare: &mut Vec<Vec<Holding>>,
@@ -200,7 +202,7 @@ fn list_of(
     Ok(list)
 }
 
-// Adds holdings of a commodity to those that are gathered.
+// Adds a run of holdings of a commodity to the gathered holdings.
 fn add_run(
     alloc: Global,
     spare: &mut Vec<Vec<Holding>>,
@@ -229,7 +231,7 @@ fn add_run(
     Ok(())
 }
 
-// The holdings of each commodity of which there are any. They replace these lists.
+// Replaces the lists by the holdings of each commodity that has any.
 fn held_by_commodity(
     alloc: Global,
     tables: &Tables,
@@ -254,7 +256,7 @@ fn held_by_commodity(
     Ok(())
 }
 
-// Moves the holdings of each of these commodities into an empty list, as held contracts.
+// Moves the holdings of each commodity into an empty list, as held contracts.
 fn with_records(
     tables: &Tables,
     lists: &mut Vec<HoldingsOf>,
@@ -276,8 +278,8 @@ fn with_records(
     Ok(())
 }
 
-/// Finds the commodities of which an account holds something, by rising numbers, each with its held contracts, in one pass over
-/// the holdings. They replace those in the memory that is passed. What is not held costs nothing.
+/// Finds the commodities that an account holds, by rising number, each with its held contracts, in one pass over the
+/// holdings. They replace the results in `memory`. A commodity that is not held costs nothing.
 pub fn gather_held(
     alloc: Global,
     tables: &Tables,
@@ -298,7 +300,7 @@ pub fn gather_held(
     with_records(tables, &mut memory.lists, &mut memory.found)
 }
 
-// No held contracts of each commodity.
+// Returns an empty list of held contracts for each commodity.
 fn nothing_held(alloc: Global, tables: &Tables) -> Result<Vec<Held>, AllocError>
     ensures { IfOk result (λ held. held.items ≡ replicate (length tables.now.commodities) []) }
 {
@@ -310,8 +312,8 @@ fn nothing_held(alloc: Global, tables: &Tables) -> Result<Vec<Held>, AllocError>
     Ok(held)
 }
 
-/// The contracts of each commodity that an account holds, by the commodities' numbers: what `gather` gives for each, in
-/// one pass over the holdings.
+/// Returns the held contracts of each commodity, indexed by commodity number. They are the results of `gather` for each
+/// commodity, found in one pass over the holdings.
 pub fn gather_all(
     alloc: Global,
     tables: &Tables,
@@ -330,8 +332,8 @@ pub fn gather_all(
     Ok(held)
 }
 
-/// Which commodities an account holds a contract of, by the commodities' numbers, in one pass over the holdings, without
-/// taking memory.
+/// Returns, for each commodity number, whether an account holds a contract of the commodity. It makes one pass over the
+/// holdings and allocates nothing.
 pub fn held_commodities(tables: &Tables, portfolio: &Portfolio) -> [bool; MAX_COMMODITIES]
     requires { fits (length tables.now.contracts) portfolio.now.holdings ≡ true }
     ensures { (c : ℕ) → c < length tables.now.commodities → slice_index_or result c false

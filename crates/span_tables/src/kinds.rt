@@ -1,4 +1,4 @@
-//! The records of a file by their kinds.
+//! The records of a file by kind.
 ghost use Rattle.std.specs.Prelude.{◌≡◌, ◌++◌, true, IfOk, OnOk, option_to_list};
 ghost use Rattle.span_tables.specs.near.ByKind.{AreByKind};
 ghost use Rattle.span_tables.specs.near.Kept.{tables_from};
@@ -40,7 +40,7 @@ impl Kinds {
     }
 }
 
-// Puts a record among those of its kind.
+// Adds a record to the list of its kind.
 fn add(kinds: &mut Kinds, next: Record) -> Result<(), AllocError>
     ensures commodities { OnOk result (kinds.new.commodities.items ≡ kinds.old.commodities.items ++ option_to_list (as_commodity next)) }
     ensures contracts { OnOk result (kinds.new.contracts.items ≡ kinds.old.contracts.items ++ option_to_list (as_contract next)) }
@@ -61,7 +61,7 @@ fn add(kinds: &mut Kinds, next: Record) -> Result<(), AllocError>
     Ok(())
 }
 
-// The records by their kinds, in file order.
+// Returns the records by kind, in file order.
 fn by_kind(alloc: Global, records: Vec<Record>) -> Result<Kinds, AllocError>
     ensures { IfOk result (λ kinds. AreByKind records.items kinds.commodities.items kinds.contracts.items kinds.tiers.items
         kinds.intras.items kinds.spots.items kinds.inters.items) }
@@ -73,7 +73,7 @@ fn by_kind(alloc: Global, records: Vec<Record>) -> Result<Kinds, AllocError>
     Ok(kinds)
 }
 
-// The records by their kinds in the order that tables have: spreads stand by rising priority.
+// Returns the records by kind in the order that tables have, with spreads by rising priority.
 pub(crate) fn in_order(alloc: Global, records: Vec<Record>) -> Result<Kinds, AllocError>
     ensures { IfOk result (λ kinds. tables_from (set_id_in records.items) (profile_in records.items) kinds ≡ tables_of records.items) }
 {
@@ -83,7 +83,7 @@ pub(crate) fn in_order(alloc: Global, records: Vec<Record>) -> Result<Kinds, All
     Ok(kinds)
 }
 
-// The id of the set, which the first record has.
+// Returns the id of the parameter set, from the first record.
 pub(crate) fn set_id(records: &[Record]) -> Name
     requires { begins_with_set records.now ≡ true }
     ensures { result ≡ set_id_in records.now }
@@ -94,7 +94,7 @@ pub(crate) fn set_id(records: &[Record]) -> Name
     }
 }
 
-// The profile of the set, which the first record has.
+// Returns the profile of the parameter set, from the first record.
 pub(crate) fn profile(records: &[Record]) -> u8
     requires { begins_with_set records.now ≡ true }
     ensures { result ≡ profile_in records.now }

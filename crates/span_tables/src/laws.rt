@@ -1,4 +1,4 @@
-//! Laws of the definitions, in the methodology's words: each is the contract of a function that does nothing.
+//! Lemmas about the definitions, in the terms of the methodology. Each is the contract of a function that does nothing.
 ghost use Rattle.std.specs.Prelude.{false, true, ◌≡◌, ◌≢◌, ℕ, ◌%◌, ◌≤◌};
 ghost use Rattle.std.specs.Prelude.{List, ◌∷◌, filter, bytes_eq, IsPermutation, ℤ, pos};
 ghost use Rattle.span_money.specs.Numbers.{int_sum_by};
@@ -14,7 +14,8 @@ ghost use Rattle.span_tables.specs.declared.records.IntraRecord.{IntraRecord};
 ghost use Rattle.span_tables.specs.declared.records.PositionRecord.{PositionRecord};
 ghost use Rattle.span_tables.specs.declared.slots.TheConstants.{SLOTS};
 
-/// A sum over the held contracts of a commodity is that over all of its contracts: what is not held adds nothing.
+/// A sum over the held contracts of a commodity equals the sum over all its contracts: a contract that is not held adds
+/// nothing.
 #[tactic(auto, using(crate::proofs::NetLaws::sum_of_held))]
 pub fn held_contracts_are_enough()
     ensures { (f : Contract → ℤ → ℤ) → ((x : Contract) → f x (pos 0) ≡ pos 0)
@@ -23,14 +24,14 @@ pub fn held_contracts_are_enough()
         ≡ int_sum_by (λ x. f x (net_of positions account x.id)) (filter (λ x. bytes_eq x.commodity commodity) contracts) }
 {}
 
-/// Spreads formed are the greatest number that needs no more than the side of each leg.
+/// The number of spreads formed is the greatest that uses no more than the side of each leg.
 pub fn spreads_formed_are_greatest()
     ensures fit { (r : Room) (rs : List Room) → FitsRooms (spreads_formed (r ∷ rs)) (r ∷ rs) }
     ensures greatest { (r : Room) (rs : List Room) → HaveRatios (r ∷ rs) → (m : ℕ) → FitsRooms m (r ∷ rs)
         → m ≤ spreads_formed (r ∷ rs) }
 {}
 
-/// Spreads are put in order of priority, and none is lost.
+/// Spreads are sorted by priority, and none is lost.
 #[tactic(auto, using(crate::proofs::OrderLaws::rising_rises, crate::proofs::OrderLaws::rising_permutation))]
 pub fn spreads_are_in_order()
     ensures rising { (spreads : List InterRecord)
@@ -43,7 +44,7 @@ pub fn spreads_are_in_order()
         → IsPermutation spreads (rising_by (λ s. s.priority) spreads) }
 {}
 
-/// The distinct names of a list are each there once, and are those of the list.
+/// Distinct names contain each name of a list exactly once, and no other name.
 #[tactic(auto, using(crate::proofs::NameLaws::distinct_once, crate::proofs::NameLaws::distinct_same))]
 pub fn distinct_names_stand_once()
     ensures once { (names : List (List ℕ)) → has_repeat bytes_eq (distinct names) ≡ false }
@@ -51,8 +52,8 @@ pub fn distinct_names_stand_once()
         → is_among (distinct names) name ≡ is_among names name }
 {}
 
-/// A number in slots is in them whatever comes to them, a number of another slot is not in them for it, and slots that
-/// have all of another set have each of its numbers.
+/// A number that was added to slots stays marked when others are added. Adding a number of another slot does not mark
+/// it. Slots that have all slots of another word have each of its numbers.
 pub fn slots_keep_their_numbers()
     ensures added { (word number : ℕ) → IsMarked (with_slot word number) number }
     ensures kept { (word number other : ℕ) → IsMarked word other → IsMarked (with_slot word number) other }

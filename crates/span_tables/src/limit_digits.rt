@@ -1,5 +1,5 @@
-//! The limits with their digits: whoever changes one in `limits` changes it here too. Where digits of limits stand besides,
-//! in proofs, worked values, tests and prose, is in docs/ARCHITECTURE.md, "A revised limit".
+//! The limits, with their digits. Whoever changes a limit in `limits` must change it here too. docs/ARCHITECTURE.md, "A
+//! revised limit", lists the other copies of the digits, in proofs, test vectors, tests and prose.
 ghost use Rattle.std.specs.Prelude.{◌≡◌};
 ghost use Rattle.span_tables.specs.declared.limits.TheConstants.{MAX_COMMODITIES, MAX_CONTRACTS, MAX_INTER_SPREADS, MAX_TIERS};
 ghost use Rattle.span_tables.specs.declared.limits.TheConstants.{MAX_INTRA_SPREADS, MAX_SPOT_MONTHS, MAX_ACCOUNTS, MAX_NET};
@@ -8,7 +8,7 @@ ghost use Rattle.span_tables.specs.declared.limits.TheConstants.{MAX_ARRAY_VALUE
 ghost use Rattle.span_tables.specs.declared.limits.TheConstants.{MAX_TIER_NUMBER, MAX_PRIORITY, MAX_BASIS_POINTS, MAX_QUANTITY};
 ghost use Rattle.span_tables.specs.declared.limits.TheConstants.{MAX_OPTION_VALUE, MAX_ORDERS, MAX_PROFILE, VALUE_PROFILE};
 
-/// How many there may be of each thing, and the profiles.
+/// The maximum count of each kind, and the profiles.
 pub fn counts_have_these_digits()
     ensures commodities { MAX_COMMODITIES ≡ 128 }
     ensures contracts { MAX_CONTRACTS ≡ 4096 }
@@ -27,7 +27,7 @@ pub fn counts_have_these_digits()
     ensures value_profile { VALUE_PROFILE ≡ 2 }
 {}
 
-/// How large each field may be: rates and values in minor units, deltas, scales, ratios and credit rates in 10^-4.
+/// The maximum size of each field: rates and values in minor units; deltas, scales, ratios and credit rates in 10^-4.
 pub fn sizes_have_these_digits()
     ensures rate { MAX_RATE ≡ 100000000 }
     ensures array_value { MAX_ARRAY_VALUE ≡ 100000000 }

@@ -1,4 +1,4 @@
-//! Names of sets, commodities, contracts and accounts.
+//! Names of parameter sets, commodities, contracts and accounts.
 ghost use Rattle.std.specs.Prelude.{◌≡◌, ◌≤◌, ◌++◌, length, option_map, true, IfSome, Option, Some, None};
 ghost use Rattle.std.specs.List.{list_all, prefix_len, take_while};
 ghost use Rattle.span_tables.specs.Names.{is_name, is_name_byte, name_of};
@@ -9,10 +9,10 @@ use std::hash::{Hash, Hasher};
 use std::marker::Model;
 use std::{fmt, str};
 
-/// A name: 1 to 16 bytes of `A` to `Z`, `0` to `9`, `_` and `-`. Contracts see it as the list of its bytes.
+/// A name: 1 to 16 bytes, each `A` to `Z`, `0` to `9`, `_` or `-`. In contract clauses it is the list of its bytes.
 #[derive(Clone, Debug, Drop)]
 pub struct Name {
-    // The bytes, and 0 behind them, so that names are equal where these places are.
+    // The bytes, padded with 0, so that two names are equal if and only if these arrays are.
     places: [u8; 16],
     len: u8,
 }
@@ -32,7 +32,7 @@ impl Model for Name {
     ghost inverse_ok = { λ name h i. record { places = h.blank i; len = h.long i } };
 }
 
-// Each byte of a name stands at its own place, and a point at every other one.
+// Each byte that a name may have is at its own index. All other indexes have a point.
 static NAME_BYTES: [u8; 256] = *b"\
     ................................\
     .............-..0123456789......\
@@ -55,7 +55,7 @@ fn has_name_bytes(text: &[u8]) -> bool
     text.iter().all(|byte| is_name_byte(*byte))
 }
 
-/// Whether a text is a name.
+/// Returns whether a text is a name.
 pub fn is_name(text: &[u8]) -> bool
     ensures value { result ≡ is_name text.now }
     ensures short { result ≡ true → length text.now ≤ 16 }
@@ -63,7 +63,7 @@ pub fn is_name(text: &[u8]) -> bool
     !text.is_empty() && text.len() <= 16 && has_name_bytes(text)
 }
 
-// How many bytes of names a text begins with.
+// Returns the number of leading bytes that a name may have.
 fn count_name_bytes(text: &[u8]) -> usize
     ensures { result ≡ prefix_len is_name_byte text.now }
 {
@@ -71,7 +71,7 @@ fn count_name_bytes(text: &[u8]) -> usize
 }
 
 impl Name {
-    /// The name that a text is, or `None` where it is none.
+    /// Returns the name in a text, or `None` if the text is not a name.
     pub fn new(text: &[u8]) -> Option<Name>
         ensures { result ≡ name_of text.now }
     {
@@ -81,7 +81,7 @@ impl Name {
         Some(Name::of(text))
     }
 
-    /// The name that a text is which was tested by [`is_name`].
+    /// Returns the name in a text that passed [`is_name`].
     pub fn of(text: &[u8]) -> Name
         requires { is_name text.now ≡ true }
         ensures { result ≡ text.now }
@@ -94,7 +94,8 @@ impl Name {
         }
     }
 
-    /// The name that all bytes of names in front of a text are, and the bytes behind it; `None` if they are no name.
+    /// Splits a text after its leading name bytes and returns the name and the rest of the text. Returns `None` if the
+    /// leading bytes are not a name.
     pub fn split_front(text: &[u8]) -> Option<(Name, &[u8])>
         ensures name { option_map (λ p. p.0) result ≡ name_of (take_while is_name_byte text.now) }
         ensures parts { IfSome result (λ p. p.0 ++ p.1.now ≡ text.now) }
@@ -106,7 +107,7 @@ impl Name {
         Some((Name::of(front), rest))
     }
 
-    /// The bytes of the name.
+    /// Returns the bytes of the name.
     pub fn as_bytes(&self) -> &[u8]
         ensures value { result.now ≡ self.now }
         ensures is_name { is_name self.now ≡ true }
@@ -114,7 +115,7 @@ impl Name {
         &self.places[..usize::from(self.len)]
     }
 
-    /// The name as a text.
+    /// Returns the name as a string.
     pub fn as_str(&self) -> &str
         ensures { result.now ≡ self.now }
     {
@@ -124,7 +125,7 @@ impl Name {
         }
     }
 
-    /// The same name again, which takes no memory.
+    /// Returns a copy of the name, without allocation.
     pub fn copied(&self) -> Name
         ensures { result ≡ self.now }
     {
@@ -197,7 +198,7 @@ impl Hash for Name {
 
     ghost respects_eq = { Prim.search (hashing, rules) };
 
-    // All places in one write of a fixed size, which the hasher of maps mixes by one multiplication.
+    // Writes all 16 bytes at once, since the hasher of maps mixes a fixed-size write with one multiplication.
     fn hash<H: Hasher>(&self, state: &mut H) {
         state.write(&self.places);
     }
@@ -218,7 +219,7 @@ impl Default for Name {
 
     ghost is_default = { λ name. name ≡ codes "-" };
 
-    /// The name `-`, which stands in unused places of a list.
+    /// Returns the name `-`, which fills unused elements of a list.
     fn default() -> Name {
         Name::of(b"-")
     }

@@ -1,4 +1,4 @@
-//! What accounts hold (docs/METHOD.md, "Positions").
+//! The holdings of accounts (docs/METHOD.md, "Positions").
 ghost use Rattle.std.specs.Prelude.{◌≡◌, ◌≤◌, length};
 ghost use Rattle.span_tables.specs.Holdings.{ArePortfolio, fits};
 
@@ -6,7 +6,8 @@ use crate::name::Name;
 use crate::tables::Tables;
 use std::marker::Model;
 
-/// The number of a contract in the tables, with an account's net quantity in it, in contracts; a short one is negative.
+/// The number of a contract in the tables, with an account's net quantity in it, in contracts. A short quantity is
+/// negative.
 #[derive(Clone, Copy, Debug)]
 pub struct Holding {
     pub contract: usize,
@@ -15,7 +16,7 @@ pub struct Holding {
 
 /// An account, and its net quantity in each contract that it holds, by rising contract number.
 ///
-/// No net is 0 or over `MAX_NET` either way, and at most `MAX_HELD` contracts are held.
+/// No net is 0 or exceeds `MAX_NET` in size, and at most `MAX_HELD` contracts are held.
 #[derive(Drop)]
 pub struct Portfolio {
     account: Name,
@@ -36,7 +37,7 @@ impl Model for Portfolio {
 impl Portfolio {
     ghost use Rattle.span_tables.specs.Net.{AccountHoldings};
 
-    /// The portfolio of an account with these holdings.
+    /// Returns the portfolio of an account with these holdings.
     pub fn new(account: Name, holdings: Vec<Holding>) -> Portfolio
         requires { ArePortfolio holdings.items }
         ensures { result ≡ record { account = account; holdings = holdings.items } }
@@ -44,14 +45,14 @@ impl Portfolio {
         Portfolio { account, holdings }
     }
 
-    /// The account's name.
+    /// Returns the account's name.
     pub fn account(&self) -> &Name
         ensures { result.now ≡ self.now.account }
     {
         &self.account
     }
 
-    /// The holdings by rising contract number.
+    /// Returns the holdings by rising contract number.
     pub fn holdings(&self) -> &[Holding]
         ensures value { result.now ≡ self.now.holdings }
         ensures kept { ArePortfolio self.now.holdings }
@@ -59,14 +60,14 @@ impl Portfolio {
         &self.holdings
     }
 
-    /// Does nothing. Its clause says what the holdings keep.
+    /// Does nothing. Its contract states the invariant of the holdings.
     pub fn known(&self)
         ensures { ArePortfolio self.now.holdings }
     {
         let _ = &self.holdings;
     }
 
-    /// Whether every holding is of a contract of these tables.
+    /// Returns whether every holding is of a contract of these tables.
     pub fn fits(&self, tables: &Tables) -> bool
         ensures { result ≡ fits (length tables.now.contracts) self.now.holdings }
     {
@@ -74,7 +75,7 @@ impl Portfolio {
     }
 }
 
-// Whether every holding is of one of so many contracts.
+// Returns whether every holding has a contract number below `contracts`.
 fn fits_within(holdings: &[Holding], contracts: usize) -> bool
     ensures { result ≡ fits contracts holdings.now }
 {
@@ -97,21 +98,21 @@ impl Model for Portfolios {
 }
 
 impl Portfolios {
-    /// These portfolios, in their order.
+    /// Returns these portfolios, in the same order.
     pub fn new(portfolios: Vec<Portfolio>) -> Portfolios
         ensures { result ≡ portfolios.items }
     {
         Portfolios { portfolios }
     }
 
-    /// The portfolios in their order.
+    /// Returns the portfolios in order.
     pub fn as_slice(&self) -> &[Portfolio]
         ensures { result.now ≡ self.now }
     {
         &self.portfolios
     }
 
-    /// The portfolios in their order, handed over.
+    /// Returns the portfolios in order, by value.
     pub fn into_vec(self) -> Vec<Portfolio>
         ensures { result.items ≡ self }
     {

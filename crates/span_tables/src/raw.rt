@@ -1,4 +1,4 @@
-//! The records of a file, as its reader gives them.
+//! The records of a file, as the reader returns them.
 ghost use Rattle.std.specs.Prelude.{◌≡◌, ◌<◌, ◌≤◌, All, length, map, nat_abs, true};
 ghost use Rattle.span_tables.specs.near.Limits.{is_readable};
 ghost use Rattle.span_tables.specs.Net.{accounts_of};
@@ -12,9 +12,9 @@ use crate::records::{NumberedPosition, Record};
 use indexmap::IndexSet;
 use std::marker::Model;
 
-/// The records of a parameter file without a fault, in file order. Contracts see the list.
+/// The records of a parameter file without a fault, in file order. In contract clauses it is the list of records.
 ///
-/// A record's number, from 1, is its place in the file.
+/// Records are numbered from 1 in file order.
 #[derive(Drop)]
 pub struct RawTables {
     records: Vec<Record>,
@@ -33,8 +33,8 @@ impl Model for RawTables {
 }
 
 impl RawTables {
-    /// The records of a file, each in its ranges, no more of a kind than there may be, and with option values only under
-    /// a profile that has them.
+    /// Returns the records of a file. Each is in its ranges, the number of each kind is within its limit, and option
+    /// values are present only under a profile that has them.
     pub fn new(records: Vec<Record>) -> RawTables
         requires { is_readable records.items ≡ true }
         ensures { result ≡ records.items }
@@ -42,7 +42,7 @@ impl RawTables {
         RawTables { records }
     }
 
-    /// The records in file order.
+    /// Returns the records in file order.
     pub fn records(&self) -> &[Record]
         ensures value { result.now ≡ self.now }
         ensures readable { is_readable self.now ≡ true }
@@ -50,7 +50,7 @@ impl RawTables {
         &self.records
     }
 
-    /// The records in file order, handed over.
+    /// Returns the records in file order, by value.
     pub fn into_records(self) -> Vec<Record>
         ensures value { result.items ≡ self }
         ensures readable { is_readable self ≡ true }
@@ -59,10 +59,10 @@ impl RawTables {
     }
 }
 
-/// The records of a position file without a fault, in file order. Contracts see the list of records, each with the
-/// name of its account.
+/// The records of a position file without a fault, in file order. In contract clauses it is the list of records, each
+/// with the name of its account.
 ///
-/// A record's number, from 1, is its place in the file.
+/// Records are numbered from 1 in file order.
 #[derive(Drop)]
 pub struct RawPositions {
     accounts: IndexSet<Name>,
@@ -82,7 +82,7 @@ impl Model for RawPositions {
 }
 
 impl RawPositions {
-    /// The records of a file, numbered by these accounts.
+    /// Returns the records of a file, numbered by these accounts.
     pub fn new(accounts: IndexSet<Name>, records: Vec<NumberedPosition>) -> RawPositions
         requires { AreNumbered accounts.keys records.items }
         ensures { result ≡ named_positions accounts.keys records.items }
@@ -90,7 +90,7 @@ impl RawPositions {
         RawPositions { accounts, records }
     }
 
-    /// The accounts in the order of first appearance: a record has its account's place here.
+    /// Returns the accounts in the order of first appearance. A record refers to its account by index in this list.
     pub fn accounts(&self) -> &[Name]
         ensures value { result.now ≡ accounts_of self.now }
         ensures few { length result.now ≤ MAX_ORDERS }
@@ -98,7 +98,7 @@ impl RawPositions {
         self.accounts.as_slice()
     }
 
-    /// The records in file order, with the numbers of their accounts.
+    /// Returns the records in file order, with the numbers of their accounts.
     pub fn records(&self) -> &[NumberedPosition]
         ensures value { named_positions (accounts_of self.now) result.now ≡ self.now }
         ensures known { All (λ p. p.account < length (accounts_of self.now)) result.now }
@@ -108,12 +108,12 @@ impl RawPositions {
     }
 }
 
-/// The records of an order file without a fault, in file order. Contracts see the list.
+/// The records of an order file without a fault, in file order. In contract clauses it is the list of records.
 ///
-/// A record's number, from 1, is its place in the file.
+/// Records are numbered from 1 in file order.
 #[derive(Drop)]
 pub struct RawOrders {
-    // The records as positions, under the names of their orders in place of an account's.
+    // The records as positions that have the names of their orders as accounts.
     by_order: RawPositions,
     // The account of each order.
     accounts: Vec<Name>,
@@ -133,7 +133,8 @@ impl Model for RawOrders {
 }
 
 impl RawOrders {
-    /// The records of a file as positions under the names of their orders, with the account of each order.
+    /// Returns the records of a file, given as positions that have the names of their orders as accounts, with the
+    /// account of each order.
     pub fn new(by_order: RawPositions, accounts: Vec<Name>) -> RawOrders
         requires { length accounts.items ≡ length (accounts_of by_order) }
         ensures { result ≡ order_records accounts.items by_order }
@@ -141,14 +142,15 @@ impl RawOrders {
         RawOrders { by_order, accounts }
     }
 
-    /// The records in file order as positions, under the names of their orders in place of an account's.
+    /// Returns the records in file order as positions that have the names of their orders as accounts.
     pub fn by_order(&self) -> &RawPositions
         ensures { result.now ≡ map under_order self.now }
     {
         &self.by_order
     }
 
-    /// The account of each order, the orders in the order of first appearance; it is that of all of the order's records.
+    /// Returns the account of each order, with the orders in the order of first appearance. All records of an order
+    /// have the same account.
     pub fn accounts(&self) -> &[Name]
         ensures value { result.now ≡ map (account_of_order self.now) (orders_in self.now) }
         ensures one { All (λ r. r.account ≡ account_of_order self.now r.order) self.now }

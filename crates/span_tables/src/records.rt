@@ -1,5 +1,5 @@
-//! The records of both files (docs/FORMATS.md), and the spreads that the tables make of them: plain data, in the units
-//! of docs/METHOD.md, "Units".
+//! The records of parameter, position and order files (docs/FORMATS.md), and the spreads that the tables make of them,
+//! as plain data in the units of docs/METHOD.md, "Units".
 ghost use Rattle.std.specs.Prelude.{◌≡◌};
 ghost use Rattle.span_tables.specs.near.Legs.{slots_on};
 
@@ -21,14 +21,14 @@ pub enum ProductKind {
     Put,
 }
 
-/// How the short option minimum counts short calls and short puts: their sum, or the larger of the two.
+/// The method by which the short option minimum counts short calls and short puts: their sum, or the larger of the two.
 #[derive(Clone, Copy, Debug, PartialEq, Eq)]
 pub enum MinimumMethod {
     Sum,
     Max,
 }
 
-/// The set of parameters: its id, its profile and its currency.
+/// The SET record: the id, the profile and the currency of the parameter set.
 ///
 /// The profile is the version of the SET record.
 #[derive(Drop)]
@@ -46,10 +46,10 @@ pub struct Commodity {
     pub method: MinimumMethod,
 }
 
-/// The fields that some profiles add to a contract; under a profile without one of them it is as in `none`.
+/// The fields that profiles add to a contract. A field that the profile does not add has its value in `none`.
 #[derive(Clone, Copy, Debug, PartialEq, Eq)]
 pub struct ContractExtras {
-    /// What one long contract is worth, in minor units: 0 for a future.
+    /// The value of one long contract, in minor units. It is 0 for a future.
     pub option_value: u32,
 }
 
@@ -57,7 +57,7 @@ impl ContractExtras {
     ghost use Rattle.std.specs.Prelude.{◌≡◌};
     ghost use Rattle.span_tables.specs.Profiles.{no_extras};
 
-    /// The extras of a contract to which its profile adds none.
+    /// Returns the fields of a contract whose profile adds none.
     pub fn none() -> ContractExtras
         ensures { result ≡ no_extras }
     {
@@ -65,9 +65,9 @@ impl ContractExtras {
     }
 }
 
-/// A contract: its composite delta, its delta scaling factor, its risk array and what its set's profile adds.
+/// A contract: its composite delta, its delta scaling factor, its risk array and the fields that its profile adds.
 ///
-/// `month` is `yyyymm`. A value of the risk array is for one long contract, in minor units; a loss is positive.
+/// `month` is `yyyymm`. A value of the risk array is for one long contract, in minor units. A loss is positive.
 #[derive(Drop)]
 pub struct Contract {
     pub id: Name,
@@ -83,7 +83,7 @@ pub struct Contract {
 impl Contract {
     ghost use Rattle.std.specs.Prelude.{◌≡◌};
 
-    /// The same contract again, which takes no memory.
+    /// Returns a copy of the contract, without allocation.
     pub fn copied(&self) -> Contract
         ensures { result ≡ self.now }
     {
@@ -112,7 +112,7 @@ pub struct Tier {
 impl Tier {
     ghost use Rattle.std.specs.Prelude.{◌≡◌};
 
-    /// The same tier again, which takes no memory.
+    /// Returns a copy of the tier, without allocation.
     pub fn copied(&self) -> Tier
         ensures { result ≡ self.now }
     {
@@ -125,7 +125,7 @@ impl Tier {
     }
 }
 
-/// A leg of an intracommodity spread, as its record has it: a tier's number, a side and a ratio.
+/// A leg of an intracommodity spread, as in its record: a tier number, a side and a ratio.
 #[derive(Clone, Copy, Default)]
 pub struct IntraLeg {
     pub tier: u32,
@@ -133,7 +133,7 @@ pub struct IntraLeg {
     pub ratio: Ratio,
 }
 
-/// An intracommodity spread, as its record has it. The rate is in minor units a spread.
+/// An intracommodity spread, as in its record. The rate is in minor units a spread.
 #[derive(Drop)]
 pub struct IntraRecord {
     pub commodity: Name,
@@ -154,7 +154,7 @@ pub struct Spot {
 impl Spot {
     ghost use Rattle.std.specs.Prelude.{◌≡◌};
 
-    /// The same spot month again, which takes no memory.
+    /// Returns a copy of the spot month, without allocation.
     pub fn copied(&self) -> Spot
         ensures { result ≡ self.now }
     {
@@ -167,7 +167,7 @@ impl Spot {
     }
 }
 
-/// A leg of an intercommodity spread, as its record has it: a commodity's id, a side and a ratio.
+/// A leg of an intercommodity spread, as in its record: a commodity id, a side and a ratio.
 #[derive(Default, Drop)]
 pub struct InterLeg {
     pub commodity: Name,
@@ -175,7 +175,7 @@ pub struct InterLeg {
     pub ratio: Ratio,
 }
 
-/// An intercommodity spread, as its record has it. The credit rate is in basis points.
+/// An intercommodity spread, as in its record. The credit rate is in basis points.
 #[derive(Drop)]
 pub struct InterRecord {
     pub priority: u32,
@@ -195,7 +195,7 @@ pub enum Record {
     Inter(InterRecord),
 }
 
-/// A record of a position file, as contracts see it. The quantity is in contracts; a short one is negative.
+/// A record of a position file, as in contract clauses. The quantity is in contracts, and a short one is negative.
 #[derive(Drop)]
 pub struct PositionRecord {
     pub account: Name,
@@ -203,8 +203,8 @@ pub struct PositionRecord {
     pub quantity: i32,
 }
 
-/// A record of a position file, with the number of its account from 0, in the order of first appearance. The quantity
-/// is in contracts; a short one is negative.
+/// A record of a position file. Accounts are numbered from 0 in the order of first appearance. The quantity is in
+/// contracts, and a short one is negative.
 #[derive(Drop)]
 pub struct NumberedPosition {
     pub contract: Name,
@@ -212,7 +212,7 @@ pub struct NumberedPosition {
     pub quantity: i32,
 }
 
-/// A record of an order file, as contracts see it. The quantity is in contracts; a short one is negative.
+/// A record of an order file, as in contract clauses. The quantity is in contracts, and a short one is negative.
 #[derive(Drop)]
 pub struct OrderRecord {
     pub order: Name,
@@ -221,8 +221,8 @@ pub struct OrderRecord {
     pub quantity: i32,
 }
 
-/// An accepted intracommodity spread: its priority, its rate in minor units a spread, and its legs, with the months of
-/// each leg's tier.
+/// An accepted intracommodity spread: its priority, its rate in minor units a spread, and its legs with the months of
+/// their tiers.
 #[derive(Drop)]
 pub struct Intra {
     legs: ArrayVec<MonthLeg, 4>,
@@ -249,7 +249,7 @@ impl Intra {
     ghost use Rattle.span_tables.specs.Sides.{market_side};
     ghost use Rattle.span_tables.specs.Slots.{IsTierMarked, numbers_on};
 
-    /// A spread of this priority, this rate in minor units a spread, and these legs.
+    /// Returns a spread with this priority, this rate in minor units a spread, and these legs.
     pub fn new(priority: u32, rate: u32, legs: ArrayVec<MonthLeg, 4>) -> Intra
         ensures { result ≡ record { priority = priority; rate = rate; legs = legs.items } }
     {
@@ -264,31 +264,31 @@ impl Intra {
         }
     }
 
-    /// The priority, by which the spreads of a commodity rise.
+    /// Returns the priority. The spreads of a commodity are sorted by rising priority.
     pub fn priority(&self) -> u32
         ensures { result ≡ self.now.priority }
     {
         self.priority
     }
 
-    /// The rate, in minor units a spread.
+    /// Returns the rate, in minor units a spread.
     pub fn rate(&self) -> u32
         ensures { result ≡ self.now.rate }
     {
         self.rate
     }
 
-    /// The legs.
+    /// Returns the legs.
     pub fn legs(&self) -> &[MonthLeg]
         ensures { result.now ≡ self.now.legs }
     {
         &self.legs
     }
 
-    /// Whether the tier of each leg may have a rest on the side of the market that the leg needs in a direction. Only the
-    /// first leg on each side is looked at.
+    /// Returns whether the tier of each leg may have a remaining delta on the side of the market that the leg needs in
+    /// a direction. It checks only the first leg on each side.
     ///
-    /// `false` tells that one of them has none.
+    /// If it returns `false`, the tier of a leg has no such remaining delta.
     #[inline(always)]
     pub fn may_form(&self, direction: Direction, sides: &OpenSides) -> bool
         ensures { All (λ leg. IsTierMarked (numbers_on (market_side direction leg.side) sides.now) leg) self.now.legs → result ≡ true }
@@ -298,7 +298,7 @@ impl Intra {
     }
 }
 
-/// A leg of an accepted intercommodity spread: its commodity's number from 0, a side and a ratio.
+/// A leg of an accepted intercommodity spread: its commodity number from 0, a side and a ratio.
 #[derive(Clone, Copy, Default)]
 pub struct CommodityLeg {
     pub commodity: usize,
@@ -310,7 +310,7 @@ pub struct CommodityLeg {
 #[derive(Drop)]
 pub struct Inter {
     legs: ArrayVec<CommodityLeg, 4>,
-    // The commodities of the legs on side A, and of those on side B.
+    // The commodities of the legs on side A, and of the legs on side B.
     a: Slots,
     b: Slots,
     basis_points: u32,
@@ -333,7 +333,7 @@ impl Inter {
     ghost use Rattle.span_tables.specs.Sides.{market_side};
     ghost use Rattle.span_tables.specs.Slots.{IsMarked, numbers_on};
 
-    /// A spread of this priority, this credit rate and these legs.
+    /// Returns a spread with this priority, this credit rate in basis points, and these legs.
     pub fn new(priority: u32, basis_points: u32, legs: ArrayVec<CommodityLeg, 4>) -> Inter
         ensures { result ≡ record { priority = priority; basis_points = basis_points; legs = legs.items } }
     {
@@ -348,30 +348,31 @@ impl Inter {
         }
     }
 
-    /// The priority, by which the spreads of the set rise.
+    /// Returns the priority. The spreads of the parameter set are sorted by rising priority.
     pub fn priority(&self) -> u32
         ensures { result ≡ self.now.priority }
     {
         self.priority
     }
 
-    /// The credit rate in basis points.
+    /// Returns the credit rate, in basis points.
     pub fn basis_points(&self) -> u32
         ensures { result ≡ self.now.basis_points }
     {
         self.basis_points
     }
 
-    /// The legs.
+    /// Returns the legs.
     pub fn legs(&self) -> &[CommodityLeg]
         ensures { result.now ≡ self.now.legs }
     {
         self.legs.as_slice()
     }
 
-    /// Whether the commodity of each leg may have a rest on the side of the market that the leg needs in a direction.
+    /// Returns whether the commodity of each leg may have a remaining delta on the side of the market that the leg
+    /// needs in a direction.
     ///
-    /// `false` tells that one of them has none.
+    /// If it returns `false`, the commodity of a leg has no such remaining delta.
     pub fn may_form(&self, direction: Direction, sides: &OpenSides) -> bool
         ensures { All (λ leg. IsMarked (numbers_on (market_side direction leg.side) sides.now) leg.commodity) self.now.legs
             → result ≡ true }
@@ -381,7 +382,7 @@ impl Inter {
     }
 }
 
-// The commodities of the legs on a side.
+// Returns the commodities of the legs on a side.
 fn commodities_on(legs: &[CommodityLeg], side: Side) -> Slots
     ensures { result ≡ slots_on side legs.now }
 {

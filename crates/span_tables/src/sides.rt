@@ -1,5 +1,5 @@
-//! The sides and directions of a spread, the market sides of its legs in them, and how much of a rest is on a market side
-//! (docs/METHOD.md, "Intracommodity spreads" and "Intercommodity spreads").
+//! The sides and directions of a spread, the market sides of its legs, and the part of a remaining delta on a market
+//! side (docs/METHOD.md, "Intracommodity spreads" and "Intercommodity spreads").
 ghost use Rattle.std.specs.Prelude.{◌≡◌, ◌+◌, ◌≤◌, nat_abs};
 ghost use Rattle.span_tables.specs.Sides.{IsLeftOf, less_used, market_side, part_on};
 ghost use Rattle.span_tables.specs.declared.limits.TheConstants.{MAX_UNITS};
@@ -28,14 +28,15 @@ pub enum MarketSide {
     Short,
 }
 
-/// How many spreads a spread forms in each direction, in 10^-4 spreads. Direction A long goes first.
+/// The number of spreads that a spread forms in each direction, in 10^-4 spreads. The direction with A long comes
+/// first.
 #[derive(Clone, Copy, Debug, PartialEq, Eq)]
 pub struct SpreadsFormed {
     pub a_long: u64,
     pub a_short: u64,
 }
 
-/// The market side of a leg's side, in a direction.
+/// Returns the market side of a leg's side, in a direction.
 #[inline(always)]
 pub fn market_side(direction: Direction, side: Side) -> MarketSide
     ensures { result ≡ market_side direction side }
@@ -46,7 +47,8 @@ pub fn market_side(direction: Direction, side: Side) -> MarketSide
     }
 }
 
-/// How much of a rest is on a market side, in units of 10^-8: a positive rest is long, a negative one short.
+/// Returns the part of a remaining delta on a market side, in units of 10^-8. A positive remaining delta is long, a
+/// negative one is short.
 pub fn part_on(side: MarketSide, rest: Units) -> u64
     ensures value { result ≡ part_on side rest }
     ensures bound { result ≤ nat_abs rest }
@@ -58,7 +60,7 @@ pub fn part_on(side: MarketSide, rest: Units) -> u64
     on_side.unsigned_abs()
 }
 
-/// A rest, in units of 10^-8, of which so many on a market side were used.
+/// Returns a remaining delta after `used` units on a market side were used, in units of 10^-8.
 pub fn less_used(side: MarketSide, rest: Units, used: u64) -> Units
     requires rest { nat_abs rest ≤ MAX_UNITS }
     requires used { used ≤ part_on side rest }

@@ -1,4 +1,4 @@
-//! Sets of numbers in a word each: of some numbers they tell that they are not in the set.
+//! Sets of numbers, each in a 64-bit word. They can show that a number is not in a set.
 ghost use Rattle.std.specs.Prelude.{◌≡◌, ◌==◌, ◌^◌, ◌-◌, ℕ, ℤ};
 ghost use Rattle.span_tables.specs.Slots.{IsOpenAt, has_all, meets, numbers_on, with_slot};
 ghost use Rattle.span_tables.specs.declared.slots.OpenSides.{OpenSides};
@@ -8,13 +8,14 @@ use crate::sides::MarketSide;
 use span_money::amounts::Units;
 use std::marker::Model;
 
-/// How many slots a word has.
+/// The number of slots of a word.
 pub const SLOTS: usize = 64;
 
-/// A set of numbers, each number in the slot of its remainder by `SLOTS`.
+/// A set of numbers. Each number has the slot of its remainder by `SLOTS`.
 ///
-/// A number whose slot is not marked is not in the set. One whose slot is marked may be in it, or another number that
-/// shares the slot: so do months that lie `SLOTS` apart, and commodities where a set has more than `SLOTS`.
+/// A number whose slot is not marked is not in the set. If its slot is marked, either the number or another number with
+/// the same slot is in the set. Two months that are `SLOTS` months apart share a slot, and so do commodities of a
+/// parameter set that has more than `SLOTS` of them.
 #[derive(Clone, Copy, Debug, Default, PartialEq, Eq)]
 pub struct Slots {
     word: u64,
@@ -31,21 +32,21 @@ impl Model for Slots {
 }
 
 impl Slots {
-    /// The set without a number.
+    /// Returns the empty set.
     pub fn none() -> Slots
         ensures { result ≡ 0 }
     {
         Slots { word: 0 }
     }
 
-    /// A set that may have any number.
+    /// Returns a set that may have any number.
     pub fn all() -> Slots
         ensures { result ≡ 2 ^ SLOTS - 1 }
     {
         Slots { word: u64::MAX }
     }
 
-    /// The set with one more number.
+    /// Returns the set with one more number.
     pub fn with(self, number: usize) -> Slots
         ensures { result ≡ with_slot self number }
     {
@@ -54,14 +55,14 @@ impl Slots {
         }
     }
 
-    /// Whether all slots that are marked in another set are marked in this one.
+    /// Returns whether all slots that are marked in `other` are marked in this set.
     pub fn has_all(self, other: Slots) -> bool
         ensures { result ≡ has_all self other }
     {
         self.word & other.word == other.word
     }
 
-    /// Whether no slot is marked.
+    /// Returns whether no slot is marked.
     #[inline(always)]
     pub fn is_none(self) -> bool
         ensures { result ≡ (self == 0) }
@@ -69,7 +70,7 @@ impl Slots {
         self.word == 0
     }
 
-    /// Whether some slot is marked in this set and in another.
+    /// Returns whether a slot is marked in both sets.
     #[inline(always)]
     pub fn meets(self, other: Slots) -> bool
         ensures { result ≡ meets self other }
@@ -78,7 +79,7 @@ impl Slots {
     }
 }
 
-/// The numbers that may have a rest on the long side of the market, and those that may have one on the short side.
+/// The numbers that may have a remaining delta on the long side of the market, and on the short side.
 #[derive(Clone, Copy, Debug, PartialEq, Eq)]
 pub struct OpenSides {
     pub long: Slots,
@@ -86,7 +87,7 @@ pub struct OpenSides {
 }
 
 impl OpenSides {
-    /// No rest on either side.
+    /// Returns the value without a remaining delta on either side.
     pub fn none() -> OpenSides
         ensures { result ≡ record { long = 0; short = 0 } }
     {
@@ -96,7 +97,7 @@ impl OpenSides {
         }
     }
 
-    /// The numbers that may have a rest on a side of the market.
+    /// Returns the numbers that may have a remaining delta on a side of the market.
     #[inline(always)]
     pub fn on(&self, side: MarketSide) -> Slots
         ensures { result ≡ numbers_on side self.now }
@@ -107,7 +108,7 @@ impl OpenSides {
         }
     }
 
-    /// The sides with one more rest, which is the number's.
+    /// Returns the value with the remaining delta of one more number.
     pub fn with(self, number: usize, rest: Units) -> OpenSides
         ensures added { IsOpenAt result number rest }
         ensures kept { (other : ℕ) (z : ℤ) → IsOpenAt self other z → IsOpenAt result other z }

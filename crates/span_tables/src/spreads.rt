@@ -1,4 +1,4 @@
-//! Spreads with what they name: the months of their tiers, or the numbers of their commodities.
+//! Spreads with the months of their tiers, or with their commodity numbers.
 ghost use Rattle.std.specs.Prelude.{◌≡◌, ◌<◌, ◌&&◌, ◌==◌, length, map};
 ghost use Rattle.std.specs.Prelude.{filter, find, option_copied, bytes_eq, false, All, IfOk};
 ghost use Rattle.span_tables.specs.Accepted.{commodity_number};
@@ -14,14 +14,14 @@ use crate::records::{
 use arrayvec::ArrayVec;
 use std::alloc::{AllocError, Global};
 
-// The tier of a commodity and number, if there is one.
+// Returns the tier of a commodity with a number, if there is one.
 fn tier_of<'a>(tiers: &'a [Tier], commodity: &Name, number: u32) -> Option<&'a Tier>
     ensures { option_copied result ≡ find (λ t. bytes_eq t.commodity commodity.now && (t.number == number)) tiers.entry.now }
 {
     tiers.iter().find(|tier| tier.commodity == *commodity && tier.number == number)
 }
 
-// A leg with the months of its tier; with no months where there is no such tier.
+// Returns a leg with the months of its tier, or with no months if there is no such tier.
 fn month_leg(tiers: &[Tier], commodity: &Name, leg: &IntraLeg) -> MonthLeg
     ensures { result ≡ month_leg tiers.now commodity.now leg.now }
 {
@@ -41,7 +41,7 @@ fn month_leg(tiers: &[Tier], commodity: &Name, leg: &IntraLeg) -> MonthLeg
     }
 }
 
-// A spread with its tiers' months.
+// Returns an intracommodity spread with its tiers' months.
 fn intra_of(tiers: &[Tier], spread: &IntraRecord) -> Intra
     ensures { result ≡ intra_spread tiers.now spread.now }
 {
@@ -52,7 +52,7 @@ fn intra_of(tiers: &[Tier], spread: &IntraRecord) -> Intra
     Intra::new(spread.priority, spread.rate, legs)
 }
 
-// The spreads of each commodity in their order, each with its tiers' months.
+// Returns the intracommodity spreads of each commodity in their order, each with its tiers' months.
 pub(crate) fn intras_by_commodity(
     alloc: Global,
     commodities: &[Commodity],
@@ -76,7 +76,7 @@ pub(crate) fn intras_by_commodity(
     Ok(lists)
 }
 
-// A leg with its commodity's number.
+// Returns a leg with its commodity number.
 fn commodity_leg(commodities: &[Commodity], leg: &InterLeg) -> CommodityLeg
     ensures { result ≡ commodity_leg commodities.now leg.now }
 {
@@ -87,7 +87,7 @@ fn commodity_leg(commodities: &[Commodity], leg: &InterLeg) -> CommodityLeg
     }
 }
 
-// A spread with its commodities' numbers.
+// Returns an intercommodity spread with its commodity numbers.
 fn inter_of(commodities: &[Commodity], spread: &InterRecord) -> Inter
     ensures { result ≡ inter_spread commodities.now spread.now }
 {
@@ -98,7 +98,7 @@ fn inter_of(commodities: &[Commodity], spread: &InterRecord) -> Inter
     Inter::new(spread.priority, spread.basis_points, legs)
 }
 
-// The spreads in their order, each with its commodities' numbers.
+// Returns the intercommodity spreads in their order, each with its commodity numbers.
 pub(crate) fn inters_with_numbers(
     alloc: Global,
     commodities: &[Commodity],

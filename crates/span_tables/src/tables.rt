@@ -1,4 +1,4 @@
-//! The accepted tables of a set of parameters.
+//! The accepted tables of a parameter set.
 ghost use Rattle.std.specs.Prelude.{◌≡◌, ◌<◌, ◌≤◌, [], bytes_eq, length, map};
 ghost use Rattle.std.specs.Prelude.{slice_get, slice_index_or, false, true, All, IfOk, IfSome};
 ghost use Rattle.std.specs.Arc.{arc_value};
@@ -20,7 +20,7 @@ use std::alloc::{AllocError, Global};
 use std::marker::Model;
 use std::sync::Arc;
 
-/// How many records of each kind the tables have.
+/// The number of records of each kind in the tables.
 #[derive(Clone, Copy, Debug, PartialEq, Eq)]
 pub struct Counts {
     pub commodities: usize,
@@ -31,10 +31,11 @@ pub struct Counts {
     pub inter: usize,
 }
 
-/// The accepted tables of a set of parameters.
+/// The accepted tables of a parameter set.
 ///
-/// Commodities and contracts are numbered from 0 in file order, and spreads are sorted by priority. Beside the
-/// records stand the commodity's number of each contract, and the spreads and spot months with what they name.
+/// Commodities and contracts are numbered from 0 in file order, and spreads are sorted by priority. In addition to the
+/// records, the tables have the commodity number of each contract, spreads with their months or commodity numbers, and
+/// the spot months of each commodity.
 #[derive(Drop)]
 pub struct Tables {
     set_id: Name,
@@ -85,7 +86,7 @@ impl Model for Tables {
         t.inters.items };
 }
 
-// The list at a place.
+// Returns the list at index `place`.
 fn list_at<T>(lists: &[Vec<T>], place: usize) -> &[T]
     requires { place < length lists.now }
     ensures { result.now ≡ slice_index_or (map (λ v. v.items) lists.now) place [] }
@@ -94,7 +95,7 @@ fn list_at<T>(lists: &[Vec<T>], place: usize) -> &[T]
 }
 
 impl Tables {
-    /// The tables of the records of a file that keep every rule.
+    /// Returns the tables of the records of a file that keep every rule.
     pub fn new(alloc: Global, raw: RawTables) -> Result<Tables, AllocError>
         requires { keeps_rules raw ≡ true }
         ensures { IfOk result (λ tables. tables ≡ tables_of raw) }
@@ -105,7 +106,7 @@ impl Tables {
         Tables::with_numbers(alloc, set_id, profile, kinds)
     }
 
-    // The tables of records that are in order, with what they name.
+    // Returns the tables of sorted records, with the months and numbers that the records name.
     fn with_numbers(
         alloc: Global,
         set_id: Name,
@@ -140,35 +141,35 @@ impl Tables {
         })
     }
 
-    /// The id of the set.
+    /// Returns the id of the parameter set.
     pub fn set_id(&self) -> &Name
         ensures { result.now ≡ self.now.set_id }
     {
         &self.set_id
     }
 
-    /// The profile of the set: the version of its SET record.
+    /// Returns the profile of the parameter set, which is the version of its SET record.
     pub fn profile(&self) -> u8
         ensures { result ≡ self.now.profile }
     {
         self.version
     }
 
-    /// What the profile of the set has.
+    /// Returns the properties of the parameter set's profile.
     pub fn facts(&self) -> ProfileFacts
         ensures { result ≡ facts_in self.now }
     {
         facts_of(self.profile())
     }
 
-    /// Does nothing. Its clause says that the tables are within their limits.
+    /// Does nothing. Its contract states that the tables are within their limits.
     pub fn known(&self)
         ensures { IsWithinLimits self.now }
     {
         let _ = &self.commodities;
     }
 
-    /// The commodities by their numbers.
+    /// Returns the commodities, indexed by number.
     pub fn commodities(&self) -> &[Commodity]
         ensures value { result.now ≡ self.now.commodities }
         ensures limits { IsWithinLimits self.now }
@@ -176,7 +177,7 @@ impl Tables {
         &self.commodities
     }
 
-    /// The contracts by their numbers.
+    /// Returns the contracts, indexed by number.
     pub fn contracts(&self) -> &[Contract]
         ensures value { result.now ≡ self.now.contracts }
         ensures limits { IsWithinLimits self.now }
@@ -184,7 +185,7 @@ impl Tables {
         self.contracts.as_slice()
     }
 
-    // One more hold on the contracts.
+    // Returns one more shared reference to the contracts.
     pub(crate) fn share_contracts(&self) -> Result<Arc<Vec<Contract>>, AllocError>
         ensures value { IfOk result (λ contracts. (arc_value contracts).items ≡ self.now.contracts) }
         ensures limits { IsWithinLimits self.now }
@@ -192,7 +193,7 @@ impl Tables {
         Arc::try_clone(&self.contracts)
     }
 
-    // The number of the commodity of the contract of a number.
+    // Returns the commodity number of the contract with a number.
     #[tactic(auto, using(crate::proofs::GatherLemmas::number_is, crate::proofs::GatherLemmas::number_known))]
     pub(crate) fn commodity_of(&self, contract: usize) -> usize
         requires { contract < length self.now.contracts }
@@ -203,35 +204,35 @@ impl Tables {
         self.commodity_numbers[contract]
     }
 
-    /// The tiers of all commodities, in file order.
+    /// Returns the tiers of all commodities, in file order.
     pub fn tiers(&self) -> &[Tier]
         ensures { result.now ≡ self.now.tiers }
     {
         &self.tiers
     }
 
-    /// The records of the intracommodity spreads of all commodities, by rising priority.
+    /// Returns the records of the intracommodity spreads of all commodities, by rising priority.
     pub fn intra_records(&self) -> &[IntraRecord]
         ensures { result.now ≡ self.now.intra_records }
     {
         &self.intra_records
     }
 
-    /// The spot months of all commodities, in file order.
+    /// Returns the spot months of all commodities, in file order.
     pub fn spot_records(&self) -> &[Spot]
         ensures { result.now ≡ self.now.spots }
     {
         &self.spots
     }
 
-    /// The records of the intercommodity spreads, by rising priority.
+    /// Returns the records of the intercommodity spreads, by rising priority.
     pub fn inter_records(&self) -> &[InterRecord]
         ensures { result.now ≡ self.now.inter_records }
     {
         &self.inter_records
     }
 
-    /// The intracommodity spreads of the commodity of a number, by rising priority.
+    /// Returns the intracommodity spreads of the commodity with this number, by rising priority.
     pub fn intras(&self, commodity: usize) -> &[Intra]
         requires { commodity < length self.now.commodities }
         ensures value { result.now ≡ intras_of self.now (commodity_id self.now commodity) }
@@ -241,7 +242,7 @@ impl Tables {
         list_at(&self.intras, commodity)
     }
 
-    /// The spot months of the commodity of a number, in file order.
+    /// Returns the spot months of the commodity with this number, in file order.
     pub fn spots(&self, commodity: usize) -> &[Spot]
         requires { commodity < length self.now.commodities }
         ensures value { result.now ≡ spots_of self.now (commodity_id self.now commodity) }
@@ -251,7 +252,7 @@ impl Tables {
         list_at(&self.spot_months, commodity)
     }
 
-    /// The intercommodity spreads by rising priority.
+    /// Returns the intercommodity spreads, by rising priority.
     pub fn inters(&self) -> &[Inter]
         ensures value { result.now ≡ inters_of self.now }
         ensures few { length result.now ≤ MAX_INTER_SPREADS }
@@ -260,7 +261,7 @@ impl Tables {
         &self.inters
     }
 
-    /// How many records of each kind there are.
+    /// Returns the number of records of each kind.
     pub fn counts(&self) -> Counts
         ensures { result ≡ record {
           commodities = length self.now.commodities;

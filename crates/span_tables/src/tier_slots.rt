@@ -1,4 +1,4 @@
-//! The months of tiers in words of slots, by which a leg that has nothing to use is mostly seen at once.
+//! The months of tiers as words of slots. They usually show at once that a leg has nothing to use.
 ghost use Rattle.std.specs.Prelude.{◌≡◌};
 ghost use Rattle.span_tables.specs.Slots.{month_count};
 ghost use Rattle.span_tables.specs.near.Tiers.{HasMonths, IsOfSide, may_have};
@@ -7,7 +7,7 @@ use crate::legs::MonthLeg;
 use crate::sides::Side;
 use crate::slots::{SLOTS, Slots};
 
-/// The place of a month (`yyyymm`) among all months.
+/// Returns the index of a month (`yyyymm`) among all months.
 pub fn month_count(month: u32) -> usize
     ensures { result ≡ month_count month }
 {
@@ -15,7 +15,7 @@ pub fn month_count(month: u32) -> usize
     months as usize
 }
 
-// The slots of the months from the first to the last.
+// Returns the slots of the months from the first to the last.
 fn months_between(first: u32, last: u32) -> Slots
     ensures { HasMonths result first last }
 {
@@ -31,7 +31,7 @@ fn months_between(first: u32, last: u32) -> Slots
     slots
 }
 
-/// The slots of the months of the first leg's tier on a side, and no slot where no leg is on it.
+/// Returns the slots of the months of the tier of the first leg on a side, or no slots if no leg is on it.
 pub(crate) fn months_on(legs: &[MonthLeg], side: Side) -> Slots
     ensures { IsOfSide result side legs.now }
 {
@@ -43,7 +43,8 @@ pub(crate) fn months_on(legs: &[MonthLeg], side: Side) -> Slots
     Slots::none()
 }
 
-/// Whether some of these months may have a rest, where months are marked that may have one. Of no months none is asked for.
+/// Returns whether one of these months may have a remaining delta. `marked` has the months that may have one. The
+/// result is `true` if there are no months.
 #[inline(always)]
 pub(crate) fn may_have(marked: Slots, months: Slots) -> bool
     ensures { result ≡ may_have marked months }

@@ -9,7 +9,7 @@ use Rattle.span_tables.specs.declared.records.Spot.{Spot}
 use Rattle.span_tables.specs.declared.records.InterRecord.{InterRecord}
 use Rattle.span_tables.specs.declared.records.Record.{Record}
 
--- these are the records of each kind, in file order
+-- the lists are the records of each kind, in file order
 pub record AreByKind (records : List Record) (commodities : List Commodity) (contracts : List Contract) (tiers : List Tier)
     (intras : List IntraRecord) (spots : List Spot) (inters : List InterRecord) : Type 0 where
   pub commodities_are : commodities ≡ commodities_in records

@@ -1,4 +1,4 @@
--- What an account holds of a commodity, as numbers of contracts with their nets.
+-- The holdings of a commodity, as contract numbers with their nets.
 use Rattle.std.specs.Prelude.{◌≡◌, ◌≢◌, ◌<◌, ℕ, All, List, [], filter, length, option_map, unwrap_or, slice_get}
 use Rattle.std.specs.Prelude.{bytes_eq}
 use Rattle.std.specs.List.{AllPairs}
@@ -19,15 +19,15 @@ commodity_held contracts h = unwrap_or (option_map (λ x. x.commodity) (slice_ge
 abbrev pub holdings_in : List Contract → List Holding → List ℕ → List Holding
 holdings_in contracts holdings commodity = filter (λ h. bytes_eq (commodity_held contracts h) commodity) holdings
 
--- the held contracts of holdings, with their commodity's number
+-- the held contracts of holdings, with their commodity number
 abbrev pub commodity_held_of : List Contract → HoldingsOf → CommodityHeld
 commodity_held_of contracts of = record { commodity = of.commodity; held = held_contracts contracts of.holdings.items }
 
--- the holding is of the commodity of a number
+-- the holding is of commodity number n
 abbrev pub IsOf : AcceptedTables → ℕ → Holding → Type 0
 IsOf t n h = n ≡ commodity_number t.commodities (commodity_held t.contracts h)
 
--- the commodities of which there are any of these holdings, by rising numbers, each with its holdings
+-- the commodities that have holdings, by rising number, each with its holdings
 pub record AreGathered (t : AcceptedTables) (holdings : List Holding) (lists : List HoldingsOf) : Type 0 where
   pub rise : AllPairs (λ a b. a.commodity < b.commodity) lists
   pub in_range : All (λ l. l.commodity < length t.commodities) lists

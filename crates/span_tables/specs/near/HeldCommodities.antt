@@ -1,4 +1,4 @@
--- The commodities of which an account holds something.
+-- The commodities that an account holds.
 use Rattle.std.specs.Prelude.{◌≡◌, ◌≢◌, ◌<◌, ℕ, List, [], length, All}
 use Rattle.std.specs.List.{AllPairs}
 use Rattle.span_tables.specs.Tables.{commodity_id}
@@ -7,7 +7,8 @@ use Rattle.span_tables.specs.Tables.{AcceptedTables}
 use Rattle.span_tables.specs.declared.held.CommodityHeld.{CommodityHeld}
 use Rattle.span_tables.specs.declared.portfolios.Holding.{Holding}
 
--- the commodities of which something is held, by rising numbers, each with what is held of it; nothing is held of the others
+-- the commodities that are held, by rising number, each with its held contracts; no contract of another commodity is
+-- held
 pub record AreHeldCommodities (t : AcceptedTables) (holdings : List Holding) (list : List CommodityHeld) : Type 0 where
   pub rise : AllPairs (λ a b. a.commodity < b.commodity) list
   pub in_range : All (λ h. h.commodity < length t.commodities) list

@@ -1,4 +1,4 @@
--- What the type of accepted tables keeps.
+-- The type invariant of accepted tables.
 use Rattle.std.specs.Prelude.{◌≡◌, true, List, ℕ, ◌<◌, [], length, map, slice_index_or}
 use Rattle.span_tables.specs.Rules.{keeps_rules}
 use Rattle.span_tables.specs.near.Limits.{is_readable}
@@ -10,7 +10,7 @@ use Rattle.span_tables.specs.declared.records.Intra.{Intra}
 use Rattle.span_tables.specs.declared.records.Inter.{Inter}
 use Rattle.span_tables.specs.Accepted.{IsWithinLimits, commodity_number}
 
--- the tables of records that stand by their kinds
+-- the tables of records that are listed by kind
 abbrev pub tables_from : List ℕ → ℕ → Kinds → AcceptedTables
 tables_from set_id profile kinds = record {
   set_id = set_id;
@@ -23,14 +23,14 @@ tables_from set_id profile kinds = record {
   inter_records = kinds.inters.items;
 }
 
--- the tables are those of records without a fault that keep the rules
+-- the tables are made of readable records that keep the rules
 pub record IsAccepted (t : AcceptedTables) : Type 0 where
   pub records : List Record
   pub tables : t ≡ tables_of records
   pub readable : is_readable records ≡ true
   pub kept : keeps_rules records ≡ true
 
--- accepted tables, with the commodity's number of each contract, the spreads and spot months of each commodity, and the
+-- accepted tables, with the commodity number of each contract, the spreads and spot months of each commodity, and the
 -- intercommodity spreads
 pub record IsTables (t : AcceptedTables) (numbers : List ℕ) (intras : List (List Intra)) (spots : List (List Spot))
     (inters : List Inter) : Type 0 where

@@ -1,15 +1,15 @@
--- Order records that stand as position records of their orders, with the account of each order beside them.
+-- Order records stored as position records under their orders' names, together with the account of each order.
 use Rattle.std.specs.Prelude.{ℕ, List, [], map, slice_index_or, bytes_eq}
 use Rattle.std.specs.List.{position_or_len}
 use Rattle.span_tables.specs.Net.{accounts_of}
 use Rattle.span_tables.specs.declared.records.OrderRecord.{OrderRecord}
 use Rattle.span_tables.specs.declared.records.PositionRecord.{PositionRecord}
 
--- a record of an order as one of a position file of which the orders are the accounts
+-- an order record as a position record that has the order's name as its account
 abbrev pub under_order : OrderRecord → PositionRecord
 under_order r = record { account = r.order; contract = r.contract; quantity = r.quantity }
 
--- the record of an order that a position record of it stands for, by the names of the orders and the account of each
+-- the order record that a stored position record represents, given the names of the orders and the account of each
 abbrev pub order_record : List (List ℕ) → List (List ℕ) → PositionRecord → OrderRecord
 order_record orders accounts p = record {
   order = p.account;
@@ -18,6 +18,6 @@ order_record orders accounts p = record {
   quantity = p.quantity;
 }
 
--- the records of orders that position records of them stand for, by the account of each order
+-- the order records that stored position records represent, given the account of each order
 abbrev pub order_records : List (List ℕ) → List PositionRecord → List OrderRecord
 order_records accounts positions = map (order_record (accounts_of positions) accounts) positions

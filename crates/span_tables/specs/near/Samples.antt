@@ -1,4 +1,4 @@
--- Records of which worked values are made, and a small file of each kind of record.
+-- Records for test vectors, and a small file with records of each kind.
 use Rattle.std.specs.Prelude.{ℕ, ℤ, List, [], ◌∷◌, codes, neg_ℤ, pos}
 use Rattle.std.specs.List.{repeat}
 use Rattle.span_tables.specs.declared.limits.TheConstants.{VALUE_PROFILE}
@@ -11,23 +11,23 @@ use Rattle.span_tables.specs.declared.sides.Side.TheVariants as side
 use Rattle.span_tables.specs.declared.records.Record.{Record}
 use Rattle.span_tables.specs.declared.records.Record.TheVariants as record_of
 
--- a set of this id, under a profile
+-- a parameter set with this id, under a profile
 abbrev pub set_under : ℕ → List ℕ → Record
 set_under profile id = record_of.Set (record { id = id; profile = profile; currency = codes "USD" })
 
--- a set of this id, under profile 1
+-- a parameter set with this id, under profile 1
 abbrev pub set : List ℕ → Record
 set id = set_under 1 id
 
--- a set of this id, under the first profile in which options have a value
+-- a parameter set with this id, under the first profile that has option values
 abbrev pub value_set : List ℕ → Record
 value_set id = set_under VALUE_PROFILE id
 
--- a commodity of this id, without a short option minimum
+-- a commodity with this id, without a short option minimum
 abbrev pub commodity : List ℕ → Record
 commodity id = record_of.Commodity (record { id = id; minimum_rate = 0; method = method.Sum })
 
--- a contract of a commodity, with delta 1, scale 1, nothing that a profile adds, and these values in the sixteen scenarios
+-- a contract of a commodity, with delta 1, scale 1, no fields of a profile, and these values in the sixteen scenarios
 abbrev pub contract : ProductKind → List ℕ → List ℕ → ℕ → List ℤ → Contract
 contract kind id of month values = record {
   id = id;
@@ -67,7 +67,8 @@ spread priority basis_points first other = record_of.Inter (record {
   };
 })
 
--- the records: two commodities with a contract each, two tiers, spreads not in their order, a spot month
+-- the records of a file: two commodities with one contract each, two tiers, spreads not in order of priority, and a
+-- spot month
 abbrev pub small_file : List Record
 small_file =
     set (codes "S-1")
