@@ -1,4 +1,4 @@
--- Lanes of 64 bits: what the code computes of small numbers, lane by lane.
+-- Lanes of 64 bits: the results of the code for small numbers, lane by lane.
 use Rattle.std.proofs.Common.{◌≡◌, ℕ, ◌+◌, ◌≤◌, ◌<◌, ◌^◌, List, [], ◌∷◌, length, map, replicate}
 use Rattle.std.proofs.Common.{ℤ, ◌+ℤ◌, ◌*ℤ◌, refl, arith, w32, w64, to_z, of_z, FitsSigned, lit<}
 use Rattle.std.specs.Prelude.{All, nat_abs}
@@ -9,15 +9,15 @@ use Rattle.span_money.proofs.WordLemmas.{same_64}
 use Rattle.span_tables.specs.declared.limits.TheConstants.{MAX_ARRAY_VALUE, MAX_NET, MAX_SUM, MAX_TERM}
 use Rattle.scan_risk.proofs.SumLemmas.{term_size, terms_of, with_terms}
 
--- a number of at most this size
+-- a number of size at most n
 abbrev pub IsWithin : ℕ → ℤ → Type 0
 IsWithin n z = nat_abs z ≤ n
 
--- a sum that has room for one term more
+-- a sum that has room for one more term
 abbrev pub HasRoom : ℤ → Type 0
 HasRoom s = nat_abs s + MAX_TERM ≤ MAX_SUM
 
--- how lanes hold numbers, and the numbers that they hold
+-- the bits of numbers in lanes, and the numbers that bits in lanes represent
 abbrev pub bits_of : List ℤ → List ℕ
 bits_of zs = map (of_z w64) zs
 
@@ -32,7 +32,7 @@ lanes_kept (z ∷ zs) n lt small =
       lanes_kept zs n lt (All-tail (IsWithin n) z zs small),
     ) refl
 
--- array values fit 32 bits, and keep their values there
+-- array values fit in 32 bits, and keep their values there
 value_fits : (v : ℤ) → IsWithin MAX_ARRAY_VALUE v → FitsSigned w32 v
 value_fits v small = let below : nat_abs v < 2 ^ 31 = omega arith in fits_signed_from_abs w32 v below
 
@@ -53,7 +53,7 @@ values_kept (v ∷ vs) small =
     let rest = values_kept vs (All-tail (IsWithin MAX_ARRAY_VALUE) v vs small) in
     rw (same, to_z-of_z w32 v (value_fits v one), same, rest) refl
 
--- the terms of a net quantity
+-- the terms of a net quantity fit in 64 bits
 term_fits : (net v : ℤ) → IsWithin MAX_NET net → IsWithin MAX_ARRAY_VALUE v
     → FitsSigned w64 (to_z w64 (of_z w64 net) *ℤ to_z w64 (of_z w64 v))
 term_fits net v small one =
@@ -86,7 +86,7 @@ pub terms_small : (net : ℤ) (vs : List ℤ) → IsWithin MAX_NET net → All (
 terms_small net vs small all =
     All-map (IsWithin MAX_TERM) (λ (v : ℤ). net *ℤ v) vs (λ k d lt. term_size net _ small (all k d lt))
 
--- sums with terms
+-- sums with a term added fit in 64 bits
 sum_fits : (s t : ℤ) → HasRoom s → IsWithin MAX_TERM t → FitsSigned w64 (to_z w64 (of_z w64 s) +ℤ to_z w64 (of_z w64 t))
 sum_fits s t room small =
     let below : nat_abs (s +ℤ t) < 2 ^ 63 = omega (arith, ints) in
@@ -118,7 +118,7 @@ sums_are (s ∷ ss) (t ∷ ts) room small =
       sums_are ss ts (All-tail HasRoom s ss room) (All-tail (IsWithin MAX_TERM) t ts small),
     ) refl
 
--- sums with terms are larger by at most a term
+-- adding a term to each sum makes it larger by at most the size of a term
 pub sums_grow : (n : ℕ) (ss ts : List ℤ) → All (IsWithin n) ss → All (IsWithin MAX_TERM) ts
     → All (IsWithin (n + MAX_TERM)) (with_terms ss ts)
 sums_grow n [] ts below small = All-nil (IsWithin (n + MAX_TERM))

@@ -1,4 +1,4 @@
--- The sizes of scenario sums, and of their scan.
+-- Bounds on the sizes of scenario sums, and of their scan.
 use Rattle.std.proofs.Common.{ℕ, ◌*◌, ◌≤◌, List, length, get_or, refl, ap, arith, inl, inr}
 use Rattle.std.specs.Prelude.{ℤ, pos, negsuc, ◌+ℤ◌, ◌-ℤ◌, ◌*ℤ◌, All, nat_abs}
 use Rattle.std.proofs.Math.Nat.{mul-le-mul_right}
@@ -46,7 +46,7 @@ pub risk_small : (sums : List ℤ) → All (λ s. nat_abs s ≤ MAX_SUM) sums �
 unfolding scan_of
 risk_small sums small = largest_small sums small
 
--- how far four numbers are above 0, two of them taken away
+-- the size of two numbers less two others is at most four times their bound
 part_size : (a b c d : ℤ) (m : ℕ) → nat_abs a ≤ m → nat_abs b ≤ m → nat_abs c ≤ m → nat_abs d ≤ m
     → nat_abs (((a +ℤ b) -ℤ c) -ℤ d) ≤ 4 * m
 part_size a b c d m x y z w = omega (arith, ints, x, y, z, w)
@@ -55,7 +55,7 @@ positive_part-le : (z : ℤ) → positive_part z ≤ nat_abs z
 positive_part-le (pos n) = omega arith
 positive_part-le (negsuc n) = omega arith
 
--- price risk doubled
+-- twice the price risk
 pub price2_small : (sums : List ℤ) → All (λ s. nat_abs s ≤ MAX_SUM) sums → (scan_of sums).price2 ≤ MAX_PRICE2
 unfolding scan_of
 price2_small sums small =

@@ -1,4 +1,4 @@
--- Laws of the scan.
+-- Lemmas about the scan.
 use Rattle.std.proofs.Common.{◌≡◌, ℕ, suc, zero, ◌+◌, ◌-◌, ◌<◌, Bool, true, false, List, [], ◌∷◌, length, get_or}
 use Rattle.std.proofs.Common.{refl, sym, ap, ◌∙◌, arith, subst, inl, inr, Some, cond, not}
 use Rattle.std.specs.Prelude.{ℤ, pos, fold, All, ◌≤ℤ◌, ◌<ℤ◌, unwrap_or, None, int_le, nat_lt, position}
@@ -12,7 +12,7 @@ use Rattle.std.proofs.lemmas.List.Folds.{list_all_at}
 use Rattle.std.proofs.lemmas.List.Quantifiers.{position-Some}
 use Rattle.scan_risk.specs.Scenarios.{scan_risk, is_largest, active_scenario, at_scenario}
 
--- scan risk is at least 0 and each sum, and no number less than it is
+-- scan risk is the least number that is at least 0 and at least each sum
 pub scan_risk_least : (sums : List ℤ) → (pos 0 ≤ℤ scan_risk sums) × All (λ s. s ≤ℤ scan_risk sums) sums
     × ((g : ℤ) → pos 0 ≤ℤ g → All (λ s. s ≤ℤ g) sums → scan_risk sums ≤ℤ g)
 scan_risk_least sums =
@@ -31,14 +31,14 @@ le_test a b h = grind (arith, ints)
 le_tested : (a b : ℤ) → int_le a b ≡ true → a ≤ℤ b
 le_tested a b h = grind (arith, ints)
 
--- a number is at least each of some exactly when the test says so
+-- the test `is_largest` is true if and only if the number is at least each sum
 largest_test : (sums : List ℤ) (z : ℤ) → All (λ t. t ≤ℤ z) sums → is_largest sums z ≡ true
 largest_test sums z all = list_all-from_AllPass (λ t. int_le t z) sums (λ k d lt. le_test _ z (all k d lt))
 
 largest_tested : (sums : List ℤ) (z : ℤ) → is_largest sums z ≡ true → All (λ t. t ≤ℤ z) sums
 largest_tested sums z e k d lt = le_tested _ z (AllPass-from_list_all (λ t. int_le t z) sums e k d lt)
 
--- where some element passes, there is a first place that does
+-- if an element passes, there is a first index that does
 place_exists : {X : Type 0} (p : X → Bool) (xs : List X) (i : ℕ) (d : X) → i < length xs → p (get_or xs i d) ≡ true
     → position_or_len p xs < length xs
 place_exists p [] i d lt e = absurd (omega arith)
@@ -48,12 +48,12 @@ place_exists {X} p (x ∷ xs) (suc i) d lt e = by_test (p x) (place_exists p xs 
   by_test true h = omega arith
   by_test false h = omega arith
 
--- a bound of the first and of the others bounds all
+-- a bound of the first element and of the others bounds all
 all_cons : (s : ℤ) (rest : List ℤ) (m : ℤ) → s ≤ℤ m → All (λ t. t ≤ℤ m) rest → All (λ t. t ≤ℤ m) (s ∷ rest)
 all_cons s rest m first others zero d lt = first
 all_cons s rest m first others (suc k) d lt = others k d (omega arith)
 
--- within a list the default does not matter
+-- the default does not matter for an index within the list
 same_element : (xs : List ℤ) (i : ℕ) (m : ℤ) → i < length xs → get_or xs i m ≡ m → get_or xs i (pos 0) ≡ m
 same_element xs i m lt e = get_or_default xs i (pos 0) m lt ∙ e
 
@@ -74,7 +74,7 @@ some_largest s rest =
       )
     ]
 
--- the place of the active scenario's sum
+-- the index of the active scenario's sum
 place : List ℤ → ℕ
 place sums = position_or_len (is_largest sums) sums
 
@@ -87,7 +87,7 @@ position_is s rest =
     grind (arith, nat_tests, lt) in
     ap (λ b. cond b (Some (position_or_len (is_largest (s ∷ rest)) (s ∷ rest))) None) yes
 
--- the active scenario's sum is at least every sum, and no lower-numbered one's is
+-- the active scenario's sum is at least every sum, and no lower-numbered scenario's sum is
 pub active_is_largest : (s : ℤ) (rest : List ℤ)
     → All (λ t. t ≤ℤ at_scenario (s ∷ rest) (active_scenario (s ∷ rest))) (s ∷ rest)
 active_is_largest s rest =
@@ -112,7 +112,7 @@ active_is_first s rest k lo hi all =
 gt_test : (a b : ℤ) → a <ℤ b → int_le b a ≡ false
 gt_test a b h = grind (arith, ints)
 
--- the place of the first largest sum makes the active scenario, for code that looks for it
+-- the index of the first largest sum gives the active scenario, for code that searches for it
 pub active_from : (sums : List ℤ) (i : ℕ) → i < length sums
     → ((k : ℕ) → k < length sums → get_or sums k (pos 0) ≤ℤ get_or sums i (pos 0))
     → ((k : ℕ) → k < i → get_or sums k (pos 0) <ℤ get_or sums i (pos 0)) → active_scenario sums ≡ i + 1

@@ -13,38 +13,38 @@ use Rattle.span_tables.specs.Net.{HeldContract}
 use Rattle.span_tables.specs.declared.limits.TheConstants.{MAX_ARRAY_VALUE, MAX_NET, MAX_TERM}
 use Rattle.scan_risk.specs.Scenarios.{at_scenario, scenario_sum, scenario_sums}
 
--- what a net quantity of a contract adds to the sums, and the sums with it
+-- the terms that a net quantity of a contract adds to the sums, and the sums with them added
 abbrev pub terms_of : ℤ → List ℤ → List ℤ
 terms_of net values = map (λ (v : ℤ). net *ℤ v) values
 
 abbrev pub with_terms : List ℤ → List ℤ → List ℤ
 with_terms sums terms = zip2 (λ (s t : ℤ). s +ℤ t) sums terms
 
--- a bound of each element bounds what stands at any place
+-- a bound of each element bounds the element at any index
 pub at_most : (xs : List ℤ) (n : ℕ) → All (λ v. nat_abs v ≤ n) xs → (k : ℕ) → nat_abs (get_or xs k (pos 0)) ≤ n
 at_most [] n h k = omega arith
 at_most (x ∷ xs) n h zero = h 0 (pos 0) (omega arith)
 at_most (x ∷ xs) n h (suc k) = at_most xs n (λ i d lt. h (suc i) d (omega arith)) k
 
--- a term's size
+-- the size of a term is at most `MAX_TERM`
 pub term_size : (a b : ℤ) → nat_abs a ≤ MAX_NET → nat_abs b ≤ MAX_ARRAY_VALUE → nat_abs (a *ℤ b) ≤ MAX_TERM
 term_size a b x y = rw (unsigned_abs-mul a b) (mul-le-mul x y)
 
--- a scenario's sum over one contract more
+-- a scenario's sum over one more contract
 pub sum_more : (held : List HeldContract) (i s : ℕ) (h : HeldContract) → i < length held → h ≡ get_or held i h
     → scenario_sum (take (i + 1) held) s ≡ scenario_sum (take i held) s +ℤ h.net *ℤ at_scenario h.contract.values s
 sum_more held i s h lt e =
     fold_more (λ a x. a +ℤ x.net *ℤ at_scenario x.contract.values s) (pos 0) held i h lt
     ∙ ap (λ (x : HeldContract). scenario_sum (take i held) s +ℤ x.net *ℤ at_scenario x.contract.values s) (sym e)
 
--- what a contract adds to the sum at a place
+-- the term that a contract adds to the sum at an index
 term_here : (net : ℤ) (values : List ℤ) (k : ℕ) → k < length values
     → get_or (terms_of net values) k (pos 0) ≡ net *ℤ at_scenario values (k + 1)
 term_here net values k lt =
     let place : k ≡ k + 1 - 1 = omega arith in
     get_or-map (λ (v : ℤ). net *ℤ v) values k (pos 0) (pos 0) lt ∙ ap (λ j. net *ℤ get_or values j (pos 0)) place
 
--- the sum at a place
+-- the sum at an index
 sum_here : (held : List HeldContract) (k : ℕ) → k < 16 → get_or (scenario_sums held) k (pos 0) ≡ scenario_sum held (k + 1)
 unfolding scenario_sums
 sum_here held k lt = get_or-map-range_with_len (scenario_sum held) 1 16 k (k + 1) (pos 0) lt (omega arith)
@@ -53,7 +53,7 @@ sixteen_sums : (held : List HeldContract) → length (scenario_sums held) ≡ 16
 unfolding scenario_sums
 sixteen_sums held = length-map-range_with_len (scenario_sum held) 1 16
 
--- the sums over one contract more
+-- the sums over one more contract
 pub sums_more : (held : List HeldContract) (i : ℕ) (h : HeldContract) → i < length held → h ≡ get_or held i h
     → length h.contract.values ≡ 16
     → with_terms (scenario_sums (take i held)) (terms_of h.net h.contract.values) ≡ scenario_sums (take (i + 1) held)

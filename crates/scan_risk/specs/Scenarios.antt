@@ -7,7 +7,7 @@ use Rattle.span_money.specs.Numbers.{int_sum_by, positive_part}
 use Rattle.span_tables.specs.Net.{HeldContract}
 use Rattle.scan_risk.specs.declared.Scan.{Scan}
 
--- what stands for a scenario, numbered from 1
+-- the value of a scenario, numbered from 1
 abbrev pub at_scenario : List ℤ → ℕ → ℤ
 at_scenario values s = slice_index_or values (s - 1) (pos 0)
 
@@ -31,11 +31,11 @@ is_largest sums z = list_all (λ t. int_le t z) sums
 abbrev pub active_scenario : List ℤ → ℕ
 active_scenario sums = unwrap_or (position (is_largest sums) sums) 0 + 1
 
--- the paired scenario, of the opposite volatility: 1 with 2, up to 13 with 14; 15 and 16 with themselves
+-- the paired scenario, with the opposite volatility move: 1 with 2, up to 13 with 14; 15 and 16 with themselves
 abbrev pub paired_scenario : ℕ → ℕ
 paired_scenario s = if nat_lt 14 s then s else if s % 2 == 1 then s + 1 else s - 1
 
--- price risk doubled: the active and the paired sum less sums 1 and 2, and 0 when negative
+-- twice the price risk: the active and the paired sum less sums 1 and 2, or 0 if that is negative
 abbrev pub price2 : List ℤ → ℕ
 price2 sums =
     let active = active_scenario sums in

@@ -1,4 +1,4 @@
-//! Laws of the scan, in the methodology's words: each is the contract of a function that does nothing.
+//! Lemmas about the scan, in the terms of the methodology. Each is the contract of a function that does nothing.
 ghost use Rattle.std.specs.Prelude.{◌≡◌, ℕ, ◌+◌, ◌<◌, List, ◌∷◌, length, slice_index_or, All, ℤ, pos, ◌≤ℤ◌, ◌<ℤ◌};
 ghost use Rattle.scan_risk.specs.Scenarios.{active_scenario, at_scenario, scan_risk};
 

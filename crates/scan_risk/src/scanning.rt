@@ -8,10 +8,10 @@ use crate::Scan;
 use span_money::amounts::Money;
 use span_tables::limits::SCENARIOS;
 
-// The last scenario that has a pair: 15 and 16 have no volatility move.
+// The last scenario that is paired with another one: 15 and 16 have no volatility move.
 const LAST_OF_PAIRS: u8 = 14;
 
-// The largest of the sums, or 0, in minor units.
+// Returns the largest of the sums, or 0 if none is positive, in minor units.
 fn risk(sums: &[i64; SCENARIOS]) -> i64
     requires { All (λ s. nat_abs s ≤ MAX_SUM) sums.now }
     ensures value { result ≡ scan_risk sums.now }
@@ -25,7 +25,7 @@ fn risk(sums: &[i64; SCENARIOS]) -> i64
     risk
 }
 
-// The lowest-numbered scenario of the largest sum.
+// Returns the lowest-numbered scenario that has the largest sum.
 fn active(sums: &[i64; SCENARIOS]) -> u8
     ensures value { result ≡ active_scenario sums.now }
     ensures low { 1 ≤ result }
@@ -40,7 +40,7 @@ fn active(sums: &[i64; SCENARIOS]) -> u8
     best as u8 + 1
 }
 
-// The scenario of the opposite volatility: 1 with 2, up to 13 with 14; 15 and 16 with themselves.
+// Returns the scenario with the opposite volatility move: 1 with 2, up to 13 with 14; 15 and 16 with themselves.
 fn paired(active: u8) -> u8
     requires low { 1 ≤ active }
     requires high { active ≤ SCENARIOS }
@@ -57,7 +57,7 @@ fn paired(active: u8) -> u8
     }
 }
 
-// The sum of a scenario, numbered from 1.
+// Returns the sum of a scenario, numbered from 1.
 fn sum_at(sums: &[i64; SCENARIOS], scenario: u8) -> i64
     requires low { 1 ≤ scenario }
     requires high { scenario ≤ SCENARIOS }
@@ -68,7 +68,7 @@ fn sum_at(sums: &[i64; SCENARIOS], scenario: u8) -> i64
     sums[usize::from(scenario) - 1]
 }
 
-// The sum of two scenarios together.
+// Returns the sum of two scenarios together.
 fn pair_sum(sums: &[i64; SCENARIOS], one: u8, other: u8) -> i64
     requires one_low { 1 ≤ one }
     requires one_high { one ≤ SCENARIOS }
@@ -81,7 +81,7 @@ fn pair_sum(sums: &[i64; SCENARIOS], one: u8, other: u8) -> i64
     sum_at(sums, one) + sum_at(sums, other)
 }
 
-// How far a number is above another, and 0 when it is below.
+// Returns `over` less `under`, or 0 if that is negative.
 fn excess(over: i64, under: i64) -> u64
     requires over { nat_abs over ≤ 2 * MAX_SUM }
     requires under { nat_abs under ≤ 2 * MAX_SUM }
@@ -95,7 +95,8 @@ fn excess(over: i64, under: i64) -> u64
     }
 }
 
-// The price risk doubled, in minor units: the active and the paired sum less sums 1 and 2, and 0 when negative.
+// Returns twice the price risk, in minor units: the active and the paired sum less sums 1 and 2, or 0 if that is
+// negative.
 fn price_risk_doubled(sums: &[i64; SCENARIOS], active: u8, paired: u8) -> u64
     requires active_low { 1 ≤ active }
     requires active_high { active ≤ SCENARIOS }
@@ -110,8 +111,8 @@ fn price_risk_doubled(sums: &[i64; SCENARIOS], active: u8, paired: u8) -> u64
     excess(pair_sum(sums, active, paired), pair_sum(sums, 1, 2))
 }
 
-/// The scan of sixteen scenario sums, in minor units: the largest sum, the scenario that it comes from with its pair, and
-/// the price risk doubled. A sum is at most `MAX_SUM` either way.
+/// Returns the scan of sixteen scenario sums, in minor units: the largest sum, the scenario that it comes from with its
+/// pair, and twice the price risk. The size of each sum is at most `MAX_SUM`.
 #[tactic(auto, unfolding(crate::specs::Scenarios::scan_of))]
 pub fn scan(sums: &[i64; SCENARIOS]) -> Scan
     requires { All (λ s. nat_abs s ≤ MAX_SUM) sums.now }

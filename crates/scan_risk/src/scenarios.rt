@@ -10,8 +10,8 @@ use span_tables::limits::SCENARIOS;
 use span_tables::records::Contract;
 use std::simd::i64x16;
 
-// A net quantity in each lane. The cast shows that it fits 32 bits: of such numbers the processor makes the products of
-// two lanes by one multiplication, and of numbers of 64 bits by three.
+// Returns a net quantity in each lane. The cast shows that it fits in 32 bits. The processor multiplies two lanes of
+// such numbers with one multiplication, and lanes of 64-bit numbers with three.
 fn net_lanes(net: i64) -> i64x16
     requires { nat_abs net ≤ MAX_NET }
     ensures { result ≡ replicate SCENARIOS net }
@@ -19,7 +19,8 @@ fn net_lanes(net: i64) -> i64x16
     i64x16::splat(i64::from(net as i32))
 }
 
-// The array values of a contract, each in its lane. The casts show that they fit 32 bits, as a net quantity does.
+// Returns the array values of a contract, one in each lane. The casts show that they fit in 32 bits, like a net
+// quantity.
 fn value_lanes(contract: &Contract) -> i64x16
     requires { IsContract contract.now }
     ensures { result ≡ (contract.now).values }
@@ -29,7 +30,7 @@ fn value_lanes(contract: &Contract) -> i64x16
         .cast::<i64>()
 }
 
-// What a net quantity of a contract adds to the sum of each scenario, in minor units.
+// Returns the term that a net quantity of a contract adds to the sum of each scenario, in minor units.
 fn terms(contract: &Contract, net: i64) -> i64x16
     requires net { nat_abs net ≤ MAX_NET }
     requires contract { IsContract contract.now }
@@ -39,7 +40,7 @@ fn terms(contract: &Contract, net: i64) -> i64x16
     net_lanes(net).strict_mul(value_lanes(contract))
 }
 
-// The sum of each scenario with what a contract adds to it.
+// Returns the sum of each scenario with a contract's term added.
 fn with_terms(sums: i64x16, terms: i64x16) -> i64x16
     requires room { All (λ s. nat_abs s + MAX_TERM ≤ MAX_SUM) sums }
     requires terms { All (λ t. nat_abs t ≤ MAX_TERM) terms }
@@ -48,8 +49,9 @@ fn with_terms(sums: i64x16, terms: i64x16) -> i64x16
     sums.strict_add(terms)
 }
 
-/// The sum of each scenario in a lane of its own, scenario 1 in the first: net quantity times array value over the held
-/// contracts, in minor units, where a loss is positive. A sum is at most `MAX_SUM` either way, so that no lane wraps.
+/// Returns the sum of each scenario in its own lane, with scenario 1 in the first lane. It is net quantity times array
+/// value over the held contracts, in minor units, and a loss is positive. The size of a sum is at most `MAX_SUM`, so no
+/// lane wraps.
 pub fn lane_sums(held: &Held) -> i64x16
     ensures value { result ≡ scenario_sums held.now }
     ensures bound { All (λ s. nat_abs s ≤ MAX_SUM) result }
@@ -61,8 +63,8 @@ pub fn lane_sums(held: &Held) -> i64x16
     sums
 }
 
-/// The sum of each scenario, from 1 to 16: net quantity times array value over the held contracts, in minor units, where
-/// a loss is positive.
+/// Returns the sum of each scenario, from 1 to 16. It is net quantity times array value over the held contracts, in
+/// minor units, and a loss is positive.
 pub fn sums(held: &Held) -> [i64; SCENARIOS]
     ensures value { result ≡ scenario_sums held.now }
     ensures bound { All (λ s. nat_abs s ≤ MAX_SUM) result }

@@ -1,12 +1,12 @@
-//! Sums and scans, computed by the definitions: each is the contract of a function that does nothing.
+//! Test vectors for sums and scans, computed by the definitions. Each is the contract of a function that does nothing.
 ghost use Rattle.std.specs.Prelude.{◌≡◌, [], ◌∷◌, pos, neg_ℤ};
 ghost use Rattle.std.specs.List.{repeat};
 ghost use Rattle.scan_risk.specs.near.Samples.{future, held, largest};
 ghost use Rattle.scan_risk.specs.Scenarios.{scan_of, scenario_sums};
 ghost use Rattle.span_tables.specs.declared.limits.TheConstants.{MAX_HELD, MAX_NET, MAX_PRICE2, MAX_SUM};
 
-/// Scans of sixteen sums: no sum is positive, scenario 16 is paired with itself, a negative price risk is 0, and the
-/// lowest of equal sums is active.
+/// Scans of sixteen sums: no sum is positive, scenario 16 is paired with itself, a negative price risk becomes 0, and
+/// the lowest-numbered of equal sums is active.
 #[tactic(auto, unfolding(crate::specs::Scenarios::scan_of))]
 pub fn scans()
     ensures no_loss { scan_of (neg_ℤ (pos 5) ∷ neg_ℤ (pos 3) ∷ neg_ℤ (pos 9) ∷ neg_ℤ (pos 7) ∷ neg_ℤ (pos 4)
@@ -22,7 +22,7 @@ pub fn scans()
     ensures zeros { scan_of (repeat 16 (pos 0 ∷ [])) ≡ record { risk = pos 0; active = 1; paired = 2; price2 = 0 } }
 {}
 
-/// One long future, three long futures against four short ones, and as many of the largest contract as may be held.
+/// One long future, three long futures against four short ones, and the maximum number of the largest contract.
 #[tactic(auto, unfolding(crate::specs::Scenarios::scan_of, crate::specs::Scenarios::scenario_sums))]
 pub fn sums_of_held_contracts()
     ensures one_long { scan_of (scenario_sums (held (pos 1) future ∷ []))

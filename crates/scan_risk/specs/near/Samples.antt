@@ -1,4 +1,4 @@
--- Contracts that the worked rows speak of.
+-- Contracts for the test vectors.
 use Rattle.std.specs.Prelude.{[], ◌∷◌, ◌++◌, codes, ℤ, pos, neg_ℤ}
 use Rattle.std.specs.List.{repeat}
 use Rattle.span_tables.specs.near.Samples.{contract, future_values}
@@ -16,6 +16,6 @@ abbrev pub largest : Contract
 largest = record (contract product.Future (codes "L") (codes "AA") 202503
     (repeat 2 (neg_ℤ (pos MAX_ARRAY_VALUE) ∷ []) ++ repeat 14 (pos MAX_ARRAY_VALUE ∷ []))) { scale = MAX_SCALE }
 
--- a number of contracts
+-- a net quantity of a contract
 abbrev pub held : ℤ → Contract → HeldContract
 held net contract = record { contract = contract; net = net }

@@ -3,7 +3,7 @@ use Rattle.std.proofs.lemmas.Int.{ints, to_z-of_z}
 use Rattle.scan_risk.specs.Scenarios.{at_scenario}
 use Rattle.scan_risk.proofs.scanning.price_risk_doubled.Goals as goal
 
--- two numbers taken away together, or one after the other
+-- subtracting two numbers together equals subtracting one after the other
 less_both : (a b c : ℤ) → a -ℤ (b +ℤ c) ≡ (a -ℤ b) -ℤ c
 less_both a b c = omega (arith, ints)
 

@@ -4,7 +4,7 @@ use Rattle.span_tables.specs.declared.limits.TheConstants.{SCENARIOS}
 use Rattle.scan_risk.proofs.LaneLemmas.{terms_fit, terms_are, terms_small}
 use Rattle.scan_risk.proofs.scenarios.terms.Goals as goal
 
--- as many lanes of the net quantity as there are values
+-- there are as many lanes of the net quantity as values
 nets_are : (nets vs : List ℤ) (net : ℤ) → FitsSigned w64 net → length vs ≡ SCENARIOS
     → nets ≡ replicate SCENARIOS (to_z w64 (of_z w64 net)) → nets ≡ replicate (length vs) net
 nets_are nets vs net fits sixteen is = rw (sixteen, is, to_z-of_z w64 net fits) refl
