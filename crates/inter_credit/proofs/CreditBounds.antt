@@ -1,4 +1,4 @@
--- The sizes of minimums, of credits and of requirements, and that states stay within their ranges.
+-- Bounds on the sizes of minimums, credits and requirements; states stay in range.
 use Rattle.std.proofs.Common.{◌≡◌, ◌≢◌, ℕ, zero, suc, ◌+◌, ◌-◌, ◌*◌, ◌^◌, ◌<◌, ◌≤◌, ◌==◌, Bool, true, false, cond, List, [], ◌∷◌}
 use Rattle.std.proofs.Common.{length, filter, fold, nat_abs, ℤ, pos, negsuc, ◌+ℤ◌, ◌-ℤ◌, refl, ap, ◌∙◌, arith}
 use Rattle.std.specs.Prelude.{All}
@@ -39,7 +39,7 @@ negative_part-le : (z : ℤ) → negative_part z ≤ nat_abs z
 negative_part-le (pos n) = omega arith
 negative_part-le (negsuc n) = omega arith
 
--- short calls and short puts together
+-- the number of short calls and short puts together
 shorts_small : (held : List HeldContract) (m : ℕ) → All (λ h. nat_abs h.net ≤ m) held
     → short_count is_call held + short_count is_put held ≤ length held * m
 shorts_small [] m all = omega arith
@@ -83,14 +83,15 @@ parts_size : (z : ℤ) → nat_abs z ≡ positive_part z + negative_part z
 parts_size (pos n) = omega arith
 parts_size (negsuc n) = omega arith
 
--- what is left of a number is not larger
+-- a remaining delta is not larger in size than the delta
 left_size : (a b : ℤ) → IsLeftOf a b → nat_abs b ≤ nat_abs a
 left_size a b left = omega (arith, parts_size a, parts_size b, left.long, left.short)
 
 split : (b d n : ℕ) → (b + d) * n ≡ b * n + d * n
 split b d n = omega arith
 
--- a use at fewer basis points than a whole keeps the weight below what was used
+-- using units at no more basis points than a whole keeps the weight plus `whole` times the remaining size within its
+-- bound
 weight_stays : (bp whole before after weight weight_after most : ℕ) → bp ≤ whole → after ≤ before
     → weight_after + bp * after ≡ weight + bp * before → weight + whole * before ≤ most → weight_after + whole * after ≤ most
 weight_stays bp whole before after weight weight_after most le less same small =
@@ -102,7 +103,7 @@ weight_stays bp whole before after weight weight_after most le less same small =
     let t = split bp (whole - bp) after in
     omega (arith, was, is, fewer, s, t, same, small)
 
--- a state of which units were used is one
+-- a state stays in range when units of it are used
 state_stays : (basis_points : ℕ) (before after : CommodityState) → basis_points ≤ MAX_BASIS_POINTS → UsesState basis_points before after
     → IsCommodityState before → IsCommodityState after
 state_stays bp before after small uses is = record {
@@ -116,7 +117,7 @@ state_stays bp before after small uses is = record {
       (MAX_BASIS_POINTS * nat_abs before.net) small (left_size before.rest after.rest uses.rest) uses.weight is.weight);
 }
 
--- each commodity's state is one, also of a number that no commodity has
+-- the state of each commodity number is in range, even if no commodity has the number
 each_state : (states : List CommodityState) → All IsCommodityState states → (k : ℕ) → IsCommodityState (state_at states k)
 each_state [] all k = loaded_state (pos 0) 0 (omega arith) (omega arith)
 each_state (state ∷ states) all zero = All-head IsCommodityState state states all
@@ -127,7 +128,7 @@ states_after_all_spreads [] each k d lt = absurd (omega (arith, lt))
 states_after_all_spreads (state ∷ states) each zero d lt = each zero
 states_after_all_spreads (state ∷ states) each (suc k) d lt = states_after_all_spreads states (λ i. each (suc i)) k d (omega (arith, lt))
 
--- after a spread in both directions
+-- the states after a spread in both directions are in range
 pub both_ways_states : (s : Inter) (states : List CommodityState) → All IsCommodityState states → IsInter (length states) s
     → All IsCommodityState (inter_both_ways states s)
 both_ways_states s states all is =
@@ -143,7 +144,7 @@ fold_stays (s ∷ spreads) n states long all are =
     fold_stays spreads n (inter_both_ways states s) (length-inter_both_ways states s ∙ long)
     (both_ways_states s states all (rw long is)) (All-tail (IsInter n) s spreads are)
 
--- after all spreads
+-- the states after all spreads are in range
 pub states_stay : (spreads : List Inter) (states : List CommodityState) → All IsCommodityState states
     → All (IsInter (length states)) spreads
     → All IsCommodityState (after_inter_spreads spreads states)
@@ -160,14 +161,14 @@ length-after_inter_spreads (s ∷ spreads) states =
 
 -- ---- the credit
 
--- the product that a credit is divided from fits a signed number of 128 bits
+-- the dividend of a credit fits in a signed 128-bit number
 pub product_small : (state : CommodityState) → IsCommodityState state → state.price2 * state.weight < 2 ^ 127
 product_small state is =
     let weight : state.weight ≤ MAX_BASIS_POINTS * MAX_UNITS = omega (arith, is.weight, is.net) in
     let most : state.price2 * state.weight ≤ MAX_PRICE2 * (MAX_BASIS_POINTS * MAX_UNITS) = mul-le-mul is.price2 weight in
     omega (arith, most)
 
--- that of the commodity of a number
+-- the same for the state of a commodity number
 pub products_small : (states : List CommodityState) (k : ℕ) → All IsCommodityState states
     → (state_at states k).price2 * (state_at states k).weight < 2 ^ 127
 products_small states k all = product_small (state_at states k) (each_state states all k)
@@ -193,7 +194,7 @@ credit_if false state e is =
     let weight : state.weight ≤ 10 ^ 4 * nat_abs state.net = omega (arith, is.weight) in
     half (credit_of state) (nat_abs state.net) state.price2 state.weight some (credit_greatest state some).0 weight
 
--- the credit of a commodity
+-- twice the credit of a commodity is at most `MAX_PRICE2`
 pub credit_small : (states : List CommodityState) (c : ℕ) → All IsCommodityState states → 2 * credit_at states c ≤ MAX_PRICE2
 credit_small [] c all = omega arith
 credit_small (state ∷ states) zero all =

@@ -1,4 +1,5 @@
--- The credit is the greatest number whose product stays below; without spreads there is none.
+-- The credit is the greatest number whose product is within price risk times weight. Without spreads there is no
+-- credit.
 use Rattle.std.proofs.Common.{◌≡◌, ℕ, ◌*◌, ◌/◌, ◌^◌, ◌<◌, ◌≤◌, Bool, true, false, cond, List, nat_abs, zero}
 use Rattle.std.proofs.Common.{suc, [], ◌∷◌, refl, arith}
 use Rattle.std.specs.Prelude.{◌==◌, ◌≢◌}
@@ -9,7 +10,7 @@ use Rattle.inter_credit.specs.Credits.{after_inter_spreads, credit_of, credit_at
 use Rattle.inter_credit.specs.States.{IsUnspread}
 use Rattle.inter_credit.specs.declared.commodity_state.CommodityState.{CommodityState}
 
--- with a net delta of 0 there is no credit
+-- if the net delta is 0 there is no credit
 pub credit_zero : (state : CommodityState) → nat_abs state.net ≡ 0 → credit_of state ≡ 0
 unfolding credit_of
 credit_zero state e = rw e refl
@@ -17,7 +18,7 @@ credit_zero state e = rw e refl
 test_not_zero : (n : ℕ) → n ≢ 0 → (n == 0) ≡ false
 test_not_zero n h = grind (arith, nat_tests, h)
 
--- else it is the greatest g with g * 2 * 10^4 * |net| at most price2 * weight
+-- otherwise the credit is the greatest g with g * 2 * 10^4 * |net| at most price2 * weight
 pub credit_greatest : (state : CommodityState) → nat_abs state.net ≢ 0
     → (credit_of state * (2 * 10 ^ 4 * nat_abs state.net) ≤ state.price2 * state.weight)
     × ((g : ℕ) → g * (2 * 10 ^ 4 * nat_abs state.net) ≤ state.price2 * state.weight → g ≤ credit_of state)

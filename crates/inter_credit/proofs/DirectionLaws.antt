@@ -1,4 +1,4 @@
--- Between commodities a spread forms in one direction at most.
+-- An intercommodity spread forms in at most one direction.
 use Rattle.std.proofs.Common.{◌≡◌, ◌/◌, ◌<◌, ℕ, ℤ, zero, suc, pos, negsuc, List, [], ◌∷◌, length, refl, ap, ◌∙◌, arith}
 use Rattle.std.proofs.Common.{◌⊎◌, inl, inr}
 use Rattle.std.proofs.Math.Nat.{zero-div}
@@ -15,7 +15,7 @@ use Rattle.inter_credit.proofs.StateLemmas.{rest_of_state}
 use Rattle.inter_credit.proofs.OpenLemmas.{some_of_some}
 use Rattle.inter_credit.proofs.RestLaws.{one_way_uses}
 
--- what has a part on a leg's side with A long leaves nothing on its side with A short
+-- a delta on a leg's side with A long leaves no remaining delta on the leg's side with A short
 other_side : (on : Side) (before after : ℤ) → IsLeftOf before after → 0 < part_on (market_side ALong on) before
     → part_on (market_side AShort on) after ≡ 0
 other_side side.A (pos n) after left some = let h = left.short in omega (arith, h)

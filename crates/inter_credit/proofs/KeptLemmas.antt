@@ -1,4 +1,4 @@
--- What spreads between commodities keep of a state.
+-- The fields of a state that intercommodity spreads do not change.
 use Rattle.std.proofs.Common.{◌≡◌, ℕ, zero, suc, ◌*◌, List, [], ◌∷◌, refl, ◌∙◌}
 use Rattle.std.specs.Prelude.{fold}
 use Rattle.span_tables.specs.Sides.{market_side}
@@ -10,7 +10,7 @@ use Rattle.span_tables.specs.declared.sides.MarketSide.{MarketSide}
 use Rattle.inter_credit.specs.Credits.{change_at, inter_formed_in, inter_both_ways, inter_one_way, state_after, states_after, state_at}
 use Rattle.inter_credit.specs.declared.commodity_state.CommodityState.{CommodityState}
 
--- what is read of a state, and using a part of its rest keeps it
+-- a function of a state that does not change when a part of its remaining delta is used
 module _ {A : Type 0} (of : CommodityState → A)
     (keeps : (on : MarketSide) (used bp : ℕ) (state : CommodityState) → of (state_after on used bp state) ≡ of state) where
   kept_change : (on : MarketSide) (used bp i : ℕ) (states : List CommodityState) (k : ℕ)

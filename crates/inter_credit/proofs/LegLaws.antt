@@ -1,4 +1,4 @@
--- A spread in a direction takes of each leg's commodity what the leg needs, and of the others nothing.
+-- A spread in a direction uses exactly what each leg needs of its commodity, and nothing of other commodities.
 use Rattle.std.proofs.Common.{◌≡◌, ◌≢◌, ◌+◌, ◌*◌, ◌-◌, ◌<◌, ◌≤◌, ◌==◌, ℕ, zero, suc, false, List, [], ◌∷◌, length, ℤ}
 use Rattle.std.proofs.Common.{pos, negsuc, neg_ℤ, refl, sym, ap, ◌∙◌, arith}
 use Rattle.std.specs.List.{AllByRecursion, list_any}
@@ -23,7 +23,7 @@ part_of_neg : (n : ℕ) → negative_part (neg_ℤ (pos n)) ≡ n
 part_of_neg zero = refl
 part_of_neg (suc n) = refl
 
--- what was used and what is left of a market side make up the side
+-- the used units and the remaining units of a market side sum to the side
 used_part : (on : MarketSide) (z : ℤ) (used : ℕ) → used ≤ part_on on z → part_on on (less_used on z used) + used ≡ part_on on z
 used_part Long (pos n) used le = let e : less_used Long (pos n) used ≡ pos (n - used) = omega (arith, ints, le) in rw e (omega arith)
 used_part Long (negsuc n) used le = let e : less_used Long (negsuc n) used ≡ negsuc n = omega (arith, ints, le) in rw e (omega arith)
@@ -32,7 +32,7 @@ used_part Short (negsuc n) used le =
     let e : less_used Short (negsuc n) used ≡ neg_ℤ (pos (suc n - used)) = omega (arith, ints, le) in
     rw e (rw (part_of_neg (suc n - used)) (omega arith))
 
--- the side of a commodity falls by what was used of it
+-- the side of a commodity falls by the units that were used
 side_falls : (on : MarketSide) (used basis_points i : ℕ) (states : List CommodityState) → i < length states
     → used ≤ part_on on (rest_at states i)
     → part_on on (rest_at (change_at (state_after on used basis_points) i states) i) + used ≡ part_on on (rest_at states i)
@@ -40,7 +40,7 @@ side_falls on used bp i [] lt le = absurd (omega arith)
 side_falls on used bp zero (state ∷ states) lt le = used_part on state.rest used le
 side_falls on used bp (suc i) (state ∷ states) lt le = side_falls on used bp i states (omega arith) le
 
--- no other leg is of a leg's commodity
+-- no other leg has a leg's commodity
 each_apart : (leg : CommodityLeg) (legs : List CommodityLeg) → list_any (λ b. leg.commodity == b.commodity) legs ≡ false
     → AllByRecursion (λ other. leg.commodity ≢ other.commodity) legs
 each_apart leg [] e = tt
@@ -81,7 +81,7 @@ module _ (d : Direction) (n basis_points : ℕ) where
     from_first leg legs end states apart.1 fall.1,
   )
 
-  -- the side of each leg's commodity falls by just what the leg needs
+  -- the side of each leg's commodity falls by exactly what the leg needs
   legs_fall : (legs : List CommodityLeg) (states : List CommodityState) → HaveRoom d n legs states
       → AllByRecursion (λ leg. leg_side d leg (states_after d n basis_points legs states) + n * leg.ratio ≡ leg_side d leg states) legs
   legs_fall [] states room = tt
@@ -97,7 +97,7 @@ module _ (d : Direction) (n basis_points : ℕ) where
         from_first leg legs (states_after d n basis_points legs (after leg states)) states apart others,
       )
 
--- the side of each leg falls by what the spreads formed need
+-- the side of each leg falls by what the formed spreads need
 pub formed_fall : (d : Direction) (s : Inter) (states : List CommodityState) → IsInter (length states) s
     → AllByRecursion (λ leg. leg_side d leg (inter_one_way s d states)
     + spreads_formed (commodity_rooms d s.legs states) * leg.ratio ≡ leg_side d leg states) s.legs

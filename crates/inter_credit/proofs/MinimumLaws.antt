@@ -1,4 +1,4 @@
--- The short option minimum counts short calls and short puts; the requirement is the larger of two numbers.
+-- The short option minimum counts short calls and short puts. The requirement is the larger of two numbers.
 use Rattle.std.proofs.Common.{◌≡◌, ℕ, ◌+◌, ◌*◌, ◌<◌, Bool, true, false, cond, ◌&&◌, List, [], ◌∷◌, max, filter, length, take}
 use Rattle.std.proofs.Common.{get_or, sum_by, nat_abs, ℤ, pos, negsuc, ◌≤ℤ◌, ◌+ℤ◌, ◌-ℤ◌, refl, sym, ap, ◌∙◌, arith}
 use Rattle.std.specs.Prelude.{IfSome, int_lt, slice_get}
@@ -15,12 +15,12 @@ use Rattle.span_tables.proofs.HeldLemmas.{held_here}
 use Rattle.span_tables.specs.declared.records.MinimumMethod.TheVariants as method
 use Rattle.inter_credit.specs.Requirement.{is_call, is_put, minimum_of, requirement_of, short_count}
 
--- a filter's sum, by its first element
+-- the sum over a filtered list, split at its first element
 pub by_test : {A : Type 0} (b : Bool) (f : A → ℕ) (x : A) (xs : List A) → sum_by f (cond b (x ∷ xs) xs) ≡ cond b (f x) 0 + sum_by f xs
 by_test true f x xs = sum_by-cons f x xs
 by_test false f x xs = omega arith
 
--- only short ones count
+-- only a short net quantity counts
 counted : (b : Bool) (net : ℤ) → cond b (negative_part net) 0 ≡ cond (b && int_lt net (pos 0)) (nat_abs net) 0
 counted true (pos n) = grind (arith, nat_tests)
 counted true (negsuc n) = refl
@@ -40,7 +40,7 @@ last_of : (b : Bool) (h : HeldContract) → sum_by (λ x. negative_part x.net) (
 last_of true h = sum_by-cons (λ (x : HeldContract). negative_part x.net) h [] ∙ omega arith
 last_of false h = refl
 
--- one held contract more, by its record and its net
+-- one more held contract, given by its record and its net
 pub short_count_more : (is_kind : ProductKind → Bool) (held : List HeldContract) (i : ℕ) (x : Contract) (n : ℤ) → i < length held
     → IfSome (slice_get held i) (λ h. x ≡ h.contract) → IfSome (slice_get held i) (λ h. n ≡ h.net)
     → short_count is_kind (take (i + 1) held) ≡ short_count is_kind (take i held) + cond (is_kind x.kind) (negative_part n) 0
@@ -54,13 +54,13 @@ short_count_more is_kind held i x n lt contract net =
     (sym (held_here held i x n lt contract net))
     ∙ ap (λ m. short_count is_kind (take i held) + m) (last_of (is_kind x.kind) h)
 
--- the sum of both kinds
+-- method SUM counts both kinds together
 pub minimum_of_sum : (rate : ℕ) (held : List HeldContract)
     → minimum_of rate method.Sum held ≡ rate * (short_count is_call held + short_count is_put held)
 unfolding minimum_of
 minimum_of_sum rate held = refl
 
--- the larger of both kinds
+-- method MAX counts the larger kind
 pub minimum_of_max : (rate : ℕ) (held : List HeldContract)
     → minimum_of rate method.Max held ≡ rate * max (short_count is_call held) (short_count is_put held)
 unfolding minimum_of

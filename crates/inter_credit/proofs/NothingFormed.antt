@@ -1,4 +1,4 @@
--- Where no spread is formed, nothing changes.
+-- If no spread is formed, nothing changes.
 use Rattle.std.proofs.Common.{◌≡◌, ◌+◌, ◌*◌, ℕ, ℤ, zero, suc, List, [], ◌∷◌, refl, ap, ◌∙◌, arith}
 use Rattle.std.proofs.lemmas.Int.{ints}
 use Rattle.std.specs.Prelude.{pos, ◌-ℤ◌, ◌+ℤ◌}
@@ -36,7 +36,7 @@ none_formed d b (leg ∷ legs) states =
     rw none (same_states (state_after (market_side d leg.side) 0 b) (same_state (market_side d leg.side) b) leg.commodity states) in
     ap (λ ls. states_after d 0 b legs ls) step ∙ none_formed d b legs states
 
--- a spread of which none is formed
+-- the number of spreads formed is 0
 pub nothing_formed : (spread : Inter) (d : Direction) (states : List CommodityState)
     → spreads_formed (commodity_rooms d spread.legs states) ≡ 0 → inter_one_way spread d states ≡ states
 nothing_formed spread d states none = rw none (none_formed d spread.basis_points spread.legs states)

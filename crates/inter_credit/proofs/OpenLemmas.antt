@@ -1,4 +1,5 @@
--- A direction that needs a side of the market on which a commodity has no rest forms nothing, and rests open no side.
+-- A direction forms nothing if it needs a side of the market on which a commodity has no remaining delta. Remaining
+-- deltas open no new side.
 use Rattle.std.proofs.Common.{◌≡◌, ◌/◌, ◌<◌, ◌≤◌, ℕ, ℤ, nat_abs, pos, zero, suc, Bool, true, false, List, []}
 use Rattle.std.proofs.Common.{◌∷◌, length, replicate, set, refl, sym, ap, ◌∙◌, arith}
 use Rattle.std.specs.List.{All, AllByRecursion}
@@ -22,12 +23,12 @@ use Rattle.inter_credit.proofs.StateLemmas.{rest_of_state}
 use Rattle.inter_credit.proofs.NothingFormed.{nothing_formed}
 use Rattle.inter_credit.proofs.RestLaws.{one_way_uses}
 
--- what can be divided into some is some
+-- a number with a quotient above 0 is above 0
 pub some_of_some : (x d : ℕ) → 0 < x / d → 0 < x
 some_of_some zero d some = absurd (omega (arith, some, zero-div d))
 some_of_some (suc x) d some = omega arith
 
--- where spreads are formed, each leg's commodity is marked
+-- if spreads are formed, each leg's commodity is marked
 legs_marked : (d : Direction) (sides : OpenSides) (states : List CommodityState) → AreOpen sides states → (legs : List CommodityLeg)
     → 0 < spreads_formed (commodity_rooms d legs states)
     → AllByRecursion (λ leg. IsMarked (numbers_on (market_side d leg.side) sides) leg.commodity) legs
@@ -54,7 +55,7 @@ closed_by (suc n) spread d sides states marked formed tells open_sides not =
     (legs_marked d sides states open_sides spread.legs (omega (arith, formed)))) in
     absurd cc
 
--- where some leg's commodity is not marked, nothing is formed
+-- if a leg's commodity is not marked, nothing is formed
 pub closed_way : (spread : Inter) (d : Direction) (sides : OpenSides) (states : List CommodityState) (marked : Bool)
     → (All (λ leg. IsMarked (numbers_on (market_side d leg.side) sides) leg.commodity) spread.legs → marked ≡ true)
     → AreOpen sides states → marked ≡ false → inter_one_way spread d states ≡ states
@@ -66,7 +67,7 @@ open_left : (sides : OpenSides) (k : ℕ) (before after : ℤ) → IsLeftOf befo
 open_left sides k before after left at Long some = at Long (omega (arith, some, left.long))
 open_left sides k before after left at Short some = at Short (omega (arith, some, left.short))
 
--- what a spread leaves lies on the same sides
+-- the remaining deltas after a spread are on the same sides
 pub open_after : (spread : Inter) (d : Direction) (sides : OpenSides) (states : List CommodityState) → IsInter (length states) spread
     → AreOpen sides states → AreOpen sides (inter_one_way spread d states)
 open_after spread d sides states inter open_sides k =
@@ -87,7 +88,7 @@ no_rest_at (suc n) (suc k) = no_rest_at n k
 pub none_open : (sides : OpenSides) (n : ℕ) → AreOpen sides (replicate n (unspread_state (pos 0) 0))
 none_open sides n k = rw (no_rest_at n k) (no_rest sides k)
 
--- a commodity that is loaded opens its side
+-- loading a commodity opens its side
 set_open : (P : ℕ → ℤ → Type 0) (states : List CommodityState) (i : ℕ) (state : CommodityState) → ((k : ℕ) → P k (rest_at states k))
     → P i state.rest
     → (k : ℕ) → P k (rest_at (set states i state) k)
@@ -112,7 +113,7 @@ same_state state net price2 no_net no_risk none nothing unspread = λ k. record 
   weight = unspread.weight k;
 }
 
--- to load nothing where nothing is loaded changes nothing
+-- loading zeros for a commodity that is not loaded changes nothing
 pub nothing_loaded : (states : List CommodityState) (i : ℕ) (net : ℤ) (price2 : ℕ) → net ≡ pos 0 → price2 ≡ 0
     → IsNotLoaded states i → IsUnspread states
     → states ≡ set states i (unspread_state net price2)
@@ -122,7 +123,7 @@ nothing_loaded (x ∷ xs) zero net price2 no_net no_risk none unspread =
 nothing_loaded (x ∷ xs) (suc i) net price2 no_net no_risk none unspread =
     ap (λ ys. x ∷ ys) (nothing_loaded xs i net price2 no_net no_risk none (λ k d lt. unspread (suc k) d (omega arith)))
 
--- a net delta and a price risk in their ranges make a state
+-- a net delta and a price risk in range make a state in range
 pub loaded_state : (net : ℤ) (price2 : ℕ) → nat_abs net ≤ MAX_UNITS → price2 ≤ MAX_PRICE2 → IsCommodityState (unspread_state net price2)
 loaded_state net price2 small few = record {
   net = small;

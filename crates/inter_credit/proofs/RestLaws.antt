@@ -1,4 +1,4 @@
--- A spread leaves of each commodity's rest a part.
+-- A spread leaves a part of each commodity's remaining delta.
 use Rattle.std.proofs.Common.{◌≡◌, ◌+◌, ◌*◌, ◌-◌, ◌≤◌, ℕ, zero, suc, List, [], ◌∷◌, length, ℤ, pos}
 use Rattle.std.proofs.Common.{negsuc, neg_ℤ, nat_abs, refl, ◌∙◌, arith}
 use Rattle.std.proofs.lemmas.Int.{ints}
@@ -35,7 +35,7 @@ size_of_neg zero (suc m) used e = absurd (omega arith)
 size_of_neg (suc n) zero used e = e
 size_of_neg (suc n) (suc m) used e = e
 
--- what is left of a rest after a use that it has room for
+-- a use that a remaining delta has room for leaves a part of it
 used_left : (on : MarketSide) (z : ℤ) (used : ℕ) → used ≤ part_on on z → IsLeftOf z (less_used on z used)
 used_left Long (pos n) used le =
     let e : less_used Long (pos n) used ≡ pos (n - used) = omega (arith, ints, le) in
@@ -47,7 +47,7 @@ used_left Short (negsuc n) used le =
     let e : less_used Short (negsuc n) used ≡ neg_ℤ (pos (suc n - used)) = omega (arith, ints, le) in
     rw e (left_of_neg (suc n) (suc n - used) (omega arith))
 
--- what was used and what is left make up the rest
+-- the used units and the new remaining delta sum to the old one in size
 used_size : (on : MarketSide) (z : ℤ) (used : ℕ) → used ≤ part_on on z → nat_abs (less_used on z used) + used ≡ nat_abs z
 used_size Long (pos n) used le = let e : less_used Long (pos n) used ≡ pos (n - used) = omega (arith, ints, le) in rw e (omega arith)
 used_size Long (negsuc n) used le = let e : less_used Long (negsuc n) used ≡ negsuc n = omega (arith, ints, le) in rw e (omega arith)
@@ -81,7 +81,7 @@ used_state on used bp state le = record {
       (used_size on state.rest used le);
 }
 
--- a change at a place uses each state, where it does so there
+-- using units of one commodity is a valid use for the state of every commodity
 change_uses : (on : MarketSide) (used basis_points i : ℕ) (states : List CommodityState) → used ≤ part_on on (rest_at states i)
     → (k : ℕ) → UsesState basis_points (state_at states k) (state_at (change_at (state_after on used basis_points) i states) k)
 change_uses on used bp i [] le k = same_state bp (state_at [] k)
@@ -90,7 +90,7 @@ change_uses on used bp zero (state ∷ states) le (suc k) = same_state bp (state
 change_uses on used bp (suc i) (state ∷ states) le zero = same_state bp state
 change_uses on used bp (suc i) (state ∷ states) le (suc k) = change_uses on used bp i states le k
 
--- spreads keep how many states there are
+-- spreads keep the number of states
 pub length-states_after : (d : Direction) (n basis_points : ℕ) (legs : List CommodityLeg) (states : List CommodityState)
     → length (states_after d n basis_points legs states) ≡ length states
 length-states_after d n bp [] states = refl
@@ -113,7 +113,7 @@ one_way_uses s d states inter k =
     let n : ℕ = spreads_formed (commodity_rooms d s.legs states) in
     legs_use d n s.basis_points s.legs states (formed_have_room (length states) d s states s.legs n inter refl refl refl) k
 
--- a spread in both directions
+-- a spread in both directions uses each state
 pub both_ways_use : (states : List CommodityState) (s : Inter) → IsInter (length states) s
     → (k : ℕ) → UsesState s.basis_points (state_at states k) (state_at (inter_both_ways states s) k)
 unfolding inter_both_ways

@@ -1,4 +1,4 @@
--- The spreads that are formed fit each leg.
+-- The number of spreads formed fits each leg.
 use Rattle.std.proofs.Common.{◌≡◌, ◌/◌, ◌*◌, ◌<◌, ◌≤◌, ℕ, min, List, [], ◌∷◌, map, length, arith}
 use Rattle.std.specs.List.{All, AllByRecursion}
 use Rattle.std.proofs.Math.Nat.{div-mul-le_self, mul-le-mul_right, min-le_left, min-le_right}
@@ -15,7 +15,7 @@ use Rattle.inter_credit.specs.declared.commodity_state.CommodityState.{Commodity
 room_of : Direction → List CommodityState → CommodityLeg → Room
 room_of d states leg = record { side = part_on (market_side d leg.side) (rest_at states leg.commodity); ratio = leg.ratio }
 
--- n spreads need no more of each leg than it has
+-- n spreads use no more of each leg's side than it has
 abbrev Fit : (CommodityLeg → Room) → ℕ → List CommodityLeg → Type 0
 Fit f n legs = AllByRecursion (λ leg. n * (f leg).ratio ≤ (f leg).side) legs
 
@@ -36,7 +36,7 @@ formed_fit f (leg ∷ next ∷ legs) =
       Fit-fewer f _ n (next ∷ legs) (min-le_right ((f leg).side / (f leg).ratio) n) (formed_fit f (next ∷ legs)),
     )
 
--- the spreads formed fit each leg
+-- each leg has room for the number of spreads formed
 pub formed_have_room : (commodities : ℕ) (d : Direction) (spread : Inter) (states : List CommodityState) (legs : List CommodityLeg) (n : ℕ)
     → IsInter commodities spread → length states ≡ commodities → legs ≡ spread.legs
     → n ≡ spreads_formed (commodity_rooms d legs states)

@@ -1,4 +1,4 @@
--- A change of one commodity's state, and what it leaves of the others.
+-- A change of one commodity's state, and its effect on the other states.
 use Rattle.std.proofs.Common.{◌≡◌, ◌≢◌, ◌+◌, ◌*◌, ◌<◌, ◌≤◌, ◌==◌, ◌||◌, ℕ, zero, suc, Bool, true}
 use Rattle.std.proofs.Common.{false, List, [], ◌∷◌, length, get_or, set, drop, refl, sym, ap, ◌∙◌, arith}
 use Rattle.std.specs.List.{list_any}
@@ -12,7 +12,7 @@ use Rattle.inter_credit.specs.Credits.{change_at, state_at, rest_at}
 use Rattle.inter_credit.specs.near.Rooms.{HaveRoom}
 use Rattle.inter_credit.specs.declared.commodity_state.CommodityState.{CommodityState}
 
--- a change at a place is a write
+-- a change at an index is a write at that index
 change_at_set : {A : Type 0} (f : A → A) (i : ℕ) (xs : List A) (d : A) → set xs i (f (get_or xs i d)) ≡ change_at f i xs
 change_at_set f i [] d = refl
 change_at_set f zero (x ∷ xs) d = refl
@@ -27,7 +27,7 @@ length-change_at f i [] = refl
 length-change_at f zero (x ∷ xs) = refl
 length-change_at f (suc i) (x ∷ xs) = ap suc (length-change_at f i xs)
 
--- the states of other commodities stay
+-- the states of other commodities do not change
 pub state_at-change_at : (f : CommodityState → CommodityState) (i k : ℕ) (states : List CommodityState) → i ≢ k
     → state_at (change_at f i states) k ≡ state_at states k
 state_at-change_at f i k [] ne = refl
@@ -36,13 +36,13 @@ state_at-change_at f zero (suc k) (state ∷ states) ne = refl
 state_at-change_at f (suc i) zero (state ∷ states) ne = refl
 state_at-change_at f (suc i) (suc k) (state ∷ states) ne = state_at-change_at f i k states (λ e. ne (ap suc e))
 
--- the rest of a commodity stands in its state
+-- the remaining delta of a commodity is the one in its state
 pub rest_of_state : (states : List CommodityState) (k : ℕ) → rest_at states k ≡ (state_at states k).rest
 rest_of_state [] k = refl
 rest_of_state (state ∷ states) zero = refl
 rest_of_state (state ∷ states) (suc k) = rest_of_state states k
 
--- the rests of other commodities stay
+-- the remaining deltas of other commodities do not change
 pub rest_at-change_at : (f : CommodityState → CommodityState) (i k : ℕ) (states : List CommodityState) → i ≢ k
     → rest_at (change_at f i states) k ≡ rest_at states k
 rest_at-change_at f i k states ne =
@@ -57,7 +57,7 @@ pub or_right : (a b : Bool) → (a || b) ≡ false → b ≡ false
 or_right true b e = cc
 or_right false b e = e
 
--- a test that no element passes fails at each place
+-- a test that no element passes fails at each index
 none_at : {A : Type 0} (p : A → Bool) (xs : List A) → list_any p xs ≡ false → (k : ℕ) (d : A) → k < length xs
     → p (get_or xs k d) ≡ false
 none_at p [] e k d lt = absurd (omega arith)
@@ -67,7 +67,7 @@ none_at p (x ∷ xs) e (suc k) d lt = none_at p xs (or_right (p x) (list_any p x
 pub not_equal : (a b : ℕ) → (a == b) ≡ false → a ≢ b
 not_equal a b e = grind (arith, nat_tests)
 
--- after one leg's use the others have the room that they had
+-- one leg's use leaves the other legs the room that they had
 pub HaveRoom-rest : (d : Direction) (n : ℕ) (leg : CommodityLeg) (legs : List CommodityLeg) (states : List CommodityState)
     (f : CommodityState → CommodityState)
     → HaveRoom d n (leg ∷ legs) states → HaveRoom d n legs (change_at f leg.commodity states)
@@ -92,7 +92,7 @@ HaveRoom-drop d n legs i leg states after f lt at e h =
     let split : drop i legs ≡ leg ∷ drop (i + 1) legs = drop_more legs i leg lt ∙ ap (λ x. x ∷ drop (i + 1) legs) (sym at) in
     rw e (HaveRoom-rest d n leg (drop (i + 1) legs) states f (rw split at h))
 
--- the room of the leg at a place
+-- the room of the leg at an index
 pub HaveRoom-first : (d : Direction) (n : ℕ) (legs : List CommodityLeg) (i : ℕ) (leg : CommodityLeg) (states : List CommodityState)
     → i < length legs → leg ≡ get_or legs i leg → HaveRoom d n (drop i legs) states
     → n * leg.ratio ≤ part_on (market_side d leg.side) (rest_at states leg.commodity)

@@ -1,4 +1,4 @@
--- The option value of held contracts: one contract more, and its size.
+-- The option value of held contracts: one more contract, and a bound on its size.
 use Rattle.std.proofs.Common.{◌≡◌, ℕ, zero, suc, ◌+◌, ◌*◌, ◌<◌, ◌≤◌, List, length, take, ap, sym, ◌∙◌, refl, arith, inl, inr, ℤ}
 use Rattle.std.proofs.Common.{pos, negsuc, neg_ℤ, ◌+ℤ◌, ◌-ℤ◌, ◌*ℤ◌, ◌⊎◌}
 use Rattle.std.specs.Prelude.{IfSome, None, Option, Some, nat_abs, slice_get}
@@ -16,12 +16,12 @@ use Rattle.span_tables.proofs.HeldLemmas.{held_here}
 use Rattle.inter_credit.specs.OptionValue.{due_of, excess_of, net_value_of, position_value}
 use Rattle.inter_credit.specs.declared.option_value.TheConstants.{MAX_NET_VALUE, MAX_POSITION_VALUE}
 
--- what a contract is worth is not too large
+-- the value of a held contract is within its limit
 pub position_small : (net : ℤ) (value : ℕ) → nat_abs net ≤ MAX_NET → value ≤ MAX_OPTION_VALUE
     → nat_abs (net *ℤ pos value) ≤ MAX_POSITION_VALUE
 position_small net value x y = product_size net (pos value) MAX_NET MAX_OPTION_VALUE x y
 
--- what the contract at a place is worth, by its record and its net
+-- the value of the held contract at an index, given by its record and its net
 pub position_told : (held : List HeldContract) (i : ℕ) (x : Contract) (n value : ℤ) → value ≡ n *ℤ pos x.extras.option_value
     → IfSome (slice_get held i) (λ h. x ≡ h.contract) → IfSome (slice_get held i) (λ h. n ≡ h.net)
     → IfSome (slice_get held i) (λ h. value ≡ position_value h)
@@ -31,7 +31,7 @@ position_told held i x n value is contract net = told (slice_get held i) contrac
   told None contract net = tt
   told (Some h) contract net = is ∙ (λ j. net j *ℤ pos (contract j).extras.option_value)
 
--- one held contract more, by its record and its net
+-- one more held contract, given by its record and its net
 pub net_value_more : (held : List HeldContract) (i : ℕ) (x : Contract) (n : ℤ) → i < length held
     → IfSome (slice_get held i) (λ h. x ≡ h.contract) → IfSome (slice_get held i) (λ h. n ≡ h.net)
     → net_value_of (take (i + 1) held) ≡ net_value_of (take i held) +ℤ n *ℤ pos x.extras.option_value
@@ -41,7 +41,7 @@ net_value_more held i x n lt contract net =
     fold_more (λ (a : ℤ) y. a +ℤ position_value y) (pos 0) held i h lt
     ∙ ap (λ (y : HeldContract). net_value_of (take i held) +ℤ position_value y) (sym (held_here held i x n lt contract net))
 
--- the option value of held contracts
+-- the option value of held contracts is within its limit
 pub net_value_small : (held : List HeldContract) → AreHeld held → nat_abs (net_value_of held) ≤ MAX_NET_VALUE
 unfolding net_value_of
 net_value_small held are =
@@ -50,7 +50,7 @@ net_value_small held are =
     let few : length held * MAX_POSITION_VALUE ≤ MAX_HELD * MAX_POSITION_VALUE = mul-le-mul_right MAX_POSITION_VALUE are.few in
     omega (arith, all, few)
 
--- ---- what an account has to bring
+-- ---- due and excess
 
 pub due_or_excess : (total value : ℤ) → (due_of total value ≡ 0) ⊎ (excess_of total value ≡ 0)
 due_or_excess total value = by_sign (total -ℤ value) (value -ℤ total) (omega (arith, ints)) where

@@ -1,4 +1,4 @@
--- The weight of a commodity grows by the spreads formed times its legs' ratios times the basis points.
+-- The weight of a commodity grows by spreads formed times leg ratio times basis points.
 use Rattle.std.proofs.Common.{◌≡◌, ◌≢◌, ◌+◌, ◌*◌, ◌<◌, ◌==◌, ℕ, zero, suc, Bool, true, false, cond, List, [], ◌∷◌}
 use Rattle.std.proofs.Common.{filter, length, sum_by, refl, ap, ◌∙◌, arith}
 use Rattle.std.proofs.Math.Nat.{add-mul}
@@ -16,7 +16,7 @@ use Rattle.inter_credit.proofs.StateLemmas.{length-change_at, state_at-change_at
 use Rattle.inter_credit.proofs.MinimumLaws.{by_test}
 use Rattle.inter_credit.proofs.RestLaws.{length-states_after}
 
--- the state at the place of a change
+-- the state at the index of a change
 changed_here : (f : CommodityState → CommodityState) (i : ℕ) (states : List CommodityState) → i < length states
     → state_at (change_at f i states) i ≡ f (state_at states i)
 changed_here f i [] lt = absurd (omega arith)
@@ -27,7 +27,7 @@ module _ (d : Direction) (n basis_points c : ℕ) where
   abbrev after : CommodityLeg → List CommodityState → List CommodityState
   after leg states = change_at (state_after (market_side d leg.side) (n * leg.ratio) basis_points) leg.commodity states
 
-  -- what a leg adds to the weight of its commodity
+  -- the amount that a leg adds to the weight of its commodity
   abbrev part : CommodityLeg → ℕ
   part leg = n * leg.ratio * basis_points
 
@@ -57,7 +57,7 @@ module _ (d : Direction) (n basis_points c : ℕ) where
       let all = by_test (is_leg leg) part leg (filter is_leg legs) in
       omega (arith, first, others, all)
 
--- what the legs of a commodity add in both directions
+-- the sum of the amounts that the legs of a commodity add in both directions
 both_parts : (n k basis_points : ℕ) (legs : List CommodityLeg)
     → sum_by (λ leg. n * leg.ratio * basis_points) legs + sum_by (λ leg. k * leg.ratio * basis_points) legs
     ≡ sum_by (λ leg. (n + k) * leg.ratio * basis_points) legs

@@ -1,9 +1,9 @@
--- The value of options, and what an account has to bring after it.
+-- The value of options, and the due and excess of an account.
 use Rattle.std.specs.Prelude.{ℕ, List, ℤ, pos, ◌*ℤ◌, ◌-ℤ◌}
 use Rattle.span_money.specs.Numbers.{int_sum_by, positive_part}
 use Rattle.span_tables.specs.Net.{HeldContract}
 
--- what a held contract is worth: its net quantity times its option value
+-- the value of a held contract: its net quantity times its option value
 abbrev pub position_value : HeldContract → ℤ
 position_value h = h.net *ℤ pos (h.contract).extras.option_value
 
@@ -11,10 +11,10 @@ position_value h = h.net *ℤ pos (h.contract).extras.option_value
 unfoldable pub net_value_of : List HeldContract → ℤ
 net_value_of held = int_sum_by position_value held
 
--- what an account has to bring: its total less its option value, and 0 when negative
+-- the due, which an account has to post: its total less its option value, or 0 if that is negative
 abbrev pub due_of : ℤ → ℤ → ℕ
 due_of total value = positive_part (total -ℤ value)
 
--- what its option value is over its total, and 0 when negative
+-- the excess of an account: its option value less its total, or 0 if that is negative
 abbrev pub excess_of : ℤ → ℤ → ℕ
 excess_of total value = positive_part (value -ℤ total)

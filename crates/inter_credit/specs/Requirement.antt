@@ -20,7 +20,7 @@ is_put product.Future = false
 is_put product.Call = false
 is_put product.Put = true
 
--- how many contracts of a kind are short: the sum of the negative nets, taken positively
+-- the number of short contracts of a kind: the sum of the sizes of the negative nets
 abbrev pub short_count : (ProductKind → Bool) → List HeldContract → ℕ
 short_count is_kind held = sum_by (λ h. negative_part h.net) (filter (λ h. is_kind (h.contract).kind) held)
 
@@ -29,10 +29,10 @@ abbrev pub short_options : MinimumMethod → List HeldContract → ℕ
 short_options method.Sum held = short_count is_call held + short_count is_put held
 short_options method.Max held = max (short_count is_call held) (short_count is_put held)
 
--- the short option minimum: rate times that count
+-- the short option minimum: the rate times the count of short option contracts
 unfoldable pub minimum_of : ℕ → MinimumMethod → List HeldContract → ℕ
 minimum_of rate count_method held = rate * short_options count_method held
 
--- the requirement: the larger of scan, intracommodity and delivery less credit, and the minimum
+-- the requirement: the larger of scan risk and both charges less the credit, and the minimum
 unfoldable pub requirement_of : ℤ → ℤ → ℤ → ℤ → ℤ → ℤ
 requirement_of scan intra delivery credit minimum = int_max (((scan +ℤ intra) +ℤ delivery) -ℤ credit) minimum

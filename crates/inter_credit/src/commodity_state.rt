@@ -1,10 +1,11 @@
-//! What the intercommodity stage knows of one commodity (docs/METHOD.md, "Intercommodity spreads").
+//! The state of one commodity in the intercommodity stage (docs/METHOD.md, "Intercommodity spreads").
 use span_money::amounts::Units;
 
 /// A commodity in the intercommodity stage.
 ///
-/// `net` is its net delta (in 10^-8 deltas, at most `MAX_UNITS` either way) and `rest` what spreads have left of it, `price2`
-/// is price risk doubled (in minor units, at most `MAX_PRICE2`), and `weight` is the sum of units used times basis points.
+/// `net` is its net delta (in 10^-8 deltas, of size at most `MAX_UNITS`) and `rest` is its remaining delta after
+/// spreads. `price2` is twice its price risk (in minor units, at most `MAX_PRICE2`). `weight` is the sum of units used
+/// times basis points.
 #[derive(Clone, Copy, Debug, PartialEq, Eq)]
 pub struct CommodityState {
     pub weight: u128,

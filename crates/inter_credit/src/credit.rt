@@ -11,10 +11,10 @@ use span_money::division::floor_div;
 
 // The basis points of a whole.
 const WHOLE: u128 = 10_000;
-// What a credit is divided by for each unit of net delta: price risk is held doubled, and weights are in basis points.
+// The divisor of a credit for each unit of net delta: price risk is stored doubled, and weights are in basis points.
 const DOUBLED_WHOLE: u128 = 2 * WHOLE;
 
-// Price risk doubled times the weight, in minor units times 10^-8 deltas times basis points.
+// Returns twice the price risk times the weight, in minor units times 10^-8 deltas times basis points.
 #[tactic(auto, using(crate::proofs::CreditBounds::product_small))]
 fn product(state: &CommodityState) -> u128
     requires { IsCommodityState state.now }
@@ -24,7 +24,7 @@ fn product(state: &CommodityState) -> u128
     u128::from(state.price2) * state.weight
 }
 
-// The credit of a state, in minor units, rounded down once.
+// Returns the credit of a state, in minor units, rounded down once.
 #[tactic(auto, unfolding(crate::specs::Credits::credit_of))]
 fn credit_of(state: &CommodityState) -> u128
     requires { IsCommodityState state.now }
@@ -38,8 +38,8 @@ fn credit_of(state: &CommodityState) -> u128
     floor_div(product(state), DOUBLED_WHOLE * u128::from(net))
 }
 
-/// The intercommodity credit of the commodity of a number, in minor units, rounded down once; 0 where its net delta is 0.
-/// The product that is divided, of price risk doubled and weight, fits a signed number of 128 bits.
+/// Returns the intercommodity credit of a commodity number, in minor units, rounded down once. It is 0 if the net delta
+/// is 0. The dividend, twice the price risk times the weight, fits in a signed 128-bit number.
 #[tactic(auto, using(crate::proofs::CreditBounds::products_small))]
 pub fn credit(state: &InterState, commodity: usize) -> Money
     requires { commodity < length state.now }

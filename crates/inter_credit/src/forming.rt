@@ -1,5 +1,5 @@
-//! Intercommodity spreads: how many are formed in a direction, and what they use of each commodity (docs/METHOD.md,
-//! Intercommodity spreads).
+//! Intercommodity spreads: the number that is formed in a direction, and the units that it uses of each commodity
+//! (docs/METHOD.md, Intercommodity spreads).
 ghost use Rattle.std.specs.Prelude.{◌≡◌, ◌<◌, ◌≤◌, ◌*◌, ◌/◌, ◌+◌, length, false, List, All};
 ghost use Rattle.span_tables.specs.Accepted.{IsInter};
 ghost use Rattle.span_tables.specs.Sides.{market_side, part_on, spreads_formed};
@@ -17,7 +17,7 @@ use span_tables::records::{CommodityLeg, Inter};
 use span_tables::sides::{Direction, MarketSide, SpreadsFormed, less_used, market_side, part_on};
 use span_tables::slots::OpenSides;
 
-// How many spreads a leg's commodity has room for, in 10^-4 spreads.
+// Returns the number of spreads that a leg's commodity has room for, in 10^-4 spreads.
 fn room(states: &[CommodityState], leg: &CommodityLeg, direction: Direction) -> u64
     requires known { leg.now.commodity < length states.now }
     requires ratio { 0 < leg.now.ratio }
@@ -31,7 +31,7 @@ fn room(states: &[CommodityState], leg: &CommodityLeg, direction: Direction) -> 
     greatest_fit(side, leg.ratio)
 }
 
-// How many spreads are formed in a direction, in 10^-4 spreads: what each leg has room for.
+// Returns the number of spreads formed in a direction, in 10^-4 spreads. It is the greatest that each leg has room for.
 fn spreads_formed(states: &[CommodityState], legs: &[CommodityLeg], direction: Direction) -> u64
     requires known { All (λ leg. leg.commodity < length states.now) legs.now }
     requires ratios { All (λ leg. 0 < leg.ratio) legs.now }
@@ -50,7 +50,7 @@ fn spreads_formed(states: &[CommodityState], legs: &[CommodityLeg], direction: D
     }
 }
 
-// A commodity of which some units of 10^-8 deltas on a market side were used, at so many basis points.
+// Returns a commodity after units of 10^-8 deltas on a market side were used, at a number of basis points.
 fn state_after(
     state: CommodityState,
     on: MarketSide,
@@ -70,7 +70,7 @@ fn state_after(
     }
 }
 
-// The commodities after a leg's use of so many spreads.
+// Uses a leg for `formed` spreads.
 fn use_leg(
     states: &mut [CommodityState],
     leg: &CommodityLeg,
@@ -91,7 +91,7 @@ fn use_leg(
     states[leg.commodity] = state_after(states[leg.commodity], on, used, basis_points);
 }
 
-// The commodities after each leg's use of so many spreads.
+// Uses each leg for `formed` spreads.
 fn use_legs(
     states: &mut [CommodityState],
     legs: &[CommodityLeg],
@@ -110,7 +110,7 @@ fn use_legs(
     }
 }
 
-// A spread in one direction.
+// Forms a spread in one direction.
 fn form(states: &mut [CommodityState], spread: &Inter, direction: Direction)
     requires states { All IsCommodityState states.old }
     requires spread { IsInter (length states.old) spread.now }
@@ -124,7 +124,7 @@ fn form(states: &mut [CommodityState], spread: &Inter, direction: Direction)
     }
 }
 
-// A spread in one direction, which is looked at where rests lie on the sides of the market that it needs.
+// Forms a spread in one direction. It is skipped unless remaining deltas are on the sides of the market that it needs.
 fn spread_one_way(
     states: &mut [CommodityState],
     sides: &OpenSides,
@@ -143,7 +143,7 @@ fn spread_one_way(
     }
 }
 
-// A spread in both directions, with A long first, where rests lie on these sides of the market.
+// Forms a spread in both directions, with A long first, given the sides of the market that remaining deltas are on.
 #[tactic(auto, unfolding(crate::specs::Credits::inter_both_ways))]
 pub(crate) fn spread_both_ways(states: &mut [CommodityState], sides: &OpenSides, spread: &Inter)
     requires states { All IsCommodityState states.old }
@@ -157,7 +157,7 @@ pub(crate) fn spread_both_ways(states: &mut [CommodityState], sides: &OpenSides,
     spread_one_way(states, sides, spread, Direction::AShort);
 }
 
-// A spread in one direction, and how many it forms.
+// Forms a spread in one direction, and returns the number formed.
 fn count_one_way(
     states: &mut [CommodityState],
     sides: &OpenSides,
@@ -177,7 +177,7 @@ fn count_one_way(
     formed
 }
 
-// A spread in both directions, with A long first, and how many it forms in each.
+// Forms a spread in both directions, with A long first, and returns the number formed in each.
 #[tactic(auto, unfolding(crate::specs::Credits::inter_both_ways))]
 pub(crate) fn count_both_ways(
     states: &mut [CommodityState],
@@ -197,7 +197,7 @@ pub(crate) fn count_both_ways(
     SpreadsFormed { a_long, a_short }
 }
 
-// Whether a spread may be formed in one of the directions. `false` says that none is, `true` nothing.
+// Returns whether a spread may be formed in one of the directions. `false` means that none is; `true` means nothing.
 #[tactic(auto, unfolding(crate::specs::Credits::inter_both_ways))]
 pub(crate) fn may_form_either(sides: &OpenSides, spread: &Inter) -> bool
     ensures { (states : List CommodityState) → AreOpen sides.now states → result ≡ false

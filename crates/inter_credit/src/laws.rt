@@ -1,4 +1,4 @@
-//! Laws of the definitions, in the methodology's words: each is the contract of a function that does nothing.
+//! Lemmas about the definitions, in the terms of the methodology. Each is the contract of a function that does nothing.
 ghost use Rattle.std.specs.Prelude.{◌≡◌, ◌≢◌, ◌==◌, ℕ, ◌+◌, ◌*◌, ◌^◌, ◌<◌, ◌≤◌, max, Bool, ◌&&◌, List, [], length};
 ghost use Rattle.std.specs.Prelude.{filter, sum_by, ◌⊎◌, ℤ, pos, ◌+ℤ◌, ◌-ℤ◌, ◌≤ℤ◌, int_lt, nat_abs};
 ghost use Rattle.std.specs.List.{AllByRecursion};
@@ -16,12 +16,13 @@ ghost use Rattle.inter_credit.specs.States.{IsUnspread, UsesState};
 ghost use Rattle.inter_credit.specs.declared.requirement.TheConstants.{MAX_PART};
 ghost use Rattle.inter_credit.specs.declared.commodity_state.CommodityState.{CommodityState};
 
-/// Each part of a requirement is at most 10^26 minor units either way.
+/// The size of each part of a requirement is at most 10^26 minor units.
 pub fn part_has_these_digits()
     ensures { MAX_PART ≡ 100000000000000000000000000 }
 {}
 
-/// The credit is 0 without a net delta, and else the greatest number whose product stays within price risk times weight.
+/// The credit is 0 if the net delta is 0. Otherwise it is the greatest number whose product is within price risk times
+/// weight.
 pub fn credit_is_greatest()
     ensures zero { (state : CommodityState) → nat_abs state.net ≡ 0 → credit_of state ≡ 0 }
     ensures greatest { (state : CommodityState) → nat_abs state.net ≢ 0
@@ -36,16 +37,16 @@ pub fn no_spread_no_credit()
         → credit_at (after_inter_spreads [] states) commodity ≡ 0 }
 {}
 
-/// A spread only uses rests: net deltas and price risks stay, no rest is larger than before or of the other sign, and a
-/// weight grows by the units used times the basis points.
+/// A spread only uses remaining deltas. Net deltas and price risks do not change, no remaining delta grows in size or
+/// changes its sign, and a weight grows by the units used times the basis points.
 pub fn spread_uses_rests()
     ensures length { (states : List CommodityState) (spread : Inter) → length (inter_both_ways states spread) ≡ length states }
     ensures states { (states : List CommodityState) (spread : Inter) → IsInter (length states) spread
         → (k : ℕ) → UsesState spread.basis_points (state_at states k) (state_at (inter_both_ways states spread) k) }
 {}
 
-/// In a direction each leg takes of its commodity's rest just the number of spreads formed times its ratio, and the states
-/// of commodities that are no leg's stay.
+/// In one direction, each leg uses exactly the number of spreads formed times its ratio of its commodity's remaining
+/// delta. The states of commodities without a leg do not change.
 pub fn each_leg_uses_its_part()
     ensures legs { (d : Direction) (spread : Inter) (states : List CommodityState) → IsInter (length states) spread
         → AllByRecursion (λ leg. leg_side d leg (inter_one_way spread d states)
@@ -55,8 +56,8 @@ pub fn each_leg_uses_its_part()
         → state_at (inter_one_way spread d states) k ≡ state_at states k }
 {}
 
-/// A commodity's weight grows, for each leg of the commodity, by the spreads formed in both directions times the leg's ratio
-/// times the basis points.
+/// The weight of a commodity grows, for each of its legs, by the spreads formed in both directions times the leg's
+/// ratio times the basis points.
 pub fn spreads_formed_add_weight()
     ensures { (states : List CommodityState) (spread : Inter) (k : ℕ) → k < length states
         → (state_at (inter_both_ways states spread) k).weight ≡ (state_at states k).weight
@@ -65,14 +66,15 @@ pub fn spreads_formed_add_weight()
         (filter (λ leg. leg.commodity == k) spread.legs) }
 {}
 
-/// Between commodities a spread forms in one direction at most: a commodity's rest lies on one side of the market.
+/// An intercommodity spread forms in at most one direction, since a commodity's remaining delta is on one side of the
+/// market.
 pub fn spreads_form_in_one_direction()
     ensures { (states : List CommodityState) (spread : Inter) → IsInter (length states) spread
         → ((inter_formed_both states spread).a_long ≡ 0) ⊎ ((inter_formed_both states spread).a_short ≡ 0) }
 {}
 
-/// What is counted of a kind are the sizes of the negative nets; the minimum is the rate times the count of calls and
-/// puts together, or times the larger of the two counts.
+/// The count of a kind is the sum of the sizes of its negative nets. The minimum is the rate times the count of calls
+/// and puts together, or times the larger of the two counts.
 pub fn minimum_counts_short_options()
     ensures counts { (is_kind : ProductKind → Bool) (held : List HeldContract)
         → short_count is_kind held ≡ sum_by (λ h. nat_abs h.net)
@@ -83,8 +85,7 @@ pub fn minimum_counts_short_options()
         → minimum_of rate method.Max held ≡ rate * max (short_count is_call held) (short_count is_put held) }
 {}
 
-/// Of what an account has to bring and what its option value is over its total one is 0 at least, and the total is the option
-/// value, more by the one and less by the other.
+/// At least one of due and excess is 0, and the total is the option value plus the due less the excess.
 #[tactic(auto, using(crate::proofs::ValueLemmas::due_or_excess, crate::proofs::ValueLemmas::settled))]
 pub fn due_and_excess_settle_the_value()
     ensures one { (total value : ℤ) → (due_of total value ≡ 0) ⊎ (excess_of total value ≡ 0) }
@@ -92,7 +93,8 @@ pub fn due_and_excess_settle_the_value()
         → total ≡ (value +ℤ pos (due_of total value)) -ℤ pos (excess_of total value) }
 {}
 
-/// The requirement is the least number that is at least scan and charges less the credit, and at least the minimum.
+/// The requirement is the least number that is at least scan risk and charges less the credit, and at least the
+/// minimum.
 pub fn requirement_is_the_larger()
     ensures { (scan intra delivery credit minimum : ℤ)
         → ((((scan +ℤ intra) +ℤ delivery) -ℤ credit) ≤ℤ requirement_of scan intra delivery credit minimum)

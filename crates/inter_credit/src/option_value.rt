@@ -10,12 +10,14 @@ use span_tables::held::Held;
 use span_tables::limits::{MAX_HELD, MAX_NET, MAX_OPTION_VALUE};
 use span_tables::records::Contract;
 
-/// The size of what a held contract is worth, in minor units: the largest net quantity at the largest option value.
+/// The maximum size of the value of a held contract, in minor units: the maximum net quantity times the maximum option
+/// value.
 pub const MAX_POSITION_VALUE: u64 = MAX_NET * MAX_OPTION_VALUE as u64;
-/// The size of the option value of a commodity, in minor units: as many positions as contracts may be held.
+/// The maximum size of the option value of a commodity, in minor units: `MAX_POSITION_VALUE` for each of the maximum
+/// number of held contracts.
 pub const MAX_NET_VALUE: u64 = MAX_HELD as u64 * MAX_POSITION_VALUE;
 
-// What a net quantity of a contract is worth, in minor units.
+// Returns the value of a net quantity of a contract, in minor units.
 #[tactic(auto, using(crate::proofs::ValueLemmas::position_small))]
 fn worth(contract: &Contract, net: i64) -> i64
     requires net { nat_abs net ≤ MAX_NET }
@@ -26,8 +28,8 @@ fn worth(contract: &Contract, net: i64) -> i64
     net * i64::from(contract.extras.option_value)
 }
 
-/// What the held contract at a place is worth, in minor units: its net quantity times its option value. A short option's
-/// worth is negative.
+/// Returns the value of the held contract at index `place`, in minor units: its net quantity times its option value.
+/// The value of a short option is negative.
 #[tactic(auto, using(crate::proofs::ValueLemmas::position_told))]
 pub fn position_value(held: &Held, place: usize) -> Money
     requires { place < length held.now }
@@ -37,8 +39,8 @@ pub fn position_value(held: &Held, place: usize) -> Money
     Money::new(i128::from(worth(held.contract(place), held.net(place))))
 }
 
-/// The option value of a commodity, in minor units: net quantity times option value over the held contracts. More short
-/// options than long ones make it negative.
+/// Returns the option value of a commodity, in minor units: net quantity times option value over the held contracts. It
+/// is negative if short options are worth more than long ones.
 #[tactic(auto, unfolding(crate::specs::OptionValue::net_value_of))]
 pub fn net_value(held: &Held) -> Money
     ensures value { result ≡ net_value_of held.now }

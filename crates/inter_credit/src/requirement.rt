@@ -9,10 +9,10 @@ use span_money::amounts::{MAX_MONEY, Money};
 use span_tables::held::Held;
 use span_tables::records::{MinimumMethod, ProductKind};
 
-/// The size of each part of a requirement, in minor units: ten parts are an amount of money.
+/// The maximum size of each part of a requirement, in minor units. An amount of money has room for ten parts.
 pub const MAX_PART: u128 = MAX_MONEY / 10;
 
-// How many of a net quantity are short, in contracts.
+// Returns the short part of a net quantity, in contracts.
 fn short_part(net: i64) -> u64
     ensures value { result ≡ negative_part net }
     ensures bound { result ≤ nat_abs net }
@@ -20,14 +20,15 @@ fn short_part(net: i64) -> u64
     if net < 0 { net.unsigned_abs() } else { 0 }
 }
 
-/// How many calls and how many puts are short, in contracts.
+/// The number of short calls and the number of short puts, in contracts.
 #[derive(Clone, Copy, Debug, PartialEq, Eq)]
 pub struct ShortCounts {
     pub calls: u64,
     pub puts: u64,
 }
 
-/// How many calls and how many puts are short among the held contracts of a commodity, in contracts.
+/// Returns the number of short calls and the number of short puts among the held contracts of a commodity, in
+/// contracts.
 pub fn short_counts(held: &Held) -> ShortCounts
     ensures calls { result.calls ≡ short_count is_call held.now }
     ensures puts { result.puts ≡ short_count is_put held.now }
@@ -46,7 +47,7 @@ pub fn short_counts(held: &Held) -> ShortCounts
     ShortCounts { calls, puts }
 }
 
-// The count of short option contracts.
+// Returns the count of short option contracts.
 fn short_options(held: &Held, method: MinimumMethod) -> u64
     ensures value { result ≡ short_options method held.now }
     ensures bound { result ≤ MAX_HELD * MAX_NET }
@@ -58,8 +59,8 @@ fn short_options(held: &Held, method: MinimumMethod) -> u64
     }
 }
 
-/// The short option minimum, in minor units: the rate (in minor units a contract) times the count of short option
-/// contracts.
+/// Returns the short option minimum, in minor units: the rate (in minor units a contract) times the count of short
+/// option contracts.
 #[tactic(auto, unfolding(crate::specs::Requirement::minimum_of))]
 pub fn minimum(held: &Held, rate: u32, method: MinimumMethod) -> Money
     requires { rate ≤ MAX_RATE }
@@ -70,7 +71,7 @@ pub fn minimum(held: &Held, rate: u32, method: MinimumMethod) -> Money
     Money::new((u64::from(rate) * count) as i128)
 }
 
-// Scan risk and charges, less the credit, in minor units.
+// Returns scan risk and charges less the credit, in minor units.
 fn risk_less_credit(scan: Money, intra: Money, delivery: Money, credit: Money) -> i128
     requires scan { nat_abs scan ≤ MAX_PART }
     requires intra { nat_abs intra ≤ MAX_PART }
@@ -82,7 +83,8 @@ fn risk_less_credit(scan: Money, intra: Money, delivery: Money, credit: Money) -
     scan.get() + intra.get() + delivery.get() - credit.get()
 }
 
-/// The requirement of a commodity, in minor units: the larger of scan risk and charges less the credit, and the minimum.
+/// Returns the requirement of a commodity, in minor units: the larger of scan risk and charges less the credit, and the
+/// minimum.
 #[tactic(auto, unfolding(crate::specs::Requirement::requirement_of))]
 pub fn requirement(
     scan: Money,

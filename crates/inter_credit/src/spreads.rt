@@ -7,9 +7,9 @@ use crate::state::InterState;
 use span_tables::records::Inter;
 use std::alloc::{AllocError, Global};
 
-/// The state after a spread in both directions, with A long first.
+/// Returns the state after a spread in both directions, with A long first.
 ///
-/// In each direction as many are formed as every leg has room for.
+/// In each direction it forms the greatest number that every leg has room for.
 pub fn inter_spread(
     alloc: Global,
     state: &InterState,

@@ -1,5 +1,5 @@
-//! For each commodity its net delta, what spreads have left of it, its price risk, and what earns its credit
-//! (docs/METHOD.md, Intercommodity spreads).
+//! The state of each commodity: its net delta, its remaining delta after spreads, its price risk, and the weight of its
+//! credit (docs/METHOD.md, Intercommodity spreads).
 ghost use Rattle.std.specs.Prelude.{◌≡◌, ◌<◌, ◌≤◌, ◌==◌, false, length, replicate, slice_set, All, IfOk, pos, nat_abs};
 ghost use Rattle.inter_credit.specs.Credits.{inter_formed_both, inter_both_ways, unspread_state};
 ghost use Rattle.span_tables.specs.Accepted.{IsInter};
@@ -16,11 +16,11 @@ use span_tables::slots::OpenSides;
 use std::alloc::{AllocError, Global};
 use std::marker::Model;
 
-/// The commodities of a set, by their numbers. Contracts see the list of their states.
+/// The commodities of a parameter set, indexed by number. In contract clauses it is the list of their states.
 #[derive(Drop)]
 pub struct InterState {
     commodities: Vec<CommodityState>,
-    // The sides of the market on which commodities had a rest when they were loaded.
+    // The sides of the market on which commodities had a remaining delta when they were loaded.
     sides: OpenSides,
 }
 
@@ -37,21 +37,21 @@ impl Model for InterState {
 }
 
 impl InterState {
-    /// How many commodities there are.
+    /// Returns the number of commodities.
     pub fn len(&self) -> usize
         ensures { result ≡ length self.now }
     {
         self.commodities.len()
     }
 
-    /// Whether there is no commodity.
+    /// Returns whether there is no commodity.
     pub fn is_empty(&self) -> bool
         ensures { result ≡ (length self.now == 0) }
     {
         self.commodities.is_empty()
     }
 
-    /// The commodities' states by their numbers.
+    /// Returns the states of the commodities, indexed by number.
     pub fn states(&self) -> &[CommodityState]
         ensures value { result.now ≡ self.now }
         ensures kept { All IsCommodityState self.now }
@@ -59,7 +59,7 @@ impl InterState {
         &self.commodities
     }
 
-    /// A copy of the state.
+    /// Returns a copy of the state.
     pub fn copied(&self, alloc: Global) -> Result<InterState, AllocError>
         ensures { IfOk result (λ state. state ≡ self.now) }
     {
@@ -68,9 +68,10 @@ impl InterState {
         Ok(InterState { commodities, sides })
     }
 
-    /// Gives a commodity its net delta, and its price risk doubled in minor units; its rest is its full net delta.
+    /// Sets a commodity's net delta, in 10^-8 deltas, and twice its price risk, in minor units. Its remaining delta is
+    /// its full net delta.
     ///
-    /// Nothing was loaded for that commodity, and no spread was formed.
+    /// It requires that nothing was loaded for the commodity and no spread was formed.
     pub fn load(&mut self, commodity: usize, net: Units, price2: u64)
         requires commodity { commodity < length self.old }
         requires net { nat_abs net ≤ MAX_UNITS }
@@ -87,7 +88,8 @@ impl InterState {
         self.commodities[commodity] = unspread_state(net, price2);
     }
 
-    /// Forms a spread in both directions, with A long first: in each, as many as every leg has room for.
+    /// Forms a spread in both directions, with A long first. In each direction it forms the greatest number that every
+    /// leg has room for.
     pub fn spread(&mut self, spread: &Inter)
         requires { IsInter (length self.old) spread.now }
         ensures value { self.new ≡ inter_both_ways self.old spread.now }
@@ -96,7 +98,7 @@ impl InterState {
         spread_both_ways(&mut self.commodities, &self.sides, spread);
     }
 
-    /// Forms a spread as `spread` does, and tells how many spreads it forms in each direction, in 10^-4 spreads.
+    /// Forms a spread like `spread`, and returns the number of spreads formed in each direction, in 10^-4 spreads.
     pub fn spread_counted(&mut self, spread: &Inter) -> SpreadsFormed
         requires { IsInter (length self.old) spread.now }
         ensures value { self.new ≡ inter_both_ways self.old spread.now }
@@ -106,8 +108,8 @@ impl InterState {
         count_both_ways(&mut self.commodities, &self.sides, spread)
     }
 
-    /// Whether a spread may be formed. `false` says that none is, and that the state stays as it is; `true` says nothing, since
-    /// a side that spreads used up still counts.
+    /// Returns whether a spread may be formed. `false` means that none is formed and the state does not change. `true`
+    /// means nothing, since a side whose delta was used up still counts.
     pub fn may_spread(&self, spread: &Inter) -> bool
         ensures { result ≡ false → inter_both_ways self.now spread.now ≡ self.now }
     {
@@ -115,7 +117,7 @@ impl InterState {
     }
 }
 
-// A commodity before any spread.
+// Returns a commodity before any spread.
 fn unspread_state(net: Units, price2: u64) -> CommodityState
     ensures { result ≡ unspread_state net price2 }
 {
@@ -127,7 +129,7 @@ fn unspread_state(net: Units, price2: u64) -> CommodityState
     }
 }
 
-/// Commodities of which nothing is known yet: net deltas and price risks of 0.
+/// Returns commodities that are not loaded yet, with net deltas and price risks of 0.
 pub fn empty(alloc: Global, commodities: usize) -> Result<InterState, AllocError>
     ensures value { IfOk result (λ state. state ≡ replicate commodities (unspread_state (pos 0) 0)) }
     ensures unspread { IfOk result IsUnspread }
@@ -137,10 +139,10 @@ pub fn empty(alloc: Global, commodities: usize) -> Result<InterState, AllocError
     Ok(InterState { commodities, sides })
 }
 
-/// The state with the net delta of one more commodity, and its price risk doubled in minor units; its rest is its full
-/// net delta.
+/// Returns a copy of the state with one more commodity loaded: its net delta, in 10^-8 deltas, and twice its price
+/// risk, in minor units. Its remaining delta is its full net delta.
 ///
-/// Nothing was loaded for that commodity, and no spread was formed.
+/// It requires that nothing was loaded for the commodity and no spread was formed.
 pub fn load(
     alloc: Global,
     state: &InterState,

@@ -1,11 +1,11 @@
--- What an intercommodity state keeps of each commodity.
+-- The invariant of each commodity in an intercommodity state.
 use Rattle.std.specs.Prelude.{◌+◌, ◌*◌, ◌≤◌, nat_abs}
 use Rattle.span_tables.specs.declared.limits.TheConstants.{MAX_BASIS_POINTS, MAX_PRICE2, MAX_UNITS}
 use Rattle.span_tables.specs.Sides.{IsLeftOf}
 use Rattle.inter_credit.specs.declared.commodity_state.CommodityState.{CommodityState}
 
--- a commodity's net delta and price risk lie in their ranges, its rest is left of its net delta, and its weight has no
--- more than all basis points of what was used
+-- a commodity's net delta and price risk are in range, its remaining delta is a part of its net delta, and its weight
+-- is at most `MAX_BASIS_POINTS` times the units used
 pub record IsCommodityState (state : CommodityState) : Type 0 where
   pub net : nat_abs state.net ≤ MAX_UNITS
   pub price2 : state.price2 ≤ MAX_PRICE2

@@ -1,4 +1,4 @@
--- Spreads and contracts that worked numbers speak of.
+-- Spreads and contracts for the test vectors.
 use Rattle.std.specs.Prelude.{ℕ, List, [], ◌∷◌, codes, map, ℤ, pos, neg_ℤ}
 use Rattle.std.specs.List.{repeat}
 use Rattle.span_tables.specs.Net.{HeldContract}
@@ -25,19 +25,19 @@ spread_of basis_points first first_ratio second second_ratio = record {
 abbrev pub short : ℕ → ℤ
 short n = neg_ℤ (pos n)
 
--- commodities after these spreads, each with its credit
+-- the commodities after these spreads, each with its credit
 abbrev pub credited : List Inter → List CommodityState → List (CommodityState × ℕ)
 credited spreads states = map (λ state. (state, credit_of state)) (after_inter_spreads spreads states)
 
--- two commodities with these net deltas before any spread, and with price risks doubled of 2400 and 3600
+-- two commodities with these net deltas before any spread, with 2400 and 3600 as twice their price risks
 abbrev pub two_states : ℤ → ℤ → List CommodityState
 two_states first second = unspread_state first 2400 ∷ unspread_state second 3600 ∷ []
 
--- a commodity with this net delta, of which this is left, and with this price risk doubled and this weight
+-- a commodity with this net delta, remaining delta, twice its price risk, and weight
 abbrev pub state_with : ℤ → ℤ → ℕ → ℕ → CommodityState
 state_with net rest price2 weight = record { net = net; rest = rest; price2 = price2; weight = weight }
 
--- a number of contracts of a kind, with this option value
+-- a net quantity of contracts of a kind, with this option value
 abbrev pub held_with_value : ProductKind → ℤ → ℕ → HeldContract
 held_with_value kind net value = record {
   contract = record (contract kind (codes "X") (codes "AA") 202503 (repeat SCENARIOS (pos 0 ∷ []))) {
@@ -46,11 +46,11 @@ held_with_value kind net value = record {
   net = net;
 }
 
--- a number of contracts of a kind, without option value
+-- a net quantity of contracts of a kind, without option value
 abbrev pub held_of_kind : ProductKind → ℤ → HeldContract
 held_of_kind kind net = held_with_value kind net 0
 
--- two short calls and three short puts, beside long puts and short futures
+-- two short calls and three short puts, together with long puts and short futures
 abbrev pub short_calls_and_puts : List HeldContract
 short_calls_and_puts =
     held_of_kind product.Call (short 2)
