@@ -1,8 +1,9 @@
--- What is known of a writer.
+-- The observable state of a writer.
 use Rattle.std.specs.Prelude.{◌≡◌, ⊤, ℕ, Bool, false, List, Option, MatchBool}
 use Rattle.std.specs.Io.KnownBytes.{Appends}
 
--- what a writer holds, if that is known; whether a write or a flush failed; and whether all that was written was flushed
+-- the bytes written to a writer, if they are known; whether a write or a flush failed; and whether everything written
+-- was flushed
 pub record Stream : Type 0 where
   pub held : Option (List ℕ)
   pub failed : Bool

@@ -7,8 +7,9 @@ use std::io;
 use std::io::Write;
 use std::marker::Model;
 
-/// A writer, and whether a write to it failed. Only a write or a flush that failed sets the mark, and nothing takes it back, so that a
-/// caller who promises its bytes `Says` has to try to write them. It remembers too whether all that was written was flushed.
+/// A writer, and whether a write to it failed. Only a failed write or flush sets the error flag, and nothing clears it.
+/// A caller whose contract promises its bytes with `Says` therefore has to attempt to write them. The writer also
+/// remembers whether everything written was flushed.
 #[derive(Drop)]
 pub struct MarkedWriter<W: Write> {
     writer: W,
@@ -25,7 +26,7 @@ impl<W: Write> Model for MarkedWriter<W> {
 }
 
 impl<W: Write> MarkedWriter<W> {
-    /// A writer to which no write has failed.
+    /// Returns a writer on which no write has failed.
     pub fn new(writer: W) -> MarkedWriter<W>
         ensures held { result.held ≡ W.contents writer }
         ensures failed { result.failed ≡ false }
@@ -38,7 +39,7 @@ impl<W: Write> MarkedWriter<W> {
         }
     }
 
-    /// Writes the bytes, or remembers the failure. A part may have gone out before a failure.
+    /// Writes the bytes. A failure is remembered, and a part of the bytes may have been written before it.
     pub fn write_all(&mut self, bytes: &[u8]) -> io::Result<()>
         ensures written { OnOk result (Appends self.old.held self.new.held bytes.now) }
         ensures same { OnOk result (self.new.failed ≡ self.old.failed) }
@@ -50,7 +51,7 @@ impl<W: Write> MarkedWriter<W> {
         self.remember(result)
     }
 
-    /// Writes a text, or remembers the failure; `write!` and `writeln!` call it.
+    /// Writes a text, and remembers a failure. `write!` and `writeln!` call it.
     pub fn write_fmt<D: Display + Drop>(&mut self, text: D) -> io::Result<()>
         ensures written { OnOk result (IfSome (D.output text) (Appends self.old.held self.new.held)) }
         ensures same { OnOk result (self.new.failed ≡ self.old.failed) }
@@ -62,7 +63,7 @@ impl<W: Write> MarkedWriter<W> {
         self.remember(result)
     }
 
-    /// Flushes what was written, or remembers the failure. What the writer holds stays the same.
+    /// Flushes the written bytes, and remembers a failure. The bytes of the writer do not change.
     pub fn flush(&mut self) -> io::Result<()>
         ensures held { Keeps self.old.held self.new.held }
         ensures same { OnOk result (self.new.failed ≡ self.old.failed) }
@@ -75,7 +76,7 @@ impl<W: Write> MarkedWriter<W> {
         self.remember(result)
     }
 
-    // Remembers a failure, and hands on what came of the write.
+    // Remembers a failure, and returns the result of the write.
     fn remember(&mut self, written: io::Result<()>) -> io::Result<()>
         ensures held { self.new.held ≡ self.old.held }
         ensures ok { OnOk result (self.new.failed ≡ self.old.failed) }
@@ -89,14 +90,14 @@ impl<W: Write> MarkedWriter<W> {
         written
     }
 
-    /// Whether a write or a flush failed.
+    /// Returns whether a write or a flush failed.
     pub fn failed(&self) -> bool
         ensures { result ≡ self.now.failed }
     {
         self.failed
     }
 
-    /// The writer.
+    /// Returns the inner writer.
     pub fn into_inner(self) -> W
         ensures { W.contents result ≡ self.held }
     {
