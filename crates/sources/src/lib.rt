@@ -1,4 +1,4 @@
-//! Where files come from: something that gives the bytes of a file by its name.
+//! Sources of files, which return the bytes of a file by its name.
 #![tactic(auto)]
 
 ghost use Rattle.sources.specs.Files.{File, ReadGives};
@@ -7,10 +7,10 @@ ghost use Rattle.std.specs.Prelude.{◌≡◌, Bool, IfSome, List, None, Option,
 use std::alloc::Global;
 use thiserror::Error;
 
-/// How many bytes a file may have (docs/METHOD.md, Limits).
+/// The maximum number of bytes of a file (docs/METHOD.md, Limits).
 pub const FILE_CAP: usize = 67_108_864;
 
-/// Why a file cannot be read.
+/// The reason why a file cannot be read.
 #[derive(Clone, Copy, Debug, PartialEq, Eq, Error)]
 pub enum ReadFault {
     /// There is no such file, or reading it failed.
@@ -19,21 +19,22 @@ pub enum ReadFault {
     /// The file has more than `FILE_CAP` bytes.
     #[error("the file is too long")]
     TooLong,
-    /// Out of memory.
+    /// Memory ran out.
     #[error("memory")]
     OutOfMemory,
 }
 
-/// Something that has files.
+/// A source of files.
 pub trait Sources {
-    // What a file of this name is, where that is known.
+    // The file of this name, if it is known.
     ghost file: { Self → List ℕ → Option File } = { λ _ _. None };
 
-    // That the file of a name was asked for, whether it could be read, and what the source was before and after that. A source need
-    // not say what this is: code for any source knows it by a call of `read` alone, of a disk too.
+    // States that the file of a name was requested, whether it could be read, and the source before and after the
+    // request. An implementation need not define it. Code that is generic over sources can obtain it only from a call
+    // of `read`, even for a disk.
     ghost reads: { Self → List ℕ → Bool → Self → Type 0 } = { λ _ _ _ _. Unit {0} };
 
-    /// The bytes of the file of a name.
+    /// Returns the bytes of the file with this name, or the reason why it cannot be read.
     fn read(&mut self, alloc: Global, name: &str) -> Result<Vec<u8>, ReadFault>
         ensures known { IfSome (file self.old name.now) (λ f. ReadGives (λ v. v.items) f result) }
         ensures same { (n : List ℕ) → file self.new n ≡ file self.old n }
