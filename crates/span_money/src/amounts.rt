@@ -4,10 +4,10 @@ ghost use Rattle.span_money.specs.declared.amounts.TheConstants.{MAX_MONEY};
 
 use std::marker::Model;
 
-/// The largest amount of money either way, in minor units.
+/// The maximum size of an amount of money, in minor units.
 pub const MAX_MONEY: u128 = 1_000_000_000_000_000_000_000_000_000;
 
-/// An amount of money in minor units, at most `MAX_MONEY` either way. A loss or a charge is positive.
+/// An amount of money in minor units, of size at most `MAX_MONEY`. A loss or a charge is positive.
 #[derive(Clone, Copy, Debug, PartialEq, Eq, PartialOrd, Ord)]
 pub struct Money {
     minor_units: i128,

@@ -12,7 +12,7 @@ ghost use Rattle.span_money.specs.LineFields.{Line, line};
 ghost use Rattle.span_money.specs.declared.amounts.TheConstants.{MAX_MONEY};
 ghost use Rattle.span_money.specs.Numbers.{decimal_number, has_minus, whole_number, without_minus};
 
-/// An amount of money is at most 10^27 minor units in either direction.
+/// The size of an amount of money is at most 10^27 minor units.
 pub fn money_has_these_digits()
     ensures { MAX_MONEY ≡ 1000000000000000000000000000 }
 {}
