@@ -30,7 +30,7 @@ pub record IsLeftOf (delta rest : ℤ) : Type 0 where
   pub long : positive_part rest ≤ positive_part delta
   pub short : negative_part rest ≤ negative_part delta
 
--- the units that a leg can use: its side, and its ratio
+-- the side that a leg can use, and its ratio
 pub record Room : Type 0 where
   pub side : ℕ
   pub ratio : ℕ

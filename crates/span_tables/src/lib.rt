@@ -1,4 +1,5 @@
-//! The records of parameter and position files, accepted tables, portfolios, and what an account holds of a commodity.
+//! The records of parameter, position and order files, accepted tables, portfolios, and the held contracts of a
+//! commodity.
 #![tactic(auto)]
 
 pub mod groups;
