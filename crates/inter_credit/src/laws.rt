@@ -45,8 +45,8 @@ pub fn spread_uses_rests()
         → (k : ℕ) → UsesState spread.basis_points (state_at states k) (state_at (inter_both_ways states spread) k) }
 {}
 
-/// In one direction, each leg uses exactly the number of spreads formed times its ratio of its commodity's remaining
-/// delta. The states of commodities without a leg do not change.
+/// In one direction, each leg uses units of its commodity's remaining delta: exactly the number of spreads formed times
+/// the leg's ratio. The states of commodities without a leg do not change.
 pub fn each_leg_uses_its_part()
     ensures legs { (d : Direction) (spread : Inter) (states : List CommodityState) → IsInter (length states) spread
         → AllByRecursion (λ leg. leg_side d leg (inter_one_way spread d states)

@@ -4,8 +4,8 @@ use Rattle.span_tables.specs.declared.limits.TheConstants.{MAX_BASIS_POINTS, MAX
 use Rattle.span_tables.specs.Sides.{IsLeftOf}
 use Rattle.inter_credit.specs.declared.commodity_state.CommodityState.{CommodityState}
 
--- a commodity's net delta and price risk are in range, its remaining delta is a part of its net delta, and its weight
--- is at most `MAX_BASIS_POINTS` times the units used
+-- the net delta and price risk are in range, the remaining delta is a part of the net delta, and the weight is at most
+-- `MAX_BASIS_POINTS` times the units used
 pub record IsCommodityState (state : CommodityState) : Type 0 where
   pub net : nat_abs state.net ≤ MAX_UNITS
   pub price2 : state.price2 ≤ MAX_PRICE2
