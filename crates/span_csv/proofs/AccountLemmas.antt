@@ -1,4 +1,4 @@
--- What is told of a position record where all faults are told, and the accounts that are kept behind it.
+-- The fault of a position record when all faults are reported, and the accounts that are kept after it.
 use Rattle.std.proofs.Common.{◌≡◌, ◌∙◌, refl, sym, ap, ap₂, subst, arith, ℕ, ◌+◌, ◌<◌, ◌≤◌, ℤ, Bool, true, false, not, ◌&&◌, ◌==◌}
 use Rattle.std.proofs.Common.{cond, List, [], ◌∷◌, ◌++◌, length, take, Option, Some, None, Ok, Err}
 use Rattle.std.specs.Prelude.{⊤, is_none, option_map, MatchBool}
@@ -34,17 +34,17 @@ module _ (at : ℕ) (r : Fields) where
   alone : with_quantity (λ e. e) (λ q. Ok tt) (quantity_alone POSITION_NAMES at r) ≡ left_by {V = ⊤} at tt (form_faults r)
   alone = left_alone (λ e. e) POSITION_NAMES at r [] tt (λ q. Ok tt) (λ q is. refl)
 
-  -- a record that is refused by its fields has the lowest-numbered fault of theirs
+  -- a record that is rejected for its fields has the lowest-numbered fault of its fields
   refused : (e : PositionFault) → quantity_alone POSITION_NAMES at r ≡ Err e
       → option_map (λ f. f at) (first_that_holds (form_faults r)) ≡ Some e
   refused e is = refused_some (option_map (λ f. f at) (first_that_holds (form_faults r))) tt e
       (sym alone ∙ ap (with_quantity (λ e. e) (λ q. Ok tt)) is)
 
-  -- and one that is not has none of them
+  -- a record that is not rejected for its fields has none of their faults
   not_refused : (q : ℤ) → quantity_alone POSITION_NAMES at r ≡ Ok q → first_that_holds (form_faults r) ≡ None
   not_refused q is = of_ok (first_that_holds (form_faults r)) at tt (sym alone ∙ ap (with_quantity (λ e. e) (λ q. Ok tt)) is)
 
--- ---- the accounts of the records that count
+-- ---- the accounts of the counted records
 
 module _ (rs : List Fields) (r : Fields) (formed : is_formed r ≡ true) (keys : List (List ℕ)) (are : keys ≡ accounts_counted rs) where
   abbrev names : List (List ℕ)
@@ -56,11 +56,11 @@ module _ (rs : List Fields) (r : Fields) (formed : is_formed r ≡ true) (keys :
   abbrev accounts : List (List ℕ)
   accounts = distinct names
 
-  -- how many accounts are kept
+  -- no more accounts are kept than there are
   kept_length : length keys ≤ length accounts
   kept_length = let e : length keys ≡ _ = ap length are in let few = length-take (MAX_ACCOUNTS + 1) accounts in omega (arith, e, few)
 
-  -- the accounts of one record more
+  -- the counted accounts after one more record
   more : accounts_counted (rs ++ r ∷ []) ≡ take (MAX_ACCOUNTS + 1) (cond (is_among names name) accounts (accounts ++ name ∷ []))
   more =
       ap (λ zs. take (MAX_ACCOUNTS + 1) (distinct (names_of zs))) (push_formed rs r formed)
@@ -71,7 +71,7 @@ module _ (rs : List Fields) (r : Fields) (formed : is_formed r ≡ true) (keys :
     many : MAX_ACCOUNTS + 1 ≤ length accounts
     many = let le = kept_length in omega (arith, le, past)
 
-    -- behind one account too many no other one is told
+    -- once there is one account too many, no further one is reported
     past_limit : exceeds_accounts (counted rs) r ≡ false
     past_limit =
         let other : (length (distinct (names_of (counted rs))) == MAX_ACCOUNTS) ≡ false =
@@ -79,7 +79,7 @@ module _ (rs : List Fields) (r : Fields) (formed : is_formed r ≡ true) (keys :
         ap (λ b. not (is_among (names_of (counted rs)) (text_at r 0)) && b) other
         ∙ and-false (not (is_among (names_of (counted rs)) (text_at r 0)))
 
-    -- and the accounts that are kept stay the same
+    -- then the kept accounts stay the same
     past_same : keys ≡ accounts_counted (rs ++ r ∷ [])
     past_same = are ∙ sym (more ∙ by (is_among names name)) where
       by : (b : Bool) → take (MAX_ACCOUNTS + 1) (cond b accounts (accounts ++ name ∷ [])) ≡ take (MAX_ACCOUNTS + 1) accounts
@@ -98,11 +98,11 @@ module _ (rs : List Fields) (r : Fields) (formed : is_formed r ≡ true) (keys :
     among : is_among keys name ≡ is_among names name
     among = ap (λ ks. is_among ks name) all_kept ∙ is_among-distinct names name
 
-    -- the account is one too many where the definition says so
+    -- the code and the definition agree on whether the account is one too many
     limit_same : exceeds_accounts (counted rs) r ≡ is_one_too_many MAX_ACCOUNTS keys (text_at r 0)
     limit_same = ap₂ (λ b ks. not b && (length ks == MAX_ACCOUNTS)) (sym among) (sym all_kept)
 
-    -- and it is kept where it is new
+    -- a new account is kept
     taken_more : with_name keys (text_at r 0) ≡ accounts_counted (rs ++ r ∷ [])
     taken_more =
         ap₂ (λ b ks. cond b ks (ks ++ name ∷ [])) among all_kept
@@ -112,11 +112,11 @@ module _ (rs : List Fields) (r : Fields) (formed : is_formed r ≡ true) (keys :
           by true = let le = few_accounts in omega (arith, le)
           by false = let le = few_accounts in let long = length-append accounts (name ∷ []) in omega (arith, le, long)
 
--- ---- what is told
+-- ---- the answer for a record
 
 module _ (rs : List Fields) (r : Fields) (at : ℕ) (keys : List (List ℕ)) (count : length rs + 1 ≡ at)
     (are : keys ≡ accounts_counted rs) where
-  -- a record that is refused by its fields
+  -- a record that is rejected for its fields
   pub checked_refused : (e : PositionFault) → quantity_alone POSITION_NAMES at r ≡ Err e → CheckIs rs r (Err e) keys
   checked_refused e is =
       let own = refused at r e is in
@@ -136,14 +136,14 @@ module _ (rs : List Fields) (r : Fields) (at : ℕ) (keys : List (List ℕ)) (co
         first_append (form_faults r) ((exceeds_accounts (counted rs) r, fault.TooManyAccounts) ∷ []) (not_refused at r q read)
         ∙ ap (λ (c : Bool). cond c (Some fault.TooManyAccounts) None) e
 
-    -- one behind one account too many
+    -- a record after one account too many
     pub checked_past : MAX_ACCOUNTS < length keys → CheckIs rs r (Ok tt) keys
     checked_past past = (
       by_limit false (past_limit rs r formed_here keys are past),
       past_same rs r formed_here keys are past,
     )
 
-    -- one of the first account too many
+    -- a record of the first account too many
     pub checked_full : (e : PositionFault) (keys' : List (List ℕ)) → length keys ≤ MAX_ACCOUNTS
         → MatchBool (is_memory e) ⊤ ((e ≡ fault.TooManyAccounts at) × (is_one_too_many MAX_ACCOUNTS keys (text_at r 0) ≡ true)
         × (keys' ≡ with_name keys (text_at r 0)))
@@ -154,7 +154,7 @@ module _ (rs : List Fields) (r : Fields) (at : ℕ) (keys : List (List ℕ)) (co
       full.2 ∙ taken_more rs r formed_here keys are few,
     ))
 
-    -- one whose account may be taken
+    -- a record whose account is within the limit
     pub checked_taken : (keys' : List (List ℕ)) → length keys ≤ MAX_ACCOUNTS
         → is_one_too_many MAX_ACCOUNTS keys (text_at r 0) ≡ false
         → keys' ≡ with_name keys (text_at r 0) → CheckIs rs r (Ok tt) keys'

@@ -1,4 +1,4 @@
--- The list of all faults of a file: what each of its faults is, and what its first says of the file.
+-- The list of all faults of a file: what each fault is, and what the first one means for the file.
 use Rattle.std.proofs.Common.{rules, ◌≡◌, refl, sym, ap, subst, ℕ, ◌+◌, Bool, false, List, [], ◌∷◌, length, Option, Some, None, Err}
 use Rattle.std.specs.Prelude.{All}
 use Rattle.std.specs.List.{AllByRecursion}
@@ -15,21 +15,21 @@ use Rattle.span_csv.specs.declared.faults.ParamFault.TheVariants as fault
 use Rattle.span_csv.specs.declared.faults.PositionFault.{PositionFault}
 use Rattle.span_csv.proofs.LowestLaws.{first_is}
 
--- ---- the first
+-- ---- the first fault
 
--- where there is no first fault, there is none
+-- a list of faults without a first one is empty
 pub none_first : {F : Type 0} (faults : List F) → first_of faults ≡ None → faults ≡ []
 none_first [] e = refl
 none_first (y ∷ faults) e = cc
 
--- what is refused has that fault
+-- a rejected value has the fault with which it is rejected
 pub refused_some : {A F : Type 0} (o : Option F) (x : A) (f : F) → ok_unless o x ≡ Err f → o ≡ Some f
 refused_some None x f e = cc
 refused_some (Some g) x f e = let same : g ≡ f = cc in ap Some same
 
--- ---- each of them
+-- ---- each fault
 
--- a fault of a record tells the number that it is given, and is not out of memory
+-- a record's fault has the number that it is given, and is not out of memory
 abbrev TellsNumber : {F : Type 0} → (F → ℕ) → (F → Bool) → (ℕ → F) → Type 0
 TellsNumber number is_memory fault = (n : ℕ) → (number (fault n) ≡ n) × (is_memory (fault n) ≡ false)
 
@@ -49,11 +49,11 @@ module _ {F : Type 0} (fault_of : List Fields → Fields → Option (ℕ → F))
   of_each : AllByRecursion (IsFaultOfSome fault_of [] rs) (all_faults fault_of rs)
   of_each = faults_are_of_some fault_of [] rs
 
-  -- each fault is that of a record
+  -- each fault belongs to a record
   pub each_of_some : All (IsFaultOfSome fault_of [] rs) (all_faults fault_of rs)
   each_of_some = All-from_recursion _ (all_faults fault_of rs) of_each
 
-  -- none is out of memory
+  -- no fault is out of memory
   pub none_of_memory : All (λ y. is_memory y ≡ false) (all_faults fault_of rs)
   none_of_memory =
       All-from_recursion _ (all_faults fault_of rs)
@@ -61,7 +61,7 @@ module _ {F : Type 0} (fault_of : List Fields → Fields → Option (ℕ → F))
       subst (λ z. is_memory z ≡ false) (sym f.answers)
       ((tells f.earlier f.at f.fault f.has (length f.earlier + 1)).1)) (all_faults fault_of rs) of_each)
 
-  -- the numbers of the records rise
+  -- the record numbers of the faults are strictly rising
   pub each_once : IsStrictlyRisingBy number (all_faults fault_of rs)
   each_once = numbers_rise fault_of number (λ earlier r fault n is. (tells earlier r fault is n).0) [] rs
 

@@ -1,4 +1,5 @@
--- A record of names and a quantity that is looked at alone has the lowest-numbered of the faults that need no other record.
+-- A record of names and a quantity, read by itself, has the lowest-numbered of the faults that do not depend on other
+-- records.
 use Rattle.std.proofs.Common.{◌≡◌, refl, ap, inl, inr, arith, ℕ, zero, suc, ◌+◌, Bool, true, not, ◌&&◌, ◌==◌}
 use Rattle.std.proofs.Common.{ℤ, List, [], ◌∷◌, length, Option, Some, None, Result, Ok, Err}
 use Rattle.std.specs.Prelude.{option_map}
@@ -16,7 +17,7 @@ use Rattle.span_csv.specs.declared.faults.PositionFault.TheVariants as fault
 
 -- ---- forms
 
--- the forms of a record's fields: so many names, and a quantity
+-- the forms of a record's fields: a number of names, then a quantity
 abbrev pub named_forms : ℕ → List FieldForm
 named_forms zero = a_quantity ∷ []
 named_forms (suc n) = form.Name ∷ named_forms n
@@ -28,7 +29,7 @@ words zero (q ∷ x ∷ r) e = absurd (omega (arith, e))
 words (suc n) [] e = absurd (omega (arith, e))
 words (suc n) (a ∷ r) e = ap (λ b. is_name a && b) (words n r (omega (arith, e)))
 
--- a test that names pass is the test of the quantity
+-- a test that every name passes is a test of the quantity only
 of_quantity : (test : FieldForm → List ℕ → Bool) → ((text : List ℕ) → test form.Name text ≡ true) → (n : ℕ) (r : Fields)
     → length r ≡ n + 1 → all_have test (named_forms n) r ≡ test a_quantity (text_at r n)
 of_quantity test names zero [] e = absurd (omega (arith, e))
@@ -39,18 +40,18 @@ of_quantity test names (suc n) (a ∷ r) e = rw (names a) (of_quantity test name
 
 -- ---- faults
 
--- what some faults leave of a record
+-- the value of a record, or the first of its faults
 abbrev pub left_by : {F V : Type 0} → ℕ → V → List (Bool × (ℕ → F)) → Result V F
 left_by at value faults = ok_unless (option_map (λ f. f at) (first_that_holds faults)) value
 
--- what comes of a record's quantity
+-- continues with a record's quantity, or converts its fault
 abbrev pub with_quantity : {F V : Type 0} → (PositionFault → F) → (ℤ → Result V F) → Result ℤ PositionFault → Result V F
 with_quantity tells behind (Err e) = Err (tells e)
 with_quantity tells behind (Ok quantity) = behind quantity
 
 module _ {F V : Type 0} (tells : PositionFault → F) (n at : ℕ) (r : Fields) (more : List (Bool × (ℕ → F))) (value : V)
     (behind : ℤ → Result V F) where
-  -- the faults that need no other record, and more
+  -- the faults that do not depend on other records, followed by more faults
   abbrev pub faults_with : List (Bool × (ℕ → F))
   faults_with =
       (not (length r == n + 1), λ at. tells (fault.FieldCount at))

@@ -1,4 +1,4 @@
--- What the tests of a record's fields say of it.
+-- The faults of a record's fields, from the results of their tests.
 use Rattle.std.proofs.Common.{◌≡◌, ◌-◌, ◌&&◌, ◌∙◌, ap, refl, sym, ℕ, Bool, true, false, List}
 use Rattle.std.proofs.Common.{[], ◌∷◌, ◌++◌, length, drop, Option, Some, None}
 use Rattle.std.specs.Prelude.{ℤ, is_some, option_map}
@@ -15,9 +15,9 @@ use Rattle.span_csv.specs.declared.grammar.FieldForm.{FieldForm}
 use Rattle.span_csv.specs.declared.grammar.FieldForm.TheVariants as form
 use Rattle.span_csv.specs.declared.grammar.Kind.{Kind}
 
--- ---- the first of some faults
+-- ---- the first fault of a list
 
--- behind faults that do not hold stand the others
+-- after faults that are all absent, the first fault is the first of the others
 pub first_append : {F : Type 0} (xs ys : List (Bool × F)) → first_that_holds xs ≡ None
     → first_that_holds (xs ++ ys) ≡ first_that_holds ys
 first_append [] ys e = refl
@@ -28,14 +28,14 @@ pub fault_behind : (xs ys : List (Bool × (ℕ → ParamFault))) (at : ℕ) (ans
     → IsFaultOf (xs ++ ys) at answer
 fault_behind xs ys at answer free e = ap (option_map (λ f. f at)) (first_append xs ys free) ∙ e
 
--- a fault that holds stays the first
+-- the first fault stays first if more faults are appended
 pub first_front : {F : Type 0} (xs ys : List (Bool × (ℕ → F))) (at : ℕ) (answer : F)
     → option_map (λ f. f at) (first_that_holds xs) ≡ Some answer → option_map (λ f. f at) (first_that_holds (xs ++ ys)) ≡ Some answer
 first_front [] ys at answer e = cc
 first_front ((true, f) ∷ xs) ys at answer e = e
 first_front ((false, f) ∷ xs) ys at answer e = first_front xs ys at answer e
 
--- where no fault holds, none of the first of them does
+-- if no fault of a list is present, none of a prefix is
 pub front_none : {F : Type 0} (xs ys : List (Bool × F)) → first_that_holds (xs ++ ys) ≡ None → first_that_holds xs ≡ None
 front_none [] ys e = refl
 front_none ((true, f) ∷ xs) ys e = cc
@@ -67,7 +67,7 @@ all_in_range_number (form ∷ forms) (text ∷ fields) e =
     and_from (has_number_form form text) (all_have has_number_form forms fields) (in_range_number form text parts.0)
     (all_in_range_number forms fields parts.1)
 
--- ---- two tests at once
+-- ---- two tests together
 
 both_parts : (a b c d : Bool) → ((a && b) && (c && d)) ≡ ((a && c) && (b && d))
 both_parts true true c d = refl
@@ -75,7 +75,7 @@ both_parts true false true d = refl
 both_parts true false false d = refl
 both_parts false b c d = refl
 
--- all fields pass two tests where all pass the first and all the second
+-- all fields pass two tests exactly if all pass the first and all pass the second
 pub all_have_both : (a b : FieldForm → List ℕ → Bool) (forms : List FieldForm) (fields : Fields)
     → all_have (λ form text. a form text && b form text) forms fields ≡ (all_have a forms fields && all_have b forms fields)
 all_have_both a b [] fields = refl
@@ -88,17 +88,17 @@ module _ (forms : List FieldForm) (fields : Fields) (right : Bool)
   split : right ≡ (all_have has_word_form forms fields && all_have is_in_range forms fields)
   split = is ∙ all_have_both has_word_form is_in_range forms fields
 
-  -- a record that passes has words of their forms, and numbers in their ranges
+  -- in a record that passes, words have their forms and numbers are in their ranges
   pub right_parts : right ≡ true → (all_have has_word_form forms fields ≡ true) × (all_have is_in_range forms fields ≡ true)
   right_parts passes = and_parts _ _ (sym split ∙ passes)
 
-  -- one that fails, and has words of their forms, has a number out of its range
+  -- a record that fails although its words have their forms has a number out of its range
   pub range_fails : right ≡ false → all_have has_word_form forms fields ≡ true → all_have is_in_range forms fields ≡ false
   range_fails fails words = sym (ap (λ b. b && all_have is_in_range forms fields) words) ∙ sym split ∙ fails
 
 -- ---- the faults of fields
 
--- no fault of fields holds that are of their forms and in their ranges
+-- fields that have their forms and are in their ranges have no fault
 pub none_fails : (kind : Kind) (profile : ℕ) (r : Fields) (forms : List FieldForm) → kind_of r ≡ Some kind
     → forms_of kind profile (product_at r 3) (length r - 1) ≡ Some forms
     → all_have has_word_form forms (drop 1 r) ≡ true → all_have is_in_range forms (drop 1 r) ≡ true
@@ -108,7 +108,7 @@ none_fails kind profile r forms is e words ranges =
     let numbers = all_in_range_number forms (drop 1 r) ranges in
     rw (layout, words, numbers, ranges) refl
 
--- the fault of fields that have their forms, and of which a number is out of its range
+-- the fault of fields that have their forms, if a number is out of its range
 pub out_of_range : (kind : Kind) (profile at : ℕ) (r : Fields) (forms : List FieldForm) → kind_of r ≡ Some kind
     → forms_of kind profile (product_at r 3) (length r - 1) ≡ Some forms
     → all_have has_word_form forms (drop 1 r) ≡ true → all_have has_number_form forms (drop 1 r) ≡ true

@@ -1,4 +1,4 @@
--- A record without a fault, and how many of a kind there are where no record has one.
+-- A record without a fault, and the number of records of a kind if no record has a fault.
 use Rattle.std.proofs.Common.{◌≡◌, ◌∙◌, refl, sym, ap, ap₂, subst, arith, inl, inr, ℕ, ◌+◌}
 use Rattle.std.proofs.Common.{◌≤◌, Bool, true, false, not, cond, ◌&&◌, ◌==◌, if◌then◌else◌}
 use Rattle.std.proofs.Common.{List, [], ◌∷◌, ◌++◌, length, map, Option, Some, None, append_assoc}
@@ -21,7 +21,7 @@ use Rattle.span_csv.specs.declared.grammar.Kind.TheVariants as kind
 
 -- ---- a record without a fault
 
--- no test of the faults behind these holds
+-- every test for a fault of the record after the earlier ones fails
 pub record IsClean (earlier : List Fields) (r : Fields) : Type 0 where
   pub first : ((length earlier == 0) && not (is_set r)) ≡ false
   pub second : (not (length earlier == 0) && is_set r) ≡ false
@@ -88,15 +88,15 @@ kind_of_word _ = refl
 pub word_named : (r : Fields) (k : Kind) → has_kind k r ≡ true → kind_of r ≡ Some k
 word_named r k h = ap kind_named (same_name (text_at r 0) (word_of k) h) ∙ kind_of_word k
 
--- two kinds are the same: they have one word
+-- two kinds are the same if they have the same word
 abbrev pub same_kind : Kind → Kind → Bool
 same_kind j k = is_word (word_of k) (word_of j)
 
--- a record of one kind has the word of just that kind
+-- a record of a kind has the word of that kind and of no other
 has_kind-same : (r : Fields) (j k : Kind) → kind_of r ≡ Some j → has_kind k r ≡ same_kind j k
 has_kind-same r j k e = ap (is_word (word_of k)) (same_name (text_at r 0) (word_of j) (named_word (text_at r 0) j e))
 
--- what is there
+-- the value of an option that is not `None`
 pub some_of : {A : Type 0} (o : Option A) → is_none o ≡ false → (x : A) × (o ≡ Some x)
 some_of None e = cc
 some_of (Some x) e = (x, refl)
@@ -105,18 +105,18 @@ some_of (Some x) e = (x, refl)
 pub clean_kind : (earlier : List Fields) (r : Fields) → IsClean earlier r → (k : Kind) × (kind_of r ≡ Some k)
 clean_kind earlier r c = some_of (kind_of r) c.kind
 
--- what it says is of that kind
+-- the value of a record is of the record's kind
 pub param_record-kind : (r : Fields) (k : Kind) → kind_of r ≡ Some k → param_record r ≡ record_of_kind k r
 unfolding param_record
 param_record-kind r k e = rw e refl
 
 -- ---- counts
 
--- whether something passes a test, where there is something
+-- whether there is a value that passes a test
 abbrev pub passes : {A : Type 0} → (A → Bool) → Option A → Bool
 passes test o = option_map_or test o false
 
--- what a record of a kind gives passes a test if the record does
+-- the value picked from a record passes a test exactly if the record is of this kind and passes a test of its fields
 abbrev pub IsPicked : {A : Type 0} → Kind → (Record → Option A) → (A → Bool) → (Fields → Bool) → Type 0
 IsPicked kind pick test of_fields =
     (k : Kind) (r : Fields) → passes test (pick (record_of_kind k r)) ≡ (same_kind k kind && of_fields r)
@@ -126,7 +126,7 @@ count_by-cons_option : {A : Type 0} (test : A → Bool) (o : Option A) (xs : Lis
 count_by-cons_option test None xs = omega arith
 count_by-cons_option test (Some x) xs = sum_by-cons (λ y. cond (test y) 1 0) x xs
 
--- what records without a fault give is counted by their fields
+-- the picked values that pass a test are as many as the records whose fields pass, if no record has a fault
 pub count_picked : {A : Type 0} (kind : Kind) (pick : Record → Option A) (test : A → Bool) (of_fields : Fields → Bool)
     → IsPicked kind pick test of_fields
     → (before rows : List Fields) → IsFaultFree record_fault before rows
@@ -152,7 +152,7 @@ count_push test rows r most le room =
       | inr other ↦ rw (sum_by_push (λ x. cond (test x) 1 0) rows r, other) (omega arith)
     ]
 
--- no more pass a test than may, where none without a fault is one more
+-- at most `most` records pass a test, if no record without a fault is one too many
 pub never_more : (test : Fields → Bool) (most : ℕ)
     → ((earlier : List Fields) (r : Fields) → counted earlier ≡ earlier → IsClean earlier r → test r ≡ true
     → (count_by test earlier == most) ≡ false)

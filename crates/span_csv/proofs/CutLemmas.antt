@@ -1,4 +1,4 @@
--- The records of two files, one behind the other.
+-- The records of two files joined.
 use Rattle.std.proofs.Common.{◌≡◌, ◌∙◌, ℕ, zero, suc, ◌+◌, ◌≤◌, ◌<◌}
 use Rattle.std.proofs.Common.{Bool, true, false, ◌&&◌, ◌||◌, ◌==◌}
 use Rattle.std.proofs.Common.{if◌then◌else◌, inl, inr, List, [], ◌∷◌, ◌++◌}
@@ -25,7 +25,7 @@ unfolding records_from next_record
 none_at_end zero = refl
 none_at_end (suc n) = refl
 
--- behind a record, one read fewer is enough for the bytes that are left
+-- after a record, one read fewer is enough for the bytes that are left
 behind_record : (n : ℕ) (s : State) (rest : List ℕ) → length rest < n
     → ((m : ℕ) → length rest ≤ m
     → records_next (records_from default_config m) (next_record default_config s [] [] rest) ≡ rows s [] [] rest)
@@ -34,7 +34,7 @@ unfolding records_from
 behind_record zero s rest lt more = absurd (omega (arith, lt))
 behind_record (suc n) s rest lt more = more n (omega (arith, lt))
 
--- as many reads as there are bytes give all records
+-- as many reads as there are bytes return all records
 rows_are : (xs : List ℕ) (n : ℕ) (s : State) (fields : Fields) (field : List ℕ) → length xs ≤ n
     → records_next (records_from default_config n) (next_record default_config s fields field xs) ≡ rows s fields field xs
 unfolding next_record
@@ -71,7 +71,7 @@ records_are xs =
 
 -- ---- bytes without a quote
 
--- no quoted field is open, and between two records nothing is at hand
+-- no quoted field is open, and nothing has been read of the next record between two records
 abbrev IsPlain : State → Fields → List ℕ → Type 0
 IsPlain state.StartRecord fields field = (fields ≡ []) × (field ≡ [])
 IsPlain state.AfterCr fields field = (fields ≡ []) × (field ≡ [])
@@ -79,14 +79,14 @@ IsPlain state.StartField fields field = Unit {0}
 IsPlain state.InField fields field = Unit {0}
 IsPlain _ fields field = ⊥
 
--- what a reader has read is plain, too, behind one more byte and what the reader does at it
+-- the state and the fields are plain after one more byte and the reader's action for it
 abbrev IsPlainBehind : State → Action → Fields → List ℕ → ℕ → Type 0
 IsPlainBehind s act.EndRecord fields field c = IsPlain s [] []
 IsPlainBehind s act.Skip fields field c = IsPlain s fields field
 IsPlainBehind s act.Copy fields field c = IsPlain s fields (field ++ c ∷ [])
 IsPlainBehind s act.EndField fields field c = IsPlain s (fields ++ field ∷ []) []
 
--- a byte leaves it so
+-- a byte keeps the state plain
 abbrev StaysPlain : State → Fields → List ℕ → ℕ → Type 0
 StaysPlain s fields field c = IsPlainBehind (step default_config s c).0 (step default_config s c).1 fields field c
 
@@ -105,7 +105,7 @@ by_kind P c comma carriage line other =
       ]
     ]
 
--- each byte but a quote does
+-- each byte except a double quote keeps the state plain
 stays_plain : (s : State) (fields : Fields) (field : List ℕ) (c : ℕ) → IsPlain s fields field → (c == 34) ≡ false
     → StaysPlain s fields field c
 stays_plain state.StartRecord fields field c plain free =
@@ -118,7 +118,7 @@ stays_plain state.InField fields field c plain free =
     by_kind (StaysPlain state.InField fields field) c tt (refl, refl) (refl, refl) (λ a b d. rw (a, b, d) tt)
 stays_plain _ fields field c plain free = absurd plain
 
--- behind a line feed the records begin anew
+-- after a line feed the records start anew
 line_cut : (s : State) (fields : Fields) (field ys : List ℕ) → IsPlain s fields field
     → rows s fields field (10 ∷ ys) ≡ rows s fields field (10 ∷ []) ++ rows state.StartRecord [] [] ys
 line_cut state.StartRecord fields field ys plain = rw (plain.0, plain.1) refl
@@ -127,7 +127,7 @@ line_cut state.StartField fields field ys plain = refl
 line_cut state.InField fields field ys plain = refl
 line_cut _ fields field ys plain = absurd plain
 
--- the rows behind bytes without a quote and a line feed are those of the further bytes by themselves
+-- after bytes without a quote and then a line feed, the rows are the rows of the further bytes by themselves
 rows_cut : (front : List ℕ) (s : State) (fields : Fields) (field ys : List ℕ) → IsPlain s fields field → has_quote front ≡ false
     → rows s fields field (front ++ 10 ∷ ys) ≡ rows s fields field (front ++ 10 ∷ []) ++ rows state.StartRecord [] [] ys
 rows_cut [] s fields field ys plain free = line_cut s fields field ys plain
@@ -147,7 +147,7 @@ rows_cut (c ∷ front) s fields field ys plain free =
     by s2 act.Copy h more = more s2 fields (field ++ c ∷ []) h
     by s2 act.EndField h more = more s2 (fields ++ field ∷ []) [] h
 
--- ---- the mark at the start
+-- ---- the byte order mark
 
 -- a line feed is no part of the mark
 mark_first : (ys : List ℕ) → strip_bom (10 ∷ ys) ≡ 10 ∷ ys
@@ -161,7 +161,7 @@ unfolding strip_bom
 mark_second a [] = refl
 mark_second a (c ∷ ys) = ap (λ b. if (b && (c == 0xBF)) then ys else a ∷ 10 ∷ c ∷ ys) (and-false (a == 0xEF))
 
--- the mark is taken from bytes with a line feed behind them as from the bytes before the line feed
+-- removing the mark from bytes with a line feed after them removes it from the bytes before the line feed
 mark_front : (front ys : List ℕ) → strip_bom (front ++ 10 ∷ ys) ≡ strip_bom front ++ 10 ∷ ys
 unfolding strip_bom
 mark_front [] ys = mark_first ys
@@ -173,7 +173,7 @@ mark_front (a ∷ b ∷ c ∷ front) ys = by (is_bom a b c) where
   by true = refl
   by false = refl
 
--- where no byte passes a test, none does once the mark is taken
+-- if no byte passes a test, none does after the mark is removed
 pub mark_free : (test : ℕ → Bool) (front : List ℕ) → list_any test front ≡ false → list_any test (strip_bom front) ≡ false
 unfolding strip_bom
 mark_free test [] free = free
@@ -189,7 +189,7 @@ mark_free test (a ∷ b ∷ c ∷ front) free = by (is_bom a b c) where
   by true = rest_free
   by false = free
 
--- ---- both
+-- ---- records and mark together
 
 -- the records of bytes without a quote, a line feed and further bytes
 lines_cut : (front second : List ℕ) → has_quote front ≡ false → BeginsWithNoMark second
@@ -206,7 +206,7 @@ lines_cut front second free unmarked =
     other : records_of second ≡ rows state.StartRecord [] [] second
     other = records_are second ∙ ap (rows state.StartRecord [] []) unmarked
 
--- behind a file that ends in a line feed and has no quote, the records of another one are what they are by themselves
+-- after a file that ends in a line feed and has no quote, the records of another file are the same as by themselves
 pub records_joined : (first second : List ℕ) → EndsInLineFeed first → has_quote first ≡ false → BeginsWithNoMark second
     → records_of (first ++ second) ≡ records_of first ++ records_of second
 records_joined first second ends free unmarked =

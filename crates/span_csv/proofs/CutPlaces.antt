@@ -1,4 +1,4 @@
--- Where a search finds a byte, and what is cut behind a line feed.
+-- Results of byte searches, and the records after a cut behind a line feed.
 use Rattle.std.proofs.Common.{◌≡◌, ◌∙◌, refl, sym, ap, arith, ℕ, Bool, true, false, not, ◌||◌, ◌==◌}
 use Rattle.std.proofs.Common.{List, [], ◌∷◌, ◌++◌, take, drop, get_or, inl, inr, Option, Some, None, append_assoc, slice_get}
 use Rattle.std.specs.Prelude.{flat_map, is_some}
@@ -16,7 +16,7 @@ use Rattle.span_csv.proofs.CutLemmas.{records_joined}
 
 -- ---- searches
 
--- a search finds a byte just where there is one
+-- a search finds a byte exactly if there is one
 pub found_any : (test : ℕ → Bool) (hay : List ℕ) (r : Option ℕ) → IsFirstByte test hay r → is_some r ≡ list_any test hay
 found_any test hay None h =
     sym (list_any_none test hay (All-from_get_or (λ x. test x ≡ false) hay 0 (λ k within.
@@ -26,16 +26,16 @@ found_any test hay None h =
     ])))
 found_any test hay (Some k) h = sym (list_any_at test hay k 0 h.0.high h.1)
 
--- ---- marks
+-- ---- byte order marks
 
--- bytes that do not begin with the first byte of a mark begin with no mark
+-- bytes that do not begin with the first byte of a mark do not begin with a mark
 pub unmarked : (a : ℕ) (rest : List ℕ) → (a == 0xEF) ≡ false → BeginsWithNoMark (a ∷ rest)
 unfolding strip_bom
 unmarked a [] other = refl
 unmarked a (b ∷ []) other = refl
 unmarked a (b ∷ c ∷ rest) other = rw other refl
 
--- and so do bytes whose first one is another
+-- the same if the first byte is known by its index
 pub first_unmarked : (bytes : List ℕ) (first : ℕ) → Some first ≡ slice_get bytes 0 → not (first == 0xEF) ≡ true → BeginsWithNoMark bytes
 first_unmarked [] first is other = cc
 first_unmarked (a ∷ rest) first is other = unmarked a rest (by (a == 0xEF) refl) where
@@ -53,11 +53,11 @@ module _ (left : List ℕ) (at : ℕ) (plain : has_quote left ≡ false) where
   parts_plain =
       sym (list_any-append (λ b. b == 34) (take at left) (drop at left)) ∙ ap has_quote (take-append-drop at left) ∙ plain
 
-  -- what is left behind a cut has no quote
+  -- the bytes after a cut have no quote
   pub left_plain : has_quote (drop at left) ≡ false
   left_plain = (or_parts (has_quote (take at left)) (has_quote (drop at left)) parts_plain).1
 
-  -- the records behind a cut are what they are by themselves
+  -- the records on both sides of a cut, joined, are the records of the whole
   pub records_cut : EndsInLineFeed (take at left) → BeginsWithNoMark (drop at left)
       → records_of (take at left) ++ records_of (drop at left) ≡ records_of left
   records_cut line begins =
@@ -65,7 +65,7 @@ module _ (left : List ℕ) (at : ℕ) (plain : has_quote left ≡ false) where
       (or_parts (has_quote (take at left)) (has_quote (drop at left)) parts_plain).0 begins)
       ∙ ap records_of (take-append-drop at left)
 
--- one more piece in front of what is left
+-- one more piece cut from the front of the bytes that are left
 pub one_more : {X A : Type 0} (f : X → List A) (pieces : List X) (piece : X) (rest left whole : List A)
     → flat_map f pieces ++ left ≡ whole → f piece ++ rest ≡ left → flat_map f (pieces ++ piece ∷ []) ++ rest ≡ whole
 one_more f pieces piece rest left whole so_far cut =

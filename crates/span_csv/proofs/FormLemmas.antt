@@ -1,4 +1,4 @@
--- What the forms of fields say of the numbers that a record takes from them.
+-- The numbers that are read from a record whose fields have their forms.
 use Rattle.std.proofs.Common.{◌≡◌, ◌∙◌, ◌+◌, ◌*◌, ◌<◌, ◌≤◌, ◌&&◌, ◌==◌, sym, refl, ap, arith, ℕ, suc, zero, Bool, true}
 use Rattle.std.proofs.Common.{false, length-append, if◌then◌else◌, ℤ, pos, negsuc, List, [], ◌∷◌, ◌++◌, length, take}
 use Rattle.std.proofs.Common.{drop, Option, Some, None}
@@ -19,20 +19,20 @@ use Rattle.span_csv.specs.declared.grammar.FieldForm.TheVariants as form
 
 -- ---- numbers
 
--- a number that is not negative, taken as a count
+-- a non-negative number in a range, read as a count, is in the range
 pub count_within : (l h : ℕ) (o : Option ℤ) → is_within (pos l) (pos h) o ≡ true
     → lies_within l h (positive_part (unwrap_or o (pos 0))) ≡ true
 count_within l h None e = cc
 count_within l h (Some (pos n)) e = e
 count_within l h (Some (negsuc n)) e = cc
 
--- a number from 0 to its highest value, taken as a count
+-- a number from 0 to a highest value, read as a count, is at most that value
 pub count_below : (h : ℕ) (o : Option ℤ) → is_within (pos 0) (pos h) o ≡ true
     → nat_le (positive_part (unwrap_or o (pos 0))) h ≡ true
 count_below h o e =
     (and_parts (nat_le 0 (positive_part (unwrap_or o (pos 0)))) (nat_le (positive_part (unwrap_or o (pos 0))) h) (count_within 0 h o e)).1
 
--- the size of a number
+-- the absolute value of a number in a symmetric range is at most the range's bound
 pub size_within : (h : ℕ) (o : Option ℤ) → is_within (negsuc h) (pos (suc h)) o ≡ true
     → nat_le (nat_abs (unwrap_or o (pos 0))) (suc h) ≡ true
 size_within h None e = cc
@@ -44,12 +44,12 @@ size_within h (Some (negsuc n)) e =
 
 -- ---- months
 
--- what is given only where a test holds
+-- a value that is present only if a test is true
 pub if_some : {A : Type 0} (b : Bool) (v z : A) → (if b then Some v else None) ≡ Some z → (b ≡ true) × (v ≡ z)
 if_some true v z e = (refl, cc)
 if_some false v z e = cc
 
--- six digits, of which the first is no minus
+-- the number of a month is the whole number of its text: six digits, which do not begin with a minus sign
 month_whole : (text : List ℕ) (z : ℤ) → month_number text ≡ Some z → whole_number text ≡ Some z
 month_whole [] z e = cc
 month_whole (b ∷ rest) z e =
@@ -72,14 +72,14 @@ month_from : (text : List ℕ) (o : Option ℤ) → month_number text ≡ o
 month_from text None e h = cc
 month_from text (Some z) e h = rw (month_whole text z e) h
 
--- a month, taken as a count
+-- a month in its range, read as a count, is a month
 pub month_within : (text : List ℕ) → is_in_range form.Month text ≡ true
     → is_month (positive_part (unwrap_or (whole_number text) (pos 0))) ≡ true
 month_within text h = month_from text (month_number text) refl h
 
 -- ---- fields
 
--- no field fails a test where some_fail does not hold
+-- if `some_fail` is false, all fields pass the test
 pub all_pass : (test : FieldForm → List ℕ → Bool) (profile : ℕ) (word : List ℕ) (fields : Fields) (forms : List FieldForm)
     → layout_of profile (word ∷ fields) ≡ Some forms
     → some_fail test profile (word ∷ fields) ≡ false → all_have test forms fields ≡ true
@@ -99,12 +99,12 @@ passes_at test (g ∷ forms) (x ∷ fields) zero f all inside is =
 passes_at test (g ∷ forms) (x ∷ fields) (suc i) f all inside is =
     passes_at test forms fields i f ((and_parts (test g x) (all_have test forms fields) all).1) (omega (arith, inside)) is
 
--- no field is left to fail
+-- an empty list of fields passes every test
 pub all_have-none : (test : FieldForm → List ℕ → Bool) (forms : List FieldForm) → all_have test forms [] ≡ true
 all_have-none test [] = refl
 all_have-none test (f ∷ forms) = refl
 
--- forms behind others are those of the fields behind the others'
+-- the forms of a prefix test the first fields, and the other forms test the fields after them
 pub all_have-append : (test : FieldForm → List ℕ → Bool) (front back : List FieldForm) (fields : Fields)
     → all_have test (front ++ back) fields ≡ (all_have test front fields && all_have test back (drop (length front) fields))
 all_have-append test [] back fields = refl
@@ -119,7 +119,7 @@ all_behind test front back fields all =
     (and_parts (all_have test front fields) (all_have test back (drop (length front) fields))
     (sym (all_have-append test front back fields) ∙ all)).1
 
--- many fields of one form, in front of others
+-- a number of fields of one form, before other fields
 pub all_of_form : (test : FieldForm → List ℕ → Bool) (f : FieldForm) (n : ℕ) (back : List FieldForm) (fields : Fields)
     → all_have test (repeat n (f ∷ []) ++ back) fields ≡ true
     → list_all (test f) (take n fields) ≡ true
@@ -129,7 +129,7 @@ all_of_form test f (suc n) back (x ∷ fields) all =
     let parts = and_parts (test f x) (all_have test (repeat n (f ∷ []) ++ back) fields) all in
     and_from (test f x) (list_all (test f) (take n fields)) parts.0 (all_of_form test f n back fields parts.1)
 
--- many fields of one form pass where each does
+-- a number of fields of one form pass exactly if each of them does
 pub all_have-repeat : (test : FieldForm → List ℕ → Bool) (f : FieldForm) (n : ℕ) (fields : Fields)
     → all_have test (repeat n (f ∷ [])) fields ≡ list_all (test f) (take n fields)
 all_have-repeat test f zero fields = refl
@@ -138,7 +138,7 @@ all_have-repeat test f (suc n) (x ∷ fields) = ap (λ b. test f x && b) (all_ha
 
 -- ---- layouts
 
--- so many of some parts that are the same
+-- the first n of equal lists, joined
 pub flat_take : {A : Type 0} (n m : ℕ) (xs : List A) → n ≤ m → flat_map (λ x. x) (take n (replicate m xs)) ≡ repeat n xs
 flat_take zero m xs le = refl
 flat_take (suc n) zero xs le = absurd (omega (arith, le))
@@ -153,6 +153,6 @@ layout_length front middle back = omega (arith, length-append (front ++ middle) 
 
 -- ---- fields past the end
 
--- a field past the end is no number, and counts 0
+-- a field past the end is no number, and counts as 0
 pub count_past : (r : Fields) (i : ℕ) → length r ≤ i → count_at r i ≡ 0
 count_past r i past = ap (λ text. positive_part (unwrap_or (whole_number text) (pos 0))) (get_or_past r i [] past)

@@ -9,7 +9,7 @@ use Rattle.span_csv.specs.Records.{Fields, all_have, has_word_form, is_in_range,
 use Rattle.span_csv.specs.declared.grammar.FieldForm.{FieldForm}
 use Rattle.span_csv.proofs.FormLemmas.{all_have-append}
 
--- what the forms of a leg say of its fields holds of all legs
+-- a property that follows from the forms of one leg's fields is true of all legs
 pub legs_all : (p : Fields → Bool) (a b c : FieldForm)
     → ((x y z : List ℕ) → has_word_form a x ≡ true → is_in_range a x ≡ true → is_in_range c z ≡ true → p (x ∷ y ∷ z ∷ []) ≡ true)
     → (k : ℕ) (xs : Fields) → length xs ≡ k * 3 → all_have has_word_form (repeat k (a ∷ b ∷ c ∷ [])) xs ≡ true
@@ -31,14 +31,14 @@ legs_all p a b c says (suc k) (x ∷ y ∷ z ∷ xs) len words ranges =
     and_from _ _ (says x y z in_words.0 in_range.0 third.0)
     (legs_all p a b c says k xs (omega (arith, len)) (split has_word_form words).1 (split is_in_range ranges).1)
 
--- a leg's fields behind others
+-- the fields of a leg after other fields
 leg_text : (r : Fields) (from j at : ℕ) → from + j ≡ at → leg_at (drop from r) j ≡ leg_at r at
 leg_text r from j at e =
     let text : (i m : ℕ) → from + i ≡ m → text_at (drop from r) i ≡ text_at r m =
     λ i m is. get_or-drop from r i [] ∙ ap (λ n. text_at r n) is in
     rw (text j at e, text (j + 1) (at + 1) (omega (arith, e)), text (j + 2) (at + 2) (omega (arith, e))) refl
 
--- what is tested of all legs holds of the leg at each place
+-- a test that all legs pass is passed by the leg at each index
 leg_each : (p : Fields → Bool) (k : ℕ) (xs : Fields) → length xs ≡ k * 3 → list_all p (legs_of xs) ≡ true
     → (i : ℕ) → i < k → p (leg_at xs (i * 3)) ≡ true
 leg_each p zero xs len all i few = absurd (omega (arith, few))
@@ -51,7 +51,7 @@ leg_each p (suc k) (x ∷ y ∷ z ∷ xs) len all (suc i) few =
     subst (λ leg. p leg ≡ true) (leg_text (x ∷ y ∷ z ∷ xs) 3 (i * 3) (suc i * 3) (omega arith))
     (leg_each p k xs (omega (arith, len)) later i (omega (arith, few)))
 
--- what is tested of all legs holds of the leg at each place of the whole record
+-- a test that all legs pass is passed by the leg at each index of the whole record
 pub leg_passes : (p : Fields → Bool) (r : Fields) (from k : ℕ) → length r ≡ from + k * 3 → list_all p (legs_of (drop from r)) ≡ true
     → (i : ℕ) → i < k → p (leg_at r (from + 3 * i)) ≡ true
 leg_passes p r from k len all i few =
@@ -70,7 +70,7 @@ legs_more r at next inside is =
     ∙ at_drop_more (λ xs. legs_of (text_at r at ∷ text_at r (at + 1) ∷ xs)) r (at + 1 + 1) [] (omega (arith, inside))
     ∙ rw (second, behind) refl
 
--- the leg at a place behind those before it
+-- the leg at an index, appended to the legs before it
 pub legs_push : {L : Type 0} (leg : Fields → L) (r : Fields) (at next : ℕ) (before whole : List L) (x : L) → at + 2 < length r
     → next ≡ at + 3 → x ≡ leg (leg_at r at) → before ++ map leg (legs_of (drop at r)) ≡ whole
     → (before ++ x ∷ []) ++ map leg (legs_of (drop next r)) ≡ whole

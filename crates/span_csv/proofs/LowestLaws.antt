@@ -1,4 +1,4 @@
--- `first_that_holds` gives the first fault whose test holds.
+-- `first_that_holds` returns the first fault whose test is true.
 use Rattle.std.proofs.Common.{◌≡◌, refl, subst, Bool, true, false, List, [], ◌∷◌, ◌++◌, Some, None}
 use Rattle.std.specs.Prelude.{All}
 use Rattle.std.specs.List.{AllByRecursion}
@@ -19,7 +19,7 @@ module _ {F : Type 0} where
   none_holds [] fail = refl
   none_holds (x ∷ faults) fail = rw (All-head Fails x faults fail) (none_holds faults (All-tail Fails x faults fail))
 
-  -- what all faults are, the first that holds is
+  -- a property of all faults is true of the first one that is present
   pub first_is : (P : F → Type 0) (faults : List (Bool × F)) (y : F) → AllByRecursion (λ x. P x.1) faults
       → first_that_holds faults ≡ Some y → P y
   first_is P [] y each is = cc

@@ -1,4 +1,4 @@
--- What the record behind numbered ones is.
+-- The record that follows numbered ones.
 use Rattle.std.proofs.Common.{◌≡◌, refl, sym, ap, inl, inr, arith, ℕ, ◌+◌, ◌-◌, ◌≤◌, Bool, cond, true, false}
 use Rattle.std.proofs.Common.{◌==◌, ℤ, List, [], ◌∷◌, ◌++◌, length, get_or, nat_abs, Some, Ok, Err, slice_get}
 use Rattle.std.proofs.lemmas.Bool.{cases_Bool, eqb-false, leb-true}
@@ -19,7 +19,7 @@ use Rattle.span_csv.proofs.RecordLemmas.{records_after-ok}
 
 -- ---- the limit
 
--- a name that is not one too many leaves the limit as it is
+-- the number of names stays within the limit with a name that is not one too many
 pub still_few : (most : ℕ) (keys : List (List ℕ)) (name : List ℕ) → length keys ≤ most → is_one_too_many most keys name ≡ false
     → length (with_name keys name) ≤ most
 still_few most keys name few room =
@@ -31,18 +31,18 @@ still_few most keys name few room =
           omega (arith, e, few, apart))
     ]
 
--- a name that stands at a place stays where it is
+-- a name that is known at an index is not one too many and changes nothing
 pub stands_there : (most : ℕ) (keys : List (List ℕ)) (a : ℕ) (name : List ℕ) → slice_get keys a ≡ Some name
     → (is_one_too_many most keys name ≡ false) × (keys ≡ with_name keys name)
 stands_there most keys a name at = let there = among_at keys a name at in (rw there refl, rw there refl)
 
--- the names that need no test are names
+-- the names that are exempt from the test are names
 pub tested_names : (b : Bool) (r : Fields) → (b ≡ true → is_name (text_at r 0) ≡ true) → are_names (cond b 1 0) r ≡ true
 tested_names false r known = refl
 tested_names true [] known = refl
 tested_names true (x ∷ r) known = rw (known refl) refl
 
--- ---- what the next record is
+-- ---- the next record
 
 module _ (names most : ℕ) (keys : List (List ℕ)) (earlier : List NumberedPosition) (r : Fields) (was : AreNumbered keys earlier) where
   count_same : length (named_positions keys earlier) + 1 ≡ length earlier + 1
@@ -71,7 +71,7 @@ module _ (names most : ℕ) (keys : List (List ℕ)) (earlier : List NumberedPos
 module _ (most : ℕ) (keys : List (List ℕ)) (earlier : List NumberedPosition) (was : AreNumbered keys earlier) (a : ℕ)
     (account contract : List ℕ) (q : ℤ) (rest rows : List Fields) (at : slice_get keys a ≡ Some account)
     (is : IsPositionIn account contract q rest rows) where
-  -- the position, numbered
+  -- the numbered position of the line
   abbrev pub plain_position : NumberedPosition
   plain_position = record { contract = contract; account = a; quantity = q }
 
@@ -85,7 +85,7 @@ module _ (most : ℕ) (keys : List (List ℕ)) (earlier : List NumberedPosition)
   plain_next : next_position 2 most (named_positions keys earlier) row ≡ Ok (named_position keys plain_position)
   plain_next = next_read 2 most keys earlier row was keys a q alone (stands_there most keys a account at).0 at
 
-  -- the records behind it are read as they are behind the earlier ones and this one
+  -- reading the rest with the line's position appended gives the same result as reading all rows
   pub plain_read : records_after (next_position 2 most) (named_positions keys (earlier ++ plain_position ∷ [])) rest
       ≡ records_after (next_position 2 most) (named_positions keys earlier) rows
   plain_read =

@@ -1,4 +1,4 @@
--- The records of an order file without a fault have the account of their order.
+-- In an order file without a fault, each record has the account of its order.
 use Rattle.std.proofs.Common.{◌≡◌, ◌∙◌, refl, sym, subst, inl, inr, ℕ, false}
 use Rattle.std.proofs.Common.{List, [], ◌∷◌, ◌++◌, map, Option, None, Ok, append_assoc}
 use Rattle.std.specs.Prelude.{All, bytes_eq}
@@ -20,7 +20,7 @@ use Rattle.span_csv.specs.declared.faults.OrderFault.{OrderFault}
 use Rattle.span_csv.proofs.LowestLaws.{all_fail}
 use Rattle.span_csv.proofs.OrderLemmas.{record_changes}
 
--- a record whose order has no other account has that of its order's first record
+-- a record whose order has no other account has the account of the order's first record
 of_first : (earlier : List OrderRecord) (r : OrderRecord) (later : List OrderRecord)
     → has_another_account earlier r.order r.account ≡ false → r.account ≡ account_of_order (earlier ++ r ∷ later) r.order
 of_first [] r later same = rw (places.same_name r.order) refl
@@ -31,7 +31,7 @@ of_first (x ∷ earlier) r later same =
       | inr other ↦ rw other (of_first earlier r later (rw other at same))
     ]
 
--- the fault of a record behind earlier ones
+-- the fault of a record after earlier ones
 abbrev fault_of : List Fields → Fields → Option (ℕ → OrderFault)
 fault_of earlier r = first_that_holds (order_faults earlier r)
 

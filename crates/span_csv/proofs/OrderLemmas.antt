@@ -1,4 +1,4 @@
--- Order records read one after another give what the definition says of all.
+-- Order records read one after another give the result of the definition for the whole file.
 use Rattle.std.proofs.Common.{◌≡◌, ◌∙◌, refl, ap, inl, inr, ℕ, ◌+◌, Bool, false, not, ℤ}
 use Rattle.std.proofs.Common.{List, [], ◌∷◌, length, map, Option, Some, Result, Ok, Err}
 use Rattle.std.specs.Prelude.{bytes_eq, find}
@@ -27,14 +27,14 @@ use Rattle.span_csv.proofs.AloneLemmas.{left_alone, left_by, with_quantity}
 use Rattle.span_csv.proofs.PositionLemmas.{names_of}
 use Rattle.span_csv.proofs.RecordLemmas.{records_after-judged}
 
--- the names of the records' orders are the texts of their first fields
+-- the order names of the records are the texts of their first fields
 record_orders : (before : List Fields)
     → map (λ (p : PositionRecord). p.account) (map under_order (map order_record before)) ≡ names_of before
 unfolding order_record
 record_orders [] = refl
 record_orders (r ∷ before) = ap (λ rest. text_at r 0 ∷ rest) (record_orders before)
 
--- their accounts are those of their second fields
+-- the accounts of the records are the texts of their second fields
 pub record_changes : (before : List Fields) (order account : List ℕ) → has_another_account (map order_record before) order account
     ≡ option_map_or (λ x. not (bytes_eq (text_at x 1) account)) (find (λ x. bytes_eq (text_at x 0) order) before) false
 unfolding order_record
@@ -51,7 +51,7 @@ module _ (at : ℕ) (before : List Fields) (r : Fields) where
       order_behind at (map order_record before) (text_at r 1)
       (position_behind ORDER_NAMES MAX_ORDERS at (distinct (names_of before)) r o)
 
-  -- the faults that other records give it
+  -- the faults that depend on other records
   abbrev among_others : List (Bool × (ℕ → OrderFault))
   among_others = (exceeds_orders before r, fault.TooManyOrders) ∷ (changes_account before r, fault.SecondAccount) ∷ []
 
@@ -87,17 +87,17 @@ module _ (at : ℕ) (before : List Fields) (r : Fields) where
             ]
       ]
 
-  -- what the faults of a record leave of it
+  -- the order of a record, or the first of its faults
   judged : order_of (quantity_alone ORDER_NAMES at r) ≡ left_by at (order_record r) (order_faults before r)
   judged =
       by_quantity (quantity_alone ORDER_NAMES at r)
       ∙ left_alone as_order_fault ORDER_NAMES at r among_others (order_record r) (λ q. order_of (Ok q)) counted
 
--- the fault of a record behind earlier ones
+-- the fault of a record after earlier ones
 abbrev fault_of : List Fields → Fields → Option (ℕ → OrderFault)
 fault_of earlier r = first_that_holds (order_faults earlier r)
 
--- the next record has its lowest-numbered fault, or is an order's
+-- the next record gives its lowest-numbered fault, or an order record
 next_order-judged : (before : List Fields) (r : Fields) → IsFaultFree fault_of [] before → next_order (map order_record before) r
     ≡ left_by (length before + 1) (order_record r) (order_faults before r)
 unfolding next_order next_position order_of
@@ -105,7 +105,7 @@ next_order-judged before r free =
     rw (length-map (map order_record before) under_order, length-map before order_record, record_orders before)
     (judged (length before + 1) before r)
 
--- reading from the first record on is the definition
+-- reading from the first record on gives the result of the definition
 pub orders_of-reading : (bytes : List ℕ) → records_after next_order [] (records_of bytes) ≡ orders_of bytes
 unfolding orders_of order_fault
 orders_of-reading bytes =

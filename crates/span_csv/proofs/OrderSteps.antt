@@ -1,4 +1,4 @@
--- Orders told by number, as one more record comes behind others.
+-- Orders referred to by number, with one more record after others.
 use Rattle.std.proofs.Common.{◌≡◌, ◌∙◌, refl, sym, ap, subst, inl, inr, arith, ℕ, ◌+◌, ◌<◌, ◌≤◌, Bool, true, false, not}
 use Rattle.std.proofs.Common.{◌&&◌, ◌==◌, List, [], ◌∷◌, ◌++◌, length, get_or, map, Some, slice_get}
 use Rattle.std.specs.Prelude.{All, bytes_eq, MatchBool, ⊤, Ok, Err}
@@ -34,21 +34,21 @@ use Rattle.span_csv.specs.declared.faults.PositionFault.{PositionFault}
 use Rattle.span_csv.specs.declared.faults.PositionFault.TheVariants as fault
 use Rattle.span_csv.specs.declared.faults.OrderFault.TheVariants as order
 
--- ---- what numbered orders are
+-- ---- numbered orders
 
--- names that number records are apart
+-- names that number records are distinct
 names_apart : (keys : List (List ℕ)) (records : List NumberedPosition) → AreNumbered keys records → has_repeat bytes_eq keys ≡ false
 names_apart keys records was =
     ap (has_repeat bytes_eq) was.accounts_are
     ∙ distinct_once (map (λ (p : PositionRecord). p.account) (named_positions keys records))
 
--- the place of the name at a place is that place
+-- the index of the name at an index is that index
 place_of : (keys : List (List ℕ)) (i : ℕ) → has_repeat bytes_eq keys ≡ false → i < length keys
     → position_or_len (bytes_eq (get_or keys i [])) keys ≡ i
 place_of keys i apart within =
     (λ j. position_or_len (λ c. name_sym (get_or keys i []) c j) keys) ∙ place_at (λ c. c) keys i [] apart within
 
--- names at two places are the same only if the places are
+-- the names at two indexes are the same only if the indexes are
 same_place : (keys : List (List ℕ)) (i j : ℕ) → has_repeat bytes_eq keys ≡ false → i < length keys → j < length keys
     → get_or keys i [] ≡ get_or keys j [] → i ≡ j
 same_place keys i j apart in_i in_j same =
@@ -74,7 +74,7 @@ numbered_by keys accounts (p ∷ records) apart known =
       quantity = p.quantity;
     } ∷ rest i
 
--- the records that stand as positions of their orders are the numbered ones
+-- the order records of the positions under their orders' names are the numbered orders
 pub order_records-numbered : (keys accounts : List (List ℕ)) (records : List NumberedPosition) → AreNumbered keys records
     → order_records accounts (named_positions keys records) ≡ numbered_orders keys accounts records
 order_records-numbered keys accounts records was =
@@ -84,7 +84,8 @@ order_records-numbered keys accounts records was =
 -- ---- one more record
 
 module _ (keys accounts : List (List ℕ)) (order account : List ℕ) (agrees : Bool) where
-  -- where the account of the order agrees or not, an earlier record of it has another account or not
+  -- an earlier record of the order has another account exactly if there is such a record and the order's account does
+  -- not agree
   changes : (records : List NumberedPosition) → All (λ (p : NumberedPosition). p.account < length keys) records
       → ((i : ℕ) → i < length keys → get_or keys i [] ≡ order → bytes_eq (get_or accounts i []) account ≡ agrees)
       → has_another_account (numbered_orders keys accounts records) order account
@@ -102,7 +103,7 @@ module _ (keys accounts : List (List ℕ)) (order account : List ℕ) (agrees : 
 
 -- ---- the account of an order
 
--- the account of the order at a place is another one, where the account does not stand there
+-- the order at an index has another account if this account is not at the index
 pub of_another : (accounts : List (List ℕ)) (place : ℕ) (account : List ℕ) → place < length accounts
     → (slice_get accounts place ≡ Some account → ⊥) → is_of_another accounts place account ≡ true
 of_another accounts place account within apart =
@@ -113,7 +114,7 @@ of_another accounts place account within apart =
       | inr other ↦ rw (known, other) refl
     ]
 
--- and none where it does
+-- the order at an index has no other account if this account is at the index
 pub of_same : (accounts : List (List ℕ)) (place : ℕ) (account : List ℕ) → slice_get accounts place ≡ Some account
     → is_of_another accounts place account ≡ false
 of_same accounts place account there =
@@ -121,9 +122,9 @@ of_same accounts place account there =
     let known : (place == length accounts) ≡ false = ne_eqb place (length accounts) (λ e. absurd (omega (arith, e, within))) in
     rw (known, name_there accounts place account there, itself account) refl
 
--- ---- what the next record is
+-- ---- the next record
 
--- a record that is refused as a position under its order's name is refused
+-- a record that is rejected as a position under its order's name is rejected as an order
 pub next_refused : (orders : List OrderRecord) (r : Fields) (e : PositionFault)
     → MatchBool (position.is_memory e) ⊤ (next_position ORDER_NAMES MAX_ORDERS (map under_order orders) r ≡ Err e)
     → MatchBool (is_memory (as_order_fault e)) ⊤ (next_order orders r ≡ Err (as_order_fault e))
@@ -165,7 +166,7 @@ module _ (keys keys' accounts : List (List ℕ)) (earlier : List NumberedPositio
       sym (is_among-distinct (map (λ (q : PositionRecord). q.account) (named_positions keys earlier)) order_here)
       ∙ ap (λ ks. is_among ks order_here) (sym was.accounts_are)
 
-  -- an order that is known stands among the orders so far, and a new one behind them
+  -- a known order keeps its index, and a new order gets the next one
   old_place : is_among keys order_here ≡ true → (keys' ≡ keys) × (p.account < length keys) × ((p.account == length accounts) ≡ false)
   old_place old =
       let same : keys' ≡ keys = more ∙ (rw old refl) in
@@ -183,7 +184,7 @@ module _ (keys keys' accounts : List (List ℕ)) (earlier : List NumberedPositio
       (among_at keys p.account order_here (slice_get-get_or keys p.account [] below ∙ ap Some here)) in
       (longer, eq-eqb p.account (length accounts) (let in_all = within in omega (arith, in_all, long, not_below, each)))
 
-  -- the order's place is one of those known, or that behind all
+  -- the order's index is a known one, or the next one
   pub place_known : p.account ≤ length accounts
   place_known =
       elim (cases_Bool (is_among keys order_here)) [
@@ -191,7 +192,7 @@ module _ (keys keys' accounts : List (List ℕ)) (earlier : List NumberedPositio
         | inr new ↦ let last = eqb-true p.account (length accounts) (new_place new).1 in omega (arith, last)
       ]
 
-  -- an earlier record of the order has another account just where the order has
+  -- an earlier record of the order has another account exactly if the order has another account
   changes_at : has_another_account (numbered_orders keys accounts earlier) order_here account_here
       ≡ is_of_another accounts p.account account_here
   changes_at =
@@ -220,7 +221,7 @@ module _ (keys keys' accounts : List (List ℕ)) (earlier : List NumberedPositio
             ∙ sym (ap length place.0 ∙ length-append keys (order_here ∷ [])))
       ]
 
-  -- where it is the account that the order has, that account stands at the order's place
+  -- if the record has its order's account, that account is at the order's index
   account_taken : is_of_another accounts p.account account_here ≡ false → get_or accounts' p.account [] ≡ account_here
   account_taken same =
       elim (cases_Bool (p.account == length accounts)) [
@@ -230,7 +231,7 @@ module _ (keys keys' accounts : List (List ℕ)) (earlier : List NumberedPositio
         | inr known ↦ rw known (same_name (get_or accounts p.account []) account_here (not-false _ (rw known at same)))
       ]
 
-  -- the earlier records stand for the same
+  -- the earlier records keep their meaning
   given_stays : (i : ℕ) → i < length accounts → get_or accounts' i [] ≡ get_or accounts i []
   given_stays i below =
       elim (cases_Bool (p.account == length accounts)) [
@@ -249,7 +250,7 @@ module _ (keys keys' accounts : List (List ℕ)) (earlier : List NumberedPositio
       let given = given_stays q.account (omega (arith, below, each)) in
       λ i. record { order = name i; account = given i; contract = q.contract; quantity = q.quantity } ∷ rest i
 
-  -- the records that the numbered ones stand for are one more
+  -- the numbered records denote one order record more
   pub orders_now : numbered_orders keys' accounts' (earlier ++ p ∷ [])
       ≡ numbered_orders keys accounts earlier ++ numbered_order keys' accounts' p ∷ []
   orders_now =

@@ -1,4 +1,4 @@
--- Pieces without a fault whose accounts are no more than there may be have the records that the whole file says.
+-- Pieces without a fault, with no more accounts than the limit, together have the records of the whole file.
 use Rattle.std.proofs.Common.{◌≡◌, ◌∙◌, refl, sym, ap, ap₂, subst, ℕ, ◌≤◌, Bool, true, false, not, ◌&&◌, ◌==◌}
 use Rattle.std.proofs.Common.{List, [], ◌∷◌, ◌++◌, length, map, Option, Some, None, Result, Ok, Err, append_assoc}
 use Rattle.std.specs.Prelude.{flat_map, is_none}
@@ -24,7 +24,7 @@ use Rattle.span_csv.proofs.CountedLaws.{all_count, fault_where_all_count, free_f
 use Rattle.span_csv.proofs.PositionLemmas.{names_of, record_accounts}
 use Rattle.span_csv.proofs.TogetherLaws.{too_many}
 
--- ---- records without one of Q1 to Q4
+-- ---- records without any of Q1 to Q4
 
 abbrev AreFormed : List Fields → Type 0
 AreFormed rs = AllByRecursion (λ r. is_formed r ≡ true) rs
@@ -33,18 +33,18 @@ formed_both : (rs more : List Fields) → AreFormed rs → AreFormed more → Ar
 formed_both [] more formed others = others
 formed_both (r ∷ rs) more formed others = (formed.0, formed_both rs more formed.1 others)
 
--- records without a fault have none of them
+-- records without a fault have none of Q1 to Q4
 free_all_formed : (before rs : List Fields) → IsFaultFree record_fault before rs → AreFormed rs
 free_all_formed before [] free = tt
 free_all_formed before (r ∷ rs) free = (free_formed (counted before) r free.0, free_all_formed (before ++ r ∷ []) rs free.1)
 
 -- ---- the limit
 
--- the accounts of these records, once they are positions
+-- the accounts of these records as positions
 abbrev accounts_in : List Fields → List (List ℕ)
 accounts_in rs = accounts_of (map position_record rs)
 
--- the limit of the definition is the limit on the accounts of positions
+-- the limit in the definition is the limit on the accounts of positions
 limit_is : (before : List Fields) (r : Fields) → exceeds_accounts before r ≡ is_one_too_many MAX_ACCOUNTS (accounts_in before) (text_at r 0)
 limit_is before r =
     ap (λ b. not b && (length (distinct (names_of before)) == MAX_ACCOUNTS)) (sym (is_among-distinct (names_of before) (text_at r 0)))
@@ -57,7 +57,7 @@ module _ (before : List Fields) (r : Fields) (rs : List Fields) (few : length (a
   split : map position_record (before ++ r ∷ rs) ≡ (whole ++ position_record r ∷ []) ++ map position_record rs
   split = map-append position_record before (r ∷ rs) ∙ sym (append_assoc whole (position_record r ∷ []) (map position_record rs))
 
-  -- a record in front of others is not one too many where all have no more accounts than there may be
+  -- if all records together stay within the account limit, no record among them is one too many
   within_limit : exceeds_accounts before r ≡ false
   unfolding position_record
   within_limit = by (exceeds_accounts before r) refl where
@@ -66,13 +66,13 @@ module _ (before : List Fields) (r : Fields) (rs : List Fields) (few : length (a
     by true e = absurd (too_many whole (map position_record rs) (position_record r)
         (subst (λ ps. length (accounts_of ps) ≤ MAX_ACCOUNTS) split few) (sym (limit_is before r) ∙ e))
 
--- ---- the whole
+-- ---- the whole file
 
 none_is : {X : Type 0} (o : Option X) → is_none o ≡ true → o ≡ None
 none_is None e = refl
 none_is (Some x) e = cc
 
--- records that have none of Q1 to Q4, nor more accounts than there may be, have no fault
+-- records with none of Q1 to Q4, and no more accounts than the limit, have no fault
 free_behind : (before rs : List Fields) → counted before ≡ before → AreFormed rs → length (accounts_in (before ++ rs)) ≤ MAX_ACCOUNTS
     → IsFaultFree record_fault before rs
 free_behind before [] all formed few = tt
@@ -85,7 +85,7 @@ free_behind before (r ∷ rs) all formed few = (
       (subst (λ zs. length (accounts_in zs) ≤ MAX_ACCOUNTS) (sym (append_assoc before (r ∷ []) rs)) few),
 )
 
--- what is said of a piece that is read
+-- the records of a piece without a fault are its positions, and none has one of Q1 to Q4
 one_piece : (bytes : List ℕ) (ps : List PositionRecord) → piece_of bytes ≡ Some ps
     → AreFormed (records_of bytes) × (map position_record (records_of bytes) ≡ ps)
 unfolding positions_of position_faults
@@ -111,7 +111,7 @@ all_pieces (bytes ∷ parts) (piece ∷ pieces) are =
       map-append position_record (records_of bytes) (flat_map records_of parts) ∙ ap₂ (λ ps more. ps ++ more) one.1 rest.1,
     )
 
--- the pieces of a file, if none has a fault and their accounts are not too many, have the positions that the file says
+-- if no piece has a fault and there are not too many accounts, the pieces have the positions of the file
 pub together_are : (bytes : List ℕ) (parts : List (List ℕ)) (pieces : List (List PositionRecord)) (accounts : List (List ℕ))
     → map piece_of parts ≡ map Some pieces → flat_map records_of parts ≡ records_of bytes → AreTogether accounts pieces
     → positions_of bytes ≡ Ok (records_together pieces)

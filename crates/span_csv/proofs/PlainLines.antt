@@ -21,7 +21,7 @@ use Rattle.span_csv.specs.near.PlainPositions.{IsPlainLine, IsPositionIn}
 use Rattle.span_csv.specs.near.Rows.{rows, rows_in, AreLines}
 use Rattle.span_csv.proofs.CutPlaces.{found_any}
 
--- ---- bytes that only join the field at hand
+-- ---- bytes that only extend the current field
 
 -- a byte that ends no field and no line, and opens no quotes
 pub record Joins (b : ℕ) : Type 0 where
@@ -33,7 +33,7 @@ pub record Joins (b : ℕ) : Type 0 where
 abbrev pub AllJoin : List ℕ → Type 0
 AllJoin text = AllByRecursion Joins text
 
--- such bytes join the field at hand
+-- such bytes are appended to the current field
 joined : (text rest : List ℕ) (fields : Fields) (field : List ℕ) → AllJoin text
     → rows state.InField fields field (text ++ rest) ≡ rows state.InField fields (field ++ text) rest
 joined [] rest fields field joins = ap (λ f. rows state.InField fields f rest) (sym (append-nil field))
@@ -42,7 +42,7 @@ joined (b ∷ text) rest fields field joins =
     (joined text rest fields (field ++ b ∷ []) joins.1
     ∙ ap (λ f. rows state.InField fields f rest) (append_assoc field (b ∷ []) text))
 
--- what a field and the bytes behind it give, if the first of these ends it
+-- the first byte of such bytes starts a field, and the others extend it
 field_joined : (b : ℕ) (text rest : List ℕ) (fields : Fields) → AllJoin (b ∷ text)
     → rows state.StartField fields [] (b ∷ (text ++ rest)) ≡ rows state.InField fields (b ∷ text) rest
 field_joined b text rest fields joins =
@@ -60,21 +60,21 @@ pub line_ends : (text rest : List ℕ) (fields : Fields) → AllJoin text
 line_ends [] rest fields joins = refl
 line_ends (b ∷ text) rest fields joins = field_joined b text (10 ∷ rest) fields joins
 
--- and so does the end of the bytes
+-- the end of the bytes ends a record
 text_ends : (text : List ℕ) (fields : Fields) → AllJoin text
     → rows state.StartField fields [] text ≡ (fields ++ text ∷ []) ∷ rows_in []
 text_ends [] fields joins = refl
 text_ends (b ∷ text) fields joins =
     ap (rows state.StartField fields []) (sym (append-nil (b ∷ text))) ∙ field_joined b text [] fields joins
 
--- a line that is not empty begins with a field
+-- a non-empty line begins with a field
 pub line_begins : (b : ℕ) (rest : List ℕ) → (b == 13) ≡ false → (b == 10) ≡ false
     → rows_in (b ∷ rest) ≡ rows state.StartField [] [] (b ∷ rest)
 line_begins b rest carriage line = rw (carriage, line) refl
 
--- ---- what a search finds
+-- ---- the results of a search
 
--- no byte in front of the first one that passes does
+-- no byte before the first one that passes a test passes it
 before_first : (test : ℕ → Bool) (bytes : List ℕ) (end : ℕ) → IsFirstByte test bytes (Some end) → list_any test (take end bytes) ≡ false
 before_first test bytes end first =
     list_any_none test (take end bytes) (All-from_get_or (λ b. test b ≡ false) (take end bytes) 0 (λ k within.
@@ -85,7 +85,7 @@ before_first test bytes end first =
       | inr fails ↦ fails
     ])))
 
--- bytes of lines without a comma and a line feed only join the field at hand
+-- bytes of lines without a comma and a line feed only extend the current field
 all_join : (text : List ℕ) → AreLines text → list_any (is_byte2 44 10) text ≡ false → AllJoin text
 all_join [] lines none = tt
 all_join (b ∷ text) lines none =
@@ -95,16 +95,16 @@ all_join (b ∷ text) lines none =
     let ends = or_parts (b == 44) (b == 10) inner.0 in
     (record { comma = ends.0; carriage = quotes.1; line = ends.1; quote = quotes.0 }, all_join text plain.1 inner.1)
 
--- both parts of bytes of lines are some
+-- both parts of bytes of lines are bytes of lines
 lines_parted : (front back : List ℕ) → AreLines (front ++ back) → AreLines front × AreLines back
 lines_parted front back lines =
     or_parts (list_any (is_byte2 34 13) front) (list_any (is_byte2 34 13) back)
     (sym (list_any-append (is_byte2 34 13) front back) ∙ lines)
 
--- ---- the field in front
+-- ---- the first field
 
 module _ (bytes : List ℕ) (lines : AreLines bytes) where
-  -- the bytes without a comma and a line feed are the last field
+  -- bytes without a comma and a line feed are the last field
   pub rows_at_end : (fields : Fields) → IsFirstByte (is_byte2 44 10) bytes None
       → rows state.StartField fields [] bytes ≡ (fields ++ bytes ∷ []) ∷ rows_in []
   rows_at_end fields none = text_ends bytes fields (all_join bytes lines (sym (found_any (is_byte2 44 10) bytes None none)))
@@ -128,18 +128,18 @@ module _ (bytes : List ℕ) (lines : AreLines bytes) where
     text_joins : AllJoin text
     text_joins = all_join text both.0 (before_first (is_byte2 44 10) bytes end first)
 
-    -- what is left behind the field is lines, too
+    -- the bytes after the field are also bytes of lines
     pub lines_behind : AreLines behind
     lines_behind = (or_parts (is_byte2 34 13 (get_or bytes end 0)) (list_any (is_byte2 34 13) behind) both.1).1
 
-    -- a line feed behind the field ends the record
+    -- a line feed after the field ends the record
     pub rows_at_line : (fields : Fields) → get_or bytes end 0 ≡ 10
         → rows state.StartField fields [] bytes ≡ (fields ++ text ∷ []) ∷ rows_in behind
     rows_at_line fields is =
         ap (rows state.StartField fields []) (subst (λ b. bytes ≡ text ++ b ∷ behind) is parts)
         ∙ line_ends text behind fields text_joins
 
-    -- otherwise a comma does, and more fields follow
+    -- otherwise a comma ends the field, and more fields follow
     pub rows_at_comma : (fields : Fields) → (get_or bytes end 0 ≡ 10 → ⊥)
         → rows state.StartField fields [] bytes ≡ rows state.StartField (fields ++ text ∷ []) [] behind
     rows_at_comma fields other =
@@ -154,7 +154,7 @@ module _ (bytes : List ℕ) (lines : AreLines bytes) where
 
 -- ---- positions
 
--- a byte that passes a test is none that fails it
+-- a byte that passes a test differs from a byte that fails it
 unlike : (test : ℕ → Bool) (b other : ℕ) → test b ≡ true → test other ≡ false → (b == other) ≡ false
 unlike test b other passes fails =
     elim (cases_Bool (b == other)) [
@@ -211,7 +211,7 @@ number_joins text z is =
       | inr none ↦ let never = rw none at is in cc
     ]
 
--- the field in front of a comma
+-- bytes that begin with a field and then a comma are the field, the comma and the bytes after it
 pub behind_comma : (bytes field : List ℕ) → starts_with nat_eq bytes field ≡ true → length field < length bytes
     → get_or bytes (length field) 0 ≡ 44 → bytes ≡ field ++ 44 ∷ drop (length field + 1) bytes
 behind_comma bytes field begins short comma =
@@ -220,7 +220,7 @@ behind_comma bytes field begins short comma =
     ∙ ap (λ rest. field ++ rest)
     (drop-cons bytes (length field) 0 short ∙ rw (comma, sym (add-one (length field))) refl)
 
--- the name that a text is
+-- the name of a text is a name
 pub name_is : (text name : List ℕ) → Some name ≡ name_of text → is_name name ≡ true
 name_is text name is =
     elim (cases_Bool (is_name text)) [
@@ -228,7 +228,7 @@ name_is text name is =
       | inr none ↦ let e = rw none at is in cc
     ]
 
--- the first field of a line is a name
+-- a name before a comma is the first field of a line
 named_line : (name rest : List ℕ) → is_name name ≡ true
     → rows_in (name ++ 44 ∷ rest) ≡ rows state.StartField (name ∷ []) [] rest
 named_line [] rest is = absurd (true≢false (sym is))
@@ -236,7 +236,7 @@ named_line (b ∷ name) rest is =
     let joins = name_joins (b ∷ name) is in
     line_begins b (name ++ 44 ∷ rest) joins.0.carriage joins.0.line ∙ field_ends (b ∷ name) rest [] joins
 
--- a plain line is a position's record
+-- a plain line is a position record
 pub plain_line : (account contract : List ℕ) (quantity : ℤ) (rest bytes : List ℕ) → is_name account ≡ true
     → IsPlainLine account contract quantity rest bytes → IsPositionIn account contract quantity (rows_in rest) (rows_in bytes)
 plain_line account contract quantity rest bytes named line = record {
@@ -251,7 +251,7 @@ plain_line account contract quantity rest bytes named line = record {
   small = line.small;
 }
 
--- and lines stand behind it
+-- the bytes after a plain line are bytes of lines
 pub lines_behind_it : (account contract : List ℕ) (quantity : ℤ) (rest bytes : List ℕ) → AreLines bytes
     → IsPlainLine account contract quantity rest bytes → AreLines rest
 lines_behind_it account contract quantity rest bytes lines line =
@@ -259,7 +259,7 @@ lines_behind_it account contract quantity rest bytes lines line =
     let second = (lines_parted contract (44 ∷ (line.text ++ 10 ∷ rest)) first).1 in
     (lines_parted line.text (10 ∷ rest) second).1
 
--- ---- the mark
+-- ---- the byte order mark
 
 turned : (a b : ℕ) → (a == b) ≡ (b == a)
 turned a b =
@@ -275,7 +275,7 @@ same_mark : (a b c : ℕ) → ((239 == a) && ((187 == b) && ((191 == c) && true)
 same_mark a b c =
     rw (turned a 239, turned b 187, turned c 191, and-true (191 == c)) (sym (and_assoc (239 == a) (187 == b) (191 == c)))
 
--- the bytes behind a mark are those that `csv` reads
+-- the bytes after a mark are the bytes that `csv` reads
 pub mark_taken : (bytes : List ℕ)
     → (if starts_with nat_eq bytes (239 ∷ 187 ∷ 191 ∷ []) then drop 3 bytes else bytes) ≡ strip_bom bytes
 unfolding strip_bom

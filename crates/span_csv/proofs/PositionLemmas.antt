@@ -1,4 +1,4 @@
--- Position records read one after another give what the definition says of all.
+-- Position records read one after another give the result of the definition for the whole file.
 use Rattle.std.proofs.Common.{◌≡◌, ◌∙◌, refl, sym, ap, inl, inr, ℕ, ◌+◌, ℤ}
 use Rattle.std.proofs.Common.{List, [], ◌∷◌, ◌++◌, length, map, Some, Result, Ok, Err}
 use Rattle.std.proofs.lemmas.Bool.{cases_Bool}
@@ -48,7 +48,7 @@ module _ (at : ℕ) (before : List Fields) (r : Fields) where
         | inr room ↦ rw (is_among-distinct (names_of before) (text_at r 0), room, is) refl
       ]
 
-  -- what the faults of a record leave of it
+  -- the position of a record, or the first of its faults
   judged : position_of (quantity_alone POSITION_NAMES at r)
       ≡ left_by at (position_record r) (form_faults r ++ (exceeds_accounts before r, fault.TooManyAccounts) ∷ [])
   judged =
@@ -56,7 +56,7 @@ module _ (at : ℕ) (before : List Fields) (r : Fields) where
       ∙ left_alone (λ e. e) POSITION_NAMES at r ((exceeds_accounts before r, fault.TooManyAccounts) ∷ []) (position_record r)
       (λ q. position_of (Ok q)) within
 
--- the next record has its lowest-numbered fault, or is a position
+-- the next record gives its lowest-numbered fault, or a position
 next_position-judged : (before : List Fields) (r : Fields) → IsFaultFree record_fault [] before
     → next_position POSITION_NAMES MAX_ACCOUNTS (map position_record before) r
     ≡ left_by (length before + 1) (position_record r) (record_faults before r)
@@ -67,7 +67,7 @@ next_position-judged before r free =
     ∙ ap (λ rs. left_by (length before + 1) (position_record r) (form_faults r ++ (exceeds_accounts rs r, fault.TooManyAccounts) ∷ []))
     (sym (free_counted [] before refl free)))
 
--- reading from the first record on is the definition
+-- reading from the first record on gives the result of the definition
 pub positions_of-reading : (bytes : List ℕ)
     → records_after (next_position POSITION_NAMES MAX_ACCOUNTS) [] (records_of bytes) ≡ positions_of bytes
 unfolding positions_of position_faults

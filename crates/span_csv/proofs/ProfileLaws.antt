@@ -1,4 +1,4 @@
--- What profiles add to a contract is 0 under the profiles that do not have it.
+-- The field that a profile adds to a contract is 0 under the profiles without that field.
 use Rattle.std.proofs.Common.{◌≡◌, ◌∙◌, refl, sym, ap, subst, arith, ℕ, ◌+◌, ◌-◌, ◌<◌, ◌≤◌, true, false}
 use Rattle.std.proofs.Common.{List, [], ◌∷◌, ◌++◌, length, length-append, map, Some, None, Ok}
 use Rattle.std.specs.Prelude.{All}
@@ -25,7 +25,7 @@ use Rattle.span_csv.specs.declared.grammar.FieldForm.{FieldForm}
 use Rattle.span_csv.specs.declared.grammar.Kind.{Kind}
 use Rattle.span_csv.specs.declared.grammar.Kind.TheVariants as kind
 
--- behind its risk array a contract of the profile has at most so many fields
+-- after its risk array a contract of the profile has at most this many fields
 abbrev EndsBy : ℕ → ℕ → Type 0
 EndsBy few profile = (product : ProductKind) → length (contract_back profile product) ≤ few
 
@@ -73,7 +73,7 @@ set_no_contract : (r : Fields) (rows : List Fields) → kind_of r ≡ Some kind.
     → contracts_in (map param_record (r ∷ rows)) ≡ contracts_in (map param_record rows)
 set_no_contract r rows is = rw (param_record-kind r kind.Set is) refl
 
--- ---- what a contract says with the field of a place behind its risk array
+-- ---- the value of a contract's field at an index after its risk array
 
 module _ (place : ℕ) (says : Contract → ℕ) (is_said : (r : Fields) → says (contract_record r) ≡ count_at r (extras_place + place)) where
   abbrev SaysNothing : Contract → Type 0
@@ -85,7 +85,7 @@ module _ (place : ℕ) (says : Contract → ℕ) (is_said : (r : Fields) → say
       let forms = some_of (layout_of (profile_of earlier) r) c.layout in
       is_said r ∙ count_past r (extras_place + place) (contract_end place (profile_of earlier) r forms.0 short is forms.1)
 
-  -- one record more
+  -- one more record
   contract_more : (k : Kind) (r : Fields) (rest : List Contract) → (k ≡ kind.Contract → SaysNothing (contract_record r))
       → AllByRecursion SaysNothing rest → AllByRecursion SaysNothing (cons_option (as_contract (record_of_kind k r)) rest)
   contract_more kind.Contract r rest here others = (here refl, others)
@@ -117,7 +117,7 @@ module _ (place : ℕ) (says : Contract → ℕ) (is_said : (r : Fields) → say
   rows_say [] e short = cc
   rows_say (r ∷ rows) e short = free_rows r rows (first_fault_none record_fault [] (r ∷ rows) e) short
 
-  -- a parameter file without a fault says nothing with it, under a profile whose contracts end before it
+  -- in a parameter file without a fault the field is 0 under a profile whose contracts end before it
   says_nothing : (bytes : List ℕ) (records : List Record) → params_of bytes ≡ Ok records → EndsBy place (profile_in records)
       → All SaysNothing (contracts_in records)
   unfolding params_of param_faults
@@ -125,7 +125,7 @@ module _ (place : ℕ) (says : Contract → ℕ) (is_said : (r : Fields) → say
       let parts = ok_parts (first_of (faults_in (records_of bytes))) (map param_record (records_of bytes)) records e in
       subst (λ rs. EndsBy place (profile_in rs) → All SaysNothing (contracts_in rs)) parts.1 (rows_say (records_of bytes) parts.0)
 
--- ---- each field: where it stands, and what a profile without it has
+-- ---- each field: its index, and its value under a profile without it
 
 -- the option value
 pub params_values : (bytes : List ℕ) (records : List Record) → params_of bytes ≡ Ok records

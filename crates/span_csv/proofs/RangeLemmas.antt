@@ -1,4 +1,4 @@
--- A record whose fields have their forms is in its ranges, and what the code takes from it fits.
+-- A record whose fields have their forms is in its ranges, and the values that the code takes from it fit their types.
 use Rattle.std.proofs.Common.{◌≡◌, ◌⊎◌, ◌<◌, ◌≤◌, ◌+◌, ◌-◌, ◌*◌, ◌^◌, ◌∙◌, ◌==◌, ◌&&◌, refl, sym, subst, arith}
 use Rattle.std.proofs.Common.{inl, inr, ℕ, suc, zero, Bool, true, Option, Some, None, pos, neg_ℤ}
 use Rattle.std.proofs.Common.{List, [], ◌∷◌, ◌++◌, length, length-append, take, drop, map}
@@ -36,9 +36,9 @@ use Rattle.span_csv.proofs.FormLemmas.{count_past, count_within, count_below, if
 use Rattle.span_csv.proofs.FormLemmas.{passes_at, all_behind, all_of_form, length-repeat}
 use Rattle.span_csv.proofs.LegLemmas.{leg_passes, legs_all}
 
--- ---- what forms say of fields
+-- ---- fields that have forms
 
--- the fields have these forms, one each
+-- each field has the form at its index, and there are as many fields as forms
 record HaveForms (forms : List FieldForm) (fields : Fields) : Type 0 where
   count : length fields ≡ length forms
   words : all_have has_word_form forms fields ≡ true
@@ -76,7 +76,7 @@ version_small text h =
     let version = positive_part (unwrap_or (whole_number text) (pos 0)) in
     omega (arith, most 1 MAX_PROFILE version (count_within 1 MAX_PROFILE (whole_number text) h))
 
--- exactly these forms
+-- exactly these forms, one for each field
 pub exact : (forms found : List FieldForm) (n : ℕ) → exactly forms n ≡ Some found → (n ≡ length forms) × (forms ≡ found)
 exact forms found n e =
     let parts = if_some (n == length forms) forms found e in
@@ -84,7 +84,7 @@ exact forms found n e =
 
 -- ---- each kind
 
--- a record of a kind is in its ranges and fits
+-- a record of a kind is in its ranges, and its values fit
 abbrev Keeps : Kind → Fields → Type 0
 Keeps kind r = (in_range (record_of_kind kind r) ≡ true) × FitsKind kind r
 
@@ -133,7 +133,7 @@ values_in_range (text ∷ texts) all =
     let parts = and_parts (is_in_range an_array_value text) (list_all (is_in_range an_array_value) texts) all in
     and_from _ _ (size_within (MAX_ARRAY_VALUE - 1) (whole_number text) parts.0) (values_in_range texts parts.1)
 
--- the forms of a contract, with those behind its risk array
+-- the forms of a contract, with the forms after its risk array
 abbrev pub contract_with : List FieldForm → List FieldForm
 contract_with back = contract_front ++ repeat SCENARIOS (an_array_value ∷ []) ++ back
 
@@ -193,7 +193,7 @@ one_of : {A : Type 0} (o p : Option A) (x : A) → option_or o p ≡ Some x → 
 one_of None p x e = inr e
 one_of (Some y) p x e = inl e
 
--- the count of legs that a spread's forms have
+-- a spread has 2 to 4 legs, and the forms for that number of legs
 legs_count : (front leg forms : List FieldForm) (n : ℕ) → with_legs front leg n ≡ Some forms
     → (k : ℕ) × (2 ≤ k) × (k ≤ 4) × (exactly (front ++ repeat k leg) n ≡ Some forms)
 legs_count front leg forms n e =
@@ -208,7 +208,7 @@ legs_count front leg forms n e =
       | inr h ↦ (4, omega arith, omega arith, h)
     ]
 
--- what the forms of legs behind others say: how many legs there are, and that each passes a test
+-- legs after other fields: there are 2 to 4, and each passes a test
 record LegsKept {L : Type 0} (leg : Fields → L) (passes : L → Bool) (from k : ℕ) (first : List ℕ) (fields : Fields) : Type 0 where
   count : lies_within 2 4 (length (map leg (legs_of (drop from fields)))) ≡ true
   all : list_all passes (map leg (legs_of (drop from fields))) ≡ true
@@ -284,7 +284,7 @@ inter_kept first fields k low high h =
       ),
     )
 
--- ---- any kind
+-- ---- all kinds
 
 module _ (first : List ℕ) (fields : Fields) (forms : List FieldForm) (words : all_have has_word_form forms fields ≡ true)
     (ranges : all_have is_in_range forms fields ≡ true) where
@@ -294,7 +294,7 @@ module _ (first : List ℕ) (fields : Fields) (forms : List FieldForm) (words : 
       subst (λ fs. HaveForms fs fields) (sym found.1)
       (record { count = subst (λ fs. length fields ≡ length fs) found.1 found.0; words = words; ranges = ranges })
 
-  -- a record of a kind, whose fields have its forms
+  -- a record of a kind whose fields have its forms
   pub kept : (kind : Kind) (profile : ℕ) → forms_of kind profile (product_at (first ∷ fields) 3) (length fields) ≡ Some forms
       → Keeps kind (first ∷ fields)
   kept kind.Set profile e = set_kept first fields (have set_forms e)
@@ -329,7 +329,7 @@ none_empty kind.Contract profile forms e =
     ]
 none_empty _ profile forms e = cc
 
--- what the code takes from fields that have the forms of a kind
+-- the values that the code takes from fields with the forms of a kind fit
 pub fields_fit : (kind : Kind) (profile : ℕ) (r : Fields) (forms : List FieldForm)
     → forms_of kind profile (product_at r 3) (length r - 1) ≡ Some forms
     → all_have has_word_form forms (drop 1 r) ≡ true → all_have is_in_range forms (drop 1 r) ≡ true → FitsKind kind r

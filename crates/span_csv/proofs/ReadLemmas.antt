@@ -1,4 +1,4 @@
--- The reading of a parameter file, one record after another: the records that it says, and all its faults.
+-- A parameter file read one record after another: the records in it, and all its faults.
 use Rattle.std.proofs.Common.{◌≡◌, ◌∙◌, sym, ap, subst, refl, arith, ℕ, List, [], ◌∷◌, ◌++◌, length, map, Some, Ok, Err}
 use Rattle.std.specs.Prelude.{⊤, MatchBool}
 use Rattle.std.proofs.lemmas.List.{length-append, map-append}
@@ -30,17 +30,17 @@ module _ {Kept : List Fields → Type 0} {all : List Fields} {faults : List Para
   count : length all ≡ read
   count = ap length (told_whole s end) ∙ s.count
 
-  -- all faults of a file with a record are told
+  -- all faults of a file with a record are reported
   pub told_records : (read ≡ 0 → ⊥) → faults ≡ faults_in all
   told_records some = told_all s end ∙ sym (faults_of_some all (λ none. some (sym count ∙ none)))
 
-  -- and of one without
+  -- all faults of a file without a record are reported
   pub told_empty : read ≡ 0 → faults ++ fault.NoSet 0 ∷ [] ≡ faults_in all
   told_empty none = ap (λ fs. fs ++ fault.NoSet 0 ∷ []) (told_all s end) ∙ faults_of_none all (count ∙ none)
 
--- ---- the records that a file without a fault says
+-- ---- the records of a file without a fault
 
--- these records are what the records of the file so far say, which have no fault
+-- these are the records of the file so far, and none has a fault
 abbrev pub HasRead : List Record → Tally → List Fields → List Fields → Type 0
 HasRead xs t all rest = IsTold record_fault (λ rs. (xs ≡ map param_record rs) × Tallies t rs) all [] (length xs) rest
 
@@ -77,7 +77,7 @@ module _ {all : List Fields} {xs : List Record} {t : Tally} {before : List Field
   read_all end some =
       sym (by_faults [] (told_records s end some)) ∙ ap Ok (ap (map param_record) (told_whole s end) ∙ sym s.kept.0)
 
--- what the records of a file say is what its bytes say
+-- the result for a parameter file's bytes is the result for its rows
 pub params_read : (bytes : List ℕ) → params_of bytes ≡ params_in (records_of bytes)
 unfolding params_of param_faults
 params_read bytes = refl

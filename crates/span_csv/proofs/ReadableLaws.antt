@@ -1,4 +1,5 @@
--- The records of a parameter file without a fault are in their ranges, and no more of a kind than there may be.
+-- The records of a parameter file without a fault are in their ranges, and each kind has no more records than its
+-- limit.
 use Rattle.std.proofs.Common.{◌≡◌, ◌∙◌, refl, sym, ap, ap₂, subst, arith, ℕ, ◌-◌, ◌<◌, ◌≤◌, Bool, true, false, not}
 use Rattle.std.proofs.Common.{◌&&◌, ◌||◌, ◌==◌, List, [], ◌∷◌, ◌++◌, length, length-append, map, Option, Some, None, Ok}
 use Rattle.std.specs.Prelude.{All, nat_le, count_by, filter_map, is_some, bytes_eq}
@@ -66,7 +67,7 @@ not_set : (k : Kind) (r : Fields) → kind_of r ≡ Some k → is_set r ≡ fals
 not_set kind.Set r e other = absurd (both_ways (is_set r) other (named_word (text_at r 0) kind.Set e))
 not_set _ r e other = refl
 
--- no record behind the first is a SET
+-- no record after the first is a SET
 later_set : (earlier : List Fields) (r : Fields) → 0 < length earlier → IsClean earlier r
     → not (is_some (as_set (param_record r))) ≡ true
 later_set earlier r some c =
@@ -84,7 +85,7 @@ no_more_sets before (r ∷ rows) some free =
 
 -- ---- counts
 
--- records of a kind with a limit, as far as they pass a test
+-- the records of a kind that pass a test are no more than the kind's limit
 module _ (kind : Kind) (most : ℕ) (test : Fields → Bool) (limit : (earlier : List Fields) (r : Fields) → text_at r 0 ≡ word_of kind
     → test r ≡ true → exceeds_limit earlier r (Some kind) ≡ (count_by (λ x. has_kind kind x && test x) earlier == most)) where
   room : (earlier : List Fields) (r : Fields) → counted earlier ≡ earlier → IsClean earlier r → (has_kind kind r && test r) ≡ true
@@ -185,7 +186,7 @@ value_or : (has : Bool) (xs : List Contract) → (has ≡ false → All (λ x. x
 value_or true xs zero = refl
 value_or false xs zero = all_zero xs (zero refl)
 
--- ---- all
+-- ---- all conditions
 
 free_readable : (r : Fields) (rows : List Fields) → IsFaultFree record_fault [] (r ∷ rows)
     → keeps_profile (map param_record (r ∷ rows)) ≡ true → is_readable (map param_record (r ∷ rows)) ≡ true

@@ -1,4 +1,5 @@
--- Records read one after another give what a definition says of all, where each record gives what it says of that one.
+-- Records read one after another give the result of a definition for the whole file, if the result for each record
+-- agrees with the definition.
 use Rattle.std.proofs.Common.{◌≡◌, ◌∙◌, refl, sym, ap, subst, ℕ, ◌+◌, Bool, true, false}
 use Rattle.std.proofs.Common.{List, [], ◌∷◌, ◌++◌, length, map, Option, Some, None, Result, Ok, Err, append_assoc}
 use Rattle.std.specs.Prelude.{option_map, MatchBool, ⊤}
@@ -9,14 +10,14 @@ use Rattle.span_tables.specs.Laws.{IsFaultFree}
 use Rattle.span_csv.specs.Records.{Fields}
 use Rattle.span_csv.specs.near.RecordReading.{records_after}
 
--- ---- what is answered
+-- ---- the answer
 
--- a fault that is told is that of the definition
+-- a fact about a fault that is reported
 pub told : {X : Type 0} (memory : Bool) → X → MatchBool memory ⊤ X
 told true x = tt
 told false x = x
 
--- where another fact is told, what follows from it is
+-- a consequence of a fact about a fault that is reported
 pub told_by : {X Y : Type 0} (memory : Bool) → MatchBool memory ⊤ X → (X → Y) → MatchBool memory ⊤ Y
 told_by true x follows = tt
 told_by false x follows = follows x
@@ -46,7 +47,7 @@ module _ {R F : Type 0} (next : List R → Fields → Result R F) where
 
 -- ---- all records
 
--- a record without a fault behind others without one
+-- a record without a fault, appended to records without one
 pub free_push : {F : Type 0} (fault_of : List Fields → Fields → Option (ℕ → F)) (before rows : List Fields) (r : Fields)
     → IsFaultFree fault_of before rows → fault_of (before ++ rows) r ≡ None → IsFaultFree fault_of before (rows ++ r ∷ [])
 free_push fault_of before [] r free here = (subst (λ rs. fault_of rs r ≡ None) (append-nil before) here, tt)
@@ -60,7 +61,7 @@ module _ {R F : Type 0} (next : List R → Fields → Result R F) (fault_of : Li
     (what : Fields → R)
     (judges : (before : List Fields) (r : Fields) → IsFaultFree fault_of [] before → next (map what before) r
     ≡ ok_unless (option_map (λ f. f (length before + 1)) (fault_of before r)) (what r)) where
-  -- what the definition says of the records from here on
+  -- the result of the definition for the records from here on
   abbrev all_judged : List Fields → List Fields → Result (List R) F
   all_judged before rows = ok_unless (first_fault_after fault_of before rows) (map what (before ++ rows))
 
@@ -86,6 +87,6 @@ module _ {R F : Type 0} (next : List R → Fields → Result R F) (fault_of : Li
       records_after-end next (map what before) ∙ ap (λ rows. Ok (map what rows)) (sym (append-nil before))
   reads_on before (r ∷ rows) free = by_outcome before r rows (fault_of before r) refl free (reads_on (before ++ r ∷ []) rows)
 
-  -- reading from the first record on is the definition
+  -- reading from the first record on gives the result of the definition
   pub records_after-judged : (rows : List Fields) → records_after next [] rows ≡ ok_unless (first_fault fault_of rows) (map what rows)
   records_after-judged rows = reads_on [] rows tt

@@ -1,4 +1,4 @@
--- What one read of `csv` takes from the records that are left.
+-- The record that one read of `csv` takes from the records that are left.
 use Rattle.std.proofs.Common.{Bor, ◌≡◌, ◌≤◌, ◌+◌, ◌-◌, ◌==◌, ◌&&◌, ap, refl}
 use Rattle.std.proofs.Common.{arith, inl, inr, ℕ, zero, suc, Bool, true, false, if◌then◌else◌}
 use Rattle.std.proofs.Common.{List, [], ◌∷◌, ◌++◌, length, Option, Some, None, IsSome, add-one}
@@ -17,7 +17,7 @@ use Rattle.csv.specs.declared.reader.Reader.{Reader}
 use Rattle.span_csv.specs.Records.{Fields}
 use Rattle.span_csv.specs.near.Rows.{rows_from, rows_left, IsPlain}
 
--- where a byte ends a record, the state after it is between records
+-- after a byte that ends a record, the state is between records
 abbrev Closes : State × Action → Type 0
 Closes after = is_end after.1 ≡ true → ends_at_end after.0 ≡ false
 
@@ -54,7 +54,7 @@ closes_step st.AfterQuote c = closes_if (c == 34) _ _ (λ e. absurd (false≢tru
 closes_step st.InComment c = closes_if (c == 10) _ _ (λ e. absurd (false≢true e)) (λ e. absurd (false≢true e))
 closes_step st.AfterCr c = closes_if (c == 10) _ _ (λ e. absurd (false≢true e)) (closes_start_record c)
 
--- a record takes the bytes up to its end, and at least one where there is one
+-- a record takes the bytes up to its end, at least one of them if there is any
 record Takes (bytes : List ℕ) (found : Read) : Type 0 where
   closed : ends_at_end found.1 ≡ false
   fewer : length found.2 ≤ length bytes - 1
@@ -91,7 +91,7 @@ takes_next s fields field (c ∷ rest) found e =
     (takes_next (step default_config s c).0 (fields_after (step default_config s c).1 fields field)
     (field_after (step default_config s c).1 c field) rest found) e
 
--- between records an empty text has no record
+-- between records, an empty text has no record
 none_left : (s : State) → ends_at_end s ≡ false → next_record default_config s [] [] [] ≡ None
 unfolding next_record
 none_left s closed = rw closed refl
@@ -101,7 +101,7 @@ same_next : (o : Option Read) (f g : State → List ℕ → List Fields)
 same_next None f g same = refl
 same_next (Some found) f g same = ap (λ (more : List Fields). found.0 ∷ more) (same found refl)
 
--- from between records, as many turns as there are bytes give every record
+-- between records, as many reads as there are bytes return every record
 same_turns : (m n : ℕ) (s : State) (bytes : List ℕ) → ends_at_end s ≡ false → length bytes ≤ m → length bytes ≤ n
     → records_from default_config m s bytes ≡ records_from default_config n s bytes
 unfolding records_from
@@ -115,7 +115,7 @@ same_turns (suc m) (suc n) s bytes closed few fit =
     (λ found e. same_turns m n found.1 found.2 (takes_next s [] [] bytes found e).closed
     (omega (arith, (takes_next s [] [] bytes found e).fewer)) (omega (arith, (takes_next s [] [] bytes found e).fewer)))
 
--- the records that are left are the next one, and those after it
+-- the records that are left are the next record and the records after it
 first_left : (s : State) (bytes : List ℕ) (found : Read) → next_record default_config s [] [] bytes ≡ Some found
     → rows_from s (Some bytes) ≡ found.0 ∷ rows_from found.1 (Some found.2)
 unfolding records_from
@@ -130,7 +130,7 @@ none_more : (s : State) (bytes : List ℕ) → next_record default_config s [] [
 unfolding records_from
 none_more s bytes e = rw (add-one (length bytes), e) refl
 
--- the first record is the next one, and those after it are left; or there is none
+-- if a record is found, it is the first row and the others are left; otherwise no row was left
 abbrev Leaves : Bool → List Fields → Fields → List Fields → Type 0
 Leaves found rows fields after = MatchBool found (rows ≡ fields ∷ after) (rows ≡ [])
 
@@ -151,7 +151,7 @@ row_read found s after (Some bytes) (Some rest) fields known r = row_next found 
 abbrev given : Bor (List ℕ) → Option (List ℕ)
 given s = Some s.now
 
--- what a read found is what was left
+-- the record that a read finds is the first of the rows that were left
 pub rows_left-found : (a b : Reader (Bor (List ℕ))) (found : Bool) (fields : Fields) → IsPlain a → ReadRecord given a b found fields
     → Leaves found (rows_left a) fields (rows_left b)
 rows_left-found a b found fields plain read =

@@ -1,4 +1,4 @@
--- How many records a file can have.
+-- The number of records of a file.
 use Rattle.std.proofs.Common.{◌≤◌, ◌+◌, arith, ℕ, zero, suc, Bool, true, false, if◌then◌else◌, List, [], ◌∷◌, length, Option, Some, None}
 use Rattle.csv.specs.Machine.{Read, next_record}
 use Rattle.csv.specs.Reading.{default_config, is_bom, records_from, records_next, strip_bom}
@@ -29,7 +29,7 @@ strip_few (a ∷ b ∷ []) = omega arith
 strip_few (a ∷ b ∷ c ∷ rest) =
     strip_if (is_bom a b c) rest (a ∷ b ∷ c ∷ rest) (length (a ∷ b ∷ c ∷ rest)) (omega arith) (omega arith)
 
--- it has at most one more than it has bytes
+-- a file has at most one record more than it has bytes
 pub records_few : (bytes : List ℕ) → length (records_of bytes) ≤ length bytes + 1
 unfolding records_of
 records_few bytes =

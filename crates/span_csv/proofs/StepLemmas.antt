@@ -1,4 +1,4 @@
--- What one record adds to the records before it.
+-- The faults and the value of one record after the records before it.
 use Rattle.std.proofs.Common.{◌≡◌, ◌+◌, ◌∙◌, sym, ap, ap₂, ℕ, true, false, List, [], ◌∷◌, ◌++◌, length, None, Some}
 use Rattle.std.specs.Prelude.{Bool, ⊤, ◌==◌, is_none, option_map, unwrap_or, MatchBool}
 use Rattle.span_tables.specs.Faults.{first_that_holds}
@@ -13,13 +13,13 @@ use Rattle.span_csv.proofs.RecordLemmas.{told}
 use Rattle.span_csv.specs.declared.grammar.Kind.{Kind}
 use Rattle.span_csv.specs.declared.grammar.Kind.TheVariants as kind
 
--- a record behind n others under a profile
+-- a record after n others, under a profile
 module _ (rs : List Fields) (r : Fields) (n profile : ℕ) (len : length rs ≡ n) (under : profile ≡ profile_of rs) where
-  -- its faults that the limits have no part in
+  -- the faults of the record that do not depend on the limits
   abbrev alone : List (Bool × (ℕ → ParamFault))
   alone = kind_faults (n == 0) r ++ field_faults profile r
 
-  -- the fault of its limit
+  -- the fault of the record's limit
   abbrev last : List (Bool × (ℕ → ParamFault))
   last = (exceeds_limit (counted rs) r (kind_of r), fault.TooMany) ∷ []
 
@@ -30,12 +30,12 @@ module _ (rs : List Fields) (r : Fields) (n profile : ℕ) (len : length rs ≡ 
     own : IsFaultOf (form_faults rs r) (length rs + 1) answer
     own = ap₂ (λ fs k. option_map (λ f. f (k + 1)) (first_that_holds fs)) (sym forms_are) len ∙ e
 
-    -- a fault of the record alone
+    -- a fault of the record by itself
     pub next_fault : (Kept : Type 0) → Kept
         → MatchBool (is_memory answer) ⊤ (IsFaultOf (record_faults rs r) (length rs + 1) answer × Kept)
     next_fault Kept kept = told (is_memory answer) (first_front (form_faults rs r) last (length rs + 1) answer own, kept)
 
-    -- a record that has one does not count
+    -- a record with a fault by itself is not counted
     pub next_unformed : is_formed rs r ≡ false
     next_unformed = unformed (first_that_holds (form_faults rs r)) (length rs + 1) answer own
 
@@ -57,11 +57,11 @@ module _ (rs : List Fields) (r : Fields) (n profile : ℕ) (len : length rs ≡ 
     pub next_free : exceeds_limit (counted rs) r (kind_of r) ≡ false → first_that_holds (record_faults rs r) ≡ None
     next_free within = by_last false within
 
-    -- a record that has none of the faults alone counts
+    -- a record without a fault by itself is counted
     pub next_formed : is_formed rs r ≡ true
     next_formed = ap is_none forms_free
 
--- what a record of a kind says
+-- the value of a record of a kind
 pub record_of : (r : Fields) (k : Kind) → kind_of r ≡ Some k → record_of_kind k r ≡ param_record r
 unfolding param_record
 record_of r k is = ap (λ o. record_of_kind (unwrap_or o kind.Set) r) (sym is)

@@ -20,13 +20,13 @@ use Rattle.span_csv.specs.declared.grammar.Kind.TheVariants as kind
 kind_word : (r : Fields) (kind : Kind) → kind_of r ≡ Some kind → text_at r 0 ≡ word_of kind
 kind_word r kind e = same_name (text_at r 0) (word_of kind) (named_word (text_at r 0) kind e)
 
--- ---- one record more
+-- ---- one more record
 
 more : (p : Fields → Bool) (rs : List Fields) (r : Fields) (b : Bool) → p r ≡ b
     → count_by p (rs ++ r ∷ []) ≡ count_by p rs + (if b then 1 else 0)
 more p rs r b e = rw (← e) (sum_by_push _ rs r)
 
--- what is counted by its first field
+-- a count of records by their first field
 word_more : (a b : ℕ) (word : List ℕ) (rs : List Fields) (r : Fields) (first : List ℕ) → text_at r 0 ≡ first
     → a ≡ b + (if bytes_eq first word then 1 else 0)
     → b ≡ count_word word rs → a ≡ count_word word (rs ++ r ∷ [])
@@ -34,7 +34,7 @@ word_more a b word rs r first is counts before =
     let step = more (λ x. bytes_eq (text_at x 0) word) rs r (bytes_eq first word) (ap (λ t. bytes_eq t word) is) in
     counts ∙ ap (λ n. n + (if bytes_eq first word then 1 else 0)) before ∙ sym step
 
--- what is counted by its first two fields
+-- a count of records by their first two fields
 words_more : (a b : ℕ) (word cc : List ℕ) (rs : List Fields) (r : Fields) (first : List ℕ) → text_at r 0 ≡ first
     → a ≡ b + (if bytes_eq first word && bytes_eq (text_at r 1) cc then 1 else 0)
     → b ≡ count_words word cc rs → a ≡ count_words word cc (rs ++ r ∷ [])
@@ -43,7 +43,7 @@ words_more a b word cc rs r first is counts before =
     (ap (λ t. bytes_eq t word && bytes_eq (text_at r 1) cc) is) in
     counts ∙ ap (λ n. n + (if bytes_eq first word && bytes_eq (text_at r 1) cc then 1 else 0)) before ∙ sym step
 
--- each count grows by the record where that is of its kind and commodity
+-- each count grows by the record if the record is of the count's kind and commodity
 record Grows (t u : Tally) (first : List ℕ) (r : Fields) : Type 0 where
   profile : u.profile ≡ t.profile
   commodities : u.commodities ≡ t.commodities + (if bytes_eq first (codes "COMMODITY") then 1 else 0)
@@ -71,7 +71,7 @@ grows : (t u : Tally) (kind : Kind) (r : Fields) → AddsRecord kind r t u → G
 grows t u kind.Set r adds = search rules
 grows t u _ r adds = search rules
 
--- the profile is that which the first record gives
+-- the profile is the one that the first record gives
 profile_more : (p : ℕ) (rs : List Fields) (r : Fields) → p ≡ profile_of rs
     → (if length rs == 0 then profile_of (r ∷ []) else p) ≡ profile_of (rs ++ r ∷ [])
 profile_more p [] r before = refl
@@ -81,7 +81,7 @@ profile_more p (x ∷ rs) r before =
 
 module _ (t kept : Tally) (rs : List Fields) (r : Fields) (n : ℕ) (len : length rs ≡ n) (keeps : KeepsProfile (n == 0) r t kept)
     (tallies : Tallies t rs) where
-  -- the profile is kept, and nothing is counted yet
+  -- the profile is kept, and the record is not counted yet
   kept_profile : kept.profile ≡ profile_of (rs ++ r ∷ [])
   kept_profile =
       ap (λ (k : Tally). k.profile) keeps ∙ ap (λ k. if k == 0 then profile_of (r ∷ []) else t.profile) (sym len)
@@ -97,11 +97,11 @@ module _ (t kept : Tally) (rs : List Fields) (r : Fields) (n : ℕ) (len : lengt
     inters = tallies.counts.inters;
   })
 
-  -- a record that has one of P1 to P7 is not counted
+  -- a record with one of P1 to P7 is not counted
   pub tally_same : is_formed rs r ≡ false → Tallies kept (rs ++ r ∷ [])
   tally_same e = record { profile = kept_profile; counts = subst (Counts kept) (sym (counted_same rs r e)) kept_counts }
 
-  -- and one that has none is
+  -- a record with none of P1 to P7 is counted
   pub tally_more : (u : Tally) (kind : Kind) → kind_of r ≡ Some kind → is_formed rs r ≡ true → AddsRecord kind r kept u
       → Tallies u (rs ++ r ∷ [])
   tally_more u kind is formed adds =
@@ -133,16 +133,16 @@ few_counted t kind.Intra rs cc counts = subst (λ n. n ≤ length rs) (sym (coun
 few_counted t kind.Spot rs cc counts = subst (λ n. n ≤ length rs) (sym (counts.spots cc)) (count_by-le-length _ rs)
 few_counted t kind.Inter rs cc counts = rw counts.inters (count_by-le-length _ rs)
 
--- no more are counted than were read
+-- no more records are counted than were read
 pub count_small : (t : Tally) (kind : Kind) (rs : List Fields) (cc : List ℕ) → Counts t (counted rs) → count_for t kind cc ≤ length rs
 count_small t kind rs cc counts = omega (arith, few_counted t kind (counted rs) cc counts, counted_few rs)
 
 module _ (t : Tally) (kind : Kind) (rs : List Fields) (r : Fields) (count limit : ℕ) (is : kind_of r ≡ Some kind) (tallies : Counts t rs)
     (counts : count ≡ count_for t kind (text_at r 1)) (limits : limit ≡ limit_of kind) where
-  -- where a kind has as many records as there may be, one more exceeds the limit
+  -- if a kind already has the maximum number of records, one more exceeds the limit
   pub count_full : count ≡ limit → exceeds_limit rs r (kind_of r) ≡ true
   count_full e = count_exceeds t kind rs r is tallies ∙ eq-eqb _ _ (sym counts ∙ e ∙ limits)
 
-  -- where a kind has fewer records than there may be, one more is within the limit
+  -- if a kind has fewer records than the maximum, one more is within the limit
   pub count_within : (count ≡ limit → ⊥) → exceeds_limit rs r (kind_of r) ≡ false
   count_within e = count_exceeds t kind rs r is tallies ∙ ne_eqb _ _ (λ h. e (counts ∙ h ∙ sym limits))

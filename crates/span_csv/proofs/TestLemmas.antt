@@ -13,11 +13,11 @@ use Rattle.span_csv.proofs.FormLemmas.{all_have-append, all_have-repeat}
 
 module _ (test : FieldForm → List ℕ → Bool) (forms : List FieldForm) (fields : Fields) (place : ℕ)
     (room : place + length forms ≤ length fields) where
-  -- the fields from a place on
+  -- the fields from an index on
   abbrev texts : Fields
   texts = drop place fields
 
-  -- one field more is tested
+  -- one more field is tested
   step : (i : ℕ) → i < length forms
       → all_have test (drop i forms) (drop i texts)
       ≡ (test (get_or forms i form.Name) (text_at fields (place + i)) && all_have test (drop (i + 1) forms) (drop (i + 1) texts))
@@ -28,13 +28,13 @@ module _ (test : FieldForm → List ℕ → Bool) (forms : List FieldForm) (fiel
       ∙ ap (λ t. test (get_or forms i form.Name) t && all_have test (drop (i + 1) forms) (drop (i + 1) texts))
       (get_or-drop place fields i [])
 
-  -- a field that passes leaves the answer to the others, and one that fails is the answer
+  -- if a field passes, the result depends on the fields after it; if it fails, the result is false
   pub tested : (i : ℕ) (text : List ℕ) (b whole : Bool) → i < length forms → text ≡ text_at fields (place + i)
       → b ≡ test (get_or forms i form.Name) text → all_have test (drop i forms) (drop i texts) ≡ whole
       → (b && all_have test (drop (i + 1) forms) (drop (i + 1) texts)) ≡ whole
   tested i text b whole inside is answer so_far = rw (answer, is) (sym (step i inside) ∙ so_far)
 
-  -- none is left to test
+  -- if no field is left to test, the result is true
   pub none_left : (i : ℕ) → length forms ≤ i → all_have test (drop i forms) (drop i texts) ≡ true
   none_left i past = at_drop_all (λ fs. all_have test fs (drop i texts)) forms i past
 
@@ -60,7 +60,7 @@ pub layout_told : (test : FieldForm → List ℕ → Bool) (front middle back : 
 layout_told test front middle back fields forms is a b c in_front in_middle in_back =
     rw (in_front, in_middle, in_back, ← is) (sym (layout_all test front middle back fields))
 
--- of a CONTRACT, whose risk array is tested value by value
+-- all fields of a CONTRACT, whose risk array is tested value by value
 pub contract_told : (test : FieldForm → List ℕ → Bool) (profile : ℕ) (product : ProductKind) (fields : Fields) (a b c : Bool)
     → a ≡ all_have test contract_front (drop 1 fields) → b ≡ list_all (test an_array_value) (take SCENARIOS (drop array_place fields))
     → c ≡ all_have test (contract_back profile product) (drop EXTRAS fields)

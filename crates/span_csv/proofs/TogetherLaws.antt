@@ -1,4 +1,4 @@
--- Pieces of a position file, one behind the other: their accounts, their records, and what numbers them.
+-- Joined pieces of a position file: their accounts, their records, and the numbers of the records.
 use Rattle.std.proofs.Common.{◌≡◌, ◌∙◌, refl, sym, ap, subst, inl, inr, arith, ℕ, zero, suc, ◌+◌, ◌<◌, ◌≤◌, Bool, true, false, not, cond}
 use Rattle.std.proofs.Common.{◌&&◌, ◌||◌, ◌==◌, List, [], ◌∷◌, ◌++◌, length, get_or, map, append_assoc, drop, set, take}
 use Rattle.std.specs.Prelude.{All, bytes_eq, filter, nat_abs}
@@ -24,7 +24,7 @@ use Rattle.span_csv.specs.near.NumberedReading.{is_one_too_many, with_name}
 use Rattle.span_csv.specs.near.Pieces.{place_among, records_together}
 use Rattle.span_csv.specs.near.Pieces.{renumbered, with_names, AreOfAccounts, AreTogether, HasAccounts, StandFor}
 
--- ---- names behind others
+-- ---- names after others
 
 -- no name is lost
 longer : (keys : List (List ℕ)) (name : List ℕ) → length keys ≤ length (with_name keys name)
@@ -34,7 +34,7 @@ longer keys name =
       | inr new ↦ rw new (let e = length-append keys (name ∷ []) in omega (arith, e))
     ]
 
--- a name stays where more come
+-- a known name stays known when another is added
 among_more : (known : List (List ℕ)) (x name : List ℕ) → is_among known name ≡ true → is_among (with_name known x) name ≡ true
 among_more known x name there =
     elim (cases_Bool (is_among known x)) [
@@ -42,7 +42,7 @@ among_more known x name there =
       | inr new ↦ rw new (list_any-append (bytes_eq name) known (x ∷ []) ∙ (rw there refl))
     ]
 
--- it is there where it came
+-- a name is known after it is added
 among_itself : (known : List (List ℕ)) (name : List ℕ) → is_among (with_name known name) name ≡ true
 among_itself known name =
     elim (cases_Bool (is_among known name)) [
@@ -50,7 +50,7 @@ among_itself known name =
       | inr new ↦ rw new (list_any-append (bytes_eq name) known (name ∷ []) ∙ (rw (new, (bytes_eq-Decides name name).1 refl) refl))
     ]
 
--- a name that is there need not come again
+-- adding a known name again has no effect
 skip : (xs known : List (List ℕ)) (name : List ℕ) → is_among known name ≡ true
     → with_names known xs ≡ with_names known (filter (λ other. not (bytes_eq other name)) xs)
 skip [] known name there = refl
@@ -62,7 +62,7 @@ skip (x ∷ xs) known name there =
       | inr other ↦ rw other (skip xs (with_name known x) name (among_more known x name there))
     ]
 
--- of each name the first is enough
+-- adding only the first occurrence of each name is enough
 once : (xs known : List (List ℕ)) → with_names known xs ≡ with_names known (distinct xs)
 once [] known = refl
 once (x ∷ xs) known = once xs (with_name known x) ∙ skip (distinct xs) (with_name known x) x (among_itself known x)
@@ -74,7 +74,7 @@ pushed (p ∷ b) a =
     ∙ pushed b (a ++ p ∷ [])
     ∙ ap (λ known. with_names known (map (λ (q : PositionRecord). q.account) b)) (accounts_of-push a p)
 
--- the accounts of records behind others come behind their accounts
+-- the accounts of two lists joined are the accounts of the first, then the new ones of the second
 pub accounts_behind : (a b : List PositionRecord) → accounts_of (a ++ b) ≡ with_names (accounts_of a) (accounts_of b)
 accounts_behind a b = pushed b a ∙ once (map (λ (p : PositionRecord). p.account) b) (accounts_of a)
 
@@ -85,25 +85,25 @@ never_fewer (x ∷ xs) known =
     let more = never_fewer xs (with_name known x) in
     omega (arith, one, more)
 
--- records in front of others have no more accounts
+-- the records of a prefix have no more accounts than the limit if the whole list has no more
 fewer_in_front : (a b : List PositionRecord) → length (accounts_of (a ++ b)) ≤ MAX_ACCOUNTS → length (accounts_of a) ≤ MAX_ACCOUNTS
 fewer_in_front a b few =
     let same : length (accounts_of (a ++ b)) ≡ length (with_names (accounts_of a) (accounts_of b)) = ap length (accounts_behind a b) in
     let more = never_fewer (accounts_of b) (accounts_of a) in
     omega (arith, same, more, few)
 
--- a name that is there stays where more come
+-- a known name stays known when a list of names is added
 among_all : (xs known : List (List ℕ)) (name : List ℕ) → is_among known name ≡ true → is_among (with_names known xs) name ≡ true
 among_all [] known name there = there
 among_all (x ∷ xs) known name there = among_all xs (with_name known x) name (among_more known x name there)
 
--- ---- the records of the whole
+-- ---- the records of the whole file
 
 full : (b : Bool) (n : ℕ) → (not b && (n == MAX_ACCOUNTS)) ≡ true → (b ≡ false) × (n ≡ MAX_ACCOUNTS)
 full true n e = let bad : false ≡ true = e in cc
 full false n e = (refl, eqb-true n MAX_ACCOUNTS e)
 
--- a record whose account is one too many has more accounts with it than there may be
+-- no record's account is one too many if all records together stay within the limit
 pub too_many : (whole ps : List PositionRecord) (p : PositionRecord) → length (accounts_of ((whole ++ p ∷ []) ++ ps)) ≤ MAX_ACCOUNTS
     → is_one_too_many MAX_ACCOUNTS (accounts_of whole) p.account ≡ true → ⊥
 too_many whole ps p few over =
@@ -123,7 +123,7 @@ any_at (p ∷ ps) (suc k) d lt =
     or_right (bytes_eq (get_or ps k d).account p.account) (is_among (map (λ (q : PositionRecord). q.account) ps) (get_or ps k d).account)
     (any_at ps k d (omega (arith, lt)))
 
--- the accounts of all pieces have that of each of their records
+-- the account of each record is among the accounts of all pieces
 pub together_known : (pieces : List (List PositionRecord)) (accounts : List (List ℕ)) → AreTogether accounts pieces
     → HasAccounts accounts (records_together pieces)
 together_known pieces accounts together =
@@ -133,14 +133,14 @@ together_known pieces accounts together =
 
 -- ---- numbers
 
--- no records stand for those of no piece
+-- no numbered records denote the records of no piece
 pub stand_none : (accounts : List (List ℕ)) → StandFor accounts [] []
 stand_none accounts = record {
   named = refl;
   of = record { known = λ k d lt. absurd (omega (arith, lt)); small = λ k d lt. absurd (omega (arith, lt)) };
 }
 
--- the place of a name that is there is one of theirs
+-- the index of a known name is within the list
 place_within : (ks : List (List ℕ)) (name : List ℕ) → is_among ks name ≡ true → place_among ks name < length ks
 place_within [] name there = let bad : false ≡ true = there in cc
 place_within (k ∷ ks) name there = by (bytes_eq name k) there (place_within ks name)
@@ -150,7 +150,7 @@ place_within (k ∷ ks) name there = by (bytes_eq name k) there (place_within ks
     by true there more = omega arith
     by false there more = let lt = more there in omega (arith, lt)
 
--- and the name stands there
+-- the name at the index of a known name is that name
 name_at_place : (ks : List (List ℕ)) (name : List ℕ) → is_among ks name ≡ true → get_or ks (place_among ks name) [] ≡ name
 name_at_place ks name there =
     sym (same_name name (get_or ks (place_among ks name) []) (passes_at_first (bytes_eq name) ks [] (place_within ks name there)))
@@ -178,7 +178,7 @@ module _ (accounts names : List (List ℕ)) where
       let lt = place_within accounts (get_or names r.account []) there in
       omega (arith, is, lt)
 
-  -- records that are numbered by accounts of theirs stand for the same by all
+  -- records numbered by their own accounts denote the same records when numbered by all accounts
   pub stand_for : (rs : List NumberedPosition) → AreOfAccounts names rs → HasAccounts accounts (named_positions names rs)
       → StandFor accounts (named_positions names rs) (map (renumbered (map (place_among accounts) names)) rs)
   stand_for [] of has = stand_none accounts
@@ -218,7 +218,7 @@ module _ (accounts : List (List ℕ)) (pieces : List (List PositionRecord)) (n :
       ap records_together (sym (take-append-drop n pieces))
       ∙ flat_map-append (λ (piece : List PositionRecord). piece) (take n pieces) (drop n pieces)
 
-  -- what holds of the accounts of pieces holds of those of the first n, and of those of the others
+  -- if all pieces have their accounts in the list, so have the first n pieces and the other pieces
   pub known_front : HasAccounts accounts (records_together pieces) → HasAccounts accounts (records_together (take n pieces))
   known_front known =
       subst (All IsKnown) (take-append_seam front back) (All-take IsKnown (length front) (front ++ back) (subst (All IsKnown) halves known))
@@ -227,7 +227,7 @@ module _ (accounts : List (List ℕ)) (pieces : List (List PositionRecord)) (n :
   known_back known =
       subst (All IsKnown) (drop-append_seam front back) (All-drop IsKnown (length front) (front ++ back) (subst (All IsKnown) halves known))
 
-  -- what stands for the records of both, one behind the other, stands for those of all
+  -- numbered records for the first n pieces and for the others, joined, denote the records of all pieces
   pub stand_both : (xs ys : List NumberedPosition) → StandFor accounts (records_together (take n pieces)) xs
       → StandFor accounts (records_together (drop n pieces)) ys → StandFor accounts (records_together pieces) (xs ++ ys)
   stand_both xs ys first second = record {
@@ -242,7 +242,7 @@ module _ (accounts : List (List ℕ)) (pieces : List (List PositionRecord)) (n :
     };
   }
 
--- ---- turns of the loops
+-- ---- iterations of the loops
 
 -- one more element is changed
 pub changed_more : {X : Type 0} (f : X → X) (xs : List X) (i : ℕ) (d : X) → i < length xs
@@ -253,7 +253,7 @@ changed_more f xs i d lt =
     ∙ ap (λ back. take i xs ++ f (get_or xs i d) ∷ map f back) (drop-set-lt (i + 1) xs i (f (get_or xs i d)) (omega arith))
     ∙ ap (λ back. take i xs ++ map f back) (sym (drop_more xs i d lt))
 
--- and those behind it are as before
+-- the elements after the changed one stay as before
 pub left_behind : {X : Type 0} (P : X → Type 0) (xs : List X) (i : ℕ) (y d : X) → i < length xs → All P (drop i xs)
     → All P (drop (i + 1) (set xs i y))
 left_behind P xs i y d lt all =

@@ -1,4 +1,4 @@
--- The faults of all records of a file, told one record after another.
+-- The faults of all records of a file, reported one record after another.
 use Rattle.std.proofs.Common.{◌≡◌, ◌∙◌, refl, sym, ap, subst, arith, ℕ, ◌+◌, ◌<◌, List, [], ◌∷◌, ◌++◌, length, Option, Some, None}
 use Rattle.std.proofs.Common.{Bool, Result, Ok, Err}
 use Rattle.std.specs.Prelude.{option_map}
@@ -8,7 +8,7 @@ use Rattle.span_tables.specs.Faults.{all_faults, faults_after}
 use Rattle.span_csv.specs.Records.{Fields}
 use Rattle.span_csv.specs.near.Telling.{Judges, Tells}
 
--- So many records were read, of which these are the faults, and something is kept of them.
+-- This many records were read, these are their faults, and `Kept` is true of them.
 pub record IsTold {F : Type 0} (fault_of : List Fields → Fields → Option (ℕ → F)) (Kept : List Fields → Type 0) (all : List Fields)
     (faults : List F) (read : ℕ) (rest : List Fields) : Type 0 where
   pub earlier : List Fields
@@ -19,7 +19,7 @@ pub record IsTold {F : Type 0} (fault_of : List Fields → Fields → Option (�
 
 module _ {F : Type 0} {fault_of : List Fields → Fields → Option (ℕ → F)} {Kept : List Fields → Type 0} {all : List Fields}
     {faults : List F} {read : ℕ} {before : List Fields} (s : IsTold fault_of Kept all faults read before) where
-  -- fewer were read than there are, where there is one more
+  -- if a record is left, fewer were read than there are
   pub told_room : (r : Fields) (rest : List Fields) → before ≡ r ∷ rest → read < length all
   told_room r rest is =
       let long = length-append s.earlier (r ∷ rest) in
@@ -42,7 +42,7 @@ module _ {F : Type 0} {fault_of : List Fields → Fields → Option (ℕ → F)}
         ∙ s.told;
   }
 
-  -- one more record, for which this is answered
+  -- one more record with this answer
   pub told_one : {X : Type 0} (is_memory : F → Bool) (Then : List Fields → Type 0) (r : Fields) (rest : List Fields) (answer : Result X F)
       (new : List F) → before ≡ r ∷ rest → Judges is_memory fault_of Then s.earlier r answer → Tells is_memory answer faults new
       → IsTold fault_of Then all new (read + 1) rest
@@ -53,16 +53,16 @@ module _ {F : Type 0} {fault_of : List Fields → Fields → Option (ℕ → F)}
       let found = rw tells.0 at judged in
       subst (λ fs. IsTold fault_of Then all fs (read + 1) rest) (sym tells.1) (told_next Then r rest (Some e) is found.0 found.1)
 
-  -- where no record is left, all faults are told
+  -- if no record is left, all faults are reported
   pub told_all : before ≡ [] → faults ≡ all_faults fault_of all
   told_all end =
       sym (append-nil faults) ∙ ap (λ zs. faults ++ faults_after fault_of s.earlier zs) (sym end) ∙ s.told
 
-  -- and all of them were read
+  -- if no record is left, all records were read
   pub told_whole : before ≡ [] → all ≡ s.earlier
   told_whole end = sym s.whole ∙ ap (λ zs. s.earlier ++ zs) end ∙ append-nil s.earlier
 
--- before the first record no fault is told
+-- before the first record no fault is reported
 pub told_start : {F : Type 0} (fault_of : List Fields → Fields → Option (ℕ → F)) (Kept : List Fields → Type 0) (all : List Fields)
     → Kept [] → IsTold fault_of Kept all [] 0 all
 told_start fault_of Kept all kept = record { earlier = []; whole = refl; count = refl; kept = kept; told = refl }

@@ -13,7 +13,7 @@ use Rattle.span_csv.specs.near.Grammar.{passes}
 use Rattle.span_csv.specs.Records.{Fields, an_array_value, is_in_range, text_at, whole_at}
 use Rattle.span_csv.specs.declared.grammar.FieldTest.TheVariants as field_test
 
--- one value more
+-- one more value
 pub values_more : (values : List ℤ) (i : ℕ) (v : ℤ) (fields : Fields) → i < length values → v ≡ whole_at fields (FIRST_VALUE + i)
     → ((k : ℕ) → k < i → get_or values k (pos 0) ≡ whole_at fields (FIRST_VALUE + k))
     → (k : ℕ) → k < i + 1 → get_or (set values i v) k (pos 0) ≡ whole_at fields (FIRST_VALUE + k)
@@ -22,7 +22,7 @@ values_more values i v fields inside is before =
     (λ k h. let ne : k ≢ i = omega arith in get_or-set_other values i k v (pos 0) ne ∙ before k h)
     (get_or-set_same values i v (pos 0) inside ∙ is)
 
--- all of them
+-- all values
 pub values_all : (values : List ℤ) (fields : Fields) → length values ≡ SCENARIOS → EXTRAS ≤ length fields
     → ((k : ℕ) → k < SCENARIOS → get_or values k (pos 0) ≡ whole_at fields (FIRST_VALUE + k))
     → values ≡ map (λ text. unwrap_or (whole_number text) (pos 0)) (take SCENARIOS (drop FIRST_VALUE fields))
@@ -38,7 +38,7 @@ values_all values fields sixteen all each =
     each i few ∙ sym (get_or-map number (take SCENARIOS behind) i [] (pos 0) there
     ∙ ap number (get_or-take SCENARIOS behind i [] few ∙ get_or-drop FIRST_VALUE fields i [])))
 
--- ---- their test
+-- ---- the test of the values
 
 abbrev pub array_passes : List ℕ → Bool
 array_passes = passes field_test.All an_array_value
@@ -51,13 +51,13 @@ module _ (fields : Fields) (all : EXTRAS ≤ length fields) (i : ℕ) (few : i <
   here : array_passes (get_or array i []) ≡ b
   here = ap array_passes (get_or-drop FIRST_VALUE fields i [] ∙ sym is) ∙ sym answer
 
-  -- one that passes, behind others that do
+  -- if the values before it pass and this one passes, so does the prefix that ends with it
   pub value_passed : b ≡ true → list_all array_passes (take i array) ≡ true → list_all array_passes (take (i + 1) array) ≡ true
   value_passed holds before =
       let there : i < length array = omega (arith, length-drop FIRST_VALUE fields) in
       list_all_more array_passes array i [] there ∙ ap₂ (λ a b. a && b) before (here ∙ holds)
 
-  -- one that fails is the answer
+  -- if a value fails, the whole array fails
   pub value_failed : b ≡ false → false ≡ list_all array_passes (take SCENARIOS array)
   value_failed fails =
       let enough : SCENARIOS ≤ length array = omega (arith, length-drop FIRST_VALUE fields) in

@@ -1,4 +1,4 @@
--- What is said of each fault of reading: its number and name, and the number of its record.
+-- The text of each read fault: its number and name, and the number of its record.
 use Rattle.std.specs.Prelude.{ℕ, List, ◌++◌, codes, decimal}
 use Rattle.span_csv.specs.declared.faults.ParamFault.{ParamFault}
 use Rattle.span_csv.specs.declared.faults.ParamFault.TheVariants as param

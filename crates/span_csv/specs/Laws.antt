@@ -1,11 +1,11 @@
--- What the laws speak of.
+-- Definitions that only the lemmas on fault lists use.
 use Rattle.std.specs.Prelude.{ℕ}
 use Rattle.span_csv.specs.declared.faults.ParamFault.{ParamFault}
 use Rattle.span_csv.specs.declared.faults.ParamFault.TheVariants as param
 use Rattle.span_csv.specs.declared.faults.PositionFault.{PositionFault}
 use Rattle.span_csv.specs.declared.faults.PositionFault.TheVariants as position
 
--- the number of the record that a fault of a parameter file tells; out of memory tells none
+-- the record number in a fault of a parameter file; out of memory has none
 abbrev pub param_number : ParamFault → ℕ
 param_number (param.NoSet at) = at
 param_number (param.SecondSet at) = at
@@ -17,7 +17,7 @@ param_number (param.OutOfRange at) = at
 param_number (param.TooMany at) = at
 param_number param.OutOfMemory = 0
 
--- the number of the record that a fault of a position file tells; out of memory tells none
+-- the record number in a fault of a position file; out of memory has none
 abbrev pub position_number : PositionFault → ℕ
 position_number (position.FieldCount at) = at
 position_number (position.BadName at) = at

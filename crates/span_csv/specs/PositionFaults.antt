@@ -18,37 +18,37 @@ form_faults r =
     ∷ (not (all_have is_in_range position_forms r), fault.OutOfRange)
     ∷ []
 
--- the record has none of them
+-- the record has none of Q1 to Q4
 abbrev pub is_formed : Fields → Bool
 is_formed r = is_none (first_that_holds (form_faults r))
 
--- the records whose accounts the limit counts: those that have none of Q1 to Q4
+-- the records whose accounts the limit counts: the records without one of Q1 to Q4
 abbrev pub counted : List Fields → List Fields
 counted rs = filter is_formed rs
 
--- the account is new behind these records that count, which have as many as there may be
+-- the account is new, and these counted records already have the maximum number of accounts
 abbrev pub exceeds_accounts : List Fields → Fields → Bool
 exceeds_accounts rs r =
     let accounts = map (λ x. text_at x 0) rs in
     not (is_among accounts (text_at r 0)) && (length (distinct accounts) == MAX_ACCOUNTS)
 
--- the faults that a record may have behind the earlier ones, in the order of their numbers
+-- the faults that a record may have after the earlier records, in the order of their numbers
 abbrev pub record_faults : List Fields → Fields → List (Bool × (ℕ → PositionFault))
 record_faults earlier r = form_faults r ++ (exceeds_accounts (counted earlier) r, fault.TooManyAccounts) ∷ []
 
--- the fault of a record behind the earlier ones, told its number: the lowest-numbered that it has
+-- the lowest-numbered fault of a record after the earlier records, as a function of the record's number
 abbrev pub record_fault : List Fields → Fields → Option (ℕ → PositionFault)
 record_fault earlier r = first_that_holds (record_faults earlier r)
 
--- all faults of a position file: of each record the one that it has
+-- all faults of a position file: the fault of each faulty record
 unfoldable pub position_faults : List ℕ → List PositionFault
 position_faults bytes = all_faults record_fault (records_of bytes)
 
--- what a position file says, or its first fault
+-- the records of a position file, or its first fault
 unfoldable pub positions_of : List ℕ → Result (List PositionRecord) PositionFault
 positions_of bytes = ok_unless (first_of (position_faults bytes)) (map position_record (records_of bytes))
 
--- the fault is out of memory, of which the definition does not speak
+-- the fault is out of memory, which the definitions of faults do not cover
 abbrev pub is_memory : PositionFault → Bool
 is_memory fault.OutOfMemory = true
 is_memory _ = false

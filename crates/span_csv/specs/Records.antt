@@ -1,4 +1,5 @@
--- The record grammar of all files: the records of a file's bytes, the forms of their fields, and what they say.
+-- The record grammar of all files: the records in a file's bytes, the forms of their fields, and the values of the
+-- records.
 use Rattle.std.specs.Prelude.{ℕ, ◌+◌, ◌-◌, Bool, true, false, ◌&&◌, ◌||◌, ◌==◌, if◌then◌else◌, List, [], ◌∷◌, ◌++◌}
 use Rattle.std.specs.Prelude.{length, take, drop, map, zip, Option, Some, None, is_some, unwrap_or, option_and_then}
 use Rattle.std.specs.Prelude.{slice_index_or, codes, bytes_eq, ℤ, pos, neg_ℤ, int_le}
@@ -38,19 +39,20 @@ use Rattle.span_csv.specs.declared.grammar.Kind.{Kind}
 use Rattle.span_csv.specs.declared.grammar.Kind.TheVariants as kind
 use Rattle.span_csv.specs.declared.grammar.FieldForm.TheVariants as form
 
--- the fields of a record, and of a field its bytes
+-- the fields of a record, each as a list of bytes
 abbrev pub Fields : Type 0
 Fields = List (List ℕ)
 
--- the records of a file without a header, as a flexible reader gives them
+-- the records of a file without a header, as a flexible reader returns them
 unfoldable pub records_of : List ℕ → List Fields
 records_of bytes = records default_config (strip_bom bytes)
 
 -- ---- forms
 
--- what a field may be is `FieldForm`: a number has its lowest and its highest value, a decimal those in 10^-4
+-- `FieldForm` says what a field may be: a whole number has its lowest and highest value, and a decimal has them in
+-- 10^-4
 
--- a rate, from 0
+-- a rate, at least 0
 abbrev pub a_rate : FieldForm
 a_rate = form.Whole (pos 0) (pos MAX_RATE)
 
@@ -58,7 +60,7 @@ a_rate = form.Whole (pos 0) (pos MAX_RATE)
 abbrev pub is_word : List ℕ → List ℕ → Bool
 is_word word text = bytes_eq text word
 
--- a field that is a word has its form
+-- a word field has its form
 abbrev pub has_word_form : FieldForm → List ℕ → Bool
 has_word_form form.Name text = is_name text
 has_word_form form.Currency text = (length text == 3) && list_all is_ascii_uppercase text
@@ -67,19 +69,19 @@ has_word_form form.Product text = is_word (codes "F") text || is_word (codes "C"
 has_word_form form.Side text = is_word (codes "A") text || is_word (codes "B") text
 has_word_form _ text = true
 
--- a field that is a number has its form
+-- a number field has its form
 abbrev pub has_number_form : FieldForm → List ℕ → Bool
 has_number_form (form.Whole low high) text = is_some (whole_number text)
 has_number_form (form.Decimal low high) text = is_some (decimal_number text)
 has_number_form form.Month text = is_some (month_number text)
 has_number_form _ text = true
 
--- the number is one, from the lowest to the highest
+-- there is a number, and it is between the lowest and the highest value
 abbrev pub is_within : ℤ → ℤ → Option ℤ → Bool
 is_within low high None = false
 is_within low high (Some z) = int_le low z && int_le z high
 
--- a field that is a number is in its range
+-- a number field is in its range
 abbrev pub is_in_range : FieldForm → List ℕ → Bool
 is_in_range (form.Whole low high) text = is_within low high (whole_number text)
 is_in_range (form.Decimal low high) text = is_within low high (decimal_number text)
@@ -100,29 +102,29 @@ kind_named word =
     else if is_word (codes "INTER") word then Some kind.Inter
     else None
 
--- these forms, for as many fields
+-- these forms, if the number of fields is their number
 abbrev pub exactly : List FieldForm → ℕ → Option (List FieldForm)
 exactly forms fields = if fields == length forms then Some forms else None
 
--- the forms of a spread's record: those in front, and 2 to 4 legs
+-- the forms of a spread's record: the front forms, then 2 to 4 legs
 abbrev pub with_legs : List FieldForm → List FieldForm → ℕ → Option (List FieldForm)
 with_legs front leg fields =
     option_or (option_or (exactly (front ++ repeat 2 leg) fields) (exactly (front ++ repeat 3 leg) fields))
     (exactly (front ++ repeat 4 leg) fields)
 
--- a version, which is a profile's number
+-- a version, that is the number of a profile
 abbrev pub a_version : FieldForm
 a_version = form.Whole (pos 1) (pos MAX_PROFILE)
 
--- the forms of each kind's fields behind the first; a SET's version is the file's profile
+-- the forms of the fields after the first, for each kind; the version of a SET is the file's profile
 abbrev pub set_forms : List FieldForm
 set_forms = form.Name ∷ a_version ∷ form.Currency ∷ []
 
 abbrev pub commodity_forms : List FieldForm
 commodity_forms = form.Name ∷ a_rate ∷ form.Method ∷ []
 
--- of a CONTRACT those in front of its risk array, that of a value of the array, and that of its option value, which is 0 for a
--- future
+-- the forms of a CONTRACT: the fields before its risk array, a value of the array, and the option value, which is 0 for
+-- a future
 abbrev pub contract_front : List FieldForm
 contract_front =
     form.Name ∷ form.Name ∷ form.Product ∷ form.Month ∷ form.Decimal (neg_ℤ (pos MAX_DELTA)) (pos MAX_DELTA)
@@ -134,15 +136,15 @@ an_array_value = form.Whole (neg_ℤ (pos MAX_ARRAY_VALUE)) (pos MAX_ARRAY_VALUE
 abbrev pub an_option_value : ProductKind → FieldForm
 an_option_value product = form.Whole (pos 0) (pos (most_option_value product))
 
--- what stands behind the risk array: under a profile in which options have a value, that value
+-- the forms after the risk array: an option value if the profile has option values, and otherwise nothing
 abbrev pub contract_back : ℕ → ProductKind → List FieldForm
 contract_back profile product = if (facts_of profile).options_have_value then an_option_value product ∷ [] else []
 
--- of a CONTRACT all
+-- all forms of a CONTRACT
 abbrev pub contract_forms : ℕ → ProductKind → List FieldForm
 contract_forms profile product = contract_front ++ repeat SCENARIOS (an_array_value ∷ []) ++ contract_back profile product
 
--- the place of a CONTRACT's first array value, and that of the field behind its risk array
+-- the index of a CONTRACT's first array value, and the index of the first field after its risk array
 abbrev pub array_place : ℕ
 array_place = 1 + length contract_front
 
@@ -152,7 +154,7 @@ extras_place = array_place + SCENARIOS
 abbrev pub tier_forms : List FieldForm
 tier_forms = form.Name ∷ form.Whole (pos 1) (pos MAX_TIER_NUMBER) ∷ form.Month ∷ form.Month ∷ []
 
--- of a spread those in front of its legs, and those of a leg
+-- the forms of a spread: the fields before its legs, and the fields of a leg
 abbrev pub intra_front : List FieldForm
 intra_front = form.Name ∷ form.Whole (pos 1) (pos MAX_PRIORITY) ∷ a_rate ∷ []
 
@@ -168,8 +170,8 @@ inter_front = form.Whole (pos 1) (pos MAX_PRIORITY) ∷ form.Whole (pos 0) (pos 
 abbrev pub inter_leg_forms : List FieldForm
 inter_leg_forms = form.Name ∷ form.Side ∷ form.Decimal (pos 1) (pos MAX_RATIO) ∷ []
 
--- the forms of a kind's fields behind the first, if it may have so many of them; those of a CONTRACT go by the file's profile and
--- by the kind of contract
+-- the forms of a kind's fields after the first, if the kind may have that many fields; the forms of a CONTRACT depend
+-- on the file's profile and on the kind of contract
 abbrev pub forms_of : Kind → ℕ → ProductKind → ℕ → Option (List FieldForm)
 forms_of kind.Set profile product = exactly set_forms
 forms_of kind.Commodity profile product = exactly commodity_forms
@@ -191,7 +193,7 @@ position_forms = form.Name ∷ form.Name ∷ a_quantity ∷ []
 abbrev pub order_forms : List FieldForm
 order_forms = form.Name ∷ form.Name ∷ form.Name ∷ a_quantity ∷ []
 
--- the text of a field, from 0
+-- the text of a field; the first has index 0
 abbrev pub text_at : Fields → ℕ → List ℕ
 text_at fields i = slice_index_or fields i []
 
@@ -206,7 +208,7 @@ product_at fields i =
     else if is_word (codes "C") (text_at fields i) then product.Call
     else product.Put
 
--- the forms of a record's fields behind the first under a profile, if its kind may have so many
+-- the forms of a record's fields after the first under a profile, if its kind may have that many fields
 abbrev pub layout_of : ℕ → Fields → Option (List FieldForm)
 layout_of profile fields =
     option_and_then (λ kind. forms_of kind profile (product_at fields 3) (length fields - 1)) (kind_of fields)
@@ -215,25 +217,25 @@ layout_of profile fields =
 abbrev pub all_have : (FieldForm → List ℕ → Bool) → List FieldForm → Fields → Bool
 all_have test forms fields = list_all (λ p. test p.0 p.1) (zip forms fields)
 
--- ---- what a record says, whose fields have their forms
+-- ---- the value of a record whose fields have their forms
 
--- the whole number at a place
+-- the whole number at an index, or 0
 abbrev pub whole_at : Fields → ℕ → ℤ
 whole_at fields i = unwrap_or (whole_number (text_at fields i)) (pos 0)
 
--- the decimal at a place, in 10^-4
+-- the decimal at an index in 10^-4, or 0
 abbrev pub decimal_at : Fields → ℕ → ℤ
 decimal_at fields i = unwrap_or (decimal_number (text_at fields i)) (pos 0)
 
--- a whole number that is not negative
+-- the non-negative whole number at an index
 abbrev pub count_at : Fields → ℕ → ℕ
 count_at fields i = positive_part (whole_at fields i)
 
--- a decimal that is not negative, in 10^-4
+-- the non-negative decimal at an index, in 10^-4
 abbrev pub ratio_at : Fields → ℕ → ℕ
 ratio_at fields i = positive_part (decimal_at fields i)
 
--- the method that a field names
+-- the minimum method that a field names
 abbrev pub method_at : Fields → ℕ → MinimumMethod
 method_at fields i = if is_word (codes "SUM") (text_at fields i) then method.Sum else method.Max
 
@@ -249,7 +251,7 @@ set_record r = record { id = text_at r 1; profile = count_at r 2; currency = tex
 abbrev pub commodity_record : Fields → Commodity
 commodity_record r = record { id = text_at r 1; minimum_rate = count_at r 2; method = method_at r 3 }
 
--- what a profile adds to a CONTRACT; one without a field for its option value has 0
+-- the fields that a profile adds to a CONTRACT; the option value is 0 if the record has no field for it
 abbrev pub extras_in : Fields → ContractExtras
 extras_in r = record { option_value = count_at r extras_place }
 
@@ -283,7 +285,7 @@ intra_leg r = record { tier = count_at r 0; side = side_at r 1; ratio = ratio_at
 abbrev pub inter_leg : Fields → InterLeg
 inter_leg r = record { commodity = text_at r 0; side = side_at r 1; ratio = ratio_at r 2 }
 
--- the fields of each leg, three by three
+-- the fields of each leg, in groups of three
 abbrev pub legs_of : Fields → List Fields
 legs_of [] = []
 legs_of (x ∷ []) = []
@@ -317,14 +319,14 @@ record_of_kind kind.Intra r = record_of.Intra (intra_record r)
 record_of_kind kind.Spot r = record_of.Spot (spot_record r)
 record_of_kind kind.Inter r = record_of.Inter (inter_record r)
 
--- what a parameter record without a fault says
+-- the value of a parameter record without a fault
 unfoldable pub param_record : Fields → Record
 param_record r = record_of_kind (unwrap_or (kind_of r) kind.Set) r
 
--- what a position record without a fault says
+-- the value of a position record without a fault
 unfoldable pub position_record : Fields → PositionRecord
 position_record r = record { account = text_at r 0; contract = text_at r 1; quantity = whole_at r 2 }
 
--- what an order record without a fault says
+-- the value of an order record without a fault
 unfoldable pub order_record : Fields → OrderRecord
 order_record r = record { order = text_at r 0; account = text_at r 1; contract = text_at r 2; quantity = whole_at r 3 }

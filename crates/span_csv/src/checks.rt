@@ -10,14 +10,14 @@ use crate::grammar::{FieldTest, Kind, fits, kind_named};
 use crate::row::{Row, text_at};
 use span_tables::limits::SCENARIOS;
 
-/// Whether a record is a SET.
+/// Returns whether a record is a SET.
 pub(crate) fn is_set(row: &Row) -> bool
     ensures { result ≡ is_set row.now }
 {
     text_at(row, 0) == b"SET".as_slice()
 }
 
-// The kind of a record, which is a SET where it is the first, and nowhere else.
+// Returns the kind of a record. The first record has to be a SET, and no other record may be one.
 fn check_kind(first: bool, at: usize, row: &Row) -> Result<Kind, ParamFault>
     ensures { MatchResult result
         (λ kind. (kind_of row.now ≡ Some kind) × IsFree (kind_faults first row.now))
@@ -36,7 +36,8 @@ fn check_kind(first: bool, at: usize, row: &Row) -> Result<Kind, ParamFault>
     }
 }
 
-// The number of fields of a record under a profile, and their forms and ranges. The values of a risk array are read with that.
+// Checks the number of fields of a record under a profile, and their forms and ranges. Also reads the values of a risk
+// array.
 fn check_fields(
     at: usize,
     profile: u8,
@@ -53,7 +54,7 @@ fn check_fields(
     let Some(layout) = kind.layout(profile, row) else {
         return Err(ParamFault::FieldCount { at });
     };
-    // One walk over the fields serves a record without a fault.
+    // A record without a fault needs only one pass over its fields.
     if fits(kind, profile, &layout, row, values) {
         return Ok(());
     }
@@ -67,8 +68,9 @@ fn check_fields(
     }
 }
 
-/// The kind of a record whose fields have their forms under a profile, or its lowest-numbered fault, as far as nothing
-/// else of the earlier records matters. The values of a risk array are read with that.
+/// Returns the kind of a record whose fields have their forms under a profile, or its lowest-numbered fault. Limits are
+/// not checked here. Of the earlier records only their presence and their profile matter. Also reads the values of a
+/// risk array.
 pub(crate) fn check_form(
     first: bool,
     at: usize,

@@ -1,4 +1,4 @@
-//! What a record says, whose fields have their forms.
+//! The value of a record whose fields have their forms.
 ghost use Rattle.std.specs.Prelude.{◌≡◌, ◌+◌, ◌<◌, ◌^◌, drop, map, true};
 ghost use Rattle.span_csv.specs.near.Grammar.{array_values, FitsKind, HasValues, leg_at};
 ghost use Rattle.span_csv.specs.Records.{commodity_record, contract_record, count_at, extras_in, inter_leg};
@@ -44,7 +44,7 @@ fn commodity_record(row: &Row) -> Commodity
     }
 }
 
-// What the profile adds: nothing where the record ends with its risk array.
+// Returns the values that the profile adds to a contract: none if the record ends with its risk array.
 fn extras(row: &Row) -> ContractExtras
     requires { count_at row.now EXTRAS < 2 ^ 32 }
     ensures { result ≡ extras_in row.now }
@@ -86,7 +86,7 @@ fn tier_record(row: &Row) -> Tier
     }
 }
 
-// The leg whose fields begin at a place.
+// Returns the leg whose fields begin at an index.
 fn intra_leg(row: &Row, at: usize) -> IntraLeg
     requires inside { at + 2 < 2 ^ 64 }
     requires tier { count_at row.now at < 2 ^ 32 }
@@ -135,7 +135,7 @@ fn spot_record(row: &Row) -> Spot
     }
 }
 
-// The leg whose fields begin at a place.
+// Returns the leg whose fields begin at an index.
 fn inter_leg(row: &Row, at: usize) -> InterLeg
     requires inside { at + 2 < 2 ^ 64 }
     requires commodity { is_name (text_at row.now at) ≡ true }
@@ -171,7 +171,7 @@ fn inter_record(row: &Row) -> InterRecord
     }
 }
 
-/// What a record of a kind says. The values are those of the risk array of a CONTRACT, which were read before.
+/// Returns the value of a record of a kind. `values` is the risk array of a CONTRACT, which has been read before.
 pub(crate) fn record_of_kind(kind: Kind, row: &Row, values: &[i64; SCENARIOS]) -> Record
     requires fits { FitsKind kind row.now }
     requires values { HasValues kind row.now values.now }

@@ -1,4 +1,4 @@
-//! Position files cut at ends of lines, into pieces that are read by themselves.
+//! Cuts position files at line ends, into pieces that are read by themselves.
 ghost use Rattle.std.specs.Prelude.{◌≡◌, ◌≤◌, IfOk, IfSome, drop, false, flat_map, length, max, take, true, vec_len};
 ghost use Rattle.span_csv.specs.Cuts.{BeginsWithNoMark, EndsInLineFeed, has_quote};
 ghost use Rattle.span_csv.specs.Records.{records_of};
@@ -6,20 +6,20 @@ ghost use Rattle.span_csv.specs.Records.{records_of};
 use memchr::memchr;
 use std::alloc::{AllocError, Global};
 
-// A file is cut into no more pieces than it has so many bytes.
+// The number of pieces is at most the number of bytes divided by this.
 const PIECE_BYTES: usize = 65536;
 
 // The first byte of a byte order mark.
 const MARK: u8 = 0xEF;
 
-// Whether a byte is a double quote.
+// Returns whether some byte is a double quote.
 fn has_quote(bytes: &[u8]) -> bool
     ensures { result ≡ has_quote bytes.now }
 {
     memchr(b'"', bytes).is_some()
 }
 
-// Whether a piece may begin so: there is one, and it has no byte order mark at its start.
+// Returns whether a piece may begin with these bytes: there is a first byte, and it does not begin a byte order mark.
 fn may_begin(bytes: &[u8]) -> bool
     ensures { result ≡ true → BeginsWithNoMark bytes.now }
 {
@@ -29,7 +29,7 @@ fn may_begin(bytes: &[u8]) -> bool
     }
 }
 
-// Where bytes can be cut, at so many or more: behind the first line feed there behind which a piece may begin.
+// Returns the index of the first possible cut from `least` on: after a line feed, and where a piece may begin.
 fn cut_from(bytes: &[u8], least: usize) -> Option<usize>
     requires { least ≤ length bytes.now }
     ensures within { IfSome result (λ at. at ≤ length bytes.now) }
@@ -46,7 +46,7 @@ fn cut_from(bytes: &[u8], least: usize) -> Option<usize>
     None
 }
 
-// Bytes without a double quote in so many pieces of about equal size, or fewer where their lines are long.
+// Cuts bytes without a double quote into `count` pieces of about equal size, or into fewer if their lines are long.
 fn cut_plain<'a>(alloc: Global, bytes: &'a [u8], count: usize) -> Result<Vec<&'a [u8]>, AllocError>
     requires count { 1 ≤ count }
     requires plain { has_quote bytes.now ≡ false }
@@ -68,8 +68,9 @@ fn cut_plain<'a>(alloc: Global, bytes: &'a [u8], count: usize) -> Result<Vec<&'a
     Ok(pieces)
 }
 
-/// A position file in pieces, at most `most` of them, and at least one: each record stands in one piece, and the records of the pieces, in
-/// their order, are those of the file. A file with a double quote is one piece, since a line feed inside quotes ends no record.
+/// Cuts a position file into at least one and at most `most` pieces. Each record is in one piece, and the records of
+/// the pieces, joined in order, are the records of the file. A file with a double quote is one piece, since a line feed
+/// inside quotes does not end a record.
 pub fn cut_at_lines<'a>(
     alloc: Global,
     bytes: &'a [u8],

@@ -1,4 +1,4 @@
-//! Why a file is not read. `at` is a record's number, from 1.
+//! The faults with which files are rejected. `at` is the number of a record, starting with 1.
 ghost use Rattle.span_csv.specs.declared.faults.OrderFault.TheVariants as order;
 ghost use Rattle.span_csv.specs.declared.faults.ParamFault.TheVariants as param;
 ghost use Rattle.span_csv.specs.declared.faults.PositionFault.TheVariants as position;
@@ -9,20 +9,20 @@ use std::error::Error;
 use std::fmt;
 use std::fmt::Display;
 
-/// Why a parameter file is not read.
+/// A reason to reject a parameter file.
 #[derive(Clone, Copy, Debug, Drop, PartialEq, Eq)]
 pub enum ParamFault {
-    /// P1: the first record is no SET, or there is none (`at` is then 0).
+    /// P1: the first record is not a SET, or there is no record (`at` is then 0).
     NoSet { at: usize },
     /// P2: a SET that is not the first record.
     SecondSet { at: usize },
-    /// P3: none of the kinds.
+    /// P3: the first field names no kind of record.
     UnknownKind { at: usize },
-    /// P4: a number of fields that its kind does not have.
+    /// P4: the number of fields does not match the kind.
     FieldCount { at: usize },
-    /// P5: a name, currency, method, type or side that is none.
+    /// P5: an invalid name, currency, method, type or side.
     BadName { at: usize },
-    /// P6: a whole number, decimal or month that is none.
+    /// P6: an invalid whole number, decimal or month.
     BadNumber { at: usize },
     /// P7: a number or month outside its range.
     OutOfRange { at: usize },
@@ -32,37 +32,37 @@ pub enum ParamFault {
     OutOfMemory,
 }
 
-/// Why a position file is not read.
+/// A reason to reject a position file.
 #[derive(Clone, Copy, Debug, Drop, PartialEq, Eq)]
 pub enum PositionFault {
     /// Q1: not three fields.
     FieldCount { at: usize },
-    /// Q2: an account or contract that is no name.
+    /// Q2: the account or the contract is not a name.
     BadName { at: usize },
-    /// Q3: a quantity that is no whole number.
+    /// Q3: the quantity is not a whole number.
     BadNumber { at: usize },
-    /// Q4: a quantity outside its range.
+    /// Q4: the quantity is outside its range.
     OutOfRange { at: usize },
-    /// Q5: the first record of one account too many.
+    /// Q5: the first record of the first account beyond the limit.
     TooManyAccounts { at: usize },
     /// Out of memory.
     OutOfMemory,
 }
 
-/// Why an order file is not read.
+/// A reason to reject an order file.
 #[derive(Clone, Copy, Debug, Drop, PartialEq, Eq)]
 pub enum OrderFault {
     /// O1: not four fields.
     FieldCount { at: usize },
-    /// O2: an order, account or contract that is no name.
+    /// O2: the order, the account or the contract is not a name.
     BadName { at: usize },
-    /// O3: a quantity that is no whole number.
+    /// O3: the quantity is not a whole number.
     BadNumber { at: usize },
-    /// O4: a quantity outside its range.
+    /// O4: the quantity is outside its range.
     OutOfRange { at: usize },
-    /// O5: the first record of one order too many.
+    /// O5: the first record of the first order beyond the limit.
     TooManyOrders { at: usize },
-    /// O6: another account than that of the first record of its order.
+    /// O6: the account differs from the account of the order's first record.
     SecondAccount { at: usize },
     /// Out of memory.
     OutOfMemory,
@@ -164,7 +164,7 @@ impl<T: Drop> From<AllocFailed<T>> for PositionFault {
     }
 }
 
-/// The fault of an order's record that it has as a position under its order's name.
+/// Converts the fault that an order's record has as a position under its order's name.
 impl From<PositionFault> for OrderFault {
     ghost use Rattle.span_csv.specs.near.OrderReading.{as_order_fault};
 

@@ -1,4 +1,4 @@
-//! What a field says that has its form.
+//! The values of fields that have their forms.
 ghost use Rattle.std.specs.Prelude.{◌≡◌, ◌<◌, ◌^◌, length, nat_abs, true};
 ghost use Rattle.span_csv.specs.Records.{count_at, decimal_at, method_at, product_at, ratio_at, side_at, text_at, whole_at};
 ghost use Rattle.span_money.specs.Numbers.{positive_part};
@@ -11,7 +11,7 @@ use span_tables::name::Name;
 use span_tables::records::{MinimumMethod, ProductKind};
 use span_tables::sides::Side;
 
-/// The name at a place.
+/// Returns the name at an index.
 pub(crate) fn name_at(row: &Row, i: usize) -> Name
     requires { is_name (text_at row.now i) ≡ true }
     ensures { result ≡ text_at row.now i }
@@ -19,7 +19,7 @@ pub(crate) fn name_at(row: &Row, i: usize) -> Name
     Name::new(text_at(row, i)).unwrap()
 }
 
-/// The currency at a place.
+/// Returns the currency at an index.
 pub(crate) fn currency_at(row: &Row, i: usize) -> [u8; 3]
     requires { length (text_at row.now i) ≡ 3 }
     ensures { result ≡ text_at row.now i }
@@ -29,7 +29,7 @@ pub(crate) fn currency_at(row: &Row, i: usize) -> [u8; 3]
     currency
 }
 
-/// The kind of contract at a place.
+/// Returns the kind of contract at an index.
 pub(crate) fn product_at(row: &Row, i: usize) -> ProductKind
     ensures { result ≡ product_at row.now i }
 {
@@ -40,7 +40,7 @@ pub(crate) fn product_at(row: &Row, i: usize) -> ProductKind
     }
 }
 
-/// The method at a place.
+/// Returns the minimum method at an index.
 pub(crate) fn method_at(row: &Row, i: usize) -> MinimumMethod
     ensures { result ≡ method_at row.now i }
 {
@@ -50,7 +50,7 @@ pub(crate) fn method_at(row: &Row, i: usize) -> MinimumMethod
     }
 }
 
-/// The side at a place.
+/// Returns the side at an index.
 pub(crate) fn side_at(row: &Row, i: usize) -> Side
     ensures { result ≡ side_at row.now i }
 {
@@ -60,21 +60,21 @@ pub(crate) fn side_at(row: &Row, i: usize) -> Side
     }
 }
 
-// How far a number is above 0.
+// Returns the number, or 0 if it is negative.
 fn positive_part(n: i64) -> u64
     ensures { result ≡ positive_part n }
 {
     if n < 0 { 0 } else { n as u64 }
 }
 
-// The whole number at a place, or 0.
+// Returns the whole number at an index, or 0 if there is none.
 fn whole_at(row: &Row, i: usize) -> i64
     ensures { result ≡ whole_at row.now i }
 {
     parse_whole(text_at(row, i)).unwrap_or(0)
 }
 
-/// The whole number at a place, which is not negative.
+/// Returns the non-negative whole number at an index.
 pub(crate) fn count_at(row: &Row, i: usize) -> u32
     requires { count_at row.now i < 2 ^ 32 }
     ensures { result ≡ count_at row.now i }
@@ -82,7 +82,7 @@ pub(crate) fn count_at(row: &Row, i: usize) -> u32
     positive_part(whole_at(row, i)) as u32
 }
 
-/// The profile that the version at a place tells.
+/// Returns the profile for the version at an index.
 pub(crate) fn profile_at(row: &Row, i: usize) -> u8
     requires { count_at row.now i < 2 ^ 8 }
     ensures { result ≡ count_at row.now i }
@@ -103,7 +103,7 @@ fn ten_thousandths_at(row: &Row, i: usize) -> u32
     positive_part(decimal_at(row, i)) as u32
 }
 
-/// The delta at a place.
+/// Returns the delta at an index, in 10^-4.
 pub(crate) fn delta_at(row: &Row, i: usize) -> Delta
     requires { nat_abs (decimal_at row.now i) < 2 ^ 31 }
     ensures { result ≡ decimal_at row.now i }
@@ -111,7 +111,7 @@ pub(crate) fn delta_at(row: &Row, i: usize) -> Delta
     Delta::new(decimal_at(row, i) as i32)
 }
 
-/// The scale at a place.
+/// Returns the scale at an index, in 10^-4.
 pub(crate) fn scale_at(row: &Row, i: usize) -> Scale
     requires { ratio_at row.now i < 2 ^ 32 }
     ensures { result ≡ ratio_at row.now i }
@@ -119,7 +119,7 @@ pub(crate) fn scale_at(row: &Row, i: usize) -> Scale
     Scale::new(ten_thousandths_at(row, i))
 }
 
-/// The ratio at a place.
+/// Returns the ratio at an index, in 10^-4.
 pub(crate) fn ratio_at(row: &Row, i: usize) -> Ratio
     requires { ratio_at row.now i < 2 ^ 32 }
     ensures { result ≡ ratio_at row.now i }

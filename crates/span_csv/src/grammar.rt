@@ -22,7 +22,7 @@ use span_tables::profiles::facts_of;
 use span_tables::records::ProductKind;
 use std::marker::Model;
 
-/// What a field may be. A whole number and a decimal have their lowest and their highest value, a decimal in 10^-4.
+/// The form of a field. A whole number and a decimal have their lowest and highest value, for a decimal in 10^-4.
 #[derive(Clone, Copy)]
 pub enum FieldForm {
     Name,
@@ -35,7 +35,7 @@ pub enum FieldForm {
     Month,
 }
 
-/// The kinds of records.
+/// The kinds of records in a parameter file.
 #[derive(Clone, Copy)]
 pub enum Kind {
     Set,
@@ -47,8 +47,8 @@ pub enum Kind {
     Inter,
 }
 
-/// What is tested of a field: that a word is of its form, that a number is of its form, or that a word is of its form and a
-/// number in its range.
+/// The test of a field: `Word` tests the form of words, `Number` the form of numbers, and `All` the form of words and
+/// the range of numbers.
 #[derive(Clone, Copy)]
 pub(crate) enum FieldTest {
     Word,
@@ -56,7 +56,7 @@ pub(crate) enum FieldTest {
     All,
 }
 
-/// A version, the number of a profile. It and the numbers below stand from their lowest to their highest value.
+/// A version, which is the number of a profile. The bounds of this and the following numbers are inclusive.
 pub(crate) const VERSION: FieldForm = FieldForm::Whole(1, MAX_PROFILE as i64);
 
 const RATE: FieldForm = FieldForm::Whole(0, MAX_RATE as i64);
@@ -99,7 +99,7 @@ static CONTRACT_FRONT: [FieldForm; 6] = [
 
 static ARRAY_VALUES: [FieldForm; SCENARIOS] = [ARRAY_VALUE; SCENARIOS];
 
-// The back of a future's record and of an option's, where options have a value.
+// The fields after the risk array of a future and of an option, if options have a value.
 static FUTURE_BACK: [FieldForm; 1] = [NO_VALUE];
 
 static OPTION_BACK: [FieldForm; 1] = [OPTION_VALUE];
@@ -121,7 +121,7 @@ static INTER_FRONT: [FieldForm; 2] = [PRIORITY, BASIS_POINTS];
 
 static INTER_LEGS: [[FieldForm; 3]; 4] = [[FieldForm::Name, FieldForm::Side, RATIO]; 4];
 
-/// The forms of a record's fields behind the first, in three parts.
+/// The forms of a record's fields after the first, in three parts.
 #[derive(Drop)]
 pub(crate) struct Layout {
     front: &'static [FieldForm],
@@ -140,7 +140,7 @@ impl Model for Layout {
     ghost invariant = { λ l. length l.front.now + length l.middle.now + length l.back.now < 2 ^ 32 };
 }
 
-/// The kind that a word names.
+/// Returns the kind that a word names.
 pub(crate) fn kind_named(word: &[u8]) -> Option<Kind>
     ensures { result ≡ kind_named word.now }
 {
@@ -163,7 +163,7 @@ pub(crate) fn kind_named(word: &[u8]) -> Option<Kind>
     }
 }
 
-// A layout of the forms in front and the forms of so many legs.
+// Returns a layout of the front forms and the forms of a number of legs.
 fn with_times(
     front: &'static [FieldForm],
     legs: &'static [[FieldForm; 3]; 4],
@@ -181,7 +181,7 @@ fn with_times(
     }
 }
 
-// A layout of these forms alone.
+// Returns a layout of these forms only.
 fn alone(forms: &'static [FieldForm]) -> Layout
     requires { length forms.now < 2 ^ 32 }
     ensures { result ≡ forms.now }
@@ -193,7 +193,7 @@ fn alone(forms: &'static [FieldForm]) -> Layout
     }
 }
 
-// What a CONTRACT has behind its risk array: under some profiles an option value.
+// Returns the forms after the risk array of a CONTRACT: an option value under some profiles.
 fn contract_back(profile: u8, product: ProductKind) -> &'static [FieldForm]
     ensures forms { result.now ≡ contract_back profile product }
     ensures few { length result.now ≤ 1 }
@@ -217,7 +217,7 @@ fn contract_forms(profile: u8, product: ProductKind) -> Layout
     }
 }
 
-// The layout of a spread's record with so many fields behind the first: it has 2 to 4 legs.
+// Returns the layout of a spread's record with this number of fields after the first, if that makes 2 to 4 legs.
 fn with_legs(
     front: &'static [FieldForm],
     legs: &'static [[FieldForm; 3]; 4],
@@ -233,7 +233,7 @@ fn with_legs(
         .or(with_times(front, legs, 4).exactly(fields))
 }
 
-// Whether each field from a place on passes the test of its form, one for each form.
+// Returns whether the fields from an index on pass the tests of these forms, one field for each form.
 fn all_from(test: FieldTest, forms: &[FieldForm], row: &Row, place: usize) -> bool
     requires room { place + length forms.now ≤ length row.now }
     requires small { place + length forms.now < 2 ^ 64 }
@@ -247,7 +247,7 @@ fn all_from(test: FieldTest, forms: &[FieldForm], row: &Row, place: usize) -> bo
     true
 }
 
-// Whether each value of a risk array is a number in its range. If so, `values` has them.
+// Returns whether each value of a risk array is a number in its range. If so, `values` contains them.
 fn read_values(row: &Row, values: &mut [i64; SCENARIOS]) -> bool
     requires { EXTRAS ≤ length row.now }
     ensures told { result ≡ list_all (passes field_test.All an_array_value) (take SCENARIOS (drop array_place row.now)) }
@@ -263,7 +263,8 @@ fn read_values(row: &Row, values: &mut [i64; SCENARIOS]) -> bool
     true
 }
 
-// Whether each field of a CONTRACT behind the first passes all tests of its form. If so, `values` has those of its risk array.
+// Returns whether each field of a CONTRACT after the first passes all tests of its form. If so, `values` contains its
+// risk array.
 fn fits_contract(profile: u8, row: &Row, values: &mut [i64; SCENARIOS]) -> bool
     requires { length row.now ≡ length (contract_forms profile (product_at row.now 3)) + 1 }
     ensures told { result
@@ -285,7 +286,7 @@ impl Layout {
     ghost use Rattle.span_csv.specs.near.Grammar.{passes};
     ghost use Rattle.span_csv.specs.Records.{all_have, exactly};
 
-    // How many forms the layout has.
+    // Returns the number of forms in the layout.
     #[tactic(auto, using(crate::proofs::FormLemmas::layout_length))]
     fn len(&self) -> usize
         ensures { result ≡ length self.now }
@@ -293,7 +294,7 @@ impl Layout {
         self.front.len() + self.middle.len() + self.back.len()
     }
 
-    // The layout, if a record has just so many fields behind the first.
+    // Returns the layout if a record has exactly this number of fields after the first.
     fn exactly(self, fields: usize) -> Option<Layout>
         ensures { result ≡ exactly self fields }
     {
@@ -304,7 +305,7 @@ impl Layout {
         }
     }
 
-    /// Whether each field behind the first passes the test of its form.
+    /// Returns whether each field after the first passes the test of its form.
     pub(crate) fn all_have(&self, test: FieldTest, row: &Row) -> bool
         requires { length row.now ≡ length self.now + 1 }
         ensures { result ≡ all_have (passes test) self.now (drop 1 row.now) }
@@ -322,7 +323,7 @@ impl Layout {
 }
 
 impl Kind {
-    /// The forms of a record's fields behind the first under a profile, if the kind may have so many of them.
+    /// Returns the forms of a record's fields after the first under a profile, if the kind may have that many fields.
     pub(crate) fn layout(self, profile: u8, row: &Row) -> Option<Layout>
         requires { 1 ≤ length row.now }
         ensures value { result ≡ forms_of self profile (product_at row.now 3) (length row.now - 1) }
@@ -341,8 +342,8 @@ impl Kind {
     }
 }
 
-/// Whether each field of a record behind the first passes all tests of its form, where that is the layout for its kind. If so, `values`
-/// has those of the risk array of a CONTRACT.
+/// Returns whether each field of a record after the first passes all tests of its form, given the layout for the
+/// record's kind. If so, `values` contains the risk array of a CONTRACT.
 pub(crate) fn fits(
     kind: Kind,
     profile: u8,
@@ -361,7 +362,7 @@ pub(crate) fn fits(
     }
 }
 
-// Three letters of `A` to `Z`.
+// Returns whether a text is three letters from `A` to `Z`.
 fn is_currency(text: &[u8]) -> bool
     ensures { result ≡ (length text.now == 3) && list_all is_ascii_uppercase text.now }
 {
@@ -374,7 +375,7 @@ fn are_uppercase(text: &[u8]) -> bool
     text.iter().all(|byte| byte.is_ascii_uppercase())
 }
 
-// Whether there is a number, from the lowest to the highest.
+// Returns whether there is a number, and it is between the lowest and the highest value.
 fn is_within(low: i64, high: i64, number: Option<i64>) -> bool
     ensures { result ≡ is_within low high number }
 {
@@ -423,7 +424,7 @@ impl FieldForm {
         }
     }
 
-    /// Whether a field's text passes the test of its form.
+    /// Returns whether a field's text passes the test of its form.
     #[inline(always)]
     pub(crate) fn passes(self, test: FieldTest, text: &[u8]) -> bool
         ensures { result ≡ passes test self text.now }

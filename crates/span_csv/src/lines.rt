@@ -1,5 +1,5 @@
-//! The records of bytes that have no double quote and no carriage return: each line that is not empty is one, and each comma in it ends a
-//! field.
+//! The records of bytes without a double quote and a carriage return: each non-empty line is a record, and each comma
+//! in it ends a field.
 ghost use Rattle.std.specs.Prelude.{◌≡◌, ◌∷◌, [], ◌<◌, IfOk, MatchBool, length, true, IfSome};
 ghost use Rattle.csv.specs.Reading.{strip_bom};
 ghost use Rattle.csv.specs.Records.{fields_of, partial_of};
@@ -16,14 +16,14 @@ use std::alloc::AllocError;
 // The byte order mark.
 const MARK: [u8; 3] = [0xEF, 0xBB, 0xBF];
 
-/// Whether bytes have no double quote and no carriage return.
+/// Returns whether bytes have no double quote and no carriage return.
 pub(crate) fn are_lines(bytes: &[u8]) -> bool
     ensures { result ≡ true → AreLines bytes.now }
 {
     memchr2(b'"', b'\r', bytes).is_none()
 }
 
-/// The bytes behind a byte order mark, if they begin with one.
+/// Returns the bytes after a byte order mark, or all bytes if they do not begin with one.
 #[tactic(auto, using(crate::proofs::PlainLines::mark_taken))]
 pub(crate) fn without_mark(bytes: &[u8]) -> &[u8]
     ensures { result.now ≡ strip_bom bytes.now }
@@ -35,7 +35,7 @@ pub(crate) fn without_mark(bytes: &[u8]) -> &[u8]
     }
 }
 
-// The bytes behind the line feeds in front, which are empty lines.
+// Returns the bytes without the line feeds at their start, which are empty lines.
 fn without_empty_lines(bytes: &[u8]) -> &[u8]
     requires { AreLines bytes.now }
     ensures lines { AreLines result.now }
@@ -49,7 +49,7 @@ fn without_empty_lines(bytes: &[u8]) -> &[u8]
     left
 }
 
-// Where the first comma or line feed is.
+// Returns the index of the first comma or line feed.
 fn field_end(bytes: &[u8]) -> Option<usize>
     ensures { IsFirstByte (is_byte2 44 10) bytes.now result }
 {
@@ -58,8 +58,8 @@ fn field_end(bytes: &[u8]) -> Option<usize>
         .position(|byte| *byte == b',' || *byte == b'\n')
 }
 
-/// Appends the fields of the line in front, which are lent from the bytes. Returns the bytes behind the line, or `None` if there is no room
-/// for all its fields.
+/// Appends the fields of the first line, which are borrowed from the bytes. Returns the bytes after the line, or `None`
+/// if there is no room for all its fields.
 pub(crate) fn lend_fields<'a>(
     fields: &mut ArrayVec<&'a [u8], LENT_FIELDS>,
     bytes: &'a [u8],
@@ -88,7 +88,7 @@ pub(crate) fn lend_fields<'a>(
     Some(&[])
 }
 
-/// Appends the fields of the line in front to a row. Returns the bytes behind the line.
+/// Appends the fields of the first line to a row. Returns the bytes after the line.
 pub(crate) fn push_fields<'a>(row: &mut ByteRecord, bytes: &'a [u8]) -> Result<&'a [u8], AllocError>
     requires lines { AreLines bytes.now }
     requires whole { partial_of row.old ≡ [] }
@@ -108,7 +108,7 @@ pub(crate) fn push_fields<'a>(row: &mut ByteRecord, bytes: &'a [u8]) -> Result<&
     Ok(&[])
 }
 
-/// The record in front of what is left into `row`, and whether there was one.
+/// Reads the next record into `row` and removes it from `left`. Returns whether there was one.
 pub(crate) fn next_line<'a>(left: &mut &'a [u8], row: &mut Row<'a>) -> Result<bool, AllocError>
     requires { AreLines left.old.now }
     ensures found { IfOk result (λ found. MatchBool found (rows_in left.old.now ≡ row.new ∷ rows_in left.new.now)

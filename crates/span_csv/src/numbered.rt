@@ -1,4 +1,4 @@
-//! Records with a name in front that numbers them: a position's account, or an order, which stands in place of an account.
+//! Records that are numbered by the name in front: a position's account, or an order in the role of an account.
 ghost use Rattle.std.specs.Prelude.{◌≡◌, ◌+◌, ◌<◌, ◌++◌, ◌∷◌, [], ◌≤◌, ⊤, ℕ, IfOk, IsTrue, ◌↔◌, MatchBool};
 ghost use Rattle.std.specs.Prelude.{cond, MatchResult, OnOk, Ok, Err, Some, false, length, nat_abs, slice_get, true};
 ghost use Rattle.span_money.specs.Numbers.{whole_number};
@@ -19,7 +19,7 @@ use span_tables::limits::MAX_QUANTITY;
 use span_tables::name::{Name, is_name};
 use span_tables::records::NumberedPosition;
 
-/// Whether a quantity is in its range.
+/// Returns whether a quantity is in its range.
 pub(crate) fn is_quantity(quantity: i64) -> bool
     ensures value { result ≡ is_quantity quantity }
     ensures size { result ≡ true → nat_abs quantity ≤ MAX_QUANTITY }
@@ -27,7 +27,7 @@ pub(crate) fn is_quantity(quantity: i64) -> bool
     quantity.unsigned_abs() <= u64::from(MAX_QUANTITY)
 }
 
-// The quantity that a text is.
+// Returns the quantity of a text.
 fn quantity_from(at: usize, text: &[u8]) -> Result<i32, PositionFault>
     ensures value { result ≡ quantity_from at (whole_number text.now) }
     ensures size { IfOk result (λ quantity. nat_abs quantity ≤ MAX_QUANTITY) }
@@ -41,14 +41,14 @@ fn quantity_from(at: usize, text: &[u8]) -> Result<i32, PositionFault>
     Ok(quantity as i32)
 }
 
-// How many names in front of a record need no test: its first one, if that stands at a place.
+// Returns how many names at the start of a record need no test: the first one, if it is the name at a known index.
 fn known_names(stands: bool) -> usize
     ensures { result ≡ cond stands 1 0 }
 {
     if stands { 1 } else { 0 }
 }
 
-// Whether so many fields in front are names, of which the first `tested` are known to be.
+// Returns whether the first `names` fields are names. The first `tested` of them are known to be.
 #[inline(always)]
 fn are_names(row: &Row, tested: usize, names: usize) -> bool
     requires few { tested ≤ names }
@@ -65,7 +65,8 @@ fn are_names(row: &Row, tested: usize, names: usize) -> bool
     true
 }
 
-/// The quantity of a record of so many names, whose number is `at`. The first `tested` of the names are known to be some.
+/// Returns the quantity of a record with this number of names. `at` is the number of the record. The first `tested`
+/// names are known to be names.
 #[inline(always)]
 #[tactic(auto, unfolding(crate::specs::near::NumberedReading::quantity_alone))]
 pub(crate) fn quantity(
@@ -91,7 +92,7 @@ pub(crate) fn quantity(
     quantity_from(at, field(row, names))
 }
 
-/// Whether a name stands at a place.
+/// Returns whether a name is the one at an index.
 pub(crate) fn stands_at(known: &[Name], place: u16, name: &[u8]) -> bool
     ensures at { IsTrue result ↔ (slice_get known.now place ≡ Some name.now) }
     ensures is_name { IsTrue result → is_name name.now ≡ true }
@@ -102,14 +103,15 @@ pub(crate) fn stands_at(known: &[Name], place: u16, name: &[u8]) -> bool
     }
 }
 
-// Whether a name is one more than there may be.
+// Returns whether a name is one more than the maximum.
 fn is_one_too_many(known: &IndexSet<Name>, most: usize, name: &Name) -> bool
     ensures { result ≡ is_one_too_many most known.now.keys name.now }
 {
     !known.contains(name) && known.len() == most
 }
 
-/// The place of a name, which is put last where it is new, also where it is one too many. It may be known to stand at `last`.
+/// Returns the index of a name. A new name is appended, even if it is one too many. If `stands` is true, the name is at
+/// the index `last`.
 #[inline(always)]
 #[tactic(auto, using(span_tables::proofs::NumberedLaws::among_at))]
 pub(crate) fn place(
@@ -143,7 +145,7 @@ pub(crate) fn place(
     Ok(place as u16)
 }
 
-// A position in a contract of this name, which was tested.
+// Returns a position in a contract whose name has been tested.
 fn position_at(account: u16, quantity: i32, contract: &[u8]) -> NumberedPosition
     requires { is_name contract.now ≡ true }
     ensures { result ≡ record { contract = contract.now; account = account; quantity = quantity } }
@@ -155,14 +157,14 @@ fn position_at(account: u16, quantity: i32, contract: &[u8]) -> NumberedPosition
     }
 }
 
-// The place of the last record's name, or the first one where there is no record.
+// Returns the index of the last record's name, or 0 if there is no record.
 fn last_place(earlier: &[NumberedPosition]) -> u16 {
     earlier.last().map_or(0, |position| position.account)
 }
 
-/// The position of the record behind the earlier ones, which these names number. `names` is how many names stand in front of its quantity:
-/// the first numbers it, and the last is its contract's. At most `most` names may number records. The last record's name, which needs no
-/// test, is tried first.
+/// Returns the position of the record after the earlier ones, which are numbered by the known names. `names` is the
+/// number of names before its quantity: the first numbers it, and the last is its contract's. At most `most` names may
+/// number records. The last record's name is compared first, since it needs no test.
 #[inline(always)]
 pub(crate) fn next_position(
     names: usize,

@@ -1,4 +1,5 @@
-//! Laws of the definitions of an order file, in the format's own words: each is the contract of a function that does nothing.
+//! Lemmas on the definitions of an order file, in the terms of the format. Each is the contract of a function with an
+//! empty body.
 ghost use Rattle.std.specs.Prelude.{◌≡◌, ℕ, All, Bool, List, [], ◌∷◌, ◌++◌, Some, None, Ok, codes, false, length, map, true};
 ghost use Rattle.span_csv.specs.OrderFaults.{changes_account, exceeds_orders, order_fault, order_faults, orders_of};
 ghost use Rattle.span_csv.specs.Records.{Fields, text_at};
@@ -11,7 +12,8 @@ ghost use Rattle.span_tables.specs.Orders.{account_of_order};
 ghost use Rattle.span_tables.specs.declared.limits.TheConstants.{MAX_ORDERS};
 ghost use Rattle.span_tables.specs.declared.records.OrderRecord.{OrderRecord};
 
-/// The fault of an order file is that of the first record with one, and there is none only where no record has one.
+/// The fault of an order file is the fault of the first record that has one. There is no fault only if no record has
+/// one.
 pub fn first_faulty_order_counts()
     ensures first { (rs : List Fields) (y : OrderFault) → order_fault rs ≡ Some y
         → IsFirstFault (λ earlier x. first_that_holds (order_faults earlier x)) [] rs y }
@@ -22,7 +24,7 @@ pub fn first_faulty_order_counts()
         → order_fault rs ≡ None }
 {}
 
-/// Of the faults that a record may have, the first whose test holds counts, and there is none only where no test holds.
+/// The fault of a record is the first of its possible faults whose test is true. There is none only if no test is true.
 pub fn lowest_fault_counts()
     ensures first { (front rest : List (Bool × (ℕ → OrderFault))) (y : ℕ → OrderFault)
         → All (λ x. x.0 ≡ false) front → first_that_holds (front ++ (true, y) ∷ rest) ≡ Some y }
@@ -30,7 +32,7 @@ pub fn lowest_fault_counts()
         → first_that_holds faults ≡ None }
 {}
 
-/// A record of a new order is refused where there are as many orders as there may be, and only there.
+/// A record of a new order is rejected exactly if there are already as many orders as the maximum.
 pub fn orders_are_limited()
     ensures refused { (earlier : List Fields) (order account contract : List ℕ)
         → is_name order ≡ true → is_name account ≡ true → is_name contract ≡ true
@@ -45,7 +47,7 @@ pub fn orders_are_limited()
         → first_that_holds (order_faults earlier (order ∷ account ∷ contract ∷ codes "1" ∷ [])) ≡ None }
 {}
 
-/// All records of an accepted file that have one order name have one account, that of the order.
+/// All records of an accepted file with the same order name have the same account, the account of the order.
 pub fn each_order_has_one_account()
     ensures { (bytes : List ℕ) (records : List OrderRecord) → orders_of bytes ≡ Ok records
         → All (λ r. r.account ≡ account_of_order records r.order) records }

@@ -1,4 +1,5 @@
-//! The reader of order files: each record is read as a position under its order's name, with the account of each order beside.
+//! The reader of order files. Each record is read as a position under its order's name, and the account of each order
+//! is kept next to it.
 ghost use Rattle.std.specs.Prelude.{◌≡◌, ◌≤◌, ◌++◌, ◌∷◌, [], ⊤, IfOk, MatchBool, MatchResult, OnOk, Ok, Err, false, length, true};
 ghost use Rattle.span_csv.specs.OrderFaults.{is_memory, orders_of};
 ghost use Rattle.span_csv.specs.declared.faults.OrderFault.TheVariants as fault;
@@ -20,10 +21,11 @@ use span_tables::raw::{RawOrders, RawPositions};
 use span_tables::records::NumberedPosition;
 use std::alloc::Global;
 
-// The names of a record, in front of its quantity: an order's, an account's and a contract's.
+// The number of names in a record before its quantity: the order's, the account's and the contract's.
 const ORDER_NAMES: usize = 3;
 
-// Takes the account that a record gives the order at a place: the first record of an order is at the place behind all.
+// Takes the account that a record gives the order at an index. The first record of an order has the index after all
+// known orders.
 fn take_account(
     at: usize,
     accounts: &mut Vec<Name>,
@@ -47,7 +49,8 @@ fn take_account(
     Ok(())
 }
 
-// The order's record behind the earlier ones, which are numbered by these orders, with the account of each.
+// Returns the order record after the earlier ones, which are numbered by these orders. `accounts` has the account of
+// each order.
 fn next_order(
     earlier: &[NumberedPosition],
     orders: &mut IndexSet<Name>,
@@ -72,7 +75,7 @@ fn next_order(
     Ok(position)
 }
 
-// Reads each row that is left of a file onto `records`, and its order, where it is new, into `orders`, with its account in `accounts`.
+// Appends each remaining row of a file to `records`. A new order is added to `orders`, and its account to `accounts`.
 fn read_order_rows<'a>(
     rows: &mut Rows<'a>,
     row: &mut Row<'a>,
@@ -97,7 +100,7 @@ fn read_order_rows<'a>(
     Ok(())
 }
 
-/// The records of an order file, or the first record with a fault and its lowest-numbered fault, of O1 to O6
+/// Reads the records of an order file. Fails with the lowest-numbered fault, O1 to O6, of the first record that has one
 /// (docs/FORMATS.md, "Order file" and "Faults").
 pub fn read_orders(alloc: Global, bytes: &[u8]) -> Result<RawOrders, OrderFault>
     ensures { Gives is_memory result (orders_of bytes.now) }

@@ -17,8 +17,8 @@ use span_tables::raw::RawTables;
 use span_tables::records::Record;
 use std::alloc::{AllocError, Global};
 
-// What the record says behind `earlier` others, of which those were counted that count. It is counted itself also where it has the fault
-// that it is one too many.
+// Returns the value of the record after `earlier` others. The tally counts records without any of P1 to P7, and so
+// counts this one even if it is one too many.
 fn next_record(tally: &mut Tally, earlier: usize, row: &Row) -> Result<Record, ParamFault>
     requires tallied { HasTallied tally.old earlier }
     requires room { earlier + 1 < 2 ^ 64 }
@@ -38,7 +38,7 @@ fn next_record(tally: &mut Tally, earlier: usize, row: &Row) -> Result<Record, P
     Ok(record_of_kind(kind, row, &values))
 }
 
-// Reads each row of a file onto `records`, of which there are none before.
+// Appends each row of a file to `records`, which is empty before.
 fn read_params_onto<'a>(
     rows: &mut Rows<'a>,
     row: &mut Row<'a>,
@@ -60,8 +60,8 @@ fn read_params_onto<'a>(
     Ok(())
 }
 
-/// The records of a parameter file, or the first record with a fault and its lowest-numbered fault, of P1 to P8
-/// (docs/FORMATS.md, "Parameter file" and "Faults").
+/// Reads the records of a parameter file. Fails with the lowest-numbered fault, P1 to P8, of the first record that has
+/// one (docs/FORMATS.md, "Parameter file" and "Faults").
 pub fn read_params(alloc: Global, bytes: &[u8]) -> Result<RawTables, ParamFault>
     ensures { Gives is_memory result (params_of bytes.now) }
 {
@@ -73,7 +73,7 @@ pub fn read_params(alloc: Global, bytes: &[u8]) -> Result<RawTables, ParamFault>
     Ok(RawTables::new(records))
 }
 
-// Tells the fault of a record onto `faults`, if that is the answer for it.
+// Appends the fault of a record to `faults`, if the answer for the record is a fault.
 fn tell(answer: Result<Record, ParamFault>, faults: &mut Vec<ParamFault>) -> Result<(), AllocError>
     ensures { OnOk result (Tells is_memory answer faults.old.items faults.new.items) }
 {
@@ -84,7 +84,7 @@ fn tell(answer: Result<Record, ParamFault>, faults: &mut Vec<ParamFault>) -> Res
     }
 }
 
-// Tells the fault of each row of a file onto `faults`, of which there are none before.
+// Appends the fault of each row of a file to `faults`, which is empty before.
 fn tell_params<'a>(
     rows: &mut Rows<'a>,
     row: &mut Row<'a>,
@@ -107,8 +107,8 @@ fn tell_params<'a>(
     Ok(())
 }
 
-/// All faults of a parameter file, by rising record: of each record its lowest-numbered one of P1 to P8, if it has one, and P1 with
-/// record 0 of a file without a record (docs/FORMATS.md, "All faults").
+/// Returns all faults of a parameter file by rising record number: for each faulty record its lowest-numbered fault, P1
+/// to P8. A file without a record has P1 with record 0 (docs/FORMATS.md, "All faults").
 pub fn param_faults(alloc: Global, bytes: &[u8]) -> Result<Vec<ParamFault>, AllocError>
     ensures { IfOk result (λ faults. faults.items ≡ param_faults bytes.now) }
 {

@@ -12,8 +12,8 @@ use span_tables::records::NumberedPosition;
 use std::alloc::{AllocError, Global};
 use std::marker::Model;
 
-/// The records of a piece of a position file, numbered by the accounts of the piece. Contracts see the list of records, each with the name
-/// of its account.
+/// The records of a piece of a position file, numbered by the accounts of the piece. Contracts see the list of records,
+/// each with the name of its account.
 #[derive(Drop)]
 pub struct Piece {
     pub(crate) accounts: IndexSet<Name>,
@@ -32,8 +32,9 @@ impl Model for Piece {
     ghost invariant = { λ piece. AreNumbered piece.accounts.keys piece.records.items };
 }
 
-/// The records of a piece of a position file; `None` exactly if the piece by itself has a fault: one of Q1 to Q4, or Q5 of its own
-/// accounts. [`read_positions`](crate::positions::read_positions) of the whole file finds which fault the file has.
+/// Reads the records of a piece of a position file. Returns `None` exactly if the piece by itself has a fault: one of
+/// Q1 to Q4, or Q5 for its own accounts. Calling [`read_positions`](crate::positions::read_positions) on the whole file
+/// then finds the fault of the file.
 pub fn read_piece(alloc: Global, bytes: &[u8]) -> Result<Option<Piece>, AllocError>
     ensures { IfOk result (λ piece. piece ≡ piece_of bytes.now) }
 {

@@ -10,7 +10,7 @@ use crate::numbered::is_quantity;
 use span_money::texts::parse_whole;
 use span_tables::name::Name;
 
-// The bytes behind a field and the comma that ends it, if bytes begin with them.
+// Returns the bytes after a field and its comma, if the bytes begin with them.
 fn behind_field<'a>(bytes: &'a [u8], field: &[u8]) -> Option<&'a [u8]>
     ensures { IfSome result (λ rest. bytes.now ≡ field.now ++ 44 ∷ rest.now) }
 {
@@ -22,7 +22,7 @@ fn behind_field<'a>(bytes: &'a [u8], field: &[u8]) -> Option<&'a [u8]>
     }
 }
 
-// The name that bytes begin with and the bytes behind its comma, if a comma ends it.
+// Returns the name at the start of the bytes and the bytes after its comma, if a comma ends it.
 fn split_name(bytes: &[u8]) -> Option<(Name, &[u8])>
     ensures parts { IfSome result (λ p. bytes.now ≡ p.0 ++ 44 ∷ p.1.now) }
     ensures is_name { IfSome result (λ p. is_name p.0 ≡ true) }
@@ -33,7 +33,7 @@ fn split_name(bytes: &[u8]) -> Option<(Name, &[u8])>
     }
 }
 
-// The quantity that bytes begin with and the bytes behind its line, if a line feed ends it.
+// Returns the quantity at the start of the bytes and the bytes after its line, if a line feed ends it.
 fn split_quantity(bytes: &[u8]) -> Option<(i32, &[u8])>
     ensures { IfSome result (λ p. (text : List ℕ) × (bytes.now ≡ text ++ 10 ∷ p.1.now) × (whole_number text ≡ Some p.0)
         × (is_quantity p.0 ≡ true)) }
@@ -46,14 +46,14 @@ fn split_quantity(bytes: &[u8]) -> Option<(i32, &[u8])>
     Some((quantity as i32, &bytes[end + 1..]))
 }
 
-// The contract and the quantity of a position, and the bytes behind its line.
+// The contract and the quantity of a position, and the bytes after its line.
 struct PlainPosition<'a> {
     contract: Name,
     quantity: i32,
     rest: &'a [u8],
 }
 
-// The position of an account whose line bytes begin with, if it is plain.
+// Returns the position in the first line, if that is a plain line of this account.
 fn position_in<'a>(bytes: &'a [u8], account: &[u8]) -> Option<PlainPosition<'a>>
     ensures { IfSome result (λ p. IsPlainLine account.now p.contract p.quantity p.rest.now bytes.now) }
 {
@@ -66,7 +66,8 @@ fn position_in<'a>(bytes: &'a [u8], account: &[u8]) -> Option<PlainPosition<'a>>
     })
 }
 
-/// The contract and the quantity of the position in front of what is left, if it is one of this account in a plain line.
+/// Returns the contract and the quantity of the next position and removes it from `left`, if it is a plain line of this
+/// account.
 #[inline(always)]
 pub(crate) fn next_position_in(left: &mut &[u8], account: &Name) -> Option<(Name, i32)>
     requires { AreLines left.old.now }

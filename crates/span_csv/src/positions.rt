@@ -22,10 +22,10 @@ use span_tables::raw::RawPositions;
 use span_tables::records::NumberedPosition;
 use std::alloc::{AllocError, Global};
 
-// The names of a record, in front of its quantity: an account's and a contract's.
+// The number of names in a record before its quantity: the account's and the contract's.
 const POSITION_NAMES: usize = 2;
 
-// Reads the rows in front onto `records`, as long as each is a position in a plain line of the last record's account.
+// Appends the next rows to `records`, as long as each is a position of the last record's account in a plain line.
 fn read_same_account(
     rows: &mut Rows,
     accounts: &[Name],
@@ -54,7 +54,7 @@ fn read_same_account(
     Ok(())
 }
 
-/// Reads each row that is left of a file onto `records`, and its account, where it is new, into `accounts`.
+/// Appends each remaining row of a file to `records`, and adds its account to `accounts` if it is new.
 pub(crate) fn read_rows<'a>(
     rows: &mut Rows<'a>,
     row: &mut Row<'a>,
@@ -79,8 +79,8 @@ pub(crate) fn read_rows<'a>(
     Ok(())
 }
 
-/// The records of a position file, or the first record with a fault and its lowest-numbered fault, of Q1 to Q5
-/// (docs/FORMATS.md, "Position file" and "Faults").
+/// Reads the records of a position file. Fails with the lowest-numbered fault, Q1 to Q5, of the first record that has
+/// one (docs/FORMATS.md, "Position file" and "Faults").
 pub fn read_positions(alloc: Global, bytes: &[u8]) -> Result<RawPositions, PositionFault>
     ensures { Gives is_memory result (positions_of bytes.now) }
 {
@@ -92,8 +92,9 @@ pub fn read_positions(alloc: Global, bytes: &[u8]) -> Result<RawPositions, Posit
     Ok(RawPositions::new(accounts, records))
 }
 
-// Looks at the record of a number behind others, where these are the accounts of those that count; its own is put behind them, where it
-// counts and is new. Behind one account too many there is no second one, and only the fields of a record can have faults.
+// Checks the record with number `at` after others. `accounts` has the accounts of the earlier counted records. The
+// record's account is added if it is counted and new. Once there is one account too many, only the fields of further
+// records can have faults.
 fn check_row(at: usize, accounts: &mut IndexSet<Name>, row: &Row) -> Result<(), PositionFault>
     ensures { (rs : List Fields) → length rs + 1 ≡ at → accounts.old.keys ≡ accounts_counted rs
         → CheckIs rs row.now result accounts.new.keys }
@@ -108,7 +109,7 @@ fn check_row(at: usize, accounts: &mut IndexSet<Name>, row: &Row) -> Result<(), 
     Ok(())
 }
 
-// Tells the fault of a record onto `faults`, if that is the answer for it.
+// Appends the fault of a record to `faults`, if the answer for the record is a fault.
 fn tell(
     answer: Result<(), PositionFault>,
     faults: &mut Vec<PositionFault>,
@@ -122,7 +123,7 @@ fn tell(
     }
 }
 
-// Tells the fault of each row of a file onto `faults`, of which there are none before.
+// Appends the fault of each row of a file to `faults`, which is empty before.
 fn tell_rows<'a>(
     rows: &mut Rows<'a>,
     row: &mut Row<'a>,
@@ -142,8 +143,8 @@ fn tell_rows<'a>(
     Ok(())
 }
 
-/// All faults of a position file, by rising record: of each record its lowest-numbered one of Q1 to Q5, if it has one
-/// (docs/FORMATS.md, "All faults").
+/// Returns all faults of a position file by rising record number: for each faulty record its lowest-numbered fault, Q1
+/// to Q5 (docs/FORMATS.md, "All faults").
 pub fn position_faults(alloc: Global, bytes: &[u8]) -> Result<Vec<PositionFault>, AllocError>
     ensures { IfOk result (λ faults. faults.items ≡ position_faults bytes.now) }
 {

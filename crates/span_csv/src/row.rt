@@ -1,4 +1,4 @@
-//! A record's fields: lent from the bytes of the file if the record is a plain line, or else copied.
+//! The fields of a record: borrowed from the bytes of the file if the record is a plain line, and otherwise copied.
 ghost use Rattle.std.specs.Prelude.{◌≡◌, ◌<◌, ◌∷◌, [], IfOk, MatchBool, length};
 ghost use Rattle.csv.specs.Records.{fields_of};
 ghost use Rattle.csv.specs.declared.parser.State.TheVariants as state;
@@ -11,10 +11,11 @@ use csv::{ByteRecord, Reader};
 use std::alloc::{AllocError, Global};
 use std::marker::Model;
 
-/// How many fields of a line are lent. No kind of record has more. The fields of a longer line are copied.
+/// The maximum number of fields of a line that are borrowed. No kind of record has more. The fields of a longer line
+/// are copied.
 pub(crate) const LENT_FIELDS: usize = 32;
 
-/// The fields of a record: lent from the bytes of the file if the record is a plain line, or else copied.
+/// The fields of a record: borrowed from the bytes of the file if the record is a plain line, and otherwise copied.
 #[derive(Drop)]
 pub(crate) struct Row<'a> {
     is_lent: bool,
@@ -33,14 +34,14 @@ impl<'a> Model for Row<'a> {
     ghost view = { λ row. if row.is_lent then texts_of row.lent.items else fields_of row.copied };
 }
 
-// The next record into `row`, and whether there was one.
+// Reads the next record into `row`. Returns whether there was one.
 fn read_record(reader: &mut Reader<&[u8]>, row: &mut ByteRecord) -> Result<bool, AllocError>
     requires { CanRead reader.old }
     ensures found { IfOk result (λ found. MatchBool found (rows_left reader.old ≡ fields_of row.new ∷ rows_left reader.new)
         (rows_left reader.old ≡ [])) }
     ensures goes_on { CanRead reader.new }
 {
-    // A slice is read to its end, and a record may have any number of fields, so memory alone may be lacking.
+    // The source is a slice, and a record may have any number of fields. So the only possible error is out of memory.
     let Ok(found) = reader.read_byte_record(row) else {
         return Err(AllocError);
     };
@@ -48,7 +49,7 @@ fn read_record(reader: &mut Reader<&[u8]>, row: &mut ByteRecord) -> Result<bool,
 }
 
 impl<'a> Row<'a> {
-    /// A row to read records into.
+    /// Returns an empty row to read records into.
     pub(crate) fn new(alloc: Global) -> Row<'a> {
         Row {
             is_lent: false,
@@ -57,7 +58,7 @@ impl<'a> Row<'a> {
         }
     }
 
-    /// Takes the fields of the line that bytes begin with. Returns the bytes behind the line.
+    /// Takes the fields of the first line of the bytes. Returns the bytes after the line.
     pub(crate) fn take_line(&mut self, bytes: &'a [u8]) -> Result<&'a [u8], AllocError>
         requires { AreLines bytes.now }
         ensures lines { IfOk result (λ rest. AreLines rest.now) }
@@ -73,7 +74,7 @@ impl<'a> Row<'a> {
         push_fields(&mut self.copied, bytes)
     }
 
-    /// Takes the fields of the next record that `csv` reads, if there is one. Returns whether there was.
+    /// Takes the fields of the next record that `csv` reads, if there is one. Returns whether there was one.
     pub(crate) fn take_record(&mut self, reader: &mut Reader<&[u8]>) -> Result<bool, AllocError>
         requires { CanRead reader.old }
         ensures found { IfOk result (λ found. MatchBool found (rows_left reader.old ≡ self.new ∷ rows_left reader.new)
@@ -84,7 +85,7 @@ impl<'a> Row<'a> {
         read_record(reader, &mut self.copied)
     }
 
-    /// How many fields it has.
+    /// Returns the number of fields.
     pub(crate) fn len(&self) -> usize
         ensures { result ≡ length self.now }
     {
@@ -96,7 +97,7 @@ impl<'a> Row<'a> {
     }
 }
 
-/// The field at a place.
+/// Returns the field at an index.
 pub(crate) fn field<'r>(row: &'r Row, i: usize) -> &'r [u8]
     requires { i < length row.now }
     ensures { result.now ≡ text_at row.now i }
@@ -108,7 +109,7 @@ pub(crate) fn field<'r>(row: &'r Row, i: usize) -> &'r [u8]
     }
 }
 
-/// The field at a place, or an empty text past the end.
+/// Returns the field at an index, or an empty text past the end.
 pub(crate) fn text_at<'r>(row: &'r Row, i: usize) -> &'r [u8]
     ensures { result.now ≡ text_at row.now i }
 {

@@ -11,20 +11,20 @@ use span_tables::name::Name;
 use std::alloc::{AllocError, Global};
 use std::marker::Model;
 
-/// The place of the first value of a CONTRACT's risk array.
+/// The index of the first value of a CONTRACT's risk array.
 pub(crate) const FIRST_VALUE: usize = 7;
 
-/// The place of what a profile adds, behind the risk array.
+/// The index of the first field that a profile adds, after the risk array.
 pub(crate) const EXTRAS: usize = FIRST_VALUE + SCENARIOS;
 
-// What is left of a file: bytes whose lines are its records, or what `csv` reads.
+// The rest of a file: bytes whose lines are its records, or a `csv` reader.
 #[derive(Drop)]
 pub enum Form<'a> {
     Lines(&'a [u8]),
     Csv(Reader<&'a [u8]>),
 }
 
-/// The records that are left of a file. After memory ran out there may be none.
+/// The records that are left of a file. After an allocation failure there may be none.
 #[derive(Drop)]
 pub(crate) struct Rows<'a> {
     form: Form<'a>,
@@ -45,9 +45,9 @@ impl<'a> Rows<'a> {
     ghost use Rattle.std.specs.Prelude.{None, IfSome};
     ghost use Rattle.span_csv.specs.Records.{records_of};
 
-    /// The records of a file with these bytes.
+    /// Returns the records of a file with these bytes.
     ///
-    /// If it has no double quote and no carriage return, its lines are read as they stand. `csv` reads any other file.
+    /// If it has no double quote and no carriage return, its lines are read directly. `csv` reads any other file.
     #[tactic(auto, unfolding(crate::specs::Records::records_of))]
     pub(crate) fn new(alloc: Global, bytes: &'a [u8]) -> Rows<'a>
         ensures { result ≡ records_of bytes.now }
@@ -66,7 +66,7 @@ impl<'a> Rows<'a> {
         }
     }
 
-    /// The next record into `row`, and whether there was one.
+    /// Reads the next record into `row`. Returns whether there was one.
     pub(crate) fn next(&mut self, row: &mut Row<'a>) -> Result<bool, AllocError>
         ensures found { IfOk result (λ found. MatchBool found (self.old ≡ row.new ∷ self.new) (self.old ≡ [])) }
     {
@@ -76,7 +76,7 @@ impl<'a> Rows<'a> {
         }
     }
 
-    /// The contract and the quantity of the next record, if it is a position of this account in a plain line.
+    /// Returns the contract and the quantity of the next record, if it is a position of this account in a plain line.
     #[inline(always)]
     pub(crate) fn next_of(&mut self, account: &Name) -> Option<(Name, i32)>
         ensures found { IfSome result (λ p. IsPositionIn account.now p.0 p.1 self.new self.old) }

@@ -1,4 +1,4 @@
-//! How many records of each kind were read, as far as there is a limit, and under which profile.
+//! The profile of a file, and the number of records read of each kind that has a limit.
 ghost use Rattle.std.specs.Prelude.{◌≡◌, ◌+◌, ◌<◌, ◌^◌, List, OnOk, [], ◌∷◌, ℕ};
 ghost use Rattle.span_csv.specs.near.Checks.{CountsOne, count_in, limit_of};
 ghost use Rattle.span_csv.specs.near.Grammar.{FitsKind};
@@ -17,7 +17,7 @@ use span_tables::limits::{
 use span_tables::name::Name;
 use std::alloc::{AllocError, Global};
 
-// The count of a commodity.
+// Returns the count of a commodity.
 fn count_of(counts: &IndexMap<Name, usize>, commodity: &Name) -> usize
     ensures { result ≡ count_in counts.now commodity.now }
 {
@@ -27,7 +27,7 @@ fn count_of(counts: &IndexMap<Name, usize>, commodity: &Name) -> usize
     }
 }
 
-// Counts a commodity once more.
+// Adds one to the count of a commodity.
 fn count_one(counts: &mut IndexMap<Name, usize>, commodity: Name) -> Result<(), AllocError>
     requires { count_in counts.old commodity + 1 < 2 ^ 64 }
     ensures { OnOk result (CountsOne counts.old commodity counts.new) }
@@ -39,7 +39,7 @@ fn count_one(counts: &mut IndexMap<Name, usize>, commodity: Name) -> Result<(), 
     }
 }
 
-// The profile of a file that begins with this record.
+// Returns the profile of a file that begins with this record.
 fn profile_from(first: &Row) -> u8
     ensures { result ≡ profile_of (first.now ∷ []) }
 {
@@ -51,7 +51,7 @@ fn profile_from(first: &Row) -> u8
 }
 
 impl Kind {
-    /// How many records there may be of the kind, or of the kind and a commodity.
+    /// Returns the maximum number of records of the kind, or of the kind and a commodity.
     pub(crate) fn limit(self) -> usize
         ensures { result ≡ limit_of self }
     {
@@ -67,8 +67,8 @@ impl Kind {
     }
 }
 
-/// The records that were read: the profile that the first of them gives, and how many there are of the kinds with a limit, of some all
-/// and of others those of each commodity.
+/// The counts of the records read, and the profile that the first one gives. Each kind with a limit is counted, some
+/// kinds in total and others for each commodity.
 #[derive(Drop)]
 pub(crate) struct Tally {
     profile: u8,
@@ -83,7 +83,7 @@ pub(crate) struct Tally {
 impl Tally {
     ghost use Rattle.span_csv.specs.near.Checks.{AddsRecord, KeepsProfile, Tallies, count_for};
 
-    /// No record.
+    /// Returns the tally of no records.
     pub(crate) fn new(alloc: Global) -> Tally
         ensures { Tallies result [] }
     {
@@ -98,14 +98,14 @@ impl Tally {
         }
     }
 
-    /// The profile of the file, or 1 in front of its first record.
+    /// Returns the profile of the file, or 1 before its first record.
     pub(crate) fn profile(&self) -> u8
         ensures { result ≡ self.now.profile }
     {
         self.profile
     }
 
-    /// How many records the limit of a record's kind counts.
+    /// Returns the number of records that the limit of a record's kind counts.
     pub(crate) fn count(&self, kind: Kind, row: &Row) -> usize
         requires { FitsKind kind row.now }
         ensures { result ≡ count_for self.now kind (text_at row.now 1) }
@@ -121,7 +121,7 @@ impl Tally {
         }
     }
 
-    /// Keeps the profile of a file whose first record this is, where it is the first.
+    /// Sets the profile of the file from this record, if it is the first.
     #[inline(always)]
     pub(crate) fn keep_profile(&mut self, first: bool, row: &Row)
         ensures { KeepsProfile first row.now self.old self.new }
@@ -131,7 +131,7 @@ impl Tally {
         }
     }
 
-    /// Counts a record, where its kind has a limit.
+    /// Counts a record if its kind has a limit.
     pub(crate) fn add(&mut self, kind: Kind, row: &Row) -> Result<(), AllocError>
         requires forms { FitsKind kind row.now }
         requires room { count_for self.old kind (text_at row.now 1) + 1 < 2 ^ 64 }

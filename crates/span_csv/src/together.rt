@@ -1,4 +1,4 @@
-//! Pieces of a position file without a fault: their records are numbered side by side.
+//! Pieces of a position file without a fault, whose records can be numbered concurrently.
 ghost use Rattle.std.specs.Prelude.{◌≡◌, ◌<◌, ◌≤◌, ℕ, All, IfOk, IfSome, List, None, OnOk, length, map};
 ghost use Rattle.span_csv.specs.near.Pieces.{place_among, renumbered, with_names, AreOfAccounts, AreTogether, HasAccounts, StandFor};
 ghost use Rattle.span_tables.specs.near.Positions.{named_positions, AreNumbered};
@@ -13,8 +13,8 @@ use span_tables::records::NumberedPosition;
 use std::alloc::{AllocError, Global};
 use std::marker::Model;
 
-/// The accounts of all pieces of a position file, in the order of first appearance, which are no more than there may be. Contracts see
-/// their names.
+/// The accounts of all pieces of a position file, in the order of first appearance. There are at most `MAX_ACCOUNTS`.
+/// Contracts see their names.
 #[derive(Drop)]
 pub struct AllAccounts {
     accounts: IndexSet<Name>,
@@ -31,7 +31,7 @@ impl Model for AllAccounts {
     ghost invariant = { λ all. length all.accounts.keys ≤ MAX_ACCOUNTS };
 }
 
-// Puts names behind the accounts, each unless it is there.
+// Appends each new name to the accounts.
 fn add_names(names: &[Name], accounts: &mut IndexSet<Name>) -> Result<(), AllocError>
     ensures { OnOk result (accounts.new.keys ≡ with_names accounts.old.keys names.now) }
 {
@@ -41,7 +41,7 @@ fn add_names(names: &[Name], accounts: &mut IndexSet<Name>) -> Result<(), AllocE
     Ok(())
 }
 
-// The place of an account among these; that of one that is not among them is behind them.
+// Returns the index of an account among these, or their number if it is not among them.
 fn place_of(accounts: &IndexSet<Name>, name: &Name) -> u16
     requires { length accounts.now.keys ≤ MAX_ACCOUNTS }
     ensures { result ≡ place_among accounts.now.keys name.now }
@@ -52,7 +52,7 @@ fn place_of(accounts: &IndexSet<Name>, name: &Name) -> u16
     }
 }
 
-// The places of names among these accounts.
+// Returns the index of each name among these accounts.
 fn places_of(
     alloc: Global,
     accounts: &IndexSet<Name>,
@@ -68,7 +68,7 @@ fn places_of(
     Ok(places)
 }
 
-// Gives each record the number that stands at the place of its old one.
+// Replaces the account number of each record by the entry of `places` at that index.
 fn renumber(places: &[u16], records: &mut [NumberedPosition])
     requires { All (λ p. p.account < length places.now) records.old }
     ensures { records.new ≡ map (renumbered places.now) records.old }
@@ -79,8 +79,8 @@ fn renumber(places: &[u16], records: &mut [NumberedPosition])
 }
 
 impl AllAccounts {
-    /// The accounts of these pieces; `None` exactly if there are more than there may be. Then the file has a fault, which
-    /// [`read_positions`](crate::positions::read_positions) of the whole file finds.
+    /// Returns the accounts of these pieces, or `None` exactly if there are more than `MAX_ACCOUNTS`. Then the file has
+    /// a fault, which [`read_positions`](crate::positions::read_positions) finds in the whole file.
     pub fn of(alloc: Global, pieces: &[Piece]) -> Result<Option<AllAccounts>, AllocError>
         ensures found { IfOk result (λ found. IfSome found (λ all. AreTogether all pieces.now)) }
         ensures none { IfOk result (λ found. found ≡ None → (all : List (List ℕ)) → AreTogether all pieces.now → ⊥) }
@@ -95,7 +95,7 @@ impl AllAccounts {
         Ok(Some(AllAccounts { accounts }))
     }
 
-    /// The records of a piece, whose accounts are among these, each numbered by these.
+    /// Returns the records of a piece, numbered by these accounts, which include the piece's accounts.
     pub fn numbered(&self, alloc: Global, piece: Piece) -> Result<Vec<NumberedPosition>, AllocError>
         requires { HasAccounts self.now piece }
         ensures { IfOk result (λ records. StandFor self.now piece records.items) }
@@ -110,7 +110,7 @@ impl AllAccounts {
         Ok(records)
     }
 
-    /// The records of the whole file, which these number.
+    /// Returns the records of the whole file, which are numbered by these accounts.
     pub fn positions(self, records: Vec<NumberedPosition>) -> RawPositions
         requires { AreNumbered self records.items }
         ensures { result ≡ named_positions self records.items }

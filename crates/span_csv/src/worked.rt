@@ -1,4 +1,4 @@
-//! What small files read as, computed by the definitions.
+//! The results of reading small files, computed by the definitions.
 #![tactic(auto, unfolding(crate::specs::near::OnLiterals::reading_on_literals))]
 
 ghost use Rattle.std.specs.List.{repeat};
@@ -20,7 +20,7 @@ fn quoted_comma()
     ensures { records_of (codes "\"A,B\",1\n") ≡ (codes "A,B" ∷ codes "1" ∷ []) ∷ [] }
 {}
 
-// Two quotes are an empty field, and between quotes they are one quote.
+// Two quotes are an empty field, and inside quotes they are one quote.
 fn quotes_in_pairs()
     ensures empty { records_of (codes "\"\",1\n") ≡ ([] ∷ codes "1" ∷ []) ∷ [] }
     ensures one { records_of (codes "\"A\"\"B\"\n") ≡ (codes "A\"B" ∷ []) ∷ [] }
@@ -36,17 +36,17 @@ fn unclosed_quote()
     ensures { records_of (codes "X,\"FA,1\nY") ≡ (codes "X" ∷ codes "FA,1\nY" ∷ []) ∷ [] }
 {}
 
-// A byte order mark is no part of the first field.
+// A byte order mark is not part of the first field.
 fn byte_order_mark()
     ensures { records_of (239 ∷ 187 ∷ 191 ∷ codes "X\n") ≡ (codes "X" ∷ []) ∷ [] }
 {}
 
-// A first record that is no SET.
+// The first record is not a SET.
 fn first_record_is_no_set()
     ensures { params_of (codes "COMMODITY,AA,0,SUM\n") ≡ Err (param.NoSet 1) }
 {}
 
-// A name in small letters, and a method that is none; the version that is out of range in the same record counts later.
+// A lower-case name and an unknown method are reported before a version out of range in the same record.
 fn malformed_names()
     ensures name { params_of (codes "SET,d1,3,USD\n") ≡ Err (param.BadName 1) }
     ensures method { params_of (codes "SET,D1,1,USD\nCOMMODITY,AA,0,AVG\n") ≡ Err (param.BadName 2) }
@@ -54,7 +54,8 @@ fn malformed_names()
     ensures none { params_of (codes "SET,D1,0,USD\n") ≡ Err (param.OutOfRange 1) }
 {}
 
-// Of each record the lowest-numbered fault is told, whatever other records have, and of no other record one.
+// For each faulty record its lowest-numbered fault is reported, whatever other records have. Records without a fault
+// are not reported.
 fn all_faults_of_parameters()
     ensures several { param_faults (codes "SET,d1,3,USD\nSPOT,AA,202501,0,0\nTIERS\nSET,D1,1,USD\nTIER,aa,?\nTIER,aa,?,1,1\nSPOT,A,1,0,?\n")
         ≡ param.BadName 1 ∷ param.UnknownKind 3 ∷ param.SecondSet 4 ∷ param.FieldCount 5 ∷ param.BadName 6 ∷ param.BadNumber 7 ∷ [] }
@@ -64,7 +65,7 @@ fn all_faults_of_parameters()
     ensures empty { param_faults [] ≡ param.NoSet 0 ∷ [] }
 {}
 
-// A first record that is a SET gives its version, if that is one, also where it has a fault.
+// A first record that is a SET gives its version, if the field is a version, even if the record has a fault.
 fn version_of_a_faulty_set()
     ensures name { param_faults (codes "SET,d2,2,USD\nCONTRACT,CA,AA,C,202512,1,1,0,0,0,0,0,0,0,0,0,0,0,0,0,0,0,0\n")
         ≡ param.BadName 1 ∷ param.FieldCount 2 ∷ [] }
@@ -78,7 +79,7 @@ fn version_of_a_faulty_set()
         ≡ param.SecondSet 2 ∷ param.FieldCount 3 ∷ [] }
 {}
 
-// Of SPOT records of one commodity the 17th that has no lower fault is one too many, and no other one.
+// Among the SPOT records of one commodity without a lower-numbered fault, exactly the 17th is reported as one too many.
 fn one_spot_month_too_many()
     ensures { faults_in ((codes "SET" ∷ codes "D1" ∷ codes "1" ∷ codes "USD" ∷ [])
         ∷ repeat 9 ((codes "SPOT" ∷ codes "AA" ∷ codes "202512" ∷ codes "0" ∷ codes "0" ∷ []) ∷ [])
@@ -87,7 +88,7 @@ fn one_spot_month_too_many()
         ≡ param.OutOfRange 11 ∷ param.TooMany 19 ∷ [] }
 {}
 
-// Under version 2 a contract has an option value behind its risk array, and under version 1 its option value is 0.
+// Under version 2 a contract has an option value after its risk array. Under version 1 its option value is 0.
 fn contracts_of_both_versions()
     ensures first { params_of (codes "SET,D1,1,USD\nCONTRACT,CA,AA,C,202512,1,1,-9,8,7,7,7,7,7,7,7,7,7,7,7,7,7,7\n") ≡ Ok
         (set (codes "D1") ∷ record_of.Contract (contract product.Call (codes "CA") (codes "AA") 202512
@@ -100,7 +101,7 @@ fn contracts_of_both_versions()
         ∷ record_of.Contract (contract product.Future (codes "FA") (codes "AA") 202512 (repeat 16 (pos 7 ∷ []))) ∷ []) }
 {}
 
-// A contract of version 2 without its option value, and one of version 1 with one.
+// A contract of version 2 without an option value, and a contract of version 1 with one.
 fn contracts_of_the_other_version()
     ensures first { params_of (codes "SET,D1,1,USD\nCONTRACT,CA,AA,C,202512,1,1,0,0,0,0,0,0,0,0,0,0,0,0,0,0,0,0,120\n")
         ≡ Err (param.FieldCount 2) }
@@ -108,7 +109,7 @@ fn contracts_of_the_other_version()
         ≡ Err (param.FieldCount 2) }
 {}
 
-// A future has no option value but 0, and an option one from 0 to the highest; an empty field is no number.
+// The option value of a future is 0, and of an option it is from 0 to the maximum. An empty field is not a number.
 fn option_values_out_of_range()
     ensures future { params_of (codes "SET,D2,2,USD\nCONTRACT,FA,AA,F,202512,1,1,0,0,0,0,0,0,0,0,0,0,0,0,0,0,0,0,5\n")
         ≡ Err (param.OutOfRange 2) }
@@ -120,7 +121,7 @@ fn option_values_out_of_range()
         ≡ Err (param.BadNumber 2) }
 {}
 
-// The lowest-numbered fault of the first record with one.
+// The lowest-numbered fault of the first record with a fault.
 fn lowest_fault_of_a_position()
     ensures fields { positions_of (codes "x,FA,?,\n") ≡ Err (position.FieldCount 1) }
     ensures name { positions_of (codes "X,FA,1\nx,FA,?\n") ≡ Err (position.BadName 2) }
@@ -128,7 +129,7 @@ fn lowest_fault_of_a_position()
     ensures range { positions_of (codes "X,FA,-1000001\nx\n") ≡ Err (position.OutOfRange 1) }
 {}
 
-// Of each record the lowest-numbered fault is told, and of no other record one.
+// For each faulty record its lowest-numbered fault is reported. Records without a fault are not reported.
 fn all_faults_of_positions()
     ensures several { position_faults (codes "X,FA,1\nx,FA,?\nX,FA,?,\nX,fa,1\nX,FA,?\nX,FA,1000001\nX,FA,1\n")
         ≡ position.BadName 2 ∷ position.FieldCount 3 ∷ position.BadName 4 ∷ position.BadNumber 5 ∷ position.OutOfRange 6 ∷ [] }
@@ -136,14 +137,14 @@ fn all_faults_of_positions()
     ensures empty { position_faults [] ≡ [] }
 {}
 
-// Accounts and contracts as they stand in their fields, and a negative quantity.
+// Accounts and contracts as they appear in their fields, and a negative quantity.
 fn two_positions()
     ensures { positions_of (codes "Y,FA,-3\nX,FB,1000000\n") ≡ Ok
         (record { account = codes "Y"; contract = codes "FA"; quantity = neg_ℤ (pos 3) }
         ∷ record { account = codes "X"; contract = codes "FB"; quantity = pos 1000000 } ∷ []) }
 {}
 
-// The lowest-numbered fault of the first record with one.
+// The lowest-numbered fault of the first record with a fault.
 fn lowest_fault_of_an_order()
     ensures fields { orders_of (codes "x,X,FA,?,\n") ≡ Err (order.FieldCount 1) }
     ensures order { orders_of (codes "N,X,FA,1\nn,X,FA,?\n") ≡ Err (order.BadName 2) }
@@ -154,7 +155,8 @@ fn lowest_fault_of_an_order()
     ensures second { orders_of (codes "N,X,FA,1\nM,Y,FA,1\nN,Y,FB,1\nM\n") ≡ Err (order.SecondAccount 3) }
 {}
 
-// Orders, accounts and contracts as they stand in their fields, a negative quantity, and an order again behind another one of its account.
+// Orders, accounts and contracts as they appear in their fields, a negative quantity, and an order that recurs after
+// another order of its account.
 fn three_orders()
     ensures { orders_of (codes "N,Y,FA,-3\nM,Y,FB,1000000\nN,Y,FA,5\n") ≡ Ok
         (record { order = codes "N"; account = codes "Y"; contract = codes "FA"; quantity = neg_ℤ (pos 3) }

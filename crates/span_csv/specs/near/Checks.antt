@@ -1,4 +1,5 @@
--- The faults of a parameter record part by part, the counts that its limits speak of, and the profile that its forms go by.
+-- The faults of a parameter record part by part, the counts that its limits refer to, and the profile that determines
+-- its forms.
 use Rattle.std.specs.Prelude.{◌≡◌, ℕ, ◌+◌, Bool, not, ◌&&◌, if◌then◌else◌, List, [], ◌∷◌}
 use Rattle.std.specs.Prelude.{length, map, count_by, Some, None, option_map, is_none, unwrap_or}
 use Rattle.std.specs.Prelude.{codes, bytes_eq, Result}
@@ -17,29 +18,29 @@ use Rattle.span_csv.specs.declared.tally.Tally.{Tally}
 use Rattle.span_csv.specs.declared.grammar.Kind.{Kind}
 use Rattle.span_csv.specs.declared.grammar.Kind.TheVariants as kind
 
--- the faults of a record's kind, where it is the first or not
+-- the faults of a record's kind, for the first record of a file and for a later one
 abbrev pub kind_faults : Bool → Fields → List (Bool × (ℕ → ParamFault))
 kind_faults first r =
     (first && not (is_set r), fault.NoSet) ∷ (not first && is_set r, fault.SecondSet) ∷ (is_none (kind_of r), fault.UnknownKind) ∷ []
 
--- the faults of its fields under a profile
+-- the faults of a record's fields under a profile
 abbrev pub field_faults : ℕ → Fields → List (Bool × (ℕ → ParamFault))
 field_faults profile r =
     (is_none (layout_of profile r), fault.FieldCount) ∷ (some_fail has_word_form profile r, fault.BadName)
     ∷ (some_fail has_number_form profile r, fault.BadNumber)
     ∷ (some_fail is_in_range profile r, fault.OutOfRange) ∷ []
 
--- the answer is that of the first of these faults that holds, told the record's number
+-- the answer is the first of these faults that is present, with the record's number
 abbrev pub IsFaultOf : List (Bool × (ℕ → ParamFault)) → ℕ → ParamFault → Type 0
 IsFaultOf faults at answer = option_map (λ f. f at) (first_that_holds faults) ≡ Some answer
 
--- no fault holds
+-- no fault is present
 abbrev pub IsFree : List (Bool × (ℕ → ParamFault)) → Type 0
 IsFree faults = first_that_holds faults ≡ None
 
 -- ---- counts
 
--- how many records there may be of a kind, or of a kind and commodity
+-- the maximum number of records of a kind, or of a kind and commodity
 abbrev pub limit_of : Kind → ℕ
 limit_of kind.Set = 1
 limit_of kind.Commodity = MAX_COMMODITIES
@@ -49,11 +50,11 @@ limit_of kind.Intra = MAX_INTRA_SPREADS
 limit_of kind.Spot = MAX_SPOT_MONTHS
 limit_of kind.Inter = MAX_INTER_SPREADS
 
--- how many records begin with a word
+-- the number of records that begin with a word
 abbrev pub count_word : List ℕ → List Fields → ℕ
 count_word word rs = count_by (λ x. bytes_eq (text_at x 0) word) rs
 
--- how many with a word and a commodity
+-- the number of records that begin with a word and a commodity
 abbrev pub count_words : List ℕ → List ℕ → List Fields → ℕ
 count_words word cc rs = count_by (λ x. bytes_eq (text_at x 0) word && bytes_eq (text_at x 1) cc) rs
 
@@ -61,11 +62,11 @@ count_words word cc rs = count_by (λ x. bytes_eq (text_at x 0) word && bytes_eq
 abbrev pub count_in : {S : Type 0} → HashMap (List ℕ) ℕ S → List ℕ → ℕ
 count_in counts cc = unwrap_or (get bytes_eq counts cc) 0
 
--- a commodity is counted once more
+-- the count of a commodity grows by one, and all other counts are unchanged
 abbrev pub CountsOne : {S : Type 0} → HashMap (List ℕ) ℕ S → List ℕ → HashMap (List ℕ) ℕ S → Type 0
 CountsOne old cc new = (q : List ℕ) → count_in new q ≡ count_in old q + (if bytes_eq cc q then 1 else 0)
 
--- the count that the limit of a kind and commodity speaks of
+-- the count that the limit of a kind and commodity refers to
 abbrev pub count_for : Tally → Kind → List ℕ → ℕ
 count_for t kind.Set cc = 0
 count_for t kind.Commodity cc = t.commodities
@@ -75,11 +76,11 @@ count_for t kind.Intra cc = count_in t.intras cc
 count_for t kind.Spot cc = count_in t.spots cc
 count_for t kind.Inter cc = t.inters
 
--- the first record of a file gives its profile
+-- the first record of a file sets its profile, and later records keep it
 abbrev pub KeepsProfile : Bool → Fields → Tally → Tally → Type 0
 KeepsProfile first r old new = new ≡ record old { profile = if first then profile_of (r ∷ []) else old.profile }
 
--- a record of a kind with a limit is counted
+-- a record is counted if its kind has a limit
 abbrev pub AddsRecord : Kind → Fields → Tally → Tally → Type 0
 AddsRecord kind.Set r old new = new ≡ old
 AddsRecord kind.Commodity r old new = new ≡ record old { commodities = old.commodities + 1 }
@@ -89,7 +90,7 @@ AddsRecord kind.Intra r old new = CountsOne old.intras (text_at r 1) new.intras 
 AddsRecord kind.Spot r old new = CountsOne old.spots (text_at r 1) new.spots × (new ≡ record old { spots = new.spots })
 AddsRecord kind.Inter r old new = new ≡ record old { inters = old.inters + 1 }
 
--- these records were counted
+-- the counts of the tally are the counts of these records
 pub record Counts (t : Tally) (rs : List Fields) : Type 0 where
   pub commodities : t.commodities ≡ count_word (codes "COMMODITY") rs
   pub contracts : t.contracts ≡ count_word (codes "CONTRACT") rs
@@ -98,23 +99,23 @@ pub record Counts (t : Tally) (rs : List Fields) : Type 0 where
   pub spots : (cc : List ℕ) → count_in t.spots cc ≡ count_words (codes "SPOT") cc rs
   pub inters : t.inters ≡ count_word (codes "INTER") rs
 
--- of these records those were counted that count, and the profile of their file was kept
+-- the tally has the profile of these records' file and the counts of those without one of P1 to P7
 pub record Tallies (t : Tally) (rs : List Fields) : Type 0 where
   pub profile : t.profile ≡ profile_of rs
   pub counts : Counts t (counted rs)
 
--- ---- one record behind others
+-- ---- one record after others
 
--- so many records were counted
+-- the tally covers this many records
 abbrev pub HasTallied : Tally → ℕ → Type 0
 HasTallied t n = (earlier : List Fields) × (length earlier ≡ n) × Tallies t earlier
 
--- what is answered for a record behind earlier ones
+-- the answer for a record after earlier records, and the tally afterwards
 abbrev pub NextIs : List Fields → Fields → Result Record ParamFault → Tally → Type 0
 NextIs earlier r answer t = Judges is_memory record_fault (Tallies t) earlier r answer
 
 -- ---- all records
 
--- what a parameter file with these records says, or its fault
+-- the records of a parameter file with these rows, or its first fault
 abbrev pub params_in : List Fields → Result (List Record) ParamFault
 params_in rows = ok_unless (first_of (faults_in rows)) (map param_record rows)

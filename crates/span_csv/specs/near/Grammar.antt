@@ -1,4 +1,4 @@
--- What the code tests of a field, and what it takes from a record whose fields pass the tests.
+-- The tests that the code applies to fields, and the values that it takes from a record whose fields pass.
 use Rattle.std.specs.Prelude.{◌≡◌, ◌<◌, ◌≤◌, ◌+◌, ◌*◌, ◌^◌, ◌&&◌, ℕ, Bool, true, List, [], ◌∷◌, length, nat_abs}
 use Rattle.std.specs.Prelude.{⊤, ℤ, pos, drop, map, take, unwrap_or}
 use Rattle.span_tables.specs.Names.{is_name}
@@ -23,31 +23,31 @@ passes field_test.All = λ form text. has_word_form form text && is_in_range for
 abbrev pub array_values : Fields → List ℤ
 array_values r = map (λ text. unwrap_or (whole_number text) (pos 0)) (take SCENARIOS (drop array_place r))
 
--- of a CONTRACT these are them
+-- for a CONTRACT, these are the values of its risk array
 abbrev pub HasValues : Kind → Fields → List ℤ → Type 0
 HasValues kind.Contract r values = values ≡ array_values r
 HasValues _ r values = ⊤
 
--- the three fields of a leg, from a place on
+-- the three fields of a leg, from an index on
 abbrev pub leg_at : Fields → ℕ → Fields
 leg_at r at = text_at r at ∷ text_at r (at + 1) ∷ text_at r (at + 2) ∷ []
 
--- from a place on a record has the fields of its legs and no others, and each leg keeps something
+-- from an index on, the record has the fields of its legs and no others, and `Keeps` is true of each leg
 pub record HasLegs (from : ℕ) (Keeps : ℕ → Type 0) (r : Fields) : Type 0 where
   pub legs : ℕ
   pub few : legs ≤ MAX_LEGS
   pub fields : length r ≡ from + 3 * legs
   pub each : (i : ℕ) → i < legs → Keeps (from + 3 * i)
 
--- the name at a place is one
+-- the field at an index is a name
 abbrev pub IsNamed : Fields → ℕ → Type 0
 IsNamed r i = is_name (text_at r i) ≡ true
 
--- the number at a place fits 32 bits
+-- the number at an index fits 32 bits
 abbrev pub IsWord : Fields → ℕ → Type 0
 IsWord r i = count_at r i < 2 ^ 32
 
--- the names of a record are names, and its numbers fit their types
+-- the name fields of a record are names, and its numbers fit their types
 abbrev pub FitsKind : Kind → Fields → Type 0
 FitsKind kind.Set r = IsNamed r 1 × (count_at r 2 < 2 ^ 8) × (length (text_at r 3) ≡ 3)
 FitsKind kind.Commodity r = IsNamed r 1 × IsWord r 2

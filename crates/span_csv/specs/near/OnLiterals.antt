@@ -1,4 +1,4 @@
--- What an answer unfolds to compute the readers' definitions on literals.
+-- The definitions that an answer unfolds to compute the readers' definitions on literals.
 use Rattle.std.specs.Prelude.{⊤}
 use Rattle.csv.specs.Machine.{next_record}
 use Rattle.csv.specs.Reading.{records_from, strip_bom}
@@ -7,7 +7,7 @@ use Rattle.span_csv.specs.ParamFaults.{faults_in, param_faults, params_of}
 use Rattle.span_csv.specs.OrderFaults.{order_fault, orders_of}
 use Rattle.span_csv.specs.PositionFaults.{position_faults, positions_of}
 
--- all words that computing the records of a literal file unfolds
+-- unfolds all definitions that are needed to compute the records of a literal file
 unfoldable pub reading_on_literals : ⊤
 unfolding next_record records_from strip_bom records_of order_record param_record position_record
     order_fault orders_of faults_in param_faults params_of position_faults positions_of

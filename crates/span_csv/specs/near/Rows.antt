@@ -1,4 +1,4 @@
--- The records of a file, as `csv` reads its bytes, and as they stand in lines.
+-- The records of a file, as `csv` reads its bytes and as they appear in lines.
 use Rattle.std.specs.Prelude.{◌≡◌, ◌⊎◌, ℕ, ◌+◌, true, false, if◌then◌else◌, List, [], ◌∷◌, ◌++◌, length, map, Option, Some, None, IsSome}
 use Rattle.std.specs.Borrow.{Bor}
 use Rattle.std.specs.List.{list_any}
@@ -15,7 +15,7 @@ use Rattle.csv.specs.declared.reader.Trim.TheVariants as trim
 use Rattle.span_csv.specs.declared.rows.Form.{Form}
 use Rattle.span_csv.specs.declared.rows.Form.TheVariants as form
 
--- the records from a state on, where the bytes that are left are known
+-- the records from a state on, if the bytes that are left are known
 abbrev pub rows_from : State → Option (List ℕ) → List Fields
 rows_from state None = []
 rows_from state (Some bytes) = records_from default_config (length bytes + 1) state bytes
@@ -24,7 +24,7 @@ rows_from state (Some bytes) = records_from default_config (length bytes + 1) st
 abbrev pub rows_left : Reader (Bor (List ℕ)) → List Fields
 rows_left reader = rows_from (reader_state reader) (source_of (λ s. Some s.now) reader)
 
--- the reader gives each record as it stands in the file
+-- the reader returns each record as it appears in the file
 pub record IsPlain (reader : Reader (Bor (List ℕ))) : Type 0 where
   pub config : reader_config reader ≡ default_config
   pub trim : reader_trim reader ≡ trim.None
@@ -32,18 +32,18 @@ pub record IsPlain (reader : Reader (Bor (List ℕ))) : Type 0 where
   pub ready : Ready reader
   pub known : IsSome (source_of (λ s. Some s.now) reader)
 
--- the reader gives each record as it stands in the file, or no more records after memory ran out
+-- the reader returns each record as it appears in the file, or no more records after an allocation failure
 abbrev pub CanRead : Reader (Bor (List ℕ)) → Type 0
 CanRead reader = (has_failed reader ≡ true) ⊎ IsPlain reader
 
 -- ---- the records of a text, byte by byte
 
--- what follows a byte: a record, or more of the record at hand
+-- the rows after a byte: a complete record, or more of the current record
 abbrev pub rows_by : State → Action → Fields → List ℕ → ℕ → (State → Fields → List ℕ → List Fields) → List Fields
 rows_by s a fields field c more =
     if is_end a then fields_after a fields field ∷ more s [] [] else more s (fields_after a fields field) (field_after a c field)
 
--- the records from a state on, with the fields and the field at hand
+-- the records from a state on, with the fields and the field read so far
 abbrev pub rows : State → Fields → List ℕ → List ℕ → List Fields
 rows s fields field [] = if ends_at_end s then (fields ++ field ∷ []) ∷ [] else []
 rows s fields field (c ∷ rest) =
@@ -51,7 +51,7 @@ rows s fields field (c ∷ rest) =
 
 -- ---- bytes of lines
 
--- No byte is a double quote or a carriage return. So each line that is not empty is a record, and each comma ends a field.
+-- No byte is a double quote or a carriage return. So each non-empty line is a record, and each comma ends a field.
 abbrev pub AreLines : List ℕ → Type 0
 AreLines bytes = list_any (is_byte2 34 13) bytes ≡ false
 
@@ -59,18 +59,18 @@ AreLines bytes = list_any (is_byte2 34 13) bytes ≡ false
 abbrev pub rows_in : List ℕ → List Fields
 rows_in bytes = rows state.StartRecord [] [] bytes
 
--- the bytes that lent fields show
+-- the bytes of borrowed fields
 abbrev pub texts_of : List (Bor (List ℕ)) → Fields
 texts_of lent = map (λ text. text.now) lent
 
--- ---- both
+-- ---- both forms
 
 -- the records that are left
 abbrev pub rows_of : Form → List Fields
 rows_of (form.Lines bytes) = rows_in bytes.now
 rows_of (form.Csv reader) = rows_left reader
 
--- each record that is left is given, unless memory runs out
+-- each record that is left is returned, unless memory runs out
 abbrev pub GoesOn : Form → Type 0
 GoesOn (form.Lines bytes) = AreLines bytes.now
 GoesOn (form.Csv reader) = CanRead reader

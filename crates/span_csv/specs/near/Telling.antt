@@ -1,4 +1,5 @@
--- What is told of a record where all faults of a file are told, and what is kept of the records before it.
+-- The fault that is reported for a record when all faults of a file are reported, and what is kept about the records
+-- before it.
 use Rattle.std.specs.Prelude.{◌≡◌, ⊤, ℕ, ◌+◌, Bool, false, List, [], ◌∷◌, ◌++◌, length, map, take}
 use Rattle.std.specs.Prelude.{Option, option_map, Some, None, Result, Ok, Err, MatchBool}
 use Rattle.span_tables.specs.Names.{distinct}
@@ -7,12 +8,13 @@ use Rattle.span_csv.specs.Records.{Fields, text_at}
 use Rattle.span_csv.specs.PositionFaults.{counted, is_memory, record_fault}
 use Rattle.span_csv.specs.declared.faults.PositionFault.{PositionFault}
 
--- of a record with a fault that is told, and of no other, the fault stands behind those before it
+-- the fault of the answer is appended, and an answer without a fault changes nothing
 abbrev pub Tells : {R F : Type 0} → (F → Bool) → Result R F → List F → List F → Type 0
 Tells is_memory (Ok _) old new = new ≡ old
 Tells is_memory (Err e) old new = (is_memory e ≡ false) × (new ≡ old ++ e ∷ [])
 
--- what is answered for a record behind earlier ones tells its fault, if it has one, and something is kept of the records with it
+-- the answer for a record after earlier ones is its fault, if it has one, and `Kept` is true of the records including
+-- it
 abbrev pub Judges : {X F : Type 0} → (F → Bool) → (List Fields → Fields → Option (ℕ → F)) → (List Fields → Type 0) → List Fields → Fields
     → Result X F → Type 0
 Judges is_memory fault_of Kept earlier r (Ok _) = (fault_of earlier r ≡ None) × Kept (earlier ++ r ∷ [])
@@ -21,10 +23,10 @@ Judges is_memory fault_of Kept earlier r (Err e) =
 
 -- ---- positions
 
--- the accounts of these records that count, each once, as far as their limit looks at them: up to one more than there may be
+-- the distinct accounts of the counted records, up to one more than the limit
 abbrev pub accounts_counted : List Fields → List (List ℕ)
 accounts_counted rs = take (MAX_ACCOUNTS + 1) (distinct (map (λ r. text_at r 0) (counted rs)))
 
--- what is answered for a record behind earlier ones, and the accounts that are kept then
+-- the answer for a record after earlier ones, and the accounts that are kept afterwards
 abbrev pub CheckIs : List Fields → Fields → Result ⊤ PositionFault → List (List ℕ) → Type 0
 CheckIs earlier r answer accounts = Judges is_memory record_fault (λ rs. accounts ≡ accounts_counted rs) earlier r answer
