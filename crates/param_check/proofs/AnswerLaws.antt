@@ -1,4 +1,4 @@
--- Files are accepted where no fault is told, and else refused with the first.
+-- Files without a fault are accepted, and others are rejected with the first fault.
 use Rattle.std.proofs.Common.{◌≡◌, List, [], ◌∷◌, Ok, Err, refl, ap}
 use Rattle.std.specs.Prelude.{◌↔◌}
 use Rattle.span_tables.specs.Faults.{first_of, ok_unless}

@@ -1,4 +1,4 @@
--- The rules on repeated records and on what records name, by keys.
+-- The rules on repeated records and on names in records, expressed by keys.
 use Rattle.std.proofs.Common.{◌≡◌, ℕ, Bool, not, List, [], ◌∷◌, ◌++◌, Option, None, Some, refl, sym, ap, ◌∙◌, ◌&&◌, ◌||◌, eqb, bytes_eq}
 use Rattle.std.specs.Prelude.{filter_map}
 use Rattle.std.specs.List.{list_any}
@@ -15,7 +15,7 @@ use Rattle.param_check.specs.declared.check.keys.Identity.{Identity}
 use Rattle.param_check.specs.declared.check.keys.Identity.TheVariants as identity
 use Rattle.binding.proofs.FilterMaps.{list_any-filter_map, list_any-map, list_any-same}
 
--- keys that hold the keys of some records say whether a record of a kind passes a test
+-- a key is among the keys of some records exactly if one of these records passes the corresponding test
 found : {A : Type 0} (i : Identity) (keys : List Key) (all : List Record) → ((k : Key) → is_key_among keys (Some k) ≡ has_key i all k)
     → (key : Key) (kind : Record → Option A) (test : A → Bool) → ((r : Record) → is_same (key_of i r) key ≡ is_and (kind r) test)
     → is_key_among keys (Some key) ≡ list_any test (filter_map kind all)
@@ -51,7 +51,7 @@ is_spot : (c : List ℕ) (n : ℕ) (r : Record) → is_same (key_of identity.Spo
 is_spot c n (record_of.Spot x) = refl
 is_spot c n _ = refl
 
--- they tell whether a record has the key of an earlier one
+-- the keys of the earlier records determine whether a record repeats one of them
 pub repeats_by : (i : Identity) (keys : List Key) (earlier : List Record) → ((k : Key) → is_key_among keys (Some k) ≡ has_key i earlier k)
     → (r : Record) → is_key_among keys (key_of i r) ≡ repeats i earlier r
 repeats_by identity.Commodity keys earlier are (record_of.Commodity x) =
@@ -86,7 +86,7 @@ module _ (keys : List Key) (all : List Record) where
         ≡ list_any (λ name. not (list_any (λ c. bytes_eq c.id name) (commodities_in all))) (id ∷ [])
     alone id = unknown id ∙ sym (or-false _)
 
-    -- a record names an unknown commodity
+    -- the keys of all records determine whether a record names an unknown commodity
     pub names_unknown_by : (r : Record) → names_unknown keys r ≡ names_no_commodity all r
     names_unknown_by (record_of.Contract x) = alone x.commodity
     names_unknown_by (record_of.Tier x) = alone x.commodity
@@ -97,7 +97,7 @@ module _ (keys : List Key) (all : List Record) where
         ∙ sym (list_any-map (λ name. not (list_any (λ c. bytes_eq c.id name) (commodities_in all))) (λ leg. leg.commodity) x.legs.items)
     names_unknown_by _ = refl
 
-  -- a record names an unknown tier
+  -- the keys of all records determine whether a record names an unknown tier
   pub names_unknown_tier_by : ((k : Key) → is_key_among keys (Some k) ≡ has_key identity.Tier all k)
       → (r : Record) → names_unknown_tier keys r ≡ names_no_tier all r
   names_unknown_tier_by are (record_of.Intra x) =

@@ -1,4 +1,4 @@
--- Lists of all faults are in order: by rising rule, of a rule by rising record.
+-- Lists of all faults are ordered by rule, and for one rule by record.
 use Rattle.std.proofs.Common.{◌≡◌, ℕ, ◌+◌, ◌<◌, ◌≤◌, Bool, true, false, List, [], ◌∷◌, ◌++◌, Option, Some, None, refl, sym, ap, subst}
 use Rattle.std.proofs.Common.{◌∙◌, inl, inr, append_assoc, arith}
 use Rattle.std.specs.Prelude.{⊤, flat_map, if◌then◌else◌, zip}
@@ -34,7 +34,7 @@ all_append P [] ys a b = b
 all_append P (x ∷ xs) ys a b = (a.0, all_append P xs ys a.1 b)
 
 module _ {F : Type 0} (rule_of number_of : F → ℕ) where
-  -- the faults of one rule, by rising record
+  -- the faults of one rule with rising record numbers are in order
   of_rule : (n : ℕ) (xs : List F) → IsStrictlyRisingBy number_of xs → AllByRecursion (λ y. rule_of y ≡ n) xs
       → AreInOrder (ComesBefore rule_of number_of) xs
   of_rule n [] rising all = tt
@@ -49,7 +49,7 @@ module _ {F : Type 0} (rule_of number_of : F → ℕ) where
   joined [] ys a b c = b
   joined (x ∷ xs) ys a b c = (all_append (ComesBefore rule_of number_of x) xs ys a.0 c.0, joined xs ys a.1 b c.1)
 
-  -- those of one rule, and those of later ones
+  -- the faults of one rule come before the faults of later rules
   apart : (n : ℕ) (xs ys : List F) → AllByRecursion (λ x. rule_of x ≡ n) xs → AllByRecursion (λ y. n < rule_of y) ys
       → AllByRecursion (λ x. AllByRecursion (ComesBefore rule_of number_of x) ys) xs
   apart n xs ys a b =
@@ -57,7 +57,7 @@ module _ {F : Type 0} (rule_of number_of : F → ℕ) where
       (λ x e. weaker (λ y. n < rule_of y) (ComesBefore rule_of number_of x) (λ y lt. inl (omega (arith, e, lt))) ys b) xs a
 
   module _ {X : Type 0} (faults : X → List F) where
-    -- rules of rising numbers, of each the faults by rising record
+    -- the rules have rising numbers, and the faults of each have rising record numbers
     AreNumbered : ℕ → List X → Type 0
     AreNumbered n [] = ⊤
     AreNumbered n (r ∷ rs) =
@@ -77,7 +77,7 @@ module _ {F : Type 0} (rule_of number_of : F → ℕ) where
               (weaker (λ y. n + 1 ≤ rule_of y) (λ y. n ≤ rule_of y) (λ y le. omega (arith, le)) (flat_map faults rs) rest.1),
         )
 
-  -- the faults of elements under the names of one rule
+  -- the faults of elements for one rule
   named_part : {A : Type 0} (fault_of : List A → A → Option (ℕ → F)) (n : ℕ)
       → ((earlier : List A) (x : A) (g : ℕ → F) → fault_of earlier x ≡ Some g
       → ((at : ℕ) → rule_of (g at) ≡ n) × ((at : ℕ) → number_of (g at) ≡ at))
@@ -98,7 +98,7 @@ module _ (all : List Record) where
   abbrev faults_of : (ℕ → CheckFault) × (List Record → Record → Bool) → List CheckFault
   faults_of named = all_breaking named.0 named.1 all
 
-  -- one more rule, in front
+  -- one more rule, before the others
   rule : (h : ℕ → CheckFault) (n : ℕ) → ((at : ℕ) → check_number (h at) ≡ n) → ((at : ℕ) → check_record (h at) ≡ at)
       → (breaks : List Record → Record → Bool) (rs : List ((ℕ → CheckFault) × (List Record → Record → Bool)))
       → AreNumbered check_number check_record faults_of (n + 1) rs → AreNumbered check_number check_record faults_of n ((h, breaks) ∷ rs)

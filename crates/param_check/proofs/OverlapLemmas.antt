@@ -1,4 +1,4 @@
--- Tiers by their commodity, and the rule that they share no month.
+-- Tiers by their commodity, and the rule that they do not share a month.
 use Rattle.std.proofs.Common.{◌≡◌, ℕ, ◌++◌, ◌∷◌, [], List, false, true, Bool, cond}
 use Rattle.std.proofs.Common.{bytes_eq, Option, None, Some, refl, sym, ap, ◌∙◌, ◌&&◌, get_or, take}
 use Rattle.std.specs.Prelude.{if◌then◌else◌, filter_map}
@@ -13,7 +13,7 @@ use Rattle.param_check.specs.near.Overlaps.{meet, meets_earlier, tier_months, mo
 use Rattle.param_check.specs.declared.check.overlaps.Months.{Months}
 use Rattle.binding.proofs.FilterMaps.{list_any-filter_map, list_any-same}
 
--- a new group under k, where there was none
+-- a new group is started for a key that had none
 pub begun : {V M : Type 0} (items : V → List M) (found : List ℕ → Option V) (k q : List ℕ) (group : V) (m : M)
     → items group ≡ m ∷ [] → found k ≡ None → (b : Bool) → bytes_eq k q ≡ b
     → option_map_or items (cond b (Some group) (found q)) [] ≡ option_map_or items (found q) [] ++ (if b then m ∷ [] else [])
@@ -29,7 +29,7 @@ alike : (commodity : List ℕ) (m : Months) (r : Record) → is_and (months_unde
 alike commodity m (record_of.Tier x) = under (bytes_eq x.commodity commodity) (tier_months x) (meet m)
 alike commodity m _ = refl
 
--- groups of the earlier tiers by their commodity give the answer
+-- the earlier tiers, grouped by their commodity, determine whether a tier overlaps one of them
 pub overlaps_by : (groups : List ℕ → List Months) (earlier : List Record) → ((c : List ℕ) → groups c ≡ filter_map (months_under c) earlier)
     → (r : Record) → meets_earlier groups r ≡ overlaps_tier earlier r
 overlaps_by groups earlier are (record_of.Tier x) =

@@ -1,4 +1,4 @@
--- Faults of the records of known contracts alone, under the numbers of the file.
+-- The faults of the records of known contracts by themselves, with the record numbers of the file.
 use Rattle.std.proofs.Common.{◌≡◌, ℕ, ◌+◌, ◌-◌, Bool, true, false, cond, not, ◌&&◌, ◌||◌, List, [], ◌∷◌, ◌++◌, length, get_or}
 use Rattle.std.proofs.Common.{map, filter}
 use Rattle.std.proofs.Common.{Some, None, refl, sym, ap, ◌∙◌, append_assoc, arith}
@@ -25,7 +25,7 @@ at_end : (front later : List ℕ) (n : ℕ) → get_or (front ++ n ∷ later) (l
 at_end [] later n = refl
 at_end (m ∷ front) later n = at_end front later n
 
--- those that pass pass
+-- among the elements that pass a test, none fails it
 none_left : {X : Type 0} (test : X → Bool) (xs : List X) → list_any (λ x. not (test x)) (filter test xs) ≡ false
 none_left test [] = refl
 none_left test (x ∷ xs) = by (test x) refl (none_left test xs)
@@ -60,7 +60,7 @@ module _ (contracts : List Contract) where
   module _ (numbers : List ℕ) (g : ℕ → List ℕ → BindFault)
       (named : (at : ℕ) (name : List ℕ) → renumbered numbers (g at name) ≡ g (get_or numbers (at - 1) 0) name)
       (test : List PositionRecord → PositionRecord → Bool) where
-    -- of a record of a known contract, the fault among all and the fault among those
+    -- the fault of a record of a known contract, both among all records and among the records of known contracts
     told : Bool → ℕ → List ℕ → List BindFault
     told b n name = option_to_list (option_map {T = ℕ → BindFault} (λ f. f n) (if b then Some (λ at. g at name) else None))
 
@@ -95,11 +95,11 @@ module _ (contracts : List Contract) where
         up : length (earlier ++ x ∷ []) ≡ n
         up = length_push earlier x
 
-        -- the fault of the record, where it is told
+        -- the fault of the record, if it is reported
         own : Bool → List BindFault
         own b = told b n x.account
 
-        -- the faults behind it, of the records of known contracts alone, under the numbers of all
+        -- the faults after it, from the records of known contracts only, with the numbers of all records
         behind : List PositionRecord → List BindFault
         behind ks = map (renumbered numbers) (alone ks (known_records contracts xs))
 
@@ -177,7 +177,8 @@ module _ (contracts : List Contract) where
         (held_test (known_records contracts all)) in
         λ k. unknown_none k ++ nets k ++ held k
 
-    -- nets and what is held are those of the records of known contracts alone, under the numbers of the file
+    -- faults of nets and holdings are found from the records of known contracts only, and have the record numbers of
+    -- the file
     pub as_alone : bind_faults contracts all
         ≡ all_unfit fault.UnknownContract (λ earlier p. is_unknown contracts p) all
         ++ map (renumbered (known_numbers contracts all)) (bind_faults contracts (known_records contracts all))

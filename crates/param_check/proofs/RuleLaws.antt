@@ -1,4 +1,4 @@
--- The fault of a check by the rules, and that records without one keep every rule.
+-- The fault of a check in terms of the rules. Records without a fault keep every rule.
 use Rattle.std.proofs.Common.{◌≡◌, ℕ, ◌+◌, Bool, true, false, List, [], ◌∷◌, ◌++◌, ◌∙◌}
 use Rattle.std.proofs.Common.{Option, Some, None, refl, sym, ap, length, map, arith}
 use Rattle.std.specs.Prelude.{flat_map, zip, is_none, if◌then◌else◌, option_map, option_to_list}
@@ -11,12 +11,12 @@ use Rattle.param_check.specs.CheckFaults.{rule_names, check_fault, check_faults}
 use Rattle.span_tables.specs.declared.records.Record.{Record}
 use Rattle.param_check.specs.declared.faults.CheckFault.{CheckFault}
 
--- the first of the faults of all is the first outcome of each
+-- the first of all faults is the first fault of the first element that has one
 first_of_each : {X F : Type 0} (f : X → List F) (xs : List X) → first_of (flat_map f xs) ≡ first_some (map (λ x. first_of (f x)) xs)
 first_of_each f [] = refl
 first_of_each f (x ∷ xs) = first_of_both (f x) (flat_map f xs) ∙ ap (option_or (first_of (f x))) (first_of_each f xs)
 
--- the fault of a check, by the first record that breaks each rule
+-- the fault of a check, from the first record that breaks each rule
 pub check_fault_by_rule : (all : List Record)
     → check_fault all ≡ first_some (map (λ named. first_breaking named.0 named.1 all) (zip rule_names (rules all)))
 unfolding check_fault check_faults
@@ -52,7 +52,7 @@ all_kept all (n ∷ ns) (t ∷ ts) same e =
     let one : first_breaking (λ at. at) t all ≡ None = same_under n t [] all h.0 in
     rw one (all_kept all ns ts (omega (arith, same)) h.1)
 
--- no fault: every rule is kept
+-- if there is no fault, every rule is kept
 pub rules_kept : (all : List Record) → check_fault all ≡ None → keeps_rules all ≡ true
 unfolding keeps_rules
 rules_kept all e = all_kept all rule_names (rules all) refl (sym (check_fault_by_rule all) ∙ e)

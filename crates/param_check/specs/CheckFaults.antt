@@ -1,4 +1,4 @@
--- Which rules the records of a parameter file break.
+-- The rules that the records of a parameter file break.
 use Rattle.std.specs.Prelude.{ℕ, List, [], ◌∷◌, ◌++◌, codes, decimal, flat_map, zip, Option, Result, Bool, true, false}
 use Rattle.span_tables.specs.Faults.{first_of, ok_unless}
 use Rattle.span_tables.specs.Rules.{all_breaking, rules}
@@ -23,11 +23,11 @@ rule_names =
     ∷ fault.DuplicateSpot
     ∷ []
 
--- the faults of a parameter file's records: by rising rule, of a rule by rising record, each record that breaks the rule
+-- the faults of a parameter file's records: each record that breaks a rule, ordered by rule and then by record
 unfoldable pub check_faults : List Record → List CheckFault
 check_faults all = flat_map (λ named. all_breaking named.0 named.1 all) (zip rule_names (rules all))
 
--- the first of these: the lowest-numbered rule that some record breaks, with the first that does
+-- the first of these faults: the lowest-numbered broken rule, with the first record that breaks it
 unfoldable pub check_fault : List Record → Option CheckFault
 check_fault all = first_of (check_faults all)
 
@@ -35,12 +35,12 @@ check_fault all = first_of (check_faults all)
 unfoldable pub checked : List Record → Result AcceptedTables CheckFault
 checked records = ok_unless (check_fault records) (tables_of records)
 
--- the fault is out of memory, of which the definition does not speak
+-- the fault is out of memory, which the definitions of faults do not cover
 abbrev pub is_memory : CheckFault → Bool
 is_memory fault.OutOfMemory = true
 is_memory _ = false
 
--- what is said of a fault: its number and name, and the number of its record
+-- the text of a fault: its number and name, and the number of its record
 abbrev pub check_text : CheckFault → List ℕ
 check_text (fault.DuplicateCommodity at) = codes "C1 DuplicateCommodity at record " ++ decimal at
 check_text (fault.UnknownCommodity at) = codes "C2 UnknownCommodity at record " ++ decimal at

@@ -1,4 +1,4 @@
--- What the laws of all faults speak of.
+-- Definitions that only the lemmas on all faults use.
 use Rattle.std.specs.Prelude.{◌≡◌, ◌⊎◌, ⊤, ℕ, ◌-◌, ◌<◌, List, [], ◌∷◌, filter, map, slice_index_or}
 use Rattle.std.specs.List.{AllByRecursion, enumerate_from}
 use Rattle.span_tables.specs.declared.records.Contract.{Contract}
@@ -51,20 +51,20 @@ bind_record (fault.NetOutOfRange at account) = at
 bind_record (fault.TooManyHeld at account) = at
 bind_record fault.OutOfMemory = 0
 
--- a fault stands before another: of a lower rule, or of the same rule and a lower record
+-- a fault comes before another if its rule is lower, or if the rule is the same and its record is lower
 abbrev pub ComesBefore : {F : Type 0} → (F → ℕ) → (F → ℕ) → F → F → Type 0
 ComesBefore rule_of number_of x y = (rule_of x < rule_of y) ⊎ ((rule_of x ≡ rule_of y) × (number_of x < number_of y))
 
--- each element stands before all that follow it
+-- each element comes before all that follow it
 abbrev pub AreInOrder : {F : Type 0} → (F → F → Type 0) → List F → Type 0
 AreInOrder before [] = ⊤
 AreInOrder before (x ∷ xs) = AllByRecursion (before x) xs × AreInOrder before xs
 
--- the numbers, in their file, of the records of contracts that the tables have
+-- the record numbers, in the whole file, of the records whose contracts are in the tables
 abbrev pub known_numbers : List Contract → List PositionRecord → List ℕ
 known_numbers contracts all = map (λ n. n.0) (filter (λ n. is_known contracts n.1) (enumerate_from 1 all))
 
--- a fault under the number that stands for its record's
+-- a fault with its record number replaced by the number at that index
 abbrev pub renumbered : List ℕ → BindFault → BindFault
 renumbered numbers (fault.UnknownContract at account) = fault.UnknownContract (slice_index_or numbers (at - 1) 0) account
 renumbered numbers (fault.NetOutOfRange at account) = fault.NetOutOfRange (slice_index_or numbers (at - 1) 0) account

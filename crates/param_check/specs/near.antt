@@ -1,4 +1,5 @@
--- What no promise's words stand on: forms near to the code, what types keep, samples.
+-- Implementation-level specs: definitions close to the code, type invariants and samples. No top-level guarantee
+-- depends on them.
 pub mod Keys
 pub mod NamedRules
 pub mod OnLiterals

@@ -23,10 +23,10 @@ use span_tables::records::Record;
 use span_tables::tables::Tables;
 use std::alloc::{AllocError, Global};
 
-/// A rule that the records of a file keep.
+/// A rule on the records of a parameter file.
 #[derive(Clone, Copy)]
 pub(crate) enum Rule {
-    /// C1, C3, C4, C10 and C11, by what no two records share.
+    /// C1, C3, C4, C10 and C11: no two records share a key of this kind.
     Repeats(Identity),
     /// C2.
     UnknownCommodity,
@@ -57,7 +57,7 @@ const RULES: [Rule; 11] = [
     Rule::Repeats(Identity::SpotMonth),
 ];
 
-// The fault of a record that breaks a rule.
+// Returns the fault of a record that breaks a rule.
 fn fault_of(rule: Rule, at: usize) -> CheckFault
     ensures { result ≡ fault_of rule at }
 {
@@ -76,7 +76,7 @@ fn fault_of(rule: Rule, at: usize) -> CheckFault
     }
 }
 
-// The keys that a rule asks for before the first record.
+// Returns the keys that a rule needs before the first record.
 fn first_keys(alloc: Global, rule: Rule, records: &[Record]) -> Result<IndexSet<Key>, AllocError>
     ensures { IfOk result (λ keys. IsSeen rule records.now [] keys.keys (λ c. [])) }
 {
@@ -87,7 +87,8 @@ fn first_keys(alloc: Global, rule: Rule, records: &[Record]) -> Result<IndexSet<
     }
 }
 
-// Whether a record breaks a rule, by the keys and the months of tiers that the rule has seen.
+// Returns whether a record breaks a rule, by the keys and the months of tiers seen so far for the rule. Adds the
+// record's own.
 fn breaks(
     alloc: Global,
     rule: Rule,
@@ -110,7 +111,7 @@ fn breaks(
     }
 }
 
-// Tells the records that break a rule.
+// Appends the faults of the records that break a rule.
 fn tell_rule(
     alloc: Global,
     rule: Rule,
@@ -129,7 +130,7 @@ fn tell_rule(
     Ok(())
 }
 
-// The faults of all rules.
+// Returns the faults of all rules.
 #[tactic(auto, unfolding(crate::specs::CheckFaults::check_faults))]
 fn all_faults(alloc: Global, records: &[Record]) -> Result<Vec<CheckFault>, AllocError>
     ensures { IfOk result (λ faults. faults.items ≡ check_faults records.now) }
@@ -141,7 +142,7 @@ fn all_faults(alloc: Global, records: &[Record]) -> Result<Vec<CheckFault>, Allo
     Ok(faults)
 }
 
-/// The lowest-numbered rule that a record breaks, with the first record that breaks it (docs/FORMATS.md, "Faults").
+/// Returns the lowest-numbered broken rule, with the first record that breaks it (docs/FORMATS.md, "Faults").
 #[tactic(auto, unfolding(crate::specs::CheckFaults::check_fault))]
 pub fn check_fault(alloc: Global, records: &[Record]) -> Result<Option<CheckFault>, AllocError>
     ensures { IfOk result (λ fault. fault ≡ check_fault records.now) }
@@ -150,16 +151,16 @@ pub fn check_fault(alloc: Global, records: &[Record]) -> Result<Option<CheckFaul
     Ok(faults.into_iter().next())
 }
 
-/// Each pair of a rule, of C1 to C11, and a record that breaks it, by rising rule, of a rule by rising record (docs/FORMATS.md, "All
-/// faults").
+/// Returns each pair of a rule, C1 to C11, and a record that breaks it, ordered by rule and then by record
+/// (docs/FORMATS.md, "All faults").
 pub fn check_faults(alloc: Global, records: &RawTables) -> Result<Vec<CheckFault>, AllocError>
     ensures { IfOk result (λ faults. faults.items ≡ check_faults records.now) }
 {
     all_faults(alloc, records.records())
 }
 
-/// The tables of the records of a file, or the lowest-numbered rule that they break, of C1 to C11, with the first record
-/// that breaks it (docs/FORMATS.md, "Faults").
+/// Returns the tables of the records of a file. Fails with the lowest-numbered broken rule, C1 to C11, and the first
+/// record that breaks it (docs/FORMATS.md, "Faults").
 #[tactic(auto, using(crate::proofs::RuleLaws::rules_kept), unfolding(crate::specs::CheckFaults::checked))]
 pub fn check(alloc: Global, raw: RawTables) -> Result<Tables, CheckFault>
     ensures { Gives is_memory result (checked raw) }

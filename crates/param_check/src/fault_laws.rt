@@ -1,4 +1,5 @@
-//! Laws of all faults, in the methodology's words: each is the contract of a function that does nothing.
+//! Lemmas on lists of all faults, in the terms of the methodology. Each is the contract of a function with an empty
+//! body.
 ghost use Rattle.std.specs.Prelude.{◌≡◌, ◌↔◌, ◌++◌, ◌∷◌, ℕ, Bool, List, [], None, Some, Ok, Err};
 ghost use Rattle.std.specs.Prelude.{if◌then◌else◌, map, Contains};
 ghost use Rattle.std.specs.List.{AllByRecursion};
@@ -17,15 +18,16 @@ ghost use Rattle.span_tables.specs.declared.records.Contract.{Contract};
 ghost use Rattle.span_tables.specs.declared.records.PositionRecord.{PositionRecord};
 ghost use Rattle.span_tables.specs.declared.records.Record.{Record};
 
-/// No fault of a parameter file's records is told exactly where they are accepted, and else the first that is told is the one with which
-/// they are refused.
+/// The list of all faults of a parameter file's records is empty exactly if the records are accepted. Otherwise they
+/// are rejected with the first fault of the list.
 pub fn check_tells_its_fault_first()
     ensures accepted { (all : List Record) → (check_faults all ≡ []) ↔ (checked all ≡ Ok (tables_of all)) }
     ensures refused { (all : List Record) (y : CheckFault) (rest : List CheckFault) → check_faults all ≡ y ∷ rest
         → checked all ≡ Err y }
 {}
 
-/// No fault of positions is told exactly where they are accepted, and else the first that is told is the one with which they are refused.
+/// The list of all faults of positions is empty exactly if they are accepted. Otherwise they are rejected with the
+/// first fault of the list.
 pub fn binding_tells_its_fault_first()
     ensures accepted { (contracts : List Contract) (all : List PositionRecord) → (bind_faults contracts all ≡ [])
         ↔ (bindings_of contracts all ≡ Ok (portfolios_of contracts all)) }
@@ -33,7 +35,7 @@ pub fn binding_tells_its_fault_first()
         → bind_faults contracts all ≡ y ∷ rest → bindings_of contracts all ≡ Err y }
 {}
 
-/// Of a rule each record that breaks it is told, and each that is told breaks it.
+/// For each rule, every record that breaks it is reported, and every reported record breaks it.
 pub fn each_record_that_breaks_a_rule_is_told()
     ensures rules { (fault : ℕ → CheckFault) (breaks : List Record → Record → Bool) (all : List Record) (y : CheckFault)
         → IsFaultOfSome (λ earlier r. if breaks earlier r then Some fault else None) [] all y
@@ -51,7 +53,7 @@ pub fn each_record_that_breaks_a_rule_is_told()
         (all_unfit fault unfit all) }
 {}
 
-/// Of a rule no record is told twice: the numbers of those that are told rise.
+/// For each rule, no record is reported twice: the reported record numbers are strictly rising.
 pub fn no_record_is_told_twice_of_a_rule()
     ensures rules { (breaks : List Record → Record → Bool) (all : List Record)
         → IsStrictlyRisingBy (λ at. at) (all_breaking (λ at. at) breaks all) }
@@ -59,14 +61,15 @@ pub fn no_record_is_told_twice_of_a_rule()
         → IsStrictlyRisingBy (λ at. at) (all_unfit_by (λ p. p.account) (λ at name. at) unfit all) }
 {}
 
-/// Faults are told by rising rule, and of a rule by rising record; so none is told twice.
+/// Faults are ordered by rule, and for one rule by record. So no fault is reported twice.
 pub fn faults_are_told_in_order()
     ensures rules { (all : List Record) → AreInOrder (ComesBefore check_number check_record) (check_faults all) }
     ensures positions { (contracts : List Contract) (all : List PositionRecord)
         → AreInOrder (ComesBefore bind_number bind_record) (bind_faults contracts all) }
 {}
 
-/// Nets and what is held are told as of the records of known contracts alone, under the numbers of the file.
+/// Faults of nets and holdings are the faults of the records of known contracts by themselves, with the record numbers
+/// of the file.
 pub fn records_of_unknown_contracts_count_in_no_net()
     ensures { (contracts : List Contract) (all : List PositionRecord) → bind_faults contracts all
         ≡ all_unfit bind.UnknownContract (λ earlier p. is_unknown contracts p) all

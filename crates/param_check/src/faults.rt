@@ -1,4 +1,4 @@
-//! Which rule the records of a parameter file break. `at` is a record's number, from 1.
+//! The rules that the records of a parameter file can break. `at` is the number of a record, starting with 1.
 ghost use Rattle.param_check.specs.declared.faults.CheckFault.TheVariants as check;
 ghost use Rattle.std.specs.Prelude.{◌≡◌};
 
@@ -8,30 +8,30 @@ use std::error::Error;
 use std::fmt;
 use std::fmt::Display;
 
-/// Which rule the records of a parameter file break.
+/// A rule that a record of a parameter file breaks.
 #[derive(Clone, Copy, Debug, Drop, PartialEq, Eq)]
 pub enum CheckFault {
-    /// C1: the id of an earlier COMMODITY.
+    /// C1: the record has the id of an earlier COMMODITY.
     DuplicateCommodity { at: usize },
-    /// C2: a commodity that no COMMODITY record has.
+    /// C2: a commodity without a COMMODITY record.
     UnknownCommodity { at: usize },
-    /// C3: the id of an earlier CONTRACT.
+    /// C3: the record has the id of an earlier CONTRACT.
     DuplicateContract { at: usize },
-    /// C4: the commodity and number of an earlier TIER.
+    /// C4: the record has the commodity and number of an earlier TIER.
     DuplicateTier { at: usize },
-    /// C5: a first month after the last.
+    /// C5: the first month is after the last.
     TierBackwards { at: usize },
-    /// C6: a month of an earlier TIER of its commodity.
+    /// C6: the record shares a month with an earlier TIER of its commodity.
     TierOverlap { at: usize },
-    /// C7: a leg whose tier its commodity does not have.
+    /// C7: a leg has a tier that its commodity does not have.
     UnknownTier { at: usize },
-    /// C8: two legs of one tier and side, or of one commodity.
+    /// C8: two legs have the same tier and side, or the same commodity.
     RepeatedLeg { at: usize },
-    /// C9: no leg on A, or none on B.
+    /// C9: no leg is on side A, or none is on side B.
     OneSided { at: usize },
-    /// C10: the priority of an earlier spread of its kind (and commodity).
+    /// C10: the record has the priority of an earlier spread of its kind (and commodity).
     DuplicatePriority { at: usize },
-    /// C11: the commodity and month of an earlier SPOT.
+    /// C11: the record has the commodity and month of an earlier SPOT.
     DuplicateSpot { at: usize },
     /// Out of memory.
     OutOfMemory,

@@ -1,4 +1,4 @@
-//! Laws of the rules, in the methodology's words: each is the contract of a function that does nothing.
+//! Lemmas on the rules, in the terms of the methodology. Each is the contract of a function with an empty body.
 ghost use Rattle.std.specs.Prelude.{◌≡◌, ℕ, true, map};
 ghost use Rattle.std.specs.Prelude.{Bool, List, [], Some, None, if◌then◌else◌, zip};
 ghost use Rattle.param_check.specs.CheckFaults.{check_fault, rule_names};
@@ -7,7 +7,7 @@ ghost use Rattle.span_tables.specs.Laws.{IsFirstFault, IsFirstOutcome};
 ghost use Rattle.span_tables.specs.Rules.{first_breaking, keeps_rules, rules};
 ghost use Rattle.span_tables.specs.declared.records.Record.{Record};
 
-/// The fault of a check is that of the first rule that some record breaks, and names the first record that breaks it.
+/// The fault of a check belongs to the first rule that some record breaks, and names the first record that breaks it.
 pub fn first_broken_rule_counts()
     ensures first { (fault : ℕ → CheckFault) (breaks : List Record → Record
         → Bool) (all : List Record) (y : CheckFault) → first_breaking fault breaks all ≡ Some y

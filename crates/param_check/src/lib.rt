@@ -1,4 +1,4 @@
-//! The checker of parameter files. It passes on `bind`, `bind_faults` and the orders of the crate `binding`.
+//! The checker of parameter files. It re-exports `bind`, `bind_faults` and the orders of the crate `binding`.
 #![tactic(auto)]
 
 pub mod check;

@@ -1,4 +1,4 @@
-//! Worked faults, computed by the definitions alone.
+//! Test vectors for faults, computed by the definitions only.
 #![tactic(auto, unfolding(crate::specs::near::OnLiterals::on_literals))]
 
 ghost use Rattle.std.specs.Prelude.{◌≡◌, [], ◌∷◌, None, Some, codes};
@@ -9,28 +9,28 @@ ghost use Rattle.param_check.specs.declared.faults.CheckFault.TheVariants as che
 ghost use Rattle.span_tables.specs.near.Samples.{commodity};
 ghost use Rattle.span_tables.specs.declared.sides.Side.TheVariants as side;
 
-// C2 of a leg.
+// C2: a leg has an unknown commodity.
 fn leg_of_an_unknown_commodity()
     ensures { check_fault (commodity (codes "AA")
         ∷ inter_sample 1 (codes "AA", side.A) (codes "BB", side.B) ∷ [])
         ≡ Some (check.UnknownCommodity 2) }
 {}
 
-// C8: two legs of one commodity, though on two sides.
+// C8: two legs have the same commodity, although they are on different sides.
 fn legs_of_one_commodity()
     ensures { check_fault (commodity (codes "AA")
         ∷ inter_sample 1 (codes "AA", side.A) (codes "AA", side.B) ∷ [])
         ≡ Some (check.RepeatedLeg 2) }
 {}
 
-// C9: no leg on B.
+// C9: no leg is on side B.
 fn legs_on_one_side()
     ensures { check_fault (commodity (codes "AA") ∷ commodity (codes "BB")
         ∷ inter_sample 1 (codes "AA", side.A) (codes "BB", side.A) ∷ [])
         ≡ Some (check.OneSided 3) }
 {}
 
-// C10 of two intercommodity spreads.
+// C10: two intercommodity spreads have the same priority.
 fn priority_of_an_earlier_spread()
     ensures { check_fault (commodity (codes "AA") ∷ commodity (codes "BB")
         ∷ inter_sample 7 (codes "AA", side.A) (codes "BB", side.B)
@@ -38,7 +38,7 @@ fn priority_of_an_earlier_spread()
         ≡ Some (check.DuplicatePriority 4) }
 {}
 
-// A priority within a commodity and the same priority between commodities are two priorities.
+// Equal priorities of a spread within a commodity and a spread between commodities do not conflict.
 fn priority_of_both_kinds()
     ensures { check_fault (commodity (codes "AA") ∷ commodity (codes "BB")
         ∷ tier_sample (codes "AA") 1 202501 ∷ tier_sample (codes "AA") 2 202504

@@ -1,4 +1,4 @@
-//! Worked lists of all faults, computed by the definitions alone.
+//! Test vectors for lists of all faults, computed by the definitions only.
 #![tactic(auto, unfolding(crate::specs::near::OnLiterals::on_literals))]
 
 ghost use Rattle.std.specs.Prelude.{◌≡◌, [], ◌∷◌, codes};
@@ -8,20 +8,22 @@ ghost use Rattle.param_check.specs.declared.faults.CheckFault.TheVariants as che
 ghost use Rattle.span_tables.specs.near.Samples.{commodity};
 ghost use Rattle.span_tables.specs.declared.sides.Side.TheVariants as side;
 
-// The second and third of three commodities with one id break C1; the third once, though two earlier ones have its id.
+// If three commodities have the same id, the second and the third break C1. The third is reported once, although two
+// earlier ones have its id.
 fn commodity_three_times()
     ensures { check_faults (commodity (codes "AA") ∷ commodity (codes "AA") ∷ commodity (codes "AA") ∷ [])
         ≡ check.DuplicateCommodity 2 ∷ check.DuplicateCommodity 3 ∷ [] }
 {}
 
-// A spread that breaks three rules is told of each, and once of C2, though both of its legs are of an unknown commodity.
+// A spread that breaks three rules is reported for each. It is reported once for C2, although both of its legs have an
+// unknown commodity.
 fn record_that_breaks_several_rules()
     ensures { check_faults (commodity (codes "AA")
         ∷ inter_sample 1 (codes "BB", side.A) (codes "BB", side.A) ∷ [])
         ≡ check.UnknownCommodity 2 ∷ check.RepeatedLeg 2 ∷ check.OneSided 2 ∷ [] }
 {}
 
-// By rising rule, and of a rule by rising record.
+// Faults are ordered by rule, and for one rule by record.
 fn rules_before_records()
     ensures { check_faults (commodity (codes "AA")
         ∷ inter_sample 1 (codes "AA", side.A) (codes "AA", side.A)

@@ -1,4 +1,4 @@
--- What no two records of a kind may share, as keys that are compared.
+-- The keys that no two records of a kind may share.
 use Rattle.std.specs.Prelude.{ℕ, Bool, true, false, not, ◌&&◌, ◌==◌, List, Option, Some, None, bytes_eq}
 use Rattle.std.specs.List.{list_any}
 use Rattle.span_tables.specs.Rules.{is_and, as_intra, repeats_commodity, repeats_contract, repeats_tier, repeats_priority}
@@ -14,7 +14,7 @@ use Rattle.binding.specs.near.Holdings.{is_same_name}
 abbrev pub name_key : List ℕ → ℕ → Key
 name_key name number = record { name = Some name; number = number }
 
--- the key of a record, where it is of the kind
+-- the key of a record, if it is of the kind
 abbrev pub key_of : Identity → Record → Option Key
 key_of identity.Commodity (record_of.Commodity c) = Some (name_key c.id 0)
 key_of identity.Contract (record_of.Contract x) = Some (name_key x.id 0)
@@ -28,11 +28,11 @@ key_of _ _ = None
 abbrev pub is_same_key : Key → Key → Bool
 is_same_key x y = is_same_name x.name y.name && (x.number == y.number)
 
--- the key, where there is one, is among these
+-- there is a key, and it is among these keys
 abbrev pub is_key_among : List Key → Option Key → Bool
 is_key_among keys key = is_and key (λ k. list_any (is_same_key k) keys)
 
--- the key, where there is one, is the same as this
+-- there is a key, and it is the same as this one
 abbrev pub is_same : Option Key → Key → Bool
 is_same key k = is_and key (λ l. is_same_key l k)
 
@@ -40,7 +40,7 @@ is_same key k = is_and key (λ l. is_same_key l k)
 abbrev pub has_key : Identity → List Record → Key → Bool
 has_key identity all key = list_any (λ r. is_same (key_of identity r) key) all
 
--- a record with the key of an earlier one
+-- the record has the key of an earlier record
 abbrev pub repeats : Identity → List Record → Record → Bool
 repeats identity.Commodity = repeats_commodity
 repeats identity.Contract = repeats_contract
@@ -48,7 +48,7 @@ repeats identity.Tier = repeats_tier
 repeats identity.Priority = repeats_priority
 repeats identity.SpotMonth = repeats_spot
 
--- no record has the key of this name and number, where these are the keys of all
+-- no record has the key of this name and number; `keys` are the keys of all records
 abbrev pub is_key_unknown : List Key → List ℕ → ℕ → Bool
 is_key_unknown keys name number = not (is_key_among keys (Some (name_key name number)))
 
@@ -61,7 +61,7 @@ names_unknown commodities (record_of.Spot x) = is_key_unknown commodities x.comm
 names_unknown commodities (record_of.Inter x) = list_any (λ leg. is_key_unknown commodities leg.commodity 0) x.legs.items
 names_unknown commodities _ = false
 
--- the record is an INTRA with a leg whose tier no TIER record of its commodity has
+-- the record is an INTRA with a leg whose tier is in no TIER record of its commodity
 abbrev pub names_unknown_tier : List Key → Record → Bool
 names_unknown_tier tiers r =
     is_and (as_intra r) (λ s. list_any (λ leg. is_key_unknown tiers s.commodity leg.tier) s.legs.items)

@@ -1,4 +1,4 @@
--- The rules by name, the faults of each, and by what each is judged.
+-- The rules by name, the faults of each rule, and the keys and months that decide it.
 use Rattle.std.specs.Prelude.{◌≡◌, ⊤, ℕ, Bool, if◌then◌else◌, List, Option, Some, None, filter_map, flat_map}
 use Rattle.span_tables.specs.Faults.{all_faults}
 use Rattle.span_tables.specs.Rules.{is_backwards, is_one_sided, names_no_commodity, names_no_tier, overlaps_tier, repeats_leg}
@@ -13,7 +13,7 @@ use Rattle.param_check.specs.declared.faults.CheckFault.TheVariants as fault
 use Rattle.param_check.specs.near.Keys.{has_key, is_key_among, repeats}
 use Rattle.param_check.specs.near.Overlaps.{months_under}
 
--- a record behind the earlier ones breaks a rule among all of the file
+-- a record after the earlier ones breaks a rule, given all records of the file
 abbrev pub breaks_of : Rule → List Record → List Record → Record → Bool
 breaks_of (rule.Repeats identity) all = repeats identity
 breaks_of rule.UnknownCommodity all = λ earlier r. names_no_commodity all r
@@ -37,7 +37,7 @@ fault_of rule.UnknownTier = fault.UnknownTier
 fault_of rule.RepeatedLeg = fault.RepeatedLeg
 fault_of rule.OneSided = fault.OneSided
 
--- the fault of a record behind the earlier ones, if it breaks the rule
+-- the fault of a record after the earlier ones, if it breaks the rule
 abbrev pub rule_fault : List Record → Rule → List Record → Record → Option (ℕ → CheckFault)
 rule_fault all rule earlier r = if breaks_of rule all earlier r then Some (fault_of rule) else None
 
@@ -45,11 +45,11 @@ rule_fault all rule earlier r = if breaks_of rule all earlier r then Some (fault
 abbrev pub rule_faults : List Record → Rule → List CheckFault
 rule_faults all rule = all_faults (rule_fault all rule) all
 
--- the faults of some rules
+-- the faults of a list of rules
 abbrev pub faults_of_rules : List Record → List Rule → List CheckFault
 faults_of_rules all rules = flat_map (rule_faults all) rules
 
--- these keys, and the months of tiers by their commodity, are those by which a rule is judged behind the earlier records of a file
+-- these keys, and these months of tiers by commodity, decide a rule after the earlier records of a file
 abbrev pub IsSeen : Rule → List Record → List Record → List Key → (List ℕ → List Months) → Type 0
 IsSeen (rule.Repeats identity) all earlier keys months = (k : Key) → is_key_among keys (Some k) ≡ has_key identity earlier k
 IsSeen rule.UnknownCommodity all earlier keys months = (k : Key) → is_key_among keys (Some k) ≡ has_key identity.Commodity all k

@@ -1,4 +1,4 @@
--- Records of which the worked faults are made.
+-- Sample records for the test vectors of faults.
 use Rattle.std.specs.Prelude.{ℕ, ◌+◌, List, [], ◌∷◌}
 use Rattle.span_tables.specs.declared.sides.Side.{Side}
 use Rattle.span_tables.specs.declared.sides.Side.TheVariants as side
@@ -22,7 +22,7 @@ intra_sample commodity priority =
       };
     })
 
--- a spread of two commodities, each on a side
+-- a spread of two commodities, each with its side
 abbrev pub inter_sample : ℕ → List ℕ × Side → List ℕ × Side → Record
 inter_sample priority one other =
     record_of.Inter (record {

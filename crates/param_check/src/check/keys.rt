@@ -1,4 +1,4 @@
-//! What no two records of a kind may share, as keys of a set.
+//! Keys that no two records of a kind may share.
 ghost use Rattle.std.specs.Prelude.{◌≡◌, ◌++◌, ◌||◌, false, option_to_list, IfOk, OnOk};
 ghost use Rattle.param_check.specs.near.Keys.{has_key, is_key_among, is_same, key_of};
 
@@ -7,7 +7,7 @@ use span_tables::name::Name;
 use span_tables::records::Record;
 use std::alloc::{AllocError, Global};
 
-/// Which records a key is of, and of what it is made.
+/// The kind of a key: the records that have such a key, and the fields that make it up.
 #[derive(Clone, Copy, Debug, PartialEq, Eq)]
 pub(crate) enum Identity {
     /// The id of a COMMODITY.
@@ -22,14 +22,14 @@ pub(crate) enum Identity {
     SpotMonth,
 }
 
-/// A key of a record: a name where there is one, and a number, which is 0 where there is none.
+/// The key of a record: a name, if it has one, and a number, which is 0 if it has none.
 #[derive(Debug, Drop, PartialEq, Eq, Hash)]
 pub(crate) struct Key {
     pub name: Option<Name>,
     pub number: u32,
 }
 
-// The key of a record, or `None` where it is of another kind.
+// Returns the key of a record, or `None` if it is of another kind.
 fn key_of(identity: Identity, item: &Record) -> Option<Key>
     ensures { result ≡ key_of identity item.now }
 {
@@ -49,7 +49,7 @@ fn key_of(identity: Identity, item: &Record) -> Option<Key>
     }
 }
 
-/// The key of a name and a number.
+/// Returns the key of a name and a number.
 pub(crate) fn name_key(name: &Name, number: u32) -> Key
     ensures { result ≡ record { name = Some name.now; number = number } }
 {
@@ -59,7 +59,7 @@ pub(crate) fn name_key(name: &Name, number: u32) -> Key
     }
 }
 
-/// Takes the key of a record among those so far, and says whether it was among them.
+/// Adds the key of a record to `keys`, and returns whether it was already among them.
 pub(crate) fn repeats_or_joins(
     keys: &mut IndexSet<Key>,
     identity: Identity,
@@ -76,7 +76,7 @@ pub(crate) fn repeats_or_joins(
     Ok(!is_new)
 }
 
-/// The keys of all records that have one.
+/// Returns the keys of all records that have one.
 pub(crate) fn all_keys(
     alloc: Global,
     identity: Identity,

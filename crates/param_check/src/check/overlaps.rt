@@ -1,4 +1,4 @@
-//! The tiers that share a month with an earlier one of their commodity.
+//! The rule that a tier shares no month with an earlier tier of its commodity.
 ghost use Rattle.std.specs.Prelude.{◌≡◌, ℕ, ◌++◌, ◌∷◌, [], List};
 ghost use Rattle.std.specs.Prelude.{bytes_eq, if◌then◌else◌, option_to_list, IfOk, OnOk};
 ghost use Rattle.std.specs.List.{list_any};
@@ -16,21 +16,21 @@ pub(crate) struct Months {
     pub last: u32,
 }
 
-// Whether two tiers with these months share one.
+// Returns whether two tiers with these months share a month.
 fn meet(one: Months, other: Months) -> bool
     ensures { result ≡ meet one other }
 {
     one.first.max(other.first) <= one.last.min(other.last)
 }
 
-// Whether a tier with these months shares one with some of the earlier ones.
+// Returns whether a tier with these months shares a month with one of the earlier tiers.
 fn meets(months: Months, earlier: &[Months]) -> bool
     ensures { result ≡ list_any (meet months) earlier.now }
 {
     earlier.iter().any(|other| meet(months, *other))
 }
 
-// Takes the months of a tier among those of its commodity, and says whether it shares a month with an earlier one.
+// Adds the months of a tier to the months of its commodity, and returns whether it shares a month with an earlier tier.
 fn meets_or_joins(
     alloc: Global,
     tiers: &mut IndexMap<Name, Vec<Months>>,
@@ -55,7 +55,8 @@ fn meets_or_joins(
     Ok(false)
 }
 
-/// Takes the months of a record that is a tier, and says whether it shares a month with an earlier one of its commodity.
+/// Adds the months of a record if it is a tier, and returns whether it shares a month with an earlier tier of its
+/// commodity.
 pub(crate) fn overlaps_or_joins(
     alloc: Global,
     tiers: &mut IndexMap<Name, Vec<Months>>,

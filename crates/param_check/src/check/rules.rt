@@ -1,4 +1,4 @@
-//! The rules that a record breaks by itself or by what it names: C2, C5, C7, C8 and C9.
+//! The rules that depend only on a record itself or on the names in it: C2, C5, C7, C8 and C9.
 ghost use Rattle.std.specs.Prelude.{◌≡◌, ◌&&◌, ◌==◌, bytes_eq, map};
 ghost use Rattle.std.specs.List.{list_all, list_any};
 ghost use Rattle.span_tables.specs.Names.{has_repeat};
@@ -13,14 +13,14 @@ use span_tables::sides::Side;
 
 // ---- C2
 
-// Whether no record has the key of this name and number.
+// Returns whether no record has the key of this name and number.
 fn is_key_unknown(keys: &IndexSet<Key>, name: &Name, number: u32) -> bool
     ensures { result ≡ is_key_unknown keys.now.keys name.now number }
 {
     !keys.contains(&name_key(name, number))
 }
 
-// Whether a leg is of an unknown commodity.
+// Returns whether a leg has an unknown commodity.
 fn has_unknown_leg(commodities: &IndexSet<Key>, legs: &[InterLeg]) -> bool
     ensures { result ≡ list_any (λ leg. is_key_unknown commodities.now.keys leg.commodity 0) legs.now }
 {
@@ -28,7 +28,7 @@ fn has_unknown_leg(commodities: &IndexSet<Key>, legs: &[InterLeg]) -> bool
         .any(|leg| is_key_unknown(commodities, &leg.commodity, 0))
 }
 
-/// Whether a record names an unknown commodity.
+/// Returns whether a record names an unknown commodity.
 pub(crate) fn names_unknown(commodities: &IndexSet<Key>, item: &Record) -> bool
     ensures { result ≡ names_unknown commodities.now.keys item.now }
 {
@@ -44,7 +44,7 @@ pub(crate) fn names_unknown(commodities: &IndexSet<Key>, item: &Record) -> bool
 
 // ---- C5
 
-/// Whether a record is a TIER whose first month is after its last.
+/// Returns whether a record is a TIER whose first month is after its last.
 pub(crate) fn is_backwards(item: &Record) -> bool
     ensures { result ≡ is_backwards item.now }
 {
@@ -56,7 +56,7 @@ pub(crate) fn is_backwards(item: &Record) -> bool
 
 // ---- C7
 
-// Whether a leg is of an unknown tier.
+// Returns whether a leg has an unknown tier.
 fn has_unknown_tier(tiers: &IndexSet<Key>, commodity: &Name, legs: &[IntraLeg]) -> bool
     ensures { result ≡ list_any (λ leg. is_key_unknown tiers.now.keys commodity.now leg.tier) legs.now }
 {
@@ -64,7 +64,7 @@ fn has_unknown_tier(tiers: &IndexSet<Key>, commodity: &Name, legs: &[IntraLeg]) 
         .any(|leg| is_key_unknown(tiers, commodity, leg.tier))
 }
 
-/// Whether a record is an INTRA with a leg of an unknown tier.
+/// Returns whether a record is an INTRA with a leg of an unknown tier.
 pub(crate) fn names_unknown_tier(tiers: &IndexSet<Key>, item: &Record) -> bool
     ensures { result ≡ names_unknown_tier tiers.now.keys item.now }
 {
@@ -76,21 +76,21 @@ pub(crate) fn names_unknown_tier(tiers: &IndexSet<Key>, item: &Record) -> bool
 
 // ---- C8
 
-// Whether two legs are on the same side.
+// Returns whether two legs are on the same side.
 fn same_side(one: Side, other: Side) -> bool
     ensures { result ≡ same_side one other }
 {
     matches!((one, other), (Side::A, Side::A) | (Side::B, Side::B))
 }
 
-// Whether some leg has this tier and side.
+// Returns whether one of the legs has the tier and side of this leg.
 fn has_tier_leg(leg: &IntraLeg, legs: &[IntraLeg]) -> bool
     ensures { result ≡ list_any (λ other. (leg.now.tier == other.tier) && same_side leg.now.side other.side) legs.now }
 {
     legs.iter().any(|other| leg.tier == other.tier && same_side(leg.side, other.side))
 }
 
-// Whether two legs have the same tier and side.
+// Returns whether two legs have the same tier and side.
 fn repeats_tier_leg(legs: &[IntraLeg]) -> bool
     ensures { result ≡ has_repeat (λ a b. (a.tier == b.tier) && same_side a.side b.side) legs.now }
 {
@@ -102,14 +102,14 @@ fn repeats_tier_leg(legs: &[IntraLeg]) -> bool
     false
 }
 
-// Whether some leg has this commodity.
+// Returns whether one of the legs has the commodity of this leg.
 fn has_commodity_leg(leg: &InterLeg, legs: &[InterLeg]) -> bool
     ensures { result ≡ list_any (λ other. bytes_eq leg.now.commodity other.commodity) legs.now }
 {
     legs.iter().any(|other| leg.commodity == other.commodity)
 }
 
-// Whether two legs have the same commodity.
+// Returns whether two legs have the same commodity.
 fn repeats_commodity_leg(legs: &[InterLeg]) -> bool
     ensures { result ≡ has_repeat (λ a b. bytes_eq a.commodity b.commodity) legs.now }
 {
@@ -121,7 +121,7 @@ fn repeats_commodity_leg(legs: &[InterLeg]) -> bool
     false
 }
 
-/// Whether a record is a spread with two legs of one tier and side, or of one commodity.
+/// Returns whether a record is a spread with two legs of the same tier and side, or of the same commodity.
 pub(crate) fn repeats_leg(item: &Record) -> bool
     ensures { result ≡ repeats_leg item.now }
 {
@@ -134,7 +134,7 @@ pub(crate) fn repeats_leg(item: &Record) -> bool
 
 // ---- C9
 
-// Whether the legs are all on a side.
+// Returns whether all legs are on this side.
 fn tier_legs_on(legs: &[IntraLeg], side: Side) -> bool
     ensures { result ≡ list_all (same_side side) (map (λ leg. leg.side) legs.now) }
 {
@@ -143,14 +143,14 @@ fn tier_legs_on(legs: &[IntraLeg], side: Side) -> bool
         .all(|other| same_side(side, other))
 }
 
-// Whether no leg is on A, or none on B.
+// Returns whether no leg is on side A, or none is on side B.
 fn tier_legs_one_sided(legs: &[IntraLeg]) -> bool
     ensures { result ≡ are_one_sided (map (λ leg. leg.side) legs.now) }
 {
     tier_legs_on(legs, Side::A) || tier_legs_on(legs, Side::B)
 }
 
-// Whether the legs are all on a side.
+// Returns whether all legs are on this side.
 fn commodity_legs_on(legs: &[InterLeg], side: Side) -> bool
     ensures { result ≡ list_all (same_side side) (map (λ leg. leg.side) legs.now) }
 {
@@ -159,14 +159,14 @@ fn commodity_legs_on(legs: &[InterLeg], side: Side) -> bool
         .all(|other| same_side(side, other))
 }
 
-// Whether no leg is on A, or none on B.
+// Returns whether no leg is on side A, or none is on side B.
 fn commodity_legs_one_sided(legs: &[InterLeg]) -> bool
     ensures { result ≡ are_one_sided (map (λ leg. leg.side) legs.now) }
 {
     commodity_legs_on(legs, Side::A) || commodity_legs_on(legs, Side::B)
 }
 
-/// Whether a record is a spread with no leg on A or none on B.
+/// Returns whether a record is a spread with no leg on side A, or none on side B.
 pub(crate) fn is_one_sided(item: &Record) -> bool
     ensures { result ≡ is_one_sided item.now }
 {

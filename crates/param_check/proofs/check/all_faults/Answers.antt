@@ -8,7 +8,7 @@ use Rattle.param_check.specs.declared.faults.CheckFault.{CheckFault}
 use Rattle.param_check.specs.near.NamedRules.{faults_of_rules, rule_faults}
 use Rattle.param_check.proofs.check.all_faults.Goals as goal
 
--- what is told with one more rule
+-- the faults that are reported after one more rule
 told_next : (all : List Record) (told now : List CheckFault) (i : ℕ) (d : Rule) → i < length RULES
     → now ≡ told ++ rule_faults all (get_or RULES i d) → told ++ faults_of_rules all (drop i RULES) ≡ check_faults all
     → now ++ faults_of_rules all (drop (i + 1) RULES) ≡ check_faults all

@@ -6,7 +6,7 @@ use Rattle.param_check.proofs.fault_laws.no_record_is_told_twice_of_a_rule.Goals
 some_is : (fault : ℕ → ℕ) → Some (λ (at : ℕ). at) ≡ Some fault → (λ (at : ℕ). at) ≡ fault
 some_is fault e = cc
 
--- the number of an element that passes is the number that it is told
+-- the fault of an element that passes has the number that it is given
 as_told : (b : Bool) (fault : ℕ → ℕ) (n : ℕ) → (if b then Some (λ (at : ℕ). at) else None) ≡ Some fault → fault n ≡ n
 as_told true fault n e = let same : (λ (at : ℕ). at) ≡ fault = some_is fault e in sym (ap (λ f. f n) same)
 as_told false fault n e = cc
