@@ -1,4 +1,4 @@
--- The records of files that are cut out of bytes behind line feeds.
+-- The records of the files into which bytes are cut after line feeds.
 use Rattle.std.proofs.Common.{◌≡◌, ◌∙◌, ℕ, Bool, true, false, ◌&&◌, ◌==◌, if◌then◌else◌}
 use Rattle.std.proofs.Common.{List, [], ◌∷◌, ◌++◌, length, refl, sym, ap, subst, arith}
 use Rattle.std.specs.Prelude.{flat_map}
@@ -15,7 +15,7 @@ never : (t : Bool) → (t && false) ≡ false
 never true = refl
 never false = refl
 
--- bytes up to a line feed that do not begin with a mark do not begin with one with more behind them
+-- if bytes that end in a line feed do not begin with a mark, they do not begin with one when more bytes follow
 still_unmarked : (front more : List ℕ) → strip_bom (front ++ 10 ∷ []) ≡ front ++ 10 ∷ []
     → strip_bom ((front ++ 10 ∷ []) ++ more) ≡ (front ++ 10 ∷ []) ++ more
 unfolding strip_bom
@@ -47,7 +47,7 @@ no_bytes : records_of [] ≡ []
 unfolding records_of strip_bom records_from next_record
 no_bytes = refl
 
--- the records of bytes without a quote are those of the files that they are cut into behind line feeds
+-- the records of bytes without a quote are the records of the files into which they are cut after line feeds
 pub records_of_files : (files : List (List ℕ)) → AllByRecursion EndsInLineFeed files → has_quote (concat files) ≡ false
     → AllByRecursion BeginsWithNoMark files → records_of (concat files) ≡ flat_map records_of files
 records_of_files [] ends free unmarked = no_bytes

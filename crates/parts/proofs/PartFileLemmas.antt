@@ -25,9 +25,9 @@ use Rattle.statement_text.specs.declared.faults.SpanFault.{SpanFault}
 use Rattle.statement_text.specs.declared.faults.SpanFault.TheVariants as fault
 use Rattle.parts.proofs.PartLemmas.{distinct_joined, statements_joined, statements_parted}
 
--- ---- how many accounts there are
+-- ---- the number of accounts
 
--- one more name is one more distinct name, or none
+-- one more name adds at most one distinct name
 one_more : (names : List (List ℕ)) (a : List ℕ) → length (distinct names) ≤ length (distinct (names ++ a ∷ []))
 one_more names a =
     elim (cases_Bool (is_among names a)) [
@@ -35,7 +35,7 @@ one_more names a =
       | inr new ↦ let long = length-append (distinct names) (a ∷ []) in rw (distinct-push names a, new) (omega (arith, long))
     ]
 
--- more names are no fewer distinct names
+-- more names do not have fewer distinct names
 names_grow : (names more : List (List ℕ)) → length (distinct names) ≤ length (distinct (names ++ more))
 names_grow names [] = rw (append-nil names) (omega arith)
 names_grow names (a ∷ more) =
@@ -45,11 +45,11 @@ names_grow names (a ∷ more) =
     ap (λ ns. length (distinct ns)) (append_assoc names (a ∷ []) more) in
     omega (arith, here, rest, all)
 
--- how many accounts some records are of
+-- the number of accounts of the records
 abbrev pub count : List Fields → ℕ
 count rs = length (distinct (accounts_in rs))
 
--- with one more record, with more records
+-- the number with one more record, and with more records
 count_push : (earlier : List Fields) (r : Fields) → count (earlier ++ r ∷ [])
     ≡ length (distinct (accounts_in earlier ++ text_at r 0 ∷ []))
 count_push earlier r = ap (λ ns. length (distinct ns)) (map-append (λ (x : Fields). text_at x 0) earlier (r ∷ []))
@@ -60,7 +60,7 @@ count_grows rs more =
     let all = ap (λ ns. length (distinct ns)) (map-append (λ (x : Fields). text_at x 0) rs more) in
     omega (arith, grown, all)
 
--- records that share no account with these are of no fewer accounts than they are by themselves
+-- records that share no account with earlier records have no more accounts than both together
 count_behind : (rs more : List Fields) → ShareNoName (accounts_in rs) (accounts_in more) → count more ≤ count (rs ++ more)
 count_behind rs more apart =
     let all = ap (λ ns. length (distinct ns)) (map-append (λ (x : Fields). text_at x 0) rs more) in
@@ -70,11 +70,11 @@ count_behind rs more apart =
 
 -- ---- records without a fault
 
--- the fault of a record behind earlier ones, which all count where none has a fault
+-- the fault of a record after earlier ones, which are all counted if none has a fault
 abbrev pub fault_of : List Fields → Fields → Option (ℕ → PositionFault)
 fault_of earlier r = fault_where_all_count earlier r
 
--- where the accounts of these records and more are no more than there may be, none is one too many
+-- if all records together stay within the account limit, no record is one too many
 pub not_exceeded : (earlier more : List Fields) (r : Fields) → count (earlier ++ r ∷ more) ≤ MAX_ACCOUNTS
     → exceeds_accounts earlier r ≡ false
 not_exceeded earlier more r within = by (is_among (accounts_in earlier) (text_at r 0)) refl where
@@ -90,7 +90,7 @@ not_exceeded earlier more r within = by (is_among (accounts_in earlier) (text_at
       let less : count earlier ≡ MAX_ACCOUNTS → ⊥ = λ e. absurd (omega (arith, grown, all, pushed, long, within, e)) in
       rw new (ne_eqb (count earlier) MAX_ACCOUNTS less)
 
--- of the five tests of a record the last alone goes by the records before it
+-- only the last of the five tests of a record depends on the records before it
 last_test : (a b c d e f : Bool) → f ≡ false
     → first_that_holds {F = ℕ → PositionFault} ((a, position.FieldCount) ∷ (b, position.BadName) ∷ (c, position.BadNumber)
     ∷ (d, position.OutOfRange) ∷ (e, position.TooManyAccounts) ∷ []) ≡ None
@@ -102,12 +102,12 @@ last_test false false true d e f is none = cc
 last_test false false false true e f is none = cc
 last_test false false false false e f is none = rw is refl
 
--- a record without a fault has none behind other records, where its account is not one too many
+-- a record without a fault has none after other records, if its account is not one too many
 fault_behind : (earlier others : List Fields) (r : Fields) → exceeds_accounts others r ≡ false → fault_of earlier r ≡ None
     → fault_of others r ≡ None
 fault_behind earlier others r within none = last_test _ _ _ _ (exceeds_accounts earlier r) (exceeds_accounts others r) within none
 
--- records without a fault have none behind others either, where all accounts are no more than there may be
+-- records without a fault have none after other records, if there are no more accounts than the limit
 free_behind : (earlier others rs : List Fields) → count (others ++ rs) ≤ MAX_ACCOUNTS → IsFaultFree fault_of earlier rs
     → IsFaultFree fault_of others rs
 free_behind earlier others [] within free = tt
@@ -117,7 +117,7 @@ free_behind earlier others (r ∷ rs) within free =
       free_behind (earlier ++ r ∷ []) (others ++ r ∷ []) rs (omega (arith, all, within)) free.1,
     )
 
--- some records, and others behind them
+-- two lists without a fault, one after the other, have no fault
 free_joined : (earlier rs ss : List Fields) → IsFaultFree fault_of earlier rs → IsFaultFree fault_of (earlier ++ rs) ss
     → IsFaultFree fault_of earlier (rs ++ ss)
 free_joined earlier [] ss free more = subst (λ es. IsFaultFree fault_of es ss) (append-nil earlier) more
@@ -127,7 +127,7 @@ free_joined earlier (r ∷ rs) ss free more = (
       (subst (λ es. IsFaultFree fault_of es ss) (sym (append_assoc earlier (r ∷ []) rs)) more),
 )
 
--- records without a fault, taken apart
+-- both parts of a list without a fault have no fault
 free_parts : (earlier rs ss : List Fields) → IsFaultFree fault_of earlier (rs ++ ss)
     → IsFaultFree fault_of earlier rs × IsFaultFree fault_of (earlier ++ rs) ss
 free_parts earlier [] ss free = (tt, subst (λ es. IsFaultFree fault_of es ss) (sym (append-nil earlier)) free)
@@ -135,7 +135,7 @@ free_parts earlier (r ∷ rs) ss free =
     let rest = free_parts (earlier ++ r ∷ []) rs ss free.1 in
     ((free.0, rest.0), subst (λ es. IsFaultFree fault_of es ss) (append_assoc earlier (r ∷ []) rs) rest.1)
 
--- the last test of a record without a fault does not hold
+-- the last test is false for a record without a fault
 fifth_test : (a b c d e : Bool)
     → first_that_holds {F = ℕ → PositionFault} ((a, position.FieldCount) ∷ (b, position.BadName) ∷ (c, position.BadNumber)
     ∷ (d, position.OutOfRange) ∷ (e, position.TooManyAccounts) ∷ []) ≡ None → e ≡ false
@@ -146,7 +146,7 @@ fifth_test false false false true e none = cc
 fifth_test false false false false true none = cc
 fifth_test false false false false false none = refl
 
--- one more record without a fault leaves no more accounts than there may be
+-- one more record without a fault stays within the account limit
 one_more_within : (earlier : List Fields) (r : Fields) → count earlier ≤ MAX_ACCOUNTS → fault_of earlier r ≡ None
     → count (earlier ++ r ∷ []) ≤ MAX_ACCOUNTS
 one_more_within earlier r within none = by (is_among (accounts_in earlier) (text_at r 0)) refl where
@@ -166,7 +166,7 @@ one_more_within earlier r within none = by (is_among (accounts_in earlier) (text
       let less : count earlier ≡ MAX_ACCOUNTS → ⊥ = λ e. grind (arith, nat_tests, other, e) in
       grind (arith, pushed, long, within, less)
 
--- records without a fault are of no more accounts than there may be
+-- records without a fault stay within the account limit
 pub count_within : (earlier rs : List Fields) → count earlier ≤ MAX_ACCOUNTS → IsFaultFree fault_of earlier rs
     → count (earlier ++ rs) ≤ MAX_ACCOUNTS
 count_within earlier [] within free = rw (append-nil earlier) within
@@ -177,20 +177,20 @@ count_within earlier (r ∷ rs) within free =
 
 -- ---- the statement of a file
 
--- the accounts of position records are those of the file's
+-- the accounts of the position records are the accounts of the file's records
 accounts_are : (rs : List Fields) → map (λ p. p.account) (map position_record rs) ≡ accounts_in rs
 unfolding position_record
 accounts_are [] = refl
 accounts_are (r ∷ rs) = ap (λ names. text_at r 0 ∷ names) (accounts_are rs)
 
--- records that share no account say positions that share none
+-- the positions of records that share no account share none
 pub positions_apart : (rs ss : List Fields) → ShareNoName (accounts_in rs) (accounts_in ss)
     → AreApart (map position_record rs) (map position_record ss)
 positions_apart rs ss apart = λ name among.
     ap (λ names. is_among names name) (accounts_are ss)
     ∙ apart name (ap (λ names. is_among names name) (sym (accounts_are rs)) ∙ among)
 
--- a file that has a statement has no fault in its records, and it is theirs
+-- the records of a file with a statement have no fault, and the file has the statement of its positions
 pub of_records : (t : AcceptedTables) (bytes text : List ℕ) → statement_under t bytes ≡ Ok text
     → IsFaultFree fault_of [] (records_of bytes) × (statement_bound t (map position_record (records_of bytes)) ≡ Ok text)
 unfolding statement_under positions_of position_faults
@@ -202,7 +202,7 @@ of_records t bytes text is = by (first_fault record_fault (records_of bytes)) re
   by (Some f) e is = cc
   by None e is = (free_where_all_count [] (records_of bytes) refl (first_fault_none record_fault [] (records_of bytes) e), is)
 
--- records without a fault, with a statement of theirs, are those of a file with that statement
+-- a file whose records have no fault has the statement of its positions
 pub of_file : (t : AcceptedTables) (bytes text : List ℕ) → IsFaultFree fault_of [] (records_of bytes)
     → statement_bound t (map position_record (records_of bytes)) ≡ Ok text → statement_under t bytes ≡ Ok text
 unfolding statement_under positions_of position_faults
@@ -256,7 +256,7 @@ module _ (whole first second : List ℕ) (cut : records_of whole ≡ records_of 
         texts.4,
       )
 
-  -- the statements of two files, joined, are that of a file with the records of both
+  -- the statements of two files, joined, are the statement of a file with the records of both
   pub files_joined : (params one other : List ℕ) → count (records_of whole) ≤ MAX_ACCOUNTS
       → statement_of params first ≡ Ok one → statement_of params second ≡ Ok other
       → statement_of params whole ≡ Ok (one ++ other)
@@ -268,7 +268,7 @@ module _ (whole first second : List ℕ) (cut : records_of whole ≡ records_of 
     by (Ok t) is_one is_other = under_joined t one other few is_one is_other
     by (Err e) is_one is_other = cc
 
-  -- the whole file has a statement only where both parts have one
+  -- the whole file has a statement only if both parts have one
   pub files_parted : (params text : List ℕ) → statement_of params whole ≡ Ok text
       → (one : List ℕ) × (other : List ℕ) × (statement_of params first ≡ Ok one) × (statement_of params second ≡ Ok other)
       × (text ≡ one ++ other)
@@ -280,7 +280,7 @@ module _ (whole first second : List ℕ) (cut : records_of whole ≡ records_of 
     by (Ok t) is = under_parted t text is
     by (Err e) is = cc
 
--- the statement of two files, one behind the other, is that of the first and then that of the second
+-- the statement of two files joined is the statement of the first, then the statement of the second
 pub bytes_joined : (params first second one other : List ℕ) → EndsInLineFeed first → has_quote first ≡ false
     → BeginsWithNoMark second → AreFilesApart first second → count (records_of (first ++ second)) ≤ MAX_ACCOUNTS
     → statement_of params first ≡ Ok one → statement_of params second ≡ Ok other
@@ -288,7 +288,7 @@ pub bytes_joined : (params first second one other : List ℕ) → EndsInLineFeed
 bytes_joined params first second one other ends free unmarked apart few =
     files_joined (first ++ second) first second (records_joined first second ends free unmarked) apart params one other few
 
--- two files, one behind the other, have a statement only where each has one
+-- two files joined have a statement only if each has one
 pub bytes_parted : (params first second text : List ℕ) → EndsInLineFeed first → has_quote first ≡ false
     → BeginsWithNoMark second → AreFilesApart first second → statement_of params (first ++ second) ≡ Ok text
     → (one : List ℕ) × (other : List ℕ) × (statement_of params first ≡ Ok one) × (statement_of params second ≡ Ok other)

@@ -1,4 +1,4 @@
--- Position files in another order, and lists of position files of which no two have an account in common.
+-- Position files in another order, and lists of position files that pairwise have no account in common.
 use Rattle.std.proofs.Common.{◌≡◌, ◌∙◌, ℕ, ◌≤◌, Bool, true, false, not}
 use Rattle.std.proofs.Common.{List, [], ◌∷◌, ◌++◌, map}
 use Rattle.std.proofs.Common.{Option, Some, None, Ok, Err, Result, refl, sym, ap, subst, arith, append_assoc}
@@ -29,7 +29,7 @@ use Rattle.parts.proofs.PartFileLemmas.{count, count_within, fault_of, not_excee
 use Rattle.parts.proofs.PartListLemmas.{list_joined, list_parted, map_joined, pairs_first, pairs_rest}
 use Rattle.parts.proofs.RearrangedLemmas.{accounts_rearranged, lines_rearranged, names_rearranged, statement_by_lines, still_ok}
 
--- ---- records without a fault, by their form and by how many accounts they have
+-- ---- records without a fault, by their form and by their number of accounts
 
 -- some record has one of the faults Q1 to Q4
 abbrev has_unformed : List Fields → Bool
@@ -40,7 +40,7 @@ formed_of_free earlier [] free = refl
 formed_of_free earlier (r ∷ rs) free =
     or_from _ _ (not_from_true (is_formed r) (free_formed earlier r free.0)) (formed_of_free (earlier ++ r ∷ []) rs free.1)
 
--- where none of some faults holds, and none of one behind them, none holds
+-- if no fault of a list is present, and neither is one more, none of both is present
 none_behind : {F : Type 0} (fs : List (Bool × F)) (f : F) → not (is_none (first_that_holds fs)) ≡ false
     → first_that_holds (fs ++ (false, f) ∷ []) ≡ None
 none_behind [] f none = refl
@@ -66,7 +66,7 @@ free_of_formed earlier (r ∷ rs) formed within =
 
 -- ---- lists
 
--- what holds of each and each later one, of what they are turned into
+-- a property of all elements carries over to their images
 every_map : {X Y : Type 0} (P : X → Type 0) (Q : Y → Type 0) (f : X → Y) → ((x : X) → P x → Q (f x)) → (xs : List X)
     → AllByRecursion P xs → AllByRecursion Q (map f xs)
 every_map P Q f turn [] every = tt
@@ -80,12 +80,12 @@ pairs_map R S f turn (x ∷ xs) pairs =
     (All-from_recursion (S (f x)) (map f xs) (every_map (R x) (S (f x)) f (turn x) xs (pairs_first R x xs pairs)))
     (pairs_map R S f turn xs (pairs_rest R x xs pairs))
 
--- files that share no account say positions that share none
+-- the positions of files that share no account share none
 all_apart : (files : List (List ℕ)) → AllPairs AreFilesApart files → AllPairs AreApart (map positions_in files)
 all_apart files apart =
     pairs_map AreFilesApart AreApart positions_in (λ one other. positions_apart (records_of one) (records_of other)) files apart
 
--- what the records of all files say is what each file says, joined
+-- the positions of the records of all files are the positions of each file, joined
 said_by_all : (files : List (List ℕ)) → map position_record (flat_map records_of files) ≡ flat_map positions_in files
 said_by_all files = map_joined position_record records_of files
 
@@ -125,7 +125,7 @@ module _ (params : List ℕ) where
         ap is_ok (of_file t other text.0 (free_rearranged (records_of one) (records_of other) same_records of_one.0) text.1)
     by (Err e) ok = absurd (true≢false (sym ok))
 
-  -- a file with the same records in another order is accepted where this one is
+  -- a file with the same records in another order is accepted exactly if this one is
   pub file_accepted_rearranged : (one other : List ℕ) → IsPermutation (records_of one) (records_of other)
       → is_ok (statement_of params one) ≡ is_ok (statement_of params other)
   file_accepted_rearranged one other same_records =
@@ -140,7 +140,7 @@ module _ (params : List ℕ) where
         → IsFaultFree fault_of [] (records_of bytes) × (statement_bound t (positions_in bytes) ≡ Ok text)
     of_file_records bytes text is = of_records t bytes text (sym (under_tables bytes) ∙ is)
 
-    -- the statement of a file is the lines that its accounts have by the same records in another order
+    -- the statement of a file has the lines that its accounts have by the same records in another order
     pub file_lines_rearranged : (one other text : List ℕ) → IsPermutation (records_of one) (records_of other)
         → statement_of params other ≡ Ok text
         → text ≡ flat_map (lines_of t (positions_in one)) (accounts_of (positions_in other))
@@ -174,7 +174,7 @@ module _ (params : List ℕ) where
         list_any-append (λ r. not (is_formed r)) (records_of file) (flat_map records_of files)
         ∙ or_from _ _ (formed_of_free [] (records_of file) (of_file_records file text here).0) (each_formed files texts behind)
 
-    -- a file that can be read has the statement of its records
+    -- a file that can be read has the statement of its positions
     of_readable : (file text : List ℕ) → is_ok (positions_of file) ≡ true → statement_bound t (positions_in file) ≡ Ok text
         → statement_under t file ≡ Ok text
     unfolding statement_under positions_of position_faults
@@ -197,7 +197,7 @@ module _ (params : List ℕ) where
         let rest = each_read files texts readable.1 behind in
         λ i. first i ∷ rest i
 
-    -- the statements of files, joined, are that of their records joined
+    -- the statements of files, joined, are the statement of their records joined
     pub file_list_joined : (files : List (List ℕ)) (texts : List (List ℕ)) → AllPairs AreFilesApart files
         → map (statement_of params) files ≡ map Ok texts
         → statement_bound t (flat_map positions_in files) ≡ Ok (concat texts)
@@ -205,7 +205,7 @@ module _ (params : List ℕ) where
         ap (statement_bound t) (sym (flat_map-map (λ (part : List PositionRecord). part) positions_in files))
         ∙ list_joined t (map positions_in files) texts (all_apart files apart) (each_bound files texts each)
 
-    -- their records joined have a statement only where each file has one, if each can be read
+    -- if each file can be read, the joined records have a statement only if each file has one
     pub file_list_parted : (files : List (List ℕ)) (text : List ℕ) → AllPairs AreFilesApart files
         → All (λ file. is_ok (positions_of file) ≡ true) files
         → statement_bound t (flat_map positions_in files) ≡ Ok text
@@ -215,7 +215,8 @@ module _ (params : List ℕ) where
         (ap (statement_bound t) (flat_map-map (λ (part : List PositionRecord). part) positions_in files) ∙ is) in
         (parted.0, each_read files parted.0 (recursion_from_All _ files readable) parted.1, parted.2)
 
-    -- the statements of files, joined, are that of a file with their records, of no more accounts than there may be
+    -- the statements of files, joined, are the statement of a file with their records, if that has no more accounts
+    -- than the limit
     pub file_list_whole : (whole : List ℕ) (files : List (List ℕ)) (texts : List (List ℕ))
         → records_of whole ≡ flat_map records_of files → AllPairs AreFilesApart files → count (records_of whole) ≤ MAX_ACCOUNTS
         → map (statement_of params) files ≡ map Ok texts → statement_of params whole ≡ Ok (concat texts)
@@ -226,7 +227,8 @@ module _ (params : List ℕ) where
         (ap (λ rs. statement_bound t (map position_record rs)) cut
         ∙ ap (statement_bound t) (said_by_all files) ∙ file_list_joined files texts apart each)
 
-    -- The statements of files, joined, are the lines of the accounts of a whole that has their records in whatever order, each once.
+    -- The statements of files, joined, are the lines of the accounts of a whole file, each account once. The whole file
+    -- has the records of these files in any order.
     pub file_list_lines : (whole : List ℕ) (files : List (List ℕ)) (texts : List (List ℕ))
         → IsPermutation (records_of whole) (flat_map records_of files) → AllPairs AreFilesApart files
         → map (statement_of params) files ≡ map Ok texts

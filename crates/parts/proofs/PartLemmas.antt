@@ -36,15 +36,15 @@ or_right false b e = e
 or_left : (a b : Bool) → a ≡ true → (a || b) ≡ true
 or_left a b e = rw e refl
 
--- the first of some names is among them
+-- the first name of a list is among its names
 pub first_among : (name : List ℕ) (names : List (List ℕ)) → is_among (name ∷ names) name ≡ true
 first_among name names = rw (bytes_eq-refl name) refl
 
--- what is among the rest is among all
+-- a name among the rest of a list is among all its names
 rest_among : (x name : List ℕ) (names : List (List ℕ)) → is_among names name ≡ true → is_among (x ∷ names) name ≡ true
 rest_among x name names e = or_right (bytes_eq name x) (is_among names name) e
 
--- where none of the names is another one, that other one takes none away
+-- filtering out a name that is not in a list leaves the list unchanged
 pub none_taken : (gone : List ℕ) (names : List (List ℕ)) → is_among names gone ≡ false
     → filter (λ other. not (bytes_eq other gone)) names ≡ names
 none_taken gone [] new = refl
@@ -53,14 +53,14 @@ none_taken gone (x ∷ names) new =
     let apart : bytes_eq x gone ≡ false = bytes_eq-flip x gone ∙ parts.0 in
     rw apart (ap (λ rest. x ∷ rest) (none_taken gone names parts.1))
 
--- the other names share none with these either
+-- `ShareNoName` is symmetric
 share_none_back : (xs ys : List (List ℕ)) → ShareNoName xs ys → ShareNoName ys xs
 share_none_back xs ys apart = λ name among. by name among (is_among xs name) refl where
   by : (name : List ℕ) → is_among ys name ≡ true → (b : Bool) → is_among xs name ≡ b → is_among xs name ≡ false
   by name among true e = absurd (true≢false (sym among ∙ apart name e))
   by name among false e = e
 
--- of names that share none, the distinct ones of both are those of the one and those of the other
+-- if two lists share no name, the distinct names of both are the distinct names of each, joined
 pub distinct_joined : (xs ys : List (List ℕ)) → ShareNoName xs ys → distinct (xs ++ ys) ≡ distinct xs ++ distinct ys
 distinct_joined [] ys apart = refl
 distinct_joined (x ∷ xs) ys apart =
@@ -72,7 +72,7 @@ distinct_joined (x ∷ xs) ys apart =
 
 -- ---- the records of an account
 
--- an account that is not among those of the records has none of them
+-- an account that is not among the accounts of the records has no record
 no_records : (ps : List PositionRecord) (account : List ℕ) → is_among (map (λ p. p.account) ps) account ≡ false
     → records_of_account ps account ≡ []
 no_records [] account new = refl
@@ -81,7 +81,7 @@ no_records (p ∷ ps) account new =
     let apart : bytes_eq p.account account ≡ false = bytes_eq-flip p.account account ∙ parts.0 in
     rw apart (no_records ps account parts.1)
 
--- of two parts, an account that the second does not have has its records in the first
+-- an account that is not in the second part has all its records in the first
 records_in_first : (ps qs : List PositionRecord) (account : List ℕ) → is_among (map (λ p. p.account) qs) account ≡ false
     → records_of_account (ps ++ qs) account ≡ records_of_account ps account
 records_in_first ps qs account new =
@@ -89,14 +89,14 @@ records_in_first ps qs account new =
     ∙ ap (λ rs. records_of_account ps account ++ rs) (no_records qs account new)
     ∙ append-nil (records_of_account ps account)
 
--- an account that the first part does not have has its records in the second
+-- an account that is not in the first part has all its records in the second
 records_in_second : (ps qs : List PositionRecord) (account : List ℕ) → is_among (map (λ p. p.account) ps) account ≡ false
     → records_of_account (ps ++ qs) account ≡ records_of_account qs account
 records_in_second ps qs account new =
     filter-append (λ p. bytes_eq p.account account) ps qs
     ∙ ap (λ rs. rs ++ records_of_account qs account) (no_records ps account new)
 
--- what passes two tests passes the second of what passes the first
+-- filtering by two tests together is filtering by one and then by the other
 both_tests : {X : Type 0} (f g : X → Bool) (xs : List X) → filter (λ x. f x && g x) xs ≡ filter g (filter f xs)
 both_tests f g [] = refl
 both_tests f g (x ∷ xs) = by (f x) (both_tests f g xs) where
@@ -106,7 +106,7 @@ both_tests f g (x ∷ xs) = by (f x) (both_tests f g xs) where
   by true more = ap (λ rest. cond (g x) (x ∷ rest) rest) more
   by false more = more
 
--- the net of an account is that of its records
+-- the net of an account is the net of its own records
 net_by_account : (ps : List PositionRecord) (account contract : List ℕ) → net_of ps account contract
     ≡ int_sum_by (λ p. p.quantity) (filter (λ p. bytes_eq p.contract contract) (records_of_account ps account))
 net_by_account ps account contract =
@@ -136,7 +136,7 @@ holdings_alone contracts ps qs account alike =
 
 -- ---- portfolios
 
--- an account with what it holds
+-- an account and its holdings
 abbrev pub portfolio : List Contract → List PositionRecord → List ℕ → AccountHoldings
 portfolio contracts ps account = record { account = account; holdings = holdings_of contracts ps account }
 
@@ -148,7 +148,7 @@ portfolio_alone contracts ps qs account alike =
     ap (λ held. (let it : AccountHoldings = record { account = account; holdings = held } in it))
     (holdings_alone contracts ps qs account alike)
 
--- accounts whose records are the same have the same portfolios
+-- accounts with the same records in two lists have the same portfolios
 portfolios_alike : (contracts : List Contract) (ps qs : List PositionRecord) (names : List (List ℕ))
     → ((name : List ℕ) → is_among names name ≡ true → records_of_account ps name ≡ records_of_account qs name)
     → map (portfolio contracts ps) names ≡ map (portfolio contracts qs) names
@@ -158,7 +158,7 @@ portfolios_alike contracts ps qs (x ∷ names) alike =
     let rest = portfolios_alike contracts ps qs names (λ name among. alike name (rest_among x name names among)) in
     λ i. here i ∷ rest i
 
--- the portfolios of two parts are those of the one and those of the other
+-- the portfolios of two parts together are the portfolios of each, joined
 portfolios_joined : (contracts : List Contract) (ps qs : List PositionRecord) → AreApart ps qs
     → portfolios_of contracts (ps ++ qs) ≡ portfolios_of contracts ps ++ portfolios_of contracts qs
 unfolding portfolios_of
@@ -182,7 +182,7 @@ portfolios_joined contracts ps qs apart =
 
 -- ---- the faults of binding
 
--- tests that agree on the records, by their accounts, find one in the same lists
+-- two tests that agree on all records whose accounts are in a list both find a record in it, or neither does
 any_alike : (f g : PositionRecord → Bool) (ps : List PositionRecord)
     → ((p : PositionRecord) → is_among (map (λ q. q.account) ps) p.account ≡ true → f p ≡ g p)
     → list_any f ps ≡ list_any g ps
@@ -193,7 +193,8 @@ any_alike f g (p ∷ ps) alike =
     λ i. here i || rest i
 
 module _ (contracts : List Contract) (ps qs : List PositionRecord) (apart : AreApart ps qs) where
-  -- a test of records among some, which goes by their accounts' records alone, is one of either part
+  -- a test that depends only on the records of the record's account finds one in both parts exactly if it finds one in
+  -- either
   any_joined : (test : List PositionRecord → PositionRecord → Bool)
       → ((xs ys : List PositionRecord) (p : PositionRecord)
       → records_of_account xs p.account ≡ records_of_account ys p.account → test xs p ≡ test ys p)
@@ -212,7 +213,7 @@ module _ (contracts : List Contract) (ps qs : List PositionRecord) (apart : AreA
           any_alike (test (ps ++ qs)) (test qs) qs (λ p among.
           alone (ps ++ qs) qs p (records_in_second ps qs p.account (share_none_back _ _ apart p.account among)))
 
-  -- each of the three tests finds a record among both parts where it finds one among either
+  -- each of the three tests finds a record in both parts together exactly if it finds one in either
   known_joined : list_any (is_unknown contracts) (ps ++ qs)
       ≡ (list_any (is_unknown contracts) ps || list_any (is_unknown contracts) qs)
   known_joined = list_any-append (is_unknown contracts) ps qs
@@ -231,7 +232,7 @@ module _ (contracts : List Contract) (ps qs : List PositionRecord) (apart : AreA
   neither : (a b : Bool) → a ≡ false → b ≡ false → (a || b) ≡ false
   neither a b e f = rw (e, f) refl
 
-  -- two parts that are fit are fit as one
+  -- two parts that are fit are fit together
   fit_joined : IsFit contracts ps → IsFit contracts qs → IsFit contracts (ps ++ qs)
   fit_joined one other = record {
     known = known_joined ∙ neither _ _ one.known other.known;
@@ -239,7 +240,7 @@ module _ (contracts : List Contract) (ps qs : List PositionRecord) (apart : AreA
     few = held_joined ∙ neither _ _ one.few other.few;
   }
 
-  -- where both parts are fit as one list, each part is fit
+  -- if both parts together are fit, each part is fit
   fit_parts : IsFit contracts (ps ++ qs) → IsFit contracts ps × IsFit contracts qs
   fit_parts both =
       let known = or_parts (list_any (is_unknown contracts) ps) (list_any (is_unknown contracts) qs) (sym known_joined ∙ both.known) in
@@ -258,7 +259,7 @@ pub text_of_fit : (t : AcceptedTables) (ps : List PositionRecord) → IsFit t.co
 unfolding statement_bound portfolios_under bindings_of
 text_of_fit t ps fit = rw (none_of_fit t.contracts ps fit) refl
 
--- records that have a statement have no fault, and it is that of their portfolios
+-- records with a statement have no fault, and the statement is the text of their portfolios
 pub fit_of_text : (t : AcceptedTables) (ps : List PositionRecord) (text : List ℕ) → statement_bound t ps ≡ Ok text
     → IsFit t.contracts ps × (text ≡ statement_text t (portfolios_of t.contracts ps))
 unfolding statement_bound portfolios_under bindings_of
@@ -279,7 +280,7 @@ text_joined t ps qs apart =
     ap (flat_map (row_text t)) (portfolios_joined t.contracts ps qs apart)
     ∙ flat_map-append (row_text t) (portfolios_of t.contracts ps) (portfolios_of t.contracts qs)
 
--- the statements of two parts, joined, are that of the whole
+-- the statements of two parts, joined, are the statement of the whole
 pub statements_joined : (t : AcceptedTables) (ps qs : List PositionRecord) (one other : List ℕ) → AreApart ps qs
     → statement_bound t ps ≡ Ok one → statement_bound t qs ≡ Ok other → statement_bound t (ps ++ qs) ≡ Ok (one ++ other)
 statements_joined t ps qs one other apart first second =
@@ -288,7 +289,7 @@ statements_joined t ps qs one other apart first second =
     text_of_fit t (ps ++ qs) (fit_joined t.contracts ps qs apart of_first.0 of_second.0)
     ∙ ap Ok (text_joined t ps qs apart ∙ (λ i. sym of_first.1 i ++ sym of_second.1 i))
 
--- the joined list has a statement only where each part has one
+-- the joined list has a statement only if each part has one
 pub statements_parted : (t : AcceptedTables) (ps qs : List PositionRecord) (text : List ℕ) → AreApart ps qs
     → statement_bound t (ps ++ qs) ≡ Ok text
     → (one : List ℕ) × (other : List ℕ) × (statement_bound t ps ≡ Ok one) × (statement_bound t qs ≡ Ok other)

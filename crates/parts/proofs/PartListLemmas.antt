@@ -1,4 +1,4 @@
--- Lists of parts of which no two have an account in common, and where a sorted list may be cut.
+-- Lists of parts that pairwise have no account in common, and the points at which a sorted list can be cut.
 use Rattle.std.proofs.Common.{◌≡◌, ◌∙◌, ℕ, suc, ◌<◌, Bool, true, false, ◌||◌, take, drop}
 use Rattle.std.proofs.Common.{List, [], ◌∷◌, ◌++◌, map, Ok, refl, sym, ap, subst, arith}
 use Rattle.std.specs.Prelude.{AllPairs, IsSortedByKey, bytes_eq, flat_map, length}
@@ -22,7 +22,7 @@ use Rattle.statement_text.specs.Statement.{statement_bound, statement_text}
 use Rattle.parts.proofs.PartLemmas.{fit_of_text, statements_joined, statements_parted, text_of_fit}
 use Rattle.parts.proofs.SortedLemmas.{Above, Rises, apart_by_cut, less, not_below_itself, rises_sorted}
 
--- ---- each and each later one
+-- ---- each element and each later one
 
 module _ {X : Type 0} (R : X → X → Type 0) (x : X) (xs : List X) (pairs : AllPairs R (x ∷ xs)) where
   pub pairs_first : AllByRecursion (R x) xs
@@ -33,7 +33,7 @@ module _ {X : Type 0} (R : X → X → Type 0) (x : X) (xs : List X) (pairs : Al
 
 -- ---- statements of lists of parts
 
--- a part that shares no account with any of some parts shares none with all of them joined
+-- a part that shares no account with any of the parts shares none with all of them joined
 apart_joined : (part : List PositionRecord) (parts : List (List PositionRecord)) → AllByRecursion (AreApart part) parts
     → AreApart part (records_joined parts)
 apart_joined part [] apart = λ name among. refl
@@ -51,7 +51,7 @@ module _ (t : AcceptedTables) where
   unfolding statement_text portfolios_of
   nothing_said = refl
 
-  -- the statements of parts, joined, are that of their records joined
+  -- the statements of parts, joined, are the statement of their records joined
   pub list_joined : (parts : List (List PositionRecord)) (texts : List (List ℕ)) → AllPairs AreApart parts
       → map (statement_bound t) parts ≡ map Ok texts → statement_bound t (records_joined parts) ≡ Ok (concat texts)
   list_joined [] [] apart each = text_of_fit t [] no_records_fit ∙ ap Ok nothing_said
@@ -64,7 +64,7 @@ module _ (t : AcceptedTables) where
       (apart_joined part parts (pairs_first AreApart part parts apart)) here
       (list_joined parts texts (pairs_rest AreApart part parts apart) behind)
 
-  -- the records joined have a statement only where each part has one
+  -- the joined records have a statement only if each part has one
   pub list_parted : (parts : List (List PositionRecord)) (text : List ℕ) → AllPairs AreApart parts
       → statement_bound t (records_joined parts) ≡ Ok text
       → (texts : List (List ℕ)) × (map (statement_bound t) parts ≡ map Ok texts) × (text ≡ concat texts)
@@ -80,7 +80,7 @@ module _ (t : AcceptedTables) where
 
 -- ---- cuts
 
--- what is made of the elements of joined lists
+-- mapping joined lists is joining the mapped lists
 pub map_joined : {X A B : Type 0} (f : A → B) (g : X → List A) (xs : List X) → map f (flat_map g xs) ≡ flat_map (λ x. map f (g x)) xs
 map_joined f g [] = refl
 map_joined f g (x ∷ xs) = map-append f (g x) (flat_map g xs) ∙ ap (λ more. map f (g x) ++ more) (map_joined f g xs)
@@ -89,7 +89,7 @@ module _ {X : Type 0} (names : X → List (List ℕ)) where
   abbrev Apart : X → X → Type 0
   Apart x y = ShareNoName (names x) (names y)
 
-  -- what shares no name with some joined shares none with each
+  -- an element that shares no name with all others joined shares none with each of them
   apart_each : (x : X) (xs : List X) → ShareNoName (names x) (flat_map names xs) → AllByRecursion (Apart x) xs
   apart_each x [] apart = tt
   apart_each x (y ∷ xs) apart =
@@ -98,7 +98,7 @@ module _ {X : Type 0} (names : X → List (List ℕ)) where
       (sym (list_any-append (bytes_eq name) (names y) (flat_map names xs)) ∙ apart name among) in
       ((λ name among. (both name among).0), apart_each x xs (λ name among. (both name among).1))
 
-  -- where no cut has a name on both sides, no two share one
+  -- if no cut has a name on both sides, no two elements share a name
   pub apart_by_cuts : (xs : List X)
       → ((n : ℕ) → n < length xs → ShareNoName (flat_map names (take n xs)) (flat_map names (drop n xs))) → AllPairs Apart xs
   apart_by_cuts [] cuts = λ i j d lt within. absurd (omega arith)
@@ -115,7 +115,7 @@ module _ {X : Type 0} (names : X → List (List ℕ)) where
           apart_each x (y ∷ rest)
           (subst (λ front. ShareNoName front (flat_map names (y ∷ rest))) (append-nil (names x)) (cut (omega arith)))
 
-  -- the same where the names are those of elements
+  -- the same if the names are keys of further elements
   pub apart_by_joined : {A : Type 0} (key : A → List ℕ) (g : X → List A) → ((x : X) → names x ≡ map key (g x)) → (xs : List X)
       → ((n : ℕ) → n < length xs → ShareNoName (map key (flat_map g (take n xs))) (map key (flat_map g (drop n xs))))
       → AllPairs Apart xs
@@ -130,7 +130,7 @@ module _ {X : Type 0} (names : X → List (List ℕ)) where
       same : (ys : List X) → map key (flat_map g ys) ≡ flat_map names ys
       same ys = map_joined key g ys ∙ ap (λ f. flat_map f ys) same_names
 
--- where no cut between parts has an account on both sides, no account stands in two of them
+-- if no cut between parts has an account on both sides, no account is in two of them
 pub parts_by_cuts : (parts : List (List PositionRecord))
     → ((n : ℕ) → n < length parts → AreApart (records_joined (take n parts)) (records_joined (drop n parts)))
     → AllPairs AreApart parts
@@ -138,7 +138,7 @@ parts_by_cuts =
     apart_by_joined (map (λ (p : PositionRecord). p.account)) (λ (p : PositionRecord). p.account)
     (λ (part : List PositionRecord). part) (λ part. refl)
 
--- the same of files
+-- the same for files
 pub files_by_cuts : (files : List (List ℕ))
     → ((n : ℕ) → n < length files
     → ShareNoName (accounts_in (flat_map records_of (take n files))) (accounts_in (flat_map records_of (drop n files))))
@@ -146,14 +146,14 @@ pub files_by_cuts : (files : List (List ℕ))
 files_by_cuts =
     apart_by_joined (λ (file : List ℕ). accounts_in (records_of file)) (λ (r : Fields). text_at r 0) records_of (λ file. refl)
 
--- ---- where a sorted list may be cut
+-- ---- cuts of a sorted list
 
 module _ {A : Type 0} (key : A → List ℕ) where
   above_behind : (x : A) (xs ys : List A) → Above key x (xs ++ ys) → Above key x ys
   above_behind x [] ys above = above
   above_behind x (y ∷ xs) ys above = above_behind x xs ys above.1
 
-  -- of a rising list what is behind a cut rises, and is not below what is in front
+  -- after a cut of a rising list, the elements rise and none is below an element before the cut
   rises_parts : (xs ys : List A) → Rises key (xs ++ ys) → AllByRecursion (λ x. Above key x ys) xs × Rises key ys
   rises_parts [] ys up = (tt, up)
   rises_parts (x ∷ xs) ys up =
@@ -177,13 +177,13 @@ module _ {A : Type 0} (key : A → List ℕ) where
         by name true e among rest = ap (is_among (map key vs)) (same_name name (key u) e) ∙ none_behind u vs low.0 above
         by name false e among rest = rest among
 
-  -- those in front of a cut, and the one at it, have none above that one
+  -- the elements up to the cut are not above the element at the cut
   in_front : (ps : List A) (p : A) (more : List A) → AllByRecursion (λ x. Above key x (p ∷ more)) ps
       → AllByRecursion (λ u. less key p u ≡ false) (ps ++ p ∷ [])
   in_front [] p more above = (not_below_itself key p, tt)
   in_front (x ∷ ps) p more above = (above.0.0, in_front ps p more above.1)
 
-  -- a list that is sorted by a text, cut where the text changes, falls into lists that share none
+  -- a list sorted by a text and cut at a change of the text gives two lists that share no text
   pub sorted_cut : (ps qs : List A) (p q : A) → IsSortedByKey key (slice_cmp nat_cmp) (ps ++ p ∷ q ∷ qs)
       → bytes_eq (key p) (key q) ≡ false → ShareNoName (map key (ps ++ p ∷ [])) (map key (q ∷ qs))
   sorted_cut ps qs p q sorted apart =

@@ -31,13 +31,13 @@ use Rattle.parts.proofs.PartLemmas.{first_among, fit_of_text, none_taken, portfo
 
 -- ---- sums of whole numbers
 
--- a number is what it is above 0 less what it is below
+-- a number plus its negative part is its positive part
 in_parts : (z : ℤ) → z +ℤ pos (negative_part z) ≡ pos (positive_part z)
 in_parts (pos n) = omega (arith, ints)
 in_parts (negsuc n) = omega (arith, ints)
 
 module _ {X : Type 0} (f : X → ℤ) where
-  -- what is above 0 in all of them is their sum and what is below
+  -- a sum plus the negative parts of its terms is the positive parts of its terms
   sum_in_parts : (xs : List X) → int_sum_by f xs +ℤ pos (sum_by (λ x. negative_part (f x)) xs)
       ≡ pos (sum_by (λ x. positive_part (f x)) xs)
   sum_in_parts [] = refl
@@ -49,7 +49,7 @@ module _ {X : Type 0} (f : X → ℤ) where
       let rest = sum_in_parts xs in
       omega (arith, ints, whole, below, above, first, rest)
 
-  -- the order does not matter to a sum
+  -- a sum does not depend on the order of its terms
   pub sum_rearranged : (xs ys : List X) → IsPermutation xs ys → int_sum_by f xs ≡ int_sum_by f ys
   sum_rearranged xs ys same =
       let below = sum_by-IsPermutation (λ x. negative_part (f x)) xs ys same in
@@ -58,7 +58,7 @@ module _ {X : Type 0} (f : X → ℤ) where
       let other = sum_in_parts ys in
       omega (arith, ints, below, above, one, other)
 
-  -- a sum of those that pass a test is one of all, in which the others are 0
+  -- the sum over the elements that pass a test is the sum over all elements, with 0 for the others
   sum_of_kept : (test : X → Bool) (xs : List X) → int_sum_by f (filter test xs) ≡ int_sum_by (λ x. cond (test x) (f x) (pos 0)) xs
   sum_of_kept test [] = refl
   sum_of_kept test (x ∷ xs) =
@@ -68,7 +68,7 @@ module _ {X : Type 0} (f : X → ℤ) where
 
 -- ---- names
 
--- a name among distinct ones, brought to the front
+-- distinct names are a permutation with any one of them at the front
 brought_front : (x : List ℕ) (ys : List (List ℕ)) → has_repeat bytes_eq ys ≡ false → is_among ys x ≡ true
     → IsPermutation ys (x ∷ filter (λ other. not (bytes_eq other x)) ys)
 brought_front x [] once among = absurd (true≢false (sym among))
@@ -97,7 +97,7 @@ brought_front x (y ∷ ys) once among =
         (IsPermutation-trans _ _ _ (IsPermutation-cons y ys (x ∷ filter (λ other. not (bytes_eq other x)) ys) more)
         (IsPermutation-middle (y ∷ []) x (filter (λ other. not (bytes_eq other x)) ys)))
 
--- a name that is none of some is none of those that a test keeps
+-- a name that is not in a list is not in the filtered list
 none_kept : (test : List ℕ → Bool) (name : List ℕ) (names : List (List ℕ)) → is_among names name ≡ false
     → is_among (filter test names) name ≡ false
 none_kept test name [] none = refl
@@ -110,7 +110,7 @@ none_kept test name (x ∷ names) none =
     by true rest apart = rw (apart, rest) refl
     by false rest apart = rest
 
--- of names that stand once those that a test keeps stand once
+-- filtering keeps names distinct
 once_kept : (test : List ℕ → Bool) (names : List (List ℕ)) → has_repeat bytes_eq names ≡ false
     → has_repeat bytes_eq (filter test names) ≡ false
 once_kept test [] once = refl
@@ -123,7 +123,7 @@ once_kept test (x ∷ names) once =
     by true rest new = rw (new, rest) refl
     by false rest new = rest
 
--- without the names that are this one, another is among them as before
+-- removing one name does not change whether another name is in the list
 others_stay : (gone name : List ℕ) (names : List (List ℕ)) → bytes_eq name gone ≡ false
     → is_among (filter (λ other. not (bytes_eq other gone)) names) name ≡ is_among names name
 others_stay gone name [] apart = refl
@@ -135,7 +135,7 @@ others_stay gone name (x ∷ names) apart =
       | inr kept ↦ rw kept (ap (λ b. bytes_eq name x || b) (others_stay gone name names apart))
     ]
 
--- and this one is not
+-- the removed name is not in the list
 gone_is_none : (gone : List ℕ) (names : List (List ℕ)) → is_among (filter (λ other. not (bytes_eq other gone)) names) gone ≡ false
 gone_is_none gone [] = refl
 gone_is_none gone (x ∷ names) =
@@ -144,7 +144,7 @@ gone_is_none gone (x ∷ names) =
       | inr kept ↦ let apart : bytes_eq gone x ≡ false = bytes_eq-flip gone x ∙ kept in rw (kept, apart) (gone_is_none gone names)
     ]
 
--- lists with the same names, each of which stands once, have them in some order
+-- two lists of distinct names that contain the same names are permutations of each other
 pub same_names : (xs ys : List (List ℕ)) → has_repeat bytes_eq xs ≡ false → has_repeat bytes_eq ys ≡ false
     → ((name : List ℕ) → is_among xs name ≡ is_among ys name) → IsPermutation xs ys
 same_names [] [] once other_once same = IsPermutation-refl []
@@ -166,7 +166,7 @@ same_names (x ∷ xs) ys once other_once same =
     by name new false e =
         ap (λ b. b || is_among xs name) (sym e) ∙ same name ∙ sym (others_stay x name ys e)
 
--- names in another order are the same distinct names
+-- names in another order have the same distinct names
 pub names_rearranged : (names others : List (List ℕ)) → IsPermutation names others
     → IsPermutation (distinct names) (distinct others)
 names_rearranged names others same =
@@ -174,9 +174,9 @@ names_rearranged names others same =
     (λ name. is_among-distinct names name ∙ list_any-IsPermutation (bytes_eq name) names others same
     ∙ sym (is_among-distinct others name))
 
--- ---- what accounts hold
+-- ---- nets and accounts
 
--- one record is its quantity, of its account and contract
+-- the net of a single record, for its account and contract, is its quantity
 pub net_of_one : (p : PositionRecord) → net_of (p ∷ []) p.account p.contract ≡ p.quantity
 net_of_one p =
     let account = bytes_eq-refl p.account in
@@ -185,13 +185,13 @@ net_of_one p =
     let sum : pos 0 +ℤ p.quantity ≡ p.quantity = omega (arith, ints) in
     ap (λ b. int_sum_by (λ (x : PositionRecord). x.quantity) (cond b (p ∷ []) [])) both ∙ sum
 
--- and nothing of any other
+-- for any other account or contract, its net is 0
 pub net_of_other : (p : PositionRecord) (account contract : List ℕ)
     → (bytes_eq p.account account && bytes_eq p.contract contract) ≡ false → net_of (p ∷ []) account contract ≡ pos 0
 net_of_other p account contract other = ap (λ b. int_sum_by (λ (x : PositionRecord). x.quantity) (cond b (p ∷ []) [])) other
 
 module _ (ps qs : List PositionRecord) (same : IsPermutation ps qs) where
-  -- records of one account and contract add up in whatever order
+  -- a net does not depend on the order of the records
   pub net_rearranged : (account contract : List ℕ) → net_of ps account contract ≡ net_of qs account contract
   net_rearranged account contract =
       let test = λ (p : PositionRecord). bytes_eq p.account account && bytes_eq p.contract contract in
@@ -211,7 +211,7 @@ module _ (ps qs : List PositionRecord) (same : IsPermutation ps qs) where
         net = net_rearranged account (numbered.1).id i;
       } in it)
 
-  -- the accounts are the same
+  -- records in another order have the same accounts
   pub accounts_rearranged : IsPermutation (accounts_of ps) (accounts_of qs)
   accounts_rearranged = names_rearranged _ _ (IsPermutation-map (λ (p : PositionRecord). p.account) ps qs same)
 
@@ -239,7 +239,7 @@ fit_of_ok t ps ok = by (statement_bound t ps) refl ok where
   by (Err f) e ok = absurd (true≢false (sym ok))
 
 module _ (t : AcceptedTables) where
-  -- records in another order have a statement where these have one
+  -- records in another order have a statement if these have one
   pub still_ok : (ps qs : List PositionRecord) → IsPermutation ps qs → is_ok (statement_bound t ps) ≡ true
       → is_ok (statement_bound t qs) ≡ true
   still_ok ps qs same ok = ap is_ok (text_of_fit t qs (fit_rearranged ps qs same t.contracts (fit_of_ok t ps ok)))
@@ -249,14 +249,14 @@ module _ (t : AcceptedTables) where
   accepted_rearranged ps qs same =
       both_ways _ _ (still_ok ps qs same) (still_ok qs ps (IsPermutation-sym ps qs same))
 
-  -- an account has the same lines
+  -- an account has the same lines by records in another order
   pub lines_rearranged : (ps qs : List PositionRecord) → IsPermutation ps qs → lines_of t ps ≡ lines_of t qs
   lines_rearranged ps qs same = λ i account. row_text t (record {
     account = account;
     holdings = holdings_rearranged ps qs same t.contracts account i;
   })
 
-  -- a statement is the lines of its accounts
+  -- a statement consists of the lines of its accounts
   pub statement_by_lines : (ps : List PositionRecord) (text : List ℕ) → statement_bound t ps ≡ Ok text
       → text ≡ flat_map (lines_of t ps) (accounts_of ps)
   unfolding statement_text portfolios_of

@@ -1,4 +1,4 @@
--- Lists that are sorted by a text, as bytes are compared.
+-- Lists sorted by a text in byte order.
 use Rattle.std.proofs.Common.{◌≡◌, ◌∙◌, ℕ, suc, ◌<◌, ◌≤◌, Bool, true, false, cond, not, ◌&&◌, get_or}
 use Rattle.std.proofs.Common.{List, [], ◌∷◌, ◌++◌, filter, refl, sym, ap, subst, arith}
 use Rattle.std.proofs.Common.{Ordering, Less, Equal, Greater}
@@ -16,7 +16,7 @@ use Rattle.std.proofs.lemmas.List.Sorted.{IsPermutation-sym, IsPermutation-trans
 use Rattle.span_tables.proofs.NameLemmas.{same_name}
 use Rattle.binding.proofs.AccountLaws.{bytes_eq-refl}
 
--- two texts of which neither is below the other are one
+-- two texts are equal if neither is below the other
 tie_by : (o : Ordering) → (not (is_lt (ordering_reverse o)) && not (is_lt o)) ≡ is_eq o
 tie_by Less = refl
 tie_by Equal = refl
@@ -29,14 +29,14 @@ tie a b =
     ∙ sym (texts_ties b a)
 
 module _ {A : Type 0} (key : A → List ℕ) where
-  -- the elements of a key
+  -- the elements with a key
   abbrev of_key : List ℕ → List A → List A
   of_key k xs = filter (λ x. bytes_eq (key x) k) xs
 
   head_of_key : (x : A) (xs : List A) → of_key (key x) (x ∷ xs) ≡ x ∷ of_key (key x) xs
   head_of_key x xs = rw (bytes_eq-refl (key x)) refl
 
-  -- a list in which an element is the first of its key
+  -- a list in which an element is the first with its key
   record HasFirst (k : List ℕ) (x : A) (rest ys : List A) : Type 0 where
     front : List A
     back : List A
@@ -63,7 +63,7 @@ module _ {A : Type 0} (key : A → List ℕ) where
             behind = more.behind;
           }
 
-  -- lists with the same elements of each key, in the same order, have the same elements
+  -- lists with the same elements for each key, in the same order, are permutations of each other
   pub same_by_key : (xs ys : List A) → ((a : A) → of_key (key a) ys ≡ of_key (key a) xs) → IsPermutation xs ys
   same_by_key [] [] same = IsPermutation-refl []
   same_by_key [] (y ∷ ys) same =
@@ -92,7 +92,7 @@ module _ {A : Type 0} (key : A → List ℕ) where
           ∙ ap (λ b. of_key (key a) found.front ++ cond b (x ∷ of_key (key a) found.back) (of_key (key a) found.back)) e in
           filter-append (λ z. bytes_eq (key z) (key a)) found.front found.back ∙ sym parts ∙ whole
 
-  -- what a stable sort leaves of each key
+  -- a stable sort keeps the elements of each key in their order
   pub stable_by_key : (xs ys : List A) → IsStableByKey key (slice_cmp nat_cmp) xs ys
       → (a : A) → of_key (key a) ys ≡ of_key (key a) xs
   stable_by_key xs ys stable a =
@@ -100,11 +100,11 @@ module _ {A : Type 0} (key : A → List ℕ) where
       (λ y. tie (key a) (key y)) in
       sym (agree ys) ∙ stable a ∙ agree xs
 
-  -- a stable sort leaves the same elements
+  -- a stable sort is a permutation
   pub stable_sort : (xs ys : List A) → IsStableByKey key (slice_cmp nat_cmp) xs ys → IsPermutation xs ys
   stable_sort xs ys stable = same_by_key xs ys (stable_by_key xs ys stable)
 
-  -- ---- a sorted list that is cut
+  -- ---- cuts of a sorted list
 
   abbrev pub less : A → A → Bool
   less x y = is_lt (slice_cmp nat_cmp (key x) (key y))
@@ -112,7 +112,7 @@ module _ {A : Type 0} (key : A → List ℕ) where
   order : IsStrictWeakOrder less
   order = ranks_by nat_list_cmp_total key
 
-  -- what stands behind this element is not below it
+  -- no element of the list is below this element
   abbrev pub Above : A → List A → Type 0
   Above x ys = AllByRecursion (λ y. less y x ≡ false) ys
 
@@ -141,7 +141,7 @@ module _ {A : Type 0} (key : A → List ℕ) where
       by true e = order.one_way x x e
       by false e = e
 
-  -- an element that a cut has in front, and one that it has behind, are of two keys
+  -- an element before a cut and an element after it have different keys
   pub apart_by_cut : (p q u v : A) → less p u ≡ false → less q p ≡ false → less v q ≡ false → bytes_eq (key p) (key q) ≡ false
       → bytes_eq (key u) (key v) ≡ false
   apart_by_cut p q u v low up high apart = by (bytes_eq (key u) (key v)) refl

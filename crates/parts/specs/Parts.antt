@@ -7,7 +7,7 @@ use Rattle.span_tables.specs.Tables.{AcceptedTables}
 use Rattle.span_tables.specs.declared.records.PositionRecord.{PositionRecord}
 use Rattle.statement_text.specs.Statement.{row_text}
 
--- what is among these names is not among the others
+-- no name is in both lists
 abbrev pub ShareNoName : List (List ℕ) → List (List ℕ) → Type 0
 ShareNoName names others = (name : List ℕ) → is_among names name ≡ true → is_among others name ≡ false
 
@@ -27,14 +27,14 @@ accounts_in rs = map (λ r. text_at r 0) rs
 abbrev pub AreFilesApart : List ℕ → List ℕ → Type 0
 AreFilesApart first second = ShareNoName (accounts_in (records_of first)) (accounts_in (records_of second))
 
--- the records of lists, one list behind the other
+-- the records of the lists, one list after the other
 abbrev pub records_joined : List (List PositionRecord) → List PositionRecord
 records_joined parts = flat_map (λ part. part) parts
 
--- what the records of a file say
+-- the positions of the records of a file
 abbrev pub positions_in : List ℕ → List PositionRecord
 positions_in bytes = map position_record (records_of bytes)
 
--- the lines of an account, by its records among these
+-- the lines of an account by these records
 abbrev pub lines_of : AcceptedTables → List PositionRecord → List ℕ → List ℕ
 lines_of t ps account = row_text t (record { account = account; holdings = holdings_of t.contracts ps account })

@@ -1,5 +1,5 @@
-//! Laws of a position file that is cut by account: the statements of the parts, joined, are the statement of the whole. Each is
-//! the contract of a function that does nothing.
+//! Lemmas on a position file that is cut by account: the statements of the parts, joined, are the statement of the
+//! whole. Each is the contract of a function with an empty body.
 ghost use Rattle.span_csv.specs.Cuts.{BeginsWithNoMark, EndsInLineFeed, has_quote};
 ghost use Rattle.span_csv.specs.PositionFaults.{positions_of};
 ghost use Rattle.span_csv.specs.Records.{Fields, records_of, text_at};
@@ -19,8 +19,8 @@ ghost use Rattle.std.specs.Ordering.{nat_cmp};
 ghost use Rattle.std.specs.Prelude.{◌&&◌, ◌++◌, ◌+ℤ◌, ◌<◌, ◌≡◌, ◌≤◌, ◌∷◌, All, AllPairs, IsPermutation, IsSortedByKey, List, Ok};
 ghost use Rattle.std.specs.Prelude.{[], bytes_eq, drop, false, flat_map, is_ok, length, map, pos, take, true, ℕ};
 
-/// Where no account has records in both of two lists, the statement of the lists joined is that of the first and behind it
-/// that of the second. The joined list has a statement only where each of the two has one.
+/// If no account has records in both of two lists, the statement of the joined list is the statement of the first list,
+/// followed by the statement of the second. The joined list has a statement only if each of the two has one.
 pub fn statements_of_parts_join()
     ensures joined { (t : AcceptedTables) (ps qs : List PositionRecord) (one other : List ℕ) → AreApart ps qs
         → statement_bound t ps ≡ Ok one → statement_bound t qs ≡ Ok other
@@ -31,9 +31,9 @@ pub fn statements_of_parts_join()
         × (text ≡ one ++ other) }
 {}
 
-/// Where the records of a whole file are those of a first part and then those of a second, and the parts share no account, the
-/// statements of the parts, joined, are that of the whole, if the whole has no more accounts than a file may have. The whole has
-/// a statement only where each part has one.
+/// If the records of a whole file are the records of a first part, followed by the records of a second, and the parts
+/// share no account, the statements of the parts, joined, are the statement of the whole. The whole may have no more
+/// accounts than a file may have. It has a statement only if each part has one.
 pub fn statements_of_files_join()
     ensures joined { (params whole first second one other : List ℕ)
         → records_of whole ≡ records_of first ++ records_of second → AreFilesApart first second
@@ -47,8 +47,8 @@ pub fn statements_of_files_join()
         × (statement_of params second ≡ Ok other) × (text ≡ one ++ other) }
 {}
 
-/// Where a file is cut behind a line feed, the statements of its parts, joined, are that of the file, if the first part has no
-/// double quote, and the second no byte order mark at its start.
+/// If a file is cut after a line feed and its parts share no account, the statements of the parts, joined, are the
+/// statement of the file. The first part may have no double quote, and the second may not begin with a byte order mark.
 pub fn statements_of_cut_files_join()
     ensures joined { (params first second one other : List ℕ)
         → EndsInLineFeed first → has_quote first ≡ false → BeginsWithNoMark second → AreFilesApart first second
@@ -62,16 +62,16 @@ pub fn statements_of_cut_files_join()
         × (statement_of params second ≡ Ok other) × (text ≡ one ++ other) }
 {}
 
-/// What an account holds depends on its own records alone: the records of other accounts may stand before them, between them
-/// or behind them, or be left out.
+/// The holdings of an account depend only on its own records. Records of other accounts may be before, between or after
+/// them, or left out.
 pub fn an_account_goes_by_its_own_records()
     ensures { (contracts : List Contract) (ps qs : List PositionRecord) (account : List ℕ)
         → records_of_account ps account ≡ records_of_account qs account
         → holdings_of contracts ps account ≡ holdings_of contracts qs account }
 {}
 
-/// Where no account has records in two of some lists, the statement of the lists joined is their statements joined, however many
-/// lists and accounts there are. The joined list has a statement only where each of them has one.
+/// If no account has records in two of the lists, the statement of the joined list is the joined statements of the
+/// lists, for any number of lists and accounts. The joined list has a statement only if each of the lists has one.
 pub fn statements_of_records_join()
     ensures joined { (t : AcceptedTables) (parts : List (List PositionRecord)) (texts : List (List ℕ)) → AllPairs AreApart parts
         → map (statement_bound t) parts ≡ map Ok texts
@@ -81,9 +81,9 @@ pub fn statements_of_records_join()
         → (texts : List (List ℕ)) × (map (statement_bound t) parts ≡ map Ok texts) × (text ≡ concat texts) }
 {}
 
-/// Where no account stands in two of some files, their statements, joined, are the statement of their records joined, however many
-/// accounts these are of, and that of a file with these records, if they are of no more accounts than a file may have. The records
-/// joined have a statement only where each file has one.
+/// If no account is in two of the files, their statements, joined, are the statement of their joined records, for any
+/// number of accounts. They are also the statement of a file with these records, if it has no more accounts than a file
+/// may have. If each file can be read, the joined records have a statement only if each file has one.
 pub fn statements_of_part_files_join()
     ensures joined { (params : List ℕ) (t : AcceptedTables) (files texts : List (List ℕ)) → accepted_of params ≡ Ok t
         → AllPairs AreFilesApart files → map (statement_of params) files ≡ map Ok texts
@@ -99,15 +99,15 @@ pub fn statements_of_part_files_join()
         → statement_of params whole ≡ Ok (concat texts) }
 {}
 
-/// Bytes without a double quote that are cut behind line feeds have the records of the files that they are cut into, if none of these
-/// begins with a byte order mark.
+/// If bytes without a double quote are cut after line feeds, their records are the records of the resulting files,
+/// provided that no file begins with a byte order mark.
 pub fn records_of_cut_files_join()
     ensures { (files : List (List ℕ)) → All EndsInLineFeed files → has_quote (concat files) ≡ false → All BeginsWithNoMark files
         → records_of (concat files) ≡ flat_map records_of files }
 {}
 
-/// Records of one account and contract add up, and others are nothing to it; so in whatever order, and what an account holds does not
-/// depend on the order.
+/// The net of an account in a contract is the sum of the quantities in the records of that account and contract. Other
+/// records do not contribute. So nets and holdings do not depend on the order of the records.
 pub fn records_add_up_in_any_order()
     ensures one { (p : PositionRecord) → net_of (p ∷ []) p.account p.contract ≡ p.quantity }
     ensures other { (p : PositionRecord) (account contract : List ℕ)
@@ -120,9 +120,9 @@ pub fn records_add_up_in_any_order()
         → holdings_of contracts ps account ≡ holdings_of contracts qs account }
 {}
 
-/// A stable sort by account keeps all records, and those of an account in their order. Records in any other order, so also sorted
-/// ones, are of the same accounts, of which each has the same lines, and have a statement where these have one: a statement is the
-/// lines of its accounts.
+/// A stable sort by account keeps all records, and keeps the records of each account in their order. Records in any
+/// other order, such as sorted ones, have the same accounts, and each account has the same lines. They have a statement
+/// exactly if the original records have one. A statement consists of the lines of its accounts.
 pub fn sorted_records_have_the_same_lines()
     ensures sorted { (ps sorted : List PositionRecord) → IsStableByKey (λ p. p.account) (slice_cmp nat_cmp) ps sorted
         → IsPermutation ps sorted }
@@ -138,8 +138,8 @@ pub fn sorted_records_have_the_same_lines()
         → text ≡ flat_map (lines_of t ps) (accounts_of ps) }
 {}
 
-/// A file with the records of another one in any other order, as those of a stable sort by account, is accepted where that one is, and
-/// its statement is the lines that its accounts have by the other's records.
+/// A file with the records of another file in any order, such as the order of a stable sort by account, is accepted
+/// exactly if the other file is. Its statement has the lines that its accounts have by the other file's records.
 pub fn sorted_files_have_the_same_lines()
     ensures sorted { (one sorted : List ℕ) → IsStableByKey (λ r. text_at r 0) (slice_cmp nat_cmp) (records_of one) (records_of sorted)
         → IsPermutation (records_of one) (records_of sorted) }
@@ -150,8 +150,8 @@ pub fn sorted_files_have_the_same_lines()
         → text ≡ flat_map (lines_of t (positions_in one)) (accounts_of (positions_in other)) }
 {}
 
-/// Records that are sorted by account, cut where the account changes, fall into parts that share no account; and where no cut between
-/// parts has an account on both sides, no account stands in two of them.
+/// If records are sorted by account and cut at a change of the account, the two parts share no account. If no cut
+/// between parts has an account on both sides, no account is in two of them.
 pub fn sorted_records_are_cut_between_accounts()
     ensures cut { (ps qs : List PositionRecord) (p q : PositionRecord)
         → IsSortedByKey (λ x. x.account) (slice_cmp nat_cmp) (ps ++ p ∷ q ∷ qs) → bytes_eq p.account q.account ≡ false
@@ -161,8 +161,8 @@ pub fn sorted_records_are_cut_between_accounts()
         → AllPairs AreApart parts }
 {}
 
-/// The same of the records of files: sorted by account, cut where the account changes, they share no account; and where no cut between
-/// files has an account on both sides, no account stands in two of them.
+/// The same for the records of files. If they are sorted by account and cut at a change of the account, the two parts
+/// share no account. If no cut between files has an account on both sides, no account is in two of them.
 pub fn sorted_files_are_cut_between_accounts()
     ensures cut { (rs ss : List Fields) (r s : Fields) → IsSortedByKey (λ x. text_at x 0) (slice_cmp nat_cmp) (rs ++ r ∷ s ∷ ss)
         → bytes_eq (text_at r 0) (text_at s 0) ≡ false → ShareNoName (accounts_in (rs ++ r ∷ [])) (accounts_in (s ∷ ss)) }
@@ -171,8 +171,9 @@ pub fn sorted_files_are_cut_between_accounts()
         → AllPairs AreFilesApart files }
 {}
 
-/// Where files have the records of a whole in whatever order, sorted or not, and no account stands in two of them, their statements,
-/// joined, are the lines of the whole's accounts by the whole's records, each account once, however many accounts the whole has.
+/// If files have the records of a whole file in any order, sorted or not, and no account is in two of the files, their
+/// joined statements are the lines of the whole file's accounts. Each account has the lines of the whole file's records
+/// and appears once. The whole file may have any number of accounts.
 pub fn sorted_parts_have_the_lines_of_the_whole()
     ensures { (params : List ℕ) (t : AcceptedTables) (whole : List ℕ) (files texts : List (List ℕ)) → accepted_of params ≡ Ok t
         → IsPermutation (records_of whole) (flat_map records_of files) → AllPairs AreFilesApart files

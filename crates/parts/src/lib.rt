@@ -1,4 +1,4 @@
-//! What the statements of the parts of a position file are to that of the whole, where it is cut by account.
+//! Lemmas on position files cut by account: how the statements of the parts are related to the statement of the whole.
 #![tactic(auto)]
 
 pub mod laws;
