@@ -1,5 +1,6 @@
-//! Each call that may give up, once, where there is memory: no clause says that it succeeds. What it answers was worked by
-//! hand: the account of the calendar spread is long three of the near month and short two of the far one.
+//! Makes each call that may fail once, with memory available: no clause says that it succeeds. The expected results
+//! were worked out by hand. The account of the calendar spread is long three of the near month and short two of the far
+//! month.
 ghost use Rattle.span_tables.specs.Holdings.{fits};
 ghost use Rattle.std.specs.Prelude.{◌≡◌, IfOk, length, true};
 
@@ -73,7 +74,7 @@ fn fields(rt: &impl Abort, alloc: Global) -> Result<(), AllocError> {
     Ok(())
 }
 
-// `span_tables`: lists of which one has a value.
+// `span_tables`: two lists, one with a value.
 fn lists(rt: &impl Abort, alloc: Global) -> Result<(), AllocError> {
     let mut lists = empty_lists(alloc, 2)?;
     push_at(&mut lists, 1, 7)?;
@@ -82,7 +83,7 @@ fn lists(rt: &impl Abort, alloc: Global) -> Result<(), AllocError> {
     Ok(())
 }
 
-// `span_csv`: all faults of reading a parameter file and a position file, two records each.
+// `span_csv`: all read faults of a parameter file and of a position file, each with two records.
 fn faults_read(rt: &impl Abort, alloc: Global) -> Result<(), AllocError> {
     let found = param_faults(alloc, b"SET,D1,1\nCOMMODITY,AA,x,SUM\n")?;
     let expected = [
@@ -108,7 +109,7 @@ fn tables_read(rt: &impl Abort, alloc: Global) -> Result<Tables, Fail> {
     Ok(tables)
 }
 
-// Whether the one account holds three of the first contract, and is short two of the second.
+// Returns whether the only account is long three of the first contract and short two of the second.
 fn is_calendar(portfolios: &Portfolios) -> bool {
     match portfolios.as_slice() {
         [account] => match account.holdings() {
@@ -119,7 +120,7 @@ fn is_calendar(portfolios: &Portfolios) -> bool {
     }
 }
 
-// `span_csv` and `param_check`: what the one account of a file of two records holds.
+// `span_csv` and `param_check`: the holdings of the only account in a file of two records.
 fn portfolios_read(rt: &impl Abort, alloc: Global, tables: &Tables) -> Result<Portfolios, Fail> {
     let positions = read_positions(alloc, POSITIONS)?;
     assert_eq!(rt; positions.records().len(), 2);
@@ -128,7 +129,8 @@ fn portfolios_read(rt: &impl Abort, alloc: Global, tables: &Tables) -> Result<Po
     Ok(portfolios)
 }
 
-// `span_csv`: the same position file in one piece, whose records are numbered by the accounts of all pieces, and a piece with a fault.
+// `span_csv`: the same position file in one piece, with its records numbered by the accounts of all pieces, and a piece
+// with a fault.
 fn pieces_read(rt: &impl Abort, alloc: Global, tables: &Tables) -> Result<(), Fail> {
     let pieces = cut_at_lines(alloc, POSITIONS, 2)?;
     assert!(rt; pieces.as_slice() == [POSITIONS].as_slice());
@@ -138,7 +140,7 @@ fn pieces_read(rt: &impl Abort, alloc: Global, tables: &Tables) -> Result<(), Fa
     Ok(())
 }
 
-// The records of a position file in one piece, numbered by its accounts. `None` if it has a fault.
+// Returns the records of a position file read in one piece, numbered by its accounts, or `None` if it has a fault.
 fn piece_numbered(alloc: Global, bytes: &[u8]) -> Result<Option<RawPositions>, AllocError> {
     let Some(piece) = read_piece(alloc, bytes)? else {
         return Ok(None);
@@ -154,7 +156,7 @@ fn piece_numbered(alloc: Global, bytes: &[u8]) -> Result<Option<RawPositions>, A
     Ok(Some(accounts.positions(records)))
 }
 
-// `param_check`: the same by the contracts alone.
+// `param_check`: the same holdings, bound with the contracts only.
 fn contracts_bound(rt: &impl Abort, alloc: Global, tables: &Tables) -> Result<(), Fail> {
     let positions = read_positions(alloc, POSITIONS)?;
     let portfolios = bind_positions(alloc, tables.contracts(), &positions)?;
@@ -162,7 +164,7 @@ fn contracts_bound(rt: &impl Abort, alloc: Global, tables: &Tables) -> Result<()
     Ok(())
 }
 
-// `param_check`: the same in the steps that several threads take side by side.
+// `param_check`: the same holdings, bound in the steps that several threads can take concurrently.
 fn steps_bound(rt: &impl Abort, alloc: Global, tables: &Tables) -> Result<(), Fail> {
     let positions = read_positions(alloc, POSITIONS)?;
     let portfolios = bound_in_steps(alloc, tables, &positions)?;
@@ -170,7 +172,7 @@ fn steps_bound(rt: &impl Abort, alloc: Global, tables: &Tables) -> Result<(), Fa
     Ok(())
 }
 
-// What each account holds, bound in steps, each over all records or all accounts.
+// Returns the holdings of each account, bound in steps over all records or all accounts.
 fn bound_in_steps(
     alloc: Global,
     tables: &Tables,
@@ -187,7 +189,7 @@ fn bound_in_steps(
     Ok(portfolios)
 }
 
-// `param_check`: all faults of the records of a parameter file, and of those of a position file.
+// `param_check`: all faults of the records of a parameter file and of a position file.
 fn faults_found(rt: &impl Abort, alloc: Global, tables: &Tables) -> Result<(), Fail> {
     let twice = b"SET,D1,1,USD\nCOMMODITY,AA,0,SUM\nCOMMODITY,AA,0,SUM\n";
     let found = check_faults(alloc, &read_params(alloc, twice)?)?;
@@ -208,7 +210,7 @@ fn faults_found(rt: &impl Abort, alloc: Global, tables: &Tables) -> Result<(), F
     Ok(())
 }
 
-// The account, which fits the tables.
+// Returns the account, which fits the tables.
 fn account_read(rt: &impl Abort, alloc: Global, tables: &Tables) -> Result<Portfolio, Fail>
     ensures { IfOk result (λ account. fits (length tables.now.contracts) account.holdings ≡ true) }
 {
@@ -218,7 +220,7 @@ fn account_read(rt: &impl Abort, alloc: Global, tables: &Tables) -> Result<Portf
     Ok(account)
 }
 
-// Whether an account holds this contract alone.
+// Returns whether an account holds only this contract.
 fn holds(account: &Portfolio, contract: usize, net: i64) -> bool {
     match account.holdings() {
         [only] => (only.contract, only.net) == (contract, net),
@@ -226,7 +228,8 @@ fn holds(account: &Portfolio, contract: usize, net: i64) -> bool {
     }
 }
 
-// `span_csv` and `param_check`: an order that closes the short contract and sells one of the other, and one of a new account.
+// `span_csv` and `param_check`: an order that closes the short contract and sells one of the other, and an order of a
+// new account.
 fn orders_bound(rt: &impl Abort, alloc: Global, tables: &Tables) -> Result<Orders, Fail> {
     let portfolios = portfolios_read(rt, alloc, tables)?;
     let raw = read_orders(alloc, b"CLOSE,X,FA2,2\nOPEN,Y,FA,4\nCLOSE,X,FA,-1\n")?;
@@ -234,7 +237,7 @@ fn orders_bound(rt: &impl Abort, alloc: Global, tables: &Tables) -> Result<Order
     Ok(orders)
 }
 
-// Whether the first of two orders is of the one account that holds something, and the second is of none.
+// Returns whether the first of two orders is of the only account with holdings, and the second is of a new account.
 fn are_close_and_open(orders: &Orders) -> bool
     requires { length orders.now.orders ≡ 2 }
 {
@@ -243,7 +246,7 @@ fn are_close_and_open(orders: &Orders) -> bool
         && orders.place(1).is_none()
 }
 
-// `param_check`: what such orders tell, and what is held with each.
+// `param_check`: the accounts of these orders, and the holdings with each order.
 fn orders_read(rt: &impl Abort, alloc: Global, tables: &Tables) -> Result<(), Fail> {
     let orders = orders_bound(rt, alloc, tables)?;
     assert_eq!(rt; orders.len(), 2);
@@ -254,7 +257,7 @@ fn orders_read(rt: &impl Abort, alloc: Global, tables: &Tables) -> Result<(), Fa
     Ok(())
 }
 
-// A trade in a contract of this id.
+// Returns a trade in a contract with this id.
 fn trade(id: &[u8], quantity: i32) -> Result<Trade, Fail>
     ensures { IfOk result (λ trade. trade.quantity ≡ quantity) }
 {
@@ -262,7 +265,7 @@ fn trade(id: &[u8], quantity: i32) -> Result<Trade, Fail>
     Ok(Trade { contract, quantity })
 }
 
-// The records of an order that closes the short contract and sells one of the other.
+// Returns the records of an order that closes the short contract and sells one of the other.
 fn closing(alloc: Global) -> Result<RawOrders, Fail> {
     let order = Name::new(b"CLOSE").ok_or("an order")?;
     let account = Name::new(b"X").ok_or("an account")?;
@@ -273,7 +276,7 @@ fn closing(alloc: Global) -> Result<RawOrders, Fail> {
     Ok(raw)
 }
 
-// `binding`: such an order, bound twice by one binder.
+// `binding`: such an order, bound twice by the same binder.
 fn order_made(rt: &impl Abort, alloc: Global, tables: &Tables) -> Result<(), Fail> {
     let mut binder = OrderBinder::new(alloc, tables)?;
     let raw = closing(alloc)?;
@@ -287,7 +290,7 @@ fn order_made(rt: &impl Abort, alloc: Global, tables: &Tables) -> Result<(), Fai
     Ok(())
 }
 
-// `span_tables`: what is held of all commodities, and of those of which something is held.
+// `span_tables`: the holdings in all commodities, and in the commodities with holdings.
 fn lists_held(
     rt: &impl Abort,
     alloc: Global,
@@ -309,7 +312,7 @@ fn lists_held(
     Ok(())
 }
 
-// `span_tables`: what is held of the one commodity, and nothing.
+// `span_tables`: the holdings in the only commodity, and no holdings.
 fn held_of(
     rt: &impl Abort,
     alloc: Global,
@@ -326,7 +329,7 @@ fn held_of(
     Ok(held)
 }
 
-// Whether these are March and June with so many units of 10^-8.
+// Returns whether these are March and June with these deltas, in 10^-8.
 fn are_march_and_june(months: &[MonthUnits], march: i64, june: i64) -> bool {
     match months {
         [first, second] => {
@@ -337,7 +340,7 @@ fn are_march_and_june(months: &[MonthUnits], march: i64, june: i64) -> bool {
     }
 }
 
-// `spread_stage`: two spreads of one against one, at 250 each.
+// `spread_stage`: two spreads, one against one, at 250 each.
 fn spreads_of_months(
     rt: &impl Abort,
     alloc: Global,
@@ -357,7 +360,7 @@ fn spreads_of_months(
     Ok(())
 }
 
-// `inter_credit`: one spread of one against one, of a price risk doubled of 2400 and of 3600, at half of them.
+// `inter_credit`: one spread, one against one, for doubled price risks of 2400 and 3600, at half of them.
 fn spread_once(alloc: Global, tables: &Tables) -> Result<InterState, Fail>
     requires { length tables.now.commodities ≡ 2 }
 {
@@ -368,7 +371,7 @@ fn spread_once(alloc: Global, tables: &Tables) -> Result<InterState, Fail>
     Ok(state)
 }
 
-// Whether two commodities have the rests and the credits of that spread.
+// Returns whether two commodities have the residual deltas and the credits of that spread.
 fn are_spread_once(state: &InterState) -> bool
     requires { length state.now ≡ 2 }
 {
@@ -377,7 +380,7 @@ fn are_spread_once(state: &InterState) -> bool
     rests == (0, -100_000_000) && credits == (600, 450)
 }
 
-// What such a spread leaves, and what it earns.
+// The residual deltas and the credits of such a spread.
 fn spreads_of_commodities(rt: &impl Abort, alloc: Global) -> Result<(), Fail> {
     let tables = two_commodities(rt, alloc)?;
     let state = spread_once(alloc, &tables)?;

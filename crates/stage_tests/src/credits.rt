@@ -1,4 +1,5 @@
-//! What a state of two commodities tells of a spread before it is tried: no clause says that it tells anything.
+//! The hint of a state of two commodities that a spread cannot be formed, given before the spread is evaluated. No
+//! clause says that this hint is ever given.
 ghost use Rattle.std.specs.Prelude.{◌≡◌, ◌≤◌, IfOk, length, nat_abs};
 ghost use Rattle.span_tables.specs.declared.limits.TheConstants.{MAX_PRICE2, MAX_UNITS};
 
@@ -12,7 +13,7 @@ use std::alloc::{AllocError, Global};
 use std::process::Abort;
 use std::test::Fail;
 
-/// The tables of two commodities with one spread between them, one against one.
+/// Returns the tables of two commodities with one spread between them, one against one.
 #[tactic(auto, using(param_check::proofs::RuleLaws::rules_kept))]
 pub(crate) fn two_commodities(rt: &impl Abort, alloc: Global) -> Result<Tables, Fail>
     ensures { IfOk result (λ tables. length tables.commodities ≡ 2) }
@@ -26,7 +27,7 @@ pub(crate) fn two_commodities(rt: &impl Abort, alloc: Global) -> Result<Tables, 
     Ok(tables)
 }
 
-/// Two commodities, each with its net delta and its price risk doubled.
+/// Returns a state of two commodities, each with its net delta in 10^-8 and twice its price risk in minor units.
 pub(crate) fn loaded(
     alloc: Global,
     first: (i64, u64),
@@ -43,7 +44,8 @@ pub(crate) fn loaded(
     load(alloc, &state, 1, Units::new(second.0), second.1)
 }
 
-// Where one side of a spread has no rest, that is told at once; else it may be formed in one direction or the other.
+// A spread without a residual delta on one side is reported as impossible. Otherwise it may be formed in one direction
+// or the other.
 #[test]
 fn spreads_that_may_be_formed(rt: HostRuntime) -> Result<(), Fail> {
     let alloc = rt.alloc();

@@ -1,7 +1,7 @@
-//! Tests of the crates from numbers and files to charges and credits, each of what no clause says: that a call which may want
-//! memory succeeds where there is memory, and what a hint tells that may be silent.
+//! Tests of the crates from numbers and files to charges and credits, for properties that no clause states. A call that
+//! may fail to allocate succeeds if memory is available, and a hint that may be missing is given.
 //!
-//! They stand in a crate of their own, since a crate with tests is proved twice.
+//! They are in a crate of their own, since a crate with tests is proved twice.
 #![tactic(auto)]
 
 #[cfg(test)]

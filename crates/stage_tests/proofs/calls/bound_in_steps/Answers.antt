@@ -8,7 +8,7 @@ use Rattle.span_tables.specs.near.Positions.{named_position, named_positions}
 use Rattle.binding.specs.near.Ledgers.{contract_place, slice_nets}
 use Rattle.stage_tests.proofs.calls.bound_in_steps.Goals as goal
 
--- what is found of records is the same of the records that they stand for
+-- the contracts found for numbered records are the contracts of the positions that they denote
 found_of_records : (ids : List (List ℕ)) (positions : List PositionRecord) (records : List NumberedPosition) (found : List ℕ)
     → named_positions (accounts_of positions) records ≡ positions
     → found ≡ map (λ p. contract_place ids p.contract) records → found ≡ map (λ p. contract_place ids p.contract) positions
@@ -17,7 +17,7 @@ found_of_records ids positions records found are is =
     ∙ sym (map-map (λ (p : PositionRecord). contract_place ids p.contract) (named_position (accounts_of positions)) records)
     ∙ ap (map (λ (p : PositionRecord). contract_place ids p.contract)) are
 
--- if not all were of contracts that there are not, none is of another
+-- if all contracts are known, no record has an unknown contract
 none_foreign : (told foreign : Bool) → told ≡ not foreign → told ≡ true → foreign ≡ false
 none_foreign told true e h = cc
 none_foreign told false e h = refl
