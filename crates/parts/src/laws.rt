@@ -19,8 +19,8 @@ ghost use Rattle.std.specs.Ordering.{nat_cmp};
 ghost use Rattle.std.specs.Prelude.{◌&&◌, ◌++◌, ◌+ℤ◌, ◌<◌, ◌≡◌, ◌≤◌, ◌∷◌, All, AllPairs, IsPermutation, IsSortedByKey, List, Ok};
 ghost use Rattle.std.specs.Prelude.{[], bytes_eq, drop, false, flat_map, is_ok, length, map, pos, take, true, ℕ};
 
-/// If no account has records in both of two lists, the statement of the joined list is the statement of the first list,
-/// followed by the statement of the second. The joined list has a statement only if each of the two has one.
+/// If two lists have no account in common, the statement of the joined list is the statement of the first list, then
+/// the statement of the second. The joined list has a statement only if each of the two has one.
 pub fn statements_of_parts_join()
     ensures joined { (t : AcceptedTables) (ps qs : List PositionRecord) (one other : List ℕ) → AreApart ps qs
         → statement_bound t ps ≡ Ok one → statement_bound t qs ≡ Ok other
@@ -31,9 +31,9 @@ pub fn statements_of_parts_join()
         × (text ≡ one ++ other) }
 {}
 
-/// If the records of a whole file are the records of a first part, followed by the records of a second, and the parts
-/// share no account, the statements of the parts, joined, are the statement of the whole. The whole may have no more
-/// accounts than a file may have. It has a statement only if each part has one.
+/// The statements of two parts, joined, are the statement of a whole file under three conditions: the records of the
+/// whole are the records of the first part and then of the second, the parts share no account, and the whole has no
+/// more accounts than a file may have. The whole has a statement only if each part has one.
 pub fn statements_of_files_join()
     ensures joined { (params whole first second one other : List ℕ)
         → records_of whole ≡ records_of first ++ records_of second → AreFilesApart first second
@@ -47,8 +47,9 @@ pub fn statements_of_files_join()
         × (statement_of params second ≡ Ok other) × (text ≡ one ++ other) }
 {}
 
-/// If a file is cut after a line feed and its parts share no account, the statements of the parts, joined, are the
-/// statement of the file. The first part may have no double quote, and the second may not begin with a byte order mark.
+/// If a file is cut in two after a line feed, the statements of the parts, joined, are the statement of the file. The
+/// parts have to share no account, and together have no more accounts than a file may have. The first part may have no
+/// double quote, and the second may not begin with a byte order mark.
 pub fn statements_of_cut_files_join()
     ensures joined { (params first second one other : List ℕ)
         → EndsInLineFeed first → has_quote first ≡ false → BeginsWithNoMark second → AreFilesApart first second
@@ -71,7 +72,8 @@ pub fn an_account_goes_by_its_own_records()
 {}
 
 /// If no account has records in two of the lists, the statement of the joined list is the joined statements of the
-/// lists, for any number of lists and accounts. The joined list has a statement only if each of the lists has one.
+/// lists. Their number and the number of accounts do not matter. The joined list has a statement only if each of the
+/// lists has one.
 pub fn statements_of_records_join()
     ensures joined { (t : AcceptedTables) (parts : List (List PositionRecord)) (texts : List (List ℕ)) → AllPairs AreApart parts
         → map (statement_bound t) parts ≡ map Ok texts
@@ -99,8 +101,8 @@ pub fn statements_of_part_files_join()
         → statement_of params whole ≡ Ok (concat texts) }
 {}
 
-/// If bytes without a double quote are cut after line feeds, their records are the records of the resulting files,
-/// provided that no file begins with a byte order mark.
+/// Bytes without a double quote that are cut after line feeds have the records of the resulting files. None of the
+/// files may begin with a byte order mark.
 pub fn records_of_cut_files_join()
     ensures { (files : List (List ℕ)) → All EndsInLineFeed files → has_quote (concat files) ≡ false → All BeginsWithNoMark files
         → records_of (concat files) ≡ flat_map records_of files }
@@ -138,8 +140,8 @@ pub fn sorted_records_have_the_same_lines()
         → text ≡ flat_map (lines_of t ps) (accounts_of ps) }
 {}
 
-/// A file with the records of another file in any order, such as the order of a stable sort by account, is accepted
-/// exactly if the other file is. Its statement has the lines that its accounts have by the other file's records.
+/// A file with the records of another file in any order is accepted exactly if the other file is. Its statement has the
+/// lines that its accounts have by the other file's records. A stable sort by account is one such order.
 pub fn sorted_files_have_the_same_lines()
     ensures sorted { (one sorted : List ℕ) → IsStableByKey (λ r. text_at r 0) (slice_cmp nat_cmp) (records_of one) (records_of sorted)
         → IsPermutation (records_of one) (records_of sorted) }
@@ -171,9 +173,9 @@ pub fn sorted_files_are_cut_between_accounts()
         → AllPairs AreFilesApart files }
 {}
 
-/// If files have the records of a whole file in any order, sorted or not, and no account is in two of the files, their
-/// joined statements are the lines of the whole file's accounts. Each account has the lines of the whole file's records
-/// and appears once. The whole file may have any number of accounts.
+/// Files that have the records of a whole file in any order, and no account in common, have the lines of the whole
+/// file's accounts as their joined statements. Each account has its lines by the whole file's records and appears once.
+/// The records need not be sorted, and the whole file may have any number of accounts.
 pub fn sorted_parts_have_the_lines_of_the_whole()
     ensures { (params : List ℕ) (t : AcceptedTables) (whole : List ℕ) (files texts : List (List ℕ)) → accepted_of params ≡ Ok t
         → IsPermutation (records_of whole) (flat_map records_of files) → AllPairs AreFilesApart files
