@@ -1,4 +1,4 @@
-//! Lemmas on accepted parameter files: they meet all conditions on a set of raw tables.
+//! The conditions on raw tables that an accepted parameter file meets, in the terms of these tables.
 ghost use Rattle.std.specs.Prelude.{◌≡◌, ℕ, List, Ok, true};
 ghost use Rattle.span_csv.specs.ParamFaults.{params_of};
 ghost use Rattle.span_tables.specs.near.Limits.{is_readable};

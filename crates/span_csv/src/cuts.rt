@@ -6,7 +6,7 @@ ghost use Rattle.span_csv.specs.Records.{records_of};
 use memchr::memchr;
 use std::alloc::{AllocError, Global};
 
-// The number of pieces is at most the number of bytes divided by this.
+// The minimum average size of the pieces of a file that is cut, in bytes.
 const PIECE_BYTES: usize = 65536;
 
 // The first byte of a byte order mark.

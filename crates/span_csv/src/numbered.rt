@@ -92,7 +92,7 @@ pub(crate) fn quantity(
     quantity_from(at, field(row, names))
 }
 
-/// Returns whether a name is the one at an index.
+/// Returns whether the name at an index is this one.
 pub(crate) fn stands_at(known: &[Name], place: u16, name: &[u8]) -> bool
     ensures at { IsTrue result ↔ (slice_get known.now place ≡ Some name.now) }
     ensures is_name { IsTrue result → is_name name.now ≡ true }
@@ -103,7 +103,7 @@ pub(crate) fn stands_at(known: &[Name], place: u16, name: &[u8]) -> bool
     }
 }
 
-// Returns whether a name is one more than the maximum.
+// Returns whether a name is new, and the maximum number of names is already known.
 fn is_one_too_many(known: &IndexSet<Name>, most: usize, name: &Name) -> bool
     ensures { result ≡ is_one_too_many most known.now.keys name.now }
 {
