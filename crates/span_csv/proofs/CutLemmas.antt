@@ -71,7 +71,7 @@ records_are xs =
 
 -- ---- bytes without a quote
 
--- no quoted field is open, and nothing has been read of the next record between two records
+-- no quoted field is open, and between two records nothing of the next one has been read
 abbrev IsPlain : State → Fields → List ℕ → Type 0
 IsPlain state.StartRecord fields field = (fields ≡ []) × (field ≡ [])
 IsPlain state.AfterCr fields field = (fields ≡ []) × (field ≡ [])
@@ -127,7 +127,7 @@ line_cut state.StartField fields field ys plain = refl
 line_cut state.InField fields field ys plain = refl
 line_cut _ fields field ys plain = absurd plain
 
--- after bytes without a quote and then a line feed, the rows are the rows of the further bytes by themselves
+-- the rows after quote-free bytes and a line feed are the rows of the further bytes by themselves
 rows_cut : (front : List ℕ) (s : State) (fields : Fields) (field ys : List ℕ) → IsPlain s fields field → has_quote front ≡ false
     → rows s fields field (front ++ 10 ∷ ys) ≡ rows s fields field (front ++ 10 ∷ []) ++ rows state.StartRecord [] [] ys
 rows_cut [] s fields field ys plain free = line_cut s fields field ys plain
@@ -191,7 +191,7 @@ mark_free test (a ∷ b ∷ c ∷ front) free = by (is_bom a b c) where
 
 -- ---- records and mark together
 
--- the records of bytes without a quote, a line feed and further bytes
+-- the records of quote-free bytes, then a line feed, then further bytes
 lines_cut : (front second : List ℕ) → has_quote front ≡ false → BeginsWithNoMark second
     → records_of (front ++ 10 ∷ second) ≡ records_of (front ++ 10 ∷ []) ++ records_of second
 lines_cut front second free unmarked =

@@ -1,4 +1,4 @@
--- Results of byte searches, and the records after a cut behind a line feed.
+-- Results of byte searches, and the records after a cut that follows a line feed.
 use Rattle.std.proofs.Common.{◌≡◌, ◌∙◌, refl, sym, ap, arith, ℕ, Bool, true, false, not, ◌||◌, ◌==◌}
 use Rattle.std.proofs.Common.{List, [], ◌∷◌, ◌++◌, take, drop, get_or, inl, inr, Option, Some, None, append_assoc, slice_get}
 use Rattle.std.specs.Prelude.{flat_map, is_some}

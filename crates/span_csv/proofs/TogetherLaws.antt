@@ -133,7 +133,7 @@ together_known pieces accounts together =
 
 -- ---- numbers
 
--- no numbered records denote the records of no piece
+-- an empty list denotes the records of no pieces
 pub stand_none : (accounts : List (List ℕ)) → StandFor accounts [] []
 stand_none accounts = record {
   named = refl;
