@@ -1,4 +1,4 @@
--- The sizes of what an account has under tables within their limits: of each figure, and of the total.
+-- Bounds on the figures and the total of an account under tables within their limits.
 use Rattle.std.proofs.Common.{◌≡◌, ℤ, ℕ, ◌+◌, ◌*◌, ◌<◌, ◌≤◌, true, List, length, get_or, subst, sym, ◌∙◌, arith}
 use Rattle.std.specs.Prelude.{pos, ◌+ℤ◌, All, nat_abs}
 use Rattle.std.specs.List.{range_with_len}
@@ -35,11 +35,11 @@ module _ (t : AcceptedTables) (holdings : List Holding) (limits : IsWithinLimits
     (known : fits (length t.contracts) holdings ≡ true) where
   -- ---- a commodity
 
-  -- what is held of a commodity
+  -- the held contracts of a commodity
   pub held_at_are : (c : ℕ) → AreHeld (held_at t holdings c)
   held_at_are c = are_held_of t holdings (commodity_id t c) limits portfolio known
 
-  -- the scan of a commodity
+  -- the scan risk of a commodity is within its limit
   pub risk_at_small : (c : ℕ) → nat_abs (scan_at t holdings c).risk ≤ MAX_SUM
   risk_at_small c = risk_small (scenario_sums (held_at t holdings c)) (sums_small (held_at t holdings c) (held_at_are c))
 
@@ -125,7 +125,7 @@ module _ (t : AcceptedTables) (holdings : List Holding) (limits : IsWithinLimits
       (λ k d lt. net_value_at_small (get_or (range_with_len 0 n) k d)) in
       omega (arith, all, length-range_with_len 0 n)
 
--- a sum over the commodities in front of one, and what that one adds, are an amount of money
+-- a sum over the commodities before a given one, plus the amount of that one, is an amount of money
 next_is_money : (before next : ℤ) (c n m : ℕ) → nat_abs before ≤ c * m → nat_abs next ≤ m → c < n → n ≤ MAX_COMMODITIES
     → MAX_COMMODITIES * m ≤ MAX_MONEY → nat_abs (before +ℤ next) ≤ MAX_MONEY
 next_is_money before next c n m small one lt few money =
@@ -134,7 +134,7 @@ next_is_money before next c n m small one lt few money =
     let parts : (c + 1) * m ≡ c * m + m = omega arith in
     omega (arith, size-add before next, small, one, all, parts, money)
 
--- the total of the first commodities, with the requirement of the next
+-- the total of the first commodities, plus the requirement of the next, is an amount of money
 pub next_total_is_money : (t : AcceptedTables) (holdings : List Holding) (c : ℕ) → IsWithinLimits t → ArePortfolio holdings
     → fits (length t.contracts) holdings ≡ true → c < length t.commodities
     → nat_abs (total_to t holdings c +ℤ (figures_of t holdings c).requirement) ≤ MAX_MONEY
@@ -143,7 +143,7 @@ next_total_is_money t holdings c limits portfolio known lt =
     (sum_to_small t holdings limits portfolio known c (omega (arith, lt)))
     (requirement_at_small t holdings limits portfolio known c lt) lt limits.commodities (omega arith)
 
--- the option value of the first commodities, with that of the next
+-- the option value of the first commodities, plus the option value of the next, is an amount of money
 pub next_value_is_money : (t : AcceptedTables) (holdings : List Holding) (c : ℕ) → IsWithinLimits t → ArePortfolio holdings
     → fits (length t.contracts) holdings ≡ true → c < length t.commodities
     → nat_abs (value_to t holdings c +ℤ net_value_at t holdings c) ≤ MAX_MONEY

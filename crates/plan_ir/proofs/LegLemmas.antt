@@ -1,9 +1,9 @@
--- The ranges of an intercommodity spread, whatever other commodities there are.
+-- The ranges of an intercommodity spread do not depend on commodities other than those in its legs.
 use Rattle.std.proofs.Common.{ℕ, ◌<◌, All}
 use Rattle.span_tables.specs.Accepted.{IsInter}
 use Rattle.span_tables.specs.declared.records.Inter.{Inter}
 
--- a spread of some commodities is in range of any list that has those of its legs
+-- a spread that is in range for m commodities is in range for any n that exceeds the commodity numbers of its legs
 pub in_range_of : (m n : ℕ) (s : Inter) → IsInter m s → All (λ leg. leg.commodity < n) s.legs → IsInter n s
 in_range_of m n s is among = record {
   basis_points = is.basis_points;

@@ -1,4 +1,4 @@
--- What operations give of nothing held.
+-- The values of operations when nothing is held.
 use Rattle.std.proofs.Common.{◌≡◌, ℕ, List, [], ◌∷◌, refl, pos, replicate}
 use Rattle.std.proofs.Math.Nat.{mul-zero}
 use Rattle.span_tables.specs.declared.records.MinimumMethod.{MinimumMethod}
@@ -34,7 +34,7 @@ pub value_of_nothing : net_value_of [] ≡ pos 0
 unfolding net_value_of
 value_of_nothing = refl
 
--- nothing is left of no months, and nothing is delivered
+-- without months nothing remains and nothing is delivered, so the delivery charge is 0
 pub delivery_of_no_months : (rests : List MonthUnits) (spots : List Spot) → Shrinks [] rests → delivery_charge [] rests spots ≡ 0
 delivery_of_no_months [] spots shrinks = delivery_of_nothing spots
 delivery_of_no_months (r ∷ rests) spots shrinks = absurd shrinks

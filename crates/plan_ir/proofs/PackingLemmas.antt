@@ -1,4 +1,4 @@
--- Lists that stand one behind the other.
+-- Lists stored one after another.
 use Rattle.std.proofs.Common.{◌≡◌, ℕ, suc, ◌-◌, List, [], ◌∷◌, ◌++◌, length, map, take, drop, refl, ap, ◌∙◌, arith}
 use Rattle.std.specs.Prelude.{All}
 use Rattle.std.proofs.lemmas.List.{drop-append-le, length-drop, map-append, take-append-le, take_all}
@@ -6,7 +6,7 @@ use Rattle.std.proofs.Math.Seq.{drop-append_seam}
 use Rattle.plan_ir.specs.declared.lists.Span.{Span}
 use Rattle.plan_ir.specs.near.Packing.{IsWithin, list_in}
 
--- numbers that are appended change no list
+-- appended numbers change no earlier list
 list_stays : (numbers more : List ℕ) (span : Span) → IsWithin numbers span → list_in (numbers ++ more) span ≡ list_in numbers span
 list_stays numbers more span within =
     let long : length (drop span.start numbers) ≡ length numbers - span.start = length-drop span.start numbers in

@@ -1,4 +1,4 @@
--- Elements that are gone through with their places.
+-- Lists of elements with their indexes.
 use Rattle.std.proofs.Common.{◌≡◌, ℕ, ◌+◌, ◌<◌, List, [], ◌∷◌, ◌++◌, length, flat_map, take, slice_index_or, sym, ap, ◌∙◌, arith}
 use Rattle.std.specs.List.{enumerate_from}
 use Rattle.std.proofs.lemmas.Grind.{flat_map-append, take_at_read}
@@ -7,7 +7,7 @@ use Rattle.std.proofs.lemmas.List.Concat.{flat_map-cons}
 use Rattle.std.proofs.lemmas.List.FromFn.{get_or-enumerate_from, length-enumerate_from}
 use Rattle.std.proofs.Math.Seq.{take-length}
 
--- the first elements with their places, and one more
+-- the first elements with their indexes, and one more
 pub take_next : {A : Type 0} (xs : List A) (i : ℕ) (d : A) → i < length xs
     → take (i + 1) (enumerate_from 0 xs) ≡ take i (enumerate_from 0 xs) ++ (i, slice_index_or xs i d) ∷ []
 take_next xs i d lt =
@@ -26,6 +26,6 @@ flat_map_next {A} {B} f xs i d lt =
     ap (flat_map f) (take_next xs i d lt) ∙ flat_map-append f front (x ∷ [])
     ∙ ap (λ t. flat_map f front ++ t) (flat_map-cons f x [] ∙ append-nil (f x))
 
--- all elements with their places
+-- all elements with their indexes
 pub take_all : {A : Type 0} (xs : List A) (i : ℕ) → i ≡ length xs → take i (enumerate_from 0 xs) ≡ enumerate_from 0 xs
 take_all xs i e = ap (λ n. take n (enumerate_from 0 xs)) (e ∙ sym (length-enumerate_from 0 xs)) ∙ take-length (enumerate_from 0 xs)

@@ -1,4 +1,4 @@
--- What the users of a step are.
+-- Lemmas about the users of a step.
 use Rattle.std.proofs.Common.{◌≡◌, ℕ, zero, suc, ◌+◌, ◌<◌, ◌≤◌, Bool, true, false, cond, List, []}
 use Rattle.std.proofs.Common.{◌∷◌, length, slice_index_or, refl, ap, ◌∙◌, arith}
 use Rattle.std.specs.Prelude.{◌==◌, All}
@@ -6,7 +6,7 @@ use Rattle.std.specs.List.Sorted.{IsStrictlyIncreasing}
 use Rattle.std.proofs.lemmas.Bool.{eq-eqb, ne_eqb}
 use Rattle.plan_ir.specs.Plans.{StepView, inputs_at, inputs_in, is_step_among, places_from, users_of}
 
--- no place stands before the first, nor behind the last
+-- each index is at least first and below end
 abbrev AreFrom : ℕ → ℕ → List ℕ → Type 0
 AreFrom first end places =
     (i d : ℕ) → i < length places → (first ≤ slice_index_or places i d) × (slice_index_or places i d < end)
@@ -23,7 +23,7 @@ are_from k first (x ∷ lists) = by (is_step_among k x) (are_from k (first + 1) 
   by true later (suc i) d lt = let at = later i d (omega (arith, lt)) in (omega (arith, at), omega (arith, at))
   by false later i d lt = let at = later i d lt in (omega (arith, at), omega (arith, at))
 
--- a number before the first is not among them
+-- a number below the first index is not in the result
 not_before : (k first : ℕ) (lists : List (List ℕ)) (n : ℕ) → n < first → is_step_among n (places_from first k lists) ≡ false
 not_before k first [] n lt = refl
 not_before k first (x ∷ lists) n lt = by (is_step_among k x) (not_before k (first + 1) lists n (omega (arith, lt))) where
@@ -37,7 +37,7 @@ not_before k first (x ∷ lists) n lt = by (is_step_among k x) (not_before k (fi
   by true later = rw (other, later) refl
   by false later = later
 
--- a place is among them just where its list has k
+-- an index is in the result exactly if its list contains k
 among_at : (k first : ℕ) (lists : List (List ℕ)) (i n : ℕ) → n ≡ first + i
     → is_step_among n (places_from first k lists) ≡ is_step_among k (slice_index_or lists i [])
 among_at k first [] i n e = refl
@@ -63,7 +63,7 @@ among_at k first (x ∷ lists) (suc i) n e = by (is_step_among k x) (among_at k 
   by true later = rw other later
   by false later = later
 
--- each place is below the next
+-- each index is below the next one
 abbrev Rise : List ℕ → Type 0
 Rise places = (i d : ℕ) → suc i < length places → slice_index_or places i d < slice_index_or places (suc i) d
 
@@ -78,7 +78,7 @@ rise k first (x ∷ lists) = by (is_step_among k x) (rise k (first + 1) lists) w
   by true later (suc i) d lt = later i d (omega (arith, lt))
   by false later i d lt = later i d lt
 
--- the inputs of a step, read from those of all steps
+-- the inputs of step k, read from the inputs of all steps
 inputs_read : (plan : List StepView) (k : ℕ) → slice_index_or (inputs_in plan) k [] ≡ inputs_at plan k
 inputs_read [] k = refl
 inputs_read (s ∷ plan) zero = refl
@@ -88,7 +88,7 @@ inputs_of_all : (plan : List StepView) → length (inputs_in plan) ≡ length pl
 inputs_of_all [] = refl
 inputs_of_all (s ∷ plan) = ap suc (inputs_of_all plan)
 
--- a step is a user just where it has k among its inputs
+-- a step is a user of k exactly if it has k among its inputs
 pub users_just : (plan : List StepView) (k user : ℕ) → is_step_among user (users_of plan k) ≡ is_step_among k (inputs_at plan user)
 users_just plan k user = among_at k 0 (inputs_in plan) user user (omega arith) ∙ ap (is_step_among k) (inputs_read plan user)
 
@@ -96,7 +96,7 @@ users_just plan k user = among_at k 0 (inputs_in plan) user user (omega arith) �
 pub users_are_steps : (plan : List StepView) (k : ℕ) → All (λ user. user < length plan) (users_of plan k)
 users_are_steps plan k i d lt = omega (arith, are_from k 0 (inputs_in plan) i d lt, inputs_of_all plan)
 
--- users rise
+-- users are in increasing order
 pub users_rise : (plan : List StepView) (k : ℕ) → IsStrictlyIncreasing (users_of plan k)
 users_rise plan k i lt =
     let here = rise k 0 (inputs_in plan) i 0 (omega (arith, lt)) in

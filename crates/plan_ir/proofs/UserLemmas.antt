@@ -47,7 +47,7 @@ as_many_steps (o ∷ ops) (x ∷ lists) e = ap suc (as_many_steps ops lists (ome
 
 -- ---- the lists of users, after one more step
 
--- the last list decides whether its place is appended
+-- the last list decides whether its index is appended
 pub places_push : (first k : ℕ) (lists : List (List ℕ)) (x : List ℕ)
     → places_from first k (lists ++ x ∷ []) ≡ places_from first k lists ++ cond (is_step_among k x) ((first + length lists) ∷ []) []
 places_push first k [] x =
@@ -66,7 +66,7 @@ places_push first k (y ∷ lists) x =
       by true more = ap (λ xs. first ∷ xs) more
       by false more = more
 
--- a list keeps its length
+-- the number of lists does not change
 pub length_noted : (number : ℕ) (places : List ℕ) (lists : List (List ℕ)) → length (noted number places lists) ≡ length lists
 length_noted number [] lists = refl
 length_noted number (p ∷ places) lists =
@@ -99,7 +99,7 @@ at_noted_step number p places lists k out lt rest = by (cases_eq k p) where
       let other : (k == p) ≡ false = ne_eqb k p ne in
       rest ∙ rw (other, get_or-set_other lists p k (slice_index_or lists p [] ++ number ∷ []) [] ne) refl
 
--- a list has the number appended where its place is one of the places
+-- the number is appended to the list at k exactly if k is one of the indexes
 pub at_noted : (number : ℕ) (places : List ℕ) (lists : List (List ℕ)) (k : ℕ)
     → has_repeat (λ a b. a == b) places ≡ false → All (λ p. p < length lists) places → k < length lists
     → slice_index_or (noted number places lists) k [] ≡ slice_index_or lists k [] ++ cond (is_step_among k places) (number ∷ []) []
@@ -112,16 +112,16 @@ at_noted number (p ∷ places) lists k apart inside lt =
     (at_noted number places next k parts.1
     (λ i d below. rw long (All-tail (λ q. q < length lists) p places inside i d below)) (omega (arith, lt, long)))
 
--- there is a list of places for each number
+-- there is a list of indexes for each number
 pub length_places : (n : ℕ) (lists : List (List ℕ)) → length (places_of_all n lists) ≡ n
 length_places n lists = length-map (range_with_len 0 n) (λ k. places_from 0 k lists) ∙ length-range_with_len 0 n
 
--- the places of a number's lists
+-- the indexes of the lists that contain number k
 pub places_at : (n : ℕ) (lists : List (List ℕ)) (k : ℕ) → k < n
     → slice_index_or (places_of_all n lists) k [] ≡ places_from 0 k lists
 places_at n lists k lt = get_or-map-range_with_len (λ k. places_from 0 k lists) 0 n k k [] lt (omega arith)
 
--- before the first step nobody uses any
+-- before the first step no step has a user
 pub no_places : (n : ℕ) → replicate n [] ≡ places_of_all n []
 no_places n =
     ext_get_or [] (replicate n []) (places_of_all n [])
@@ -130,7 +130,7 @@ no_places n =
     let inside : k < n = omega (arith, below, length-replicate {A = List ℕ} n []) in
     get_or-replicate n k [] [] inside ∙ sym (places_at n [] k inside))
 
--- the users by one more step
+-- the users after one more step
 pub next_places : (n i : ℕ) (lists : List (List ℕ)) → i < length lists
     → has_repeat (λ a b. a == b) (slice_index_or lists i []) ≡ false → All (λ p. p < n) (slice_index_or lists i [])
     → noted i (slice_index_or lists i []) (places_of_all n (take i lists)) ≡ places_of_all n (take (i + 1) lists)

@@ -17,7 +17,7 @@ use Rattle.span_tables.proofs.SumLaws.{int_sum_by-cons, int_sum_by-if}
 use Rattle.inter_credit.specs.OptionValue.{net_value_of, position_value}
 use Rattle.plan_ir.specs.Figures.{value_to}
 
--- the sum of two values for each element is the two sums together
+-- summing two values of each element gives the sum of the two separate sums
 sum_of_both : {X : Type 0} (f g both : X → ℤ) → ((x : X) → both x ≡ f x +ℤ g x) → (xs : List X)
     → int_sum_by both xs ≡ int_sum_by f xs +ℤ int_sum_by g xs
 sum_of_both f g both are [] = refl
@@ -29,7 +29,7 @@ sum_of_both f g both are (x ∷ xs) =
     let rest = sum_of_both f g both are xs in
     omega (arith, ints, one, other, split, here, rest)
 
--- ---- a value that stands at the number p alone, of all below the end
+-- ---- a value that is counted at the number p only, of all numbers below the end
 
 module _ (end p : ℕ) (v : ℤ) (is_there : ℕ → Bool) (tells : (c : ℕ) → c < end → (p == c) ≡ is_there c) where
   abbrev value_there : ℕ → ℤ
@@ -38,7 +38,7 @@ module _ (end p : ℕ) (v : ℤ) (is_there : ℕ → Bool) (tells : (c : ℕ) �
   value_if : (a : ℕ) (b : Bool) → a < end → (p == a) ≡ b → value_there a ≡ cond b v (pos 0)
   value_if a b lt is = ap (λ there. cond there v (pos 0)) (sym (tells a lt) ∙ is)
 
-  -- behind p there is nothing
+  -- nothing is counted after p
   none_behind : (a n : ℕ) → end ≡ a + n → p < a → int_sum_by value_there (range_with_len a n) ≡ pos 0
   none_behind a zero to lt = refl
   none_behind a (suc n) to lt =
@@ -47,7 +47,7 @@ module _ (end p : ℕ) (v : ℤ) (is_there : ℕ → Bool) (tells : (c : ℕ) �
       let split = int_sum_by-cons value_there a (range_with_len (a + 1) n) in
       omega (arith, ints, here, rest, split)
 
-  -- from a place up to p the value is counted once
+  -- over a range that includes p the value is counted once
   counted_once : (a n : ℕ) → end ≡ a + n → a ≤ p → p < end → int_sum_by value_there (range_with_len a n) ≡ v
   counted_once a zero to le lt = absurd (omega (arith, to, le, lt))
   counted_once a (suc n) to le lt =
@@ -68,17 +68,17 @@ module _ (end p : ℕ) (v : ℤ) (is_there : ℕ → Bool) (tells : (c : ℕ) �
             let rest = later (omega (arith, le, other)) in
             omega (arith, ints, here, rest, split)
 
--- ---- what is held, by commodity
+-- ---- held contracts by commodity
 
 module _ (t : AcceptedTables) (limits : IsWithinLimits t) where
-  -- the contract is of one of the commodities
+  -- the commodity of the contract is one of the tables
   abbrev IsKnown : Contract → Type 0
   IsKnown x = commodity_number t.commodities x.commodity < length t.commodities
 
   abbrev is_of : ℕ → HeldContract → Bool
   is_of c h = bytes_eq (h.contract).commodity (commodity_id t c)
 
-  -- what held contracts of a commodity are worth
+  -- the value of the held contracts of a commodity
   abbrev worth_at : List HeldContract → ℕ → ℤ
   worth_at held c = int_sum_by position_value (filter (is_of c) held)
 
@@ -86,7 +86,7 @@ module _ (t : AcceptedTables) (limits : IsWithinLimits t) where
   abbrev numbers : List ℕ
   numbers = range_with_len 0 (length t.commodities)
 
-  -- what held contracts of all commodities are worth
+  -- the value of the held contracts of all commodities
   abbrev worth : List HeldContract → ℤ
   worth held = int_sum_by (worth_at held) numbers
 
@@ -95,7 +95,7 @@ module _ (t : AcceptedTables) (limits : IsWithinLimits t) where
       let twice = sum_of_both (worth_at []) (worth_at []) (worth_at []) (λ c. refl) numbers in
       omega (arith, ints, twice)
 
-  -- one held contract more is counted at its commodity alone
+  -- one more held contract is counted at its own commodity only
   worth_more : (h : HeldContract) (held : List HeldContract) → IsKnown h.contract
       → worth (h ∷ held) ≡ position_value h +ℤ worth held
   worth_more h held known =
@@ -110,7 +110,7 @@ module _ (t : AcceptedTables) (limits : IsWithinLimits t) where
   contract_known k x is =
       subst IsKnown (get_or_from_slice_get t.contracts k x x is) (limits.contracts_known k x (slice_get_within t.contracts k x is))
 
-  -- over all commodities each holding is counted
+  -- the sum over all commodities counts each holding
   worth_of_all : (hs : List Holding)
       → worth (held_contracts t.contracts hs) ≡ int_sum_by position_value (held_contracts t.contracts hs)
   worth_of_all [] = worth_of_nothing

@@ -1,4 +1,4 @@
--- What an operation takes, and the value that it has on its inputs, whatever they are.
+-- What an operation takes, and its value on any inputs.
 use Rattle.std.specs.Prelude.{◌≡◌, ℕ, ◌<◌, ◌≤◌, List, [], length, replicate, slice_index_or}
 use Rattle.std.specs.Prelude.{slice_set, ⊤, All, pos, ◌+ℤ◌, nat_abs}
 use Rattle.span_money.specs.declared.amounts.TheConstants.{MAX_MONEY}
@@ -28,28 +28,28 @@ use Rattle.plan_ir.specs.declared.ops.Op.TheVariants as op
 use Rattle.plan_ir.specs.declared.values.Value.{Value}
 use Rattle.plan_ir.specs.declared.values.Value.TheVariants as value
 
--- the input at a place
+-- the input at an index
 abbrev pub input : List Value → ℕ → Value
 input inputs place = slice_index_or inputs place (value.Total (pos 0))
 
--- spreads without legs, for places past the end
+-- spreads without legs, for an index past the end
 abbrev pub no_intra : Intra
 no_intra = record { priority = 0; rate = 0; legs = [] }
 
 abbrev pub no_inter : Inter
 no_inter = record { priority = 0; basis_points = 0; legs = [] }
 
--- the spread of a commodity at a place
+-- the spread of a commodity at an index
 abbrev pub intra_at : AcceptedTables → ℕ → ℕ → Intra
 intra_at t c j = slice_index_or (intras_at t c) j no_intra
 
--- the intercommodity spread at a place
+-- the intercommodity spread at an index
 abbrev pub inter_at : AcceptedTables → ℕ → Inter
 inter_at t j = slice_index_or (inters_of t) j no_inter
 
 -- ---- what operations take
 
--- the numbers of an operation are those of a commodity or a spread of the tables
+-- each number of an operation is the number of a commodity or a spread of the tables
 abbrev pub IsOp : AcceptedTables → Op → Type 0
 IsOp t (op.Gather c) = c < length t.commodities
 IsOp t (op.Sums c) = c < length t.commodities
@@ -69,7 +69,7 @@ IsOp t (op.NetValue c) = c < length t.commodities
 IsOp t op.ValueStart = ⊤
 IsOp t (op.ValueAdd c) = c < length t.commodities
 
--- nothing
+-- no inputs
 pub record TakesNothing (inputs : List Value) : Type 0 where
   pub count : length inputs ≡ 0
 
@@ -94,15 +94,15 @@ pub record TakesTiers (inputs : List Value) : Type 0 where
   pub count : length inputs ≡ 1
   pub tiers : IsTiers (input inputs 0)
 
--- months, and what spreads left of just them
+-- months, and the remaining deltas of exactly these months after spreads
 pub record TakesDelivery (inputs : List Value) : Type 0 where
   pub count : length inputs ≡ 2
   pub months : IsMonths (input inputs 0)
   pub tiers : IsTiers (input inputs 1)
   pub shrinks : Shrinks (months_in (input inputs 0)) (tier_state_in (input inputs 1)).rests
 
--- a scan, months after spreads, the delivery charge, the minimum, and commodities with this one; each part of a
--- requirement is within its limit
+-- a scan, months after spreads, the delivery charge, the minimum, and the states of commodities that include this one;
+-- each part of a requirement is within its limit
 pub record TakesFinal (c : ℕ) (inputs : List Value) : Type 0 where
   pub count : length inputs ≡ 5
   pub scan : IsScan (input inputs 0)
@@ -115,7 +115,7 @@ pub record TakesFinal (c : ℕ) (inputs : List Value) : Type 0 where
   pub minimum_small : nat_abs (amount_in (input inputs 3)) ≤ MAX_PART
   pub among : c < length (states_in (input inputs 4))
 
--- commodities with this one, which was not loaded, and of which none was spread; its months, and its scan
+-- the states of commodities, with this one not loaded and no spread formed; the months of this one, and its scan
 pub record TakesLoad (c : ℕ) (inputs : List Value) : Type 0 where
   pub count : length inputs ≡ 3
   pub states : IsInterState (input inputs 0)
@@ -126,27 +126,27 @@ pub record TakesLoad (c : ℕ) (inputs : List Value) : Type 0 where
   pub unspread : IsUnspread (states_in (input inputs 0))
   pub price2_small : (scan_in (input inputs 2)).price2 ≤ MAX_PRICE2
 
--- commodities with those of the legs of a spread
+-- the states of commodities that include the commodities of a spread's legs
 pub record TakesLegs (spread : Inter) (inputs : List Value) : Type 0 where
   pub count : length inputs ≡ 1
   pub states : IsInterState (input inputs 0)
   pub among : All (λ leg. leg.commodity < length (states_in (input inputs 0))) spread.legs
 
--- a total, and the figures of a commodity with whose requirement the sum is an amount of money
+-- a total, and the figures of a commodity; the total plus the requirement is an amount of money
 pub record TakesTotal (inputs : List Value) : Type 0 where
   pub count : length inputs ≡ 2
   pub total : IsTotal (input inputs 0)
   pub figures : IsFigures (input inputs 1)
   pub small : nat_abs (total_in (input inputs 0) +ℤ (figures_in (input inputs 1)).requirement) ≤ MAX_MONEY
 
--- the option value of some commodities, and that of one more with which the sum is an amount of money
+-- the option value of earlier commodities, and the option value of one more; their sum is an amount of money
 pub record TakesPremium (inputs : List Value) : Type 0 where
   pub count : length inputs ≡ 2
   pub premium : IsPremium (input inputs 0)
   pub amount : IsAmount (input inputs 1)
   pub small : nat_abs (premium_in (input inputs 0) +ℤ amount_in (input inputs 1)) ≤ MAX_MONEY
 
--- the inputs are in number, kind and range what the operation wants
+-- the inputs have the number, kinds and ranges that the operation requires
 abbrev pub TakesInputs : AcceptedTables → Op → List Value → Type 0
 TakesInputs t (op.Gather c) inputs = TakesNothing inputs
 TakesInputs t (op.Sums c) inputs = TakesHeld inputs
@@ -166,7 +166,7 @@ TakesInputs t (op.NetValue c) inputs = TakesHeld inputs
 TakesInputs t op.ValueStart inputs = TakesNothing inputs
 TakesInputs t (op.ValueAdd c) inputs = TakesPremium inputs
 
--- the operation takes these inputs under these tables
+-- the operation is one of these tables, and takes these inputs
 pub record Takes (t : AcceptedTables) (operation : Op) (inputs : List Value) : Type 0 where
   pub known : IsOp t operation
   pub taken : TakesInputs t operation inputs
@@ -179,7 +179,7 @@ final_figures c inputs =
     figures_from (scan_in (input inputs 0)) (tier_state_in (input inputs 1)).charge (amount_in (input inputs 2))
     (amount_in (input inputs 3)) (states_in (input inputs 4)) c
 
--- the commodities with one more of them loaded, from its months and its scan
+-- the states with one more commodity loaded, from its months and its scan
 abbrev pub states_with : ℕ → List Value → List CommodityState
 states_with c inputs =
     slice_set (states_in (input inputs 0)) c

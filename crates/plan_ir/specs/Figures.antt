@@ -1,4 +1,4 @@
--- The figures of a commodity, the total and the option value, of accepted tables and what an account holds.
+-- The figures of a commodity, the total and the option value, from accepted tables and the holdings of an account.
 use Rattle.std.specs.Prelude.{ℕ, Bool, not, ◌==◌, if◌then◌else◌, List, [], ◌∷◌, length, map, slice_index_or, ℤ, pos}
 use Rattle.std.specs.List.{range_with_len}
 use Rattle.span_money.specs.Numbers.{int_sum_by}
@@ -21,25 +21,25 @@ use Rattle.spread_stage.specs.declared.months.MonthUnits.{MonthUnits}
 use Rattle.inter_credit.specs.declared.commodity_state.CommodityState.{CommodityState}
 use Rattle.plan_ir.specs.declared.figures.Figures.{Figures}
 
--- ---- what the tables have for the commodity of a number
+-- ---- the records of a commodity, by its number
 
 -- a commodity for a number past the end
 abbrev pub no_commodity : Commodity
 no_commodity = record { id = []; minimum_rate = 0; method = method.Sum }
 
--- the record of the commodity of a number
+-- the commodity record of a number
 abbrev pub commodity_at : AcceptedTables → ℕ → Commodity
 commodity_at t c = slice_index_or t.commodities c no_commodity
 
--- the spreads of the commodity of a number, by rising priority
+-- the spreads of a commodity by increasing priority number
 abbrev pub intras_at : AcceptedTables → ℕ → List Intra
 intras_at t c = intras_of t (commodity_id t c)
 
--- the spot months of the commodity of a number
+-- the spot months of a commodity
 abbrev pub spots_at : AcceptedTables → ℕ → List Spot
 spots_at t c = spots_of t (commodity_id t c)
 
--- ---- what an account has of the commodity of a number
+-- ---- the values of an account for one commodity, by its number
 
 -- the held contracts
 abbrev pub held_at : AcceptedTables → List Holding → ℕ → List HeldContract
@@ -78,7 +78,7 @@ net_value_at t holdings c = net_value_of (held_at t holdings c)
 abbrev pub state_of : AcceptedTables → List Holding → ℕ → CommodityState
 state_of t holdings c = unspread_state (net_delta (deltas_at t holdings c)) (scan_at t holdings c).price2
 
--- ---- what an account has of all commodities
+-- ---- the values of an account for all commodities
 
 -- the commodities before any intercommodity spread
 abbrev pub loaded_states : AcceptedTables → List Holding → List CommodityState
@@ -100,8 +100,8 @@ figures_with scan active intra delivery credit minimum requirement = record {
   requirement = requirement;
 }
 
--- the figures of the commodity of a number, from its scan, the exact charge of its intracommodity spreads, its delivery charge and its
--- minimum, and from the commodities after all intercommodity spreads
+-- the figures of commodity c, from its scan, the exact charge of its intracommodity spreads, its delivery charge and
+-- its minimum, and from the commodities after all intercommodity spreads
 abbrev pub figures_from : Scan → ℕ → ℤ → ℤ → List CommodityState → ℕ → Figures
 figures_from scan charge delivery minimum states c =
     let intra = pos (intra_charge charge) in
@@ -109,11 +109,11 @@ figures_from scan charge delivery minimum states c =
     figures_with scan.risk scan.active intra delivery credit minimum
     (requirement_of scan.risk intra delivery credit minimum)
 
--- the figures in the order in which a statement prints them
+-- the numbers of figures, in the order in which a statement prints them
 abbrev pub numbers_of : Figures → List ℤ
 numbers_of f = f.scan ∷ pos f.active ∷ f.intra ∷ f.delivery ∷ f.credit ∷ f.minimum ∷ f.requirement ∷ []
 
--- the figures of the commodity of a number
+-- the figures of commodity c
 unfoldable pub figures_of : AcceptedTables → List Holding → ℕ → Figures
 figures_of t holdings c =
     figures_from (scan_at t holdings c) (tiers_at t holdings c).charge
@@ -127,6 +127,6 @@ total_to t holdings n = int_sum_by (λ c. (figures_of t holdings c).requirement)
 unfoldable pub value_to : AcceptedTables → List Holding → ℕ → ℤ
 value_to t holdings n = int_sum_by (net_value_at t holdings) (range_with_len 0 n)
 
--- the option value of an account: the sum over all commodities, and 0 where options have none
+-- the option value of an account: the sum over all commodities, or 0 if options have no value
 abbrev pub option_value_of : AcceptedTables → List Holding → ℤ
 option_value_of t holdings = if (facts_in t).options_have_value then value_to t holdings (length t.commodities) else pos 0

@@ -1,4 +1,4 @@
--- What contracts see of a plan: a list of steps, each an operation with the numbers of the steps that are its inputs.
+-- The contract view of a plan: a list of steps, each an operation with the numbers of the steps that are its inputs.
 use Rattle.std.specs.Prelude.{◌≡◌, ℕ, ◌+◌, ◌<◌, ◌≤◌, Bool, ◌==◌, false, if◌then◌else◌}
 use Rattle.std.specs.Prelude.{List, [], ◌∷◌, All, length, map, slice_index_or}
 use Rattle.std.specs.List.{list_any}
@@ -36,17 +36,17 @@ ops_in plan = map (λ s. s.op) plan
 abbrev pub inputs_in : List StepView → List (List ℕ)
 inputs_in plan = map (λ s. s.inputs) plan
 
--- a number is one of a list
+-- a list contains a number
 abbrev pub is_step_among : ℕ → List ℕ → Bool
 is_step_among k numbers = list_any (λ n. k == n) numbers
 
--- the places, counted from a number on, of the lists that have k in them, rising
+-- the indexes of the lists that contain k, in increasing order, counted from first
 abbrev pub places_from : ℕ → ℕ → List (List ℕ) → List ℕ
 places_from first k [] = []
 places_from first k (numbers ∷ lists) =
     if is_step_among k numbers then first ∷ places_from (first + 1) k lists else places_from (first + 1) k lists
 
--- the users of step k: the steps that have k among their inputs, rising
+-- the users of step k: the steps that have k among their inputs, in increasing order
 abbrev pub users_of : List StepView → ℕ → List ℕ
 users_of plan k = places_from 0 k (inputs_in plan)
 
@@ -56,7 +56,8 @@ steps_with [] lists = []
 steps_with (o ∷ ops) [] = []
 steps_with (o ∷ ops) (inputs ∷ lists) = record { op = o; inputs = inputs } ∷ steps_with ops lists
 
--- as many lists of inputs as operations, few enough; each has numbers of these operations, each of them once
+-- There is one list of inputs for each operation, and at most `MAX_STEPS` operations. Each list has numbers of these
+-- operations, each at most once.
 pub record AreInputs (ops : List Op) (lists : List (List ℕ)) : Type 0 where
   pub few : length ops ≤ MAX_STEPS
   pub as_many : length lists ≡ length ops

@@ -1,4 +1,4 @@
--- The kinds of values, and what a value of each kind holds.
+-- The kinds of values, and the content of a value of each kind.
 use Rattle.std.specs.Prelude.{List, [], ⊤, ℤ, pos}
 use Rattle.span_tables.specs.Net.{HeldContract}
 use Rattle.scan_risk.specs.declared.Scan.{Scan}
@@ -50,13 +50,13 @@ abbrev pub IsPremium : Value → Type 0
 IsPremium (value.Premium x) = ⊤
 IsPremium v = ⊥
 
--- ---- what a value holds; a value of another kind holds nothing of it
+-- ---- the content of a value; the default of a kind is used for a value of another kind
 
--- the scan of nothing
+-- the scan of a commodity without held contracts
 abbrev pub no_scan : Scan
 no_scan = record { risk = pos 0; active = 1; paired = 2; price2 = 0 }
 
--- the figures of nothing
+-- the figures of a commodity without held contracts
 abbrev pub no_figures : Figures
 no_figures = figures_with (pos 0) 1 (pos 0) (pos 0) (pos 0) (pos 0) (pos 0)
 

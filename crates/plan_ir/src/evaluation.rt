@@ -1,6 +1,7 @@
-//! The value of an operation on the values of its inputs: one part of the method (docs/METHOD.md) each.
+//! The value of an operation on the values of its inputs. Each operation is one part of the method (docs/METHOD.md).
 //!
-//! The first input stands apart: the value is that input where nothing changes, is written over a copy of it, or is new.
+//! The first input is a separate argument. The value is this input itself if nothing changes, an overwritten copy of it, or a
+//! new value.
 ghost use Rattle.std.specs.Prelude.{◌≡◌, [], ◌∷◌, ◌<◌, ◌≤◌, ◌+ℤ◌, ℕ, List, true};
 ghost use Rattle.std.specs.Prelude.{All, IfOk, IsTrue, length, map, nat_abs, pos, slice_set};
 ghost use Rattle.std.specs.Arc.{arc_value};
@@ -39,7 +40,7 @@ use spread_stage::tiers::start;
 use std::alloc::{AllocError, Global};
 use std::sync::Arc;
 
-// The spread of a commodity at a place.
+// The spread of a commodity at an index.
 fn intra_at(tables: &Tables, commodity: u32, place: u32) -> &Intra
     requires commodity { commodity < length tables.now.commodities }
     requires place { place < length (intras_at tables.now commodity) }
@@ -49,7 +50,7 @@ fn intra_at(tables: &Tables, commodity: u32, place: u32) -> &Intra
     &tables.intras(commodity as usize)[place as usize]
 }
 
-// The intercommodity spread at a place, which is in range of any list of commodities that has those of its legs.
+// The intercommodity spread at an index. It is in range for any list of commodities that includes its legs.
 #[tactic(auto, using(crate::proofs::LegLemmas::in_range_of))]
 fn inter_at(tables: &Tables, place: u32) -> &Inter
     requires { place < length (inters_of tables.now) }
@@ -59,7 +60,7 @@ fn inter_at(tables: &Tables, place: u32) -> &Inter
     &tables.inters()[place as usize]
 }
 
-// The short option minimum of a commodity, of the contracts that are held of it.
+// The short option minimum of a commodity for its held contracts.
 fn minimum_at(tables: &Tables, commodity: u32, held: &Held) -> Money
     requires { commodity < length tables.now.commodities }
     ensures { result ≡ pos (minimum_of (commodity_at tables.now commodity).minimum_rate
@@ -69,7 +70,7 @@ fn minimum_at(tables: &Tables, commodity: u32, held: &Held) -> Money
     minimum(held, commodity.minimum_rate, commodity.method)
 }
 
-// The figures of a commodity from the values of its stages, of which the scan stands apart.
+// The figures of a commodity from the values of its stages. The scan is the first one.
 fn final_figures(commodity: u32, first: &Value, rest: &[Arc<Value>]) -> Figures
     requires { TakesFinal commodity (first.now ∷ map arc_value rest.now) }
     ensures { result ≡ final_figures commodity (first.now ∷ map arc_value rest.now) }
@@ -92,7 +93,8 @@ fn sum(one: Money, other: Money) -> Money
     Money::new(one.get() + other.get())
 }
 
-// Whether a load of these changes nothing where nothing was loaded: a price risk and a net delta of 0.
+// Whether loading these months and this scan into an unloaded state changes nothing: price risk and net delta are both
+// 0.
 fn loads_nothing(months: &Months, scan: &Scan) -> bool
     ensures { IsTrue result → (states : List CommodityState) (c : ℕ) → IsNotLoaded states c → IsUnspread states
         → slice_set states c (unspread_state (net_delta months.now) (scan.now).price2) ≡ states }
@@ -100,10 +102,9 @@ fn loads_nothing(months: &Months, scan: &Scan) -> bool
     scan.price2 == 0 && months.net().get() == 0
 }
 
-/// Whether the operation's value is its first input. `true` tells that it is; `false` tells nothing, since it looks at no
-/// more than is cheap.
+/// Returns whether the operation's value is its first input. `false` means only that no cheap check shows this.
 ///
-/// The inputs, of which the first stands apart, are what the operation takes.
+/// The operation must take these inputs. The first one is a separate argument.
 pub fn changes_nothing(tables: &Tables, op: Op, first: &Value, rest: &[Arc<Value>]) -> bool
     requires { Takes tables.now op (first.now ∷ map arc_value rest.now) }
     ensures { IsTrue result → (holdings : List Holding)
@@ -119,7 +120,7 @@ pub fn changes_nothing(tables: &Tables, op: Op, first: &Value, rest: &[Arc<Value
     }
 }
 
-// Writes the operation's value over its first input, of which it makes another of the same kind.
+// Overwrites the operation's first input with its value, which is of the same kind.
 fn apply_in_place(tables: &Tables, op: Op, first: &mut Value, rest: &[Arc<Value>])
     requires in_place { IsInPlace op }
     requires inputs { Takes tables.now op (first.old ∷ map arc_value rest.now) }
@@ -139,7 +140,7 @@ fn apply_in_place(tables: &Tables, op: Op, first: &mut Value, rest: &[Arc<Value>
     }
 }
 
-// A copy of a value of a kind that an operation can change.
+// A copy of a value. Its kind is one that an operation can change.
 fn copied(alloc: Global, first: &Value) -> Result<Value, AllocError>
     requires { IsChangeable first.now }
     ensures { IfOk result (λ v. v ≡ first.now) }
@@ -153,7 +154,8 @@ fn copied(alloc: Global, first: &Value) -> Result<Value, AllocError>
     }
 }
 
-// The operation's value on inputs of which the first stands apart. No operation with an input looks at what the account holds.
+// The operation's value on its inputs, with the first one as a separate argument. No operation that has an input reads
+// the account's holdings.
 fn apply_beside(
     alloc: Global,
     tables: &Tables,
@@ -211,10 +213,11 @@ fn apply_alone(
     }
 }
 
-/// The value of an operation on the values of its inputs, for an account under the tables.
+/// Returns the value of an operation on the values of its inputs, for an account under the tables. `Err` is out of
+/// memory.
 ///
-/// The portfolio fits the tables, the operation's numbers are those of a commodity or a spread of the tables, and the
-/// inputs are in number, kind and range what the operation takes.
+/// The portfolio must fit the tables, and the operation's numbers must be numbers of commodities or spreads of the
+/// tables. The inputs must have the number, kinds and ranges that the operation takes.
 pub fn apply(
     alloc: Global,
     tables: &Tables,

@@ -13,15 +13,15 @@ use span_money::amounts::Money;
 use span_tables::limits::{MAX_HELD, MAX_NET, MAX_PRICE2, MAX_RATE, MAX_SUM};
 use spread_stage::charges::{MAX_DELIVERY_CHARGE, MAX_INTRA_CHARGE, rounded_charge};
 
-/// The size of the requirement of a commodity, at most, in minor units: scan risk, the charges, the credit and the
-/// minimum, each at its largest. (The credit is at most half of price risk doubled.)
+/// The largest size of a commodity's requirement, in minor units: scan risk, charges, credit and minimum are each at
+/// their largest. (The credit is at most half of the doubled price risk.)
 pub const MAX_REQUIREMENT: u128 = MAX_SUM as u128
     + MAX_INTRA_CHARGE
     + MAX_DELIVERY_CHARGE
     + MAX_PRICE2 as u128
     + MAX_RATE as u128 * MAX_HELD as u128 * MAX_NET as u128;
 
-/// The figures of a commodity of an account, the amounts in minor units.
+/// The figures of a commodity of an account. Amounts are in minor units.
 #[derive(Clone, Copy, Debug, PartialEq, Eq)]
 pub struct Figures {
     /// Scan risk.
@@ -41,7 +41,7 @@ pub struct Figures {
 }
 
 impl Figures {
-    /// The figures in the order in which a statement prints them (docs/FORMATS.md, Statement: the R line).
+    /// Returns the figures in the order in which a statement prints them (docs/FORMATS.md, Statement: the R line).
     pub fn numbers(&self) -> [i128; 7]
         ensures { result ≡ numbers_of self.now }
     {
@@ -56,9 +56,9 @@ impl Figures {
         ]
     }
 
-    /// The figures of the commodity of a number from what its stages have: its scan, the exact charge of its intracommodity spreads (in
-    /// 10^-8 minor units), its delivery charge, its short option minimum, and the commodities after all intercommodity spreads
-    /// (docs/METHOD.md, "Minimum and requirement").
+    /// Returns the figures of a commodity, given by its number, from the values of its stages (docs/METHOD.md, "Minimum
+    /// and requirement"). These are its scan, its delivery charge and its short option minimum, the exact charge of its
+    /// intracommodity spreads (in 10^-4 minor units), and the commodities after all intercommodity spreads.
     pub fn of_stages(
         scan: &Scan,
         charge: u128,
@@ -87,7 +87,7 @@ impl Figures {
         }
     }
 
-    /// The figures of a commodity of which nothing is held: amounts of 0, in scenario 1.
+    /// Returns the figures of a commodity without held contracts: amounts of 0, in scenario 1.
     pub fn of_nothing() -> Figures
         ensures { result ≡ no_figures }
     {

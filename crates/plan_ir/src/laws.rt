@@ -1,4 +1,4 @@
-//! Laws of the definitions, each the contract of a function that does nothing.
+//! Lemmas about the definitions. Each is the contract of a function with an empty body.
 ghost use Rattle.std.specs.Prelude.{◌≡◌, ℕ, ◌<◌, List, All, length};
 ghost use Rattle.std.specs.List.Sorted.{IsStrictlyIncreasing};
 ghost use Rattle.span_money.specs.Numbers.{int_sum_by};
@@ -10,7 +10,7 @@ ghost use Rattle.inter_credit.specs.OptionValue.{position_value};
 ghost use Rattle.plan_ir.specs.Figures.{value_to};
 ghost use Rattle.plan_ir.specs.Plans.{StepView, inputs_at, is_step_among, users_of};
 
-/// The users of a step are just the steps that have it among their inputs, each once, by rising number.
+/// The users of a step are exactly the steps that have it among their inputs, each once and in increasing order.
 pub fn users_have_it_among_their_inputs()
     ensures just { (plan : List StepView) (k user : ℕ)
         → is_step_among user (users_of plan k) ≡ is_step_among k (inputs_at plan user) }
@@ -18,7 +18,8 @@ pub fn users_have_it_among_their_inputs()
     ensures rising { (plan : List StepView) (k : ℕ) → IsStrictlyIncreasing (users_of plan k) }
 {}
 
-/// The option value of an account, over all commodities, is the sum over all of its holdings of net quantity times option value.
+/// The option value of an account over all commodities is the sum over all its holdings of net quantity times option
+/// value.
 pub fn option_value_counts_every_holding()
     ensures { (t : AcceptedTables) (holdings : List Holding) → IsWithinLimits t
         → value_to t holdings (length t.commodities)

@@ -1,4 +1,4 @@
-//! The steps of a compiled plan: their operations, the values that they have, and what an operation makes of its inputs.
+//! The steps of a compiled plan: their operations, their values, and the value of an operation on its inputs.
 #![tactic(auto)]
 
 pub mod evaluation;

@@ -8,7 +8,7 @@ use crate::plans::Plan;
 use itoa::Buffer;
 use std::alloc::{AllocError, Global};
 
-// A number in decimal.
+// Appends a number in decimal.
 fn push_number(out: &mut Vec<u8>, number: u64) -> Result<(), AllocError>
     ensures { OnOk result (out.new.items ≡ out.old.items ++ decimal number) }
 {
@@ -16,7 +16,7 @@ fn push_number(out: &mut Vec<u8>, number: u64) -> Result<(), AllocError>
     out.extend_from_slice(buffer.format(number).as_bytes())
 }
 
-// A name with a number in parentheses.
+// Appends a name with a number in parentheses.
 fn push_numbered(out: &mut Vec<u8>, name: &[u8], number: u32) -> Result<(), AllocError>
     ensures { OnOk result (out.new.items ≡ out.old.items ++ numbered name.now number) }
 {
@@ -27,7 +27,7 @@ fn push_numbered(out: &mut Vec<u8>, name: &[u8], number: u32) -> Result<(), Allo
     Ok(())
 }
 
-// The operation of a spread of a commodity.
+// Appends the spread operation of a commodity.
 fn push_spread(out: &mut Vec<u8>, commodity: u32, place: u32) -> Result<(), AllocError>
     ensures { OnOk result (out.new.items ≡ out.old.items ++ op_text (Spread commodity place)) }
 {
@@ -39,7 +39,7 @@ fn push_spread(out: &mut Vec<u8>, commodity: u32, place: u32) -> Result<(), Allo
     Ok(())
 }
 
-// An operation with its numbers.
+// Appends an operation with its numbers.
 fn push_op(out: &mut Vec<u8>, op: &Op) -> Result<(), AllocError>
     ensures { OnOk result (out.new.items ≡ out.old.items ++ op_text op.now) }
 {
@@ -64,7 +64,7 @@ fn push_op(out: &mut Vec<u8>, op: &Op) -> Result<(), AllocError>
     }
 }
 
-// The inputs of a step, a space before each.
+// Appends the inputs of a step, with a space before each.
 fn push_inputs(out: &mut Vec<u8>, inputs: &[u32]) -> Result<(), AllocError>
     ensures { OnOk result (out.new.items ≡ out.old.items ++ flat_map input_text inputs.now) }
 {
@@ -75,7 +75,7 @@ fn push_inputs(out: &mut Vec<u8>, inputs: &[u32]) -> Result<(), AllocError>
     Ok(())
 }
 
-// The line of a step: its number, its operation, its inputs.
+// Appends the line of a step: its number, its operation and its inputs.
 fn push_step(out: &mut Vec<u8>, number: usize, op: &Op, inputs: &[u32]) -> Result<(), AllocError>
     ensures { OnOk result (out.new.items ≡ out.old.items ++ step_line number (record { op = op.now; inputs = inputs.now })) }
 {
@@ -87,8 +87,8 @@ fn push_step(out: &mut Vec<u8>, number: usize, op: &Op, inputs: &[u32]) -> Resul
     Ok(())
 }
 
-/// The text of a plan, a line for each step: its number, its operation and the numbers of its inputs
-/// (docs/FORMATS.md, "Plan listing").
+/// Returns the text of a plan, one line for each step: its number, its operation and the numbers of its inputs
+/// (docs/FORMATS.md, "Plan listing"). `Err` is out of memory.
 pub fn list(alloc: Global, plan: &Plan) -> Result<Vec<u8>, AllocError>
     ensures { IfOk result (λ text. text.items ≡ plan_text plan.now) }
 {

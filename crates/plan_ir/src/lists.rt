@@ -1,18 +1,18 @@
-//! Lists of numbers, kept one behind the other.
+//! Lists of numbers, stored one after another.
 ghost use Rattle.std.specs.Prelude.{◌≡◌, ◌+◌, ◌<◌, ◌≤◌, [], ◌∷◌, ◌++◌, All, drop, length, map, slice_index_or, take, OnOk, OnErr};
 ghost use Rattle.plan_ir.specs.near.Packing.{IsWithin, list_in};
 
 use std::alloc::{AllocError, Global};
 use std::marker::Model;
 
-// Where a list begins among the numbers, and how long it is.
+// The start of a list among the numbers, and its length.
 #[derive(Clone, Copy)]
 struct Span {
     start: usize,
     len: usize,
 }
 
-/// Lists of numbers in one vector, with the place and the length of each. Contracts see the lists.
+/// Lists of numbers in one vector, with the start and the length of each. Contracts see the lists.
 #[derive(Drop)]
 pub struct NumberLists {
     numbers: Vec<u32>,
@@ -31,7 +31,7 @@ impl Model for NumberLists {
 }
 
 impl NumberLists {
-    /// No lists.
+    /// Returns an empty collection of lists.
     pub fn new(alloc: Global) -> NumberLists
         ensures { result ≡ [] }
     {
@@ -41,7 +41,7 @@ impl NumberLists {
         }
     }
 
-    /// How many lists there are.
+    /// Returns the number of lists.
     pub fn len(&self) -> usize
         ensures { result ≡ length self.now }
     {
@@ -61,7 +61,7 @@ impl NumberLists {
         Ok(())
     }
 
-    /// The list at a place, counted from 0.
+    /// Returns the list at an index, counted from 0.
     pub fn at(&self, place: usize) -> &[u32]
         requires { place < length self.now }
         ensures { result.now ≡ slice_index_or self.now place [] }
@@ -78,7 +78,7 @@ fn numbers_in(numbers: &[u32], span: Span) -> &[u32]
     &numbers[span.start..][..span.len]
 }
 
-// The list at a place.
+// The list at an index.
 fn list_at<'a>(numbers: &'a [u32], spans: &[Span], place: usize) -> &'a [u32]
     requires place { place < length spans.now }
     requires within { All (IsWithin numbers.now) spans.now }

@@ -1,4 +1,4 @@
-//! The values of a commodity of which nothing is held (docs/METHOD.md, "The plan of steps").
+//! The values of a commodity without held contracts (docs/METHOD.md, "The plan of steps").
 ghost use Rattle.std.specs.Prelude.{◌≡◌, ◌↔◌, [], ◌∷◌, List, IfSome, IsTrue, pos};
 ghost use Rattle.std.specs.Arc.{arc_value};
 ghost use Rattle.span_tables.specs.Tables.{AcceptedTables};
@@ -24,8 +24,8 @@ use std::alloc::{AllocError, Global};
 use std::marker::Model;
 use std::sync::Arc;
 
-/// The values that a commodity's steps before its figures have where the account holds none of its contracts. They are
-/// made once for a set. Amounts are in minor units.
+/// The values of a commodity's steps before its figures when the account holds none of its contracts. They are made
+/// once for a parameter set. Amounts are in minor units.
 #[derive(Drop)]
 pub struct NothingHeld {
     held: Arc<Value>,
@@ -48,7 +48,7 @@ impl Model for NothingHeld {
         (arc_value n.months) (arc_value n.tiers) (arc_value n.amount) };
 }
 
-// Whether scenario sums are those of no contracts, each 0.
+// Whether all scenario sums are 0, as the sums of no contracts are.
 fn are_of_nothing(sums: &[i64; SCENARIOS]) -> bool
     ensures { IsTrue result ↔ (sums.now ≡ scenario_sums []) }
 {
@@ -56,7 +56,7 @@ fn are_of_nothing(sums: &[i64; SCENARIOS]) -> bool
 }
 
 impl NothingHeld {
-    /// The values of a commodity of these tables of which nothing is held. `Err` is out of memory.
+    /// Returns the values of a commodity of these tables without held contracts. `Err` is out of memory.
     pub fn new(alloc: Global, tables: &Tables) -> Result<NothingHeld, AllocError> {
         let held = Held::none(alloc, tables)?;
         let sums = sums(&held);
@@ -72,42 +72,42 @@ impl NothingHeld {
         })
     }
 
-    /// No held contracts.
+    /// Returns an empty list of held contracts.
     pub fn held(&self) -> &Arc<Value>
         ensures { arc_value result.now ≡ value.Held [] }
     {
         &self.held
     }
 
-    /// The scenario sums of no contracts, each 0.
+    /// Returns the scenario sums of no contracts, each 0.
     pub fn sums(&self) -> &Arc<Value>
         ensures { arc_value result.now ≡ value.Sums (scenario_sums []) }
     {
         &self.sums
     }
 
-    /// The scan of those sums: a risk of 0, in scenario 1.
+    /// Returns the scan of these sums: a risk of 0, in scenario 1.
     pub fn scan(&self) -> &Arc<Value>
         ensures { arc_value result.now ≡ value.Scan (scan_of (scenario_sums [])) }
     {
         &self.scan
     }
 
-    /// No months.
+    /// Returns an empty list of months.
     pub fn months(&self) -> &Arc<Value>
         ensures { arc_value result.now ≡ value.Months (month_deltas []) }
     {
         &self.months
     }
 
-    /// No months left to spread, and an exact charge of 0.
+    /// Returns the state of an empty list of months before any spread, with an exact charge of 0.
     pub fn tiers(&self) -> &Arc<Value>
         ensures { arc_value result.now ≡ value.Tiers (unspread (month_deltas [])) }
     {
         &self.tiers
     }
 
-    /// An amount of 0: a delivery charge, a short option minimum, or an option value.
+    /// Returns an amount of 0: a delivery charge, a short option minimum, or an option value.
     pub fn amount(&self) -> &Arc<Value>
         ensures { arc_value result.now ≡ value.Amount (pos 0) }
     {
@@ -152,8 +152,8 @@ impl NothingHeld {
         }
     }
 
-    /// The value of an operation where its first input has nothing: no contracts, no months, or sums that are all 0. `None`
-    /// where that input has something, or where no such value is kept.
+    /// Returns the value of an operation whose first input is empty: no contracts, no months, or sums that are all 0.
+    /// Returns `None` if that input is not empty, or if no such value is kept.
     pub fn value_for(&self, op: Op, first: &Value) -> Option<&Arc<Value>>
         ensures { IfSome result (λ v. (t : AcceptedTables) (holdings : List Holding) (rest : List Value)
             → Takes t op (first.now ∷ rest) → arc_value v.now ≡ value_on t holdings op (first.now ∷ rest)) }

@@ -1,6 +1,7 @@
-//! The operations of a plan's steps. A name in quotes is that of the section of docs/METHOD.md that an operation computes.
+//! The operations of a plan's steps. Each name in quotes is the section of docs/METHOD.md that the operation computes.
 
-/// What a step does. Numbers of commodities are in file order, and those of spreads by rising priority; both from 0.
+/// The operation of a step. Commodities are numbered in file order and spreads by increasing priority number, both from
+/// 0.
 #[derive(Clone, Copy, Debug, PartialEq, Eq)]
 pub enum Op {
     /// The contracts of a commodity that the account holds ("Positions").
@@ -13,7 +14,8 @@ pub enum Op {
     Months(u32),
     /// A commodity's months before any spread ("Intracommodity spreads").
     TierStart(u32),
-    /// A commodity's months after one more of its spreads: the commodity's number, and the spread's among its own.
+    /// A commodity's months after one more of its spreads. The numbers are the commodity's, and the spread's among its
+    /// own.
     Spread(u32, u32),
     /// The delivery charge of a commodity ("Charges").
     Delivery(u32),
@@ -21,11 +23,11 @@ pub enum Op {
     Minimum(u32),
     /// The figures of a commodity ("Minimum and requirement").
     Final(u32),
-    /// The commodities before any is loaded ("Intercommodity spreads").
+    /// The states of all commodities before any is loaded ("Intercommodity spreads").
     InterStart,
-    /// The commodities with the net delta and the price risk of one more of them.
+    /// The states with the net delta and the price risk of one more commodity.
     InterLoad(u32),
-    /// The commodities after one more intercommodity spread.
+    /// The states after one more intercommodity spread.
     InterSpread(u32),
     /// The total of no commodity: 0 ("Minimum and requirement").
     TotalStart,
@@ -35,6 +37,6 @@ pub enum Op {
     NetValue(u32),
     /// The option value of no commodity: 0 ("Option value").
     ValueStart,
-    /// The option value with that of one more commodity.
+    /// The option value with the option value of one more commodity added.
     ValueAdd(u32),
 }

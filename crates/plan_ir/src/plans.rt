@@ -8,14 +8,15 @@ use crate::users::collect_users;
 use std::alloc::{AllocError, Global};
 use std::marker::Model;
 
-/// The steps of a plan, at most. The plan of a set with as many commodities and spreads as there may be has fewer.
+/// The largest number of steps of a plan. The plan of the largest parameter set has fewer.
 pub const MAX_STEPS: usize = 12000;
-/// The inputs of a step of a compiled plan, at most: those of the figures of a commodity.
+/// The largest number of inputs of a step of a compiled plan. The step of a commodity's figures has this many.
 pub const MAX_INPUTS: usize = 5;
 
 /// A plan: steps numbered from 0, each an operation with the numbers of the steps that are its inputs.
 ///
-/// Operations, inputs and users of all steps stand in one vector each. Contracts see the list of the steps.
+/// The operations are in one vector. The inputs of all steps share one `NumberLists`, and the users another. Contracts
+/// see the list of the steps.
 #[derive(Drop)]
 pub struct Plan {
     ops: Vec<Op>,
@@ -35,7 +36,7 @@ impl Model for Plan {
     ghost invariant = { λ plan. IsPlan plan.ops.items plan.inputs plan.users };
 }
 
-// The operation at a place.
+// The operation at an index.
 fn op_in(ops: &[Op], place: usize) -> Op
     requires { place < length ops.now }
     ensures { (d : Op) → result ≡ slice_index_or ops.now place d }
@@ -44,9 +45,10 @@ fn op_in(ops: &[Op], place: usize) -> Op
 }
 
 impl Plan {
-    /// The plan of operations, each with its inputs.
+    /// Returns the plan of these operations, each with its inputs. `Err` is out of memory.
     ///
-    /// There is a list of inputs for each operation: numbers of steps of this plan, none of them twice.
+    /// There must be one list of inputs for each operation. A list has numbers of steps of this plan, each at most
+    /// once.
     pub fn new(alloc: Global, ops: Vec<Op>, inputs: NumberLists) -> Result<Plan, AllocError>
         requires { AreInputs ops.items inputs }
         ensures { IfOk result (λ plan. plan ≡ steps_with ops.items inputs) }
@@ -55,21 +57,21 @@ impl Plan {
         Ok(Plan { ops, inputs, users })
     }
 
-    /// How many steps there are.
+    /// Returns the number of steps.
     pub fn len(&self) -> usize
         ensures { result ≡ length self.now }
     {
         self.ops.as_slice().len()
     }
 
-    /// Whether there is no step.
+    /// Returns whether the plan has no steps.
     pub fn is_empty(&self) -> bool
         ensures { result ≡ (length self.now == 0) }
     {
         self.len() == 0
     }
 
-    /// The operation of step k.
+    /// Returns the operation of step k.
     pub fn op(&self, k: usize) -> Op
         requires { k < length self.now }
         ensures { result ≡ op_at self.now k }
@@ -77,7 +79,7 @@ impl Plan {
         op_in(&self.ops, k)
     }
 
-    /// The inputs of step k, in their order.
+    /// Returns the inputs of step k, in their order.
     pub fn inputs(&self, k: usize) -> &[u32]
         requires { k < length self.now }
         ensures { result.now ≡ inputs_at self.now k }
@@ -85,7 +87,7 @@ impl Plan {
         self.inputs.at(k)
     }
 
-    /// The users of step k: the steps that have it among their inputs, rising.
+    /// Returns the users of step k: the steps that have it among their inputs, in increasing order.
     pub fn users(&self, k: usize) -> &[u32]
         requires { k < length self.now }
         ensures { result.now ≡ users_of self.now k }

@@ -20,7 +20,7 @@ fn note(users: &mut Vec<Vec<u32>>, inputs: &[u32], step: u32) -> Result<(), Allo
     Ok(())
 }
 
-// The users of each step, in a list of its own.
+// The users of each step, in a separate list for each.
 fn users_by_step(alloc: Global, inputs: &NumberLists) -> Result<Vec<Vec<u32>>, AllocError>
     requires few { length inputs.now ≤ MAX_STEPS }
     requires in_range { All (λ list. All (λ i. i < length inputs.now) list) inputs.now }
@@ -34,7 +34,7 @@ fn users_by_step(alloc: Global, inputs: &NumberLists) -> Result<Vec<Vec<u32>>, A
     Ok(users)
 }
 
-// Lists, one behind the other.
+// Packs lists one after another.
 fn pack(alloc: Global, lists: &[Vec<u32>]) -> Result<NumberLists, AllocError>
     ensures { IfOk result (λ packed. packed ≡ map (λ v. v.items) lists.now) }
 {
@@ -45,7 +45,7 @@ fn pack(alloc: Global, lists: &[Vec<u32>]) -> Result<NumberLists, AllocError>
     Ok(packed)
 }
 
-// The users of each step: the steps that have it among their inputs, by rising number.
+// The users of each step: the steps that have it among their inputs, in increasing order.
 pub(crate) fn collect_users(alloc: Global, inputs: &NumberLists) -> Result<NumberLists, AllocError>
     requires few { length inputs.now ≤ MAX_STEPS }
     requires in_range { All (λ list. All (λ i. i < length inputs.now) list) inputs.now }

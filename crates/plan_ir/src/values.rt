@@ -19,26 +19,28 @@ pub enum Value {
     Held(Held),
     /// The sums of the scenarios 1 to 16, in minor units.
     Sums([i64; 16]),
-    /// The scan of a commodity's sums: scan risk and price risk doubled, in minor units, and two scenarios.
+    /// The scan of a commodity's sums: scan risk and doubled price risk, in minor units, and two scenarios.
     Scan(Scan),
     /// The held months of a commodity with their deltas, in 10^-8.
     Months(Months),
-    /// What intracommodity spreads left of them, in 10^-8 deltas, and the exact charge so far, in 10^-4 minor units.
+    /// The remaining deltas of the months after intracommodity spreads, in 10^-8, and the exact charge so far, in 10^-4
+    /// minor units.
     Tiers(TierState),
     /// The delivery charge, the short option minimum or the option value of a commodity, in minor units.
     Amount(Money),
     /// The figures of a commodity.
     Figures(Figures),
-    /// The commodities in the intercommodity stage: net deltas and rests, price risks doubled and weights.
+    /// The states of all commodities in the intercommodity stage: net and remaining deltas, doubled price risks and
+    /// weights.
     Inter(InterState),
-    /// The sum of the requirements of some commodities, in minor units.
+    /// The sum of the requirements of the commodities so far, in minor units.
     Total(Money),
-    /// The sum of the option values of some commodities, in minor units.
+    /// The sum of the option values of the commodities so far, in minor units.
     Premium(Money),
 }
 
 impl Value {
-    /// The held contracts. The value is of that kind.
+    /// Returns the held contracts. The value must be of that kind.
     pub fn held(&self) -> &Held
         requires { IsHeld self.now }
         ensures { result.now ≡ held_in self.now }
@@ -49,7 +51,7 @@ impl Value {
         }
     }
 
-    /// The sums of the scenarios 1 to 16, in minor units. The value is of that kind.
+    /// Returns the sums of the scenarios 1 to 16, in minor units. The value must be of that kind.
     pub fn sums(&self) -> &[i64; 16]
         requires { IsSums self.now }
         ensures { result.now ≡ sums_in self.now }
@@ -60,7 +62,7 @@ impl Value {
         }
     }
 
-    /// The scan. The value is of that kind.
+    /// Returns the scan. The value must be of that kind.
     pub fn scan(&self) -> &Scan
         requires { IsScan self.now }
         ensures { result.now ≡ scan_in self.now }
@@ -71,7 +73,7 @@ impl Value {
         }
     }
 
-    /// The months. The value is of that kind.
+    /// Returns the months. The value must be of that kind.
     pub fn months(&self) -> &Months
         requires { IsMonths self.now }
         ensures { result.now ≡ months_in self.now }
@@ -82,7 +84,7 @@ impl Value {
         }
     }
 
-    /// The months after spreads. The value is of that kind.
+    /// Returns the months after spreads. The value must be of that kind.
     pub fn tiers(&self) -> &TierState
         requires { IsTiers self.now }
         ensures { result.now ≡ tier_state_in self.now }
@@ -93,7 +95,7 @@ impl Value {
         }
     }
 
-    /// The amount, in minor units. The value is of that kind.
+    /// Returns the amount, in minor units. The value must be of that kind.
     pub fn amount(&self) -> Money
         requires { IsAmount self.now }
         ensures { result ≡ amount_in self.now }
@@ -104,7 +106,7 @@ impl Value {
         }
     }
 
-    /// The figures. The value is of that kind.
+    /// Returns the figures. The value must be of that kind.
     pub fn figures(&self) -> &Figures
         requires { IsFigures self.now }
         ensures { result.now ≡ figures_in self.now }
@@ -115,7 +117,7 @@ impl Value {
         }
     }
 
-    /// The commodities in the intercommodity stage. The value is of that kind.
+    /// Returns the commodities in the intercommodity stage. The value must be of that kind.
     pub fn inter(&self) -> &InterState
         requires { IsInterState self.now }
         ensures { result.now ≡ states_in self.now }
@@ -126,7 +128,7 @@ impl Value {
         }
     }
 
-    /// The total, in minor units. The value is of that kind.
+    /// Returns the total, in minor units. The value must be of that kind.
     pub fn total(&self) -> Money
         requires { IsTotal self.now }
         ensures { result ≡ total_in self.now }
@@ -137,7 +139,7 @@ impl Value {
         }
     }
 
-    /// The option value of some commodities, in minor units. The value is of that kind.
+    /// Returns the sum of option values, in minor units. The value must be of that kind.
     pub fn premium(&self) -> Money
         requires { IsPremium self.now }
         ensures { result ≡ premium_in self.now }

@@ -1,11 +1,11 @@
--- What is written over a copy of a value.
+-- The values that operations overwrite in a copy.
 use Rattle.std.specs.Prelude.{⊤}
 use Rattle.plan_ir.specs.declared.ops.Op.{Op}
 use Rattle.plan_ir.specs.declared.ops.Op.TheVariants as op
 use Rattle.plan_ir.specs.declared.values.Value.{Value}
 use Rattle.plan_ir.specs.declared.values.Value.TheVariants as value
 
--- a value of a kind that some operation writes over
+-- a value of a kind that some operation overwrites
 abbrev pub IsChangeable : Value → Type 0
 IsChangeable (value.Tiers x) = ⊤
 IsChangeable (value.Inter x) = ⊤

@@ -1,4 +1,4 @@
--- The values of a commodity of which nothing is held.
+-- The values of a commodity without held contracts.
 use Rattle.std.specs.Prelude.{◌≡◌, [], pos}
 use Rattle.scan_risk.specs.Scenarios.{scan_of, scenario_sums}
 use Rattle.spread_stage.specs.Deltas.{month_deltas}
@@ -6,7 +6,7 @@ use Rattle.spread_stage.specs.Spreads.{unspread}
 use Rattle.plan_ir.specs.declared.values.Value.{Value}
 use Rattle.plan_ir.specs.declared.values.Value.TheVariants as value
 
--- each is the value that its step has of no held contracts
+-- each value is what its step gives for no held contracts
 pub record AreNothing (held sums scan months tiers amount : Value) : Type 0 where
   pub held_is : held ≡ value.Held []
   pub sums_are : sums ≡ value.Sums (scenario_sums [])

@@ -1,4 +1,4 @@
--- Lists of numbers that stand one behind the other, each told by where it begins and how long it is.
+-- Lists of numbers stored one after another, each given by its start and its length.
 use Rattle.std.specs.Prelude.{ℕ, ◌+◌, ◌≤◌, List, drop, length, take}
 use Rattle.plan_ir.specs.declared.lists.Span.{Span}
 

@@ -1,4 +1,4 @@
--- A plan and stages that worked values speak of.
+-- A plan and stage values for test vectors.
 use Rattle.std.specs.Prelude.{ℕ, List, [], ◌∷◌, pos}
 use Rattle.scan_risk.specs.declared.Scan.{Scan}
 use Rattle.spread_stage.specs.Spreads.{TierRests}
@@ -11,7 +11,7 @@ use Rattle.plan_ir.specs.declared.ops.Op.TheVariants as op
 abbrev pub step : Op → List ℕ → StepView
 step operation inputs = record { op = operation; inputs = inputs }
 
--- four steps, of which the third takes the last one too
+-- four steps; the last one is also an input of the third
 abbrev pub small_plan : List StepView
 small_plan =
     step (op.Gather 0) []
@@ -28,6 +28,6 @@ scan = record { risk = pos 1200; active = 13; paired = 14; price2 = 2400 }
 abbrev pub tiers : TierRests
 tiers = record { rests = []; charge = 833250 }
 
--- one commodity that is long a delta, all of it offset at half of its price risk: a credit of 600
+-- one commodity that is long one delta, all of it offset at half of its price risk: a credit of 600
 abbrev pub states : List CommodityState
 states = record { net = pos 100000000; rest = pos 0; price2 = 2400; weight = 500000000000 } ∷ []
