@@ -1,4 +1,4 @@
--- Counters that a run of a plan begins with.
+-- The counters at the start of a run of a plan.
 use Rattle.std.proofs.Common.{◌≡◌, ℕ, ◌+◌, ◌<◌, ◌==◌, List, [], ◌∷◌, ◌++◌, length, refl, sym, ap, ◌∙◌, subst, inl, inr, arith}
 use Rattle.std.proofs.Common.{eq-eqb, zero-add, add_assoc, if◌then◌else◌, length-append}
 use Rattle.std.proofs.lemmas.Bool.{cases_eq, cases_lt, ne_eqb, lt-ltb, le-ltb}
@@ -38,7 +38,7 @@ module _ (plan : List StepView) where
     past = λ j le. refl;
   }
 
-  -- one step more, which has an input
+  -- one more step, which has an input
   pub one_with_inputs : (ready : List ℕ) (k n : ℕ) → n ≡ k + 1 → AreWithoutFrom plan ready n → (length (inputs_at plan k) ≡ 0 → ⊥)
       → AreWithoutFrom plan ready k
   one_with_inputs ready k n e c some = record {
@@ -52,7 +52,7 @@ module _ (plan : List StepView) where
     past = c.past;
   }
 
-  -- one step more, which has no input
+  -- one more step, which has no input
   pub one_without_inputs : (ready : List ℕ) (k n : ℕ) → n ≡ k + 1 → k < length plan → AreWithoutFrom plan ready n
       → length (inputs_at plan k) ≡ 0 → AreWithoutFrom plan (ready ++ k ∷ []) k
   one_without_inputs ready k n e inside c none = record {

@@ -1,4 +1,5 @@
--- Each operation of a plan is one of its tables' plan, and the inputs of its step are the places of what it wants.
+-- Each operation of a plan is an operation of its tables, and the inputs of its step are the step numbers of the
+-- operations that it requires.
 use Rattle.std.proofs.Common.{◌≡◌, ℕ, zero, suc, ◌+◌, ◌<◌, ◌≤◌, Bool, true, false, List, [], ◌∷◌, ◌++◌, length, map, Some}
 use Rattle.std.proofs.Common.{slice_get, refl, ap, ◌∙◌, arith, add-one}
 use Rattle.std.specs.Prelude.{All, if◌then◌else◌}
@@ -15,7 +16,7 @@ use Rattle.plan_compiler.specs.Plan.{spread_ops, total_ops, value_ops}
 use Rattle.plan_compiler.specs.Places.{inputs_of, inter_step, load_step, place_of, premium_step, tiers_step, total_step}
 use Rattle.plan_compiler.proofs.LayoutLemmas.{IsPlanned, place_stands}
 
--- ---- every operation of the plan is one of the tables, and so is each that it wants
+-- ---- every operation of the plan is an operation of the tables, and so is each operation that it requires
 
 each_all : (P : Op → Type 0) (f : ℕ → List Op) (n : ℕ) → ((c : ℕ) → c < n → All P (f c)) → All P (each f n)
 each_all P f zero h = All-nil P
@@ -109,7 +110,7 @@ module _ (t : AcceptedTables) where
   known_wanted op.ValueStart known = tt
   known_wanted (op.ValueAdd c) known = (known_before_value known.0 c (omega (arith, known.1)), (known, tt))
 
-  -- ---- the inputs of a step are the places of what its operation wants
+  -- ---- the inputs of a step are the step numbers of the operations that its operation requires
 
   named : (os : List Op) → AllByRecursion (IsPlanned t) os → Names (ops_of t) (map (place_of t) os) os
   named [] known = refl
@@ -129,7 +130,7 @@ module _ (t : AcceptedTables) where
   pub inputs_within : (o : Op) → IsPlanned t o → All (λ i. i < length (ops_of t)) (inputs_of t o)
   inputs_within o known = places_within (wanted t o) (known_wanted o known)
 
-  -- ---- where the states before operations stand
+  -- ---- the step numbers of the states before operations
 
   pub place-before_spread : (c j : ℕ) → place_of t (before_spread c j) ≡ tiers_step t c j
   place-before_spread c zero = refl

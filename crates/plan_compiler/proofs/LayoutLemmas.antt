@@ -1,4 +1,4 @@
--- Where the steps of a plan stand.
+-- The step numbers of a plan.
 use Rattle.std.proofs.Common.{◌≡◌, ℕ, zero, suc, ◌+◌, ◌*◌, ◌<◌, ◌≤◌, Bool, true, false, List, [], ◌∷◌, ◌++◌, length, Some}
 use Rattle.std.proofs.Common.{slice_get, refl, sym, ap, ◌∙◌, arith, add-one, inl, inr}
 use Rattle.std.specs.Prelude.{if◌then◌else◌}
@@ -16,7 +16,8 @@ use Rattle.plan_compiler.specs.Plan.{spread_ops, total_ops, value_ops}
 use Rattle.plan_compiler.specs.declared.layout.TheConstants.{COMMODITY_STEPS, VALUE_STEPS}
 use Rattle.plan_compiler.specs.Places.{first_step, place_of, premium_step, total_step, value_steps}
 
--- the operation is one of the plan: its numbers are those of the tables, and options have a value where it is one of theirs
+-- the operation is in the plan: its numbers are numbers of the tables, and if it computes an option value, options have
+-- one
 abbrev pub IsPlanned : AcceptedTables → Op → Type 0
 IsPlanned t (op.NetValue c) = ((facts_in t).options_have_value ≡ true) × (c < length t.commodities)
 IsPlanned t op.ValueStart = (facts_in t).options_have_value ≡ true
@@ -42,11 +43,11 @@ planned_is_op t (op.NetValue c) is = is.1
 planned_is_op t op.ValueStart is = tt
 planned_is_op t (op.ValueAdd c) is = is.1
 
--- operations for one number more
+-- operations for one more number
 pub each_more : (f : ℕ → List Op) (n : ℕ) → each f (n + 1) ≡ each f n ++ f n
 each_more f n = rw add-one refl
 
--- operations for one number more, behind other operations
+-- operations for one more number, appended to other operations
 pub each_appended : (f : ℕ → List Op) (n : ℕ) (old now new : List Op) → now ≡ old ++ each f n → new ≡ now ++ f n
     → new ≡ old ++ each f (n + 1)
 each_appended f n old now new e more =
@@ -64,7 +65,7 @@ length_singles f one (suc n) =
 pub length_spreads : (c n : ℕ) → length (spread_ops c n) ≡ n
 length_spreads c n = length_singles (λ j. op.Spread c j ∷ []) (λ j. refl) n
 
--- the steps of an option value, whether there is one or not
+-- the number of steps of an option value, whether or not there is one
 length_value : (b : Bool) (o : Op) → length (if b then o ∷ [] else []) ≡ (if b then VALUE_STEPS else 0)
 length_value true o = refl
 length_value false o = refl
@@ -73,14 +74,14 @@ few_value : (b : Bool) → (if b then VALUE_STEPS else 0) ≤ VALUE_STEPS
 few_value true = omega arith
 few_value false = omega arith
 
--- the steps of the option value are not too many
+-- the number of steps of the option value is within its limit
 pub value_steps_small : (t : AcceptedTables) → value_steps t ≤ VALUE_STEPS
 value_steps_small t = few_value (facts_in t).options_have_value
 
 no_value_steps : (t : AcceptedTables) → (facts_in t).options_have_value ≡ false → value_steps t ≡ 0
 no_value_steps t none = ap (λ (b : Bool). if b then VALUE_STEPS else 0) none
 
--- the steps of a commodity in front of its figures
+-- the steps of a commodity between its spreads and its figures
 abbrev charges : AcceptedTables → ℕ → List Op
 charges t c = op.Delivery c ∷ op.Minimum c ∷ [] ++ value_ops t c
 
@@ -99,14 +100,14 @@ length_commodity t c =
     let back = length-append (charges t c) (op.Final c ∷ []) in
     omega (arith, spreads, front, all, back, length_charges t c)
 
--- a commodity's steps stand before those of the next
+-- the first step of the next commodity follows all steps of this one
 pub first_more : (t : AcceptedTables) (c : ℕ)
     → first_step t (c + 1) ≡ first_step t c + (COMMODITY_STEPS + value_steps t + length (intras_at t c))
 first_more t c =
     ap length (each_more (commodity_ops t) c) ∙ length-append (each (commodity_ops t) c) (commodity_ops t c)
     ∙ ap (λ n. first_step t c + n) (length_commodity t c)
 
--- not too many steps stand before a commodity's first
+-- a bound on the number of steps before a commodity's first step
 pub first_small : (t : AcceptedTables) → IsWithinLimits t → (c : ℕ)
     → first_step t c ≤ c * (COMMODITY_STEPS + VALUE_STEPS + MAX_INTRA_SPREADS)
 first_small t limits zero = omega arith
@@ -116,7 +117,7 @@ first_small t limits (suc c) =
     let few = limits.few_intras (commodity_id t c) in
     omega (arith, before, here, few, value_steps_small t, length-append (each (commodity_ops t) c) (commodity_ops t c))
 
--- fewer steps stand before it where options have no value
+-- a smaller bound if options have no value
 pub first_smaller : (t : AcceptedTables) → IsWithinLimits t → (facts_in t).options_have_value ≡ false → (c : ℕ)
     → first_step t c ≤ c * (COMMODITY_STEPS + MAX_INTRA_SPREADS)
 first_smaller t limits none zero = omega arith
@@ -126,7 +127,7 @@ first_smaller t limits none (suc c) =
     let few = limits.few_intras (commodity_id t c) in
     omega (arith, before, here, few, no_value_steps t none, length-append (each (commodity_ops t) c) (commodity_ops t c))
 
--- ---- the step at a place
+-- ---- the step at an index
 
 at_front : (xs ys : List Op) (i : ℕ) (o : Op) → slice_get xs i ≡ Some o → slice_get (xs ++ ys) i ≡ Some o
 at_front [] ys i o e = absurd cc
@@ -141,7 +142,7 @@ at_back xs ys i k o e at = ap (slice_get (xs ++ ys)) at ∙ behind xs ∙ e wher
       let next : suc (length zs) + i ≡ suc (length zs + i) = omega arith in
       ap (slice_get (z ∷ (zs ++ ys))) next ∙ behind zs
 
--- the steps of one of each stand behind those before it
+-- the steps of number c follow the steps of all numbers below c
 at_each : (f : ℕ → List Op) (n c i k : ℕ) (o : Op) → c < n → slice_get (f c) i ≡ Some o
     → k ≡ length (each f c) + i → slice_get (each f n) k ≡ Some o
 at_each f zero c i k o lt e at = elim lt [ ]
@@ -155,7 +156,7 @@ at_single : (f : ℕ → List Op) → ((c : ℕ) → length (f c) ≡ 1) → (n 
 at_single f one n c k o lt e at = at_each f n c 0 k o lt e (omega (arith, at, length_singles f one c))
 
 module _ (t : AcceptedTables) where
-  -- the steps in front of those of the account's option value
+  -- the steps before the steps of the account's option value
   abbrev margin_ops : List Op
   margin_ops =
       each (commodity_ops t) (length t.commodities) ++ inter_ops (length t.commodities) (length (inters_of t))
@@ -197,7 +198,7 @@ module _ (t : AcceptedTables) where
       in_commodity c (5 + n + i) k o lt
       (at_back (first_ops c ++ between) (final_ops t c) i (5 + n + i) o e (omega (arith, long, length_spreads c n))) at
 
-  -- among the steps behind the spreads: the option value where there is one, and the figures behind it
+  -- among the steps after the spreads: the option value if there is one, and then the figures
   value_here : (b : Bool) (c : ℕ) → b ≡ true
       → slice_get (op.Delivery c ∷ op.Minimum c ∷ [] ++ (if b then op.NetValue c ∷ [] else []) ++ op.Final c ∷ []) 2
       ≡ Some (op.NetValue c)
@@ -217,7 +218,7 @@ module _ (t : AcceptedTables) where
       let between = inter_ops n (length (inters_of t)) in
       in_margin k o (at_front (front ++ between) (total_ops n) k o (at_back front between i k o e at))
 
-  -- the steps that load commodities, behind the first step between commodities
+  -- the first step between commodities, and the steps that load commodities
   abbrev loads : List Op
   loads = op.InterStart ∷ [] ++ each (λ c. op.InterLoad c ∷ []) (length t.commodities)
 
@@ -245,7 +246,7 @@ module _ (t : AcceptedTables) where
       let between = inter_ops n (length (inters_of t)) in
       in_margin k o (at_back (front ++ between) (total_ops n) i k o e (omega (arith, at, length_inter, length-append front between)))
 
-  -- the steps of the option value, where there are some
+  -- the steps of the account's option value, if there are any
   abbrev premiums : List Op
   premiums = op.ValueStart ∷ [] ++ each (λ c. op.ValueAdd c ∷ []) (length t.commodities)
 
@@ -273,7 +274,7 @@ module _ (t : AcceptedTables) where
   in_premium i k o has e at =
       at_back margin_ops (premium_ops t) i k o (premiums_here (facts_in t).options_have_value has i o e) (omega (arith, at, length_margin))
 
-  -- each operation of the tables stands at its place
+  -- each operation of the tables is at its index
   pub place_stands : (o : Op) → IsPlanned t o → slice_get (ops_of t) (place_of t o) ≡ Some o
   place_stands (op.Gather c) known = in_first c 0 _ (op.Gather c) known refl (omega arith)
   place_stands (op.Sums c) known = in_first c 1 _ (op.Sums c) known refl refl
@@ -314,7 +315,7 @@ module _ (t : AcceptedTables) where
       (at_single (λ n. op.ValueAdd n ∷ []) (λ n. refl) (length t.commodities) c c (op.ValueAdd c) known.1 refl refl) refl)
       (omega arith)
 
-  -- a commodity's steps stand before all steps between commodities
+  -- the steps of a commodity precede the first step of any later one, and all steps between commodities
   pub first_before : (c n : ℕ) → c < n
       → first_step t c + (COMMODITY_STEPS + value_steps t + length (intras_at t c)) ≤ first_step t n
   first_before c zero lt = elim lt [ ]
@@ -329,7 +330,7 @@ module _ (t : AcceptedTables) where
         omega (arith, before, more)
   ]
 
-  -- how many steps there are
+  -- the number of steps
   premiums_long : (b : Bool) → length (if b then premiums else []) ≤ 1 + length t.commodities
   premiums_long true =
       let adds = length_singles (λ c. op.ValueAdd c ∷ []) (λ c. refl) (length t.commodities) in

@@ -1,4 +1,4 @@
--- On the meanings of the wanted operations each operation has its own meaning.
+-- On the meanings of the operations that it requires, each operation gives its own meaning.
 use Rattle.std.proofs.Common.{◌≡◌, ℕ, zero, suc, ◌+◌, ◌-◌, ◌<◌, List, [], ◌∷◌, ◌++◌, length, map}
 use Rattle.std.proofs.Common.{slice_set, refl, sym, ap, ◌∙◌, arith, pos, ℤ, ◌+ℤ◌, add-one}
 use Rattle.std.specs.Prelude.{replicate}
@@ -24,7 +24,7 @@ use Rattle.plan_compiler.specs.Meaning.{states_after_first, states_loaded, meani
 use Rattle.plan_compiler.proofs.StageLemmas.{loaded_whole}
 
 module _ (t : AcceptedTables) (holdings : List Holding) where
-  -- ---- what stands before an operation means the state before it
+  -- ---- the operation before another one means the state before it
 
   pub meaning-before_spread : (c j : ℕ) → meaning t holdings (before_spread c j) ≡ value.Tiers (tiers_after t holdings c j)
   unfolding after_spreads
@@ -53,7 +53,7 @@ module _ (t : AcceptedTables) (holdings : List Holding) where
   meaning-before_value zero = refl
   meaning-before_value (suc c) = rw add-one refl
 
-  -- ---- one step more
+  -- ---- one more step
 
   spread_more : (c j : ℕ) → j < length (intras_at t c)
       → spread_both_ways (tiers_after t holdings c j) (intra_at t c j) ≡ tiers_after t holdings c (j + 1)
@@ -80,7 +80,7 @@ module _ (t : AcceptedTables) (holdings : List Holding) where
       ∙ sym (append_assoc front (state_of t holdings c ∷ []) rest)
       ∙ ap (λ xs. xs ++ rest) (sym (map-range_with_len_more (state_of t holdings) 0 c c zero_more))
 
-  -- a sum over the first numbers, with the next one
+  -- a sum over the first numbers, plus the next one
   sum_more : (f : ℕ → ℤ) (c : ℕ) → int_sum_by f (range_with_len 0 c) +ℤ f c ≡ int_sum_by f (range_with_len 0 (c + 1))
   sum_more f c =
       let zero_more : 0 + c ≡ c = omega arith in

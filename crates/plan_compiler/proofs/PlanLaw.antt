@@ -1,4 +1,5 @@
--- A plan of a set's operations, each with the places of what it wants, keeps the plan law.
+-- A plan keeps the plan law if it has the operations of a parameter set, each with the step numbers of the operations
+-- that it requires.
 use Rattle.std.proofs.Common.{◌≡◌, ℕ, ◌+◌, ◌*◌, ◌≤◌, ◌<◌, false, List, [], ◌∷◌, length, map, Some, slice_get, slice_index_or}
 use Rattle.std.proofs.Common.{refl, sym, ap, subst, ◌∙◌, arith}
 use Rattle.std.specs.Prelude.{All, ◌==◌}
@@ -30,7 +31,7 @@ use Rattle.plan_compiler.proofs.Meanings.{gives_meaning}
 use Rattle.plan_compiler.proofs.Taken.{takes_meanings}
 use Rattle.plan_compiler.proofs.Wiring.{apart, few_inputs, few_steps, wanted_lower}
 
--- the operation at a place
+-- the operation at an index
 op_named : (plan : List StepView) (i : ℕ) (o : Op) → slice_get (ops_in plan) i ≡ Some o → op_at plan i ≡ o
 op_named plan i o e =
     let within : i < length plan = omega (arith, slice_get_within (ops_in plan) i o e, length-map plan (λ (s : StepView). s.op)) in
@@ -64,7 +65,7 @@ module _ (t : AcceptedTables) (plan : List StepView) (ops : ops_in plan ≡ ops_
   ops_at_places (o ∷ os) (here, rest) =
       ap (λ x. x ∷ map (op_at plan) (map (place_of t) os)) (stands o here) ∙ ap (λ xs. o ∷ xs) (ops_at_places os rest)
 
-  -- the operations of a step's inputs are what its operation wants
+  -- the operations of a step's inputs are the operations that the step's operation requires
   input_ops : (k : ℕ) → k < length plan → map (op_at plan) (inputs_at plan k) ≡ wanted t (op_at plan k)
   input_ops k lt =
       ap (map (op_at plan)) (wires k lt) ∙ ops_at_places (wanted t (op_at plan k)) (known_wanted t (op_at plan k) (op_planned k lt))
@@ -105,7 +106,7 @@ module _ (t : AcceptedTables) (plan : List StepView) (ops : ops_in plan ≡ ops_
     gives = λ holdings fits k lt. rw (inputs_mean holdings k lt) (gives_meaning t holdings (op_at plan k) (op_known k lt));
   }
 
--- ---- a compiled set's step at the place of an operation
+-- ---- the step of a compiled set at the index of an operation
 
 pub step_at_place : (t : AcceptedTables) (plan : List StepView) (firsts missing ready : List ℕ) → IsSet t plan firsts missing ready
     → (set : SetView) → record { tables = t; plan = plan } ≡ set → (o : Op) → IsPlanned t o → (k : ℕ) → k ≡ place_of t o
@@ -135,7 +136,7 @@ module _ (t : AcceptedTables) where
       ∙ get_or-map (inputs_of t) (ops_of t) k op.TotalStart [] below
       ∙ ap (inputs_of t) (op_is (ops_of t) lists k op.TotalStart lists_long below)
 
-  -- each input of a step is the step of the wanted operation
+  -- each input of a step is the step of the required operation
   pub plan_is_wired : IsPlanOf t (plan_of t)
   plan_is_wired = is_plan t (plan_of t) plan_ops plan_wires
 
@@ -143,7 +144,7 @@ module _ (t : AcceptedTables) where
   pub plan_keeps_law : IsWithinLimits t → IsCompiled (record { tables = t; plan = plan_of t })
   plan_keeps_law limits = compiled t (plan_of t) plan_ops plan_wires limits
 
-  -- the plan of accepted tables is no longer than that of the largest set
+  -- the plan of accepted tables is no longer than the plan of the largest parameter set
   pub value_plan_is_short : IsWithinLimits t
       → length (plan_of t) ≤ MAX_COMMODITIES * (12 + MAX_INTRA_SPREADS) + 1 + MAX_INTER_SPREADS + 1 + 1
   unfolding plan_of
@@ -154,7 +155,7 @@ module _ (t : AcceptedTables) where
       let many = as_many_steps (ops_of t) (map (inputs_of t) (ops_of t)) lists_long in
       omega (arith, many, length_ops t, few_premiums t, small, commodities, inters)
 
-  -- where options have no value the plan is shorter
+  -- a smaller bound if options have no value
   pub plan_is_short : IsWithinLimits t → (facts_in t).options_have_value ≡ false
       → length (plan_of t) ≤ MAX_COMMODITIES * (10 + MAX_INTRA_SPREADS) + 1 + MAX_INTER_SPREADS + 1
   unfolding plan_of
@@ -175,7 +176,7 @@ module _ (t : AcceptedTables) where
         (λ k d lt. apart t limits (slice_index_or (ops_of t) k d) (planned_is_op t (slice_index_or (ops_of t) k d) (known_ops t k d lt)));
   }
 
-  -- what is made of the operations and their inputs is the plan of the tables
+  -- the plan made from the operations and their inputs is the plan of the tables
   pub made_plan : (plan : List StepView) (items seen : List Op) (lists : List (List ℕ))
       → plan ≡ steps_with items lists → lists ≡ map (inputs_of t) seen → seen ≡ items → items ≡ ops_of t
       → plan ≡ plan_of t

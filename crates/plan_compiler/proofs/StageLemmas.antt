@@ -1,4 +1,4 @@
--- What loops over an account's commodities and over spreads come to is what the method defines.
+-- The loops over an account's commodities and over spreads compute what the method defines.
 use Rattle.std.proofs.Common.{◌≡◌, ℕ, ◌-◌, ◌<◌, List, length, map, get_or, sym, ap, ◌∙◌, arith, zero-add, []}
 use Rattle.std.specs.Prelude.{fold, option_map, pos, unwrap_or}
 use Rattle.std.proofs.lemmas.List.{append-nil, get_or-map}
@@ -20,7 +20,7 @@ use Rattle.plan_ir.specs.Figures.{deltas_at, held_at, inter_states, intras_at, s
 use Rattle.plan_compiler.specs.Meaning.{states_loaded}
 
 module _ (t : AcceptedTables) (holdings : List Holding) where
-  -- the held contracts of each commodity stand at its number
+  -- the held contracts of each commodity are at its index
   pub held_read : (c : ℕ) (d : List HeldContract) → c < length t.commodities
       → get_or (map (λ x. held_of t.contracts holdings x.id) t.commodities) c d ≡ held_at t holdings c
   held_read c d lt =
@@ -48,14 +48,14 @@ module _ (t : AcceptedTables) (holdings : List Holding) where
       unwrap_or-slice_get (loaded_states t holdings) c none
       ∙ get_or-map-range_with_len (state_of t holdings) 0 (length t.commodities) c c none lt (zero-add c)
 
-  -- the commodities after the spreads of the set
+  -- the commodities after all intercommodity spreads
   pub states_are : (states state : List CommodityState) (spreads : List Inter) → states ≡ fold inter_both_ways state spreads
       → state ≡ loaded_states t holdings → spreads ≡ inters_of t → states ≡ inter_states t holdings
   unfolding inter_states after_inter_spreads
   states_are states state spreads after before all =
       after ∙ ap (λ s. fold inter_both_ways s spreads) before ∙ ap (fold inter_both_ways (loaded_states t holdings)) all
 
-  -- what using a part of a state's rest keeps, the spreads of the set keep
+  -- a property that using a part of a remaining delta does not change is the same after all intercommodity spreads
   pub kept_at : {A : Type 0} (of : CommodityState → A)
       → ((on : MarketSide) (used bp : ℕ) (state : CommodityState) → of (state_after on used bp state) ≡ of state)
       → (c : ℕ) → c < length t.commodities → of (state_at (inter_states t holdings) c) ≡ of (state_of t holdings c)

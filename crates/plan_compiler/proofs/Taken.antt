@@ -1,4 +1,4 @@
--- The meanings of the wanted operations are what each operation takes.
+-- Each operation takes the meanings of the operations that it requires.
 use Rattle.std.proofs.Common.{◌≡◌, ℕ, suc, ◌+◌, ◌-◌, ◌<◌, ◌≤◌, true, List, [], ◌∷◌, ◌++◌}
 use Rattle.std.proofs.Common.{length, map, take, refl, sym, ap, ◌∙◌, arith, pos, nat_abs}
 use Rattle.std.specs.Prelude.{All, Some, replicate, slice_get}
@@ -28,7 +28,7 @@ use Rattle.plan_compiler.specs.Meaning.{states_after_first, states_loaded, meani
 use Rattle.plan_compiler.proofs.Meanings.{meaning-before_inter, meaning-before_load, meaning-before_spread, meaning-before_total}
 use Rattle.plan_compiler.proofs.Meanings.{meaning-before_value, meaning-last_inter, meaning-last_tiers}
 
--- the element behind a front
+-- the element after a prefix
 at_seam : {A : Type 0} (xs : List A) (x : A) (ys : List A) → slice_get (xs ++ x ∷ ys) (length xs) ≡ Some x
 at_seam [] x ys = refl
 at_seam (y ∷ xs) x ys = at_seam xs x ys

@@ -1,4 +1,4 @@
--- The inputs of a step: few, each once, and of lower rank.
+-- The inputs of a step are few, distinct, and of lower rank.
 use Rattle.std.proofs.Common.{◌≡◌, ℕ, zero, suc, ◌+◌, ◌<◌, ◌≤◌, false, [], ◌∷◌, length, refl, arith}
 use Rattle.std.specs.Prelude.{All, ◌==◌}
 use Rattle.std.specs.List.{AllByRecursion}
@@ -21,7 +21,7 @@ use Rattle.plan_compiler.proofs.LayoutLemmas.{few_premiums, first_before, first_
 use Rattle.plan_compiler.proofs.FromPlan.{place-before_inter, place-before_load, place-before_spread}
 use Rattle.plan_compiler.proofs.FromPlan.{place-before_total, place-before_value}
 
--- ---- numbers that are apart
+-- ---- distinct numbers
 
 two_apart : (a b : ℕ) → (a ≡ b → ⊥) → has_repeat (λ x y. x == y) (a ∷ b ∷ []) ≡ false
 two_apart a b ab = rw (ne_eqb a b ab) refl
@@ -49,7 +49,7 @@ five_rising a b d e f ab bd de ef = rw (
 ) refl
 
 module _ (t : AcceptedTables) (limits : IsWithinLimits t) where
-  -- ---- how many steps and inputs
+  -- ---- the numbers of steps and inputs
 
   pub few_steps : length (ops_of t) ≤ MAX_STEPS
   few_steps =
@@ -77,7 +77,7 @@ module _ (t : AcceptedTables) (limits : IsWithinLimits t) where
   few_inputs op.ValueStart = omega arith
   few_inputs (op.ValueAdd c) = omega arith
 
-  -- ---- each input once
+  -- ---- distinct inputs
 
   pub apart : (o : Op) → IsOp t o → has_repeat (λ a b. a == b) (inputs_of t o) ≡ false
   apart (op.Gather c) known = refl

@@ -1,4 +1,4 @@
--- What is true of a compiled set.
+-- Properties of a compiled set.
 use Rattle.std.specs.Prelude.{◌≡◌, ℕ, ◌<◌, ◌≤◌, ◌==◌, true, false, List, length, map, All}
 use Rattle.span_tables.specs.Holdings.{ArePortfolio, fits}
 use Rattle.span_tables.specs.Names.{has_repeat}
@@ -10,12 +10,12 @@ use Rattle.plan_ir.specs.declared.plans.TheConstants.{MAX_INPUTS, MAX_STEPS}
 use Rattle.plan_ir.specs.declared.values.Value.{Value}
 use Rattle.plan_compiler.specs.Meaning.{meaning}
 
--- what contracts see of a compiled set
+-- the contract view of a compiled set
 pub record SetView : Type 0 where
   pub tables : AcceptedTables
   pub plan : List StepView
 
--- the holdings of an account that fit the tables
+-- the holdings of an account fit the tables
 pub record Fits (t : AcceptedTables) (holdings : List Holding) : Type 0 where
   pub portfolio : ArePortfolio holdings
   pub known : fits (length t.contracts) holdings ≡ true
@@ -28,9 +28,9 @@ step_meaning set holdings k = meaning set.tables holdings (op_at set.plan k)
 abbrev pub input_meanings : SetView → List Holding → ℕ → List Value
 input_meanings set holdings k = map (step_meaning set holdings) (inputs_at set.plan k)
 
--- The plan law. The steps are few, and each has few inputs, which are steps of the plan, each of them once, of a lower
--- rank than their step. For all holdings that fit, the meanings of a step's inputs are what its operation takes, and
--- its operation gives the step's own meaning on them.
+-- The plan law. The numbers of steps and of inputs are within their limits. The inputs of a step are distinct steps of
+-- the plan, of a lower rank than the step. For all holdings that fit, the step's operation takes the meanings of its
+-- inputs, and gives the step's own meaning on them.
 pub record IsCompiled (set : SetView) : Type 0 where
   pub few_steps : length set.plan ≤ MAX_STEPS
   pub in_range : (k : ℕ) → k < length set.plan → All (λ i. i < length set.plan) (inputs_at set.plan k)

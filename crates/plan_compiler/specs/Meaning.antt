@@ -1,4 +1,4 @@
--- What each step means, and the operations that are its inputs, without looking at other steps.
+-- The meaning of each step, without reference to other steps, and the operations that are its inputs.
 use Rattle.std.specs.Prelude.{ℕ, zero, suc, ◌+◌, ◌-◌, List, [], ◌∷◌, ◌++◌, length, map, replicate, take, pos}
 use Rattle.std.specs.List.{range_with_len}
 use Rattle.span_tables.specs.Tables.{AcceptedTables, inters_of}
@@ -19,16 +19,16 @@ use Rattle.plan_ir.specs.declared.values.Value.TheVariants as value
 abbrev pub tiers_after : AcceptedTables → List Holding → ℕ → ℕ → TierRests
 tiers_after t holdings c spreads = after_spreads (take spreads (intras_at t c)) (deltas_at t holdings c)
 
--- all commodities, of which the first are loaded
+-- the states of all commodities, with the first n loaded
 abbrev pub states_loaded : AcceptedTables → List Holding → ℕ → List CommodityState
 states_loaded t holdings n =
     map (state_of t holdings) (range_with_len 0 n) ++ replicate (length t.commodities - n) (unspread_state (pos 0) 0)
 
--- all commodities after the first intercommodity spreads
+-- the states of all commodities after the first intercommodity spreads
 abbrev pub states_after_first : AcceptedTables → List Holding → ℕ → List CommodityState
 states_after_first t holdings spreads = after_inter_spreads (take spreads (inters_of t)) (loaded_states t holdings)
 
--- what an operation means at its place, for an account with these holdings
+-- the meaning of an operation in the plan, for an account with these holdings
 abbrev pub meaning : AcceptedTables → List Holding → Op → Value
 meaning t holdings (op.Gather c) = value.Held (held_at t holdings c)
 meaning t holdings (op.Sums c) = value.Sums (scenario_sums (held_at t holdings c))
@@ -48,29 +48,29 @@ meaning t holdings (op.NetValue c) = value.Amount (net_value_at t holdings c)
 meaning t holdings op.ValueStart = value.Premium (pos 0)
 meaning t holdings (op.ValueAdd c) = value.Premium (value_to t holdings (c + 1))
 
--- ---- the operations that stand before others
+-- ---- the operations that precede others
 
--- of a commodity, the state before its spread of a number; with the number of its spreads, the state after all of them
+-- the operation before spread j of a commodity; if j is the number of its spreads, the last one
 abbrev pub before_spread : ℕ → ℕ → Op
 before_spread c zero = op.TierStart c
 before_spread c (suc j) = op.Spread c j
 
--- the state between commodities before the commodity of a number is loaded
+-- the state between commodities before commodity c is loaded
 abbrev pub before_load : ℕ → Op
 before_load zero = op.InterStart
 before_load (suc c) = op.InterLoad c
 
--- the state between commodities before the intercommodity spread of a number, or after all of them
+-- the state between commodities before intercommodity spread j, or after all of them
 abbrev pub before_inter : AcceptedTables → ℕ → Op
 before_inter t zero = before_load (length t.commodities)
 before_inter t (suc j) = op.InterSpread j
 
--- the total before the commodity of a number is added, or after all of them
+-- the total before commodity c is added, or after all of them
 abbrev pub before_total : ℕ → Op
 before_total zero = op.TotalStart
 before_total (suc c) = op.TotalAdd c
 
--- the option value before that of the commodity of a number is added, or after all of them
+-- the option value before the value of commodity c is added, or after all of them
 abbrev pub before_value : ℕ → Op
 before_value zero = op.ValueStart
 before_value (suc c) = op.ValueAdd c
@@ -113,11 +113,11 @@ wanted t (op.ValueAdd c) = before_value c ∷ op.NetValue c ∷ []
 
 -- ---- ranks
 
--- above the rank of every spread of a commodity
+-- a rank above the ranks of all spreads of a commodity
 abbrev pub rank_above_spreads : ℕ
 rank_above_spreads = 3 + MAX_INTRA_SPREADS
 
--- a rank that every wanted operation has lower
+-- the rank of an operation; each operation that it requires has a lower rank
 abbrev pub rank_of : AcceptedTables → Op → ℕ
 rank_of t (op.Gather c) = 0
 rank_of t (op.Sums c) = 1

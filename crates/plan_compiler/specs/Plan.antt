@@ -7,7 +7,7 @@ use Rattle.plan_ir.specs.declared.ops.Op.{Op}
 use Rattle.plan_ir.specs.declared.ops.Op.TheVariants as op
 use Rattle.plan_compiler.specs.Meaning.{wanted}
 
--- f of 0, then f of 1, up to f of n - 1
+-- the operations f 0, f 1, up to f (n - 1), in one list
 abbrev pub each : (ℕ → List Op) → ℕ → List Op
 each f zero = []
 each f (suc n) = each f n ++ f n
@@ -16,15 +16,15 @@ each f (suc n) = each f n ++ f n
 abbrev pub first_ops : ℕ → List Op
 first_ops c = op.Gather c ∷ op.Sums c ∷ op.ScanMax c ∷ op.Months c ∷ op.TierStart c ∷ []
 
--- the steps of its spreads
+-- the steps of a commodity's spreads
 abbrev pub spread_ops : ℕ → ℕ → List Op
 spread_ops c spreads = each (λ j. op.Spread c j ∷ []) spreads
 
--- the step of its option value, where options have one
+-- the step of a commodity's option value, if options have one
 abbrev pub value_ops : AcceptedTables → ℕ → List Op
 value_ops t c = if (facts_in t).options_have_value then op.NetValue c ∷ [] else []
 
--- the steps behind its spreads
+-- the steps of a commodity after its spreads
 abbrev pub final_ops : AcceptedTables → ℕ → List Op
 final_ops t c = op.Delivery c ∷ op.Minimum c ∷ [] ++ value_ops t c ++ op.Final c ∷ []
 
@@ -32,7 +32,7 @@ final_ops t c = op.Delivery c ∷ op.Minimum c ∷ [] ++ value_ops t c ++ op.Fin
 abbrev pub commodity_ops : AcceptedTables → ℕ → List Op
 commodity_ops t c = first_ops c ++ spread_ops c (length (intras_at t c)) ++ final_ops t c
 
--- the steps between commodities: the loads of commodities, and then spreads
+-- the steps between commodities: the loads of commodities, and then the spreads
 abbrev pub inter_ops : ℕ → ℕ → List Op
 inter_ops commodities spreads =
     op.InterStart ∷ [] ++ each (λ c. op.InterLoad c ∷ []) commodities ++ each (λ j. op.InterSpread j ∷ []) spreads
@@ -41,7 +41,7 @@ inter_ops commodities spreads =
 abbrev pub total_ops : ℕ → List Op
 total_ops commodities = op.TotalStart ∷ [] ++ each (λ c. op.TotalAdd c ∷ []) commodities
 
--- the steps of the account's option value, where options have one
+-- the steps of the account's option value, if options have one
 abbrev pub premium_ops : AcceptedTables → List Op
 premium_ops t =
     if (facts_in t).options_have_value then op.ValueStart ∷ [] ++ each (λ c. op.ValueAdd c ∷ []) (length t.commodities) else []
@@ -54,11 +54,11 @@ ops_of t =
     ++ total_ops (length t.commodities)
     ++ premium_ops t
 
--- the numbers are those of the named operations, in order
+-- the numbers are the indexes of the named operations, in order
 abbrev pub Names : List Op → List ℕ → List Op → Type 0
 Names ops numbers named = map (slice_get ops) numbers ≡ map (λ o. Some o) named
 
--- the steps are those of the tables, and each input number is that of a step with the wanted operation
+-- the steps are the operations of the tables, and each input number is the index of the required operation
 pub record IsPlanOf (t : AcceptedTables) (plan : List StepView) : Type 0 where
   pub ops : ops_in plan ≡ ops_of t
   pub wired : (k : ℕ) → k < length plan → Names (ops_in plan) (inputs_at plan k) (wanted t (op_at plan k))

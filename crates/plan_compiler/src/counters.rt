@@ -1,4 +1,4 @@
-//! What a run of a plan begins with, counted once for all runs.
+//! The counters at the start of a run of a plan. They are counted once for all runs.
 ghost use Rattle.std.specs.Prelude.{◌<◌, ◌≤◌, ℕ, IfOk, length};
 ghost use Rattle.plan_ir.specs.Plans.{inputs_at};
 ghost use Rattle.plan_ir.specs.declared.plans.TheConstants.{MAX_INPUTS, MAX_STEPS};
@@ -7,7 +7,7 @@ ghost use Rattle.plan_compiler.specs.near.Beginnings.{AreInputCounts, AreWithout
 use plan_ir::plans::Plan;
 use std::alloc::{AllocError, Global};
 
-// How many inputs each step has.
+// The number of inputs of each step.
 fn input_counts(alloc: Global, plan: &Plan) -> Result<Vec<u8>, AllocError>
     requires { (k : ℕ) → k < length plan.now → length (inputs_at plan.now k) ≤ MAX_INPUTS }
     ensures { IfOk result (λ counts. AreInputCounts plan.now counts.items (length plan.now)) }
@@ -19,7 +19,7 @@ fn input_counts(alloc: Global, plan: &Plan) -> Result<Vec<u8>, AllocError>
     Ok(counts)
 }
 
-// The steps that have no input, from the highest number to the lowest.
+// The steps without inputs, from the highest number to the lowest.
 fn without_inputs(alloc: Global, plan: &Plan) -> Result<Vec<u32>, AllocError>
     requires { length plan.now ≤ MAX_STEPS }
     ensures { IfOk result (λ steps. AreWithoutInputs plan.now steps.items (length plan.now)) }
@@ -34,7 +34,7 @@ fn without_inputs(alloc: Global, plan: &Plan) -> Result<Vec<u32>, AllocError>
     Ok(steps)
 }
 
-/// How many inputs each step has, and the steps that have none, from the highest number to the lowest.
+/// Returns the number of inputs of each step, and the steps without inputs, from the highest number to the lowest.
 pub(crate) fn beginnings(alloc: Global, plan: &Plan) -> Result<(Vec<u8>, Vec<u32>), AllocError>
     requires few_steps { length plan.now ≤ MAX_STEPS }
     requires few_inputs { (k : ℕ) → k < length plan.now → length (inputs_at plan.now k) ≤ MAX_INPUTS }

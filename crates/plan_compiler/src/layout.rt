@@ -1,4 +1,4 @@
-//! Where the steps of a plan stand, and which steps are the inputs of each (docs/METHOD.md, "The plan of steps").
+//! The step numbers of a plan, and the inputs of each step (docs/METHOD.md, "The plan of steps").
 ghost use Rattle.std.specs.Prelude.{◌≡◌, ◌+◌, ◌*◌, ◌<◌, ◌≤◌, ◌++◌, [], ◌∷◌, All, IfOk, OnOk, length, map};
 ghost use Rattle.span_tables.specs.Tables.{inters_of};
 ghost use Rattle.span_tables.specs.declared.limits.TheConstants.{MAX_COMMODITIES, MAX_INTER_SPREADS, MAX_INTRA_SPREADS};
@@ -16,35 +16,36 @@ use span_tables::limits::{MAX_COMMODITIES, MAX_INTRA_SPREADS};
 use span_tables::tables::Tables;
 use std::alloc::{AllocError, Global};
 
-/// How many steps a commodity has beside those of its spreads and of its option value.
+/// The number of steps of a commodity without its spreads and its option value.
 pub const COMMODITY_STEPS: usize = 8;
-/// How many steps a commodity has for its option value, where options have one.
+/// The number of steps that a commodity has for its option value, if options have one.
 pub const VALUE_STEPS: usize = 1;
-/// Where the step of the scenario sums stands, counted from the first of its commodity's steps.
+/// The offset of the step of the scenario sums from the first step of its commodity.
 pub const SUMS: u32 = 1;
-/// Where the step of the scan stands, counted from the first.
+/// The offset of the step of the scan from the first step of its commodity.
 pub const SCAN: u32 = 2;
-/// Where the step of the held months stands, counted from the first.
+/// The offset of the step of the held months from the first step of its commodity.
 pub const MONTHS: u32 = 3;
-/// Where the step of the months before any spread stands, counted from the first. Those of spreads follow.
+/// The offset of the step of the months before any spread from the first step of its commodity. The steps of spreads
+/// follow.
 pub const TIERS: u32 = 4;
-/// Where the step of the delivery charge stands, counted from that of the months after all spreads.
+/// The offset of the step of the delivery charge from the step of the months after all spreads.
 pub const DELIVERY: u32 = 1;
-/// Where the step of the short option minimum stands, counted from that of the months after all spreads.
+/// The offset of the step of the short option minimum from the step of the months after all spreads.
 pub const MINIMUM: u32 = 2;
-/// Where the step of the option value stands, if there is one, counted from that of the months after all spreads.
+/// The offset of the step of the option value, if there is one, from the step of the months after all spreads.
 pub const NET_VALUE: u32 = 3;
-/// Where the step of the figures stands, counted from that of the months after all spreads. A step of the option value
-/// stands before it.
+/// The offset of the step of the figures from the step of the months after all spreads, if there is no step of the
+/// option value. Such a step precedes the figures.
 pub const FINAL: u32 = 3;
-/// Where the step of the total of no commodity stands, counted from that of the commodities after all spreads.
+/// The offset of the step of the total of no commodity from the step of the commodities after all spreads.
 pub const TOTAL: u32 = 1;
-/// Where the step of the option value of no commodity stands, if there is one, counted from that of the total of all.
+/// The offset of the step of the option value of no commodity, if there is one, from the step of the total of all.
 pub const PREMIUM: u32 = 1;
-/// The number of the first step between commodities, at most.
+/// The largest number of the first step between commodities.
 pub const MAX_FIRST: usize = MAX_COMMODITIES * (COMMODITY_STEPS + VALUE_STEPS + MAX_INTRA_SPREADS);
 
-// How many steps each commodity has for its option value.
+// The number of steps that each commodity has for its option value.
 fn value_steps(tables: &Tables) -> u32
     ensures value { result ≡ value_steps tables.now }
     ensures bound { result ≤ VALUE_STEPS }
@@ -56,7 +57,7 @@ fn value_steps(tables: &Tables) -> u32
     }
 }
 
-// The number of the first step of each commodity, and behind them that of the first step between commodities.
+// The number of each commodity's first step, followed by the number of the first step between commodities.
 pub(crate) fn first_steps(alloc: Global, tables: &Tables) -> Result<Vec<u32>, AllocError>
     ensures { IfOk result (λ firsts. AreFirsts tables.now firsts.items) }
 {
@@ -71,7 +72,8 @@ pub(crate) fn first_steps(alloc: Global, tables: &Tables) -> Result<Vec<u32>, Al
     Ok(firsts)
 }
 
-// The number of a commodity's first step; with the number of commodities, that of the first step between them.
+// The number of the first step of commodity c. If c is the number of commodities, it is the first step between
+// commodities.
 pub(crate) fn first_step(tables: &Tables, firsts: &[u32], c: u32) -> u32
     requires firsts { AreFirsts tables.now firsts.now }
     requires among { c ≤ length tables.now.commodities }
@@ -82,7 +84,7 @@ pub(crate) fn first_step(tables: &Tables, firsts: &[u32], c: u32) -> u32
     firsts[c as usize]
 }
 
-// The number of the step of a commodity's state behind its first spreads.
+// The step number of a commodity's state after its first spreads.
 fn tiers_step(tables: &Tables, firsts: &[u32], c: u32, spreads: u32) -> u32
     requires firsts { AreFirsts tables.now firsts.now }
     requires among { c < length tables.now.commodities }
@@ -94,7 +96,7 @@ fn tiers_step(tables: &Tables, firsts: &[u32], c: u32, spreads: u32) -> u32
     first_step(tables, firsts, c) + TIERS + spreads
 }
 
-// The number of the step of a commodity's state behind all of its spreads.
+// The step number of a commodity's state after all of its spreads.
 fn last_tiers_step(tables: &Tables, firsts: &[u32], c: u32) -> u32
     requires firsts { AreFirsts tables.now firsts.now }
     requires among { c < length tables.now.commodities }
@@ -105,7 +107,7 @@ fn last_tiers_step(tables: &Tables, firsts: &[u32], c: u32) -> u32
     tiers_step(tables, firsts, c, spreads as u32)
 }
 
-// The number of the step of a commodity's figures.
+// The step number of a commodity's figures.
 pub(crate) fn final_step(tables: &Tables, firsts: &[u32], c: u32) -> u32
     requires firsts { AreFirsts tables.now firsts.now }
     requires among { c < length tables.now.commodities }
@@ -114,7 +116,7 @@ pub(crate) fn final_step(tables: &Tables, firsts: &[u32], c: u32) -> u32
     last_tiers_step(tables, firsts, c) + FINAL + value_steps(tables)
 }
 
-// The number of the step of the state between commodities with the first of them loaded.
+// The step number of the state between commodities with the first commodities loaded.
 fn load_step(tables: &Tables, firsts: &[u32], commodities: u32) -> u32
     requires firsts { AreFirsts tables.now firsts.now }
     requires among { commodities ≤ length tables.now.commodities }
@@ -125,7 +127,7 @@ fn load_step(tables: &Tables, firsts: &[u32], commodities: u32) -> u32
     first_step(tables, firsts, all as u32) + commodities
 }
 
-// The number of the step of the state between commodities behind the first spreads.
+// The step number of the state between commodities after the first spreads.
 fn inter_step(tables: &Tables, firsts: &[u32], spreads: u32) -> u32
     requires firsts { AreFirsts tables.now firsts.now }
     requires among { spreads ≤ length (inters_of tables.now) }
@@ -136,7 +138,7 @@ fn inter_step(tables: &Tables, firsts: &[u32], spreads: u32) -> u32
     load_step(tables, firsts, all as u32) + spreads
 }
 
-// The number of the step of the state between commodities behind all spreads.
+// The step number of the state between commodities after all spreads.
 fn last_inter_step(tables: &Tables, firsts: &[u32]) -> u32
     requires { AreFirsts tables.now firsts.now }
     ensures value { result ≡ inter_step tables.now (length (inters_of tables.now)) }
@@ -145,7 +147,7 @@ fn last_inter_step(tables: &Tables, firsts: &[u32]) -> u32
     inter_step(tables, firsts, tables.inters().len() as u32)
 }
 
-// The number of the step of the total of the first commodities.
+// The step number of the total of the first commodities.
 pub(crate) fn total_step(tables: &Tables, firsts: &[u32], commodities: u32) -> u32
     requires firsts { AreFirsts tables.now firsts.now }
     requires among { commodities ≤ length tables.now.commodities }
@@ -156,7 +158,7 @@ pub(crate) fn total_step(tables: &Tables, firsts: &[u32], commodities: u32) -> u
     last_inter_step(tables, firsts) + TOTAL + commodities
 }
 
-// The number of the step of the option value of the first commodities, where options have one.
+// The step number of the option value of the first commodities, if options have one.
 pub(crate) fn premium_step(tables: &Tables, firsts: &[u32], commodities: u32) -> u32
     requires firsts { AreFirsts tables.now firsts.now }
     requires among { commodities ≤ length tables.now.commodities }
@@ -203,7 +205,7 @@ fn push_inputs(
     }
 }
 
-// The inputs of a commodity's Final step, of which the last stands behind it.
+// The inputs of a commodity's Final step. The last input is a later step.
 fn final_inputs(tables: &Tables, firsts: &[u32], c: u32) -> [u32; 5]
     requires firsts { AreFirsts tables.now firsts.now }
     requires among { c < length tables.now.commodities }
@@ -219,7 +221,7 @@ fn final_inputs(tables: &Tables, firsts: &[u32], c: u32) -> [u32; 5]
     ]
 }
 
-// The inputs of the step that loads a commodity: its months as they are before its spreads, and its scan.
+// The inputs of the step that loads a commodity: its months before any of its spreads, and its scan.
 fn load_inputs(tables: &Tables, firsts: &[u32], c: u32) -> [u32; 3]
     requires firsts { AreFirsts tables.now firsts.now }
     requires among { c < length tables.now.commodities }
@@ -229,7 +231,7 @@ fn load_inputs(tables: &Tables, firsts: &[u32], c: u32) -> [u32; 3]
     [load_step(tables, firsts, c), first + MONTHS, first + SCAN]
 }
 
-// The inputs of the step of each of these operations.
+// The inputs of the step of each operation.
 pub(crate) fn inputs_of_all(
     alloc: Global,
     tables: &Tables,

@@ -19,7 +19,7 @@ fn push_spreads(ops: &mut Vec<Op>, c: u32, spreads: u32) -> Result<(), AllocErro
     Ok(())
 }
 
-// Appends the steps of a commodity behind its spreads: the option value stands before the figures, where options have one.
+// Appends the steps of a commodity after its spreads. The option value, if options have one, precedes the figures.
 fn push_final(ops: &mut Vec<Op>, tables: &Tables, c: u32) -> Result<(), AllocError>
     ensures { OnOk result (ops.new.items ≡ ops.old.items ++ final_ops tables.now c) }
 {
@@ -99,7 +99,7 @@ fn push_value_adds(ops: &mut Vec<Op>, commodities: u32) -> Result<(), AllocError
     Ok(())
 }
 
-// Appends the steps of the account's option value, where options have one.
+// Appends the steps of the account's option value, if options have one.
 fn push_premium(ops: &mut Vec<Op>, tables: &Tables) -> Result<(), AllocError>
     ensures { OnOk result (ops.new.items ≡ ops.old.items ++ premium_ops tables.now) }
 {

@@ -24,8 +24,8 @@ use std::alloc::{AllocError, Global};
 use std::marker::Model;
 use std::sync::Arc;
 
-// What compiled sets of the same tables share: nothing of it changes. `firsts` are the numbers of the commodities' first
-// steps, `missing` how many inputs each step has, `ready` the steps without inputs.
+// The part that compiled sets of the same tables share. It never changes. `firsts` has the numbers of the commodities'
+// first steps, `missing` the number of inputs of each step, and `ready` the steps without inputs.
 #[derive(Drop)]
 struct Shared {
     tables: Tables,
@@ -37,8 +37,8 @@ struct Shared {
 
 /// Accepted tables with the plan of their steps.
 ///
-/// Beside the plan stand the number of each commodity's first step, and the values of a commodity of which nothing is
-/// held. Contracts see the tables and the plan.
+/// A compiled set also has the number of each commodity's first step, and the values of a commodity without held
+/// contracts. Contracts see the tables and the plan.
 #[derive(Drop)]
 pub struct CompiledSet {
     shared: Arc<Shared>,
@@ -59,7 +59,7 @@ impl Model for CompiledSet {
 }
 
 impl CompiledSet {
-    /// The accepted tables.
+    /// Returns the accepted tables.
     pub fn tables(&self) -> &Tables
         ensures tables { result.now ≡ self.now.tables }
         ensures compiled { IsCompiled self.now }
@@ -67,7 +67,7 @@ impl CompiledSet {
         &self.shared.tables
     }
 
-    /// The plan of their steps, which keeps the plan law.
+    /// Returns the plan of the tables, which keeps the plan law.
     pub fn plan(&self) -> &Plan
         ensures plan { result.now ≡ self.now.plan }
         ensures is_plan { IsPlanOf self.now.tables self.now.plan }
@@ -76,27 +76,28 @@ impl CompiledSet {
         &self.shared.plan
     }
 
-    /// The values of a commodity of which nothing is held.
+    /// Returns the values of a commodity without held contracts.
     pub fn nothing_held(&self) -> &NothingHeld {
         &self.nothing
     }
 
-    /// How many inputs each step has, which it misses where nothing has a value yet.
+    /// Returns the number of inputs of each step. All of them are missing while no step has a value.
     pub fn missing(&self) -> &[u8]
         ensures { AreInputCounts self.now.plan result.now (length self.now.plan) }
     {
         &self.shared.missing
     }
 
-    /// The steps without inputs, which are ready where nothing has a value yet, from the highest number to the lowest.
+    /// Returns the steps without inputs, from the highest number to the lowest. They are ready while no step has a
+    /// value.
     pub fn ready(&self) -> &[u32]
         ensures { AreWithoutInputs self.now.plan result.now (length self.now.plan) }
     {
         &self.shared.ready
     }
 
-    /// Another set of the same tables and plan, which it shares, with values of nothing held of its own: threads that take
-    /// and drop holds on these would else wait for one another.
+    /// Returns another compiled set that shares the tables and the plan, but has its own values for nothing held.
+    /// Threads that clone and drop references to the same values would wait for each other. `Err` is out of memory.
     pub fn with_own_constants(&self, alloc: Global) -> Result<CompiledSet, AllocError>
         ensures { IfOk result (λ set. set ≡ self.now) }
     {
@@ -105,7 +106,8 @@ impl CompiledSet {
         Ok(CompiledSet { shared, nothing })
     }
 
-    /// The number of the step that has the held contracts of a commodity, whose number is from 0 in file order.
+    /// Returns the number of the step with the held contracts of a commodity. Commodities are numbered from 0 in file
+    /// order.
     pub fn gather_step(&self, commodity: u32) -> u32
         requires { commodity < length self.now.tables.commodities }
         ensures in_range { result < length self.now.plan }
@@ -114,7 +116,7 @@ impl CompiledSet {
         first_step(&self.shared.tables, &self.shared.firsts, commodity)
     }
 
-    /// The number of the step that has the figures of a commodity, whose number is from 0 in file order.
+    /// Returns the number of the step with the figures of a commodity. Commodities are numbered from 0 in file order.
     pub fn final_step(&self, commodity: u32) -> u32
         requires { commodity < length self.now.tables.commodities }
         ensures in_range { result < length self.now.plan }
@@ -123,7 +125,7 @@ impl CompiledSet {
         final_step(&self.shared.tables, &self.shared.firsts, commodity)
     }
 
-    /// The number of the step that has the total.
+    /// Returns the number of the step with the total.
     pub fn total_step(&self) -> u32
         ensures in_range { result < length self.now.plan }
         ensures op { op_at self.now.plan result ≡ last_total self.now.tables }
@@ -134,7 +136,7 @@ impl CompiledSet {
         total_step(tables, firsts, tables.commodities().len() as u32)
     }
 
-    /// The number of the step that has the account's option value, where options have one.
+    /// Returns the number of the step with the account's option value, or `None` if options have no value.
     pub fn value_step(&self) -> Option<u32>
         ensures some { is_some result ≡ (facts_in self.now.tables).options_have_value }
         ensures in_range { IfSome result (λ k. k < length self.now.plan) }
@@ -150,7 +152,7 @@ impl CompiledSet {
     }
 }
 
-// The plan of the tables' operations, whose first steps are given.
+// The plan of the tables' operations, with the numbers of the commodities' first steps given.
 fn plan_of(alloc: Global, tables: &Tables, firsts: &[u32]) -> Result<Plan, AllocError>
     requires { AreFirsts tables.now firsts.now }
     ensures { IfOk result (λ plan. plan ≡ plan_of tables.now) }
@@ -162,7 +164,7 @@ fn plan_of(alloc: Global, tables: &Tables, firsts: &[u32]) -> Result<Plan, Alloc
     Ok(plan)
 }
 
-// What compiled sets of the tables share.
+// The part that compiled sets of the tables share.
 fn shared_of(alloc: Global, tables: Tables) -> Result<Shared, AllocError>
     ensures tables { IfOk result (λ shared. shared.tables ≡ tables) }
     ensures plan { IfOk result (λ shared. shared.plan ≡ plan_of tables) }
@@ -181,7 +183,7 @@ fn shared_of(alloc: Global, tables: Tables) -> Result<Shared, AllocError>
     })
 }
 
-/// The tables with the plan of their steps (docs/METHOD.md, "The plan of steps").
+/// Returns the tables with the plan of their steps (docs/METHOD.md, "The plan of steps"). `Err` is out of memory.
 pub fn compile(alloc: Global, tables: Tables) -> Result<CompiledSet, AllocError>
     ensures tables { IfOk result (λ set. set.tables ≡ tables) }
     ensures plan { IfOk result (λ set. set.plan ≡ plan_of tables) }

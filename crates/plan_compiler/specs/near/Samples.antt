@@ -1,11 +1,11 @@
--- Parameter files that the worked plans are of.
+-- Parameter files of the test vectors for plans.
 use Rattle.std.specs.Prelude.{ℕ, List, [], ◌∷◌, ◌++◌, codes}
 use Rattle.span_tables.specs.near.Samples.{commodity, contract, future_values, set, spread, value_set}
 use Rattle.span_tables.specs.declared.records.ProductKind.TheVariants as product
 use Rattle.span_tables.specs.declared.records.Record.{Record}
 use Rattle.span_tables.specs.declared.records.Record.TheVariants as record_of
 
--- a set alone
+-- a parameter set without other records
 abbrev pub set_alone : List Record
 set_alone = set (codes "D1") ∷ []
 
@@ -13,7 +13,7 @@ set_alone = set (codes "D1") ∷ []
 abbrev pub set_alone_lines : List ℕ
 set_alone_lines = codes "0 InterStart()\n1 TotalStart()\n"
 
--- a set with two commodities, a future of each, and a spread of one against the other
+-- a parameter set with two commodities, a future of each, and a spread of one against the other
 abbrev pub two_commodities : List Record
 two_commodities =
     set (codes "D1")
@@ -34,7 +34,7 @@ two_commodities_lines =
     ++ codes "16 InterStart()\n17 InterLoad(0) 16 3 2\n18 InterLoad(1) 17 11 10\n19 InterSpread(0) 18\n"
     ++ codes "20 TotalStart()\n21 TotalAdd(0) 20 7\n22 TotalAdd(1) 21 15\n"
 
--- a set of option values with one commodity and a future
+-- a parameter set with option values, one commodity and a future
 abbrev pub one_commodity_with_value : List Record
 one_commodity_with_value =
     value_set (codes "D2")

@@ -1,4 +1,4 @@
--- What a compiled set keeps.
+-- The type invariant of a compiled set.
 use Rattle.std.specs.Prelude.{◌≡◌, ℕ, ◌<◌, List, length}
 use Rattle.span_tables.specs.Accepted.{IsWithinLimits}
 use Rattle.span_tables.specs.Tables.{AcceptedTables}
@@ -9,8 +9,8 @@ use Rattle.plan_compiler.specs.Places.{inputs_of}
 use Rattle.plan_compiler.specs.near.Beginnings.{AreInputCounts, AreWithoutInputs}
 use Rattle.plan_compiler.specs.near.Layout.{AreFirsts}
 
--- The plan is that of the tables, each input where it stands, and keeps the plan law. The numbers are those of first steps,
--- of the inputs of each step, and of the steps without inputs.
+-- The plan is the plan of the tables, has each input at its index, and keeps the plan law. The lists have the numbers
+-- of first steps, the number of inputs of each step, and the steps without inputs.
 pub record IsSet (t : AcceptedTables) (plan : List StepView) (firsts missing ready : List ℕ) : Type 0 where
   pub limits : IsWithinLimits t
   pub is_plan : IsPlanOf t plan
